@@ -1,0 +1,230 @@
+-- Syntax trees: what a file of Verilog or SystemVerilog is made of, without node numbers.
+-- A text is the list of its bytes. antt has no nested data, so lists and options of trees are types of their own.
+use Rattle.std.specs.Prelude.{ℕ, ℤ, Bool, List, Option}
+
+-- The dialect of a file.
+pub data Dialect : Type 0 where
+  VerilogDialect : Dialect
+  SystemVerilogDialect : Dialect
+
+-- The sign before an operand.
+pub data UnaryOp : Type 0 where
+  NegateOp : UnaryOp
+  BitwiseNotOp : UnaryOp
+  LogicalNotOp : UnaryOp
+  AndReduceOp : UnaryOp
+  OrReduceOp : UnaryOp
+  XorReduceOp : UnaryOp
+
+-- The sign between two operands; the two comparisons with x print as the case comparisons do.
+pub data BinaryOp : Type 0 where
+  AddOp : BinaryOp
+  SubOp : BinaryOp
+  MulOp : BinaryOp
+  DivOp : BinaryOp
+  ModOp : BinaryOp
+  PowerOp : BinaryOp
+  BitwiseAndOp : BinaryOp
+  BitwiseOrOp : BinaryOp
+  BitwiseXorOp : BinaryOp
+  ShllOp : BinaryOp
+  ShraOp : BinaryOp
+  ShrlOp : BinaryOp
+  NeOp : BinaryOp
+  CaseNeOp : BinaryOp
+  EqOp : BinaryOp
+  CaseEqOp : BinaryOp
+  GeOp : BinaryOp
+  GtOp : BinaryOp
+  LeOp : BinaryOp
+  LtOp : BinaryOp
+  LogicalAndOp : BinaryOp
+  LogicalOrOp : BinaryOp
+  NeXOp : BinaryOp
+  EqXOp : BinaryOp
+
+-- Expressions and types. A literal's text may begin with a minus; a string's text has its quotes.
+mutual
+  pub data ExprTree : Type 0 where
+    NameTree : (name : List ℕ) (type : MaybeType) → ExprTree
+    LiteralTree : (text : List ℕ) (value : Option ℤ) → ExprTree
+    StringTree : (text : List ℕ) → ExprTree
+    UnaryTree : UnaryOp → (operand : ExprTree) → ExprTree
+    BinaryTree : BinaryOp → (left right : ExprTree) → ExprTree
+    TernaryTree : (condition consequent alternate : ExprTree) → ExprTree
+    IndexTree : (subject index : ExprTree) → ExprTree
+    SliceTree : (subject high low : ExprTree) → ExprTree
+    PartSelectTree : (subject start : ExprTree) (width : ℤ) → ExprTree
+    ConcatTree : (count : MaybeExpr) (parts : Exprs) → ExprTree
+    PatternTree : (parts : Exprs) → ExprTree
+    WidthCastTree : (width operand : ExprTree) → ExprTree
+    TypeCastTree : (type : TypeTree) (operand : ExprTree) → ExprTree
+    PosEdgeTree : (operand : ExprTree) → ExprTree
+    NegEdgeTree : (operand : ExprTree) → ExprTree
+    MacroTree : (name : List ℕ) (arguments : MaybeExprs) → ExprTree
+    CallTree : (name : List ℕ) (arguments : Exprs) → ExprTree
+    -- What a handle that belongs to no expression stands for.
+    MissingExpr : ExprTree
+
+  pub data TypeTree : Type 0 where
+    ScalarTree : (signed : Bool) → TypeTree
+    VectorTree : (width : ExprTree) (value : Option ℤ) (signed : Bool) → TypeTree
+    IntegerTree : (signed : Bool) → TypeTree
+    IntTree : (signed : Bool) → TypeTree
+    ExternalTree : (name : List ℕ) → TypeTree
+    PackageTree : (package_name name : List ℕ) → TypeTree
+    PackedTree : (element : TypeTree) (dimensions : List ℤ) → TypeTree
+    UnpackedTree : (element : TypeTree) (dimensions : List ℤ) → TypeTree
+    -- What a handle that belongs to no type stands for.
+    MissingType : TypeTree
+
+  pub data MaybeType : Type 0 where
+    Untyped : MaybeType
+    Typed : TypeTree → MaybeType
+
+  pub data MaybeExpr : Type 0 where
+    NoExpr : MaybeExpr
+    SomeExpr : ExprTree → MaybeExpr
+
+  pub data Exprs : Type 0 where
+    NoExprs : Exprs
+    MoreExprs : ExprTree → Exprs → Exprs
+
+  pub data MaybeExprs : Type 0 where
+    NoArguments : MaybeExprs
+    SomeArguments : Exprs → MaybeExprs
+
+-- The kind of a declaration; user types and untyped enumerations are written without a kind word.
+pub data Kind : Type 0 where
+  RegKind : Kind
+  WireKind : Kind
+  LogicKind : Kind
+  IntegerKind : Kind
+  IntKind : Kind
+  UserKind : Kind
+  UntypedEnumKind : Kind
+  GenvarKind : Kind
+
+-- A name with its kind and its type.
+pub record Declaration : Type 0 where
+  pub kind : Kind
+  pub type : TypeTree
+  pub name : List ℕ
+
+-- How an assignment is written: `l = r`, `l <= r`, `assign l = r`.
+pub data AssignForm : Type 0 where
+  Blocking : AssignForm
+  Nonblocking : AssignForm
+  Continuous : AssignForm
+
+-- The words that begin a case statement.
+pub data CaseWord : Type 0 where
+  CaseExact : CaseWord
+  CaseZ : CaseWord
+  CaseX : CaseWord
+
+-- Statements of a procedural block.
+mutual
+  pub data StatementTree : Type 0 where
+    AssignTree : (form : AssignForm) (left right : ExprTree) → StatementTree
+    CommentTree : (text : List ℕ) → StatementTree
+    BlankTree : StatementTree
+    InlineTree : (text : List ℕ) → StatementTree
+    ConditionalTree : (condition : ExprTree) (consequent : Statements) (alternates : Alternates) → StatementTree
+    CaseTree : (unique : Bool) (word : CaseWord) (selector : ExprTree) (arms : CaseArms) → StatementTree
+
+  pub data Statements : Type 0 where
+    NoStatements : Statements
+    MoreStatements : StatementTree → Statements → Statements
+
+  -- The arms `else if` of a conditional, and its `else` where there is one.
+  pub data Alternates : Type 0 where
+    NoElse : Alternates
+    ElseIf : (condition : ExprTree) (block : Statements) → Alternates → Alternates
+    Else : (block : Statements) → Alternates
+
+  -- The arms of a case statement; one without a label is a default.
+  pub data CaseArms : Type 0 where
+    NoCaseArms : CaseArms
+    CaseArm : (label : MaybeExpr) (block : Statements) → CaseArms → CaseArms
+
+-- What starts an always block.
+pub data AlwaysWord : Type 0 where
+  AlwaysFFWord : AlwaysWord
+  AlwaysAtWord : AlwaysWord
+  AlwaysCombWord : AlwaysWord
+
+-- What a parameter declares: a name, a name of type int, or a definition's declaration.
+pub data ParameterName : Type 0 where
+  PlainParameter : (name : List ℕ) → ParameterName
+  IntParameter : (name : List ℕ) → ParameterName
+  DefinedParameter : Declaration → ParameterName
+
+-- What an instantiation gives to a parameter or to a port, by name; an open port has no expression.
+pub record Connection : Type 0 where
+  pub name : List ℕ
+  pub value : MaybeExpr
+
+pub record InstanceTree : Type 0 where
+  pub module_name : List ℕ
+  pub instance_name : List ℕ
+  pub parameters : List Connection
+  pub connections : List Connection
+
+pub record FunctionTree : Type 0 where
+  pub name : List ℕ
+  pub result : TypeTree
+  pub inputs : List Declaration
+  pub locals : List Declaration
+  pub body : Statements
+
+-- Members of a module or of a generate loop.
+mutual
+  pub data MemberTree : Type 0 where
+    DeclarationMember : Declaration → MemberTree
+    AssignMember : (left right : ExprTree) → MemberTree
+    ParameterMember : (local : Bool) (parameter : ParameterName) (value : ExprTree) → MemberTree
+    CommentMember : (text : List ℕ) → MemberTree
+    BlankMember : MemberTree
+    InlineMember : (text : List ℕ) → MemberTree
+    MacroMember : (call : ExprTree) (semicolon : Bool) → MemberTree
+    InstanceMember : InstanceTree → MemberTree
+    AlwaysMember : AlwaysWord → (events : Exprs) (body : Statements) → MemberTree
+    ConditionalMember : (condition : ExprTree) (consequent : Statements) (alternates : Alternates) → MemberTree
+    FunctionMember : FunctionTree → MemberTree
+    LoopMember : (genvar : List ℕ) (start end : ExprTree) (label : Option (List ℕ)) (members : Members) → MemberTree
+
+  pub data Members : Type 0 where
+    NoMembers : Members
+    MoreMembers : MemberTree → Members → Members
+
+pub data PortDirection : Type 0 where
+  InputDirection : PortDirection
+  OutputDirection : PortDirection
+  InOutDirection : PortDirection
+
+pub record PortTree : Type 0 where
+  pub direction : PortDirection
+  pub declaration : Declaration
+
+-- A parameter of a module's header; its kind follows its type where it has one.
+pub record ParameterPortTree : Type 0 where
+  pub name : List ℕ
+  pub type : MaybeType
+  pub value : ExprTree
+
+pub record ModuleTree : Type 0 where
+  pub name : List ℕ
+  pub parameters : List ParameterPortTree
+  pub ports : List PortTree
+  pub members : Members
+
+pub data FileItemTree : Type 0 where
+  ModuleItem : ModuleTree → FileItemTree
+  IncludeItem : (path : List ℕ) → FileItemTree
+  CommentItem : (text : List ℕ) → FileItemTree
+  BlankItem : FileItemTree
+
+pub record FileTree : Type 0 where
+  pub dialect : Dialect
+  pub items : List FileItemTree
