@@ -1,0 +1,88 @@
+-- Laws of lists: reading behind an append, changing one element, facts of each element.
+use Rattle.std.proofs.Common.{zero, suc, get_or, ◌≡◌, ◌≢◌, ℕ, ◌+◌, ◌<◌, ◌≤◌, List, [], ◌∷◌, ◌++◌, length, Option, Some, None, slice_get, All, refl, sym, ap, ◌∙◌, arith, map, IsTrue, nat_lt, length-append, Bool, true, false}
+use Rattle.std.proofs.lemmas.List.{length-map, map-append}
+use Rattle.std.proofs.Math.ListN.{set}
+use Rattle.vast_core.specs.Records.{changed_at}
+use Rattle.vast_core.specs.Sound.{Each}
+
+pub slice_get-append : {X : Type 0} (xs ys : List X) (i : ℕ) (x : X) → slice_get xs i ≡ Some x → slice_get (xs ++ ys) i ≡ Some x
+slice_get-append [] ys i x h = cc
+slice_get-append (y ∷ xs) ys zero x h = h
+slice_get-append (y ∷ xs) ys (suc i) x h = slice_get-append xs ys i x h
+
+-- The element behind a list that grew by one.
+pub slice_get-seam : {X : Type 0} (xs : List X) (x : X) → slice_get (xs ++ x ∷ []) (length xs) ≡ Some x
+slice_get-seam [] x = refl
+slice_get-seam (y ∷ xs) x = slice_get-seam xs x
+
+pub slice_get-map : {A B : Type 0} (v : A → B) (xs : List A) (i : ℕ) (x : A) → i < length xs → x ≡ get_or xs i x → slice_get (map v xs) i ≡ Some (v x)
+slice_get-map v [] i x below is = absurd (omega arith)
+slice_get-map v (y ∷ xs) zero x below is = ap (λ z. Some (v z)) (sym is)
+slice_get-map v (y ∷ xs) (suc i) x below is = slice_get-map v xs i x (omega arith) is
+
+pub slice_get-at : {A : Type 0} (xs : List A) (i : ℕ) (x : A) → i < length xs → x ≡ get_or xs i x → slice_get xs i ≡ Some x
+slice_get-at [] i x below is = absurd (omega arith)
+slice_get-at (y ∷ xs) zero x below is = ap Some (sym is)
+slice_get-at (y ∷ xs) (suc i) x below is = slice_get-at xs i x (omega arith) is
+
+pub slice_get-past : {A : Type 0} (xs : List A) (i : ℕ) → length xs ≤ i → slice_get xs i ≡ None
+slice_get-past [] i past = refl
+slice_get-past (y ∷ xs) zero past = absurd (omega arith)
+slice_get-past (y ∷ xs) (suc i) past = slice_get-past xs i (omega arith)
+
+-- Changing one element.
+
+pub changed-map :
+  {A B : Type 0} (v : A → B) (f : B → B) (xs : List A) (i : ℕ) (x y : A) →
+  i < length xs →
+  x ≡ get_or xs i x →
+  v y ≡ f (v x) →
+  map v (set xs i y) ≡ changed_at i f (map v xs)
+changed-map v f [] i x y below is e = absurd (omega arith)
+changed-map v f (z ∷ xs) zero x y below is e = cc
+changed-map v f (z ∷ xs) (suc i) x y below is e = ap (λ r. v z ∷ r) (changed-map v f xs i x y (omega arith) is e)
+
+pub unchanged-map :
+  {A B : Type 0} (v : A → B) (xs : List A) (i : ℕ) (x y : A) →
+  i < length xs →
+  x ≡ get_or xs i x →
+  v y ≡ v x →
+  map v (set xs i y) ≡ map v xs
+unchanged-map v [] i x y below is e = absurd (omega arith)
+unchanged-map v (z ∷ xs) zero x y below is e = cc
+unchanged-map v (z ∷ xs) (suc i) x y below is e = ap (λ r. v z ∷ r) (unchanged-map v xs i x y (omega arith) is e)
+
+pub length-changed_at : {A : Type 0} (f : A → A) (xs : List A) (i : ℕ) → length (changed_at i f xs) ≡ length xs
+length-changed_at f [] i = refl
+length-changed_at f (x ∷ xs) zero = refl
+length-changed_at f (x ∷ xs) (suc i) = ap suc (length-changed_at f xs i)
+
+-- Facts of each element.
+
+pub Each-map : {A : Type 0} {P Q : A → Type 0} → ((x : A) → P x → Q x) → (xs : List A) → Each P xs → Each Q xs
+Each-map f [] h = tt
+Each-map f (x ∷ xs) h = (f x h.0, Each-map f xs h.1)
+
+pub Each-push : {A : Type 0} (P : A → Type 0) (xs : List A) (x : A) → Each P xs → P x → Each P (xs ++ x ∷ [])
+Each-push P [] x h k = (k, tt)
+Each-push P (y ∷ xs) x h k = (h.0, Each-push P xs x h.1 k)
+
+pub Each-changed_at : {A : Type 0} (P : A → Type 0) (f : A → A) → ((x : A) → P x → P (f x)) → (xs : List A) (i : ℕ) → Each P xs → Each P (changed_at i f xs)
+Each-changed_at P f k [] i h = tt
+Each-changed_at P f k (x ∷ xs) zero h = (k x h.0, h.1)
+Each-changed_at P f k (x ∷ xs) (suc i) h = (h.0, Each-changed_at P f k xs i h.1)
+
+pub Each-at : {A B : Type 0} (v : A → B) (P : B → Type 0) (xs : List A) (i : ℕ) (x : A) → Each P (map v xs) → i < length xs → x ≡ get_or xs i x → P (v x)
+Each-at v P [] i x h below is = absurd (omega arith)
+Each-at v P (y ∷ xs) zero x h below is = rw is h.0
+Each-at v P (y ∷ xs) (suc i) x h below is = Each-at v P xs i x h.1 (omega arith) is
+
+pub All-Each : {A B : Type 0} (v : A → B) (P : B → Type 0) (xs : List A) → Each P (map v xs) → All (λ x. P (v x)) xs
+All-Each v P [] h k d below = absurd (omega arith)
+All-Each v P (x ∷ xs) h zero d below = h.0
+All-Each v P (x ∷ xs) h (suc k) d below = All-Each v P xs h.1 k d (omega arith)
+
+pub All-own : {A : Type 0} (P : A → Type 0) (xs : List A) → Each P xs → All P xs
+All-own P [] h k d below = absurd (omega arith)
+All-own P (x ∷ xs) h zero d below = h.0
+All-own P (x ∷ xs) h (suc k) d below = All-own P xs h.1 k d (omega arith)

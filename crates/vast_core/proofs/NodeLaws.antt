@@ -1,0 +1,206 @@
+-- Laws of the arena of expressions and types.
+use Rattle.std.proofs.Common.{zero, suc, get_or, ◌≡◌, ℕ, ◌+◌, ◌<◌, ◌≤◌, Bool, true, false, IsTrue, List, [], ◌∷◌, ◌++◌, length, Option, Some, None, slice_get, refl, sym, ap, ◌∙◌, arith, length-append}
+use Rattle.std.proofs.lemmas.Option.{slice_get_within, slice_get_past, slice_get_read}
+use Rattle.vast_literal.specs.Tree.{ExprTree, TypeTree, Typed}
+use Rattle.vast_core.specs.declared.handle.Expr.{Expr}
+use Rattle.vast_core.specs.declared.handle.VastDataType.{VastDataType}
+use Rattle.vast_core.specs.declared.node.ExprNode.{ExprNode}
+use Rattle.vast_core.specs.declared.node.ExprNode.TheVariants.{Name, Literal}
+use Rattle.vast_core.specs.declared.node.TypeNode.{TypeNode}
+use Rattle.vast_core.specs.declared.node.TypeNode.TheVariants.{Scalar, Vector}
+use Rattle.vast_core.specs.declared.node.Term.{Term}
+use Rattle.vast_core.specs.declared.node.Term.TheVariants.{Expression, DataType}
+use Rattle.vast_core.specs.Handles.{rank, type_rank}
+use Rattle.vast_core.specs.Nodes.{Root, ExprRoot, TypeRoot, Nodes, no_nodes, with_root, is_expr_root, is_type_root, is_root_of, expr_of_root, type_of_root, IsOwned, HasExpr, HasType, expr_in, type_in, maybe_type_in, expr_tree, type_tree, term_root, OptionHolds, ExprChildrenHold, TypeChildrenHold, ChildrenHold, built, TermsSound, IsNodeAt}
+use Rattle.vast_core.proofs.Lists.{slice_get-append, slice_get-seam}
+
+-- Growing by a term.
+
+pub built-push : (b : Nodes) (ts : List Term) (t : Term) → built b (ts ++ t ∷ []) ≡ with_root (built b ts) (term_root (built b ts) t)
+unfolding built
+built-push b [] t = refl
+built-push b (u ∷ ts) t = built-push (with_root b (term_root b u)) ts t
+
+pub TermsSound-push :
+  (b : Nodes) (ts : List Term) (t : Term) →
+  TermsSound b ts →
+  ChildrenHold (HasExpr (built b ts)) (HasType (built b ts)) t →
+  TermsSound b (ts ++ t ∷ [])
+unfolding built TermsSound
+TermsSound-push b [] t s h = (h, tt)
+TermsSound-push b (u ∷ ts) t s h = (s.0, TermsSound-push (with_root b (term_root b u)) ts t s.1 h)
+
+pub built-id : (b : Nodes) (ts : List Term) → (built b ts).id ≡ b.id
+unfolding built
+built-id b [] = refl
+built-id b (u ∷ ts) = built-id (with_root b (term_root b u)) ts
+
+pub built-length : (b : Nodes) (ts : List Term) → length (built b ts).roots ≡ length b.roots + length ts
+unfolding built
+built-length b [] = omega arith
+built-length b (u ∷ ts) =
+  omega (arith, built-length (with_root b (term_root b u)) ts, length-append b.roots (term_root b u ∷ []))
+
+-- c has all that b has.
+
+pub record Extends (b c : Nodes) : Type 0 where
+  pub same_id : c.id ≡ b.id
+  pub same_roots : (i : ℕ) (r : Root) → slice_get b.roots i ≡ Some r → slice_get c.roots i ≡ Some r
+
+pub Extends-same : (b : Nodes) → Extends b b
+Extends-same b = record { same_id = refl; same_roots = λ i r h. h }
+
+pub Extends-root : (b : Nodes) (r : Root) → Extends b (with_root b r)
+Extends-root b r = record { same_id = refl; same_roots = λ i s h. slice_get-append b.roots (r ∷ []) i s h }
+
+pub Extends-built : (b : Nodes) (ts : List Term) → Extends b (built b ts)
+unfolding built
+Extends-built b [] = Extends-same b
+Extends-built b (t ∷ ts) =
+  let e : Extends (with_root b (term_root b t)) (built (with_root b (term_root b t)) ts) = Extends-built (with_root b (term_root b t)) ts
+  in record {
+    same_id = e.same_id;
+    same_roots = λ i r h. e.same_roots i r (slice_get-append b.roots (term_root b t ∷ []) i r h)
+  }
+
+-- Handles stay good.
+
+pub has_expr : (o : Option Root) → IsTrue (is_expr_root o) → (e : ExprTree) × (o ≡ Some (ExprRoot e))
+has_expr None h = cc
+has_expr (Some (ExprRoot e)) h = (e, refl)
+has_expr (Some (TypeRoot t)) h = cc
+
+pub has_type : (o : Option Root) → IsTrue (is_type_root o) → (t : TypeTree) × (o ≡ Some (TypeRoot t))
+has_type None h = cc
+has_type (Some (ExprRoot e)) h = cc
+has_type (Some (TypeRoot t)) h = (t, refl)
+
+pub has_shape : (shape : ExprTree → Bool) (o : Option Root) → IsTrue (is_root_of shape o) → (e : ExprTree) × (o ≡ Some (ExprRoot e)) × IsTrue (shape e)
+has_shape shape None h = cc
+has_shape shape (Some (ExprRoot e)) h = (e, refl, h)
+has_shape shape (Some (TypeRoot t)) h = cc
+
+pub HasExpr-kept : (b c : Nodes) → Extends b c → (e : Expr) → HasExpr b e → HasExpr c e
+HasExpr-kept b c x e h =
+  let w = has_expr (slice_get b.roots e.id.index) h.of_kind
+  in record {
+    of_file = h.of_file ∙ sym x.same_id;
+    of_kind = rw (x.same_roots e.id.index (ExprRoot w.0) w.1) refl
+  }
+
+pub HasType-kept : (b c : Nodes) → Extends b c → (t : VastDataType) → HasType b t → HasType c t
+HasType-kept b c x t h =
+  let w = has_type (slice_get b.roots t.id.index) h.of_kind
+  in record {
+    of_file = h.of_file ∙ sym x.same_id;
+    of_kind = rw (x.same_roots t.id.index (TypeRoot w.0) w.1) refl
+  }
+
+pub shape-kept : (shape : ExprTree → Bool) (b c : Nodes) → Extends b c → (i : ℕ) → IsTrue (is_root_of shape (slice_get b.roots i)) → IsTrue (is_root_of shape (slice_get c.roots i))
+shape-kept shape b c x i h =
+  let w = has_shape shape (slice_get b.roots i) h
+  in rw (x.same_roots i (ExprRoot w.0) w.1) w.2
+
+pub expr_in-kept : (b c : Nodes) → Extends b c → (e : Expr) → HasExpr b e → expr_in c e ≡ expr_in b e
+unfolding expr_in
+expr_in-kept b c x e h =
+  let w = has_expr (slice_get b.roots e.id.index) h.of_kind
+  in ap expr_of_root (x.same_roots e.id.index (ExprRoot w.0) w.1 ∙ sym w.1)
+
+pub type_in-kept : (b c : Nodes) → Extends b c → (t : VastDataType) → HasType b t → type_in c t ≡ type_in b t
+unfolding type_in
+type_in-kept b c x t h =
+  let w = has_type (slice_get b.roots t.id.index) h.of_kind
+  in ap type_of_root (x.same_roots t.id.index (TypeRoot w.0) w.1 ∙ sym w.1)
+
+rank-below : (b : Nodes) (e : Expr) → HasExpr b e → rank e < length b.roots
+rank-below b e h =
+  let w = has_expr (slice_get b.roots e.id.index) h.of_kind
+  in slice_get_within b.roots e.id.index (ExprRoot w.0) w.1
+
+type_rank-below : (b : Nodes) (t : VastDataType) → HasType b t → type_rank t < length b.roots
+type_rank-below b t h =
+  let w = has_type (slice_get b.roots t.id.index) h.of_kind
+  in slice_get_within b.roots t.id.index (TypeRoot w.0) w.1
+
+-- Children.
+
+OptionHolds-map : {A : Type 0} {P Q : A → Type 0} → ((x : A) → P x → Q x) → (o : Option A) → OptionHolds P o → OptionHolds Q o
+OptionHolds-map f None h = tt
+OptionHolds-map f (Some x) h = f x h
+
+expr_children-map :
+  {P P2 : Expr → Type 0} {Q Q2 : VastDataType → Type 0} →
+  ((e : Expr) → P e → P2 e) →
+  ((t : VastDataType) → Q t → Q2 t) →
+  (n : ExprNode) →
+  ExprChildrenHold P Q n →
+  ExprChildrenHold P2 Q2 n
+expr_children-map f g (Name name type) h = OptionHolds-map g type h
+expr_children-map f g (Literal text value) h = tt
+
+type_children-map :
+  {P P2 : Expr → Type 0} {Q Q2 : VastDataType → Type 0} →
+  ((e : Expr) → P e → P2 e) →
+  ((t : VastDataType) → Q t → Q2 t) →
+  (n : TypeNode) →
+  TypeChildrenHold P Q n →
+  TypeChildrenHold P2 Q2 n
+type_children-map f g (Scalar signed) h = tt
+type_children-map f g (Vector width value signed) h = f width h
+
+children-map :
+  {P P2 : Expr → Type 0} {Q Q2 : VastDataType → Type 0} →
+  ((e : Expr) → P e → P2 e) →
+  ((t : VastDataType) → Q t → Q2 t) →
+  (n : Term) →
+  ChildrenHold P Q n →
+  ChildrenHold P2 Q2 n
+children-map f g (Expression n) h = expr_children-map f g n h
+children-map f g (DataType n) h = type_children-map f g n h
+
+maybe_type-kept : (b c : Nodes) → Extends b c → (o : Option VastDataType) → OptionHolds (HasType b) o → maybe_type_in c o ≡ maybe_type_in b o
+maybe_type-kept b c x None h = refl
+maybe_type-kept b c x (Some t) h = ap Typed (type_in-kept b c x t h)
+
+expr_tree-kept : (b c : Nodes) → Extends b c → (n : ExprNode) → ExprChildrenHold (HasExpr b) (HasType b) n → expr_tree c n ≡ expr_tree b n
+expr_tree-kept b c x (Name name type) h = cc (maybe_type-kept b c x type h)
+expr_tree-kept b c x (Literal text value) h = refl
+
+type_tree-kept : (b c : Nodes) → Extends b c → (n : TypeNode) → TypeChildrenHold (HasExpr b) (HasType b) n → type_tree c n ≡ type_tree b n
+type_tree-kept b c x (Scalar signed) h = refl
+type_tree-kept b c x (Vector width value signed) h = cc (expr_in-kept b c x width h)
+
+term_root-kept : (b c : Nodes) → Extends b c → (t : Term) → ChildrenHold (HasExpr b) (HasType b) t → term_root c t ≡ term_root b t
+term_root-kept b c x (Expression n) h = ap ExprRoot (expr_tree-kept b c x n h)
+term_root-kept b c x (DataType n) h = ap TypeRoot (type_tree-kept b c x n h)
+
+-- A node of the arena.
+
+node_at : (b : Nodes) (ts : List Term) (i n : ℕ) (t : Term) → TermsSound b ts → slice_get ts i ≡ Some t → n ≡ length b.roots + i → IsNodeAt (built b ts) n t
+unfolding built TermsSound
+node_at b [] i n t s h q = cc
+node_at b (u ∷ ts) zero n t s h q =
+  let c : Nodes = built (with_root b (term_root b u)) ts in
+  let same : t ≡ u = cc in
+  let x : Extends b c = Extends-built b (u ∷ ts) in
+  let at : n ≡ length b.roots = omega arith in
+  rw (at, same)
+  (record {
+    root = (Extends-built (with_root b (term_root b u)) ts).same_roots (length b.roots) (term_root b u) (slice_get-seam b.roots (term_root b u)) ∙ ap Some (sym (term_root-kept b c x u s.0));
+    owned = children-map (HasExpr-kept b c x) (HasType-kept b c x) u s.0;
+    older = children-map (rank-below b) (type_rank-below b) u s.0
+  })
+node_at b (u ∷ ts) (suc i) n t s h q =
+  node_at (with_root b (term_root b u)) ts i n t s.1 h (omega (arith, length-append b.roots (term_root b u ∷ [])))
+
+pub at_some :
+  (id : ℕ) (ts : List Term) (i : ℕ) (t : Term) →
+  TermsSound (no_nodes id) ts →
+  i < length ts →
+  t ≡ get_or ts i t →
+  IsNodeAt (built (no_nodes id) ts) i t
+at_some id ts i t s below q = node_at (no_nodes id) ts i i t s (slice_get_read ts (length ts) i t refl below q) (omega arith)
+
+pub at_none : (id : ℕ) (ts : List Term) (i : ℕ) → length ts ≤ i → slice_get (built (no_nodes id) ts).roots i ≡ None
+at_none id ts i past = slice_get_past (built (no_nodes id) ts).roots i (omega (arith, built-length (no_nodes id) ts))

@@ -1,0 +1,8 @@
+use Rattle.std.proofs.Common.{sym}
+use Rattle.vast_core.specs.View.{bench}
+use Rattle.vast_core.proofs.NodeLaws.{built-id}
+use Rattle.vast_core.proofs.ast.Ast.id.Goals as goal
+
+pub returns : goal.returns
+unfolding bench
+returns c = rw (← c.self.view_is) (sym (built-id _ _))

@@ -1,0 +1,193 @@
+-- What a file holds, for its users: the trees of its expressions and types, its records and its lists.
+use Rattle.std.specs.Prelude.{◌≡◌, ℕ, ◌<◌, Bool, true, false, List, [], ◌∷◌, ◌++◌, length, map, nat_lt, Option, Some, None, Result, Ok, Err, slice_get}
+use Rattle.std.specs.declared.alloc.AllocError.{AllocError}
+use Rattle.vast_literal.specs.Tree.{ExprTree, TypeTree, MaybeType, NameTree, Typed}
+use Rattle.vast_core.specs.declared.handle.Expr.{Expr}
+use Rattle.vast_core.specs.declared.handle.IndexableExpr.{IndexableExpr}
+use Rattle.vast_core.specs.declared.handle.Index.{Index}
+use Rattle.vast_core.specs.declared.handle.Slice.{Slice}
+use Rattle.vast_core.specs.declared.handle.LogicRef.{LogicRef}
+use Rattle.vast_core.specs.declared.handle.ParameterRef.{ParameterRef}
+use Rattle.vast_core.specs.declared.handle.LocalparamRef.{LocalparamRef}
+use Rattle.vast_core.specs.declared.handle.MacroRef.{MacroRef}
+use Rattle.vast_core.specs.declared.handle.VastDataType.{VastDataType}
+use Rattle.vast_core.specs.declared.handle.VastModule.{VastModule}
+use Rattle.vast_core.specs.declared.handle.VastFunction.{VastFunction}
+use Rattle.vast_core.specs.declared.handle.ModulePort.{ModulePort}
+use Rattle.vast_core.specs.declared.handle.Instantiation.{Instantiation}
+use Rattle.vast_core.specs.declared.handle.Def.{Def}
+use Rattle.vast_core.specs.declared.handle.BlankLine.{BlankLine}
+use Rattle.vast_core.specs.declared.handle.Comment.{Comment}
+use Rattle.vast_core.specs.declared.handle.InlineVerilogStatement.{InlineVerilogStatement}
+use Rattle.vast_core.specs.declared.handle.MacroStatement.{MacroStatement}
+use Rattle.vast_core.specs.declared.handle.ContinuousAssignment.{ContinuousAssignment}
+use Rattle.vast_core.specs.declared.handle.VastStatement.{VastStatement}
+use Rattle.vast_core.specs.declared.handle.VastAlwaysBase.{VastAlwaysBase}
+use Rattle.vast_core.specs.declared.handle.VastStatementBlock.{VastStatementBlock}
+use Rattle.vast_core.specs.declared.handle.Conditional.{Conditional}
+use Rattle.vast_core.specs.declared.handle.CaseStatement.{CaseStatement}
+use Rattle.vast_core.specs.declared.handle.GenerateLoop.{GenerateLoop}
+use Rattle.vast_core.specs.declared.kind.VastFileType.{VastFileType}
+use Rattle.vast_core.specs.declared.node.Assignment.{Assignment}
+use Rattle.vast_core.specs.declared.node.Function.{Function}
+use Rattle.vast_core.specs.declared.node.Definition.{Definition}
+use Rattle.vast_core.specs.declared.node.Artifact.{Artifact}
+use Rattle.vast_core.specs.declared.node.Artifact.TheVariants.{BlankLine as BlankLineOf, Comment as CommentOf, Inline as InlineOf, MacroStatement as MacroOf}
+use Rattle.vast_core.specs.declared.node.Instance.{Instance}
+use Rattle.vast_core.specs.declared.node.AlwaysBlock.{AlwaysBlock}
+use Rattle.vast_core.specs.declared.node.Nest.{Nest}
+use Rattle.vast_core.specs.declared.node.Nest.TheVariants.{Block as BlockOf, Conditional as ConditionalOf, Case as CaseOf, Loop as LoopOf}
+use Rattle.vast_core.specs.Handles.{module_index}
+use Rattle.vast_core.specs.Nodes.{Nodes, no_nodes, with_root, ExprRoot, TypeRoot, IsOwned, is_expr_root, is_type_root, is_root_of, is_name, is_index, is_slice, is_macro, expr_in, type_in, maybe_type_in}
+use Rattle.vast_core.specs.Records.{PortRecord, ModuleRecord, FileEntry, ModuleEntry}
+
+pub record Bench : Type 0 where
+  pub file_type : VastFileType
+  pub nodes : Nodes
+  pub nests : List Nest
+  pub ports : List PortRecord
+  pub assignments : List Assignment
+  pub modules : List ModuleRecord
+  pub functions : List Function
+  pub definitions : List Definition
+  pub artifacts : List Artifact
+  pub instances : List Instance
+  pub always_blocks : List AlwaysBlock
+  pub items : List FileEntry
+
+-- A file that holds nothing.
+abbrev pub start : VastFileType → ℕ → Bench
+start file_type id = record { file_type = file_type; nodes = no_nodes id; nests = []; ports = []; assignments = []; modules = []; functions = []; definitions = []; artifacts = []; instances = []; always_blocks = []; items = [] }
+
+-- The tree of a handle.
+
+abbrev pub tree_of : Bench → Expr → ExprTree
+tree_of b e = expr_in b.nodes e
+
+abbrev pub type_of : Bench → VastDataType → TypeTree
+type_of b t = type_in b.nodes t
+
+-- Which handles are the file's: the id is the file's, and the index names a node of the handle's kind.
+
+-- Expressions of a shape.
+abbrev pub has_root : (ExprTree → Bool) → Bench → ℕ → Bool
+has_root shape b i = is_root_of shape (slice_get b.nodes.roots i)
+
+abbrev pub OwnsExpr : Bench → Expr → Type 0
+OwnsExpr b e = IsOwned b.nodes.id e.id (is_expr_root (slice_get b.nodes.roots e.id.index))
+
+abbrev pub OwnsIndexable : Bench → IndexableExpr → Type 0
+OwnsIndexable b e = IsOwned b.nodes.id e.id (is_expr_root (slice_get b.nodes.roots e.id.index))
+
+abbrev pub OwnsType : Bench → VastDataType → Type 0
+OwnsType b t = IsOwned b.nodes.id t.id (is_type_root (slice_get b.nodes.roots t.id.index))
+
+abbrev pub OwnsLogicRef : Bench → LogicRef → Type 0
+OwnsLogicRef b r = IsOwned b.nodes.id r.id (has_root is_name b r.id.index)
+
+abbrev pub OwnsParameterRef : Bench → ParameterRef → Type 0
+OwnsParameterRef b r = IsOwned b.nodes.id r.id (has_root is_name b r.id.index)
+
+abbrev pub OwnsLocalparamRef : Bench → LocalparamRef → Type 0
+OwnsLocalparamRef b r = IsOwned b.nodes.id r.id (has_root is_name b r.id.index)
+
+abbrev pub OwnsIndex : Bench → Index → Type 0
+OwnsIndex b r = IsOwned b.nodes.id r.id (has_root is_index b r.id.index)
+
+abbrev pub OwnsSlice : Bench → Slice → Type 0
+OwnsSlice b r = IsOwned b.nodes.id r.id (has_root is_slice b r.id.index)
+
+abbrev pub OwnsMacroRef : Bench → MacroRef → Type 0
+OwnsMacroRef b r = IsOwned b.nodes.id r.id (has_root is_macro b r.id.index)
+
+-- Nodes of an arena of their own.
+abbrev pub OwnsModule : Bench → VastModule → Type 0
+OwnsModule b m = IsOwned b.nodes.id m.id (nat_lt m.id.index (length b.modules))
+
+abbrev pub OwnsPort : Bench → ModulePort → Type 0
+OwnsPort b p = IsOwned b.nodes.id p.id (nat_lt p.id.index (length b.ports))
+
+abbrev pub OwnsFunction : Bench → VastFunction → Type 0
+OwnsFunction b f = IsOwned b.nodes.id f.id (nat_lt f.id.index (length b.functions))
+
+abbrev pub OwnsInstantiation : Bench → Instantiation → Type 0
+OwnsInstantiation b i = IsOwned b.nodes.id i.id (nat_lt i.id.index (length b.instances))
+
+abbrev pub OwnsAlways : Bench → VastAlwaysBase → Type 0
+OwnsAlways b a = IsOwned b.nodes.id a.id (nat_lt a.id.index (length b.always_blocks))
+
+abbrev pub OwnsDef : Bench → Def → Type 0
+OwnsDef b d = IsOwned b.nodes.id d.id (nat_lt d.id.index (length b.definitions))
+
+-- Any assignment is a statement; one that isn't nonblocking is also a continuous one.
+abbrev pub OwnsStatement : Bench → VastStatement → Type 0
+OwnsStatement b s = IsOwned b.nodes.id s.id (nat_lt s.id.index (length b.assignments))
+
+abbrev pub is_continuous : Option Assignment → Bool
+is_continuous None = false
+is_continuous (Some a) = not_nonblocking a.nonblocking
+  where
+    not_nonblocking : Bool → Bool
+    not_nonblocking true = false
+    not_nonblocking false = true
+
+abbrev pub OwnsContinuous : Bench → ContinuousAssignment → Type 0
+OwnsContinuous b a = IsOwned b.nodes.id a.id (is_continuous (slice_get b.assignments a.id.index))
+
+-- Artifacts of a kind.
+abbrev pub is_blank_line : Option Artifact → Bool
+is_blank_line (Some BlankLineOf) = true
+is_blank_line _ = false
+
+abbrev pub is_comment : Option Artifact → Bool
+is_comment (Some (CommentOf text)) = true
+is_comment _ = false
+
+abbrev pub is_inline : Option Artifact → Bool
+is_inline (Some (InlineOf text)) = true
+is_inline _ = false
+
+abbrev pub is_macro_statement : Option Artifact → Bool
+is_macro_statement (Some (MacroOf call semicolon)) = true
+is_macro_statement _ = false
+
+abbrev pub OwnsBlankLine : Bench → BlankLine → Type 0
+OwnsBlankLine b a = IsOwned b.nodes.id a.id (is_blank_line (slice_get b.artifacts a.id.index))
+
+abbrev pub OwnsComment : Bench → Comment → Type 0
+OwnsComment b a = IsOwned b.nodes.id a.id (is_comment (slice_get b.artifacts a.id.index))
+
+abbrev pub OwnsInline : Bench → InlineVerilogStatement → Type 0
+OwnsInline b a = IsOwned b.nodes.id a.id (is_inline (slice_get b.artifacts a.id.index))
+
+abbrev pub OwnsMacroStatement : Bench → MacroStatement → Type 0
+OwnsMacroStatement b a = IsOwned b.nodes.id a.id (is_macro_statement (slice_get b.artifacts a.id.index))
+
+-- Containers of a kind.
+abbrev pub is_block : Option Nest → Bool
+is_block (Some (BlockOf statements)) = true
+is_block _ = false
+
+abbrev pub is_conditional : Option Nest → Bool
+is_conditional (Some (ConditionalOf condition consequent arms)) = true
+is_conditional _ = false
+
+abbrev pub is_case : Option Nest → Bool
+is_case (Some (CaseOf selector arms)) = true
+is_case _ = false
+
+abbrev pub is_loop : Option Nest → Bool
+is_loop (Some (LoopOf genvar members)) = true
+is_loop _ = false
+
+abbrev pub OwnsBlock : Bench → VastStatementBlock → Type 0
+OwnsBlock b c = IsOwned b.nodes.id c.id (is_block (slice_get b.nests c.id.index))
+
+abbrev pub OwnsConditional : Bench → Conditional → Type 0
+OwnsConditional b c = IsOwned b.nodes.id c.id (is_conditional (slice_get b.nests c.id.index))
+
+abbrev pub OwnsCase : Bench → CaseStatement → Type 0
+OwnsCase b c = IsOwned b.nodes.id c.id (is_case (slice_get b.nests c.id.index))
+
+abbrev pub OwnsLoop : Bench → GenerateLoop → Type 0
+OwnsLoop b c = IsOwned b.nodes.id c.id (is_loop (slice_get b.nests c.id.index))

@@ -1,0 +1,85 @@
+-- What a file holds after a call, and the handle of what the call made.
+use Rattle.std.specs.Prelude.{◌≡◌, ℕ, ℤ, Bool, List, [], ◌∷◌, ◌++◌, length, Option, Some, Result, Ok, Err}
+use Rattle.std.specs.Fmt.{signed_decimal}
+use Rattle.std.specs.declared.alloc.AllocError.{AllocError}
+use Rattle.vast_literal.specs.Tree.{ExprTree, NameTree, LiteralTree, TypeTree, VectorTree, Typed}
+use Rattle.vast_core.specs.declared.handle.Id.{Id}
+use Rattle.vast_core.specs.declared.handle.Expr.{Expr}
+use Rattle.vast_core.specs.declared.handle.LogicRef.{LogicRef}
+use Rattle.vast_core.specs.declared.handle.VastDataType.{VastDataType}
+use Rattle.vast_core.specs.declared.handle.VastModule.{VastModule}
+use Rattle.vast_core.specs.declared.handle.ModulePort.{ModulePort}
+use Rattle.vast_core.specs.declared.handle.ContinuousAssignment.{ContinuousAssignment}
+use Rattle.vast_core.specs.declared.kind.ModulePortDirection.{ModulePortDirection}
+use Rattle.vast_core.specs.declared.kind.DataKind.{DataKind}
+use Rattle.vast_core.specs.declared.node.Assignment.{Assignment}
+use Rattle.vast_core.specs.Handles.{module_index}
+use Rattle.vast_core.specs.Nodes.{Root, ExprRoot, TypeRoot, with_root as with_node}
+use Rattle.vast_core.specs.Records.{PortRecord, ModuleEntry, MemberEntry, new_module, with_port as with_listed_port, with_member as with_listed_member, changed_at}
+use Rattle.vast_core.specs.Bench.{Bench, type_of}
+
+-- The call answers this and leaves this, or memory was refused and nothing changed.
+abbrev pub Builds : {A : Type 0} → (old new : Bench) → Result A AllocError → A → Bench → Type 0
+Builds old new (Ok x) answer after = (x ≡ answer) × (new ≡ after)
+Builds old new (Err _) answer after = new ≡ old
+
+abbrev pub with_root : Bench → Root → Bench
+with_root b r = record b { nodes = with_node b.nodes r }
+
+abbrev pub with_expr : Bench → ExprTree → Bench
+with_expr b e = with_root b (ExprRoot e)
+
+abbrev pub with_type : Bench → TypeTree → Bench
+with_type b t = with_root b (TypeRoot t)
+
+-- The id of the next node of an arena that holds this many.
+abbrev pub next_id : Bench → ℕ → Id
+next_id b count = record { file_id = b.nodes.id; index = count }
+
+abbrev pub next_expr : Bench → Expr
+next_expr b = record { id = next_id b (length b.nodes.roots) }
+
+abbrev pub next_logic_ref : Bench → LogicRef
+next_logic_ref b = record { id = next_id b (length b.nodes.roots) }
+
+abbrev pub next_type : Bench → VastDataType
+next_type b = record { id = next_id b (length b.nodes.roots) }
+
+abbrev pub next_module : Bench → VastModule
+next_module b = record { id = next_id b (length b.modules) }
+
+abbrev pub next_port : Bench → ModulePort
+next_port b = record { id = next_id b (length b.ports) }
+
+abbrev pub next_continuous : Bench → ContinuousAssignment
+next_continuous b = record { id = next_id b (length b.assignments) }
+
+-- A literal of the width, and a vector of that width.
+abbrev pub width_literal : ℤ → ExprTree
+width_literal bits = LiteralTree (signed_decimal bits) (Some bits)
+
+abbrev pub with_vector : ℤ → Bool → Bench → Bench
+with_vector bits signed b = with_type (with_expr b (width_literal bits)) (VectorTree (width_literal bits) (Some bits) signed)
+
+abbrev pub next_vector : ℤ → Bench → VastDataType
+next_vector bits b = next_type (with_expr b (width_literal bits))
+
+-- An empty module of this name, as the file's last item.
+abbrev pub with_module : List ℕ → Bench → Bench
+with_module name b = record b { modules = b.modules ++ new_module name ∷ []; items = b.items ++ ModuleEntry (next_module b) ∷ [] }
+
+-- A port more: its name as an expression, its record, and its place at the end of the module's ports.
+abbrev pub with_port : VastModule → ModulePortDirection → DataKind → List ℕ → VastDataType → Bench → Bench
+with_port m direction kind name data_type b =
+  record b {
+    nodes = with_node b.nodes (ExprRoot (NameTree name (Typed (type_of b data_type))));
+    ports = b.ports ++ record { direction = direction; kind = kind; name = name; data_type = data_type; logic_ref = next_logic_ref b } ∷ [];
+    modules = changed_at (module_index m) (with_listed_port (next_port b) name) b.modules
+  }
+
+abbrev pub with_assignment : Assignment → Bench → Bench
+with_assignment a b = record b { assignments = b.assignments ++ a ∷ [] }
+
+-- A member more at the end of the module's members.
+abbrev pub with_member : VastModule → MemberEntry → Bench → Bench
+with_member m entry b = record b { modules = changed_at (module_index m) (with_listed_member entry) b.modules }

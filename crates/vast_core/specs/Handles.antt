@@ -1,0 +1,55 @@
+-- Handles: their indexes, and the conversions between them.
+use Rattle.std.specs.Prelude.{ℕ}
+use Rattle.vast_core.specs.declared.handle.VastModule.{VastModule}
+use Rattle.vast_core.specs.declared.handle.VastDataType.{VastDataType}
+use Rattle.vast_core.specs.declared.handle.LogicRef.{LogicRef}
+use Rattle.vast_core.specs.declared.handle.Expr.{Expr}
+use Rattle.vast_core.specs.declared.handle.IndexableExpr.{IndexableExpr}
+use Rattle.vast_core.specs.declared.handle.Slice.{Slice}
+use Rattle.vast_core.specs.declared.handle.Index.{Index}
+use Rattle.vast_core.specs.declared.handle.ParameterRef.{ParameterRef}
+use Rattle.vast_core.specs.declared.handle.LocalparamRef.{LocalparamRef}
+use Rattle.vast_core.specs.declared.handle.MacroRef.{MacroRef}
+
+-- A number that is larger than those of a node's children: its place in the arena of expressions and types.
+abbrev pub rank : Expr → ℕ
+rank e = e.id.index
+
+abbrev pub type_rank : VastDataType → ℕ
+type_rank t = t.id.index
+
+-- A module's place among the file's modules.
+abbrev pub module_index : VastModule → ℕ
+module_index m = m.id.index
+
+-- The same node, as an expression.
+abbrev pub logic_ref_to_expr : LogicRef → Expr
+logic_ref_to_expr r = record { id = r.id }
+
+abbrev pub indexable_expr_to_expr : IndexableExpr → Expr
+indexable_expr_to_expr r = record { id = r.id }
+
+abbrev pub slice_to_expr : Slice → Expr
+slice_to_expr r = record { id = r.id }
+
+abbrev pub index_to_expr : Index → Expr
+index_to_expr r = record { id = r.id }
+
+abbrev pub parameter_ref_to_expr : ParameterRef → Expr
+parameter_ref_to_expr r = record { id = r.id }
+
+abbrev pub localparam_ref_to_expr : LocalparamRef → Expr
+localparam_ref_to_expr r = record { id = r.id }
+
+abbrev pub macro_ref_to_expr : MacroRef → Expr
+macro_ref_to_expr r = record { id = r.id }
+
+-- The same node, as an expression that may be selected from.
+abbrev pub logic_ref_to_indexable_expr : LogicRef → IndexableExpr
+logic_ref_to_indexable_expr r = record { id = r.id }
+
+abbrev pub index_to_indexable_expr : Index → IndexableExpr
+index_to_indexable_expr r = record { id = r.id }
+
+abbrev pub parameter_ref_to_indexable_expr : ParameterRef → IndexableExpr
+parameter_ref_to_indexable_expr r = record { id = r.id }

@@ -1,0 +1,10 @@
+pub mod Kinds
+pub mod Handles
+pub mod Nodes
+pub mod Records
+pub mod Raw
+pub mod Bench
+pub mod View
+pub mod Growth
+pub mod Sound
+pub mod FileTree

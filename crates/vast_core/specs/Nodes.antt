@@ -1,0 +1,142 @@
+-- The arena of expressions and types: nodes, and the trees that they stand for.
+use Rattle.std.specs.Prelude.{◌≡◌, ℕ, ◌+◌, ◌<◌, Bool, true, false, IsTrue, List, [], ◌∷◌, ◌++◌, length, Option, Some, None, slice_get, string_bytes}
+use Rattle.vast_literal.specs.Tree.{ExprTree, NameTree, LiteralTree, StringTree, UnaryTree, BinaryTree, TernaryTree, IndexTree, SliceTree, PartSelectTree, ConcatTree, PatternTree, WidthCastTree, TypeCastTree, PosEdgeTree, NegEdgeTree, MacroTree, CallTree, MissingExpr, TypeTree, ScalarTree, VectorTree, MissingType, MaybeType, Untyped, Typed}
+use Rattle.vast_core.specs.declared.handle.Id.{Id}
+use Rattle.vast_core.specs.declared.handle.Expr.{Expr}
+use Rattle.vast_core.specs.declared.handle.VastDataType.{VastDataType}
+use Rattle.vast_core.specs.declared.node.ExprNode.{ExprNode}
+use Rattle.vast_core.specs.declared.node.ExprNode.TheVariants.{Name, Literal}
+use Rattle.vast_core.specs.declared.node.TypeNode.{TypeNode}
+use Rattle.vast_core.specs.declared.node.TypeNode.TheVariants.{Scalar, Vector}
+use Rattle.vast_core.specs.declared.node.Term.{Term}
+use Rattle.vast_core.specs.declared.node.Term.TheVariants.{Expression, DataType}
+use Rattle.vast_core.specs.Handles.{rank, type_rank}
+
+-- What a node of the arena stands for.
+pub data Root : Type 0 where
+  ExprRoot : ExprTree → Root
+  TypeRoot : TypeTree → Root
+
+-- The file's id, and what its nodes stand for, in the order of their indexes.
+pub record Nodes : Type 0 where
+  pub id : ℕ
+  pub roots : List Root
+
+abbrev pub no_nodes : ℕ → Nodes
+no_nodes id = record { id = id; roots = [] }
+
+abbrev pub with_root : Nodes → Root → Nodes
+with_root b r = record { id = b.id; roots = b.roots ++ r ∷ [] }
+
+-- Which kinds of node an index names.
+
+abbrev pub is_expr_root : Option Root → Bool
+is_expr_root None = false
+is_expr_root (Some (ExprRoot e)) = true
+is_expr_root (Some (TypeRoot t)) = false
+
+abbrev pub is_type_root : Option Root → Bool
+is_type_root None = false
+is_type_root (Some (ExprRoot e)) = false
+is_type_root (Some (TypeRoot t)) = true
+
+abbrev pub is_name : ExprTree → Bool
+is_name (NameTree name type) = true
+is_name _ = false
+
+abbrev pub is_index : ExprTree → Bool
+is_index (IndexTree subject index) = true
+is_index _ = false
+
+abbrev pub is_slice : ExprTree → Bool
+is_slice (SliceTree subject high low) = true
+is_slice _ = false
+
+abbrev pub is_macro : ExprTree → Bool
+is_macro (MacroTree name given) = true
+is_macro _ = false
+
+-- The root is an expression of this shape.
+abbrev pub is_root_of : (ExprTree → Bool) → Option Root → Bool
+is_root_of shape None = false
+is_root_of shape (Some (ExprRoot e)) = shape e
+is_root_of shape (Some (TypeRoot t)) = false
+
+abbrev pub expr_of_root : Option Root → ExprTree
+expr_of_root None = MissingExpr
+expr_of_root (Some (ExprRoot e)) = e
+expr_of_root (Some (TypeRoot t)) = MissingExpr
+
+abbrev pub type_of_root : Option Root → TypeTree
+type_of_root None = MissingType
+type_of_root (Some (ExprRoot e)) = MissingType
+type_of_root (Some (TypeRoot t)) = t
+
+-- The handle is the file's, and its index names a node of its kind.
+pub record IsOwned (file_id : ℕ) (id : Id) (of_its_kind : Bool) : Type 0 where
+  pub of_file : id.file_id ≡ file_id
+  pub of_kind : IsTrue of_its_kind
+
+abbrev pub HasExpr : Nodes → Expr → Type 0
+HasExpr b e = IsOwned b.id e.id (is_expr_root (slice_get b.roots e.id.index))
+
+abbrev pub HasType : Nodes → VastDataType → Type 0
+HasType b t = IsOwned b.id t.id (is_type_root (slice_get b.roots t.id.index))
+
+-- The tree of a handle.
+unfoldable pub expr_in : Nodes → Expr → ExprTree
+expr_in b e = expr_of_root (slice_get b.roots e.id.index)
+
+unfoldable pub type_in : Nodes → VastDataType → TypeTree
+type_in b t = type_of_root (slice_get b.roots t.id.index)
+
+abbrev pub maybe_type_in : Nodes → Option VastDataType → MaybeType
+maybe_type_in b None = Untyped
+maybe_type_in b (Some t) = Typed (type_in b t)
+
+-- The tree of a node, from those of its children.
+abbrev pub expr_tree : Nodes → ExprNode → ExprTree
+expr_tree b (Name name type) = NameTree (string_bytes name) (maybe_type_in b type)
+expr_tree b (Literal text value) = LiteralTree (string_bytes text) value
+
+abbrev pub type_tree : Nodes → TypeNode → TypeTree
+type_tree b (Scalar signed) = ScalarTree signed
+type_tree b (Vector width value signed) = VectorTree (expr_in b width) value signed
+
+abbrev pub term_root : Nodes → Term → Root
+term_root b (Expression n) = ExprRoot (expr_tree b n)
+term_root b (DataType n) = TypeRoot (type_tree b n)
+
+-- P holds of the value, if there is one.
+abbrev pub OptionHolds : {A : Type 0} (P : A → Type 0) → Option A → Type 0
+OptionHolds P None = Unit {0}
+OptionHolds P (Some x) = P x
+
+-- P holds of each child that is an expression, and Q of each that is a type.
+abbrev pub ExprChildrenHold : (P : Expr → Type 0) (Q : VastDataType → Type 0) → ExprNode → Type 0
+ExprChildrenHold P Q (Name name type) = OptionHolds Q type
+ExprChildrenHold P Q (Literal text value) = Unit {0}
+
+abbrev pub TypeChildrenHold : (P : Expr → Type 0) (Q : VastDataType → Type 0) → TypeNode → Type 0
+TypeChildrenHold P Q (Scalar signed) = Unit {0}
+TypeChildrenHold P Q (Vector width value signed) = P width
+
+abbrev pub ChildrenHold : (P : Expr → Type 0) (Q : VastDataType → Type 0) → Term → Type 0
+ChildrenHold P Q (Expression n) = ExprChildrenHold P Q n
+ChildrenHold P Q (DataType n) = TypeChildrenHold P Q n
+
+-- The nodes after these terms, each made of older ones.
+unfoldable pub built : Nodes → List Term → Nodes
+built b [] = b
+built b (t ∷ ts) = built (with_root b (term_root b t)) ts
+
+-- Each term's children are older nodes of the file.
+unfoldable pub TermsSound : Nodes → List Term → Type 0
+TermsSound b [] = Unit {0}
+TermsSound b (t ∷ ts) = ChildrenHold (HasExpr b) (HasType b) t × TermsSound (with_root b (term_root b t)) ts
+
+-- The term is node i, and its children are older nodes of the file.
+pub record IsNodeAt (b : Nodes) (i : ℕ) (t : Term) : Type 0 where
+  pub root : slice_get b.roots i ≡ Some (term_root b t)
+  pub owned : ChildrenHold (HasExpr b) (HasType b) t
+  pub older : ChildrenHold (λ e. rank e < i) (λ u. type_rank u < i) t

@@ -1,0 +1,30 @@
+-- What an Ast holds, node by node, and how many expressions and types fit before their arena has to grow.
+use Rattle.std.specs.Prelude.{ℕ, List}
+use Rattle.vast_core.specs.declared.kind.VastFileType.{VastFileType}
+use Rattle.vast_core.specs.declared.node.Term.{Term}
+use Rattle.vast_core.specs.declared.node.Nest.{Nest}
+use Rattle.vast_core.specs.declared.node.Port.{Port}
+use Rattle.vast_core.specs.declared.node.Assignment.{Assignment}
+use Rattle.vast_core.specs.declared.node.Module.{Module}
+use Rattle.vast_core.specs.declared.node.Function.{Function}
+use Rattle.vast_core.specs.declared.node.Definition.{Definition}
+use Rattle.vast_core.specs.declared.node.Artifact.{Artifact}
+use Rattle.vast_core.specs.declared.node.Instance.{Instance}
+use Rattle.vast_core.specs.declared.node.AlwaysBlock.{AlwaysBlock}
+use Rattle.vast_core.specs.declared.node.FileItem.{FileItem}
+
+pub record Raw : Type 0 where
+  pub file_type : VastFileType
+  pub id : ℕ
+  pub terms : List Term
+  pub term_room : ℕ
+  pub nests : List Nest
+  pub ports : List Port
+  pub assignments : List Assignment
+  pub modules : List Module
+  pub functions : List Function
+  pub definitions : List Definition
+  pub artifacts : List Artifact
+  pub instances : List Instance
+  pub always_blocks : List AlwaysBlock
+  pub items : List FileItem

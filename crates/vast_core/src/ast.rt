@@ -1,0 +1,95 @@
+//! The arenas of one file.
+
+ghost use Rattle.std.specs.Prelude.{◌≡◌};
+ghost use Rattle.vast_core.specs.Bench.{start};
+ghost use Rattle.vast_core.specs.View.{bench};
+
+use crate::kind::VastFileType;
+use crate::node::{AlwaysBlock, Artifact, Assignment, Definition, FileItem, Function, Instance};
+use crate::node::{Module, Nest, Port, Term};
+use std::alloc::Global;
+use std::marker::Model;
+
+mod assignments;
+mod modules;
+pub(crate) mod owns;
+mod ports;
+mod terms;
+
+/// The nodes of one file, in arenas. Handles name nodes by their index.
+///
+/// In contracts it is its bench (`specs/Bench.antt`): the trees of its expressions and types, its records and lists.
+/// Children of an expression or type are older than it, and every handle in a record or a list is the file's own.
+#[derive(Drop)]
+pub struct Ast {
+    alloc: Global,
+    file_type: VastFileType,
+    id: u64,
+    terms: Vec<Term>,
+    nests: Vec<Nest>,
+    ports: Vec<Port>,
+    assignments: Vec<Assignment>,
+    modules: Vec<Module>,
+    functions: Vec<Function>,
+    definitions: Vec<Definition>,
+    artifacts: Vec<Artifact>,
+    instances: Vec<Instance>,
+    always_blocks: Vec<AlwaysBlock>,
+    items: Vec<FileItem>,
+}
+
+impl Model for Ast {
+    ghost use Rattle.vast_core.specs.Raw.{Raw};
+
+    ghost Value = { Raw };
+
+    ghost use Rattle.std.specs.Prelude.{◌-◌, vec_capacity, vec_len};
+    ghost use Rattle.vast_core.specs.Sound.{IsSound};
+
+    ghost view = { λ a. record { file_type = a.file_type; id = a.id; terms = a.terms.items; term_room = vec_capacity a.terms - vec_len a.terms; nests = a.nests.items; ports = a.ports.items; assignments = a.assignments.items; modules = a.modules.items; functions = a.functions.items; definitions = a.definitions.items; artifacts = a.artifacts.items; instances = a.instances.items; always_blocks = a.always_blocks.items; items = a.items.items } };
+
+    ghost invariant = { λ a. IsSound record { file_type = a.file_type; id = a.id; terms = a.terms.items; term_room = vec_capacity a.terms - vec_len a.terms; nests = a.nests.items; ports = a.ports.items; assignments = a.assignments.items; modules = a.modules.items; functions = a.functions.items; definitions = a.definitions.items; artifacts = a.artifacts.items; instances = a.instances.items; always_blocks = a.always_blocks.items; items = a.items.items } };
+}
+
+impl Ast {
+    /// Arenas without nodes. They take no memory.
+    pub fn new(alloc: Global, file_type: VastFileType, id: u64) -> Ast
+        ensures { bench result ≡ start file_type id }
+    {
+        Ast {
+            alloc,
+            file_type,
+            id,
+            terms: Vec::new(alloc),
+            nests: Vec::new(alloc),
+            ports: Vec::new(alloc),
+            assignments: Vec::new(alloc),
+            modules: Vec::new(alloc),
+            functions: Vec::new(alloc),
+            definitions: Vec::new(alloc),
+            artifacts: Vec::new(alloc),
+            instances: Vec::new(alloc),
+            always_blocks: Vec::new(alloc),
+            items: Vec::new(alloc),
+        }
+    }
+
+    /// The allocator that every growth of the file takes its memory from.
+    pub fn allocator(&self) -> Global {
+        self.alloc
+    }
+
+    /// The dialect of the file.
+    pub fn file_type(&self) -> VastFileType
+        ensures { result ≡ (bench self.now).file_type }
+    {
+        self.file_type
+    }
+
+    /// The file's id, which its handles carry.
+    pub fn id(&self) -> u64
+        ensures { result ≡ (bench self.now).nodes.id }
+    {
+        self.id
+    }
+}

@@ -1,0 +1,37 @@
+//! The public enums of the crate xlsynth-vast that nodes and calls name.
+
+/// The dialect in which a file is written.
+#[derive(Clone, Copy, Debug, PartialEq, Eq, Hash)]
+pub enum VastFileType {
+    Verilog,
+    SystemVerilog,
+}
+
+/// The direction of a module's port.
+#[derive(Clone, Copy, Debug, PartialEq, Eq, Hash)]
+pub enum ModulePortDirection {
+    Input,
+    Output,
+    InOut,
+}
+
+/// The kind word of a declaration; `User` and `UntypedEnum` are written without one.
+#[derive(Clone, Copy, Debug, PartialEq, Eq, Hash)]
+pub enum DataKind {
+    Reg,
+    Wire,
+    Logic,
+    Integer,
+    Int,
+    User,
+    UntypedEnum,
+    Genvar,
+}
+
+/// The forms of an always block.
+#[derive(Clone, Copy, Debug, PartialEq, Eq, Hash)]
+pub enum AlwaysKind {
+    AlwaysFF,
+    AlwaysAt,
+    AlwaysComb,
+}

@@ -1,0 +1,21 @@
+//! Handles, nodes and arenas of Verilog syntax trees.
+//!
+//! An [`Ast`] owns every node of one file; a handle is a file's number and an index, so it is `Copy` and stays good
+//! as long as the file lives. `specs/Bench.antt` says what a file holds, without vectors and strings.
+#![tactic(auto)]
+
+mod ast;
+mod file_ids;
+mod handle;
+mod kind;
+mod node;
+
+pub use ast::Ast;
+pub use ast::owns::Handle;
+pub use file_ids::{FileIds, IdsSpent};
+pub use handle::{BlankLine, CaseStatement, Comment, Conditional, ContinuousAssignment, Def};
+pub use handle::{Expr, GenerateLoop, Index, IndexableExpr, InlineVerilogStatement, Instantiation};
+pub use handle::{LocalparamRef, LogicRef, MacroRef, MacroStatement, ModulePort, ParameterRef, Slice};
+pub use handle::{VastAlwaysBase, VastDataType, VastFunction, VastModule, VastStatement, VastStatementBlock};
+pub use kind::{AlwaysKind, DataKind, ModulePortDirection, VastFileType};
+pub use node::{Assignment, ExprNode, FileItem, Member, Module, Port, TypeNode};

@@ -1,0 +1,152 @@
+//! Nodes: what the arenas of a file hold, with handles in the place of children.
+
+use crate::handle::{CaseStatement, Conditional, ContinuousAssignment, Expr, LogicRef, MacroRef};
+use crate::handle::{ModulePort, VastDataType, VastModule, VastStatement, VastStatementBlock};
+use crate::kind::{AlwaysKind, DataKind, ModulePortDirection};
+use std::collections::BTreeSet;
+
+/// An expression.
+#[derive(Drop)]
+pub enum ExprNode {
+    /// A name, with the type that it was declared with, if any.
+    Name(String, Option<VastDataType>),
+    /// A literal's text, and its value where that is known.
+    Literal(String, Option<i64>),
+}
+
+/// A data type.
+#[derive(Drop)]
+pub enum TypeNode {
+    /// One bit, signed or not.
+    Scalar(bool),
+    /// A vector: its width, the width's value where that is known, and whether it is signed.
+    Vector(Expr, Option<i64>, bool),
+}
+
+/// A node of the arena that expressions and types share: types hold widths and names hold types, so that "children
+/// are older" is one order.
+#[derive(Drop)]
+pub(crate) enum Term {
+    Expression(ExprNode),
+    DataType(TypeNode),
+}
+
+/// A port of a module.
+#[derive(Drop)]
+pub struct Port {
+    pub direction: ModulePortDirection,
+    pub kind: DataKind,
+    pub name: String,
+    pub data_type: VastDataType,
+    /// The port's name as an expression.
+    pub logic_ref: LogicRef,
+}
+
+/// An assignment, `l <= r` where it is nonblocking.
+#[derive(Clone, Copy, Debug, PartialEq, Eq)]
+pub struct Assignment {
+    pub lhs: Expr,
+    pub rhs: Expr,
+    pub nonblocking: bool,
+}
+
+/// A member of a module.
+#[derive(Drop)]
+pub enum Member {
+    ContinuousAssignment(ContinuousAssignment),
+}
+
+/// A module: its lists in the order of the calls, and the names that its ports and variables have taken.
+#[derive(Drop)]
+pub struct Module {
+    pub name: String,
+    pub ports: Vec<ModulePort>,
+    pub members: Vec<Member>,
+    pub names: BTreeSet<String>,
+}
+
+/// An item of a file.
+#[derive(Drop)]
+pub enum FileItem {
+    Module(VastModule),
+}
+
+/// A name that a function declares, as an input or a local.
+#[derive(Drop)]
+pub struct FunctionVariable {
+    pub kind: DataKind,
+    pub name: String,
+    pub data_type: VastDataType,
+}
+
+/// A function, with the names that its result, inputs and locals have taken.
+#[derive(Drop)]
+pub struct Function {
+    pub name: String,
+    pub result_type: VastDataType,
+    pub result: LogicRef,
+    pub inputs: Vec<FunctionVariable>,
+    pub locals: Vec<FunctionVariable>,
+    pub body: VastStatementBlock,
+    pub names: BTreeSet<String>,
+}
+
+/// A definition, from which parameters take kind, type and name.
+#[derive(Drop)]
+pub struct Definition {
+    pub name: String,
+    pub kind: DataKind,
+    pub data_type: VastDataType,
+}
+
+/// What stands between members for the reader, or for a preprocessor.
+#[derive(Drop)]
+pub enum Artifact {
+    BlankLine,
+    Comment(String),
+    Inline(String),
+    /// The use of a macro, with a semicolon or without.
+    MacroStatement(MacroRef, bool),
+}
+
+/// An instantiation: a port without an expression is open.
+#[derive(Drop)]
+pub struct Instance {
+    pub module_name: String,
+    pub instance_name: String,
+    pub parameters: Vec<(String, Expr)>,
+    pub connections: Vec<(String, Option<Expr>)>,
+}
+
+/// An always block, with its events.
+#[derive(Drop)]
+pub struct AlwaysBlock {
+    pub kind: AlwaysKind,
+    pub events: Vec<Expr>,
+    pub block: VastStatementBlock,
+}
+
+/// A procedural statement.
+#[derive(Drop)]
+pub enum Statement {
+    Assignment(VastStatement),
+    Conditional(Conditional),
+    Case(CaseStatement),
+    Artifact(Artifact),
+}
+
+/// An arm `else if` of a conditional, or a labelled arm of a case; an `else` and a default have no expression.
+#[derive(Clone, Copy, Debug, PartialEq, Eq)]
+pub struct Arm {
+    pub expr: Option<Expr>,
+    pub block: VastStatementBlock,
+}
+
+/// The containers that nest in one another, in one arena: what a container holds is newer than it.
+#[derive(Drop)]
+pub(crate) enum Nest {
+    Block(Vec<Statement>),
+    Conditional(Expr, VastStatementBlock, Vec<Arm>),
+    Case(Expr, Vec<Arm>),
+    Loop(LogicRef, Vec<Member>),
+}
