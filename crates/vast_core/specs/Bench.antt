@@ -39,7 +39,7 @@ use Rattle.vast_core.specs.declared.node.Nest.{Nest}
 use Rattle.vast_core.specs.declared.node.Nest.TheVariants.{Block as BlockOf, Conditional as ConditionalOf, Case as CaseOf, Loop as LoopOf}
 use Rattle.vast_core.specs.Handles.{module_index}
 use Rattle.vast_core.specs.Nodes.{Nodes, no_nodes, with_root, ExprRoot, TypeRoot, IsOwned, is_expr_root, is_type_root, is_root_of, is_name, is_index, is_slice, is_macro, expr_in, type_in, maybe_type_in}
-use Rattle.vast_core.specs.Records.{PortRecord, ModuleRecord, FileEntry, ModuleEntry}
+use Rattle.vast_core.specs.Records.{PortRecord, ModuleRecord, FileEntry, IsFree}
 
 pub record Bench : Type 0 where
   pub file_type : VastFileType
@@ -191,3 +191,11 @@ OwnsCase b c = IsOwned b.nodes.id c.id (is_case (slice_get b.nests c.id.index))
 
 abbrev pub OwnsLoop : Bench → GenerateLoop → Type 0
 OwnsLoop b c = IsOwned b.nodes.id c.id (is_loop (slice_get b.nests c.id.index))
+
+-- The names that a module's ports, wires, variables and functions have taken.
+abbrev pub names_of : Option ModuleRecord → List (List ℕ)
+names_of None = []
+names_of (Some m) = m.names
+
+abbrev pub NameIsFree : Bench → VastModule → List ℕ → Type 0
+NameIsFree b m name = IsFree name (names_of (slice_get b.modules (module_index m)))

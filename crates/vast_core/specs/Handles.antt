@@ -1,6 +1,8 @@
 -- Handles: their indexes, and the conversions between them.
 use Rattle.std.specs.Prelude.{ℕ}
 use Rattle.vast_core.specs.declared.handle.VastModule.{VastModule}
+use Rattle.vast_core.specs.declared.handle.ModulePort.{ModulePort}
+use Rattle.vast_core.specs.declared.handle.ContinuousAssignment.{ContinuousAssignment}
 use Rattle.vast_core.specs.declared.handle.VastDataType.{VastDataType}
 use Rattle.vast_core.specs.declared.handle.LogicRef.{LogicRef}
 use Rattle.vast_core.specs.declared.handle.Expr.{Expr}
@@ -21,6 +23,14 @@ type_rank t = t.id.index
 -- A module's place among the file's modules.
 abbrev pub module_index : VastModule → ℕ
 module_index m = m.id.index
+
+-- A port's place among the file's ports.
+abbrev pub port_index : ModulePort → ℕ
+port_index p = p.id.index
+
+-- An assignment's place among the file's assignments.
+abbrev pub continuous_index : ContinuousAssignment → ℕ
+continuous_index a = a.id.index
 
 -- The same node, as an expression.
 abbrev pub logic_ref_to_expr : LogicRef → Expr

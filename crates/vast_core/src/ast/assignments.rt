@@ -1,1 +1,49 @@
-//! x
+//! Assignments that members and statements are made of.
+
+ghost use Rattle.std.specs.Prelude.{◌≡◌, false, slice_get};
+ghost use Rattle.vast_core.specs.Handles.{continuous_index};
+ghost use Rattle.vast_core.specs.Bench.{OwnsContinuous, OwnsExpr};
+ghost use Rattle.vast_core.specs.Growth.{Builds, next_continuous, with_assignment};
+ghost use Rattle.vast_core.specs.View.{bench};
+
+use crate::ast::Ast;
+use crate::handle::{ContinuousAssignment, Expr, Id};
+use crate::node::Assignment;
+use std::alloc::AllocError;
+
+impl Ast {
+    /// Adds the assignment `assign lhs = rhs`, which no list holds yet.
+    ///
+    /// # Errors
+    /// `AllocError` where a growth was refused; nothing changed.
+    pub fn push_continuous(&mut self, lhs: Expr, rhs: Expr) -> Result<ContinuousAssignment, AllocError>
+        requires lhs { OwnsExpr (bench self.old) lhs }
+        requires rhs { OwnsExpr (bench self.old) rhs }
+        ensures {
+            Builds (bench self.old) (bench self.new) result (next_continuous (bench self.old)) (with_assignment (record { lhs = lhs; rhs = rhs; nonblocking = false }) (bench self.old))
+        }
+    {
+        let index = self.assignments.len();
+        self.assignments.push(Assignment {
+            lhs,
+            rhs,
+            nonblocking: false,
+        })?;
+        Ok(ContinuousAssignment {
+            id: Id {
+                file_id: self.id,
+                index,
+            },
+        })
+    }
+
+    /// The sides of an assignment.
+    pub fn continuous(&self, a: ContinuousAssignment) -> &Assignment
+        requires { OwnsContinuous (bench self.now) a }
+        ensures there { slice_get (bench self.now).assignments (continuous_index a) ≡ Some result.now }
+        ensures lhs { OwnsExpr (bench self.now) result.now.lhs }
+        ensures rhs { OwnsExpr (bench self.now) result.now.rhs }
+    {
+        &self.assignments[a.id.index]
+    }
+}
