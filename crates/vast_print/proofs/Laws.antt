@@ -1,11 +1,11 @@
 -- Laws of writing pages: what becomes of a text where a page made of parts is written behind it.
-use Rattle.std.proofs.Common.{◌≡◌, ℕ, ◌+◌, List, [], ◌∷◌, ◌++◌, refl, sym, ◌∙◌, ap, add-zero, Option, None, Some}
+use Rattle.std.proofs.Common.{◌≡◌, ℕ, Bool, true, false, ◌+◌, List, [], ◌∷◌, ◌++◌, refl, sym, ◌∙◌, ap, add-zero, Option, None, Some}
 use Rattle.vast_print.specs.declared.refusal.Refusal.{Refusal}
 use Rattle.vast_print.specs.Printed.{Printed, first_fault, plain_text, refused, ◌⊕◌}
-use Rattle.vast_print.specs.Page.{Page, print, no_lines, line, one_line, inner, lead, above, beside, written, written_lines, note, commented, commented_lines}
+use Rattle.vast_print.specs.Page.{Page, print, print_lines, no_lines, line, one_line, inner, lead, above, beside, written, written_lines, note, commented, commented_lines}
 use Rattle.vast_print.specs.Draft.{Draft, whole, unwritten}
 use Rattle.vast_print.specs.Ink.{Ink, Wet, Stopped, word, next, stop, hang_lines, pour_lines, hang, pour}
-use Rattle.vast_print.proofs.Lines.{word-word, word-nothing, word-stopped, next-stopped, stop-none, stop-stopped, stop-some, stop-stop, next-stop, hang-lines-stop, pour-lines-stop, hang-lines-stopped, pour-lines-stopped, hang-lines-above, pour-lines-beside, hang-lines-inner, hang-flush, hang-flush-on, lead-flush, Flush-written, written-append, Unbroken, written-unbroken, written-break, commented-lines-above, whole-print}
+use Rattle.vast_print.proofs.Lines.{word-word, word-nothing, word-stopped, next-stopped, stop-none, stop-stopped, stop-some, stop-stop, next-stop, hang-lines-stop, pour-lines-stop, hang-lines-stopped, pour-lines-stopped, hang-lines-above, pour-lines-beside, hang-lines-inner, hang-flush, hang-flush-on, lead-flush, Flush-written, written-append, Unbroken, written-unbroken, unbroken, written-one-line, written-break, commented-lines-above, whole-print, flat, pour-flat}
 
 -- lines
 
@@ -80,11 +80,11 @@ unfolding pour written plain_text written_lines pour_lines hang_lines stop
 pour-empty d k = word-nothing k
 
 -- a refused text stops what is written
-pub pour-refused : (d : ℕ) (k : Draft) (r : Refusal) (w : List ℕ) → pour d (Wet k) (written (refused r (plain_text w))) ≡ Stopped r
-unfolding pour written refused plain_text
-pour-refused d k r w =
-    sym (pour-lines-stop d (Wet k) (Some r) (written_lines w))
-    ∙ (ap (λ x. pour_lines d x (written_lines w)) (stop-some k r) ∙ pour-lines-stopped d r (written_lines w))
+pub pour-refused : (d : ℕ) (k : Draft) (r : Refusal) (p : Printed) → pour d (Wet k) (written (refused r p)) ≡ Stopped r
+unfolding pour written refused
+pour-refused d k r p =
+    sym (pour-lines-stop d (Wet k) (Some r) (written_lines p.text))
+    ∙ (ap (λ x. pour_lines d x (written_lines p.text)) (stop-some k r) ∙ pour-lines-stopped d r (written_lines p.text))
 
 -- a text, and a page that goes on behind it
 pub hang-beside : (d : ℕ) (k : Ink) (p : Printed) (q : Page) → hang d k (beside (written p) q) ≡ pour d (pour d (next d k) (written p)) q
@@ -105,6 +105,10 @@ pour-above d k w q = refl
 pub plain-word : (d : ℕ) (k : Ink) (w : List ℕ) → Unbroken w → pour d k (written (plain_text w)) ≡ word k w
 unfolding pour written plain_text pour_lines hang_lines stop
 plain-word d k w h = rw (written-unbroken w h) refl
+
+pub pour-word : (d : ℕ) (k : Ink) (w : List ℕ) → unbroken w ≡ true → pour d k (written (plain_text w)) ≡ word k w
+unfolding pour written plain_text pour_lines hang_lines stop
+pour-word d k w h = rw (written-one-line w h) refl
 
 -- one line of a text is written, or of a comment
 
@@ -140,16 +144,51 @@ commented-line w = refl
 
 -- a file's page ends as its printed text, or at its first refusal
 pub whole-page : (p : Page) (k : Draft) → hang 0 (Wet unwritten) p ≡ Wet k → (p.fault ≡ None) × (whole k ≡ print p)
-whole-page p k h = ?
+unfolding hang print stop whole
+whole-page p k h = go p.fault h
+  where
+    printed : (j : Draft) × (hang_lines 0 (Wet unwritten) p.lines ≡ Wet j) × (whole j ≡ whole unwritten ++ print_lines p.lines)
+    printed = whole-print unwritten p.lines
+    go : (f : Option Refusal) → stop (hang_lines 0 (Wet unwritten) p.lines) f ≡ Wet k → (f ≡ None) × (whole k ≡ print_lines p.lines)
+    go None e =
+      let j : printed.0 ≡ k = cc (printed.1, e)
+      in (refl, ap whole (sym j) ∙ printed.2)
+    go (Some r) e = absurd (let b : stop (Wet printed.0) (Some r) ≡ Wet k = ap (λ x. stop x (Some r)) (sym printed.1) ∙ e in cc (b))
 
 pub whole-fault : (p : Page) (r : Refusal) → hang 0 (Wet unwritten) p ≡ Stopped r → p.fault ≡ Some r
-whole-fault p r h = ?
+unfolding hang stop
+whole-fault p r h = go p.fault h
+  where
+    printed : (j : Draft) × (hang_lines 0 (Wet unwritten) p.lines ≡ Wet j) × (whole j ≡ whole unwritten ++ print_lines p.lines)
+    printed = whole-print unwritten p.lines
+    go : (f : Option Refusal) → stop (hang_lines 0 (Wet unwritten) p.lines) f ≡ Stopped r → f ≡ Some r
+    go None e = absurd (let b : Wet printed.0 ≡ Stopped r = sym printed.1 ∙ e in cc (b))
+    go (Some s) e = let b : stop (Wet printed.0) (Some s) ≡ Stopped r = ap (λ x. stop x (Some s)) (sym printed.1) ∙ e in cc (b)
 
 -- an expression's text ends as it is, or at its first refusal
 pub line-text : (p : Printed) (k : Draft) → pour 0 (next 0 (Wet unwritten)) (written p) ≡ Wet k → (p.fault ≡ None) × (k.text ≡ p.text)
-line-text p k h = ?
+unfolding pour written next stop
+line-text p k h = go p.fault h
+  where
+    poured : (g : Bool) × (pour_lines 0 (Wet (flat [] true)) (written_lines p.text) ≡ Wet (flat ([] ++ p.text) g))
+    poured = pour-flat [] true p.text
+    go : (f : Option Refusal) → stop (pour_lines 0 (Wet (flat [] true)) (written_lines p.text)) f ≡ Wet k → (f ≡ None) × (k.text ≡ p.text)
+    go None e =
+      let j : flat p.text poured.0 ≡ k = cc (poured.1, e)
+      in (refl, ap (λ (x : Draft). x.text) (sym j))
+    go (Some r) e = absurd (let b : stop (Wet (flat p.text poured.0)) (Some r) ≡ Wet k = ap (λ x. stop x (Some r)) (sym poured.1) ∙ e in cc (b))
 
 pub line-fault : (p : Printed) (r : Refusal) → pour 0 (next 0 (Wet unwritten)) (written p) ≡ Stopped r → p.fault ≡ Some r
-line-fault p r h = ?
+unfolding pour written next stop
+line-fault p r h = go p.fault h
+  where
+    poured : (g : Bool) × (pour_lines 0 (Wet (flat [] true)) (written_lines p.text) ≡ Wet (flat ([] ++ p.text) g))
+    poured = pour-flat [] true p.text
+    go : (f : Option Refusal) → stop (pour_lines 0 (Wet (flat [] true)) (written_lines p.text)) f ≡ Stopped r → f ≡ Some r
+    go None e = absurd (let b : Wet (flat p.text poured.0) ≡ Stopped r = sym poured.1 ∙ e in cc (b))
+    go (Some s) e = let b : stop (Wet (flat p.text poured.0)) (Some s) ≡ Stopped r = ap (λ x. stop x (Some s)) (sym poured.1) ∙ e in cc (b)
 
 pub ruleset comments = (commented-line, hang-line, word-word, word-stopped, next-stopped)
+
+-- writing pages part by part
+pub ruleset flows = (hang-line, pour-line, hang-none, pour-none, hang-stopped, pour-stopped, word-stopped, next-stopped, word-word, hang-above, pour-above, pour-beside, hang-inner, hang-written, hang-lead, hang-beside, pour-then, pour-empty, pour-refused)

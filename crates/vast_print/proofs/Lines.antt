@@ -181,7 +181,7 @@ pub record Unbroken (w : List ℕ) : Type 0 where
 unbroken-tail : (c : ℕ) (w : List ℕ) → Unbroken (c ∷ w) → Unbroken w
 unbroken-tail c w h = record { at = λ i b. h.at (suc i) (omega arith) }
 
-eqb-false : (c : ℕ) → c ≢ 10 → eqb c 10 ≡ false
+pub eqb-false : (c : ℕ) → c ≢ 10 → eqb c 10 ≡ false
 eqb-false c h = go (eqb c 10) refl
   where
     go : (b : Bool) → eqb c 10 ≡ b → b ≡ false
@@ -195,6 +195,22 @@ pub written-unbroken : (w : List ℕ) → Unbroken w → written_lines w ≡ one
 unfolding written_lines beside_lines
 written-unbroken [] h = refl
 written-unbroken (c ∷ w) h = rw (unbroken-head c w h) (ap (λ p. beside_lines (one_line (c ∷ [])) p) (written-unbroken w (unbroken-tail c w h)))
+
+-- the same as a test
+abbrev pub unbroken : List ℕ → Bool
+unbroken [] = true
+unbroken (c ∷ w) = cond (eqb c 10) false (unbroken w)
+
+pub written-one-line : (w : List ℕ) → unbroken w ≡ true → written_lines w ≡ one_line w
+unfolding written_lines beside_lines
+written-one-line [] h = refl
+written-one-line (c ∷ w) h = go (eqb c 10) h (λ e. written-one-line w e)
+  where
+    go :
+      (b : Bool) → cond b false (unbroken w) ≡ true → (unbroken w ≡ true → written_lines w ≡ one_line w) →
+      cond b (one_line [] ++ written_lines w) (beside_lines (one_line (c ∷ [])) (written_lines w)) ≡ one_line (c ∷ w)
+    go true e ih = absurd (cc (e))
+    go false e ih = ap (λ p. beside_lines (one_line (c ∷ [])) p) (ih e)
 
 pub written-break : (w v : List ℕ) → Unbroken w → written_lines (w ++ (10 ∷ v)) ≡ one_line w ++ written_lines v
 unfolding written_lines beside_lines
@@ -234,3 +250,32 @@ whole-print k (l ∷ p) =
     let b = whole-print a.0 p in
     let e : 0 + l.depth ≡ l.depth = omega arith in
     (b.0, ap (λ x. hang_lines 0 (word (next x (Wet k)) l.bytes) p) e ∙ (ap (λ x. hang_lines 0 x p) a.1 ∙ b.1), b.2 ∙ (ap (λ x. x ++ print_lines p) a.2 ∙ simp append_assoc))
+
+-- an ink at no depth: its text, and whether its last line is empty
+abbrev pub flat : List ℕ → Bool → Draft
+flat t f = record { text = t; depth = 0; fresh = f; begun = true }
+
+no-margin : (t : List ℕ) (f : Bool) → margin (flat t f) ≡ []
+no-margin t true = refl
+no-margin t false = refl
+
+-- at no depth a text is written as it is, its line breaks too
+pub pour-flat : (t : List ℕ) (f : Bool) (w : List ℕ) → (g : Bool) × (pour_lines 0 (Wet (flat t f)) (written_lines w) ≡ Wet (flat (t ++ w) g))
+unfolding pour_lines written_lines hang_lines word next
+pour-flat t f [] = (f, ap (λ x. Wet (flat x f)) (sym (append-nil t)))
+pour-flat t f (c ∷ w) = go (eqb c 10) refl (λ s h. pour-flat s h w)
+  where
+    go :
+      (b : Bool) → eqb c 10 ≡ b →
+      ((s : List ℕ) (h : Bool) → (g : Bool) × (pour_lines 0 (Wet (flat s h)) (written_lines w) ≡ Wet (flat (s ++ w) g))) →
+      (g : Bool) × (pour_lines 0 (Wet (flat t f)) (cond b (one_line [] ++ written_lines w) (beside_lines (one_line (c ∷ [])) (written_lines w))) ≡ Wet (flat (t ++ (c ∷ w)) g))
+    go true e ih =
+      let h = ih (t ++ (10 ∷ [])) true in
+      let c10 : 10 ≡ c = sym (eqb-true c 10 e) in
+      let s : (t ++ (10 ∷ [])) ++ w ≡ t ++ (c ∷ w) = append_assoc t (10 ∷ []) w ∙ ap (λ x. t ++ (x ∷ w)) c10 in
+      (h.0, hang-flush 0 (Wet (flat t f)) (written_lines w) (Flush-written w) ∙ (h.1 ∙ ap (λ x. Wet (flat x h.0)) s))
+    go false e ih =
+      let h = ih (t ++ (c ∷ [])) false in
+      let s : (t ++ (c ∷ [])) ++ w ≡ t ++ (c ∷ w) = append_assoc t (c ∷ []) w in
+      let m : word (Wet (flat t f)) (c ∷ []) ≡ Wet (flat (t ++ (c ∷ [])) false) = ap (λ x. Wet (flat (t ++ (x ++ (c ∷ []))) false)) (no-margin t f) in
+      (h.0, pour-lines-beside 0 (Wet (flat t f)) (one_line (c ∷ [])) (written_lines w) ∙ (ap (λ x. pour_lines 0 x (written_lines w)) m ∙ (h.1 ∙ ap (λ x. Wet (flat x h.0)) s)))

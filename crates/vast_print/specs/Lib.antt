@@ -9,3 +9,4 @@ pub mod Ink
 pub mod Statements
 pub mod Members
 pub mod Layout
+pub mod Words

@@ -1,14 +1,12 @@
 //! Writes lines with depths into one growing text.
 
 ghost use Rattle.std.specs.Prelude.{◌≡◌, ◌++◌, ◌*◌, replicate, OnOk, IfOk, string_bytes};
-ghost use Rattle.std.specs.Fmt.{signed_decimal};
 ghost use Rattle.vast_print.specs.Printed.{plain_text};
 ghost use Rattle.vast_print.specs.Page.{line, written, commented};
 ghost use Rattle.vast_print.specs.Draft.{unwritten, whole};
 ghost use Rattle.vast_print.specs.Ink.{Wet, word, next, hang, pour};
 
 use std::alloc::{AllocError, Global};
-use std::fmt::Write;
 use std::marker::Model;
 
 /// A text that grows line by line. A line break stands before each line but the first, and the
