@@ -1,0 +1,168 @@
+-- Laws of writing declarations.
+use Rattle.std.proofs.Common.{◌≡◌, ℕ, ℤ, pos, Bool, true, false, List, [], ◌∷◌, ◌++◌, Option, Some, None, refl, sym, ◌∙◌, ap, codes, append-nil}
+use Rattle.std.specs.Prelude.{◌-ℤ◌}
+use Rattle.std.specs.Fmt.{signed_decimal}
+use Rattle.vast_literal.specs.Tree.{Dialect, VerilogDialect, SystemVerilogDialect, ExprTree, TypeTree, ScalarTree, VectorTree, IntegerTree, IntTree, ExternalTree, PackageTree, PackedTree, UnpackedTree, Kind, RegKind, WireKind, LogicKind, IntegerKind, IntKind, UserKind, UntypedEnumKind, GenvarKind, Declaration, PortTree, PortDirection, InputDirection, OutputDirection, InOutDirection, MaybeType, Untyped, Typed, ParameterPortTree}
+use Rattle.vast_print.specs.Printed.{Printed, first_fault, plain_text, ◌⊕◌, gapped, spaced, wrapped}
+use Rattle.vast_print.specs.Page.{written, written_lines, beside_lines}
+use Rattle.vast_print.specs.Ink.{Ink, word, pour, pour_lines, hang_lines, stop}
+use Rattle.vast_print.specs.Levels.{limit_wraps}
+use Rattle.vast_print.specs.Text.{expr_text, package_text}
+use Rattle.vast_print.specs.Declaration.{base_of, packed_ranges, packed_text, unpacked_ranges, unpacked_text, limit_text, signed_word, unsigned_word, joined, based_text, type_text, name_text, kind_word, declaration_text, port_declaration_text, port_kind, base_kind}
+use Rattle.vast_print.specs.Layout.{port_text, parameter_port_text, direction_word}
+use Rattle.vast_print.specs.Words.{has_text, kind_opening, signed_opening, unsigned_opening, parameter_opening}
+use Rattle.vast_print.proofs.Laws.{pour-then, pour-empty, pour-word}
+use Rattle.vast_print.proofs.WordLaws.{words}
+use Rattle.vast_print.proofs.Lines.{word-word}
+
+pub plain-append : (a b : List ℕ) → plain_text (a ++ b) ≡ plain_text a ⊕ plain_text b
+unfolding plain_text ◌⊕◌
+plain-append a b = refl
+
+-- the kind word, the type and the name
+
+pour-kind : (d : ℕ) (k : Ink) (kind : Kind) → pour d k (written (spaced (plain_text (kind_word kind)))) ≡ word k (kind_opening kind)
+unfolding pour written spaced plain_text ◌⊕◌ written_lines beside_lines pour_lines hang_lines stop
+pour-kind d k RegKind = refl
+pour-kind d k WireKind = refl
+pour-kind d k LogicKind = refl
+pour-kind d k IntegerKind = refl
+pour-kind d k IntKind = refl
+pour-kind d k UserKind = refl
+pour-kind d k UntypedEnumKind = refl
+pour-kind d k GenvarKind = refl
+
+pub pour-declaration : (d : ℕ) (k : Ink) (dialect : Dialect) (kind : Kind) (t : TypeTree) (name : List ℕ) →
+    pour d k (written (declaration_text dialect kind t name))
+    ≡ pour d (pour d (pour d (word k (kind_opening kind)) (written (spaced (type_text t)))) (written (plain_text name))) (written (plain_text (unpacked_text dialect t)))
+unfolding declaration_text name_text
+pour-declaration d k dialect kind t name = simp (pour-then, pour-kind)
+
+pour-direction : (d : ℕ) (k : Ink) (p : PortDirection) → pour d k (written (plain_text (direction_word p))) ≡ word k (direction_word p)
+pour-direction d k InputDirection = pour-word d k (codes "input ") refl
+pour-direction d k OutputDirection = pour-word d k (codes "output ") refl
+pour-direction d k InOutDirection = pour-word d k (codes "inout ") refl
+
+pub pour-port : (d : ℕ) (k : Ink) (dialect : Dialect) (p : PortTree) →
+    pour d k (written (port_text dialect p)) ≡ pour d (word k (direction_word p.direction)) (written (port_declaration_text dialect p.declaration))
+unfolding port_text
+pour-port d k dialect p =
+    pour-then d k (plain_text (direction_word p.direction)) (port_declaration_text dialect p.declaration)
+    ∙ ap (λ j. pour d j (written (port_declaration_text dialect p.declaration))) (pour-direction d k p.direction)
+
+pub pour-untyped-parameter : (d : ℕ) (k : Ink) (dialect : Dialect) (name : List ℕ) (value : ExprTree) →
+    pour d k (written (parameter_port_text dialect (record { name = name; type = Untyped; value = value })))
+    ≡ pour d (word (pour d (word k parameter_opening) (written (plain_text name))) (codes " = ")) (written (expr_text value))
+unfolding parameter_port_text
+pour-untyped-parameter d k dialect name value = simp (pour-then, words)
+
+pub pour-typed-parameter : (d : ℕ) (k : Ink) (dialect : Dialect) (name : List ℕ) (t : TypeTree) (value : ExprTree) →
+    pour d k (written (parameter_port_text dialect (record { name = name; type = Typed t; value = value })))
+    ≡ pour d (word (pour d (word k parameter_opening) (written (declaration_text dialect (base_kind (base_of t)) t name))) (codes " = ")) (written (expr_text value))
+unfolding parameter_port_text
+pour-typed-parameter d k dialect name t value = simp (pour-then, words)
+
+-- types, each part with the space behind it, by what they are made of
+
+spaced-empty : spaced (plain_text []) ≡ plain_text []
+unfolding spaced plain_text
+spaced-empty = refl
+
+spaced-plain : (c : ℕ) (w : List ℕ) → spaced (plain_text (c ∷ w)) ≡ plain_text (c ∷ w) ⊕ plain_text (codes " ")
+unfolding spaced plain_text
+spaced-plain c w = refl
+
+-- a text that ends in something is followed by a space
+spaced-then : (p : Printed) (c : ℕ) (w : List ℕ) → spaced (p ⊕ plain_text (c ∷ w)) ≡ p ⊕ plain_text (c ∷ w) ⊕ plain_text (codes " ")
+unfolding spaced plain_text ◌⊕◌
+spaced-then p c w = go p.text
+  where
+    go : (t : List ℕ) → gapped (t ++ (c ∷ w)) (p ⊕ plain_text (c ∷ w)) ≡ p ⊕ plain_text (c ∷ w) ⊕ plain_text (codes " ")
+    go [] = refl
+    go (x ∷ t) = refl
+
+package_then : (scope name : List ℕ) → package_text scope name ≡ plain_text scope ⊕ plain_text (codes "::") ⊕ plain_text name
+unfolding package_text
+package_then scope name = refl
+
+spaced-package : (scope name : List ℕ) → spaced (package_text scope name) ≡ package_text scope name ⊕ plain_text (codes " ")
+unfolding spaced package_text plain_text ◌⊕◌
+spaced-package [] name = refl
+spaced-package (c ∷ scope) name = refl
+
+pour-signed-word : (d : ℕ) (k : Ink) (signed : Bool) → pour d k (written (spaced (plain_text (signed_word signed)))) ≡ word k (signed_opening signed)
+unfolding pour written spaced plain_text ◌⊕◌ written_lines beside_lines pour_lines hang_lines stop
+pour-signed-word d k true = refl
+pour-signed-word d k false = refl
+
+pour-unsigned-word : (d : ℕ) (k : Ink) (signed : Bool) → pour d k (written (spaced (plain_text (unsigned_word signed)))) ≡ word k (unsigned_opening signed)
+unfolding pour written spaced plain_text ◌⊕◌ written_lines beside_lines pour_lines hang_lines stop
+pour-unsigned-word d k true = refl
+pour-unsigned-word d k false = refl
+
+-- a base type, and its packed dimensions behind it
+pour-joined : (d : ℕ) (k : Ink) (p : Printed) (ds : List ℕ) →
+    pour d k (written (spaced (joined p ds))) ≡ pour d (pour d k (written (spaced p))) (written (spaced (plain_text ds)))
+unfolding joined
+pour-joined d k p [] = sym (ap (λ x. pour d (pour d k (written (spaced p))) (written x)) spaced-empty ∙ pour-empty d (pour d k (written (spaced p))))
+pour-joined d k p (c ∷ ds) =
+    let a : pour d k (written (spaced p ⊕ plain_text (c ∷ ds) ⊕ plain_text (codes " "))) ≡ pour d (pour d (pour d k (written (spaced p))) (written (plain_text (c ∷ ds)))) (written (plain_text (codes " "))) = simp pour-then in
+    let b : pour d (pour d k (written (spaced p))) (written (plain_text (c ∷ ds) ⊕ plain_text (codes " "))) ≡ pour d (pour d (pour d k (written (spaced p))) (written (plain_text (c ∷ ds)))) (written (plain_text (codes " "))) = simp pour-then in
+    ap (λ x. pour d k (written x)) (spaced-then (spaced p) c ds)
+    ∙ (a ∙ sym (ap (λ x. pour d (pour d k (written (spaced p))) (written x)) (spaced-plain c ds) ∙ b))
+
+pub pour-scalar-type : (d : ℕ) (k : Ink) (t : TypeTree) (signed : Bool) → base_of t ≡ ScalarTree signed →
+    pour d k (written (spaced (type_text t))) ≡ pour d (word k (signed_opening signed)) (written (spaced (plain_text (packed_text t))))
+unfolding type_text based_text
+pour-scalar-type d k t signed e =
+    rw e (pour-joined d k (plain_text (signed_word signed)) (packed_text t) ∙ ap (λ j. pour d j (written (spaced (plain_text (packed_text t))))) (pour-signed-word d k signed))
+
+pub pour-integer-type : (d : ℕ) (k : Ink) (t : TypeTree) (signed : Bool) → base_of t ≡ IntegerTree signed →
+    pour d k (written (spaced (type_text t))) ≡ pour d (word k (unsigned_opening signed)) (written (spaced (plain_text (packed_text t))))
+unfolding type_text based_text
+pour-integer-type d k t signed e =
+    rw e (pour-joined d k (plain_text (unsigned_word signed)) (packed_text t) ∙ ap (λ j. pour d j (written (spaced (plain_text (packed_text t))))) (pour-unsigned-word d k signed))
+
+pub pour-int-type : (d : ℕ) (k : Ink) (t : TypeTree) (signed : Bool) → base_of t ≡ IntTree signed →
+    pour d k (written (spaced (type_text t))) ≡ pour d (word k (unsigned_opening signed)) (written (spaced (plain_text (packed_text t))))
+unfolding type_text based_text
+pour-int-type d k t signed e =
+    rw e (pour-joined d k (plain_text (unsigned_word signed)) (packed_text t) ∙ ap (λ j. pour d j (written (spaced (plain_text (packed_text t))))) (pour-unsigned-word d k signed))
+
+pub pour-external-type : (d : ℕ) (k : Ink) (t : TypeTree) (name : List ℕ) → base_of t ≡ ExternalTree name →
+    pour d k (written (spaced (type_text t))) ≡ pour d (pour d k (written (spaced (plain_text name)))) (written (spaced (plain_text (packed_text t))))
+unfolding type_text based_text
+pour-external-type d k t name e = rw e (pour-joined d k (plain_text name) (packed_text t))
+
+pub pour-package-type : (d : ℕ) (k : Ink) (t : TypeTree) (scope name : List ℕ) → base_of t ≡ PackageTree scope name →
+    pour d k (written (spaced (type_text t)))
+    ≡ pour d (word (pour d (word (pour d k (written (plain_text scope))) (codes "::")) (written (plain_text name))) (codes " ")) (written (spaced (plain_text (packed_text t))))
+unfolding type_text based_text
+pour-package-type d k t scope name e =
+    rw e (pour-joined d k (package_text scope name) (packed_text t)
+    ∙ ap (λ j. pour d j (written (spaced (plain_text (packed_text t))))) (ap (λ x. pour d k (written x)) (spaced-package scope name) ∙ simp (package_then, pour-then, words)))
+
+pub pour-vector-type : (d : ℕ) (k : Ink) (t : TypeTree) (w : ExprTree) (v : Option ℤ) (signed : Bool) → base_of t ≡ VectorTree w v signed →
+    pour d k (written (spaced (type_text t)))
+    ≡ word (pour d (word (pour d (word k (signed_opening signed)) (written (plain_text (packed_text t)))) (codes "[")) (written (limit_text w v))) (codes ":0] ")
+unfolding type_text based_text
+pour-vector-type d k t w v signed e = rw e (simp (spaced-then, pour-then, pour-signed-word, words, word-word))
+
+-- a part with the space behind it, where it isn't empty
+pub pour-spaced : (d : ℕ) (k : Ink) (w : List ℕ) → has_text w ≡ true → pour d k (written (spaced (plain_text w))) ≡ word (pour d k (written (plain_text w))) (codes " ")
+pour-spaced d k [] h = absurd (cc (h))
+pour-spaced d k (c ∷ w) h = ap (λ x. pour d k (written x)) (spaced-plain c w) ∙ simp (pour-then, words)
+
+pub pour-spaced-none : (d : ℕ) (k : Ink) (w : List ℕ) → has_text w ≡ false → pour d k (written (spaced (plain_text w))) ≡ k
+pour-spaced-none d k [] h = ap (λ x. pour d k (written x)) spaced-empty ∙ pour-empty d k
+pour-spaced-none d k (c ∷ w) h = absurd (cc (h))
+
+-- limits of vectors
+
+pub pour-limit-value : (d : ℕ) (k : Ink) (w : ExprTree) (v : ℤ) → pour d k (written (limit_text w (Some v))) ≡ pour d k (written (plain_text (signed_decimal (v -ℤ pos 1))))
+unfolding limit_text
+pour-limit-value d k w v = refl
+
+pub pour-limit : (d : ℕ) (k : Ink) (w : ExprTree) → pour d k (written (limit_text w None)) ≡ word (pour d k (written (wrapped (limit_wraps w) (expr_text w)))) (codes " - 1")
+unfolding limit_text
+pour-limit d k w = simp (pour-then, words)

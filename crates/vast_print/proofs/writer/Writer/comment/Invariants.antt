@@ -1,0 +1,13 @@
+use Rattle.std.proofs.Common.{◌≡◌, length}
+use denote.Text.{Utf8}
+use denote.Shadow.{shadow}
+use Rattle.vast_print.specs.Printed.{plain_text}
+use Rattle.vast_print.specs.Page.{written, commented}
+use Rattle.vast_print.specs.Ink.{Wet, hang}
+use Rattle.vast_print.proofs.writer.Writer.comment.Given as goal
+
+abbrev pub invariant-loop-line : goal.invariant-loop-line
+invariant-loop-line l = shadow (Utf8 l.rest) × (hang l.depth (Wet l.fn.self) (commented (written (plain_text l.fn.text))) ≡ hang l.depth (Wet l.self) (commented (written (plain_text l.rest))))
+
+abbrev pub decreases-loop-line : goal.decreases-loop-line
+decreases-loop-line l = length l.rest

@@ -1,0 +1,142 @@
+-- The text of a declaration: kind word, type, name with its dimensions.
+use Rattle.std.specs.Prelude.{ℕ, ℤ, pos, ◌-ℤ◌, Bool, true, false, List, [], ◌∷◌, ◌++◌, Option, Some, None, codes, cond}
+use Rattle.std.specs.Fmt.{signed_decimal}
+use Rattle.vast_literal.specs.Tree.{Dialect, VerilogDialect, SystemVerilogDialect, ExprTree}
+use Rattle.vast_literal.specs.Tree.{TypeTree, ScalarTree, VectorTree, IntegerTree, IntTree, ExternalTree, PackageTree, PackedTree, UnpackedTree, MissingType}
+use Rattle.vast_literal.specs.Tree.{Kind, RegKind, WireKind, LogicKind, IntegerKind, IntKind, UserKind, UntypedEnumKind, GenvarKind, Declaration}
+use Rattle.vast_print.specs.Printed.{Printed, plain_text, ◌⊕◌, wrapped, spaced}
+use Rattle.vast_print.specs.Levels.{limit_wraps}
+use Rattle.vast_print.specs.Text.{expr_text, package_text}
+
+-- what an array is made of
+unfoldable pub base_of : TypeTree → TypeTree
+base_of (PackedTree t ds) = base_of t
+base_of (UnpackedTree t ds) = base_of t
+base_of (ScalarTree signed) = ScalarTree signed
+base_of (VectorTree w v signed) = VectorTree w v signed
+base_of (IntegerTree signed) = IntegerTree signed
+base_of (IntTree signed) = IntTree signed
+base_of (ExternalTree name) = ExternalTree name
+base_of (PackageTree scope name) = PackageTree scope name
+base_of MissingType = MissingType
+
+abbrev pub is_external_base : TypeTree → Bool
+is_external_base (ExternalTree name) = true
+is_external_base (PackageTree scope name) = true
+is_external_base _ = false
+
+-- whether the type is external, through arrays
+unfoldable pub is_external : TypeTree → Bool
+is_external t = is_external_base (base_of t)
+
+-- `[d-1:0]` with the number computed
+abbrev pub packed_range : ℤ → List ℕ
+packed_range d = codes "[" ++ (signed_decimal (d -ℤ pos 1) ++ codes ":0]")
+
+unfoldable pub packed_ranges : List ℤ → List ℕ
+packed_ranges [] = []
+packed_ranges (d ∷ ds) = packed_range d ++ packed_ranges ds
+
+-- all packed dimensions, the outermost wrapper first
+unfoldable pub packed_text : TypeTree → List ℕ
+packed_text (PackedTree t ds) = packed_ranges ds ++ packed_text t
+packed_text (UnpackedTree t ds) = packed_text t
+packed_text _ = []
+
+-- `[d]`, in Verilog `[0:d-1]` with the number computed
+abbrev pub unpacked_range : Dialect → ℤ → List ℕ
+unpacked_range VerilogDialect d = codes "[0:" ++ (signed_decimal (d -ℤ pos 1) ++ codes "]")
+unpacked_range SystemVerilogDialect d = codes "[" ++ (signed_decimal d ++ codes "]")
+
+unfoldable pub unpacked_ranges : Dialect → List ℤ → List ℕ
+unpacked_ranges dialect [] = []
+unpacked_ranges dialect (d ∷ ds) = unpacked_range dialect d ++ unpacked_ranges dialect ds
+
+-- all unpacked dimensions, the outermost wrapper first
+unfoldable pub unpacked_text : Dialect → TypeTree → List ℕ
+unpacked_text dialect (UnpackedTree t ds) = unpacked_ranges dialect ds ++ unpacked_text dialect t
+unpacked_text dialect (PackedTree t ds) = unpacked_text dialect t
+unpacked_text dialect _ = []
+
+-- a vector's highest index: its width minus one, computed where the width has a value
+unfoldable pub limit_text : ExprTree → Option ℤ → Printed
+limit_text w (Some v) = plain_text (signed_decimal (v -ℤ pos 1))
+limit_text w None = wrapped (limit_wraps w) (expr_text w) ⊕ plain_text (codes " - 1")
+
+abbrev pub signed_word : Bool → List ℕ
+signed_word true = codes "signed"
+signed_word false = []
+
+abbrev pub unsigned_word : Bool → List ℕ
+unsigned_word true = []
+unsigned_word false = codes "unsigned"
+
+-- two words with a space between, where neither is empty
+abbrev pub gap : List ℕ → List ℕ
+gap [] = []
+gap (c ∷ w) = codes " "
+
+unfoldable pub joined : Printed → List ℕ → Printed
+joined p [] = p
+joined p (c ∷ w) = spaced p ⊕ plain_text (c ∷ w)
+
+-- a base type's text with packed dimensions, which stand before a vector's own and behind any other type
+unfoldable pub based_text : TypeTree → List ℕ → Printed
+based_text (VectorTree w v signed) ds = spaced (plain_text (signed_word signed)) ⊕ plain_text ds ⊕ plain_text (codes "[") ⊕ limit_text w v ⊕ plain_text (codes ":0]")
+based_text (ScalarTree signed) ds = joined (plain_text (signed_word signed)) ds
+based_text (IntegerTree signed) ds = joined (plain_text (unsigned_word signed)) ds
+based_text (IntTree signed) ds = joined (plain_text (unsigned_word signed)) ds
+based_text (ExternalTree name) ds = joined (plain_text name) ds
+based_text (PackageTree scope name) ds = joined (package_text scope name) ds
+based_text (PackedTree t own) ds = plain_text ds
+based_text (UnpackedTree t own) ds = plain_text ds
+based_text MissingType ds = plain_text ds
+
+unfoldable pub type_text : TypeTree → Printed
+type_text t = based_text (base_of t) (packed_text t)
+
+-- a name with the unpacked dimensions of its type
+unfoldable pub name_text : Dialect → TypeTree → List ℕ → Printed
+name_text dialect t name = plain_text name ⊕ plain_text (unpacked_text dialect t)
+
+abbrev pub kind_word : Kind → List ℕ
+kind_word RegKind = codes "reg"
+kind_word WireKind = codes "wire"
+kind_word LogicKind = codes "logic"
+kind_word IntegerKind = codes "integer"
+kind_word IntKind = codes "int"
+kind_word GenvarKind = codes "genvar"
+kind_word UserKind = []
+kind_word UntypedEnumKind = []
+
+-- parts that aren't empty are joined by a space; the name always stands
+unfoldable pub declaration_text : Dialect → Kind → TypeTree → List ℕ → Printed
+declaration_text dialect kind t name = spaced (plain_text (kind_word kind)) ⊕ spaced (type_text t) ⊕ name_text dialect t name
+
+abbrev pub declared_text : Dialect → Declaration → Printed
+declared_text dialect d = declaration_text dialect d.kind d.type d.name
+
+-- a port's kind, and a function input's, is not written before an external type
+abbrev pub port_kind : Kind → TypeTree → Kind
+port_kind kind t = cond (is_external t) UserKind kind
+
+abbrev pub port_declaration_text : Dialect → Declaration → Printed
+port_declaration_text dialect d = declaration_text dialect (port_kind d.kind d.type) d.type d.name
+
+-- the kind that a typed parameter port's type brings
+abbrev pub base_kind : TypeTree → Kind
+base_kind (ScalarTree signed) = LogicKind
+base_kind (VectorTree w v signed) = LogicKind
+base_kind (IntegerTree signed) = IntegerKind
+base_kind (IntTree signed) = IntKind
+base_kind _ = UserKind
+
+-- the kind of a function's result: an integer's or int's own, logic where the dialect has it and the type isn't external
+abbrev pub dialect_kind : Dialect → Kind
+dialect_kind VerilogDialect = UserKind
+dialect_kind SystemVerilogDialect = LogicKind
+
+abbrev pub result_kind : Dialect → TypeTree → Kind
+result_kind dialect (IntegerTree signed) = IntegerKind
+result_kind dialect (IntTree signed) = IntKind
+result_kind dialect t = cond (is_external t) UserKind (dialect_kind dialect)

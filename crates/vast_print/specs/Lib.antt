@@ -1,0 +1,12 @@
+pub mod Printed
+pub mod Levels
+pub mod Bare
+pub mod Text
+pub mod Declaration
+pub mod Page
+pub mod Draft
+pub mod Ink
+pub mod Statements
+pub mod Members
+pub mod Layout
+pub mod Words

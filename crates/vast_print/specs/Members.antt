@@ -1,0 +1,141 @@
+-- The pages of the members of modules and loops.
+use Rattle.std.specs.Prelude.{ℕ, Bool, true, false, List, [], ◌∷◌, ◌++◌, Option, Some, None, codes, cond, map}
+use Rattle.vast_literal.specs.Tree.{Dialect, ExprTree, MaybeExpr, NoExpr, SomeExpr, Exprs, NoExprs, MoreExprs, TypeTree, Declaration, LtOp}
+use Rattle.vast_literal.specs.Tree.{AssignForm, Continuous, CaseWord, CaseExact, CaseZ, CaseX, StatementTree, AssignTree, CommentTree, BlankTree, InlineTree, ConditionalTree, CaseTree, Statements, NoStatements, MoreStatements}
+use Rattle.vast_literal.specs.Tree.{AlwaysWord, AlwaysFFWord, AlwaysAtWord, AlwaysCombWord, ParameterName, PlainParameter, IntParameter, DefinedParameter, Connection, InstanceTree, FunctionTree}
+use Rattle.vast_literal.specs.Tree.{MemberTree, DeclarationMember, AssignMember, ParameterMember, CommentMember, BlankMember, InlineMember, MacroMember, InstanceMember, AlwaysMember, ConditionalMember, FunctionMember, LoopMember, Members, NoMembers, MoreMembers}
+use Rattle.vast_print.specs.Printed.{Printed, plain_text, ◌⊕◌, wrapped}
+use Rattle.vast_print.specs.Levels.{right_child_wraps}
+use Rattle.vast_print.specs.Text.{expr_text, list_text}
+use Rattle.vast_print.specs.Declaration.{declaration_text, declared_text, port_declaration_text, result_kind}
+use Rattle.vast_print.specs.Page.{Page, no_lines, line, inner, lead, above, beside, written, commented}
+use Rattle.vast_print.specs.Statements.{assign_text, statement_page, statements_page, block_page}
+
+-- the entries of a list, each but the last with a comma; what an entry's text breaks into stands at the list's own depth
+unfoldable pub entries_page : List Printed → Page
+entries_page [] = no_lines
+entries_page (p ∷ []) = lead (written p)
+entries_page (p ∷ q ∷ ps) = above (lead (written (p ⊕ plain_text (codes ",")))) (entries_page (q ∷ ps))
+
+abbrev pub parameter_word : Bool → List ℕ
+parameter_word true = codes "localparam "
+parameter_word false = codes "parameter "
+
+abbrev pub parameter_text : Dialect → ParameterName → Printed
+parameter_text dialect (PlainParameter name) = plain_text name
+parameter_text dialect (IntParameter name) = plain_text (codes "int ") ⊕ plain_text name
+parameter_text dialect (DefinedParameter d) = declared_text dialect d
+
+abbrev pub semicolon_text : Bool → List ℕ
+semicolon_text true = codes ";"
+semicolon_text false = []
+
+-- an open port has nothing between its parentheses
+abbrev pub value_text : MaybeExpr → Printed
+value_text NoExpr = plain_text []
+value_text (SomeExpr e) = expr_text e
+
+unfoldable pub connection_text : Connection → Printed
+connection_text c = plain_text (codes ".") ⊕ plain_text c.name ⊕ plain_text (codes "(") ⊕ value_text c.value ⊕ plain_text (codes ")")
+
+-- without connections one empty line stands in their place
+unfoldable pub connections_page : List Connection → Page
+connections_page [] = line []
+connections_page (c ∷ cs) = entries_page (map connection_text (c ∷ cs))
+
+-- up to the instance's name; parameters stand before it
+unfoldable pub instance_opening_page : (module_name : List ℕ) → List Connection → Page
+instance_opening_page name [] = written (plain_text name ⊕ plain_text (codes " "))
+instance_opening_page name (c ∷ cs) =
+  above (written (plain_text name ⊕ plain_text (codes " #("))) (above (entries_page (map connection_text (c ∷ cs))) (line (codes ") ")))
+
+unfoldable pub instance_page : InstanceTree → Page
+instance_page i =
+  above (beside (instance_opening_page i.module_name i.parameters) (written (plain_text i.instance_name ⊕ plain_text (codes " ("))))
+  (above (connections_page i.connections) (line (codes ");")))
+
+-- joined by `or`
+unfoldable pub more_events_text : Exprs → Printed
+more_events_text NoExprs = plain_text []
+more_events_text (MoreExprs e es) = plain_text (codes " or ") ⊕ expr_text e ⊕ more_events_text es
+
+unfoldable pub events_text : Exprs → Printed
+events_text NoExprs = plain_text []
+events_text (MoreExprs e es) = expr_text e ⊕ more_events_text es
+
+unfoldable pub always_text : AlwaysWord → Exprs → Printed
+always_text AlwaysFFWord events = plain_text (codes "always_ff @ (") ⊕ events_text events ⊕ plain_text (codes ") ")
+always_text AlwaysAtWord events = plain_text (codes "always @ (") ⊕ events_text events ⊕ plain_text (codes ") ")
+always_text AlwaysCombWord events = plain_text (codes "always_comb ")
+
+unfoldable pub input_text : Dialect → Declaration → Printed
+input_text dialect d = plain_text (codes "input ") ⊕ port_declaration_text dialect d
+
+-- joined by a comma and a space
+unfoldable pub more_inputs_text : Dialect → List Declaration → Printed
+more_inputs_text dialect [] = plain_text []
+more_inputs_text dialect (d ∷ ds) = plain_text (codes ", ") ⊕ input_text dialect d ⊕ more_inputs_text dialect ds
+
+unfoldable pub inputs_text : Dialect → List Declaration → Printed
+inputs_text dialect [] = plain_text []
+inputs_text dialect (d ∷ ds) = input_text dialect d ⊕ more_inputs_text dialect ds
+
+unfoldable pub local_page : Dialect → Declaration → Page
+local_page dialect d = written (declared_text dialect d ⊕ plain_text (codes ";"))
+
+unfoldable pub locals_page : Dialect → List Declaration → Page
+locals_page dialect [] = no_lines
+locals_page dialect (d ∷ ds) = above (local_page dialect d) (locals_page dialect ds)
+
+abbrev pub is_casez : StatementTree → Bool
+is_casez (CaseTree unique CaseZ e arms) = true
+is_casez _ = false
+
+abbrev pub is_one_casez : Statements → Bool
+is_one_casez (MoreStatements s NoStatements) = is_casez s
+is_one_casez _ = false
+
+-- a body that is one casez stands without begin and end
+unfoldable pub function_body_page : Statements → Page
+function_body_page b = cond (is_one_casez b) (statements_page b) (block_page b)
+
+abbrev pub result_text : Dialect → TypeTree → List ℕ → Printed
+result_text dialect t name = declaration_text dialect (result_kind dialect t) t name
+
+unfoldable pub function_page : Dialect → FunctionTree → Page
+function_page dialect f =
+  above (written (plain_text (codes "function automatic ") ⊕ result_text dialect f.result f.name ⊕ plain_text (codes " (") ⊕ inputs_text dialect f.inputs ⊕ plain_text (codes ");")))
+  (above (inner (above (locals_page dialect f.locals) (function_body_page f.body))) (line (codes "endfunction")))
+
+abbrev pub loop_label_text : Option (List ℕ) → Printed
+loop_label_text None = plain_text []
+loop_label_text (Some label) = plain_text (codes " : ") ⊕ plain_text label
+
+-- the end stands as the right child of the comparison
+unfoldable pub loop_text : (genvar : List ℕ) (start end : ExprTree) → Option (List ℕ) → Printed
+loop_text i start end label =
+  plain_text (codes "for (genvar ") ⊕ plain_text i ⊕ plain_text (codes " = ") ⊕ expr_text start
+  ⊕ plain_text (codes "; ") ⊕ plain_text i ⊕ plain_text (codes " < ") ⊕ wrapped (right_child_wraps LtOp end) (expr_text end)
+  ⊕ plain_text (codes "; ") ⊕ plain_text i ⊕ plain_text (codes " = ") ⊕ plain_text i ⊕ plain_text (codes " + 1) begin")
+  ⊕ loop_label_text label
+
+unfoldable mutual
+  pub member_page : Dialect → MemberTree → Page
+  member_page dialect (DeclarationMember d) = written (declared_text dialect d ⊕ plain_text (codes ";"))
+  member_page dialect (AssignMember l r) = written (assign_text Continuous (expr_text l) (expr_text r))
+  member_page dialect (ParameterMember local parameter v) =
+    written (plain_text (parameter_word local) ⊕ parameter_text dialect parameter ⊕ plain_text (codes " = ") ⊕ expr_text v ⊕ plain_text (codes ";"))
+  member_page dialect (CommentMember text) = commented (written (plain_text text))
+  member_page dialect BlankMember = line []
+  member_page dialect (InlineMember text) = written (plain_text text)
+  member_page dialect (MacroMember call semicolon) = written (expr_text call ⊕ plain_text (semicolon_text semicolon))
+  member_page dialect (InstanceMember i) = instance_page i
+  member_page dialect (AlwaysMember word events b) = beside (written (always_text word events)) (block_page b)
+  member_page dialect (ConditionalMember c b rest) = statement_page (ConditionalTree c b rest)
+  member_page dialect (FunctionMember f) = function_page dialect f
+  member_page dialect (LoopMember i start end label ms) =
+    above (written (loop_text i start end label)) (above (inner (members_page dialect ms)) (line (codes "end")))
+
+  pub members_page : Dialect → Members → Page
+  members_page dialect NoMembers = no_lines
+  members_page dialect (MoreMembers m ms) = above (member_page dialect m) (members_page dialect ms)

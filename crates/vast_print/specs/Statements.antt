@@ -1,0 +1,83 @@
+-- The pages of statements.
+use Rattle.std.specs.Prelude.{ℕ, Bool, true, false, List, [], codes, cond}
+use Rattle.vast_literal.specs.Tree.{ExprTree, MaybeExpr, NoExpr, SomeExpr}
+use Rattle.vast_literal.specs.Tree.{AssignForm, Blocking, Nonblocking, Continuous, CaseWord, CaseExact, CaseZ, CaseX}
+use Rattle.vast_literal.specs.Tree.{StatementTree, AssignTree, CommentTree, BlankTree, InlineTree, ConditionalTree, CaseTree, Statements, NoStatements, MoreStatements, Alternates, NoElse, ElseIf, Else, CaseArms, NoCaseArms, CaseArm}
+use Rattle.vast_print.specs.Printed.{Printed, plain_text, ◌⊕◌}
+use Rattle.vast_print.specs.Text.{expr_text}
+use Rattle.vast_print.specs.Page.{Page, no_lines, line, inner, above, beside, written, commented}
+
+abbrev pub assign_opening : AssignForm → List ℕ
+assign_opening Blocking = []
+assign_opening Nonblocking = []
+assign_opening Continuous = codes "assign "
+
+abbrev pub assign_sign : AssignForm → List ℕ
+assign_sign Blocking = codes " = "
+assign_sign Nonblocking = codes " <= "
+assign_sign Continuous = codes " = "
+
+abbrev pub assign_text : AssignForm → (left right : Printed) → Printed
+assign_text form left right = plain_text (assign_opening form) ⊕ left ⊕ plain_text (assign_sign form) ⊕ right ⊕ plain_text (codes ";")
+
+abbrev pub case_word : CaseWord → List ℕ
+case_word CaseExact = codes "case ("
+case_word CaseZ = codes "casez ("
+case_word CaseX = codes "casex ("
+
+abbrev pub unique_word : Bool → List ℕ
+unique_word true = codes "unique "
+unique_word false = []
+
+abbrev pub label_text : MaybeExpr → Printed
+label_text NoExpr = plain_text (codes "default")
+label_text (SomeExpr e) = expr_text e
+
+-- one assignment of a procedural block
+abbrev pub is_one_assignment : Statements → Bool
+is_one_assignment (MoreStatements (AssignTree Blocking l r) NoStatements) = true
+is_one_assignment (MoreStatements (AssignTree Nonblocking l r) NoStatements) = true
+is_one_assignment _ = false
+
+-- an arm of a casez that is one assignment stands without begin and end
+abbrev pub is_bare_arm : CaseWord → Statements → Bool
+is_bare_arm CaseExact b = false
+is_bare_arm CaseZ b = is_one_assignment b
+is_bare_arm CaseX b = false
+
+-- `begin` and `end` round the lines, which stand deeper
+unfoldable pub begin_end : Page → Page
+begin_end p = above (line (codes "begin")) (above (inner p) (line (codes "end")))
+
+unfoldable mutual
+  pub statement_page : StatementTree → Page
+  statement_page (AssignTree form l r) = written (assign_text form (expr_text l) (expr_text r))
+  statement_page (CommentTree text) = commented (written (plain_text text))
+  statement_page BlankTree = line []
+  statement_page (InlineTree text) = written (plain_text text)
+  statement_page (ConditionalTree c b rest) =
+    beside (written (plain_text (codes "if (") ⊕ expr_text c ⊕ plain_text (codes ") "))) (beside (block_page b) (alternates_page rest))
+  statement_page (CaseTree unique word e arms) =
+    above (written (plain_text (unique_word unique) ⊕ plain_text (case_word word) ⊕ expr_text e ⊕ plain_text (codes ")")))
+    (above (inner (arms_page word arms)) (line (codes "endcase")))
+
+  pub statements_page : Statements → Page
+  statements_page NoStatements = no_lines
+  statements_page (MoreStatements s ss) = above (statement_page s) (statements_page ss)
+
+  pub block_page : Statements → Page
+  block_page NoStatements = line (codes "begin end")
+  block_page (MoreStatements s ss) = begin_end (above (statement_page s) (statements_page ss))
+
+  -- what follows a conditional's first block, behind its `end`
+  pub alternates_page : Alternates → Page
+  alternates_page NoElse = no_lines
+  alternates_page (ElseIf c b rest) =
+    beside (written (plain_text (codes " else if (") ⊕ expr_text c ⊕ plain_text (codes ") "))) (beside (block_page b) (alternates_page rest))
+  alternates_page (Else b) = beside (line (codes " else ")) (block_page b)
+
+  pub arms_page : CaseWord → CaseArms → Page
+  arms_page word NoCaseArms = no_lines
+  arms_page word (CaseArm label b arms) =
+    above (beside (written (label_text label ⊕ plain_text (codes ": "))) (cond (is_bare_arm word b) (statements_page b) (block_page b)))
+    (arms_page word arms)

@@ -1,0 +1,94 @@
+-- The words that the writer writes between the parts of a tree.
+use Rattle.std.specs.Prelude.{ℕ, Bool, true, false, List, [], ◌∷◌, ◌++◌, codes}
+use Rattle.vast_literal.specs.Tree.{Kind, RegKind, WireKind, LogicKind, IntegerKind, IntKind, UserKind, UntypedEnumKind, GenvarKind, CaseWord, CaseExact, CaseZ, CaseX, AlwaysWord, AlwaysFFWord, AlwaysAtWord, AlwaysCombWord}
+
+-- whether a text isn't empty
+abbrev pub has_text : List ℕ → Bool
+has_text [] = false
+has_text (c ∷ w) = true
+
+-- a kind word with the space behind it
+abbrev pub kind_opening : Kind → List ℕ
+kind_opening RegKind = codes "reg "
+kind_opening WireKind = codes "wire "
+kind_opening LogicKind = codes "logic "
+kind_opening IntegerKind = codes "integer "
+kind_opening IntKind = codes "int "
+kind_opening GenvarKind = codes "genvar "
+kind_opening UserKind = []
+kind_opening UntypedEnumKind = []
+
+abbrev pub signed_opening : Bool → List ℕ
+signed_opening true = codes "signed "
+signed_opening false = []
+
+abbrev pub unsigned_opening : Bool → List ℕ
+unsigned_opening true = []
+unsigned_opening false = codes "unsigned "
+
+-- before what is cast to a scalar, and behind it
+abbrev pub scalar_cast_opening : Bool → List ℕ
+scalar_cast_opening true = codes "signed'(logic'("
+scalar_cast_opening false = codes "logic'("
+
+abbrev pub scalar_cast_closing : Bool → List ℕ
+scalar_cast_closing true = codes "))"
+scalar_cast_closing false = codes ")"
+
+-- before the width of a cast to a vector
+abbrev pub cast_sign_word : Bool → List ℕ
+cast_sign_word true = codes "signed'("
+cast_sign_word false = codes "unsigned'("
+
+-- before what is cast to an integer or an int, and behind it
+abbrev pub number_cast_opening : List ℕ → Bool → List ℕ
+number_cast_opening name true = name ++ codes "'("
+number_cast_opening name false = codes "unsigned'(" ++ (name ++ codes "'(")
+
+abbrev pub number_cast_closing : Bool → List ℕ
+number_cast_closing true = codes ")"
+number_cast_closing false = codes "))"
+
+-- behind an entry of a list, where more follow
+abbrev pub comma : Bool → List ℕ
+comma true = codes ","
+comma false = []
+
+unfoldable pub endmodule_word : List ℕ
+endmodule_word = codes "endmodule"
+
+unfoldable pub parameter_opening : List ℕ
+parameter_opening = codes "parameter "
+
+unfoldable pub localparam_opening : List ℕ
+localparam_opening = codes "localparam "
+
+unfoldable pub include_opening : List ℕ
+include_opening = codes "`include \""
+
+unfoldable pub else_if_opening : List ℕ
+else_if_opening = codes " else if ("
+
+unfoldable pub endfunction_word : List ℕ
+endfunction_word = codes "endfunction"
+
+unfoldable pub function_opening : List ℕ
+function_opening = codes "function automatic "
+
+unfoldable pub begin_end_word : List ℕ
+begin_end_word = codes "begin end"
+
+unfoldable pub for_opening : List ℕ
+for_opening = codes "for (genvar "
+
+unfoldable pub step_word : List ℕ
+step_word = codes " + 1) begin"
+
+unfoldable pub always_ff_opening : List ℕ
+always_ff_opening = codes "always_ff @ ("
+
+unfoldable pub always_at_opening : List ℕ
+always_at_opening = codes "always @ ("
+
+unfoldable pub always_comb_opening : List ℕ
+always_comb_opening = codes "always_comb "

@@ -1,0 +1,8 @@
+//! Prints Verilog syntax trees.
+#![tactic(auto)]
+
+mod refusal;
+mod writer;
+
+pub use refusal::{PrintFault, Refusal};
+pub use writer::Writer;
