@@ -10,3 +10,4 @@ pub mod Statements
 pub mod Members
 pub mod Layout
 pub mod Words
+pub mod Emits

@@ -1,8 +1,13 @@
-//! Prints Verilog syntax trees.
+//! Prints Verilog syntax trees: a file, or one expression, as one growing text.
 #![tactic(auto)]
 
+mod declaration;
+mod expression;
+mod file;
+mod module;
 mod refusal;
 mod writer;
 
+pub use file::{print_expr, print_file};
 pub use refusal::{PrintFault, Refusal};
 pub use writer::Writer;

@@ -1,0 +1,94 @@
+//! Whole files, and single expressions.
+
+ghost use Rattle.std.specs.Prelude.{◌≡◌, map};
+ghost use Rattle.vast_core.specs.Kinds.{dialect_of};
+ghost use Rattle.vast_core.specs.Records.{file_entry};
+ghost use Rattle.vast_core.specs.Bench.{OwnsExpr, tree_of};
+ghost use Rattle.vast_core.specs.Sound.{EntrySound};
+ghost use Rattle.vast_core.specs.FileTree.{tree, item_tree};
+ghost use Rattle.vast_core.specs.View.{bench};
+ghost use Rattle.vast_print.specs.Emits.{Emits, EmitsText, Faults};
+ghost use Rattle.vast_print.specs.Ink.{Writes, Wet, hang, pour, next};
+ghost use Rattle.vast_print.specs.Page.{written};
+ghost use Rattle.vast_print.specs.Text.{expr_text};
+ghost use Rattle.vast_print.specs.Layout.{item_page, items_page, layout};
+
+use crate::expression::print_expression;
+use crate::module::print_module;
+use crate::refusal::PrintFault;
+use crate::writer::Writer;
+use std::alloc::{AllocError, Global};
+use vast_core::{Ast, Expr, FileItem};
+use vast_literal::{VastError, VastFault};
+
+#[tactic(auto, using(crate::proofs::PathLaws::modules))]
+fn print_item(ast: &Ast, item: &FileItem, out: &mut Writer) -> Result<(), PrintFault>
+    requires { EntrySound (bench ast.now) (file_entry item.now) }
+    ensures { Writes (hang 0 (Wet out.old) (item_page (dialect_of (bench ast.now).file_type) (item_tree (bench ast.now) (file_entry item.now)))) out.new result }
+{
+    match item {
+        FileItem::Module(m) => print_module(ast, *m, out),
+    }
+}
+
+#[tactic(auto, using(crate::proofs::PathLaws::modules))]
+fn print_items(ast: &Ast, out: &mut Writer) -> Result<(), PrintFault>
+    ensures { Writes (hang 0 (Wet out.old) (layout (tree (bench ast.now)))) out.new result }
+{
+    for item in ast.items() {
+        print_item(ast, item, out)?;
+    }
+    Ok(())
+}
+
+/// The fault with the refusal's words.
+fn fault_of(alloc: Global, fault: PrintFault) -> VastFault
+    ensures { Faults fault result }
+{
+    match fault {
+        PrintFault::Refused(refusal) => match String::from_str(alloc, refusal.text()) {
+            Ok(text) => VastFault::Refused(VastError(text)),
+            Err(error) => VastFault::Memory(error),
+        },
+        PrintFault::Memory => VastFault::Memory(AllocError),
+    }
+}
+
+/// The text of a file: the printed layout of its tree.
+///
+/// # Errors
+/// The first refusal in the order of the text, a wrong select of a named scalar; or want of memory.
+pub fn print_file(ast: &Ast) -> Result<String, VastFault>
+    ensures { Emits (layout (tree (bench ast.now))) result }
+{
+    let alloc = ast.allocator();
+    let mut out = Writer::new(alloc);
+    match print_items(ast, &mut out) {
+        Ok(()) => Ok(out.finish()?),
+        Err(fault) => Err(fault_of(alloc, fault)),
+    }
+}
+
+/// The text of one expression.
+///
+/// # Errors
+/// As [`print_file`].
+pub fn print_expr(ast: &Ast, e: Expr) -> Result<String, VastFault>
+    requires { OwnsExpr (bench ast.now) e }
+    ensures { EmitsText (expr_text (tree_of (bench ast.now) e)) result }
+{
+    let alloc = ast.allocator();
+    let mut out = Writer::new(alloc);
+    match print_line(ast, e, &mut out) {
+        Ok(()) => Ok(out.finish_line()),
+        Err(fault) => Err(fault_of(alloc, fault)),
+    }
+}
+
+fn print_line(ast: &Ast, e: Expr, out: &mut Writer) -> Result<(), PrintFault>
+    requires { OwnsExpr (bench ast.now) e }
+    ensures { Writes (pour 0 (next 0 (Wet out.old)) (written (expr_text (tree_of (bench ast.now) e)))) out.new result }
+{
+    out.next(0)?;
+    print_expression(ast, e, 0, out)
+}
