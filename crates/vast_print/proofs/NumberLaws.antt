@@ -1,11 +1,11 @@
 -- A written number has no line break.
-use Rattle.std.proofs.Common.{◌≡◌, ◌≢◌, ℕ, zero, suc, ◌+◌, ◌/◌, ◌%◌, ℤ, pos, negsuc, Bool, true, false, eqb, eqb-true, cond, List, [], ◌∷◌, ◌++◌, refl, ◌∙◌, ap, arith}
+use Rattle.std.proofs.Common.{◌≡◌, ◌≢◌, ℕ, zero, suc, ◌+◌, ◌/◌, ◌%◌, ℤ, pos, negsuc, Bool, true, false, eqb, eqb-true, cond, sym, append_assoc, append-nil, List, [], ◌∷◌, ◌++◌, refl, ◌∙◌, ap, arith}
 use Rattle.std.specs.Prelude.{nat_lt, ◌==◌, if◌then◌else◌}
 use Rattle.std.specs.Fmt.{digits, digits_onto, digit_glyph, decimal, signed_decimal}
 use Rattle.vast_print.specs.Printed.{plain_text}
 use Rattle.vast_print.specs.Page.{written}
 use Rattle.vast_print.specs.Draft.{Draft}
-use Rattle.vast_print.specs.Ink.{Ink, Wet, word, pour, margin}
+use Rattle.vast_print.specs.Ink.{Ink, Wet, word, pour, onto, margin}
 use Rattle.vast_print.specs.Words.{has_text}
 use Rattle.vast_print.proofs.Lines.{unbroken, eqb-false}
 use Rattle.vast_print.proofs.Laws.{pour-word}
@@ -62,15 +62,23 @@ signed-some : (z : ℤ) → has_text (signed_decimal z) ≡ true
 signed-some (pos n) = decimal-some n
 signed-some (negsuc n) = refl
 
-word-some : (k : Draft) (w : List ℕ) → has_text w ≡ true → word (Wet k) w ≡ Wet (record { text = k.text ++ (margin k ++ w); depth = k.depth; fresh = false; begun = k.begun })
+word-some : (k : Draft) (w : List ℕ) → has_text w ≡ true → word (Wet k) w ≡ Wet (onto k w)
 unfolding word
 word-some k [] h = absurd (cc (h))
 word-some k (c ∷ w) h = refl
 
-pub word-number : (k : Draft) (z : ℤ) → word (Wet k) (signed_decimal z) ≡ Wet (record { text = k.text ++ (margin k ++ signed_decimal z); depth = k.depth; fresh = false; begun = k.begun })
+pub word-number : (k : Draft) (z : ℤ) → word (Wet k) (signed_decimal z) ≡ Wet (onto k (signed_decimal z))
 word-number k z = word-some k (signed_decimal z) (signed-some z)
 
-pub ruleset numbers = (word-number)
+-- a number behind the spaces of its line
+pub onto-number : (k j : Draft) (z : ℤ) (u : List ℕ) → j ≡ onto k [] → u ≡ j.text ++ signed_decimal z →
+    word (Wet k) (signed_decimal z) ≡ Wet (record { text = u; depth = j.depth; fresh = j.fresh; begun = j.begun })
+onto-number k j z u e f =
+    let a : j.text ++ signed_decimal z ≡ k.text ++ (margin k ++ signed_decimal z) =
+      ap (λ (x : Draft). x.text ++ signed_decimal z) e ∙ simp (append_assoc, append-nil) in
+    let b : u ≡ k.text ++ (margin k ++ signed_decimal z) = f ∙ a in
+    word-number k z
+    ∙ sym (rw (b, e) refl)
 
 pub pour-number : (d : ℕ) (k : Ink) (z : ℤ) → pour d k (written (plain_text (signed_decimal z))) ≡ word k (signed_decimal z)
 pour-number d k z = pour-word d k (signed_decimal z) (signed-unbroken z)

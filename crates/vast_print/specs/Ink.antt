@@ -15,10 +15,14 @@ pub data Ink : Type 0 where
 abbrev pub margin : Draft → List ℕ
 margin k = cond k.fresh (replicate (2 * k.depth) 32) []
 
+-- a word, which may be empty, behind the spaces of its line
+abbrev pub onto : Draft → List ℕ → Draft
+onto k w = record { text = k.text ++ (margin k ++ w); depth = k.depth; fresh = false; begun = k.begun }
+
 -- a word on the last line
 unfoldable pub word : Ink → List ℕ → Ink
 word (Wet k) [] = Wet k
-word (Wet k) (c ∷ w) = Wet (record { text = k.text ++ (margin k ++ (c ∷ w)); depth = k.depth; fresh = false; begun = k.begun })
+word (Wet k) (c ∷ w) = Wet (onto k (c ∷ w))
 word (Stopped r) w = Stopped r
 
 -- a new line

@@ -1,12 +1,14 @@
 //! Writes lines with depths into one growing text.
 
-ghost use Rattle.std.specs.Prelude.{◌≡◌, ◌++◌, ◌*◌, replicate, OnOk, IfOk, string_bytes};
+ghost use Rattle.std.specs.Prelude.{◌≡◌, ◌++◌, ◌*◌, [], replicate, OnOk, IfOk, string_bytes};
+ghost use Rattle.std.specs.Fmt.{signed_decimal};
 ghost use Rattle.vast_print.specs.Printed.{plain_text};
 ghost use Rattle.vast_print.specs.Page.{line, written, commented};
 ghost use Rattle.vast_print.specs.Draft.{unwritten, whole};
-ghost use Rattle.vast_print.specs.Ink.{Wet, word, next, hang, pour};
+ghost use Rattle.vast_print.specs.Ink.{Wet, onto, word, next, hang, pour};
 
 use std::alloc::{AllocError, Global};
+use std::fmt::Write;
 use std::marker::Model;
 
 /// A text that grows line by line. A line break stands before each line but the first, and the
@@ -69,11 +71,29 @@ impl Writer {
         if text.is_empty() {
             return Ok(());
         }
+        self.begin_word()?;
+        self.text.push_str(text)
+    }
+
+    fn begin_word(&mut self) -> Result<(), AllocError>
+        ensures { OnOk result (self.new ≡ onto self.old []) }
+    {
         if self.fresh {
             indent(self.depth, &mut self.text)?;
         }
-        self.text.push_str(text)?;
         self.fresh = false;
+        Ok(())
+    }
+
+    /// Writes a number in decimal on the last line.
+    ///
+    /// # Errors
+    /// `AllocError` where the text's growth was refused.
+    pub fn number(&mut self, number: i64) -> Result<(), AllocError>
+        ensures { OnOk result (word (Wet self.old) (signed_decimal number) ≡ Wet self.new) }
+    {
+        self.begin_word()?;
+        push_number(number, &mut self.text)?;
         Ok(())
     }
 
@@ -150,5 +170,12 @@ fn indent(depth: usize, text: &mut String) -> Result<(), AllocError>
     for _ in 0..depth {
         text.push_str("  ")?;
     }
+    Ok(())
+}
+
+fn push_number(number: i64, text: &mut String) -> Result<(), AllocError>
+    ensures { OnOk result (string_bytes text.new ≡ string_bytes text.old ++ signed_decimal number) }
+{
+    write!(text, "{number}")?;
     Ok(())
 }

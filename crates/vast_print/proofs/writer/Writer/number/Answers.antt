@@ -1,0 +1,14 @@
+use Rattle.std.proofs.Common.{◌≡◌, ◌++◌, ◌∙◌, ap, sym, w64, string_bytes}
+use Rattle.std.specs.Fmt.{signed_decimal}
+use Rattle.std.proofs.lemmas.Int.{to_z-of_z}
+use Rattle.vast_print.specs.Draft.{Draft}
+use Rattle.vast_print.specs.Ink.{Wet, onto, word}
+use Rattle.vast_print.proofs.NumberLaws.{onto-number}
+use Rattle.vast_print.proofs.writer.Writer.number.Goals as goal
+
+pub returns : goal.returns
+returns c =
+    let z = to_z-of_z w64 c.args.number c.ranges.number in
+    let e = c.self.view_is ∙ c.in_ok-begin_word.ensures in
+    let p = c.in_ok-push_number.ensures ∙ ap (λ x. string_bytes c.self.inside.text ++ signed_decimal x) z in
+    onto-number c.args.self.now _ c.args.number (string_bytes c.push_number.new.text) e p
