@@ -6,4 +6,4 @@ pub mod TextLaws
 pub mod DeclarationLaws
 pub mod MemberLaws
 pub mod ModuleLaws
-pub mod PathLaws
+pub mod ArenaLaws

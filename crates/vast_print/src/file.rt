@@ -21,7 +21,7 @@ use std::alloc::{AllocError, Global};
 use vast_core::{Ast, Expr, FileItem};
 use vast_literal::{VastError, VastFault};
 
-#[tactic(auto, using(crate::proofs::PathLaws::modules))]
+#[tactic(auto, using(crate::proofs::ArenaLaws::modules))]
 fn print_item(ast: &Ast, item: &FileItem, out: &mut Writer) -> Result<(), PrintFault>
     requires { EntrySound (bench ast.now) (file_entry item.now) }
     ensures { Writes (hang 0 (Wet out.old) (item_page (dialect_of (bench ast.now).file_type) (item_tree (bench ast.now) (file_entry item.now)))) out.new result }
@@ -31,7 +31,7 @@ fn print_item(ast: &Ast, item: &FileItem, out: &mut Writer) -> Result<(), PrintF
     }
 }
 
-#[tactic(auto, using(crate::proofs::PathLaws::modules))]
+#[tactic(auto, using(crate::proofs::ArenaLaws::modules))]
 fn print_items(ast: &Ast, out: &mut Writer) -> Result<(), PrintFault>
     ensures { Writes (hang 0 (Wet out.old) (layout (tree (bench ast.now)))) out.new result }
 {
