@@ -1,0 +1,79 @@
+//! The file itself: its making, its dialect, its handles, its text.
+
+ghost use Rattle.std.specs.Prelude.{◌≡◌, ◌+◌, ◌↔◌, IsTrue, IsErr, IfOk, OnOk, OnErr};
+ghost use Rattle.vast_core.specs.Bench.{start};
+ghost use Rattle.vast_core.specs.FileTree.{tree};
+ghost use Rattle.vast_core.specs.View.{bench};
+ghost use Rattle.vast_print.specs.Emits.{Emits};
+ghost use Rattle.vast_print.specs.Layout.{layout};
+
+use std::alloc::Global;
+use std::marker::Model;
+use vast_core::{Ast, FileIds, Handle, IdsSpent, VastFileType};
+use vast_literal::VastFault;
+use vast_print::print_file;
+
+/// A file of Verilog or SystemVerilog: every node is made by a call on it and lives as long as it.
+///
+/// Expressions and types never change once made; containers grow at their ends. A call that is refused, for memory
+/// too, leaves the file as it was.
+#[derive(Drop)]
+pub struct VastFile {
+    pub(crate) ast: Ast,
+}
+
+impl Model for VastFile {
+    ghost use Rattle.vast_core.specs.Raw.{Raw};
+
+    ghost Value = { Raw };
+
+    ghost view = { λ f. f.ast };
+}
+
+impl VastFile {
+    /// An empty file, with the next id. It takes no memory.
+    ///
+    /// # Errors
+    /// [`IdsSpent`] exactly where the ids are spent; `ids` is then unchanged.
+    pub fn new(alloc: Global, file_type: VastFileType, ids: &mut FileIds) -> Result<VastFile, IdsSpent>
+        ensures file { IfOk result (λ file. bench file ≡ start file_type (ids.old + 1)) }
+        ensures given { OnOk result (ids.new ≡ ids.old + 1) }
+        ensures spent { IsErr result ↔ (ids.old ≡ u64.MAX) }
+        ensures unchanged { OnErr result (ids.new ≡ ids.old) }
+    {
+        let id = ids.take()?;
+        Ok(VastFile {
+            ast: Ast::new(alloc, file_type, id),
+        })
+    }
+
+    /// The dialect of the file.
+    pub fn file_type(&self) -> VastFileType
+        ensures { result ≡ (bench self.now).file_type }
+    {
+        self.ast.file_type()
+    }
+
+    /// The allocator that was handed to [`VastFile::new`].
+    pub fn allocator(&self) -> Global {
+        self.ast.allocator()
+    }
+
+    /// Whether the handle belongs to the file: the condition of every call that takes it.
+    pub fn owns<H: Handle>(&self, handle: &H) -> bool
+        ensures { IsTrue result ↔ H.owned (bench self.now) handle.now }
+    {
+        handle.belongs_to(&self.ast)
+    }
+
+    /// The text of the file: the printed layout of its tree.
+    ///
+    /// # Errors
+    /// `Refused` exactly where the tree has no text, with the first refusal in the order of the text: a printed index
+    /// or slice of a named scalar with a bound that is no literal of value zero. `Memory` where a growth was refused.
+    pub fn emit(&self) -> Result<String, VastFault>
+        ensures { Emits (layout (tree (bench self.now))) result }
+    {
+        print_file(&self.ast)
+    }
+}

@@ -1,0 +1,75 @@
+//! Modules and their ports.
+
+ghost use Rattle.std.specs.Prelude.{◌≡◌, ◌↔◌, IsTrue, IfOk, string_bytes};
+ghost use Rattle.vast_core.specs.Bench.{OwnsModule, OwnsType, NameIsFree};
+ghost use Rattle.vast_core.specs.Growth.{Builds, next_module, next_logic_ref, with_module, with_port};
+ghost use Rattle.vast_core.specs.View.{bench};
+ghost use Rattle.xlsynth_vast.specs.Equations.{name_of};
+
+use crate::file::VastFile;
+use std::alloc::AllocError;
+use vast_core::{DataKind, LogicRef, ModulePortDirection, VastDataType, VastModule};
+
+impl VastFile {
+    /// An empty module, as the last item of the file.
+    ///
+    /// # Errors
+    /// `AllocError` where a growth was refused; the file is unchanged.
+    pub fn add_module(&mut self, name: &str) -> Result<VastModule, AllocError>
+        ensures { Builds (bench self.old) (bench self.new) result (next_module (bench self.old)) (with_module name.now (bench self.old)) }
+    {
+        self.ast.push_module(name)
+    }
+
+    /// The module's name.
+    ///
+    /// # Errors
+    /// `AllocError` where memory for the name was refused.
+    pub fn module_name(&self, owner: VastModule) -> Result<String, AllocError>
+        requires { OwnsModule (bench self.now) owner }
+        ensures { IfOk result (λ name. string_bytes name ≡ name_of (bench self.now) owner) }
+    {
+        let module = self.ast.module(owner);
+        String::from_str(self.ast.allocator(), &module.name)
+    }
+
+    /// Whether no port, wire, variable or function of the module has this name: the condition of the calls that
+    /// declare one.
+    pub fn name_is_free(&self, owner: VastModule, name: &str) -> bool
+        requires { OwnsModule (bench self.now) owner }
+        ensures { IsTrue result ↔ NameIsFree (bench self.now) owner name.now }
+    {
+        let module = self.ast.module(owner);
+        module.name_is_free(name)
+    }
+
+    /// An input, as the module's last port; answers its name as an expression.
+    ///
+    /// # Errors
+    /// `AllocError` where a growth was refused; the file is unchanged.
+    pub fn add_input(&mut self, owner: VastModule, name: &str, data_type: &VastDataType) -> Result<LogicRef, AllocError>
+        requires owner { OwnsModule (bench self.old) owner }
+        requires data_type { OwnsType (bench self.old) data_type.now }
+        requires free { NameIsFree (bench self.old) owner name.now }
+        ensures {
+            Builds (bench self.old) (bench self.new) result (next_logic_ref (bench self.old)) (with_port owner ModulePortDirection.Input DataKind.Wire name.now data_type.now (bench self.old))
+        }
+    {
+        self.ast.push_port(owner, ModulePortDirection::Input, DataKind::Wire, name, *data_type)
+    }
+
+    /// An output, as the module's last port; answers its name as an expression.
+    ///
+    /// # Errors
+    /// `AllocError` where a growth was refused; the file is unchanged.
+    pub fn add_output(&mut self, owner: VastModule, name: &str, data_type: &VastDataType) -> Result<LogicRef, AllocError>
+        requires owner { OwnsModule (bench self.old) owner }
+        requires data_type { OwnsType (bench self.old) data_type.now }
+        requires free { NameIsFree (bench self.old) owner name.now }
+        ensures {
+            Builds (bench self.old) (bench self.new) result (next_logic_ref (bench self.old)) (with_port owner ModulePortDirection.Output DataKind.Wire name.now data_type.now (bench self.old))
+        }
+    {
+        self.ast.push_port(owner, ModulePortDirection::Output, DataKind::Wire, name, *data_type)
+    }
+}
