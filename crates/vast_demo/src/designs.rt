@@ -1,0 +1,17 @@
+//! The designs that the program prints.
+
+use std::alloc::Global;
+use xlsynth_vast::{FileIds, VastFault, VastFile, VastFileType};
+
+/// A module whose output is its input.
+pub(crate) fn passthrough(alloc: Global) -> Result<String, VastFault> {
+    let mut ids = FileIds::new();
+    let mut file = VastFile::new(alloc, VastFileType::SystemVerilog, &mut ids).unwrap();
+    let module = file.add_module("passthrough")?;
+    let data_type = file.make_bit_vector_type(8, false)?;
+    let input = file.add_input(module, "input_data", &data_type)?;
+    let output = file.add_output(module, "output_data", &data_type)?;
+    let assignment = file.make_continuous_assignment(&output.to_expr(), &input.to_expr())?;
+    file.add_member_continuous_assignment(module, assignment)?;
+    file.emit()
+}

@@ -1,0 +1,43 @@
+//! Prints designs: `vast_demo passthrough`.
+#![tactic(auto)]
+
+mod designs;
+mod program;
+
+use program::run;
+use std::alloc::{AllocError, Global};
+use std::env;
+use std::io::Write;
+use std::process::ExitCode;
+
+/// The words after the program's name.
+fn arguments(rt: &HostRuntime) -> std::io::Result<Vec<String>> {
+    let alloc = rt.alloc();
+    let mut words = Vec::new(alloc);
+    for word in env::args(rt)?.skip(1) {
+        words.push(word)?;
+    }
+    Ok(words)
+}
+
+fn slices(alloc: Global, words: &[String]) -> Result<Vec<&str>, AllocError> {
+    words.iter().map(|word| word.as_str()).collect(alloc)
+}
+
+fn main(rt: HostRuntime) -> ExitCode {
+    let alloc = rt.alloc();
+    let mut err = rt.stderr();
+    let status = match arguments(&rt) {
+        Ok(words) => match slices(alloc, &words) {
+            Ok(words) => run(alloc, &words, &mut rt.stdin(), &mut rt.stdout(), &mut err),
+            Err(_) => no_memory(&mut err),
+        },
+        Err(_) => no_memory(&mut err),
+    };
+    ExitCode::from(status)
+}
+
+fn no_memory<E: Write>(err: &mut E) -> u8 {
+    let _ = err.write_all(b"out of memory\n");
+    1
+}
