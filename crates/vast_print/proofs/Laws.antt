@@ -1,5 +1,5 @@
 -- Laws of writing pages: what becomes of a text where a page made of parts is written behind it.
-use Rattle.std.proofs.Common.{◌≡◌, ℕ, Bool, true, false, ◌+◌, List, [], ◌∷◌, ◌++◌, refl, sym, ◌∙◌, ap, add-zero, Option, None, Some}
+use Rattle.std.proofs.Common.{◌≡◌, ℕ, Bool, true, false, ◌+◌, List, [], ◌∷◌, ◌++◌, refl, sym, ◌∙◌, ap, add-zero, append-nil, Option, None, Some}
 use Rattle.vast_print.specs.declared.refusal.Refusal.{Refusal}
 use Rattle.vast_print.specs.Printed.{Printed, first_fault, plain_text, refused, ◌⊕◌}
 use Rattle.vast_print.specs.Page.{Page, print, print_lines, no_lines, line, one_line, inner, lead, above, beside, written, written_lines, note, commented, commented_lines}
@@ -99,6 +99,20 @@ hang-beside d k p q =
 pub pour-above : (d : ℕ) (k : Ink) (w : List ℕ) (q : Page) → pour d k (above (line w) q) ≡ hang d (word k w) q
 unfolding pour above line hang pour_lines hang_lines
 pour-above d k w q = refl
+
+-- a page that begins with a line, on lines of its own
+pub hang-line-above : (d : ℕ) (k : Ink) (w : List ℕ) (q : Page) → hang d k (above (line w) q) ≡ pour d (next d k) (above (line w) q)
+hang-line-above d k w q =
+    hang-above d k (line w) q ∙ (ap (λ j. hang d j q) (hang-line d k w) ∙ sym (pour-above d (next d k) w q))
+
+-- nothing below a page is the page
+pub pour-above-none : (d : ℕ) (k : Ink) (p : Page) → pour d k (above p no_lines) ≡ pour d k p
+unfolding pour above no_lines
+pour-above-none d k p = rw (append-nil p.lines) (go p.fault)
+  where
+    go : (f : Option Refusal) → stop (pour_lines d k p.lines) (first_fault f None) ≡ stop (pour_lines d k p.lines) f
+    go None = refl
+    go (Some r) = refl
 
 -- a text without line breaks is a word
 

@@ -4,5 +4,7 @@ pub mod WordLaws
 pub mod NumberLaws
 pub mod TextLaws
 pub mod DeclarationLaws
+pub mod StatementLaws
+pub mod ListLaws
 pub mod MemberLaws
 pub mod ModuleLaws

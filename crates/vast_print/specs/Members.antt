@@ -43,16 +43,16 @@ unfoldable pub connections_page : List Connection → Page
 connections_page [] = line []
 connections_page (c ∷ cs) = entries_page (map connection_text (c ∷ cs))
 
--- up to the instance's name; parameters stand before it
-unfoldable pub instance_opening_page : (module_name : List ℕ) → List Connection → Page
-instance_opening_page name [] = written (plain_text name ⊕ plain_text (codes " "))
-instance_opening_page name (c ∷ cs) =
-  above (written (plain_text name ⊕ plain_text (codes " #("))) (above (entries_page (map connection_text (c ∷ cs))) (line (codes ") ")))
+-- up to the list of connections; parameters stand before the instance's name
+unfoldable pub instance_head_page : (module_name : List ℕ) → List Connection → (instance_name : List ℕ) → Page
+instance_head_page name [] instance = written (plain_text name ⊕ plain_text (codes " ") ⊕ plain_text instance ⊕ plain_text (codes " ("))
+instance_head_page name (c ∷ cs) instance =
+  above (written (plain_text name ⊕ plain_text (codes " #(")))
+  (above (entries_page (map connection_text (c ∷ cs))) (written (plain_text (codes ") ") ⊕ plain_text instance ⊕ plain_text (codes " ("))))
 
 unfoldable pub instance_page : InstanceTree → Page
 instance_page i =
-  above (beside (instance_opening_page i.module_name i.parameters) (written (plain_text i.instance_name ⊕ plain_text (codes " ("))))
-  (above (connections_page i.connections) (line (codes ");")))
+  above (instance_head_page i.module_name i.parameters i.instance_name) (above (connections_page i.connections) (line (codes ");")))
 
 -- joined by `or`
 unfoldable pub more_events_text : Exprs → Printed

@@ -1,5 +1,5 @@
 -- The words that the writer writes between the parts of a tree.
-use Rattle.std.specs.Prelude.{ℕ, Bool, true, false, List, [], ◌∷◌, ◌++◌, codes}
+use Rattle.std.specs.Prelude.{ℕ, zero, suc, Bool, true, false, List, [], ◌∷◌, ◌++◌, codes}
 use Rattle.vast_literal.specs.Tree.{Kind, RegKind, WireKind, LogicKind, IntegerKind, IntKind, UserKind, UntypedEnumKind, GenvarKind, CaseWord, CaseExact, CaseZ, CaseX, AlwaysWord, AlwaysFFWord, AlwaysAtWord, AlwaysCombWord}
 
 -- whether a text isn't empty
@@ -53,6 +53,11 @@ number_cast_closing false = codes "))"
 abbrev pub comma : Bool → List ℕ
 comma true = codes ","
 comma false = []
+
+-- before the part i of a list
+abbrev pub separator : ℕ → List ℕ → List ℕ
+separator zero w = []
+separator (suc i) w = w
 
 unfoldable pub endmodule_word : List ℕ
 endmodule_word = codes "endmodule"
