@@ -166,3 +166,5 @@ pour-limit-value d k w v = refl
 pub pour-limit : (d : ℕ) (k : Ink) (w : ExprTree) → pour d k (written (limit_text w None)) ≡ word (pour d k (written (wrapped (limit_wraps w) (expr_text w)))) (codes " - 1")
 unfolding limit_text
 pour-limit d k w = simp (pour-then, words)
+
+pub ruleset declarations = (pour-declaration, pour-port, pour-untyped-parameter, pour-typed-parameter, pour-scalar-type, pour-integer-type, pour-int-type, pour-external-type, pour-package-type, pour-vector-type, pour-spaced, pour-spaced-none, pour-limit-value, pour-limit)

@@ -6,5 +6,7 @@ pub mod TextLaws
 pub mod DeclarationLaws
 pub mod StatementLaws
 pub mod ListLaws
+pub mod SeparatedLaws
 pub mod MemberLaws
+pub mod TypeLaws
 pub mod ModuleLaws

@@ -92,7 +92,7 @@ unfoldable mutual
   more_text NoExprs = plain_text []
   more_text (MoreExprs e es) = plain_text (codes ", ") ⊕ expr_text e ⊕ more_text es
 
-  -- no cast to an array is ever made
+  -- a cast to an array is never made: it would have no head
   pub type_cast : TypeTree → Printed → Printed
   type_cast (ScalarTree signed) p = scalar_cast signed p
   type_cast (VectorTree w v signed) p = cast_to (sign_cast signed) (width_cast (expr_text w) p)
@@ -100,6 +100,6 @@ unfoldable mutual
   type_cast (IntTree signed) p = number_cast (codes "int") signed p
   type_cast (ExternalTree name) p = cast_to (plain_text name) p
   type_cast (PackageTree scope name) p = cast_to (package_text scope name) p
-  type_cast (PackedTree t ds) p = p
-  type_cast (UnpackedTree t ds) p = p
-  type_cast MissingType p = p
+  type_cast (PackedTree t ds) p = cast_to (plain_text []) p
+  type_cast (UnpackedTree t ds) p = cast_to (plain_text []) p
+  type_cast MissingType p = cast_to (plain_text []) p
