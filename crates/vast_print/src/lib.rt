@@ -2,6 +2,7 @@
 #![tactic(auto)]
 
 mod refusal;
+mod words;
 mod writer;
 
 pub use refusal::{PrintFault, Refusal};
