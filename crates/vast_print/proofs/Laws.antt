@@ -163,10 +163,11 @@ whole-page p k h = go p.fault h
   where
     printed : (j : Draft) × (hang_lines 0 (Wet unwritten) p.lines ≡ Wet j) × (whole j ≡ whole unwritten ++ print_lines p.lines)
     printed = whole-print unwritten p.lines
+
     go : (f : Option Refusal) → stop (hang_lines 0 (Wet unwritten) p.lines) f ≡ Wet k → (f ≡ None) × (whole k ≡ print_lines p.lines)
     go None e =
-      let j : printed.0 ≡ k = cc (printed.1, e)
-      in (refl, ap whole (sym j) ∙ printed.2)
+        let j : printed.0 ≡ k = cc (printed.1, e)
+        in (refl, ap whole (sym j) ∙ printed.2)
     go (Some r) e = absurd (let b : stop (Wet printed.0) (Some r) ≡ Wet k = ap (λ x. stop x (Some r)) (sym printed.1) ∙ e in cc (b))
 
 pub whole-fault : (p : Page) (r : Refusal) → hang 0 (Wet unwritten) p ≡ Stopped r → p.fault ≡ Some r
@@ -175,6 +176,7 @@ whole-fault p r h = go p.fault h
   where
     printed : (j : Draft) × (hang_lines 0 (Wet unwritten) p.lines ≡ Wet j) × (whole j ≡ whole unwritten ++ print_lines p.lines)
     printed = whole-print unwritten p.lines
+
     go : (f : Option Refusal) → stop (hang_lines 0 (Wet unwritten) p.lines) f ≡ Stopped r → f ≡ Some r
     go None e = absurd (let b : Wet printed.0 ≡ Stopped r = sym printed.1 ∙ e in cc (b))
     go (Some s) e = let b : stop (Wet printed.0) (Some s) ≡ Stopped r = ap (λ x. stop x (Some s)) (sym printed.1) ∙ e in cc (b)
@@ -186,10 +188,11 @@ line-text p k h = go p.fault h
   where
     poured : (g : Bool) × (pour_lines 0 (Wet (flat [] true)) (written_lines p.text) ≡ Wet (flat ([] ++ p.text) g))
     poured = pour-flat [] true p.text
+
     go : (f : Option Refusal) → stop (pour_lines 0 (Wet (flat [] true)) (written_lines p.text)) f ≡ Wet k → (f ≡ None) × (k.text ≡ p.text)
     go None e =
-      let j : flat p.text poured.0 ≡ k = cc (poured.1, e)
-      in (refl, ap (λ (x : Draft). x.text) (sym j))
+        let j : flat p.text poured.0 ≡ k = cc (poured.1, e)
+        in (refl, ap (λ (x : Draft). x.text) (sym j))
     go (Some r) e = absurd (let b : stop (Wet (flat p.text poured.0)) (Some r) ≡ Wet k = ap (λ x. stop x (Some r)) (sym poured.1) ∙ e in cc (b))
 
 pub line-fault : (p : Printed) (r : Refusal) → pour 0 (next 0 (Wet unwritten)) (written p) ≡ Stopped r → p.fault ≡ Some r
@@ -198,6 +201,7 @@ line-fault p r h = go p.fault h
   where
     poured : (g : Bool) × (pour_lines 0 (Wet (flat [] true)) (written_lines p.text) ≡ Wet (flat ([] ++ p.text) g))
     poured = pour-flat [] true p.text
+
     go : (f : Option Refusal) → stop (pour_lines 0 (Wet (flat [] true)) (written_lines p.text)) f ≡ Stopped r → f ≡ Some r
     go None e = absurd (let b : Wet (flat p.text poured.0) ≡ Stopped r = sym poured.1 ∙ e in cc (b))
     go (Some s) e = let b : stop (Wet (flat p.text poured.0)) (Some s) ≡ Stopped r = ap (λ x. stop x (Some s)) (sym poured.1) ∙ e in cc (b)

@@ -9,4 +9,5 @@ pub mod ListLaws
 pub mod SeparatedLaws
 pub mod MemberLaws
 pub mod TypeLaws
+pub mod BareLaws
 pub mod ModuleLaws

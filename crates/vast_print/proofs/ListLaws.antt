@@ -39,7 +39,7 @@ entries-step w v d k (y ∷ z ∷ xs) zero x h e =
     rw (e, t)
     (hang-above d k (lead (written (w (v y) ⊕ plain_text (codes ",")))) (entries_page (map w (map v (z ∷ xs))))
     ∙ ap (λ j. hang d j (entries_page (map w (map v (z ∷ xs)))))
-      (hang-lead d k (w (v y) ⊕ plain_text (codes ",")) ∙ (pour-then d (next (d + 1) k) (w (v y)) (plain_text (codes ",")) ∙ pour-comma d (pour d (next (d + 1) k) (written (w (v y)))))))
+    (hang-lead d k (w (v y) ⊕ plain_text (codes ",")) ∙ (pour-then d (next (d + 1) k) (w (v y)) (plain_text (codes ",")) ∙ pour-comma d (pour d (next (d + 1) k) (written (w (v y)))))))
 entries-step w v d k (y ∷ xs) (suc i) x h e =
     rw (add-one (suc i)) (rw (ltb-suc i (length xs)) (rw (add-one i) at (entries-step w v d k xs i x (omega arith) e)))
 

@@ -157,8 +157,8 @@ hang-function-member d k dialect f = refl
 pub hang-function : (d : ℕ) (k : Ink) (dialect : Dialect) (f : FunctionTree) →
     hang d k (function_page dialect f)
     ≡ word (next d (hang (d + 1) (hang (d + 1)
-        (word (pour d (word (pour d (word (next d k) function_opening) (written (declaration_text dialect (result_kind dialect f.result) f.result f.name))) (codes " (")) (written (inputs_text dialect f.inputs))) (codes ");"))
-        (locals_page dialect f.locals)) (function_body_page f.body))) endfunction_word
+    (word (pour d (word (pour d (word (next d k) function_opening) (written (declaration_text dialect (result_kind dialect f.result) f.result f.name))) (codes " (")) (written (inputs_text dialect f.inputs))) (codes ");"))
+    (locals_page dialect f.locals)) (function_body_page f.body))) endfunction_word
 unfolding function_page endfunction_word
 hang-function d k dialect f = simp (hang-above, hang-written, pour-then, words, hang-inner, hang-line)
 
@@ -191,7 +191,7 @@ hang-loop d k dialect i start end label ms = simp (hang-above, hang-written, han
 pub pour-loop : (d : ℕ) (k : Ink) (i : List ℕ) (start end : ExprTree) (label : Option (List ℕ)) →
     pour d k (written (loop_text i start end label))
     ≡ pour d (word (pour d (word (pour d (word (pour d (word (pour d (word (pour d (word (pour d (word k for_opening) (written (plain_text i))) (codes " = ")) (written (expr_text start))) (codes "; "))
-        (written (plain_text i))) (codes " < ")) (written (wrapped (right_child_wraps LtOp end) (expr_text end)))) (codes "; ")) (written (plain_text i))) (codes " = ")) (written (plain_text i))) step_word) (written (loop_label_text label))
+    (written (plain_text i))) (codes " < ")) (written (wrapped (right_child_wraps LtOp end) (expr_text end)))) (codes "; ")) (written (plain_text i))) (codes " = ")) (written (plain_text i))) step_word) (written (loop_label_text label))
 unfolding loop_text
 pour-loop d k i start end label = simp (pour-then, words)
 

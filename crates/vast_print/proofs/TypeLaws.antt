@@ -137,7 +137,7 @@ pub packed-step : (d : ℕ) (k : Ink) (xs : List ℤ) (i : ℕ) (x : ℤ) → i 
     ≡ pour d (word (word (word k (codes "[")) (signed_decimal (x -ℤ pos 1))) (codes ":0]")) (written (plain_text (packed_ranges (drop (i + 1) xs))))
 unfolding packed_ranges
 packed-step d k [] i x h g = absurd (omega arith)
-packed-step d k (y ∷ xs) zero x h g = 
+packed-step d k (y ∷ xs) zero x h g =
     rw g
     (pour-append d k (packed_range y) (packed_ranges xs)
     ∙ ap (λ j. pour d j (written (plain_text (packed_ranges xs)))) (pour-range d k (codes "[") (codes ":0]") (y -ℤ pos 1) refl refl))

@@ -48,22 +48,22 @@ unfoldable mutual
   expr_text (StringTree text) = plain_text text
   expr_text (UnaryTree o e) = plain_text (unary_sign_text o) ⊕ wrapped (unary_wraps e) (expr_text e)
   expr_text (BinaryTree o l r) =
-    wrapped (left_child_wraps o l) (expr_text l)
-    ⊕ plain_text (binary_sign_text o)
-    ⊕ wrapped (right_child_wraps o r) (expr_text r)
+      wrapped (left_child_wraps o l) (expr_text l)
+      ⊕ plain_text (binary_sign_text o)
+      ⊕ wrapped (right_child_wraps o r) (expr_text r)
   expr_text (TernaryTree c l r) =
-    wrapped (ternary_wraps c) (expr_text c)
-    ⊕ plain_text (codes " ? ") ⊕ wrapped (ternary_wraps l) (expr_text l)
-    ⊕ plain_text (codes " : ") ⊕ wrapped (ternary_wraps r) (expr_text r)
+      wrapped (ternary_wraps c) (expr_text c)
+      ⊕ plain_text (codes " ? ") ⊕ wrapped (ternary_wraps l) (expr_text l)
+      ⊕ plain_text (codes " : ") ⊕ wrapped (ternary_wraps r) (expr_text r)
   expr_text (IndexTree s i) =
-    if is_scalar_name s then elided (is_zero i) ScalarIndex (expr_text s)
-    else wrapped (select_wraps s) (expr_text s) ⊕ plain_text (codes "[") ⊕ expr_text i ⊕ plain_text (codes "]")
+      if is_scalar_name s then elided (is_zero i) ScalarIndex (expr_text s)
+      else wrapped (select_wraps s) (expr_text s) ⊕ plain_text (codes "[") ⊕ expr_text i ⊕ plain_text (codes "]")
   expr_text (SliceTree s h l) =
-    if is_scalar_name s then elided (is_zero h && is_zero l) ScalarSlice (expr_text s)
-    else wrapped (select_wraps s) (expr_text s) ⊕ plain_text (codes "[") ⊕ expr_text h ⊕ plain_text (codes ":") ⊕ expr_text l ⊕ plain_text (codes "]")
+      if is_scalar_name s then elided (is_zero h && is_zero l) ScalarSlice (expr_text s)
+      else wrapped (select_wraps s) (expr_text s) ⊕ plain_text (codes "[") ⊕ expr_text h ⊕ plain_text (codes ":") ⊕ expr_text l ⊕ plain_text (codes "]")
   expr_text (PartSelectTree s i w) =
-    wrapped (select_wraps s) (expr_text s)
-    ⊕ plain_text (codes "[") ⊕ expr_text i ⊕ plain_text (codes " +: ") ⊕ plain_text (signed_decimal w) ⊕ plain_text (codes "]")
+      wrapped (select_wraps s) (expr_text s)
+      ⊕ plain_text (codes "[") ⊕ expr_text i ⊕ plain_text (codes " +: ") ⊕ plain_text (signed_decimal w) ⊕ plain_text (codes "]")
   expr_text (ConcatTree n es) = plain_text (codes "{") ⊕ replicated n (list_text es) ⊕ plain_text (codes "}")
   expr_text (PatternTree es) = plain_text (codes "'{") ⊕ list_text es ⊕ plain_text (codes "}")
   expr_text (WidthCastTree w e) = width_cast (expr_text w) (expr_text e)

@@ -65,9 +65,6 @@ endmodule_word = codes "endmodule"
 unfoldable pub parameter_opening : List ℕ
 parameter_opening = codes "parameter "
 
-unfoldable pub localparam_opening : List ℕ
-localparam_opening = codes "localparam "
-
 unfoldable pub include_opening : List ℕ
 include_opening = codes "`include \""
 

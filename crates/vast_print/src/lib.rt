@@ -1,6 +1,7 @@
 //! Prints Verilog syntax trees.
 #![tactic(auto)]
 
+mod bare;
 mod refusal;
 mod words;
 mod writer;

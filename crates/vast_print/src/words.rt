@@ -44,7 +44,11 @@ pub(crate) fn vector_cast(signed: bool) -> &'static str
 pub(crate) fn integer_cast(signed: bool) -> &'static str
     ensures { result.now ≡ number_cast_opening (codes "integer") signed }
 {
-    if signed { "integer'(" } else { "unsigned'(integer'(" }
+    if signed {
+        "integer'("
+    } else {
+        "unsigned'(integer'("
+    }
 }
 
 /// Before what is cast to an int.
