@@ -157,6 +157,9 @@ pub pour-spaced-none : (d : ℕ) (k : Ink) (w : List ℕ) → has_text w ≡ fal
 pour-spaced-none d k [] h = ap (λ x. pour d k (written x)) spaced-empty ∙ pour-empty d k
 pour-spaced-none d k (c ∷ w) h = absurd (cc (h))
 
+pub pour-spaced-empty : (d : ℕ) (k : Ink) → pour d k (written (spaced (plain_text []))) ≡ k
+pour-spaced-empty d k = pour-spaced-none d k [] refl
+
 -- limits of vectors
 
 pub pour-limit-value : (d : ℕ) (k : Ink) (w : ExprTree) (v : ℤ) → pour d k (written (limit_text w (Some v))) ≡ pour d k (written (plain_text (signed_decimal (v -ℤ pos 1))))
@@ -166,3 +169,5 @@ pour-limit-value d k w v = refl
 pub pour-limit : (d : ℕ) (k : Ink) (w : ExprTree) → pour d k (written (limit_text w None)) ≡ word (pour d k (written (wrapped (limit_wraps w) (expr_text w)))) (codes " - 1")
 unfolding limit_text
 pour-limit d k w = simp (pour-then, words)
+
+pub ruleset declarations = (pour-declaration, pour-port, pour-untyped-parameter, pour-typed-parameter, pour-scalar-type, pour-integer-type, pour-int-type, pour-external-type, pour-package-type, pour-vector-type, pour-spaced, pour-spaced-none, pour-spaced-empty, pour-limit-value, pour-limit)

@@ -1,5 +1,5 @@
 -- Laws of writing pages: what becomes of a text where a page made of parts is written behind it.
-use Rattle.std.proofs.Common.{◌≡◌, ℕ, Bool, true, false, ◌+◌, List, [], ◌∷◌, ◌++◌, refl, sym, ◌∙◌, ap, add-zero, Option, None, Some}
+use Rattle.std.proofs.Common.{◌≡◌, ℕ, Bool, true, false, ◌+◌, List, [], ◌∷◌, ◌++◌, refl, sym, ◌∙◌, ap, add-zero, append-nil, Option, None, Some}
 use Rattle.vast_print.specs.declared.refusal.Refusal.{Refusal}
 use Rattle.vast_print.specs.Printed.{Printed, first_fault, plain_text, refused, ◌⊕◌}
 use Rattle.vast_print.specs.Page.{Page, print, print_lines, no_lines, line, one_line, inner, lead, above, beside, written, written_lines, note, commented, commented_lines}
@@ -100,6 +100,20 @@ pub pour-above : (d : ℕ) (k : Ink) (w : List ℕ) (q : Page) → pour d k (abo
 unfolding pour above line hang pour_lines hang_lines
 pour-above d k w q = refl
 
+-- a page that begins with a line, on lines of its own
+pub hang-line-above : (d : ℕ) (k : Ink) (w : List ℕ) (q : Page) → hang d k (above (line w) q) ≡ pour d (next d k) (above (line w) q)
+hang-line-above d k w q =
+    hang-above d k (line w) q ∙ (ap (λ j. hang d j q) (hang-line d k w) ∙ sym (pour-above d (next d k) w q))
+
+-- nothing below a page is the page
+pub pour-above-none : (d : ℕ) (k : Ink) (p : Page) → pour d k (above p no_lines) ≡ pour d k p
+unfolding pour above no_lines
+pour-above-none d k p = rw (append-nil p.lines) (go p.fault)
+  where
+    go : (f : Option Refusal) → stop (pour_lines d k p.lines) (first_fault f None) ≡ stop (pour_lines d k p.lines) f
+    go None = refl
+    go (Some r) = refl
+
 -- a text without line breaks is a word
 
 pub plain-word : (d : ℕ) (k : Ink) (w : List ℕ) → Unbroken w → pour d k (written (plain_text w)) ≡ word k w
@@ -149,10 +163,11 @@ whole-page p k h = go p.fault h
   where
     printed : (j : Draft) × (hang_lines 0 (Wet unwritten) p.lines ≡ Wet j) × (whole j ≡ whole unwritten ++ print_lines p.lines)
     printed = whole-print unwritten p.lines
+
     go : (f : Option Refusal) → stop (hang_lines 0 (Wet unwritten) p.lines) f ≡ Wet k → (f ≡ None) × (whole k ≡ print_lines p.lines)
     go None e =
-      let j : printed.0 ≡ k = cc (printed.1, e)
-      in (refl, ap whole (sym j) ∙ printed.2)
+        let j : printed.0 ≡ k = cc (printed.1, e)
+        in (refl, ap whole (sym j) ∙ printed.2)
     go (Some r) e = absurd (let b : stop (Wet printed.0) (Some r) ≡ Wet k = ap (λ x. stop x (Some r)) (sym printed.1) ∙ e in cc (b))
 
 pub whole-fault : (p : Page) (r : Refusal) → hang 0 (Wet unwritten) p ≡ Stopped r → p.fault ≡ Some r
@@ -161,6 +176,7 @@ whole-fault p r h = go p.fault h
   where
     printed : (j : Draft) × (hang_lines 0 (Wet unwritten) p.lines ≡ Wet j) × (whole j ≡ whole unwritten ++ print_lines p.lines)
     printed = whole-print unwritten p.lines
+
     go : (f : Option Refusal) → stop (hang_lines 0 (Wet unwritten) p.lines) f ≡ Stopped r → f ≡ Some r
     go None e = absurd (let b : Wet printed.0 ≡ Stopped r = sym printed.1 ∙ e in cc (b))
     go (Some s) e = let b : stop (Wet printed.0) (Some s) ≡ Stopped r = ap (λ x. stop x (Some s)) (sym printed.1) ∙ e in cc (b)
@@ -172,10 +188,11 @@ line-text p k h = go p.fault h
   where
     poured : (g : Bool) × (pour_lines 0 (Wet (flat [] true)) (written_lines p.text) ≡ Wet (flat ([] ++ p.text) g))
     poured = pour-flat [] true p.text
+
     go : (f : Option Refusal) → stop (pour_lines 0 (Wet (flat [] true)) (written_lines p.text)) f ≡ Wet k → (f ≡ None) × (k.text ≡ p.text)
     go None e =
-      let j : flat p.text poured.0 ≡ k = cc (poured.1, e)
-      in (refl, ap (λ (x : Draft). x.text) (sym j))
+        let j : flat p.text poured.0 ≡ k = cc (poured.1, e)
+        in (refl, ap (λ (x : Draft). x.text) (sym j))
     go (Some r) e = absurd (let b : stop (Wet (flat p.text poured.0)) (Some r) ≡ Wet k = ap (λ x. stop x (Some r)) (sym poured.1) ∙ e in cc (b))
 
 pub line-fault : (p : Printed) (r : Refusal) → pour 0 (next 0 (Wet unwritten)) (written p) ≡ Stopped r → p.fault ≡ Some r
@@ -184,6 +201,7 @@ line-fault p r h = go p.fault h
   where
     poured : (g : Bool) × (pour_lines 0 (Wet (flat [] true)) (written_lines p.text) ≡ Wet (flat ([] ++ p.text) g))
     poured = pour-flat [] true p.text
+
     go : (f : Option Refusal) → stop (pour_lines 0 (Wet (flat [] true)) (written_lines p.text)) f ≡ Stopped r → f ≡ Some r
     go None e = absurd (let b : Wet (flat p.text poured.0) ≡ Stopped r = sym poured.1 ∙ e in cc (b))
     go (Some s) e = let b : stop (Wet (flat p.text poured.0)) (Some s) ≡ Stopped r = ap (λ x. stop x (Some s)) (sym poured.1) ∙ e in cc (b)

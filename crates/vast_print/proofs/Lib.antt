@@ -4,6 +4,11 @@ pub mod WordLaws
 pub mod NumberLaws
 pub mod TextLaws
 pub mod DeclarationLaws
+pub mod StatementLaws
+pub mod ListLaws
+pub mod SeparatedLaws
 pub mod MemberLaws
+pub mod TypeLaws
+pub mod BareLaws
 pub mod ModuleLaws
 pub mod ArenaLaws

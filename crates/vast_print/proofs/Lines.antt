@@ -168,9 +168,9 @@ written-append [] b = beside-empty (written_lines b) (Flush-written b)
 written-append (c ∷ w) b = rw (written-append w b) (go (eqb c 10))
   where
     go :
-      (t : Bool) →
-      cond t (one_line [] ++ beside_lines (written_lines w) (written_lines b)) (beside_lines (one_line (c ∷ [])) (beside_lines (written_lines w) (written_lines b)))
-      ≡ beside_lines (cond t (one_line [] ++ written_lines w) (beside_lines (one_line (c ∷ [])) (written_lines w))) (written_lines b)
+        (t : Bool) →
+        cond t (one_line [] ++ beside_lines (written_lines w) (written_lines b)) (beside_lines (one_line (c ∷ [])) (beside_lines (written_lines w) (written_lines b)))
+        ≡ beside_lines (cond t (one_line [] ++ written_lines w) (beside_lines (one_line (c ∷ [])) (written_lines w))) (written_lines b)
     go true = sym (beside-break (written_lines w) (written_lines b) (Flush-written w))
     go false = sym (beside-cons c (written_lines w) (written_lines b) (Flush-written w))
 
@@ -207,8 +207,8 @@ written-one-line [] h = refl
 written-one-line (c ∷ w) h = go (eqb c 10) h (λ e. written-one-line w e)
   where
     go :
-      (b : Bool) → cond b false (unbroken w) ≡ true → (unbroken w ≡ true → written_lines w ≡ one_line w) →
-      cond b (one_line [] ++ written_lines w) (beside_lines (one_line (c ∷ [])) (written_lines w)) ≡ one_line (c ∷ w)
+        (b : Bool) → cond b false (unbroken w) ≡ true → (unbroken w ≡ true → written_lines w ≡ one_line w) →
+        cond b (one_line [] ++ written_lines w) (beside_lines (one_line (c ∷ [])) (written_lines w)) ≡ one_line (c ∷ w)
     go true e ih = absurd (cc (e))
     go false e ih = ap (λ p. beside_lines (one_line (c ∷ [])) p) (ih e)
 
@@ -237,9 +237,11 @@ uncut bs h = record { at = split_parts 10 bs None h (lit< tt) }
 whole-line : (d : ℕ) (k : Draft) (w : List ℕ) → (j : Draft) × (word (next d (Wet k)) w ≡ Wet j) × (whole j ≡ whole k ++ (indent d w ++ (w ++ (10 ∷ []))))
 unfolding whole word next
 whole-line d k [] = (record { text = cond k.begun (k.text ++ 10 ∷ []) k.text; depth = d; fresh = true; begun = true }, refl, refl)
-whole-line d k (c ∷ w) =
-    ( record { text = cond k.begun (k.text ++ 10 ∷ []) k.text ++ (margin (record { text = cond k.begun (k.text ++ 10 ∷ []) k.text; depth = d; fresh = true; begun = true }) ++ (c ∷ w)); depth = d; fresh = false; begun = true }
-    , refl, simp append_assoc )
+whole-line d k (c ∷ w) = (
+  record { text = cond k.begun (k.text ++ 10 ∷ []) k.text ++ (margin (record { text = cond k.begun (k.text ++ 10 ∷ []) k.text; depth = d; fresh = true; begun = true }) ++ (c ∷ w)); depth = d; fresh = false; begun = true },
+  refl,
+  simp append_assoc,
+)
 
 -- lines hung on a draft print behind it
 pub whole-print : (k : Draft) (p : List Line) → (j : Draft) × (hang_lines 0 (Wet k) p ≡ Wet j) × (whole j ≡ whole k ++ print_lines p)
@@ -266,16 +268,16 @@ pour-flat t f [] = (f, ap (λ x. Wet (flat x f)) (sym (append-nil t)))
 pour-flat t f (c ∷ w) = go (eqb c 10) refl (λ s h. pour-flat s h w)
   where
     go :
-      (b : Bool) → eqb c 10 ≡ b →
-      ((s : List ℕ) (h : Bool) → (g : Bool) × (pour_lines 0 (Wet (flat s h)) (written_lines w) ≡ Wet (flat (s ++ w) g))) →
-      (g : Bool) × (pour_lines 0 (Wet (flat t f)) (cond b (one_line [] ++ written_lines w) (beside_lines (one_line (c ∷ [])) (written_lines w))) ≡ Wet (flat (t ++ (c ∷ w)) g))
+        (b : Bool) → eqb c 10 ≡ b →
+        ((s : List ℕ) (h : Bool) → (g : Bool) × (pour_lines 0 (Wet (flat s h)) (written_lines w) ≡ Wet (flat (s ++ w) g))) →
+        (g : Bool) × (pour_lines 0 (Wet (flat t f)) (cond b (one_line [] ++ written_lines w) (beside_lines (one_line (c ∷ [])) (written_lines w))) ≡ Wet (flat (t ++ (c ∷ w)) g))
     go true e ih =
-      let h = ih (t ++ (10 ∷ [])) true in
-      let c10 : 10 ≡ c = sym (eqb-true c 10 e) in
-      let s : (t ++ (10 ∷ [])) ++ w ≡ t ++ (c ∷ w) = append_assoc t (10 ∷ []) w ∙ ap (λ x. t ++ (x ∷ w)) c10 in
-      (h.0, hang-flush 0 (Wet (flat t f)) (written_lines w) (Flush-written w) ∙ (h.1 ∙ ap (λ x. Wet (flat x h.0)) s))
+        let h = ih (t ++ (10 ∷ [])) true in
+        let c10 : 10 ≡ c = sym (eqb-true c 10 e) in
+        let s : (t ++ (10 ∷ [])) ++ w ≡ t ++ (c ∷ w) = append_assoc t (10 ∷ []) w ∙ ap (λ x. t ++ (x ∷ w)) c10 in
+        (h.0, hang-flush 0 (Wet (flat t f)) (written_lines w) (Flush-written w) ∙ (h.1 ∙ ap (λ x. Wet (flat x h.0)) s))
     go false e ih =
-      let h = ih (t ++ (c ∷ [])) false in
-      let s : (t ++ (c ∷ [])) ++ w ≡ t ++ (c ∷ w) = append_assoc t (c ∷ []) w in
-      let m : word (Wet (flat t f)) (c ∷ []) ≡ Wet (flat (t ++ (c ∷ [])) false) = ap (λ x. Wet (flat (t ++ (x ++ (c ∷ []))) false)) (no-margin t f) in
-      (h.0, pour-lines-beside 0 (Wet (flat t f)) (one_line (c ∷ [])) (written_lines w) ∙ (ap (λ x. pour_lines 0 x (written_lines w)) m ∙ (h.1 ∙ ap (λ x. Wet (flat x h.0)) s)))
+        let h = ih (t ++ (c ∷ [])) false in
+        let s : (t ++ (c ∷ [])) ++ w ≡ t ++ (c ∷ w) = append_assoc t (c ∷ []) w in
+        let m : word (Wet (flat t f)) (c ∷ []) ≡ Wet (flat (t ++ (c ∷ [])) false) = ap (λ x. Wet (flat (t ++ (x ++ (c ∷ []))) false)) (no-margin t f) in
+        (h.0, pour-lines-beside 0 (Wet (flat t f)) (one_line (c ∷ [])) (written_lines w) ∙ (ap (λ x. pour_lines 0 x (written_lines w)) m ∙ (h.1 ∙ ap (λ x. Wet (flat x h.0)) s)))

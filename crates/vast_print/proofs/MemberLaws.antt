@@ -1,15 +1,20 @@
 -- Laws of writing the members of modules and loops, one for each case.
 use Rattle.std.proofs.Common.{◌≡◌, ◌<◌, ◌≤◌, ℕ, zero, suc, ◌+◌, Bool, true, false, List, [], ◌∷◌, length, get_or, map, drop, refl, sym, ◌∙◌, ap, codes, arith, add-one, Option, Some, None}
-use Rattle.vast_literal.specs.Tree.{Dialect, ExprTree, Declaration, Kind, TypeTree}
-use Rattle.vast_literal.specs.Tree.{MemberTree, DeclarationMember, AssignMember, CommentMember, BlankMember, InlineMember, Members, NoMembers, MoreMembers}
-use Rattle.vast_print.specs.Printed.{Printed, plain_text, ◌⊕◌}
-use Rattle.vast_print.specs.Page.{Page, written, commented}
+use Rattle.vast_literal.specs.Tree.{Dialect, ExprTree, MaybeExpr, NoExpr, SomeExpr, Exprs, Declaration, Kind, TypeTree, LtOp, Statements, Alternates, ConditionalTree, AlwaysFFWord, AlwaysAtWord, AlwaysCombWord, ParameterName, PlainParameter, IntParameter, DefinedParameter, Connection, InstanceTree, FunctionTree}
+use Rattle.vast_literal.specs.Tree.{MemberTree, DeclarationMember, AssignMember, ParameterMember, CommentMember, BlankMember, InlineMember, MacroMember, InstanceMember, AlwaysMember, ConditionalMember, FunctionMember, LoopMember, Members, NoMembers, MoreMembers}
+use Rattle.vast_print.specs.Printed.{Printed, plain_text, ◌⊕◌, wrapped}
+use Rattle.vast_print.specs.Page.{Page, line, inner, above, beside, written, commented}
 use Rattle.vast_print.specs.Ink.{Ink, word, next, hang, pour}
+use Rattle.vast_print.specs.Levels.{right_child_wraps}
 use Rattle.vast_print.specs.Text.{expr_text}
-use Rattle.vast_print.specs.Declaration.{declaration_text}
-use Rattle.vast_print.specs.Members.{member_page, members_page}
-use Rattle.vast_print.proofs.Laws.{hang-none, hang-blank, hang-above, hang-written, pour-then, pour-empty}
+use Rattle.vast_print.specs.Declaration.{declaration_text, port_declaration_text, result_kind}
+use Rattle.vast_print.specs.Statements.{statement_page, statements_page, block_page}
+use Rattle.vast_print.specs.Members.{entries_page, parameter_word, parameter_text, semicolon_text, connection_text, connections_page, instance_head_page, instance_page, events_text, always_text, input_text, inputs_text, local_page, locals_page, is_one_casez, function_body_page, function_page, loop_label_text, loop_text, member_page, members_page}
+use Rattle.vast_print.specs.Words.{always_ff_opening, always_at_opening, always_comb_opening, function_opening, endfunction_word, for_opening, step_word}
+use Rattle.vast_print.proofs.Lines.{word-word}
+use Rattle.vast_print.proofs.Laws.{hang-line, hang-none, hang-blank, hang-above, hang-beside, hang-inner, hang-written, pour-then, pour-empty, pour-word}
 use Rattle.vast_print.proofs.WordLaws.{words}
+use Rattle.vast_print.proofs.StatementLaws.{hang-block}
 
 -- members below each other
 
@@ -48,4 +53,158 @@ pub hang-inline-member : (d : ℕ) (k : Ink) (dialect : Dialect) (text : List �
 unfolding member_page
 hang-inline-member d k dialect text = hang-written d k (plain_text text)
 
-pub ruleset members = (hang-members-none, hang-declaration, hang-assign-member, hang-comment-member, hang-blank-member, hang-inline-member)
+pub hang-conditional-member : (d : ℕ) (k : Ink) (dialect : Dialect) (c : ExprTree) (b : Statements) (rest : Alternates) →
+    hang d k (member_page dialect (ConditionalMember c b rest)) ≡ hang d k (statement_page (ConditionalTree c b rest))
+unfolding member_page
+hang-conditional-member d k dialect c b rest = refl
+
+-- parameters
+
+pour-parameter-word : (d : ℕ) (k : Ink) (local : Bool) → pour d k (written (plain_text (parameter_word local))) ≡ word k (parameter_word local)
+pour-parameter-word d k true = pour-word d k (codes "localparam ") refl
+pour-parameter-word d k false = pour-word d k (codes "parameter ") refl
+
+pub hang-parameter : (d : ℕ) (k : Ink) (dialect : Dialect) (local : Bool) (parameter : ParameterName) (v : ExprTree) →
+    hang d k (member_page dialect (ParameterMember local parameter v))
+    ≡ word (pour d (word (pour d (word (next d k) (parameter_word local)) (written (parameter_text dialect parameter))) (codes " = ")) (written (expr_text v))) (codes ";")
+unfolding member_page
+hang-parameter d k dialect local parameter v = hang-written d k _ ∙ simp (pour-then, pour-parameter-word, words)
+
+pub pour-plain-parameter : (d : ℕ) (k : Ink) (dialect : Dialect) (name : List ℕ) → pour d k (written (parameter_text dialect (PlainParameter name))) ≡ pour d k (written (plain_text name))
+pour-plain-parameter d k dialect name = refl
+
+pub pour-int-parameter : (d : ℕ) (k : Ink) (dialect : Dialect) (name : List ℕ) → pour d k (written (parameter_text dialect (IntParameter name))) ≡ pour d (word k (codes "int ")) (written (plain_text name))
+pour-int-parameter d k dialect name = simp (pour-then, words)
+
+-- macros
+
+pour-semicolon-text : (d : ℕ) (k : Ink) (semicolon : Bool) → pour d k (written (plain_text (semicolon_text semicolon))) ≡ word k (semicolon_text semicolon)
+pour-semicolon-text d k true = pour-word d k (codes ";") refl
+pour-semicolon-text d k false = pour-word d k [] refl
+
+pub hang-macro : (d : ℕ) (k : Ink) (dialect : Dialect) (call : ExprTree) (semicolon : Bool) →
+    hang d k (member_page dialect (MacroMember call semicolon)) ≡ word (pour d (next d k) (written (expr_text call))) (semicolon_text semicolon)
+unfolding member_page
+hang-macro d k dialect call semicolon = hang-written d k _ ∙ simp (pour-then, pour-semicolon-text)
+
+-- instantiations
+
+pub hang-instance : (d : ℕ) (k : Ink) (dialect : Dialect) (i : InstanceTree) →
+    hang d k (member_page dialect (InstanceMember i))
+    ≡ word (next d (hang d (hang d k (instance_head_page i.module_name i.parameters i.instance_name)) (connections_page i.connections))) (codes ");")
+unfolding member_page instance_page
+hang-instance d k dialect i = simp (hang-above, hang-line)
+
+pub hang-instance-head : (d : ℕ) (k : Ink) (name instance : List ℕ) →
+    hang d k (instance_head_page name [] instance)
+    ≡ word (pour d (word (pour d (next d k) (written (plain_text name))) (codes " ")) (written (plain_text instance))) (codes " (")
+unfolding instance_head_page
+hang-instance-head d k name instance = hang-written d k _ ∙ simp (pour-then, words)
+
+pub hang-instance-parameters : (d : ℕ) (k : Ink) (name instance : List ℕ) (cs : List Connection) → 0 < length cs →
+    hang d k (instance_head_page name cs instance)
+    ≡ word (pour d (word (next d (hang d (word (pour d (next d k) (written (plain_text name))) (codes " #(")) (entries_page (map connection_text cs)))) (codes ") ")) (written (plain_text instance))) (codes " (")
+unfolding instance_head_page
+hang-instance-parameters d k name instance [] h = absurd (omega arith)
+hang-instance-parameters d k name instance (c ∷ cs) h = simp (hang-above, hang-written, pour-then, words)
+
+pub hang-no-connections : (d : ℕ) (k : Ink) → hang d k (connections_page []) ≡ next d k
+unfolding connections_page
+hang-no-connections d k = hang-blank d k
+
+pub hang-connections : (d : ℕ) (k : Ink) (cs : List Connection) → 0 < length cs → hang d k (connections_page cs) ≡ hang d k (entries_page (map connection_text cs))
+unfolding connections_page
+hang-connections d k [] h = absurd (omega arith)
+hang-connections d k (c ∷ cs) h = refl
+
+pub pour-connection : (d : ℕ) (k : Ink) (name : List ℕ) (e : ExprTree) →
+    pour d k (written (connection_text (record { name = name; value = SomeExpr e })))
+    ≡ word (pour d (word (pour d (word k (codes ".")) (written (plain_text name))) (codes "(")) (written (expr_text e))) (codes ")")
+unfolding connection_text
+pour-connection d k name e = simp (pour-then, words)
+
+pub pour-open-connection : (d : ℕ) (k : Ink) (name : List ℕ) →
+    pour d k (written (connection_text (record { name = name; value = NoExpr })))
+    ≡ word (pour d (word k (codes ".")) (written (plain_text name))) (codes "()")
+unfolding connection_text
+pour-open-connection d k name = simp (pour-then, pour-empty, words, word-word)
+
+-- always blocks
+
+pub hang-always-ff : (d : ℕ) (k : Ink) (dialect : Dialect) (events : Exprs) (b : Statements) →
+    hang d k (member_page dialect (AlwaysMember AlwaysFFWord events b))
+    ≡ pour d (word (pour d (word (next d k) always_ff_opening) (written (events_text events))) (codes ") ")) (block_page b)
+unfolding member_page always_text
+hang-always-ff d k dialect events b = hang-beside d k _ _ ∙ simp (pour-then, words)
+
+pub hang-always-at : (d : ℕ) (k : Ink) (dialect : Dialect) (events : Exprs) (b : Statements) →
+    hang d k (member_page dialect (AlwaysMember AlwaysAtWord events b))
+    ≡ pour d (word (pour d (word (next d k) always_at_opening) (written (events_text events))) (codes ") ")) (block_page b)
+unfolding member_page always_text
+hang-always-at d k dialect events b = hang-beside d k _ _ ∙ simp (pour-then, words)
+
+pub hang-always-comb : (d : ℕ) (k : Ink) (dialect : Dialect) (events : Exprs) (b : Statements) →
+    hang d k (member_page dialect (AlwaysMember AlwaysCombWord events b)) ≡ pour d (word (next d k) always_comb_opening) (block_page b)
+unfolding member_page always_text
+hang-always-comb d k dialect events b = hang-beside d k _ _ ∙ simp words
+
+-- functions
+
+pub hang-function-member : (d : ℕ) (k : Ink) (dialect : Dialect) (f : FunctionTree) → hang d k (member_page dialect (FunctionMember f)) ≡ hang d k (function_page dialect f)
+unfolding member_page
+hang-function-member d k dialect f = refl
+
+pub hang-function : (d : ℕ) (k : Ink) (dialect : Dialect) (f : FunctionTree) →
+    hang d k (function_page dialect f)
+    ≡ word (next d (hang (d + 1) (hang (d + 1)
+    (word (pour d (word (pour d (word (next d k) function_opening) (written (declaration_text dialect (result_kind dialect f.result) f.result f.name))) (codes " (")) (written (inputs_text dialect f.inputs))) (codes ");"))
+    (locals_page dialect f.locals)) (function_body_page f.body))) endfunction_word
+unfolding function_page endfunction_word
+hang-function d k dialect f = simp (hang-above, hang-written, pour-then, words, hang-inner, hang-line)
+
+pub hang-local : (d : ℕ) (k : Ink) (dialect : Dialect) (declared : Declaration) →
+    hang d k (local_page dialect declared) ≡ word (pour d (next d k) (written (declaration_text dialect declared.kind declared.type declared.name))) (codes ";")
+unfolding local_page
+hang-local d k dialect declared = hang-written d k _ ∙ simp (pour-then, words)
+
+pub hang-body-block : (d : ℕ) (k : Ink) (b : Statements) → is_one_casez b ≡ false → hang d k (function_body_page b) ≡ pour d (next d k) (block_page b)
+unfolding function_body_page
+hang-body-block d k b h = rw h (hang-block d k b)
+
+pub hang-body-casez : (d : ℕ) (k : Ink) (b : Statements) → is_one_casez b ≡ true → hang d k (function_body_page b) ≡ hang d k (statements_page b)
+unfolding function_body_page
+hang-body-casez d k b h = rw h refl
+
+pub pour-input-text : (d : ℕ) (k : Ink) (dialect : Dialect) (declared : Declaration) →
+    pour d k (written (input_text dialect declared)) ≡ pour d (word k (codes "input ")) (written (port_declaration_text dialect declared))
+unfolding input_text
+pour-input-text d k dialect declared = simp (pour-then, words)
+
+-- loops
+
+pub hang-loop : (d : ℕ) (k : Ink) (dialect : Dialect) (i : List ℕ) (start end : ExprTree) (label : Option (List ℕ)) (ms : Members) →
+    hang d k (member_page dialect (LoopMember i start end label ms))
+    ≡ word (next d (hang (d + 1) (pour d (next d k) (written (loop_text i start end label))) (members_page dialect ms))) (codes "end")
+unfolding member_page members_page
+hang-loop d k dialect i start end label ms = simp (hang-above, hang-written, hang-inner, hang-line)
+
+pub pour-loop : (d : ℕ) (k : Ink) (i : List ℕ) (start end : ExprTree) (label : Option (List ℕ)) →
+    pour d k (written (loop_text i start end label))
+    ≡ pour d (word (pour d (word (pour d (word (pour d (word (pour d (word (pour d (word (pour d (word k for_opening) (written (plain_text i))) (codes " = ")) (written (expr_text start))) (codes "; "))
+    (written (plain_text i))) (codes " < ")) (written (wrapped (right_child_wraps LtOp end) (expr_text end)))) (codes "; ")) (written (plain_text i))) (codes " = ")) (written (plain_text i))) step_word) (written (loop_label_text label))
+unfolding loop_text
+pour-loop d k i start end label = simp (pour-then, words)
+
+pub pour-label-text : (d : ℕ) (k : Ink) (label : List ℕ) → pour d k (written (loop_label_text (Some label))) ≡ pour d (word k (codes " : ")) (written (plain_text label))
+pour-label-text d k label = simp (pour-then, words)
+
+pub pour-no-label : (d : ℕ) (k : Ink) → pour d k (written (loop_label_text None)) ≡ k
+pour-no-label d k = pour-empty d k
+
+pub ruleset members = (hang-members-none, hang-declaration, hang-assign-member, hang-comment-member, hang-blank-member, hang-inline-member, hang-conditional-member, hang-parameter, pour-plain-parameter, pour-int-parameter, hang-macro, hang-always-ff, hang-always-at, hang-always-comb, hang-function-member, hang-loop, pour-label-text, pour-no-label)
+
+pub ruleset instances = (hang-instance, hang-instance-head, hang-instance-parameters, hang-no-connections, hang-connections, pour-connection, pour-open-connection)
+
+pub ruleset functions = (hang-function, hang-local, hang-body-block, hang-body-casez, pour-input-text)
+
+pub ruleset loops = (pour-loop, pour-label-text, pour-no-label)

@@ -10,6 +10,7 @@ use Rattle.vast_print.specs.Ink.{Ink, word, next, hang, pour, hang_lines, pour_l
 use Rattle.vast_print.specs.Words.{comma, endmodule_word, include_opening}
 use Rattle.vast_print.specs.Members.{entries_page, members_page}
 use Rattle.vast_print.specs.Layout.{port_text, parameter_port_text, ports_page, parameter_ports_page, opening_page, header_page, body_page, module_page, item_page, items_page, layout}
+use Rattle.vast_print.proofs.ListLaws.{entries-end, entries-step}
 use Rattle.vast_print.proofs.Laws.{hang-line, pour-line, hang-none, hang-blank, hang-above, hang-inner, hang-written, hang-lead, pour-then, pour-empty}
 use Rattle.vast_print.proofs.Lines.{word-nothing}
 use Rattle.vast_print.proofs.WordLaws.{words, pour-comma}
@@ -98,32 +99,6 @@ unfolding header_page
 hang-header-both d k dialect name [] qs h i = absurd (omega arith)
 hang-header-both d k dialect name (p ∷ ps) [] h i = absurd (omega arith)
 hang-header-both d k dialect name (p ∷ ps) (q ∷ qs) h i = simp (hang-above, hang-opening, hang-line, words)
-
--- the entries of a list of parts
-
-ltb-suc : (a b : ℕ) → ltb (suc (suc a)) (suc b) ≡ ltb (suc a) b
-ltb-suc a b = grind (arith, nat_tests)
-
-entries-end : {A B : Type 0} (w : B → Printed) (v : A → B) (d : ℕ) (k : Ink) (xs : List A) (i : ℕ) → length xs ≤ i → hang d k (entries_page (map w (map v (drop i xs)))) ≡ k
-unfolding entries_page
-entries-end w v d k xs i h = ap (λ x. hang d k (entries_page (map w (map v x)))) (drop_all i xs h) ∙ hang-none d k
-
-entries-step :
-    {A B : Type 0} (w : B → Printed) (v : A → B) (d : ℕ) (k : Ink) (xs : List A) (i : ℕ) (x : A) → i < length xs → x ≡ get_or xs i x →
-    hang d k (entries_page (map w (map v (drop i xs))))
-    ≡ hang d (word (pour d (next (d + 1) k) (written (w (v x)))) (comma (ltb (i + 1) (length xs)))) (entries_page (map w (map v (drop (i + 1) xs))))
-unfolding entries_page
-entries-step w v d k [] i x h e = absurd (omega arith)
-entries-step w v d k (y ∷ []) zero x h e =
-    rw e (hang-lead d k (w (v y)) ∙ sym (hang-none d (word (pour d (next (d + 1) k) (written (w (v y)))) []) ∙ word-nothing (pour d (next (d + 1) k) (written (w (v y))))))
-entries-step w v d k (y ∷ z ∷ xs) zero x h e =
-    let t : ltb (0 + 1) (length (y ∷ z ∷ xs)) ≡ true = lt-ltb (0 + 1) (length (y ∷ z ∷ xs)) (omega arith) in
-    rw (e, t)
-    (hang-above d k (lead (written (w (v y) ⊕ plain_text (codes ",")))) (entries_page (map w (map v (z ∷ xs))))
-    ∙ ap (λ j. hang d j (entries_page (map w (map v (z ∷ xs)))))
-      (hang-lead d k (w (v y) ⊕ plain_text (codes ",")) ∙ (pour-then d (next (d + 1) k) (w (v y)) (plain_text (codes ",")) ∙ pour-comma d (pour d (next (d + 1) k) (written (w (v y)))))))
-entries-step w v d k (y ∷ xs) (suc i) x h e =
-    rw (add-one (suc i)) (rw (ltb-suc i (length xs)) (rw (add-one i) at (entries-step w v d k xs i x (omega arith) e)))
 
 pub ports-end : {A : Type 0} (dialect : Dialect) (v : A → PortTree) (d : ℕ) (k : Ink) (xs : List A) (i : ℕ) → length xs ≤ i → hang d k (ports_page dialect (map v (drop i xs))) ≡ k
 unfolding ports_page

@@ -23,8 +23,8 @@ digits-unbroken (suc k) n acc h =
     go (n / 10 == 0) (glyph-unbroken (n % 10) acc h) (digits-unbroken k (n / 10) (digit_glyph false (n % 10) ∷ acc) (glyph-unbroken (n % 10) acc h))
   where
     go :
-      (b : Bool) → unbroken (digit_glyph false (n % 10) ∷ acc) ≡ true → unbroken (digits_onto k 10 false (n / 10) (digit_glyph false (n % 10) ∷ acc)) ≡ true →
-      unbroken (if b then digit_glyph false (n % 10) ∷ acc else digits_onto k 10 false (n / 10) (digit_glyph false (n % 10) ∷ acc)) ≡ true
+        (b : Bool) → unbroken (digit_glyph false (n % 10) ∷ acc) ≡ true → unbroken (digits_onto k 10 false (n / 10) (digit_glyph false (n % 10) ∷ acc)) ≡ true →
+        unbroken (if b then digit_glyph false (n % 10) ∷ acc else digits_onto k 10 false (n / 10) (digit_glyph false (n % 10) ∷ acc)) ≡ true
     go true a b = a
     go false a b = b
 
@@ -43,8 +43,8 @@ digits-some zero n c acc = refl
 digits-some (suc k) n c acc = go (n / 10 == 0) (digits-some k (n / 10) (digit_glyph false (n % 10)) (c ∷ acc))
   where
     go :
-      (b : Bool) → has_text (digits_onto k 10 false (n / 10) (digit_glyph false (n % 10) ∷ c ∷ acc)) ≡ true →
-      has_text (if b then digit_glyph false (n % 10) ∷ c ∷ acc else digits_onto k 10 false (n / 10) (digit_glyph false (n % 10) ∷ c ∷ acc)) ≡ true
+        (b : Bool) → has_text (digits_onto k 10 false (n / 10) (digit_glyph false (n % 10) ∷ c ∷ acc)) ≡ true →
+        has_text (if b then digit_glyph false (n % 10) ∷ c ∷ acc else digits_onto k 10 false (n / 10) (digit_glyph false (n % 10) ∷ c ∷ acc)) ≡ true
     go true h = refl
     go false h = h
 
@@ -53,8 +53,8 @@ unfolding digits
 decimal-some n = go (n / 10 == 0) (digits-some 63 (n / 10) (digit_glyph false (n % 10)) [])
   where
     go :
-      (b : Bool) → has_text (digits_onto 63 10 false (n / 10) (digit_glyph false (n % 10) ∷ [])) ≡ true →
-      has_text (if b then digit_glyph false (n % 10) ∷ [] else digits_onto 63 10 false (n / 10) (digit_glyph false (n % 10) ∷ [])) ≡ true
+        (b : Bool) → has_text (digits_onto 63 10 false (n / 10) (digit_glyph false (n % 10) ∷ [])) ≡ true →
+        has_text (if b then digit_glyph false (n % 10) ∷ [] else digits_onto 63 10 false (n / 10) (digit_glyph false (n % 10) ∷ [])) ≡ true
     go true h = refl
     go false h = h
 
@@ -75,7 +75,7 @@ pub onto-number : (k j : Draft) (z : ℤ) (u : List ℕ) → j ≡ onto k [] →
     word (Wet k) (signed_decimal z) ≡ Wet (record { text = u; depth = j.depth; fresh = j.fresh; begun = j.begun })
 onto-number k j z u e f =
     let a : j.text ++ signed_decimal z ≡ k.text ++ (margin k ++ signed_decimal z) =
-      ap (λ (x : Draft). x.text ++ signed_decimal z) e ∙ simp (append_assoc, append-nil) in
+    ap (λ (x : Draft). x.text ++ signed_decimal z) e ∙ simp (append_assoc, append-nil) in
     let b : u ≡ k.text ++ (margin k ++ signed_decimal z) = f ∙ a in
     word-number k z
     ∙ sym (rw (b, e) refl)

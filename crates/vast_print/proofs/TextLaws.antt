@@ -13,13 +13,14 @@ use Rattle.vast_print.specs.Page.{written}
 use Rattle.vast_print.specs.Draft.{Draft}
 use Rattle.vast_print.specs.Ink.{Ink, Wet, Stopped, word, pour}
 use Rattle.vast_print.specs.Levels.{unary_sign_text, binary_sign_text, is_scalar_name, is_zero, unary_wraps, left_child_wraps, right_child_wraps, ternary_wraps, select_wraps}
-use Rattle.vast_print.specs.Bare.{is_bare}
+use Rattle.vast_print.specs.Bare.{is_bare, is_bare_head}
 use Rattle.vast_print.specs.Text.{elided, cast_to, width_cast, sign_cast, scalar_cast, number_cast, package_text, expr_text, arguments_text, replicated, list_text, more_text, type_cast}
 use Rattle.vast_print.specs.Words.{cast_sign_word, scalar_cast_opening, scalar_cast_closing, number_cast_opening, number_cast_closing}
 use Rattle.vast_print.proofs.Laws.{pour-then, pour-empty, pour-word, pour-refused}
 use Rattle.vast_print.proofs.Lines.{word-word}
 use Rattle.vast_print.proofs.WordLaws.{words}
 use Rattle.vast_print.proofs.NumberLaws.{pour-number}
+use Rattle.vast_print.proofs.BareLaws.{bare-head}
 
 -- parentheses
 
@@ -201,9 +202,11 @@ pour-cast-by d k w p = pour-cast-to d k (wrapped (not (is_bare w.text)) w) p
 
 pub pour-width-cast : (d : ℕ) (k : Ink) (w e : ExprTree) →
     pour d k (written (expr_text (WidthCastTree w e)))
-    ≡ word (pour d (word (pour d k (written (wrapped (not (is_bare (expr_text w).text)) (expr_text w)))) (codes "'(")) (written (expr_text e))) (codes ")")
+    ≡ word (pour d (word (pour d k (written (wrapped (not (is_bare_head w)) (expr_text w)))) (codes "'(")) (written (expr_text e))) (codes ")")
 unfolding expr_text
-pour-width-cast d k w e = pour-cast-by d k (expr_text w) (expr_text e)
+pour-width-cast d k w e =
+    pour-cast-by d k (expr_text w) (expr_text e)
+    ∙ ap (λ b. word (pour d (word (pour d k (written (wrapped (not b) (expr_text w)))) (codes "'(")) (written (expr_text e))) (codes ")")) (bare-head w)
 
 pub pour-type-cast : (d : ℕ) (k : Ink) (t : TypeTree) (e : ExprTree) → pour d k (written (expr_text (TypeCastTree t e))) ≡ pour d k (written (type_cast t (expr_text e)))
 unfolding expr_text
@@ -217,10 +220,14 @@ pour-scalar-cast d k false p = simp (pour-cast-to, words, word-word)
 
 pub pour-vector-cast : (d : ℕ) (k : Ink) (w : ExprTree) (v : Option ℤ) (signed : Bool) (p : Printed) →
     pour d k (written (type_cast (VectorTree w v signed) p))
-    ≡ word (pour d (word (pour d (word k (cast_sign_word signed)) (written (wrapped (not (is_bare (expr_text w).text)) (expr_text w)))) (codes "'(")) (written p)) (codes "))")
+    ≡ word (pour d (word (pour d (word k (cast_sign_word signed)) (written (wrapped (not (is_bare_head w)) (expr_text w)))) (codes "'(")) (written p)) (codes "))")
 unfolding type_cast
-pour-vector-cast d k w v true p = simp (pour-cast-to, pour-cast-by, words, word-word)
-pour-vector-cast d k w v false p = simp (pour-cast-to, pour-cast-by, words, word-word)
+pour-vector-cast d k w v true p =
+    simp (pour-cast-to, pour-cast-by, words, word-word)
+    (ap (λ b. word (pour d (word (pour d (word k (codes "signed'(")) (written (wrapped (not b) (expr_text w)))) (codes "'(")) (written p)) (codes "))")) (bare-head w))
+pour-vector-cast d k w v false p =
+    simp (pour-cast-to, pour-cast-by, words, word-word)
+    (ap (λ b. word (pour d (word (pour d (word k (codes "unsigned'(")) (written (wrapped (not b) (expr_text w)))) (codes "'(")) (written p)) (codes "))")) (bare-head w))
 
 pub pour-integer-cast : (d : ℕ) (k : Ink) (signed : Bool) (p : Printed) →
     pour d k (written (type_cast (IntegerTree signed) p)) ≡ word (pour d (word k (number_cast_opening (codes "integer") signed)) (written p)) (number_cast_closing signed)

@@ -3,7 +3,7 @@ use Rattle.std.proofs.Common.{◌≡◌, ℕ, List, codes, refl}
 use Rattle.vast_print.specs.Printed.{plain_text}
 use Rattle.vast_print.specs.Page.{written}
 use Rattle.vast_print.specs.Ink.{Ink, word, pour}
-use Rattle.vast_print.specs.Words.{else_if_opening, parameter_opening, localparam_opening, include_opening, function_opening, for_opening, step_word, always_ff_opening, always_at_opening, always_comb_opening}
+use Rattle.vast_print.specs.Words.{else_if_opening, parameter_opening, include_opening, function_opening, for_opening, step_word, always_ff_opening, always_at_opening, always_comb_opening}
 use Rattle.vast_print.proofs.Laws.{pour-word}
 
 pub pour-paren : (d : ℕ) (k : Ink) → pour d k (written (plain_text (codes "("))) ≡ word k (codes "(")
@@ -170,10 +170,6 @@ pub pour-parameter : (d : ℕ) (k : Ink) → pour d k (written (plain_text (code
 unfolding parameter_opening
 pour-parameter d k = pour-word d k (codes "parameter ") refl
 
-pub pour-localparam : (d : ℕ) (k : Ink) → pour d k (written (plain_text (codes "localparam "))) ≡ word k localparam_opening
-unfolding localparam_opening
-pour-localparam d k = pour-word d k (codes "localparam ") refl
-
 pub pour-include : (d : ℕ) (k : Ink) → pour d k (written (plain_text (codes "`include \""))) ≡ word k include_opening
 unfolding include_opening
 pour-include d k = pour-word d k (codes "`include \"") refl
@@ -202,4 +198,4 @@ pub pour-always-comb : (d : ℕ) (k : Ink) → pour d k (written (plain_text (co
 unfolding always_comb_opening
 pour-always-comb d k = pour-word d k (codes "always_comb ") refl
 
-pub ruleset words = (pour-paren, pour-close, pour-comma, pour-comma-space, pour-space, pour-semicolon, pour-assign, pour-equals, pour-arrow, pour-module, pour-hash, pour-space-paren, pour-end-list, pour-bracket, pour-close-bracket, pour-colon, pour-part, pour-brace, pour-close-brace, pour-pattern, pour-posedge, pour-negedge, pour-backtick, pour-question, pour-alternative, pour-cast, pour-signed, pour-unsigned, pour-logic, pour-integer, pour-int, pour-scope, pour-range-end, pour-minus-one, pour-unpacked, pour-input, pour-output, pour-inout, pour-int-name, pour-or, pour-default, pour-label, pour-if, pour-if-close, pour-unique, pour-case, pour-casez, pour-casex, pour-less, pour-next, pour-dot, pour-quote, pour-else-if, pour-parameter, pour-localparam, pour-include, pour-function, pour-for, pour-step, pour-always-ff, pour-always-at, pour-always-comb)
+pub ruleset words = (pour-paren, pour-close, pour-comma, pour-comma-space, pour-space, pour-semicolon, pour-assign, pour-equals, pour-arrow, pour-module, pour-hash, pour-space-paren, pour-end-list, pour-bracket, pour-close-bracket, pour-colon, pour-part, pour-brace, pour-close-brace, pour-pattern, pour-posedge, pour-negedge, pour-backtick, pour-question, pour-alternative, pour-cast, pour-signed, pour-unsigned, pour-logic, pour-integer, pour-int, pour-scope, pour-range-end, pour-minus-one, pour-unpacked, pour-input, pour-output, pour-inout, pour-int-name, pour-or, pour-default, pour-label, pour-if, pour-if-close, pour-unique, pour-case, pour-casez, pour-casex, pour-less, pour-next, pour-dot, pour-quote, pour-else-if, pour-parameter, pour-include, pour-function, pour-for, pour-step, pour-always-ff, pour-always-at, pour-always-comb)

@@ -23,7 +23,7 @@ typed_text dialect (Typed t) name = declaration_text dialect (base_kind (base_of
 
 unfoldable pub parameter_port_text : Dialect → ParameterPortTree → Printed
 parameter_port_text dialect p =
-  plain_text (codes "parameter ") ⊕ typed_text dialect p.type p.name ⊕ plain_text (codes " = ") ⊕ expr_text p.value
+    plain_text (codes "parameter ") ⊕ typed_text dialect p.type p.name ⊕ plain_text (codes " = ") ⊕ expr_text p.value
 
 unfoldable pub ports_page : Dialect → List PortTree → Page
 ports_page dialect ports = entries_page (map (port_text dialect) ports)
@@ -38,12 +38,12 @@ opening_page name end = written (plain_text (codes "module ") ⊕ plain_text nam
 unfoldable pub header_page : Dialect → (name : List ℕ) → List ParameterPortTree → List PortTree → Page
 header_page dialect name [] [] = opening_page name (codes ";")
 header_page dialect name [] (q ∷ qs) =
-  above (opening_page name (codes "(")) (above (ports_page dialect (q ∷ qs)) (line (codes ");")))
+    above (opening_page name (codes "(")) (above (ports_page dialect (q ∷ qs)) (line (codes ");")))
 header_page dialect name (p ∷ ps) [] =
-  above (opening_page name (codes " #(")) (above (parameter_ports_page dialect (p ∷ ps)) (line (codes ");")))
+    above (opening_page name (codes " #(")) (above (parameter_ports_page dialect (p ∷ ps)) (line (codes ");")))
 header_page dialect name (p ∷ ps) (q ∷ qs) =
-  above (opening_page name (codes " #("))
-  (above (parameter_ports_page dialect (p ∷ ps)) (above (line (codes ") (")) (above (ports_page dialect (q ∷ qs)) (line (codes ");")))))
+    above (opening_page name (codes " #("))
+    (above (parameter_ports_page dialect (p ∷ ps)) (above (line (codes ") (")) (above (ports_page dialect (q ∷ qs)) (line (codes ");")))))
 
 -- a module without members has one empty line in their place
 unfoldable pub body_page : Dialect → Members → Page
@@ -52,7 +52,7 @@ body_page dialect (MoreMembers m ms) = inner (members_page dialect (MoreMembers 
 
 unfoldable pub module_page : Dialect → ModuleTree → Page
 module_page dialect m =
-  above (header_page dialect m.name m.parameters m.ports) (above (body_page dialect m.members) (line (codes "endmodule")))
+    above (header_page dialect m.name m.parameters m.ports) (above (body_page dialect m.members) (line (codes "endmodule")))
 
 unfoldable pub item_page : Dialect → FileItemTree → Page
 item_page dialect (ModuleItem m) = module_page dialect m

@@ -43,16 +43,16 @@ unfoldable pub connections_page : List Connection → Page
 connections_page [] = line []
 connections_page (c ∷ cs) = entries_page (map connection_text (c ∷ cs))
 
--- up to the instance's name; parameters stand before it
-unfoldable pub instance_opening_page : (module_name : List ℕ) → List Connection → Page
-instance_opening_page name [] = written (plain_text name ⊕ plain_text (codes " "))
-instance_opening_page name (c ∷ cs) =
-  above (written (plain_text name ⊕ plain_text (codes " #("))) (above (entries_page (map connection_text (c ∷ cs))) (line (codes ") ")))
+-- up to the list of connections; parameters stand before the instance's name
+unfoldable pub instance_head_page : (module_name : List ℕ) → List Connection → (instance_name : List ℕ) → Page
+instance_head_page name [] instance = written (plain_text name ⊕ plain_text (codes " ") ⊕ plain_text instance ⊕ plain_text (codes " ("))
+instance_head_page name (c ∷ cs) instance =
+    above (written (plain_text name ⊕ plain_text (codes " #(")))
+    (above (entries_page (map connection_text (c ∷ cs))) (written (plain_text (codes ") ") ⊕ plain_text instance ⊕ plain_text (codes " ("))))
 
 unfoldable pub instance_page : InstanceTree → Page
 instance_page i =
-  above (beside (instance_opening_page i.module_name i.parameters) (written (plain_text i.instance_name ⊕ plain_text (codes " ("))))
-  (above (connections_page i.connections) (line (codes ");")))
+    above (instance_head_page i.module_name i.parameters i.instance_name) (above (connections_page i.connections) (line (codes ");")))
 
 -- joined by `or`
 unfoldable pub more_events_text : Exprs → Printed
@@ -104,8 +104,8 @@ result_text dialect t name = declaration_text dialect (result_kind dialect t) t 
 
 unfoldable pub function_page : Dialect → FunctionTree → Page
 function_page dialect f =
-  above (written (plain_text (codes "function automatic ") ⊕ result_text dialect f.result f.name ⊕ plain_text (codes " (") ⊕ inputs_text dialect f.inputs ⊕ plain_text (codes ");")))
-  (above (inner (above (locals_page dialect f.locals) (function_body_page f.body))) (line (codes "endfunction")))
+    above (written (plain_text (codes "function automatic ") ⊕ result_text dialect f.result f.name ⊕ plain_text (codes " (") ⊕ inputs_text dialect f.inputs ⊕ plain_text (codes ");")))
+    (above (inner (above (locals_page dialect f.locals) (function_body_page f.body))) (line (codes "endfunction")))
 
 abbrev pub loop_label_text : Option (List ℕ) → Printed
 loop_label_text None = plain_text []
@@ -114,17 +114,17 @@ loop_label_text (Some label) = plain_text (codes " : ") ⊕ plain_text label
 -- the end stands as the right child of the comparison
 unfoldable pub loop_text : (genvar : List ℕ) (start end : ExprTree) → Option (List ℕ) → Printed
 loop_text i start end label =
-  plain_text (codes "for (genvar ") ⊕ plain_text i ⊕ plain_text (codes " = ") ⊕ expr_text start
-  ⊕ plain_text (codes "; ") ⊕ plain_text i ⊕ plain_text (codes " < ") ⊕ wrapped (right_child_wraps LtOp end) (expr_text end)
-  ⊕ plain_text (codes "; ") ⊕ plain_text i ⊕ plain_text (codes " = ") ⊕ plain_text i ⊕ plain_text (codes " + 1) begin")
-  ⊕ loop_label_text label
+    plain_text (codes "for (genvar ") ⊕ plain_text i ⊕ plain_text (codes " = ") ⊕ expr_text start
+    ⊕ plain_text (codes "; ") ⊕ plain_text i ⊕ plain_text (codes " < ") ⊕ wrapped (right_child_wraps LtOp end) (expr_text end)
+    ⊕ plain_text (codes "; ") ⊕ plain_text i ⊕ plain_text (codes " = ") ⊕ plain_text i ⊕ plain_text (codes " + 1) begin")
+    ⊕ loop_label_text label
 
 unfoldable mutual
   pub member_page : Dialect → MemberTree → Page
   member_page dialect (DeclarationMember d) = written (declared_text dialect d ⊕ plain_text (codes ";"))
   member_page dialect (AssignMember l r) = written (assign_text Continuous (expr_text l) (expr_text r))
   member_page dialect (ParameterMember local parameter v) =
-    written (plain_text (parameter_word local) ⊕ parameter_text dialect parameter ⊕ plain_text (codes " = ") ⊕ expr_text v ⊕ plain_text (codes ";"))
+      written (plain_text (parameter_word local) ⊕ parameter_text dialect parameter ⊕ plain_text (codes " = ") ⊕ expr_text v ⊕ plain_text (codes ";"))
   member_page dialect (CommentMember text) = commented (written (plain_text text))
   member_page dialect BlankMember = line []
   member_page dialect (InlineMember text) = written (plain_text text)
@@ -134,7 +134,7 @@ unfoldable mutual
   member_page dialect (ConditionalMember c b rest) = statement_page (ConditionalTree c b rest)
   member_page dialect (FunctionMember f) = function_page dialect f
   member_page dialect (LoopMember i start end label ms) =
-    above (written (loop_text i start end label)) (above (inner (members_page dialect ms)) (line (codes "end")))
+      above (written (loop_text i start end label)) (above (inner (members_page dialect ms)) (line (codes "end")))
 
   pub members_page : Dialect → Members → Page
   members_page dialect NoMembers = no_lines

@@ -56,10 +56,10 @@ unfoldable mutual
   statement_page BlankTree = line []
   statement_page (InlineTree text) = written (plain_text text)
   statement_page (ConditionalTree c b rest) =
-    beside (written (plain_text (codes "if (") ⊕ expr_text c ⊕ plain_text (codes ") "))) (beside (block_page b) (alternates_page rest))
+      beside (written (plain_text (codes "if (") ⊕ expr_text c ⊕ plain_text (codes ") "))) (beside (block_page b) (alternates_page rest))
   statement_page (CaseTree unique word e arms) =
-    above (written (plain_text (unique_word unique) ⊕ plain_text (case_word word) ⊕ expr_text e ⊕ plain_text (codes ")")))
-    (above (inner (arms_page word arms)) (line (codes "endcase")))
+      above (written (plain_text (unique_word unique) ⊕ plain_text (case_word word) ⊕ expr_text e ⊕ plain_text (codes ")")))
+      (above (inner (arms_page word arms)) (line (codes "endcase")))
 
   pub statements_page : Statements → Page
   statements_page NoStatements = no_lines
@@ -73,11 +73,18 @@ unfoldable mutual
   pub alternates_page : Alternates → Page
   alternates_page NoElse = no_lines
   alternates_page (ElseIf c b rest) =
-    beside (written (plain_text (codes " else if (") ⊕ expr_text c ⊕ plain_text (codes ") "))) (beside (block_page b) (alternates_page rest))
+      beside (written (plain_text (codes " else if (") ⊕ expr_text c ⊕ plain_text (codes ") "))) (beside (block_page b) (alternates_page rest))
   alternates_page (Else b) = beside (line (codes " else ")) (block_page b)
 
   pub arms_page : CaseWord → CaseArms → Page
   arms_page word NoCaseArms = no_lines
   arms_page word (CaseArm label b arms) =
-    above (beside (written (label_text label ⊕ plain_text (codes ": "))) (cond (is_bare_arm word b) (statements_page b) (block_page b)))
-    (arms_page word arms)
+      above (beside (written (label_text label ⊕ plain_text (codes ": "))) (cond (is_bare_arm word b) (statements_page b) (block_page b)))
+      (arms_page word arms)
+
+-- what stands behind an arm's label
+unfoldable pub arm_body_page : CaseWord → Statements → Page
+arm_body_page word b = cond (is_bare_arm word b) (statements_page b) (block_page b)
+
+unfoldable pub arm_page : CaseWord → MaybeExpr → Statements → Page
+arm_page word label b = beside (written (label_text label ⊕ plain_text (codes ": "))) (arm_body_page word b)

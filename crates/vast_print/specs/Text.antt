@@ -48,22 +48,22 @@ unfoldable mutual
   expr_text (StringTree text) = plain_text text
   expr_text (UnaryTree o e) = plain_text (unary_sign_text o) ⊕ wrapped (unary_wraps e) (expr_text e)
   expr_text (BinaryTree o l r) =
-    wrapped (left_child_wraps o l) (expr_text l)
-    ⊕ plain_text (binary_sign_text o)
-    ⊕ wrapped (right_child_wraps o r) (expr_text r)
+      wrapped (left_child_wraps o l) (expr_text l)
+      ⊕ plain_text (binary_sign_text o)
+      ⊕ wrapped (right_child_wraps o r) (expr_text r)
   expr_text (TernaryTree c l r) =
-    wrapped (ternary_wraps c) (expr_text c)
-    ⊕ plain_text (codes " ? ") ⊕ wrapped (ternary_wraps l) (expr_text l)
-    ⊕ plain_text (codes " : ") ⊕ wrapped (ternary_wraps r) (expr_text r)
+      wrapped (ternary_wraps c) (expr_text c)
+      ⊕ plain_text (codes " ? ") ⊕ wrapped (ternary_wraps l) (expr_text l)
+      ⊕ plain_text (codes " : ") ⊕ wrapped (ternary_wraps r) (expr_text r)
   expr_text (IndexTree s i) =
-    if is_scalar_name s then elided (is_zero i) ScalarIndex (expr_text s)
-    else wrapped (select_wraps s) (expr_text s) ⊕ plain_text (codes "[") ⊕ expr_text i ⊕ plain_text (codes "]")
+      if is_scalar_name s then elided (is_zero i) ScalarIndex (expr_text s)
+      else wrapped (select_wraps s) (expr_text s) ⊕ plain_text (codes "[") ⊕ expr_text i ⊕ plain_text (codes "]")
   expr_text (SliceTree s h l) =
-    if is_scalar_name s then elided (is_zero h && is_zero l) ScalarSlice (expr_text s)
-    else wrapped (select_wraps s) (expr_text s) ⊕ plain_text (codes "[") ⊕ expr_text h ⊕ plain_text (codes ":") ⊕ expr_text l ⊕ plain_text (codes "]")
+      if is_scalar_name s then elided (is_zero h && is_zero l) ScalarSlice (expr_text s)
+      else wrapped (select_wraps s) (expr_text s) ⊕ plain_text (codes "[") ⊕ expr_text h ⊕ plain_text (codes ":") ⊕ expr_text l ⊕ plain_text (codes "]")
   expr_text (PartSelectTree s i w) =
-    wrapped (select_wraps s) (expr_text s)
-    ⊕ plain_text (codes "[") ⊕ expr_text i ⊕ plain_text (codes " +: ") ⊕ plain_text (signed_decimal w) ⊕ plain_text (codes "]")
+      wrapped (select_wraps s) (expr_text s)
+      ⊕ plain_text (codes "[") ⊕ expr_text i ⊕ plain_text (codes " +: ") ⊕ plain_text (signed_decimal w) ⊕ plain_text (codes "]")
   expr_text (ConcatTree n es) = plain_text (codes "{") ⊕ replicated n (list_text es) ⊕ plain_text (codes "}")
   expr_text (PatternTree es) = plain_text (codes "'{") ⊕ list_text es ⊕ plain_text (codes "}")
   expr_text (WidthCastTree w e) = width_cast (expr_text w) (expr_text e)
@@ -92,7 +92,7 @@ unfoldable mutual
   more_text NoExprs = plain_text []
   more_text (MoreExprs e es) = plain_text (codes ", ") ⊕ expr_text e ⊕ more_text es
 
-  -- no cast to an array is ever made
+  -- a cast to an array is never made: it would have no head
   pub type_cast : TypeTree → Printed → Printed
   type_cast (ScalarTree signed) p = scalar_cast signed p
   type_cast (VectorTree w v signed) p = cast_to (sign_cast signed) (width_cast (expr_text w) p)
@@ -100,6 +100,6 @@ unfoldable mutual
   type_cast (IntTree signed) p = number_cast (codes "int") signed p
   type_cast (ExternalTree name) p = cast_to (plain_text name) p
   type_cast (PackageTree scope name) p = cast_to (package_text scope name) p
-  type_cast (PackedTree t ds) p = p
-  type_cast (UnpackedTree t ds) p = p
-  type_cast MissingType p = p
+  type_cast (PackedTree t ds) p = cast_to (plain_text []) p
+  type_cast (UnpackedTree t ds) p = cast_to (plain_text []) p
+  type_cast MissingType p = cast_to (plain_text []) p

@@ -1,5 +1,5 @@
 -- The words that the writer writes between the parts of a tree.
-use Rattle.std.specs.Prelude.{ℕ, Bool, true, false, List, [], ◌∷◌, ◌++◌, codes}
+use Rattle.std.specs.Prelude.{ℕ, zero, suc, Bool, true, false, List, [], ◌∷◌, ◌++◌, codes}
 use Rattle.vast_literal.specs.Tree.{Kind, RegKind, WireKind, LogicKind, IntegerKind, IntKind, UserKind, UntypedEnumKind, GenvarKind, CaseWord, CaseExact, CaseZ, CaseX, AlwaysWord, AlwaysFFWord, AlwaysAtWord, AlwaysCombWord}
 
 -- whether a text isn't empty
@@ -54,14 +54,16 @@ abbrev pub comma : Bool → List ℕ
 comma true = codes ","
 comma false = []
 
+-- before the part i of a list
+abbrev pub separator : ℕ → List ℕ → List ℕ
+separator zero w = []
+separator (suc i) w = w
+
 unfoldable pub endmodule_word : List ℕ
 endmodule_word = codes "endmodule"
 
 unfoldable pub parameter_opening : List ℕ
 parameter_opening = codes "parameter "
-
-unfoldable pub localparam_opening : List ℕ
-localparam_opening = codes "localparam "
 
 unfoldable pub include_opening : List ℕ
 include_opening = codes "`include \""

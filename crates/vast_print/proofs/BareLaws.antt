@@ -1,0 +1,203 @@
+-- Which expressions stand bare before the apostrophe of a cast.
+use Rattle.std.proofs.Common.{◌≡◌, ℕ, Bool, true, false, not, ◌&&◌, ◌||◌, List, [], ◌∷◌, ◌++◌, refl, sym, ◌∙◌, ap, codes}
+use Rattle.std.specs.Prelude.{if◌then◌else◌, ◌==◌}
+use Rattle.std.specs.Char.{is_ascii_digit, is_ascii_uppercase, is_ascii_lowercase}
+use Rattle.std.specs.List.{list_all}
+use Rattle.std.proofs.lemmas.List.Folds.{list_all-append}
+use Rattle.vast_literal.specs.Tree.{UnaryOp, NegateOp, BitwiseNotOp, LogicalNotOp, AndReduceOp, OrReduceOp, XorReduceOp}
+use Rattle.vast_literal.specs.Tree.{BinaryOp, AddOp, SubOp, MulOp, DivOp, ModOp, PowerOp, BitwiseAndOp, BitwiseOrOp, BitwiseXorOp, ShllOp, ShraOp, ShrlOp, NeOp, CaseNeOp, EqOp, CaseEqOp, GeOp, GtOp, LeOp, LtOp, LogicalAndOp, LogicalOrOp, NeXOp, EqXOp}
+use Rattle.vast_literal.specs.Tree.{ExprTree, NameTree, LiteralTree, StringTree, UnaryTree, BinaryTree, TernaryTree, IndexTree, SliceTree, PartSelectTree, ConcatTree, PatternTree, WidthCastTree, TypeCastTree, PosEdgeTree, NegEdgeTree, MacroTree, CallTree, MissingExpr}
+use Rattle.vast_literal.specs.Tree.{TypeTree, ScalarTree, VectorTree, IntegerTree, IntTree, ExternalTree, PackageTree, PackedTree, UnpackedTree, MissingType}
+use Rattle.vast_print.specs.declared.refusal.Refusal.{Refusal}
+use Rattle.vast_print.specs.declared.refusal.Refusal.TheVariants.{ScalarIndex, ScalarSlice}
+use Rattle.vast_print.specs.Printed.{Printed, plain_text, refused, ◌⊕◌, wrapped}
+use Rattle.vast_print.specs.Levels.{unary_sign_text, binary_sign_text, is_scalar_name, is_zero, select_wraps}
+use Rattle.vast_print.specs.Bare.{is_number, begins_word, continues_word, is_word, is_bare, is_bare_head}
+use Rattle.vast_print.specs.Text.{elided, cast_to, width_cast, expr_text, arguments_text, replicated, list_text, more_text, type_cast}
+
+-- a text with a byte that no word has isn't bare
+
+pub record Broken (w : List ℕ) : Type 0 where
+  pub broken : list_all continues_word w ≡ false
+
+digit-continues : (d u l x y : Bool) → d ≡ true → (((d || u) || l) || (x || y)) ≡ true
+digit-continues true u l x y h = refl
+digit-continues false u l x y h = absurd (cc (h))
+
+begin-continues : (d u l x y : Bool) → ((u || l) || x) ≡ true → (((d || u) || l) || (x || y)) ≡ true
+begin-continues true u l x y h = refl
+begin-continues false true l x y h = refl
+begin-continues false false true x y h = refl
+begin-continues false false false true y h = refl
+begin-continues false false false false y h = absurd (cc (h))
+
+both : (a b : Bool) → a ≡ true → b ≡ true → (a && b) ≡ true
+both true true h i = refl
+both true false h i = absurd (cc (i))
+both false b h i = absurd (cc (h))
+
+left : (a b : Bool) → (a && b) ≡ true → a ≡ true
+left true b h = refl
+left false b h = absurd (cc (h))
+
+right : (a b : Bool) → (a && b) ≡ true → b ≡ true
+right true b h = h
+right false b h = absurd (cc (h))
+
+neither : (a b : Bool) → a ≡ false → b ≡ false → (a || b) ≡ false
+neither true b h i = absurd (cc (h))
+neither false b h i = i
+
+false-by : (b : Bool) → (b ≡ true → ⊥) → b ≡ false
+false-by true h = absurd (h refl)
+false-by false h = refl
+
+digit-word : (c : ℕ) → is_ascii_digit c ≡ true → continues_word c ≡ true
+digit-word c h = digit-continues (is_ascii_digit c) (is_ascii_uppercase c) (is_ascii_lowercase c) (c == 95) (c == 36) h
+
+digits-words : (w : List ℕ) → list_all is_ascii_digit w ≡ true → list_all continues_word w ≡ true
+digits-words [] h = refl
+digits-words (c ∷ w) h =
+    both (continues_word c) (list_all continues_word w)
+    (digit-word c (left (is_ascii_digit c) (list_all is_ascii_digit w) h))
+    (digits-words w (right (is_ascii_digit c) (list_all is_ascii_digit w) h))
+
+word-words : (w : List ℕ) → is_word w ≡ true → list_all continues_word w ≡ true
+word-words [] h = refl
+word-words (c ∷ w) h =
+    both (continues_word c) (list_all continues_word w)
+    (begin-continues (is_ascii_digit c) (is_ascii_uppercase c) (is_ascii_lowercase c) (c == 95) (c == 36) (left (begins_word c) (list_all continues_word w) h))
+    (right (begins_word c) (list_all continues_word w) h)
+
+number-words : (w : List ℕ) → is_number w ≡ true → list_all continues_word w ≡ true
+number-words [] h = refl
+number-words (c ∷ w) h = digits-words (c ∷ w) h
+
+broken-bare : (w : List ℕ) → Broken w → is_bare w ≡ false
+unfolding is_bare
+broken-bare w b =
+    neither (is_number w) (is_word w)
+    (false-by (is_number w) (λ h. cc (number-words w h, b.broken)))
+    (false-by (is_word w) (λ h. cc (word-words w h, b.broken)))
+
+broken-left : (a b : List ℕ) → Broken a → Broken (a ++ b)
+broken-left a b h = record { broken = list_all-append continues_word a b ∙ rw (h.broken) refl }
+
+and-false : (a : Bool) → (a && false) ≡ false
+and-false true = refl
+and-false false = refl
+
+broken-right : (a b : List ℕ) → Broken b → Broken (a ++ b)
+broken-right a b h = record { broken = list_all-append continues_word a b ∙ rw (h.broken) (and-false (list_all continues_word a)) }
+
+-- casts, selects and lists end in a bracket
+
+broken-ends : (p : Printed) (w : List ℕ) → Broken w → Broken (p ⊕ plain_text w).text
+unfolding ◌⊕◌ plain_text
+broken-ends p w h = broken-right p.text w h
+
+broken-then : (p q : Printed) → Broken p.text → Broken (p ⊕ q).text
+unfolding ◌⊕◌
+broken-then p q h = broken-left p.text q.text h
+
+broken-begins : (w : List ℕ) (q : Printed) → Broken w → Broken (plain_text w ⊕ q).text
+unfolding ◌⊕◌ plain_text
+broken-begins w q h = broken-left w q.text h
+
+broken-cast : (head p : Printed) → Broken (cast_to head p).text
+unfolding cast_to
+broken-cast head p = broken-ends (head ⊕ plain_text (codes "'(") ⊕ p) (codes ")") (record { broken = refl })
+
+broken-unary : (o : UnaryOp) → Broken (unary_sign_text o)
+broken-unary NegateOp = record { broken = refl }
+broken-unary BitwiseNotOp = record { broken = refl }
+broken-unary LogicalNotOp = record { broken = refl }
+broken-unary AndReduceOp = record { broken = refl }
+broken-unary OrReduceOp = record { broken = refl }
+broken-unary XorReduceOp = record { broken = refl }
+
+broken-binary : (o : BinaryOp) → Broken (binary_sign_text o)
+broken-binary AddOp = record { broken = refl }
+broken-binary SubOp = record { broken = refl }
+broken-binary MulOp = record { broken = refl }
+broken-binary DivOp = record { broken = refl }
+broken-binary ModOp = record { broken = refl }
+broken-binary PowerOp = record { broken = refl }
+broken-binary BitwiseAndOp = record { broken = refl }
+broken-binary BitwiseOrOp = record { broken = refl }
+broken-binary BitwiseXorOp = record { broken = refl }
+broken-binary ShllOp = record { broken = refl }
+broken-binary ShraOp = record { broken = refl }
+broken-binary ShrlOp = record { broken = refl }
+broken-binary NeOp = record { broken = refl }
+broken-binary CaseNeOp = record { broken = refl }
+broken-binary EqOp = record { broken = refl }
+broken-binary CaseEqOp = record { broken = refl }
+broken-binary GeOp = record { broken = refl }
+broken-binary GtOp = record { broken = refl }
+broken-binary LeOp = record { broken = refl }
+broken-binary LtOp = record { broken = refl }
+broken-binary LogicalAndOp = record { broken = refl }
+broken-binary LogicalOrOp = record { broken = refl }
+broken-binary NeXOp = record { broken = refl }
+broken-binary EqXOp = record { broken = refl }
+
+broken-type-cast : (t : TypeTree) (p : Printed) → Broken (type_cast t p).text
+unfolding type_cast
+broken-type-cast (ScalarTree true) p = broken-cast _ _
+broken-type-cast (ScalarTree false) p = broken-cast _ _
+broken-type-cast (VectorTree w v signed) p = broken-cast _ _
+broken-type-cast (IntegerTree true) p = broken-cast _ _
+broken-type-cast (IntegerTree false) p = broken-cast _ _
+broken-type-cast (IntTree true) p = broken-cast _ _
+broken-type-cast (IntTree false) p = broken-cast _ _
+broken-type-cast (ExternalTree name) p = broken-cast _ _
+broken-type-cast (PackageTree scope name) p = broken-cast _ _
+broken-type-cast (PackedTree t ds) p = broken-cast _ _
+broken-type-cast (UnpackedTree t ds) p = broken-cast _ _
+broken-type-cast MissingType p = broken-cast _ _
+
+-- a select: an elided one has its name's text
+
+bare-elided : (z : Bool) (r : Refusal) (p : Printed) → (elided z r p).text ≡ p.text
+unfolding elided refused
+bare-elided true r p = refl
+bare-elided false r p = refl
+
+bare-select : (scalar z : Bool) (r : Refusal) (name select : Printed) (b : Bool) → is_bare name.text ≡ b → Broken select.text →
+    is_bare (if scalar then elided z r name else select).text ≡ (scalar && b)
+bare-select true z r name select b h i = ap is_bare (bare-elided z r name) ∙ h
+bare-select false z r name select b h i = broken-bare select.text i
+
+broken-width : (w p : Printed) → Broken (width_cast w p).text
+unfolding width_cast
+broken-width w p = broken-cast (wrapped (not (is_bare w.text)) w) p
+
+bare-empty : is_bare [] ≡ false
+unfolding is_bare
+bare-empty = refl
+
+-- whether an expression's text is bare, told by the expression
+pub bare-head : (e : ExprTree) → is_bare (expr_text e).text ≡ is_bare_head e
+unfolding expr_text is_bare_head plain_text
+bare-head (NameTree name type) = refl
+bare-head (LiteralTree text value) = refl
+bare-head (StringTree text) = refl
+bare-head (UnaryTree o e) = broken-bare _ (broken-begins (unary_sign_text o) _ (broken-unary o))
+bare-head (BinaryTree o l r) = broken-bare _ (broken-then _ _ (broken-ends _ (binary_sign_text o) (broken-binary o)))
+bare-head (TernaryTree c l r) =
+    broken-bare _ (broken-then _ _ (broken-ends _ (codes " : ") (record { broken = refl })))
+bare-head (IndexTree s i) =
+    bare-select (is_scalar_name s) (is_zero i) ScalarIndex (expr_text s) _ (is_bare_head s) (bare-head s) (broken-ends _ (codes "]") (record { broken = refl }))
+bare-head (SliceTree s h l) =
+    bare-select (is_scalar_name s) (is_zero h && is_zero l) ScalarSlice (expr_text s) _ (is_bare_head s) (bare-head s) (broken-ends _ (codes "]") (record { broken = refl }))
+bare-head (PartSelectTree s i w) = broken-bare _ (broken-ends _ (codes "]") (record { broken = refl }))
+bare-head (ConcatTree n es) = broken-bare _ (broken-ends _ (codes "}") (record { broken = refl }))
+bare-head (PatternTree es) = broken-bare _ (broken-ends _ (codes "}") (record { broken = refl }))
+bare-head (WidthCastTree w e) = broken-bare _ (broken-width _ _)
+bare-head (TypeCastTree t e) = broken-bare _ (broken-type-cast t (expr_text e))
+bare-head (PosEdgeTree e) = broken-bare _ (broken-begins (codes "posedge ") _ (record { broken = refl }))
+bare-head (NegEdgeTree e) = broken-bare _ (broken-begins (codes "negedge ") _ (record { broken = refl }))
+bare-head (MacroTree name es) = broken-bare _ (broken-then _ _ (broken-begins (codes "`") _ (record { broken = refl })))
+bare-head (CallTree name es) = broken-bare _ (broken-ends _ (codes ")") (record { broken = refl }))
+bare-head MissingExpr = bare-empty

@@ -1,0 +1,204 @@
+//! The words that stand between the parts of a tree.
+
+ghost use Rattle.std.specs.Prelude.{◌≡◌, codes};
+ghost use Rattle.vast_print.specs.Words.{signed_opening, unsigned_opening, scalar_cast_opening, scalar_cast_closing, cast_sign_word, number_cast_opening, number_cast_closing, comma, separator, endmodule_word, parameter_opening, include_opening, else_if_opening, endfunction_word, function_opening, begin_end_word, for_opening, step_word, always_ff_opening, always_at_opening, always_comb_opening};
+ghost use Rattle.vast_print.specs.Members.{parameter_word, semicolon_text};
+ghost use Rattle.vast_print.specs.Statements.{unique_word};
+
+/// Before a signed scalar or vector.
+pub(crate) fn signed(signed: bool) -> &'static str
+    ensures { result.now ≡ signed_opening signed }
+{
+    if signed { "signed " } else { "" }
+}
+
+/// Before an unsigned integer or int.
+pub(crate) fn unsigned(signed: bool) -> &'static str
+    ensures { result.now ≡ unsigned_opening signed }
+{
+    if signed { "" } else { "unsigned " }
+}
+
+/// Before what is cast to a scalar.
+pub(crate) fn scalar_cast(signed: bool) -> &'static str
+    ensures { result.now ≡ scalar_cast_opening signed }
+{
+    if signed { "signed'(logic'(" } else { "logic'(" }
+}
+
+/// Behind what is cast to a scalar.
+pub(crate) fn scalar_cast_end(signed: bool) -> &'static str
+    ensures { result.now ≡ scalar_cast_closing signed }
+{
+    if signed { "))" } else { ")" }
+}
+
+/// Before the width of a cast to a vector.
+pub(crate) fn vector_cast(signed: bool) -> &'static str
+    ensures { result.now ≡ cast_sign_word signed }
+{
+    if signed { "signed'(" } else { "unsigned'(" }
+}
+
+/// Before what is cast to an integer.
+pub(crate) fn integer_cast(signed: bool) -> &'static str
+    ensures { result.now ≡ number_cast_opening (codes "integer") signed }
+{
+    if signed {
+        "integer'("
+    } else {
+        "unsigned'(integer'("
+    }
+}
+
+/// Before what is cast to an int.
+pub(crate) fn int_cast(signed: bool) -> &'static str
+    ensures { result.now ≡ number_cast_opening (codes "int") signed }
+{
+    if signed { "int'(" } else { "unsigned'(int'(" }
+}
+
+/// Behind what is cast to an integer or an int.
+pub(crate) fn number_cast_end(signed: bool) -> &'static str
+    ensures { result.now ≡ number_cast_closing signed }
+{
+    if signed { ")" } else { "))" }
+}
+
+/// Behind an entry of a list, where more follow.
+pub(crate) fn comma_word(more: bool) -> &'static str
+    ensures { result.now ≡ comma more }
+{
+    if more { "," } else { "" }
+}
+
+/// Before a parameter of a module's body.
+pub(crate) fn parameter(local: bool) -> &'static str
+    ensures { result.now ≡ parameter_word local }
+{
+    if local { "localparam " } else { "parameter " }
+}
+
+/// Behind a macro statement.
+pub(crate) fn semicolon(stands: bool) -> &'static str
+    ensures { result.now ≡ semicolon_text stands }
+{
+    if stands { ";" } else { "" }
+}
+
+/// Before the word of a case.
+pub(crate) fn unique(is_unique: bool) -> &'static str
+    ensures { result.now ≡ unique_word is_unique }
+{
+    if is_unique { "unique " } else { "" }
+}
+
+/// Between the expressions of a list, before the expression `i`.
+pub(crate) fn comma_before(i: usize) -> &'static str
+    ensures { result.now ≡ separator i (codes ", ") }
+{
+    if i > 0 { ", " } else { "" }
+}
+
+/// Between the events of a list, before the event `i`.
+pub(crate) fn or_before(i: usize) -> &'static str
+    ensures { result.now ≡ separator i (codes " or ") }
+{
+    if i > 0 { " or " } else { "" }
+}
+
+/// Behind a module's members.
+#[tactic(auto, unfolding(crate::specs::Words::endmodule_word))]
+pub(crate) fn endmodule() -> &'static str
+    ensures { result.now ≡ endmodule_word }
+{
+    "endmodule"
+}
+
+/// Before a parameter of a module's header.
+#[tactic(auto, unfolding(crate::specs::Words::parameter_opening))]
+pub(crate) fn parameter_port() -> &'static str
+    ensures { result.now ≡ parameter_opening }
+{
+    "parameter "
+}
+
+/// Before an included path.
+#[tactic(auto, unfolding(crate::specs::Words::include_opening))]
+pub(crate) fn include() -> &'static str
+    ensures { result.now ≡ include_opening }
+{
+    "`include \""
+}
+
+/// Before the condition of a later arm of a conditional.
+#[tactic(auto, unfolding(crate::specs::Words::else_if_opening))]
+pub(crate) fn else_if() -> &'static str
+    ensures { result.now ≡ else_if_opening }
+{
+    " else if ("
+}
+
+/// Behind a function's body.
+#[tactic(auto, unfolding(crate::specs::Words::endfunction_word))]
+pub(crate) fn endfunction() -> &'static str
+    ensures { result.now ≡ endfunction_word }
+{
+    "endfunction"
+}
+
+/// Before a function's result.
+#[tactic(auto, unfolding(crate::specs::Words::function_opening))]
+pub(crate) fn function() -> &'static str
+    ensures { result.now ≡ function_opening }
+{
+    "function automatic "
+}
+
+/// A block without statements.
+#[tactic(auto, unfolding(crate::specs::Words::begin_end_word))]
+pub(crate) fn begin_end() -> &'static str
+    ensures { result.now ≡ begin_end_word }
+{
+    "begin end"
+}
+
+/// Before a loop's variable.
+#[tactic(auto, unfolding(crate::specs::Words::for_opening))]
+pub(crate) fn for_genvar() -> &'static str
+    ensures { result.now ≡ for_opening }
+{
+    "for (genvar "
+}
+
+/// Behind a loop's header.
+#[tactic(auto, unfolding(crate::specs::Words::step_word))]
+pub(crate) fn step() -> &'static str
+    ensures { result.now ≡ step_word }
+{
+    " + 1) begin"
+}
+
+/// Before the events of a clocked block.
+#[tactic(auto, unfolding(crate::specs::Words::always_ff_opening))]
+pub(crate) fn always_ff() -> &'static str
+    ensures { result.now ≡ always_ff_opening }
+{
+    "always_ff @ ("
+}
+
+/// Before the events of a block of any kind.
+#[tactic(auto, unfolding(crate::specs::Words::always_at_opening))]
+pub(crate) fn always_at() -> &'static str
+    ensures { result.now ≡ always_at_opening }
+{
+    "always @ ("
+}
+
+/// Before a combinational block.
+#[tactic(auto, unfolding(crate::specs::Words::always_comb_opening))]
+pub(crate) fn always_comb() -> &'static str
+    ensures { result.now ≡ always_comb_opening }
+{
+    "always_comb "
+}
