@@ -13,6 +13,7 @@ use std::marker::Model;
 mod assignments;
 mod modules;
 pub(crate) mod owns;
+mod places;
 mod ports;
 mod terms;
 
