@@ -5,3 +5,4 @@ pub mod Sound
 pub mod Growth
 pub mod Readers
 pub mod Laws
+pub mod Fixed

@@ -86,3 +86,12 @@ pub All-own : {A : Type 0} (P : A → Type 0) (xs : List A) → Each P xs → Al
 All-own P [] h k d below = absurd (omega arith)
 All-own P (x ∷ xs) h zero d below = h.0
 All-own P (x ∷ xs) h (suc k) d below = All-own P xs h.1 k d (omega arith)
+
+pub All-head : {A : Type 0} (P : A → Type 0) (x : A) (xs : List A) → All P (x ∷ xs) → P x
+All-head P x xs h = h 0 x (omega arith)
+
+pub All-tail : {A : Type 0} (P : A → Type 0) (x : A) (xs : List A) → All P (x ∷ xs) → All P xs
+All-tail P x xs h = λ k d below. h (suc k) d (omega arith)
+
+pub All-implies : {A : Type 0} {P Q : A → Type 0} → ((x : A) → P x → Q x) → (xs : List A) → All P xs → All Q xs
+All-implies f xs h = λ k d below. f (get_or xs k d) (h k d below)

@@ -13,6 +13,7 @@ use Rattle.std.specs.Str.{bytes_eq}
 use Rattle.std.proofs.lemmas.Map.Text.{is_eq-slice_cmp}
 use Rattle.std.proofs.lemmas.Slice.Eq.{bytes_eq-Decides}
 use Rattle.vast_core.specs.Records.{IsFree, with_name}
+use Rattle.vast_core.proofs.Lists.{All-head, All-tail}
 
 -- The texts of a set's strings, with one string more.
 insert-case :
@@ -35,12 +36,6 @@ map-insert_key (x ∷ xs) name = insert-case x name xs (slice_cmp nat_cmp (strin
 All-cons : {A : Type 0} (P : A → Type 0) (x : A) (xs : List A) → P x → All P xs → All P (x ∷ xs)
 All-cons P x xs p h zero d below = p
 All-cons P x xs p h (suc k) d below = h k d (omega arith)
-
-All-head : {A : Type 0} (P : A → Type 0) (x : A) (xs : List A) → All P (x ∷ xs) → P x
-All-head P x xs h = h 0 x (omega arith)
-
-All-tail : {A : Type 0} (P : A → Type 0) (x : A) (xs : List A) → All P (x ∷ xs) → All P xs
-All-tail P x xs h = λ k d below. h (suc k) d (omega arith)
 
 -- Whether a string of the set has these bytes.
 abbrev pub is_taken : List ℕ → List (String Global) → Bool

@@ -1,18 +1,18 @@
 -- Laws of the arena of expressions and types.
-use Rattle.std.proofs.Common.{zero, suc, get_or, ◌≡◌, ℕ, ◌+◌, ◌<◌, ◌≤◌, Bool, true, false, IsTrue, List, [], ◌∷◌, ◌++◌, length, Option, Some, None, slice_get, refl, sym, ap, ◌∙◌, arith, length-append}
+use Rattle.std.proofs.Common.{zero, suc, get_or, ◌≡◌, ℕ, ◌+◌, ◌<◌, ◌≤◌, Bool, true, false, IsTrue, List, [], ◌∷◌, ◌++◌, length, Option, Some, None, slice_get, All, refl, sym, ap, ◌∙◌, arith, length-append}
 use Rattle.std.proofs.lemmas.Option.{slice_get_within, slice_get_past, slice_get_read}
-use Rattle.vast_literal.specs.Tree.{ExprTree, TypeTree, Typed}
+use Rattle.vast_literal.specs.Tree.{ExprTree, TypeTree, Typed, SomeExpr, Exprs}
 use Rattle.vast_core.specs.declared.handle.Expr.{Expr}
 use Rattle.vast_core.specs.declared.handle.VastDataType.{VastDataType}
 use Rattle.vast_core.specs.declared.node.ExprNode.{ExprNode}
-use Rattle.vast_core.specs.declared.node.ExprNode.TheVariants.{Name, Literal}
+use Rattle.vast_core.specs.declared.node.ExprNode.TheVariants.{Name, Literal, StringText, Unary, Binary, Ternary, Index, Slice, PartSelect, Concat, Pattern, WidthCast, TypeCast, PosEdge, NegEdge, Macro, Call}
 use Rattle.vast_core.specs.declared.node.TypeNode.{TypeNode}
-use Rattle.vast_core.specs.declared.node.TypeNode.TheVariants.{Scalar, Vector}
+use Rattle.vast_core.specs.declared.node.TypeNode.TheVariants.{Scalar, Vector, Integer, Int, External, Package, Packed, Unpacked}
 use Rattle.vast_core.specs.declared.node.Term.{Term}
 use Rattle.vast_core.specs.declared.node.Term.TheVariants.{Expression, DataType}
 use Rattle.vast_core.specs.Handles.{rank, type_rank}
-use Rattle.vast_core.specs.Nodes.{Root, ExprRoot, TypeRoot, Nodes, no_nodes, with_root, is_expr_root, is_type_root, is_root_of, expr_of_root, type_of_root, IsOwned, HasExpr, HasType, expr_in, type_in, maybe_type_in, expr_tree, type_tree, term_root, OptionHolds, ExprChildrenHold, TypeChildrenHold, ChildrenHold, built, TermsSound, IsNodeAt}
-use Rattle.vast_core.proofs.Lists.{slice_get-append, slice_get-seam}
+use Rattle.vast_core.specs.Nodes.{Root, ExprRoot, TypeRoot, Nodes, no_nodes, with_root, is_expr_root, is_type_root, is_root_of, expr_of_root, type_of_root, IsOwned, HasExpr, HasType, expr_in, type_in, maybe_type_in, maybe_expr_in, exprs_in, expr_tree, type_tree, term_root, OptionHolds, ExprChildrenHold, TypeChildrenHold, ChildrenHold, built, TermsSound, IsNodeAt}
+use Rattle.vast_core.proofs.Lists.{slice_get-append, slice_get-seam, All-head, All-tail, All-implies}
 
 -- Growing by a term.
 
@@ -138,6 +138,21 @@ expr_children-map :
   ExprChildrenHold P2 Q2 n
 expr_children-map f g (Name name type) h = OptionHolds-map g type h
 expr_children-map f g (Literal text value) h = tt
+expr_children-map f g (StringText text) h = tt
+expr_children-map f g (Unary operator operand) h = f operand h
+expr_children-map f g (Binary operator left right) h = (f left h.0, f right h.1)
+expr_children-map f g (Ternary condition consequent alternate) h = (f condition h.0, f consequent h.1, f alternate h.2)
+expr_children-map f g (Index subject index) h = (f subject h.0, f index h.1)
+expr_children-map f g (Slice subject high low) h = (f subject h.0, f high h.1, f low h.2)
+expr_children-map f g (PartSelect subject start width) h = (f subject h.0, f start h.1)
+expr_children-map f g (Concat count parts) h = (OptionHolds-map f count h.0, All-implies f parts.items h.1)
+expr_children-map f g (Pattern parts) h = All-implies f parts.items h
+expr_children-map f g (WidthCast width operand) h = (f width h.0, f operand h.1)
+expr_children-map f g (TypeCast type operand) h = (g type h.0, f operand h.1)
+expr_children-map f g (PosEdge operand) h = f operand h
+expr_children-map f g (NegEdge operand) h = f operand h
+expr_children-map f g (Macro name arguments) h = OptionHolds-map (λ parts. All-implies f parts.items) arguments h
+expr_children-map f g (Call name arguments) h = All-implies f arguments.items h
 
 type_children-map :
   {P P2 : Expr → Type 0} {Q Q2 : VastDataType → Type 0} →
@@ -148,6 +163,12 @@ type_children-map :
   TypeChildrenHold P2 Q2 n
 type_children-map f g (Scalar signed) h = tt
 type_children-map f g (Vector width value signed) h = f width h
+type_children-map f g (Integer signed) h = tt
+type_children-map f g (Int signed) h = tt
+type_children-map f g (External name) h = tt
+type_children-map f g (Package package_name name) h = tt
+type_children-map f g (Packed element dimensions) h = g element h
+type_children-map f g (Unpacked element dimensions) h = g element h
 
 children-map :
   {P P2 : Expr → Type 0} {Q Q2 : VastDataType → Type 0} →
@@ -163,13 +184,43 @@ maybe_type-kept : (b c : Nodes) → Extends b c → (o : Option VastDataType) �
 maybe_type-kept b c x None h = refl
 maybe_type-kept b c x (Some t) h = ap Typed (type_in-kept b c x t h)
 
+maybe_expr-kept : (b c : Nodes) → Extends b c → (o : Option Expr) → OptionHolds (HasExpr b) o → maybe_expr_in c o ≡ maybe_expr_in b o
+maybe_expr-kept b c x None h = refl
+maybe_expr-kept b c x (Some e) h = ap SomeExpr (expr_in-kept b c x e h)
+
+pub exprs-kept : (b c : Nodes) → Extends b c → (es : List Expr) → All (HasExpr b) es → exprs_in c es ≡ exprs_in b es
+exprs-kept b c x [] h = refl
+exprs-kept b c x (e ∷ es) h = cc (expr_in-kept b c x e (All-head (HasExpr b) e es h), exprs-kept b c x es (All-tail (HasExpr b) e es h))
+
 expr_tree-kept : (b c : Nodes) → Extends b c → (n : ExprNode) → ExprChildrenHold (HasExpr b) (HasType b) n → expr_tree c n ≡ expr_tree b n
 expr_tree-kept b c x (Name name type) h = cc (maybe_type-kept b c x type h)
 expr_tree-kept b c x (Literal text value) h = refl
+expr_tree-kept b c x (StringText text) h = refl
+expr_tree-kept b c x (Unary operator operand) h = cc (expr_in-kept b c x operand h)
+expr_tree-kept b c x (Binary operator left right) h = cc (expr_in-kept b c x left h.0, expr_in-kept b c x right h.1)
+expr_tree-kept b c x (Ternary condition consequent alternate) h = cc (expr_in-kept b c x condition h.0, expr_in-kept b c x consequent h.1, expr_in-kept b c x alternate h.2)
+expr_tree-kept b c x (Index subject index) h = cc (expr_in-kept b c x subject h.0, expr_in-kept b c x index h.1)
+expr_tree-kept b c x (Slice subject high low) h = cc (expr_in-kept b c x subject h.0, expr_in-kept b c x high h.1, expr_in-kept b c x low h.2)
+expr_tree-kept b c x (PartSelect subject start width) h = cc (expr_in-kept b c x subject h.0, expr_in-kept b c x start h.1)
+expr_tree-kept b c x (Concat count parts) h = cc (maybe_expr-kept b c x count h.0, exprs-kept b c x parts.items h.1)
+expr_tree-kept b c x (Pattern parts) h = cc (exprs-kept b c x parts.items h)
+expr_tree-kept b c x (WidthCast width operand) h = cc (expr_in-kept b c x width h.0, expr_in-kept b c x operand h.1)
+expr_tree-kept b c x (TypeCast type operand) h = cc (type_in-kept b c x type h.0, expr_in-kept b c x operand h.1)
+expr_tree-kept b c x (PosEdge operand) h = cc (expr_in-kept b c x operand h)
+expr_tree-kept b c x (NegEdge operand) h = cc (expr_in-kept b c x operand h)
+expr_tree-kept b c x (Macro name None) h = refl
+expr_tree-kept b c x (Macro name (Some parts)) h = cc (exprs-kept b c x parts.items h)
+expr_tree-kept b c x (Call name arguments) h = cc (exprs-kept b c x arguments.items h)
 
 type_tree-kept : (b c : Nodes) → Extends b c → (n : TypeNode) → TypeChildrenHold (HasExpr b) (HasType b) n → type_tree c n ≡ type_tree b n
 type_tree-kept b c x (Scalar signed) h = refl
 type_tree-kept b c x (Vector width value signed) h = cc (expr_in-kept b c x width h)
+type_tree-kept b c x (Integer signed) h = refl
+type_tree-kept b c x (Int signed) h = refl
+type_tree-kept b c x (External name) h = refl
+type_tree-kept b c x (Package package_name name) h = refl
+type_tree-kept b c x (Packed element dimensions) h = cc (type_in-kept b c x element h)
+type_tree-kept b c x (Unpacked element dimensions) h = cc (type_in-kept b c x element h)
 
 term_root-kept : (b c : Nodes) → Extends b c → (t : Term) → ChildrenHold (HasExpr b) (HasType b) t → term_root c t ≡ term_root b t
 term_root-kept b c x (Expression n) h = ap ExprRoot (expr_tree-kept b c x n h)

@@ -1,7 +1,7 @@
 -- What a file holds, for its users: the trees of its expressions and types, its records and its lists.
 use Rattle.std.specs.Prelude.{◌≡◌, ℕ, ◌<◌, Bool, true, false, List, [], ◌∷◌, ◌++◌, length, map, nat_lt, Option, Some, None, Result, Ok, Err, slice_get}
 use Rattle.std.specs.declared.alloc.AllocError.{AllocError}
-use Rattle.vast_literal.specs.Tree.{ExprTree, TypeTree, MaybeType, NameTree, Typed}
+use Rattle.vast_literal.specs.Tree.{ExprTree, TypeTree, MaybeType, MaybeExpr, Exprs}
 use Rattle.vast_core.specs.declared.handle.Expr.{Expr}
 use Rattle.vast_core.specs.declared.handle.IndexableExpr.{IndexableExpr}
 use Rattle.vast_core.specs.declared.handle.Index.{Index}
@@ -38,7 +38,7 @@ use Rattle.vast_core.specs.declared.node.AlwaysBlock.{AlwaysBlock}
 use Rattle.vast_core.specs.declared.node.Nest.{Nest}
 use Rattle.vast_core.specs.declared.node.Nest.TheVariants.{Block as BlockOf, Conditional as ConditionalOf, Case as CaseOf, Loop as LoopOf}
 use Rattle.vast_core.specs.Handles.{module_index}
-use Rattle.vast_core.specs.Nodes.{Nodes, no_nodes, with_root, ExprRoot, TypeRoot, IsOwned, is_expr_root, is_type_root, is_root_of, is_name, is_index, is_slice, is_macro, expr_in, type_in, maybe_type_in}
+use Rattle.vast_core.specs.Nodes.{Nodes, no_nodes, with_root, ExprRoot, TypeRoot, IsOwned, is_expr_root, is_type_root, is_root_of, is_name, is_index, is_slice, is_macro, expr_in, type_in, maybe_type_in, maybe_expr_in, exprs_in, OptionHolds}
 use Rattle.vast_core.specs.Records.{PortRecord, ModuleRecord, FileEntry, IsFree}
 
 pub record Bench : Type 0 where
@@ -66,6 +66,12 @@ tree_of b e = expr_in b.nodes e
 
 abbrev pub type_of : Bench → VastDataType → TypeTree
 type_of b t = type_in b.nodes t
+
+abbrev pub maybe_tree_of : Bench → Option Expr → MaybeExpr
+maybe_tree_of b e = maybe_expr_in b.nodes e
+
+abbrev pub trees_of : Bench → List Expr → Exprs
+trees_of b es = exprs_in b.nodes es
 
 -- Which handles are the file's: the id is the file's, and the index names a node of the handle's kind.
 

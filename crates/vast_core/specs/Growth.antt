@@ -2,10 +2,14 @@
 use Rattle.std.specs.Prelude.{◌≡◌, ℕ, ℤ, Bool, List, [], ◌∷◌, ◌++◌, length, Option, Some, Result, Ok, Err}
 use Rattle.std.specs.Fmt.{signed_decimal}
 use Rattle.std.specs.declared.alloc.AllocError.{AllocError}
-use Rattle.vast_literal.specs.Tree.{ExprTree, NameTree, LiteralTree, TypeTree, VectorTree, Typed}
+use Rattle.vast_literal.specs.Tree.{ExprTree, NameTree, LiteralTree, IndexTree, SliceTree, ConcatTree, SomeExpr, TypeTree, VectorTree, Typed}
 use Rattle.vast_core.specs.declared.handle.Id.{Id}
 use Rattle.vast_core.specs.declared.handle.Expr.{Expr}
 use Rattle.vast_core.specs.declared.handle.LogicRef.{LogicRef}
+use Rattle.vast_core.specs.declared.handle.IndexableExpr.{IndexableExpr}
+use Rattle.vast_core.specs.declared.handle.Index.{Index}
+use Rattle.vast_core.specs.declared.handle.Slice.{Slice}
+use Rattle.vast_core.specs.declared.handle.MacroRef.{MacroRef}
 use Rattle.vast_core.specs.declared.handle.VastDataType.{VastDataType}
 use Rattle.vast_core.specs.declared.handle.VastModule.{VastModule}
 use Rattle.vast_core.specs.declared.handle.ModulePort.{ModulePort}
@@ -13,10 +17,10 @@ use Rattle.vast_core.specs.declared.handle.ContinuousAssignment.{ContinuousAssig
 use Rattle.vast_core.specs.declared.kind.ModulePortDirection.{ModulePortDirection}
 use Rattle.vast_core.specs.declared.kind.DataKind.{DataKind}
 use Rattle.vast_core.specs.declared.node.Assignment.{Assignment}
-use Rattle.vast_core.specs.Handles.{module_index}
+use Rattle.vast_core.specs.Handles.{module_index, indexable_expr_to_expr}
 use Rattle.vast_core.specs.Nodes.{Root, ExprRoot, TypeRoot, with_root as with_node}
 use Rattle.vast_core.specs.Records.{PortRecord, ModuleEntry, MemberEntry, new_module, with_port as with_listed_port, with_member as with_listed_member, changed_at}
-use Rattle.vast_core.specs.Bench.{Bench, type_of}
+use Rattle.vast_core.specs.Bench.{Bench, tree_of, trees_of, type_of}
 
 -- The call answers this and leaves this, or memory was refused and nothing changed.
 abbrev pub Builds : {A : Type 0} → (old new : Bench) → Result A AllocError → A → Bench → Type 0
@@ -54,9 +58,51 @@ next_port b = record { id = next_id b (length b.ports) }
 abbrev pub next_continuous : Bench → ContinuousAssignment
 next_continuous b = record { id = next_id b (length b.assignments) }
 
+abbrev pub next_index : Bench → Index
+next_index b = record { id = next_id b (length b.nodes.roots) }
+
+abbrev pub next_slice : Bench → Slice
+next_slice b = record { id = next_id b (length b.nodes.roots) }
+
+abbrev pub next_macro_ref : Bench → MacroRef
+next_macro_ref b = record { id = next_id b (length b.nodes.roots) }
+
+-- A literal of a known value, and of one that is written in decimal.
+abbrev pub known_literal : List ℕ → ℤ → ExprTree
+known_literal text value = LiteralTree text (Some value)
+
+abbrev pub decimal_literal : ℤ → ExprTree
+decimal_literal value = known_literal (signed_decimal value) value
+
+-- A bit select by a number: a literal of the index, and the select.
+abbrev pub with_fixed_index : IndexableExpr → List ℕ → ℤ → Bench → Bench
+with_fixed_index subject text index b =
+  with_expr (with_expr b (known_literal text index)) (IndexTree (tree_of b (indexable_expr_to_expr subject)) (known_literal text index))
+
+abbrev pub next_fixed_index : List ℕ → ℤ → Bench → Index
+next_fixed_index text index b = next_index (with_expr b (known_literal text index))
+
+-- A part select by two numbers: literals of the upper and of the lower bound, and the select.
+abbrev pub with_bounds : List ℕ → ℤ → List ℕ → ℤ → Bench → Bench
+with_bounds high_text high low_text low b = with_expr (with_expr b (known_literal high_text high)) (known_literal low_text low)
+
+abbrev pub with_fixed_slice : IndexableExpr → List ℕ → ℤ → List ℕ → ℤ → Bench → Bench
+with_fixed_slice subject high_text high low_text low b =
+  with_expr (with_bounds high_text high low_text low b) (SliceTree (tree_of b (indexable_expr_to_expr subject)) (known_literal high_text high) (known_literal low_text low))
+
+abbrev pub next_fixed_slice : List ℕ → ℤ → List ℕ → ℤ → Bench → Slice
+next_fixed_slice high_text high low_text low b = next_slice (with_bounds high_text high low_text low b)
+
+-- A replication by a number: a literal of the count, and the replication.
+abbrev pub with_fixed_replication : ℤ → List Expr → Bench → Bench
+with_fixed_replication count parts b = with_expr (with_expr b (decimal_literal count)) (ConcatTree (SomeExpr (decimal_literal count)) (trees_of b parts))
+
+abbrev pub next_fixed_replication : ℤ → Bench → Expr
+next_fixed_replication count b = next_expr (with_expr b (decimal_literal count))
+
 -- A literal of the width, and a vector of that width.
 abbrev pub width_literal : ℤ → ExprTree
-width_literal bits = LiteralTree (signed_decimal bits) (Some bits)
+width_literal bits = decimal_literal bits
 
 abbrev pub with_vector : ℤ → Bool → Bench → Bench
 with_vector bits signed b = with_type (with_expr b (width_literal bits)) (VectorTree (width_literal bits) (Some bits) signed)

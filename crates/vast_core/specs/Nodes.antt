@@ -1,16 +1,18 @@
 -- The arena of expressions and types: nodes, and the trees that they stand for.
-use Rattle.std.specs.Prelude.{◌≡◌, ℕ, ◌+◌, ◌<◌, Bool, true, false, IsTrue, List, [], ◌∷◌, ◌++◌, length, Option, Some, None, slice_get, string_bytes}
-use Rattle.vast_literal.specs.Tree.{ExprTree, NameTree, LiteralTree, StringTree, UnaryTree, BinaryTree, TernaryTree, IndexTree, SliceTree, PartSelectTree, ConcatTree, PatternTree, WidthCastTree, TypeCastTree, PosEdgeTree, NegEdgeTree, MacroTree, CallTree, MissingExpr, TypeTree, ScalarTree, VectorTree, MissingType, MaybeType, Untyped, Typed}
+use Rattle.std.specs.Prelude.{◌≡◌, ℕ, ◌+◌, ◌<◌, Bool, true, false, IsTrue, List, [], ◌∷◌, ◌++◌, length, Option, Some, None, slice_get, string_bytes, All, Vec}
+use Rattle.std.specs.declared.alloc.Global.{Global}
+use Rattle.vast_literal.specs.Tree.{ExprTree, NameTree, LiteralTree, StringTree, UnaryTree, BinaryTree, TernaryTree, IndexTree, SliceTree, PartSelectTree, ConcatTree, PatternTree, WidthCastTree, TypeCastTree, PosEdgeTree, NegEdgeTree, MacroTree, CallTree, MissingExpr, TypeTree, ScalarTree, VectorTree, IntegerTree, IntTree, ExternalTree, PackageTree, PackedTree, UnpackedTree, MissingType, MaybeType, Untyped, Typed, MaybeExpr, NoExpr, SomeExpr, Exprs, NoExprs, MoreExprs, MaybeExprs, NoArguments, SomeArguments}
 use Rattle.vast_core.specs.declared.handle.Id.{Id}
 use Rattle.vast_core.specs.declared.handle.Expr.{Expr}
 use Rattle.vast_core.specs.declared.handle.VastDataType.{VastDataType}
 use Rattle.vast_core.specs.declared.node.ExprNode.{ExprNode}
-use Rattle.vast_core.specs.declared.node.ExprNode.TheVariants.{Name, Literal}
+use Rattle.vast_core.specs.declared.node.ExprNode.TheVariants.{Name, Literal, StringText, Unary, Binary, Ternary, Index, Slice, PartSelect, Concat, Pattern, WidthCast, TypeCast, PosEdge, NegEdge, Macro, Call}
 use Rattle.vast_core.specs.declared.node.TypeNode.{TypeNode}
-use Rattle.vast_core.specs.declared.node.TypeNode.TheVariants.{Scalar, Vector}
+use Rattle.vast_core.specs.declared.node.TypeNode.TheVariants.{Scalar, Vector, Integer, Int, External, Package, Packed, Unpacked}
 use Rattle.vast_core.specs.declared.node.Term.{Term}
 use Rattle.vast_core.specs.declared.node.Term.TheVariants.{Expression, DataType}
 use Rattle.vast_core.specs.Handles.{rank, type_rank}
+use Rattle.vast_core.specs.Kinds.{unary_of, binary_of}
 
 -- What a node of the arena stands for.
 pub data Root : Type 0 where
@@ -94,14 +96,47 @@ abbrev pub maybe_type_in : Nodes → Option VastDataType → MaybeType
 maybe_type_in b None = Untyped
 maybe_type_in b (Some t) = Typed (type_in b t)
 
+abbrev pub maybe_expr_in : Nodes → Option Expr → MaybeExpr
+maybe_expr_in b None = NoExpr
+maybe_expr_in b (Some e) = SomeExpr (expr_in b e)
+
+abbrev pub exprs_in : Nodes → List Expr → Exprs
+exprs_in b [] = NoExprs
+exprs_in b (e ∷ es) = MoreExprs (expr_in b e) (exprs_in b es)
+
+abbrev pub maybe_exprs_in : Nodes → Option (Vec Expr Global) → MaybeExprs
+maybe_exprs_in b None = NoArguments
+maybe_exprs_in b (Some es) = SomeArguments (exprs_in b es.items)
+
 -- The tree of a node, from those of its children.
 abbrev pub expr_tree : Nodes → ExprNode → ExprTree
 expr_tree b (Name name type) = NameTree (string_bytes name) (maybe_type_in b type)
 expr_tree b (Literal text value) = LiteralTree (string_bytes text) value
+expr_tree b (StringText text) = StringTree (string_bytes text)
+expr_tree b (Unary operator operand) = UnaryTree (unary_of operator) (expr_in b operand)
+expr_tree b (Binary operator left right) = BinaryTree (binary_of operator) (expr_in b left) (expr_in b right)
+expr_tree b (Ternary condition consequent alternate) = TernaryTree (expr_in b condition) (expr_in b consequent) (expr_in b alternate)
+expr_tree b (Index subject index) = IndexTree (expr_in b subject) (expr_in b index)
+expr_tree b (Slice subject high low) = SliceTree (expr_in b subject) (expr_in b high) (expr_in b low)
+expr_tree b (PartSelect subject start width) = PartSelectTree (expr_in b subject) (expr_in b start) width
+expr_tree b (Concat count parts) = ConcatTree (maybe_expr_in b count) (exprs_in b parts.items)
+expr_tree b (Pattern parts) = PatternTree (exprs_in b parts.items)
+expr_tree b (WidthCast width operand) = WidthCastTree (expr_in b width) (expr_in b operand)
+expr_tree b (TypeCast type operand) = TypeCastTree (type_in b type) (expr_in b operand)
+expr_tree b (PosEdge operand) = PosEdgeTree (expr_in b operand)
+expr_tree b (NegEdge operand) = NegEdgeTree (expr_in b operand)
+expr_tree b (Macro name arguments) = MacroTree (string_bytes name) (maybe_exprs_in b arguments)
+expr_tree b (Call name arguments) = CallTree (string_bytes name) (exprs_in b arguments.items)
 
 abbrev pub type_tree : Nodes → TypeNode → TypeTree
 type_tree b (Scalar signed) = ScalarTree signed
 type_tree b (Vector width value signed) = VectorTree (expr_in b width) value signed
+type_tree b (Integer signed) = IntegerTree signed
+type_tree b (Int signed) = IntTree signed
+type_tree b (External name) = ExternalTree (string_bytes name)
+type_tree b (Package package_name name) = PackageTree (string_bytes package_name) (string_bytes name)
+type_tree b (Packed element dimensions) = PackedTree (type_in b element) dimensions.items
+type_tree b (Unpacked element dimensions) = UnpackedTree (type_in b element) dimensions.items
 
 abbrev pub term_root : Nodes → Term → Root
 term_root b (Expression n) = ExprRoot (expr_tree b n)
@@ -116,10 +151,31 @@ OptionHolds P (Some x) = P x
 abbrev pub ExprChildrenHold : (P : Expr → Type 0) (Q : VastDataType → Type 0) → ExprNode → Type 0
 ExprChildrenHold P Q (Name name type) = OptionHolds Q type
 ExprChildrenHold P Q (Literal text value) = Unit {0}
+ExprChildrenHold P Q (StringText text) = Unit {0}
+ExprChildrenHold P Q (Unary operator operand) = P operand
+ExprChildrenHold P Q (Binary operator left right) = P left × P right
+ExprChildrenHold P Q (Ternary condition consequent alternate) = P condition × P consequent × P alternate
+ExprChildrenHold P Q (Index subject index) = P subject × P index
+ExprChildrenHold P Q (Slice subject high low) = P subject × P high × P low
+ExprChildrenHold P Q (PartSelect subject start width) = P subject × P start
+ExprChildrenHold P Q (Concat count parts) = OptionHolds P count × All P parts.items
+ExprChildrenHold P Q (Pattern parts) = All P parts.items
+ExprChildrenHold P Q (WidthCast width operand) = P width × P operand
+ExprChildrenHold P Q (TypeCast type operand) = Q type × P operand
+ExprChildrenHold P Q (PosEdge operand) = P operand
+ExprChildrenHold P Q (NegEdge operand) = P operand
+ExprChildrenHold P Q (Macro name arguments) = OptionHolds (λ parts. All P parts.items) arguments
+ExprChildrenHold P Q (Call name arguments) = All P arguments.items
 
 abbrev pub TypeChildrenHold : (P : Expr → Type 0) (Q : VastDataType → Type 0) → TypeNode → Type 0
 TypeChildrenHold P Q (Scalar signed) = Unit {0}
 TypeChildrenHold P Q (Vector width value signed) = P width
+TypeChildrenHold P Q (Integer signed) = Unit {0}
+TypeChildrenHold P Q (Int signed) = Unit {0}
+TypeChildrenHold P Q (External name) = Unit {0}
+TypeChildrenHold P Q (Package package_name name) = Unit {0}
+TypeChildrenHold P Q (Packed element dimensions) = Q element
+TypeChildrenHold P Q (Unpacked element dimensions) = Q element
 
 abbrev pub ChildrenHold : (P : Expr → Type 0) (Q : VastDataType → Type 0) → Term → Type 0
 ChildrenHold P Q (Expression n) = ExprChildrenHold P Q n

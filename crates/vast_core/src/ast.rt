@@ -11,10 +11,13 @@ use std::alloc::Global;
 use std::marker::Model;
 
 mod assignments;
+mod expressions;
 mod modules;
 pub(crate) mod owns;
+mod places;
 mod ports;
 mod terms;
+mod types;
 
 /// The nodes of one file, in arenas. Handles name nodes by their index.
 ///

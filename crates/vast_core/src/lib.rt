@@ -9,6 +9,8 @@ mod file_ids;
 mod handle;
 mod kind;
 mod node;
+mod operator;
+mod shape;
 
 pub use ast::Ast;
 pub use ast::owns::Handle;
@@ -19,3 +21,4 @@ pub use handle::{LocalparamRef, LogicRef, MacroRef, MacroStatement, ModulePort, 
 pub use handle::{VastAlwaysBase, VastDataType, VastFunction, VastModule, VastStatement, VastStatementBlock};
 pub use kind::{AlwaysKind, DataKind, ModulePortDirection, VastFileType};
 pub use node::{Assignment, ExprNode, FileItem, Member, Module, Port, TypeNode};
+pub use operator::{BinaryOperator, UnaryOperator};

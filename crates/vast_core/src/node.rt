@@ -3,6 +3,7 @@
 use crate::handle::{CaseStatement, Conditional, ContinuousAssignment, Expr, LogicRef, MacroRef};
 use crate::handle::{ModulePort, VastDataType, VastModule, VastStatement, VastStatementBlock};
 use crate::kind::{AlwaysKind, DataKind, ModulePortDirection};
+use crate::operator::{BinaryOperator, UnaryOperator};
 use std::collections::BTreeSet;
 
 /// An expression.
@@ -12,6 +13,32 @@ pub enum ExprNode {
     Name(String, Option<VastDataType>),
     /// A literal's text, and its value where that is known.
     Literal(String, Option<i64>),
+    /// A string's text, with its quotes.
+    StringText(String),
+    Unary(UnaryOperator, Expr),
+    Binary(BinaryOperator, Expr, Expr),
+    /// The condition, the consequent and the alternate of `c ? a : b`.
+    Ternary(Expr, Expr, Expr),
+    /// The subject and the index of `s[i]`.
+    Index(Expr, Expr),
+    /// The subject and the bounds of `s[h:l]`.
+    Slice(Expr, Expr, Expr),
+    /// The subject, the start and the width in bits of `s[start +: width]`.
+    PartSelect(Expr, Expr, i64),
+    /// A concatenation `{a, b}`, or with a count its replication `{n{a, b}}`.
+    Concat(Option<Expr>, Vec<Expr>),
+    /// An array pattern `'{a, b}`.
+    Pattern(Vec<Expr>),
+    /// The width and the operand of `w'(v)`.
+    WidthCast(Expr, Expr),
+    /// The type and the operand of a cast to a type.
+    TypeCast(VastDataType, Expr),
+    PosEdge(Expr),
+    NegEdge(Expr),
+    /// The use of a macro, with its arguments where it was given a list.
+    Macro(String, Option<Vec<Expr>>),
+    /// The call of a function.
+    Call(String, Vec<Expr>),
 }
 
 /// A data type.
@@ -21,6 +48,18 @@ pub enum TypeNode {
     Scalar(bool),
     /// A vector: its width, the width's value where that is known, and whether it is signed.
     Vector(Expr, Option<i64>, bool),
+    /// Verilog's `integer`, signed or not.
+    Integer(bool),
+    /// SystemVerilog's `int`, signed or not.
+    Int(bool),
+    /// A type of this name, declared elsewhere.
+    External(String),
+    /// A package, and the name of a type of it.
+    Package(String, String),
+    /// A packed array: its elements' type, and its dimensions from the outermost.
+    Packed(VastDataType, Vec<i64>),
+    /// An unpacked array: its elements' type, and its dimensions from the outermost.
+    Unpacked(VastDataType, Vec<i64>),
 }
 
 /// A node of the arena that expressions and types share: types hold widths and names hold types, so that "children

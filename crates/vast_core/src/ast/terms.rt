@@ -1,12 +1,11 @@
-//! Expressions and types: growing their arena and reading it.
+//! The arena of expressions and types: growing it and reading it.
 
-ghost use Rattle.std.specs.Prelude.{◌≡◌, ◌+◌, ◌<◌, ◌≤◌, ◌≤ℤ◌, pos, length, IfSome, IfNone, OnOk, None, Some, slice_get};
+ghost use Rattle.std.specs.Prelude.{◌≡◌, ◌+◌, ◌<◌, ◌≤◌, length, IfSome, IfNone, OnOk, None, Some, slice_get};
 ghost use Rattle.vast_core.specs.Handles.{rank, type_rank};
 ghost use Rattle.vast_core.specs.Nodes.{IsNodeAt, ChildrenHold, ExprChildrenHold, TypeChildrenHold, HasExpr, HasType, term_root, expr_tree, type_tree};
 ghost use Rattle.vast_core.specs.Bench.{OwnsExpr, OwnsType, tree_of, type_of};
-ghost use Rattle.vast_core.specs.Growth.{Builds, with_root, with_expr, with_type, with_vector, next_expr, next_type, next_vector, width_literal};
+ghost use Rattle.vast_core.specs.Growth.{with_root, with_expr, with_type, next_expr, next_type};
 ghost use Rattle.vast_core.specs.View.{bench, room};
-ghost use Rattle.vast_literal.specs.Tree.{ScalarTree, VectorTree};
 
 use crate::ast::Ast;
 use crate::handle::{Expr, Id, VastDataType};
@@ -16,7 +15,7 @@ use std::alloc::AllocError;
 impl Ast {
     /// Makes room for `count` more expressions and types.
     #[tactic(auto, unfolding(crate::specs::View::bench, crate::specs::View::room))]
-    fn reserve_terms(&mut self, count: usize) -> Result<(), AllocError>
+    pub(crate) fn reserve_terms(&mut self, count: usize) -> Result<(), AllocError>
         ensures room { OnOk result (count ≤ room self.new) }
         ensures unchanged { bench self.new ≡ bench self.old }
     {
@@ -37,7 +36,7 @@ impl Ast {
         index
     }
 
-    fn plant_expr(&mut self, node: ExprNode) -> Expr
+    pub(crate) fn plant_expr(&mut self, node: ExprNode) -> Expr
         requires children { ExprChildrenHold (OwnsExpr (bench self.old)) (OwnsType (bench self.old)) node }
         requires room { 0 < room self.old }
         ensures handle { result ≡ next_expr (bench self.old) }
@@ -51,7 +50,7 @@ impl Ast {
         }
     }
 
-    fn plant_type(&mut self, node: TypeNode) -> VastDataType
+    pub(crate) fn plant_type(&mut self, node: TypeNode) -> VastDataType
         requires children { TypeChildrenHold (OwnsExpr (bench self.old)) (OwnsType (bench self.old)) node }
         requires room { 0 < room self.old }
         ensures handle { result ≡ next_type (bench self.old) }
@@ -63,39 +62,6 @@ impl Ast {
         VastDataType {
             id: Id { file_id, index },
         }
-    }
-
-    fn push_type(&mut self, node: TypeNode) -> Result<VastDataType, AllocError>
-        requires { TypeChildrenHold (OwnsExpr (bench self.old)) (OwnsType (bench self.old)) node }
-        ensures { Builds (bench self.old) (bench self.new) result (next_type (bench self.old)) (with_type (bench self.old) (type_tree (bench self.old).nodes node)) }
-    {
-        self.reserve_terms(1)?;
-        Ok(self.plant_type(node))
-    }
-
-    /// Adds the type of one bit.
-    ///
-    /// # Errors
-    /// `AllocError` where a growth was refused; nothing changed.
-    pub fn push_scalar(&mut self, signed: bool) -> Result<VastDataType, AllocError>
-        ensures { Builds (bench self.old) (bench self.new) result (next_type (bench self.old)) (with_type (bench self.old) (ScalarTree signed)) }
-    {
-        self.push_type(TypeNode::Scalar(signed))
-    }
-
-    /// Adds a vector of `bits` bits, and before it the literal of its width.
-    ///
-    /// # Errors
-    /// `AllocError` where a growth was refused; nothing changed.
-    #[tactic(auto, using(crate::proofs::Laws::terms))]
-    pub fn push_vector(&mut self, bits: i64, signed: bool) -> Result<VastDataType, AllocError>
-        requires { pos 1 ≤ℤ bits }
-        ensures { Builds (bench self.old) (bench self.new) result (next_vector bits (bench self.old)) (with_vector bits signed (bench self.old)) }
-    {
-        let text = format!(in self.alloc; "{bits}")?;
-        self.reserve_terms(2)?;
-        let width = self.plant_expr(ExprNode::Literal(text, Some(bits)));
-        Ok(self.plant_type(TypeNode::Vector(width, Some(bits), signed)))
     }
 
     pub(crate) fn node(&self, index: usize) -> Option<&Term>

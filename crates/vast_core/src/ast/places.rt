@@ -1,0 +1,256 @@
+//! What kind of node an index names.
+
+ghost use Rattle.std.specs.Prelude.{◌≡◌, ◌↔◌, IsTrue, length, nat_lt, slice_get};
+ghost use Rattle.std.specs.Option.{option_copied};
+ghost use Rattle.vast_core.specs.Nodes.{is_expr_root, is_type_root, is_name, is_index, is_slice, is_macro};
+ghost use Rattle.vast_core.specs.Bench.{has_root, is_continuous, is_blank_line, is_comment, is_inline, is_macro_statement, is_block, is_conditional, is_case, is_loop};
+ghost use Rattle.vast_core.specs.View.{bench};
+
+use crate::ast::Ast;
+use crate::handle::Id;
+use crate::node::{Artifact, Assignment, Nest, Term};
+
+impl Ast {
+    pub(crate) fn gave(&self, id: Id) -> bool
+        ensures { IsTrue result ↔ (id.file_id ≡ (bench self.now).nodes.id) }
+    {
+        id.file_id == self.id()
+    }
+
+    pub(crate) fn is_expr_at(&self, index: usize) -> bool
+        ensures { result ≡ is_expr_root (slice_get (bench self.now).nodes.roots index) }
+    {
+        match self.node(index) {
+            Some(Term::Expression(_)) => true,
+            Some(Term::DataType(_)) => false,
+            None => false,
+        }
+    }
+
+    pub(crate) fn is_type_at(&self, index: usize) -> bool
+        ensures { result ≡ is_type_root (slice_get (bench self.now).nodes.roots index) }
+    {
+        match self.node(index) {
+            Some(Term::Expression(_)) => false,
+            Some(Term::DataType(_)) => true,
+            None => false,
+        }
+    }
+
+    pub(crate) fn is_name_at(&self, index: usize) -> bool
+        ensures { result ≡ has_root is_name (bench self.now) index }
+    {
+        match self.node(index) {
+            Some(Term::Expression(node)) => node.is_name(),
+            Some(Term::DataType(_)) => false,
+            None => false,
+        }
+    }
+
+    pub(crate) fn is_index_at(&self, index: usize) -> bool
+        ensures { result ≡ has_root is_index (bench self.now) index }
+    {
+        match self.node(index) {
+            Some(Term::Expression(node)) => node.is_index(),
+            Some(Term::DataType(_)) => false,
+            None => false,
+        }
+    }
+
+    pub(crate) fn is_slice_at(&self, index: usize) -> bool
+        ensures { result ≡ has_root is_slice (bench self.now) index }
+    {
+        match self.node(index) {
+            Some(Term::Expression(node)) => node.is_slice(),
+            Some(Term::DataType(_)) => false,
+            None => false,
+        }
+    }
+
+    pub(crate) fn is_macro_at(&self, index: usize) -> bool
+        ensures { result ≡ has_root is_macro (bench self.now) index }
+    {
+        match self.node(index) {
+            Some(Term::Expression(node)) => node.is_macro(),
+            Some(Term::DataType(_)) => false,
+            None => false,
+        }
+    }
+
+    #[tactic(auto, unfolding(crate::specs::View::bench))]
+    pub(crate) fn is_module_at(&self, index: usize) -> bool
+        ensures { result ≡ nat_lt index (length (bench self.now).modules) }
+    {
+        index < self.modules.len()
+    }
+
+    #[tactic(auto, unfolding(crate::specs::View::bench))]
+    pub(crate) fn is_port_at(&self, index: usize) -> bool
+        ensures { result ≡ nat_lt index (length (bench self.now).ports) }
+    {
+        index < self.ports.len()
+    }
+
+    #[tactic(auto, unfolding(crate::specs::View::bench))]
+    pub(crate) fn is_function_at(&self, index: usize) -> bool
+        ensures { result ≡ nat_lt index (length (bench self.now).functions) }
+    {
+        index < self.functions.len()
+    }
+
+    #[tactic(auto, unfolding(crate::specs::View::bench))]
+    pub(crate) fn is_instance_at(&self, index: usize) -> bool
+        ensures { result ≡ nat_lt index (length (bench self.now).instances) }
+    {
+        index < self.instances.len()
+    }
+
+    #[tactic(auto, unfolding(crate::specs::View::bench))]
+    pub(crate) fn is_always_block_at(&self, index: usize) -> bool
+        ensures { result ≡ nat_lt index (length (bench self.now).always_blocks) }
+    {
+        index < self.always_blocks.len()
+    }
+
+    #[tactic(auto, unfolding(crate::specs::View::bench))]
+    pub(crate) fn is_definition_at(&self, index: usize) -> bool
+        ensures { result ≡ nat_lt index (length (bench self.now).definitions) }
+    {
+        index < self.definitions.len()
+    }
+
+    #[tactic(auto, unfolding(crate::specs::View::bench))]
+    pub(crate) fn is_assignment_at(&self, index: usize) -> bool
+        ensures { result ≡ nat_lt index (length (bench self.now).assignments) }
+    {
+        index < self.assignments.len()
+    }
+}
+
+impl Ast {
+    #[tactic(auto, unfolding(crate::specs::View::bench))]
+    fn artifact_at(&self, index: usize) -> Option<&Artifact>
+        ensures { slice_get (bench self.now).artifacts index ≡ option_copied result }
+    {
+        self.artifacts.get(index)
+    }
+
+    pub(crate) fn is_blank_line_at(&self, index: usize) -> bool
+        ensures { result ≡ is_blank_line (slice_get (bench self.now).artifacts index) }
+    {
+        match self.artifact_at(index) {
+            Some(Artifact::BlankLine) => true,
+            Some(Artifact::Comment(_)) => false,
+            Some(Artifact::Inline(_)) => false,
+            Some(Artifact::MacroStatement(_, _)) => false,
+            None => false,
+        }
+    }
+
+    pub(crate) fn is_comment_at(&self, index: usize) -> bool
+        ensures { result ≡ is_comment (slice_get (bench self.now).artifacts index) }
+    {
+        match self.artifact_at(index) {
+            Some(Artifact::BlankLine) => false,
+            Some(Artifact::Comment(_)) => true,
+            Some(Artifact::Inline(_)) => false,
+            Some(Artifact::MacroStatement(_, _)) => false,
+            None => false,
+        }
+    }
+
+    pub(crate) fn is_inline_at(&self, index: usize) -> bool
+        ensures { result ≡ is_inline (slice_get (bench self.now).artifacts index) }
+    {
+        match self.artifact_at(index) {
+            Some(Artifact::BlankLine) => false,
+            Some(Artifact::Comment(_)) => false,
+            Some(Artifact::Inline(_)) => true,
+            Some(Artifact::MacroStatement(_, _)) => false,
+            None => false,
+        }
+    }
+
+    pub(crate) fn is_macro_statement_at(&self, index: usize) -> bool
+        ensures { result ≡ is_macro_statement (slice_get (bench self.now).artifacts index) }
+    {
+        match self.artifact_at(index) {
+            Some(Artifact::BlankLine) => false,
+            Some(Artifact::Comment(_)) => false,
+            Some(Artifact::Inline(_)) => false,
+            Some(Artifact::MacroStatement(_, _)) => true,
+            None => false,
+        }
+    }
+
+    #[tactic(auto, unfolding(crate::specs::View::bench))]
+    fn nest_at(&self, index: usize) -> Option<&Nest>
+        ensures { slice_get (bench self.now).nests index ≡ option_copied result }
+    {
+        self.nests.get(index)
+    }
+
+    pub(crate) fn is_block_at(&self, index: usize) -> bool
+        ensures { result ≡ is_block (slice_get (bench self.now).nests index) }
+    {
+        match self.nest_at(index) {
+            Some(Nest::Block(_)) => true,
+            Some(Nest::Conditional(_, _, _)) => false,
+            Some(Nest::Case(_, _)) => false,
+            Some(Nest::Loop(_, _)) => false,
+            None => false,
+        }
+    }
+
+    pub(crate) fn is_conditional_at(&self, index: usize) -> bool
+        ensures { result ≡ is_conditional (slice_get (bench self.now).nests index) }
+    {
+        match self.nest_at(index) {
+            Some(Nest::Block(_)) => false,
+            Some(Nest::Conditional(_, _, _)) => true,
+            Some(Nest::Case(_, _)) => false,
+            Some(Nest::Loop(_, _)) => false,
+            None => false,
+        }
+    }
+
+    pub(crate) fn is_case_at(&self, index: usize) -> bool
+        ensures { result ≡ is_case (slice_get (bench self.now).nests index) }
+    {
+        match self.nest_at(index) {
+            Some(Nest::Block(_)) => false,
+            Some(Nest::Conditional(_, _, _)) => false,
+            Some(Nest::Case(_, _)) => true,
+            Some(Nest::Loop(_, _)) => false,
+            None => false,
+        }
+    }
+
+    pub(crate) fn is_loop_at(&self, index: usize) -> bool
+        ensures { result ≡ is_loop (slice_get (bench self.now).nests index) }
+    {
+        match self.nest_at(index) {
+            Some(Nest::Block(_)) => false,
+            Some(Nest::Conditional(_, _, _)) => false,
+            Some(Nest::Case(_, _)) => false,
+            Some(Nest::Loop(_, _)) => true,
+            None => false,
+        }
+    }
+
+    #[tactic(auto, unfolding(crate::specs::View::bench))]
+    fn assignment_at(&self, index: usize) -> Option<&Assignment>
+        ensures { slice_get (bench self.now).assignments index ≡ option_copied result }
+    {
+        self.assignments.get(index)
+    }
+
+    pub(crate) fn is_continuous_at(&self, index: usize) -> bool
+        ensures { result ≡ is_continuous (slice_get (bench self.now).assignments index) }
+    {
+        match self.assignment_at(index) {
+            Some(assignment) => !assignment.nonblocking,
+            None => false,
+        }
+    }
+}

@@ -1,0 +1,59 @@
+//! Shapes of expressions that handles of their own name.
+
+ghost use Rattle.std.specs.Prelude.{◌≡◌};
+ghost use Rattle.vast_core.specs.Nodes.{Nodes, expr_tree, is_name, is_index, is_slice, is_macro};
+ghost use Rattle.vast_core.specs.Types.{literal_value};
+
+use crate::node::ExprNode;
+
+impl ExprNode {
+    /// Whether it is a name.
+    pub(crate) fn is_name(&self) -> bool
+        ensures { (b : Nodes) → result ≡ is_name (expr_tree b self.now) }
+    {
+        match self {
+            ExprNode::Name(_, _) => true,
+            ExprNode::Literal(_, _) | ExprNode::StringText(_) | ExprNode::Unary(_, _) | ExprNode::Binary(_, _, _) | ExprNode::Ternary(_, _, _) | ExprNode::Index(_, _) | ExprNode::Slice(_, _, _) | ExprNode::PartSelect(_, _, _) | ExprNode::Concat(_, _) | ExprNode::Pattern(_) | ExprNode::WidthCast(_, _) | ExprNode::TypeCast(_, _) | ExprNode::PosEdge(_) | ExprNode::NegEdge(_) | ExprNode::Macro(_, _) | ExprNode::Call(_, _) => false,
+        }
+    }
+
+    /// Whether it is a bit select `s[i]`.
+    pub(crate) fn is_index(&self) -> bool
+        ensures { (b : Nodes) → result ≡ is_index (expr_tree b self.now) }
+    {
+        match self {
+            ExprNode::Index(_, _) => true,
+            ExprNode::Name(_, _) | ExprNode::Literal(_, _) | ExprNode::StringText(_) | ExprNode::Unary(_, _) | ExprNode::Binary(_, _, _) | ExprNode::Ternary(_, _, _) | ExprNode::Slice(_, _, _) | ExprNode::PartSelect(_, _, _) | ExprNode::Concat(_, _) | ExprNode::Pattern(_) | ExprNode::WidthCast(_, _) | ExprNode::TypeCast(_, _) | ExprNode::PosEdge(_) | ExprNode::NegEdge(_) | ExprNode::Macro(_, _) | ExprNode::Call(_, _) => false,
+        }
+    }
+
+    /// Whether it is a part select `s[h:l]`.
+    pub(crate) fn is_slice(&self) -> bool
+        ensures { (b : Nodes) → result ≡ is_slice (expr_tree b self.now) }
+    {
+        match self {
+            ExprNode::Slice(_, _, _) => true,
+            ExprNode::Name(_, _) | ExprNode::Literal(_, _) | ExprNode::StringText(_) | ExprNode::Unary(_, _) | ExprNode::Binary(_, _, _) | ExprNode::Ternary(_, _, _) | ExprNode::Index(_, _) | ExprNode::PartSelect(_, _, _) | ExprNode::Concat(_, _) | ExprNode::Pattern(_) | ExprNode::WidthCast(_, _) | ExprNode::TypeCast(_, _) | ExprNode::PosEdge(_) | ExprNode::NegEdge(_) | ExprNode::Macro(_, _) | ExprNode::Call(_, _) => false,
+        }
+    }
+
+    /// Whether it is the use of a macro.
+    pub(crate) fn is_macro(&self) -> bool
+        ensures { (b : Nodes) → result ≡ is_macro (expr_tree b self.now) }
+    {
+        match self {
+            ExprNode::Macro(_, _) => true,
+            ExprNode::Name(_, _) | ExprNode::Literal(_, _) | ExprNode::StringText(_) | ExprNode::Unary(_, _) | ExprNode::Binary(_, _, _) | ExprNode::Ternary(_, _, _) | ExprNode::Index(_, _) | ExprNode::Slice(_, _, _) | ExprNode::PartSelect(_, _, _) | ExprNode::Concat(_, _) | ExprNode::Pattern(_) | ExprNode::WidthCast(_, _) | ExprNode::TypeCast(_, _) | ExprNode::PosEdge(_) | ExprNode::NegEdge(_) | ExprNode::Call(_, _) => false,
+        }
+    }
+
+    /// A literal's value, where that is known.
+    pub(crate) fn literal_value(&self) -> Option<i64>
+        ensures { (b : Nodes) → result ≡ literal_value (expr_tree b self.now) }
+    {
+        match self {
+            ExprNode::Literal(_, value) => *value,
+            ExprNode::Name(_, _) | ExprNode::StringText(_) | ExprNode::Unary(_, _) | ExprNode::Binary(_, _, _) | ExprNode::Ternary(_, _, _) | ExprNode::Index(_, _) | ExprNode::Slice(_, _, _) | ExprNode::PartSelect(_, _, _) | ExprNode::Concat(_, _) | ExprNode::Pattern(_) | ExprNode::WidthCast(_, _) | ExprNode::TypeCast(_, _) | ExprNode::PosEdge(_) | ExprNode::NegEdge(_) | ExprNode::Macro(_, _) | ExprNode::Call(_, _) => None,
+        }
+    }
+}
