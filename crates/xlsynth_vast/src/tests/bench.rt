@@ -1,6 +1,6 @@
 //! A file whose calls are made after their conditions were tested.
 
-use crate::{Expr, FileIds, LogicRef, VastDataType, VastFile, VastFileType, VastModule};
+use crate::{Expr, FileIds, LogicRef, VastDataType, VastFault, VastFile, VastFileType, VastModule};
 use std::alloc::{AllocError, Global};
 use std::process::Abort;
 
@@ -23,6 +23,11 @@ impl<'a, R: Abort> Bench<'a, R> {
     pub(crate) fn module_name(&self, m: VastModule) -> Result<String, AllocError> {
         assert!(self.rt; self.file.owns(&m));
         self.file.module_name(m)
+    }
+
+    pub(crate) fn expression(&self, e: Expr) -> Result<String, VastFault> {
+        assert!(self.rt; self.file.owns(&e));
+        self.file.emit_expression(&e)
     }
 
     pub(crate) fn name_is_free(&self, m: VastModule, name: &str) -> bool {
