@@ -1,1 +1,4 @@
 pub mod Tree
+pub mod Fault
+pub mod Pattern
+pub mod Quoted

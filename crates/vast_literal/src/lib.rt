@@ -5,6 +5,7 @@ mod error;
 mod literal;
 mod pattern;
 mod quoted;
+mod refusal;
 #[cfg(test)]
 mod tests;
 
