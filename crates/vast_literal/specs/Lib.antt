@@ -2,3 +2,6 @@ pub mod Tree
 pub mod Fault
 pub mod Pattern
 pub mod Quoted
+pub mod Digits
+pub mod Literal
+pub mod Spelling
