@@ -1,1 +1,2 @@
 pub mod QuotedLaws
+pub mod Numbers

@@ -1,5 +1,5 @@
 -- Digits: the numbers that they write, read and written.
-use Rattle.std.specs.Prelude.{ℕ, zero, suc, ◌+◌, ◌*◌, ◌/◌, ◌%◌, ◌^◌, max, List, [], ◌∷◌, length, Bool, not, ◌&&◌, ◌||◌, ◌==◌, filter, if◌then◌else◌}
+use Rattle.std.specs.Prelude.{ℕ, zero, suc, ◌+◌, ◌*◌, ◌/◌, ◌%◌, ◌^◌, max, List, [], ◌∷◌, ◌++◌, length, Bool, not, nat_lt, ◌&&◌, ◌||◌, ◌==◌, filter, if◌then◌else◌}
 use Rattle.std.specs.List.{list_all, list_any}
 use Rattle.std.specs.Char.{digit_value, digit_char, is_digit}
 use Rattle.std.specs.Int.Digits.{digits_of}
@@ -43,8 +43,11 @@ abbrev pub characters : List ℕ → List ℕ
 characters [] = []
 characters (d ∷ ds) = digit_char d ∷ characters ds
 
--- The same with an underscore behind each digit that has a multiple of four digits behind it, but the last.
+-- What separates a digit with so many digits behind it from the next: an underscore between groups of four.
+abbrev pub separator : ℕ → List ℕ
+separator count = if nat_lt 0 count && (count % 4 == 0) then 95 ∷ [] else []
+
+-- The characters of digits, with an underscore between groups of four digits from the right.
 abbrev pub grouped : List ℕ → List ℕ
 grouped [] = []
-grouped (d ∷ []) = digit_char d ∷ []
-grouped (d ∷ e ∷ ds) = if (length ds + 1) % 4 == 0 then digit_char d ∷ 95 ∷ grouped (e ∷ ds) else digit_char d ∷ grouped (e ∷ ds)
+grouped (d ∷ ds) = digit_char d ∷ (separator (length ds) ++ grouped ds)
