@@ -1,2 +1,3 @@
 pub mod QuotedLaws
 pub mod Numbers
+pub mod Widths

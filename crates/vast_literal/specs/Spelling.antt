@@ -1,5 +1,6 @@
 -- How a literal is written in a format, and which numbers a format takes.
 use Rattle.std.specs.Prelude.{ℕ, ◌+◌, ◌-◌, ◌/◌, ◌^◌, List, ◌∷◌, ◌++◌, Bool, ◌&&◌, ◌==◌, nat_lt, nat_le, codes, Result, Ok, Err, if◌then◌else◌}
+use Rattle.std.specs.Int.{div_ceil}
 use Rattle.std.specs.Fmt.{decimal}
 use Rattle.vast_literal.specs.declared.literal.LiteralFormat.{LiteralFormat}
 use Rattle.vast_literal.specs.declared.literal.LiteralFormat.TheVariants.{Binary, Hex, SignedDecimal, UnsignedDecimal, UnsizedBinary, UnsizedDecimal, UnsizedHex}
@@ -25,15 +26,19 @@ taken UnsizedHex v = limited (codes "hexadecimal") 4294967295 v
 
 -- How many digits of so many bits a number of n bits has: one for a zero of more than 1024 bits.
 abbrev pub padded_count : ℕ → ℕ → ℕ → ℕ
-padded_count digit_bits n v = if v == 0 && nat_lt 1024 n then 1 else (n + digit_bits - 1) / digit_bits
+padded_count digit_bits n v = if v == 0 && nat_lt 1024 n then 1 else div_ceil n digit_bits
 
 -- A width, its base and digits.
 abbrev pub sized : ℕ → List ℕ → List ℕ → List ℕ
 sized n base digits = decimal n ++ base ++ digits
 
+-- Whether the highest of n bits is unset.
+unfoldable pub is_below_half : ℕ → ℕ → Bool
+is_below_half n v = nat_lt v (2 ^ (n - 1))
+
 -- A number of n bits in two's complement.
-abbrev pub signed_text : ℕ → ℕ → List ℕ
-signed_text n v = if nat_lt v (2 ^ (n - 1)) then sized n (codes "'sd") (decimal v) else 45 ∷ sized n (codes "'sd") (decimal (2 ^ n - v))
+unfoldable pub signed_text : ℕ → ℕ → List ℕ
+signed_text n v = if is_below_half n v then sized n (codes "'sd") (decimal v) else 45 ∷ sized n (codes "'sd") (decimal (2 ^ n - v))
 
 -- The text of a number v of n bits.
 unfoldable pub spelled : LiteralFormat → ℕ → ℕ → List ℕ

@@ -68,7 +68,8 @@ pub fn magnitude(digits: &[u8], radix: u32) -> Option<u128>
 /// How many digits of a radix a number has, at least one.
 pub fn digit_count(value: u128, radix: u128) -> usize
     requires { 2 ≤ radix }
-    ensures { result ≡ digit_count radix value }
+    ensures count { result ≡ digit_count radix value }
+    ensures few { result ≤ 128 }
 {
     let mut count = 0;
     let mut rest = value;
