@@ -1,5 +1,10 @@
 //! Literals of up to 1,048,576 bits, read from `bits[N]:value` and written as Verilog does.
 
+ghost use Rattle.std.specs.Prelude.{◌≡◌, ◌^◌, ◌<◌, ◌≤◌, Ok, MatchResult, IfOk, string_bytes};
+ghost use Rattle.vast_literal.specs.Fault.{HasText, OnlyRefusedBy};
+ghost use Rattle.vast_literal.specs.Literal.{Bits, IsLiteral, untyped_text, literal_of};
+ghost use Rattle.vast_literal.specs.Spelling.{taken, spelled};
+
 mod digits;
 mod limits;
 mod parts;
@@ -7,8 +12,10 @@ mod spelling;
 mod value;
 mod width;
 
-use crate::{VastError, VastFault};
+use crate::VastFault;
+use crate::refusal::refusal;
 use std::alloc::{AllocError, Global};
+use std::marker::Model;
 
 /// How a literal is written (the crate's `LiteralFormat`).
 #[derive(Clone, Copy, Debug, PartialEq, Eq, Hash)]
@@ -36,14 +43,31 @@ pub struct Literal {
     value: u128,
 }
 
+impl Model for Literal {
+    ghost Value = { Bits };
+
+    ghost view = { λ l. record { width = l.width; value = l.value } };
+
+    ghost invariant = { λ l. IsLiteral (record { width = l.width; value = l.value }) };
+
+    ghost inverse = { λ b. record { width = b.width; value = b.value } };
+}
+
 impl Literal {
     /// Its width in bits.
-    pub fn width(&self) -> usize {
+    pub fn width(&self) -> usize
+        ensures width { result ≡ self.now.width }
+        ensures positive { 1 ≤ result }
+        ensures narrow { result ≤ 1048576 }
+    {
         self.width
     }
 
     /// Its number, modulo 2 to the power of the width.
-    pub fn value(&self) -> u128 {
+    pub fn value(&self) -> u128
+        ensures value { result ≡ self.now.value }
+        ensures fits { result < 2 ^ self.now.width }
+    {
         self.value
     }
 
@@ -52,9 +76,12 @@ impl Literal {
     ///
     /// # Errors
     /// `Refused` with the text of the first check that fails.
-    pub fn parse(alloc: Global, text: &str) -> Result<Literal, VastFault> {
+    #[tactic(auto, unfolding(crate::specs::Literal::literal_of))]
+    pub fn parse(alloc: Global, text: &str) -> Result<Literal, VastFault>
+        ensures { MatchResult result (λ literal. literal_of text.now ≡ Ok literal) (OnlyRefusedBy (literal_of text.now)) }
+    {
         let Some((width_text, value_text)) = parts::split_typed(text) else {
-            return Err(VastFault::Refused(VastError(format!(in alloc; "expected a typed bits literal, got `{text}`")?)));
+            return Err(refuse_untyped(alloc, text));
         };
         let width = width::read_width(alloc, text, width_text)?;
         let value = value::read_value(alloc, text, value_text, width)?;
@@ -65,7 +92,9 @@ impl Literal {
     ///
     /// # Errors
     /// `Refused` above the format's limit.
-    pub fn validate_format(&self, alloc: Global, format: LiteralFormat) -> Result<(), VastFault> {
+    pub fn validate_format(&self, alloc: Global, format: LiteralFormat) -> Result<(), VastFault>
+        ensures { MatchResult result (λ _. taken format self.now.value ≡ Ok tt) (OnlyRefusedBy (taken format self.now.value)) }
+    {
         limits::validate(alloc, format, self.value)
     }
 
@@ -73,7 +102,17 @@ impl Literal {
     ///
     /// # Errors
     /// `AllocError` where memory was refused.
-    pub fn format(&self, alloc: Global, format: LiteralFormat) -> Result<String, AllocError> {
+    pub fn format(&self, alloc: Global, format: LiteralFormat) -> Result<String, AllocError>
+        ensures { IfOk result (λ text. string_bytes text ≡ spelled format self.now.width self.now.value) }
+    {
         spelling::literal_text(alloc, format, self.width, self.value)
     }
+}
+
+/// The refusal of a text that is no `bits[N]:value`.
+#[tactic(auto, unfolding(crate::specs::Literal::untyped_text))]
+fn refuse_untyped(alloc: Global, text: &str) -> VastFault
+    ensures { HasText result (untyped_text text.now) }
+{
+    refusal(format!(in alloc; "expected a typed bits literal, got `{text}`"))
 }
