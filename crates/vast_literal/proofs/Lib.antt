@@ -2,3 +2,4 @@ pub mod QuotedLaws
 pub mod Numbers
 pub mod Widths
 pub mod Parts
+pub mod ParsedWidths

@@ -9,10 +9,12 @@ use Rattle.std.proofs.Math.Pow.{pow_mono}
 use Rattle.std.proofs.lemmas.Nat.{pow-add, pow_pos, one_shl, mod_below}
 use Rattle.std.proofs.Math.Nat.{mul-zero, mul-suc, zero-mod}
 use Rattle.std.specs.Char.{digit_value, digit_char, is_digit}
-use Rattle.std.specs.Prelude.{filter}
+use Rattle.std.specs.Prelude.{filter, ◌&&◌, ◌||◌}
+use Rattle.std.specs.List.{list_all}
+use Rattle.std.proofs.lemmas.Bool.{eqb-true}
 use Rattle.std.specs.Int.Digits.{digits_of}
 use Rattle.std.proofs.lemmas.Int.Digits.{length-digits_of_step, length-digits_of-le}
-use Rattle.vast_literal.specs.Digits.{weighted, lowest_digits, digit_count, characters, separator, grouped}
+use Rattle.vast_literal.specs.Digits.{is_gap, is_digit_or_gap, is_numeral, digits_in, number_in, weighted, lowest_digits, digit_count, characters, separator, grouped}
 
 -- the digits read so far, with those that are left
 abbrev pub weighted_after : ℕ → ℕ → List ℕ → ℕ
@@ -144,3 +146,26 @@ too_large radix total digit i cs all b l d e o h s =
     let n : more ≤ all = subst (λ t. more ≤ t) k m in
     let q : more ≡ total * radix + digit = ap (λ t. total * radix + t) (sym e) in
     o (omega arith)
+
+-- the digits of a numeral are what is left without its underscores
+gap_no_digit : (radix c : ℕ) → radix ≤ 36 → is_gap c ≡ true → is_digit c radix ≡ false
+gap_no_digit radix c h e = rw (eqb-true c 95 e) (le-ltb 36 radix h)
+
+same_first : (c : ℕ) (F G : List ℕ) (gap digit : Bool) → (gap ≡ true → digit ≡ false) → (gap || digit) ≡ true → F ≡ G → cond digit (c ∷ F) F ≡ cond (not gap) (c ∷ G) G
+same_first c F G true digit k h e = rw (k refl) e
+same_first c F G false true k h e = ap (λ t. c ∷ t) e
+same_first c F G false false k h e = cc
+
+both_parts : (x y : Bool) → (x && y) ≡ true → (x ≡ true) × (y ≡ true)
+both_parts true y h = (refl, h)
+both_parts false y h = cc
+
+same_digits : (radix : ℕ) (cs : List ℕ) → radix ≤ 36 → list_all (is_digit_or_gap radix) cs ≡ true → filter (λ c. is_digit c radix) cs ≡ filter (λ c. not (is_gap c)) cs
+same_digits radix [] h e = refl
+same_digits radix (c ∷ cs) h e =
+    let p = both_parts (is_digit_or_gap radix c) (list_all (is_digit_or_gap radix) cs) e in
+    same_first c _ _ (is_gap c) (is_digit c radix) (gap_no_digit radix c h) p.0 (same_digits radix cs h p.1)
+
+pub number_in-digits : (radix : ℕ) (cs : List ℕ) → radix ≤ 36 → is_numeral radix cs ≡ true → number_in radix cs ≡ weighted radix (filter (λ c. is_digit c radix) cs)
+unfolding number_in digits_in is_numeral
+number_in-digits radix cs h e = ap (weighted radix) (sym (same_digits radix cs h (both_parts (list_all (is_digit_or_gap radix) cs) _ e).0))

@@ -62,10 +62,6 @@ radix_and_digits (z ∷ m ∷ digits) =
     if z == 48 then (radix_or_ten (marked_radix m), digits_or_all (marked_radix m) (z ∷ m ∷ digits) digits)
     else (10, z ∷ m ∷ digits)
 
--- The number that a value's text writes, whatever its sign.
-unfoldable pub magnitude : List ℕ → ℕ
-magnitude value = let parts = radix_and_digits (without_sign value) in number_in parts.0 parts.1
-
 -- The first of some checks that fails answers its text; else there is a result.
 abbrev pub checked : {A : Type 0} → List (Bool × List ℕ) → A → Result A (List ℕ)
 checked [] result = Ok result
@@ -112,22 +108,35 @@ width_of text width =
     (weighted 10 width)
 
 -- Whether a number fits in n bits, with a minus as low as minus 2^n.
-abbrev pub fits_in : ℕ → Bool → ℕ → Bool
+unfoldable pub fits_in : ℕ → Bool → ℕ → Bool
 fits_in n negative m = if negative then nat_le m (2 ^ n) else nat_lt m (2 ^ n)
 
 -- A number modulo 2^n, or with a minus its opposite.
-abbrev pub modulo_width : ℕ → Bool → ℕ → ℕ
+unfoldable pub modulo_width : ℕ → Bool → ℕ → ℕ
 modulo_width n negative m = if negative then (2 ^ n - m) % 2 ^ n else m
+
+-- The number that a text without a sign writes, or the refusal of the literal.
+unfoldable pub magnitude_of : List ℕ → List ℕ → Result ℕ (List ℕ)
+magnitude_of text number =
+    let parts = radix_and_digits number in
+    checked ((is_numeral parts.0 parts.1, bad_digits_text text)
+      ∷ (nat_lt (number_in parts.0 parts.1) (2 ^ 128), large_magnitude_text text) ∷ [])
+    (number_in parts.0 parts.1)
+
+-- The value of a number in n bits, or the refusal of the literal.
+unfoldable pub fitted : List ℕ → ℕ → Bool → ℕ → Result ℕ (List ℕ)
+fitted text n negative m =
+    checked ((fits_in n negative m, no_fit_text text n)
+      ∷ (nat_lt (modulo_width n negative m) (2 ^ 128), large_value_text text) ∷ [])
+    (modulo_width n negative m)
+
+abbrev pub value_of_magnitude : List ℕ → ℕ → Bool → Result ℕ (List ℕ) → Result ℕ (List ℕ)
+value_of_magnitude text n negative (Ok m) = fitted text n negative m
+value_of_magnitude text n negative (Err refusal) = Err refusal
 
 -- The value of n bits that a text writes, or the refusal of the literal.
 unfoldable pub value_of : List ℕ → List ℕ → ℕ → Result ℕ (List ℕ)
-value_of text value n =
-    let parts = radix_and_digits (without_sign value) in
-    checked ((is_numeral parts.0 parts.1, bad_digits_text text)
-      ∷ (nat_lt (magnitude value) (2 ^ 128), large_magnitude_text text)
-      ∷ (fits_in n (has_minus value) (magnitude value), no_fit_text text n)
-      ∷ (nat_lt (modulo_width n (has_minus value) (magnitude value)) (2 ^ 128), large_value_text text) ∷ [])
-    (modulo_width n (has_minus value) (magnitude value))
+value_of text value n = value_of_magnitude text n (has_minus value) (magnitude_of text (without_sign value))
 
 abbrev pub bits_of_value : ℕ → Result ℕ (List ℕ) → Result Bits (List ℕ)
 bits_of_value n (Ok v) = Ok (record { width = n; value = v })

@@ -1,9 +1,9 @@
 //! Digits: those that a literal is read from, and those that it is written with.
 
-ghost use Rattle.std.specs.Prelude.{◌≡◌, ◌+◌, ◌*◌, ◌/◌, ◌%◌, ◌^◌, ◌<◌, ◌≤◌, ◌++◌, ◌∷◌, IsTrue, SomeIff, OnOk, filter, not, string_bytes};
+ghost use Rattle.std.specs.Prelude.{◌≡◌, ◌+◌, ◌*◌, ◌/◌, ◌%◌, ◌^◌, ◌<◌, ◌≤◌, ◌++◌, ◌∷◌, IsTrue, SomeIff, OnOk, not, string_bytes};
 ghost use Rattle.std.specs.List.{list_all, list_any};
-ghost use Rattle.std.specs.Char.{is_digit, digit_char};
-ghost use Rattle.vast_literal.specs.Digits.{is_gap, is_digit_or_gap, is_numeral, weighted, lowest_digits, digit_count, characters, separator, grouped};
+ghost use Rattle.std.specs.Char.{digit_char};
+ghost use Rattle.vast_literal.specs.Digits.{is_gap, is_digit_or_gap, is_numeral, number_in, lowest_digits, digit_count, characters, separator, grouped};
 
 use std::alloc::AllocError;
 
@@ -53,7 +53,8 @@ fn appended(number: u128, radix: u32, digit: u32) -> Option<u128>
 pub fn magnitude(digits: &[u8], radix: u32) -> Option<u128>
     requires low { 2 ≤ radix }
     requires high { radix ≤ 36 }
-    ensures { let number = weighted radix (filter (λ c. is_digit c radix) digits.now) in SomeIff result (number < 2 ^ 128) number }
+    requires numeral { IsTrue (is_numeral radix digits.now) }
+    ensures { SomeIff result (number_in radix digits.now < 2 ^ 128) (number_in radix digits.now) }
 {
     let mut total: u128 = 0;
     for &byte in digits {

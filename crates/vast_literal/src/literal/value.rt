@@ -1,8 +1,8 @@
 //! The value of a literal.
 
-ghost use Rattle.std.specs.Prelude.{◌≡◌, ◌-◌, ◌^◌, ◌<◌, ◌≤◌, Ok, MatchResult, SomeIff};
+ghost use Rattle.std.specs.Prelude.{◌≡◌, ◌-◌, ◌^◌, ◌<◌, ◌≤◌, Ok, MatchResult, IfOk, SomeIff, true};
 ghost use Rattle.vast_literal.specs.Fault.{HasText, OnlyRefusedBy};
-ghost use Rattle.vast_literal.specs.Literal.{bad_digits_text, large_magnitude_text, no_fit_text, large_value_text, fits_in, modulo_width, value_of};
+ghost use Rattle.vast_literal.specs.Literal.{bad_digits_text, large_magnitude_text, no_fit_text, large_value_text, fits_in, modulo_width, magnitude_of, fitted, value_of};
 
 use crate::VastFault;
 use crate::literal::digits::{is_numeral, magnitude};
@@ -18,6 +18,7 @@ pub fn power_of_two(width: usize) -> Option<u128>
 }
 
 /// Whether a number fits in a width; a negative one may be as low as minus 2 to the power of the width.
+#[tactic(auto, using(crate::proofs::Widths::fitting), unfolding(crate::specs::Literal::fits_in))]
 fn fits(width: usize, negative: bool, magnitude: u128) -> bool
     ensures { result ≡ fits_in width negative magnitude }
 {
@@ -41,6 +42,7 @@ pub fn complement(width: usize, magnitude: u128) -> u128
 }
 
 /// Minus a number modulo 2 to the power of a width, where that is below 2^128.
+#[tactic(auto, using(crate::proofs::Widths::negating))]
 fn negated(width: usize, magnitude: u128) -> Option<u128>
     requires { magnitude ≤ 2 ^ width }
     ensures { SomeIff result (modulo_width width true magnitude < 2 ^ 128) (modulo_width width true magnitude) }
@@ -83,19 +85,27 @@ fn refuse_value(alloc: Global, text: &str) -> VastFault
     refusal(format!(in alloc; "literal `{text}` has a value of 2^128 or more"))
 }
 
-/// The value of a literal of this width, below 2^128 and below 2 to the power of the width.
-#[tactic(auto, unfolding(crate::specs::Literal::value_of))]
-pub fn read_value(alloc: Global, text: &str, value_text: &str, width: usize) -> Result<u128, VastFault>
-    ensures { MatchResult result (λ value. value_of text.now value_text.now width ≡ Ok value) (OnlyRefusedBy (value_of text.now value_text.now width)) }
+/// The number that a text without a sign writes, below 2^128.
+#[tactic(auto, unfolding(crate::specs::Literal::magnitude_of))]
+fn read_magnitude(alloc: Global, text: &str, number: &[u8]) -> Result<u128, VastFault>
+    ensures { MatchResult result (λ m. magnitude_of text.now number.now ≡ Ok m) (OnlyRefusedBy (magnitude_of text.now number.now)) }
 {
-    let (negative, number) = split_sign(value_text.as_bytes());
     let (radix, digits) = split_radix(number);
     if !is_numeral(digits, radix) {
         return Err(refuse_digits(alloc, text));
     }
-    let Some(magnitude) = magnitude(digits, radix) else {
-        return Err(refuse_magnitude(alloc, text));
-    };
+    match magnitude(digits, radix) {
+        Some(magnitude) => Ok(magnitude),
+        None => Err(refuse_magnitude(alloc, text)),
+    }
+}
+
+/// The value of a number in a width, below 2^128 and below 2 to the power of the width.
+#[tactic(auto, unfolding(crate::specs::Literal::fitted))]
+fn fit(alloc: Global, text: &str, width: usize, negative: bool, magnitude: u128) -> Result<u128, VastFault>
+    ensures value { MatchResult result (λ value. fitted text.now width negative magnitude ≡ Ok value) (OnlyRefusedBy (fitted text.now width negative magnitude)) }
+    ensures fits { IfOk result (λ value. value < 2 ^ width) }
+{
     if !fits(width, negative, magnitude) {
         return Err(refuse_fit(alloc, text, width));
     }
@@ -106,4 +116,15 @@ pub fn read_value(alloc: Global, text: &str, value_text: &str, width: usize) -> 
         Some(value) => Ok(value),
         None => Err(refuse_value(alloc, text)),
     }
+}
+
+/// The value of a literal of this width, below 2^128 and below 2 to the power of the width.
+#[tactic(auto, unfolding(crate::specs::Literal::value_of))]
+pub fn read_value(alloc: Global, text: &str, value_text: &str, width: usize) -> Result<u128, VastFault>
+    ensures value { MatchResult result (λ value. value_of text.now value_text.now width ≡ Ok value) (OnlyRefusedBy (value_of text.now value_text.now width)) }
+    ensures fits { IfOk result (λ value. value < 2 ^ width) }
+{
+    let (negative, number) = split_sign(value_text.as_bytes());
+    let magnitude = read_magnitude(alloc, text, number)?;
+    fit(alloc, text, width, negative, magnitude)
 }

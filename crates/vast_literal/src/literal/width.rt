@@ -1,6 +1,6 @@
 //! The width of a literal.
 
-ghost use Rattle.std.specs.Prelude.{◌≡◌, ◌<◌, ◌^◌, Ok, MatchResult, SomeIff, IsTrue};
+ghost use Rattle.std.specs.Prelude.{◌≡◌, ◌<◌, ◌≤◌, ◌^◌, Ok, IfOk, MatchResult, SomeIff, IsTrue};
 ghost use Rattle.std.specs.List.{list_all};
 ghost use Rattle.std.specs.Char.{is_ascii_digit};
 ghost use Rattle.vast_literal.specs.Fault.{HasText, OnlyRefusedBy};
@@ -70,7 +70,9 @@ fn refuse_wide(alloc: Global, width: u64) -> VastFault
 /// The width of a literal, 1 to [`MOST_BITS`].
 #[tactic(auto, unfolding(crate::specs::Literal::width_of))]
 pub fn read_width(alloc: Global, text: &str, width_text: &str) -> Result<usize, VastFault>
-    ensures { MatchResult result (λ width. width_of text.now width_text.now ≡ Ok width) (OnlyRefusedBy (width_of text.now width_text.now)) }
+    ensures width { MatchResult result (λ width. width_of text.now width_text.now ≡ Ok width) (OnlyRefusedBy (width_of text.now width_text.now)) }
+    ensures positive { IfOk result (λ width. 1 ≤ width) }
+    ensures narrow { IfOk result (λ width. width ≤ 1048576) }
 {
     if !is_decimal(width_text.as_bytes()) {
         return Err(refuse_digits(alloc, text));
