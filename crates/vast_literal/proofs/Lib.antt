@@ -3,3 +3,4 @@ pub mod Numbers
 pub mod Widths
 pub mod Parts
 pub mod ParsedWidths
+pub mod Denoted

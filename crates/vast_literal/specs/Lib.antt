@@ -5,3 +5,4 @@ pub mod Quoted
 pub mod Digits
 pub mod Literal
 pub mod Spelling
+pub mod Denotes

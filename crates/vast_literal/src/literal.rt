@@ -3,6 +3,7 @@
 ghost use Rattle.std.specs.Prelude.{◌≡◌, ◌^◌, ◌<◌, ◌≤◌, Ok, MatchResult, IfOk, string_bytes};
 ghost use Rattle.vast_literal.specs.Fault.{HasText, OnlyRefusedBy};
 ghost use Rattle.vast_literal.specs.Literal.{Bits, IsLiteral, untyped_text, literal_of};
+ghost use Rattle.vast_literal.specs.Denotes.{Denotes};
 ghost use Rattle.vast_literal.specs.Spelling.{taken, spelled};
 
 mod digits;
@@ -78,7 +79,8 @@ impl Literal {
     /// `Refused` with the text of the first check that fails.
     #[tactic(auto, unfolding(crate::specs::Literal::literal_of))]
     pub fn parse(alloc: Global, text: &str) -> Result<Literal, VastFault>
-        ensures { MatchResult result (λ literal. literal_of text.now ≡ Ok literal) (OnlyRefusedBy (literal_of text.now)) }
+        ensures answer { MatchResult result (λ literal. literal_of text.now ≡ Ok literal) (OnlyRefusedBy (literal_of text.now)) }
+        ensures denoted { IfOk result (Denotes text.now) }
     {
         let Some((width_text, value_text)) = parts::split_typed(text) else {
             return Err(refuse_untyped(alloc, text));
