@@ -4,3 +4,6 @@ pub mod Widths
 pub mod Parts
 pub mod ParsedWidths
 pub mod Denoted
+pub mod Spelt
+pub mod Decimals
+pub mod Formats

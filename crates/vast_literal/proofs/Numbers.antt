@@ -75,7 +75,7 @@ pub one_separated : (old new all : List ℕ) (radix place low n d : ℕ) → pla
 one_separated old new all radix place low n d s e k h =
     let rest = grouped (lowest_digits radix low n) in
     let j : grouped (lowest_digits radix place n) ≡ digit_char d ∷ (separator low ++ rest) =
-        rw (s, lowest_digits-suc radix low n, length-lowest_digits radix low n) (ap (λ x. digit_char x ∷ (separator low ++ rest)) (sym e)) in
+    rw (s, lowest_digits-suc radix low n, length-lowest_digits radix low n) (ap (λ x. digit_char x ∷ (separator low ++ rest)) (sym e)) in
     ap (λ t. t ++ rest) k ∙ append_assoc old (digit_char d ∷ separator low) rest ∙ ap (λ t. old ++ t) (sym j) ∙ h
 
 pub none_left : (text all : List ℕ) (place radix n : ℕ) → place ≤ 0 → text ++ characters (lowest_digits radix place n) ≡ all → text ≡ all
@@ -156,7 +156,7 @@ same_first c F G true digit k h e = rw (k refl) e
 same_first c F G false true k h e = ap (λ t. c ∷ t) e
 same_first c F G false false k h e = cc
 
-both_parts : (x y : Bool) → (x && y) ≡ true → (x ≡ true) × (y ≡ true)
+pub both_parts : (x y : Bool) → (x && y) ≡ true → (x ≡ true) × (y ≡ true)
 both_parts true y h = (refl, h)
 both_parts false y h = cc
 

@@ -44,7 +44,7 @@ characters [] = []
 characters (d ∷ ds) = digit_char d ∷ characters ds
 
 -- What separates a digit with so many digits behind it from the next: an underscore between groups of four.
-abbrev pub separator : ℕ → List ℕ
+unfoldable pub separator : ℕ → List ℕ
 separator count = if nat_lt 0 count && (count % 4 == 0) then 95 ∷ [] else []
 
 -- The characters of digits, with an underscore between groups of four digits from the right.

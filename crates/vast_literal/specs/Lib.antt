@@ -6,3 +6,4 @@ pub mod Digits
 pub mod Literal
 pub mod Spelling
 pub mod Denotes
+pub mod Spells

@@ -102,9 +102,9 @@ is_decimal text = list_all is_ascii_digit text && nat_lt 0 (length text)
 unfoldable pub width_of : List ℕ → List ℕ → Result ℕ (List ℕ)
 width_of text width =
     checked ((is_decimal width, bad_width_text text)
-      ∷ (nat_lt (weighted 10 width) (2 ^ 64), long_width_text width)
-      ∷ (nat_le 1 (weighted 10 width), zero_width_text)
-      ∷ (nat_le (weighted 10 width) 1048576, wide_text (weighted 10 width)) ∷ [])
+    ∷ (nat_lt (weighted 10 width) (2 ^ 64), long_width_text width)
+    ∷ (nat_le 1 (weighted 10 width), zero_width_text)
+    ∷ (nat_le (weighted 10 width) 1048576, wide_text (weighted 10 width)) ∷ [])
     (weighted 10 width)
 
 -- Whether a number fits in n bits, with a minus as low as minus 2^n.
@@ -120,14 +120,14 @@ unfoldable pub magnitude_of : List ℕ → List ℕ → Result ℕ (List ℕ)
 magnitude_of text number =
     let parts = radix_and_digits number in
     checked ((is_numeral parts.0 parts.1, bad_digits_text text)
-      ∷ (nat_lt (number_in parts.0 parts.1) (2 ^ 128), large_magnitude_text text) ∷ [])
+    ∷ (nat_lt (number_in parts.0 parts.1) (2 ^ 128), large_magnitude_text text) ∷ [])
     (number_in parts.0 parts.1)
 
 -- The value of a number in n bits, or the refusal of the literal.
 unfoldable pub fitted : List ℕ → ℕ → Bool → ℕ → Result ℕ (List ℕ)
 fitted text n negative m =
     checked ((fits_in n negative m, no_fit_text text n)
-      ∷ (nat_lt (modulo_width n negative m) (2 ^ 128), large_value_text text) ∷ [])
+    ∷ (nat_lt (modulo_width n negative m) (2 ^ 128), large_value_text text) ∷ [])
     (modulo_width n negative m)
 
 abbrev pub value_of_magnitude : List ℕ → ℕ → Bool → Result ℕ (List ℕ) → Result ℕ (List ℕ)

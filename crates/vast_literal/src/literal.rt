@@ -5,6 +5,7 @@ ghost use Rattle.vast_literal.specs.Fault.{HasText, OnlyRefusedBy};
 ghost use Rattle.vast_literal.specs.Literal.{Bits, IsLiteral, untyped_text, literal_of};
 ghost use Rattle.vast_literal.specs.Denotes.{Denotes};
 ghost use Rattle.vast_literal.specs.Spelling.{taken, spelled};
+ghost use Rattle.vast_literal.specs.Spells.{Spells};
 
 mod digits;
 mod limits;
@@ -105,7 +106,10 @@ impl Literal {
     /// # Errors
     /// `AllocError` where memory was refused.
     pub fn format(&self, alloc: Global, format: LiteralFormat) -> Result<String, AllocError>
-        ensures { IfOk result (λ text. string_bytes text ≡ spelled format self.now.width self.now.value) }
+        ensures exact { IfOk result (λ text. string_bytes text ≡ spelled format self.now.width self.now.value) }
+
+        // The digits write the number modulo 2 to the power of the width, or with a minus its opposite.
+        ensures spells { IfOk result (λ text. Spells format self.now.width self.now.value (string_bytes text)) }
     {
         spelling::literal_text(alloc, format, self.width, self.value)
     }

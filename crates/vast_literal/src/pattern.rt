@@ -39,7 +39,10 @@ fn is_pattern(bits: &str) -> bool
 fn refuse_pattern(alloc: Global) -> VastFault
     ensures { HasText result pattern_refusal }
 {
-    refusal(String::from_str(alloc, "binary patterns require 1 to 1048576 MSB-first 0, 1, or ? digits"))
+    refusal(String::from_str(
+        alloc,
+        "binary patterns require 1 to 1048576 MSB-first 0, 1, or ? digits",
+    ))
 }
 
 /// The text of a binary pattern, as `3'b1?0`, from its digits with the most significant first.

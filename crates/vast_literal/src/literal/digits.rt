@@ -46,7 +46,9 @@ pub fn is_numeral(digits: &[u8], radix: u32) -> bool
 fn appended(number: u128, radix: u32, digit: u32) -> Option<u128>
     ensures { SomeIff result (number * radix + digit < 2 ^ 128) (number * radix + digit) }
 {
-    number.checked_mul(u128::from(radix))?.checked_add(u128::from(digit))
+    number
+        .checked_mul(u128::from(radix))?
+        .checked_add(u128::from(digit))
 }
 
 /// The number that digits of a radix write, where it is below 2^128.
@@ -59,7 +61,9 @@ pub fn magnitude(digits: &[u8], radix: u32) -> Option<u128>
     let mut total: u128 = 0;
     for &byte in digits {
         if let Some(digit) = (byte as char).to_digit(radix) {
-            let Some(more) = appended(total, radix, digit) else { return None };
+            let Some(more) = appended(total, radix, digit) else {
+                return None
+            };
             total = more;
         }
     }
@@ -89,7 +93,11 @@ fn digit_at(value: u128, digit_bits: usize, place: usize) -> u8
     ensures below { result < 16 }
 {
     let shift = digit_bits * place;
-    if shift < 128 { ((value >> shift) % (1 << digit_bits)) as u8 } else { 0 }
+    if shift < 128 {
+        ((value >> shift) % (1 << digit_bits)) as u8
+    } else {
+        0
+    }
 }
 
 /// The character of a digit: `0` to `9`, then `a` to `z`.
@@ -98,11 +106,20 @@ fn digit_character(digit: u8) -> char
     ensures value { result ≡ digit_char digit }
     ensures ascii { result < 128 }
 {
-    if digit < 10 { (b'0' + digit) as char } else { (b'a' + (digit - 10)) as char }
+    if digit < 10 {
+        (b'0' + digit) as char
+    } else {
+        (b'a' + (digit - 10)) as char
+    }
 }
 
 /// Appends the lowest digits of a number, the highest of them first, in a radix of this many bits.
-pub fn push_digits(text: &mut String, value: u128, digit_bits: usize, count: usize) -> Result<(), AllocError>
+pub fn push_digits(
+    text: &mut String,
+    value: u128,
+    digit_bits: usize,
+    count: usize,
+) -> Result<(), AllocError>
     requires bits { digit_bits ≤ 4 }
     requires count { count < 2 ^ 32 }
     ensures { OnOk result (string_bytes text.new ≡ string_bytes text.old ++ characters (lowest_digits (2 ^ digit_bits) count value)) }
@@ -114,16 +131,26 @@ pub fn push_digits(text: &mut String, value: u128, digit_bits: usize, count: usi
 }
 
 /// Appends a digit that has so many behind it, and an underscore where a group of four follows.
+#[tactic(auto, unfolding(crate::specs::Digits::separator))]
 fn push_separated(text: &mut String, digit: u8, behind: usize) -> Result<(), AllocError>
     requires { digit < 36 }
     ensures { OnOk result (string_bytes text.new ≡ string_bytes text.old ++ digit_char digit ∷ separator behind) }
 {
     text.push(digit_character(digit))?;
-    if behind > 0 && behind % 4 == 0 { text.push('_') } else { Ok(()) }
+    if behind > 0 && behind % 4 == 0 {
+        text.push('_')
+    } else {
+        Ok(())
+    }
 }
 
 /// Appends the lowest digits with an underscore between groups of four digits from the right.
-pub fn push_grouped(text: &mut String, value: u128, digit_bits: usize, count: usize) -> Result<(), AllocError>
+pub fn push_grouped(
+    text: &mut String,
+    value: u128,
+    digit_bits: usize,
+    count: usize,
+) -> Result<(), AllocError>
     requires bits { digit_bits ≤ 4 }
     requires count { count < 2 ^ 32 }
     ensures { OnOk result (string_bytes text.new ≡ string_bytes text.old ++ grouped (lowest_digits (2 ^ digit_bits) count value)) }

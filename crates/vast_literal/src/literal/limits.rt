@@ -41,6 +41,9 @@ pub fn validate(alloc: Global, format: LiteralFormat, value: u128) -> Result<(),
         LiteralFormat::UnsizedBinary => limit(alloc, "binary", MOST_BASED, value),
         LiteralFormat::UnsizedDecimal => limit(alloc, "decimal", MOST_DECIMAL, value),
         LiteralFormat::UnsizedHex => limit(alloc, "hexadecimal", MOST_BASED, value),
-        LiteralFormat::Binary | LiteralFormat::Hex | LiteralFormat::SignedDecimal | LiteralFormat::UnsignedDecimal => Ok(()),
+        LiteralFormat::Binary
+        | LiteralFormat::Hex
+        | LiteralFormat::SignedDecimal
+        | LiteralFormat::UnsignedDecimal => Ok(()),
     }
 }

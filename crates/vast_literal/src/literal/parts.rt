@@ -7,7 +7,9 @@ ghost use Rattle.vast_literal.specs.Literal.{typed_parts, has_minus, without_sig
 pub fn split_typed(text: &str) -> Option<(&str, &str)>
     ensures { MatchOption result (typed_parts text.now ≡ None) (λ parts. typed_parts text.now ≡ Some (parts.0.now, parts.1.now)) }
 {
-    let Some(rest) = text.strip_prefix("bits[") else { return None };
+    let Some(rest) = text.strip_prefix("bits[") else {
+        return None
+    };
     rest.split_once("]:")
 }
 

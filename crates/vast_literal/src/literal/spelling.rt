@@ -21,7 +21,11 @@ fn padded_count(width: usize, value: u128, digit_bits: usize) -> usize
     ensures count { result ≡ padded_count digit_bits width value }
     ensures few { result ≤ 1048576 }
 {
-    if value == 0 && width > MOST_ZEROS { 1 } else { width.div_ceil(digit_bits) }
+    if value == 0 && width > MOST_ZEROS {
+        1
+    } else {
+        width.div_ceil(digit_bits)
+    }
 }
 
 /// The text in the unsigned decimal format.
@@ -58,14 +62,25 @@ fn signed_text(alloc: Global, width: usize, value: u128) -> Result<String, Alloc
 }
 
 /// The text of a number of a width in a sized format of this many bits a digit.
-fn padded_text(alloc: Global, base: &str, digit_bits: usize, width: usize, value: u128) -> Result<String, AllocError>
+fn padded_text(
+    alloc: Global,
+    base: &str,
+    digit_bits: usize,
+    width: usize,
+    value: u128,
+) -> Result<String, AllocError>
     requires narrow { width ≤ 1048576 }
     requires wide_digits { 1 ≤ digit_bits }
     requires few_bits { digit_bits ≤ 4 }
     ensures { IfOk result (λ text. string_bytes text ≡ sized width base.now (grouped (lowest_digits (2 ^ digit_bits) (padded_count digit_bits width value) value))) }
 {
     let mut text = format!(in alloc; "{width}{base}")?;
-    push_grouped(&mut text, value, digit_bits, padded_count(width, value, digit_bits))?;
+    push_grouped(
+        &mut text,
+        value,
+        digit_bits,
+        padded_count(width, value, digit_bits),
+    )?;
     Ok(text)
 }
 
@@ -89,7 +104,12 @@ fn unsized_hex(alloc: Global, value: u128) -> Result<String, AllocError>
 
 /// The text of a number of a width in a format.
 #[tactic(auto, unfolding(crate::specs::Spelling::spelled))]
-pub fn literal_text(alloc: Global, format: LiteralFormat, width: usize, value: u128) -> Result<String, AllocError>
+pub fn literal_text(
+    alloc: Global,
+    format: LiteralFormat,
+    width: usize,
+    value: u128,
+) -> Result<String, AllocError>
     requires positive { 1 ≤ width }
     requires narrow { width ≤ 1048576 }
     requires fits { value < 2 ^ width }

@@ -50,7 +50,11 @@ fn negated(width: usize, magnitude: u128) -> Option<u128>
     if magnitude == 0 {
         return Some(0);
     }
-    if width <= 128 { Some(complement(width, magnitude)) } else { None }
+    if width <= 128 {
+        Some(complement(width, magnitude))
+    } else {
+        None
+    }
 }
 
 /// The refusal of a value with wrong digits.
@@ -102,7 +106,13 @@ fn read_magnitude(alloc: Global, text: &str, number: &[u8]) -> Result<u128, Vast
 
 /// The value of a number in a width, below 2^128 and below 2 to the power of the width.
 #[tactic(auto, unfolding(crate::specs::Literal::fitted))]
-fn fit(alloc: Global, text: &str, width: usize, negative: bool, magnitude: u128) -> Result<u128, VastFault>
+fn fit(
+    alloc: Global,
+    text: &str,
+    width: usize,
+    negative: bool,
+    magnitude: u128,
+) -> Result<u128, VastFault>
     ensures value { MatchResult result (λ value. fitted text.now width negative magnitude ≡ Ok value) (OnlyRefusedBy (fitted text.now width negative magnitude)) }
     ensures fits { IfOk result (λ value. value < 2 ^ width) }
 {
@@ -120,7 +130,12 @@ fn fit(alloc: Global, text: &str, width: usize, negative: bool, magnitude: u128)
 
 /// The value of a literal of this width, below 2^128 and below 2 to the power of the width.
 #[tactic(auto, unfolding(crate::specs::Literal::value_of))]
-pub fn read_value(alloc: Global, text: &str, value_text: &str, width: usize) -> Result<u128, VastFault>
+pub fn read_value(
+    alloc: Global,
+    text: &str,
+    value_text: &str,
+    width: usize,
+) -> Result<u128, VastFault>
     ensures value { MatchResult result (λ value. value_of text.now value_text.now width ≡ Ok value) (OnlyRefusedBy (value_of text.now value_text.now width)) }
     ensures fits { IfOk result (λ value. value < 2 ^ width) }
 {

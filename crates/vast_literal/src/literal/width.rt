@@ -48,7 +48,9 @@ fn refuse_digits(alloc: Global, text: &str) -> VastFault
 fn refuse_number(alloc: Global, width_text: &str) -> VastFault
     ensures { HasText result (long_width_text width_text.now) }
 {
-    refusal(format!(in alloc; "invalid bit width `{width_text}`: number too large to fit in target type"))
+    refusal(format!(in alloc;
+        "invalid bit width `{width_text}`: number too large to fit in target type"
+    ))
 }
 
 /// The refusal of no bits.

@@ -12,15 +12,16 @@ returns-in_default-appended c =
 
 pub loop-byte-preserved : goal.loop-byte-preserved
 loop-byte-preserved c = elim c.match-to_digit.branch [
-    in-Some+in-Some-appended w ↦ record {
-        small = rw w.total-is (rw w.in-Some-appended.ensures.1 w.in-Some-appended.ensures.0);
-        whole = one_read c.args.radix c.loop-byte.total _ c.loop-byte.byte-index c.args.digits.now _ c.loop-byte-test.true w.in-Some.ensures.value.0
-            (w.total-is ∙ w.in-Some-appended.ensures.1 ∙ ap (λ d. c.loop-byte.total * c.args.radix + d) w.in-Some.ensures.value.1) c.loop-byte.invariant.whole
-    }
-    | in_default w ↦ record {
-        small = rw w.total-is c.loop-byte.invariant.small;
-        whole = rw w.total-is (one_skipped c.args.radix c.loop-byte.total c.loop-byte.byte-index c.args.digits.now _ c.loop-byte-test.true w.in_default.ensures.value c.loop-byte.invariant.whole)
-    } ]
+  | in-Some+in-Some-appended w ↦ record {
+    small = rw w.total-is (rw w.in-Some-appended.ensures.1 w.in-Some-appended.ensures.0);
+    whole = one_read c.args.radix c.loop-byte.total _ c.loop-byte.byte-index c.args.digits.now _ c.loop-byte-test.true w.in-Some.ensures.value.0
+        (w.total-is ∙ w.in-Some-appended.ensures.1 ∙ ap (λ d. c.loop-byte.total * c.args.radix + d) w.in-Some.ensures.value.1) c.loop-byte.invariant.whole;
+  }
+  | in_default w ↦ record {
+    small = rw w.total-is c.loop-byte.invariant.small;
+    whole = rw w.total-is (one_skipped c.args.radix c.loop-byte.total c.loop-byte.byte-index c.args.digits.now _ c.loop-byte-test.true w.in_default.ensures.value c.loop-byte.invariant.whole);
+  }
+]
 
 pub returns : goal.returns
 returns c =
