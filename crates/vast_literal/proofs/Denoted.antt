@@ -9,6 +9,9 @@ use Rattle.std.proofs.lemmas.Bool.Decides.{Decides-eqb}
 use Rattle.std.proofs.lemmas.Slice.Eq.{starts_is}
 use Rattle.std.proofs.lemmas.Nat.{pow_pos, mod_below}
 use Rattle.std.proofs.Math.Nat.{mod_self, mod-eq_of_lt, mod-add-mod}
+use Rattle.std.proofs.Common.{MatchResult, IfOk}
+use Rattle.vast_literal.specs.declared.error.VastFault.{VastFault}
+use Rattle.vast_literal.specs.Fault.{OnlyRefusedBy}
 use Rattle.vast_literal.specs.Digits.{is_numeral, number_in, weighted}
 use Rattle.vast_literal.specs.Literal.{Bits, split_at, typed_parts, without_sign, has_minus, marked_radix, radix_or_ten, digits_or_all, radix_and_digits, checked, is_decimal, width_of, fits_in, modulo_width, magnitude_of, fitted, value_of_magnitude, value_of, bits_of_value, bits_of_width, bits_of_parts, literal_of}
 use Rattle.vast_literal.specs.Denotes.{IsSign, IsRadixMark, IsModulo, Denotes}
@@ -184,3 +187,8 @@ denoted text bits h =
       small = facts_v.2;
     } in
     subst (Denotes text) (sym b.2) all
+
+-- the same of an answer by the checks
+pub denoted_if_ok : (text : List ℕ) (r : Result Bits VastFault) → MatchResult r (λ l. literal_of text ≡ Ok l) (OnlyRefusedBy (literal_of text)) → IfOk r (Denotes text)
+denoted_if_ok text (Ok l) h = denoted text l h
+denoted_if_ok text (Err e) h = tt

@@ -9,7 +9,7 @@ use Rattle.std.proofs.lemmas.Nat.{pow_pos}
 use Rattle.vast_literal.specs.declared.literal.LiteralFormat.{LiteralFormat}
 use Rattle.vast_literal.specs.declared.literal.LiteralFormat.TheVariants.{Binary, Hex, SignedDecimal, UnsignedDecimal, UnsizedBinary, UnsizedDecimal, UnsizedHex}
 use Rattle.vast_literal.specs.Digits.{lowest_digits, digit_count, characters, grouped}
-use Rattle.vast_literal.specs.Spelling.{padded_count, is_below_half, sized, signed_text, spelled}
+use Rattle.vast_literal.specs.LiteralText.{padded_count, is_below_half, sized, signed_text, spelled}
 use Rattle.vast_literal.specs.Denotes.{IsModulo}
 use Rattle.vast_literal.specs.Spells.{IsWritten, IsSeparated, Spells}
 use Rattle.vast_literal.proofs.Numbers.{pow-pow, both_parts}

@@ -7,3 +7,4 @@ pub mod Denoted
 pub mod Spelt
 pub mod Decimals
 pub mod Formats
+pub mod Accepted

@@ -12,7 +12,7 @@ use Rattle.vast_literal.specs.Literal.{split_at, typed_parts}
 starts : (mark text rest : List ℕ) → text ≡ mark ++ rest → starts_with eqb text mark ≡ true
 starts mark text rest e = (starts_is Decides-eqb text mark _ refl).1 rest e
 
-starts_not : (mark text : List ℕ) → LacksTextAt mark text 0 → starts_with eqb text mark ≡ false
+pub starts_not : (mark text : List ℕ) → LacksTextAt mark text 0 → starts_with eqb text mark ≡ false
 starts_not mark text h = ⊎_elim (λ e. absurd (h _ ((starts_is Decides-eqb text mark _ refl).0 e))) (λ e. e) (cases_Bool (starts_with eqb text mark))
 
 split_at-none : (mark text : List ℕ) → ((i : ℕ) → i ≤ length text → LacksTextAt mark text i) → split_at mark text ≡ None

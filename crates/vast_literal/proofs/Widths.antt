@@ -3,7 +3,7 @@ use Rattle.std.proofs.Common.{◌≡◌, ◌≢◌, ℕ, ◌+◌, ◌-◌, ◌%�
 use Rattle.std.proofs.Math.Pow.{pow_mono}
 use Rattle.std.proofs.lemmas.Bool.{lt-ltb, le-leb, leb-true, ltb-true, ltb-false, cases_lt}
 use Rattle.std.proofs.lemmas.Nat.{pow_pos, mod_below}
-use Rattle.vast_literal.specs.Spelling.{is_below_half}
+use Rattle.vast_literal.specs.LiteralText.{is_below_half}
 use Rattle.vast_literal.specs.Literal.{fits_in, modulo_width, fitted}
 use Rattle.std.proofs.Math.Nat.{sub-zero, mod_self, mod-eq_of_lt}
 

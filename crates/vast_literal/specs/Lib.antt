@@ -4,6 +4,6 @@ pub mod Pattern
 pub mod Quoted
 pub mod Digits
 pub mod Literal
-pub mod Spelling
+pub mod LiteralText
 pub mod Denotes
 pub mod Spells

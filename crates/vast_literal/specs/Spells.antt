@@ -5,7 +5,7 @@ use Rattle.std.specs.Fmt.{decimal}
 use Rattle.vast_literal.specs.declared.literal.LiteralFormat.{LiteralFormat}
 use Rattle.vast_literal.specs.declared.literal.LiteralFormat.TheVariants.{Binary, Hex, SignedDecimal, UnsignedDecimal, UnsizedBinary, UnsizedDecimal, UnsizedHex}
 use Rattle.vast_literal.specs.Digits.{is_numeral, digits_in, number_in, digit_count}
-use Rattle.vast_literal.specs.Spelling.{padded_count, is_below_half}
+use Rattle.vast_literal.specs.LiteralText.{padded_count, is_below_half}
 use Rattle.vast_literal.specs.Denotes.{IsModulo}
 
 -- No capital letter.

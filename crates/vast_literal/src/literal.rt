@@ -4,7 +4,7 @@ ghost use Rattle.std.specs.Prelude.{◌≡◌, ◌^◌, ◌<◌, ◌≤◌, Ok, 
 ghost use Rattle.vast_literal.specs.Fault.{HasText, OnlyRefusedBy};
 ghost use Rattle.vast_literal.specs.Literal.{Bits, IsLiteral, untyped_text, literal_of};
 ghost use Rattle.vast_literal.specs.Denotes.{Denotes};
-ghost use Rattle.vast_literal.specs.Spelling.{taken, spelled};
+ghost use Rattle.vast_literal.specs.LiteralText.{taken, spelled};
 ghost use Rattle.vast_literal.specs.Spells.{Spells};
 
 mod digits;
@@ -78,17 +78,15 @@ impl Literal {
     ///
     /// # Errors
     /// `Refused` with the text of the first check that fails.
-    #[tactic(auto, unfolding(crate::specs::Literal::literal_of))]
     pub fn parse(alloc: Global, text: &str) -> Result<Literal, VastFault>
+        // The literal, or the text of the first check that fails; memory is wanted for that text alone.
         ensures answer { MatchResult result (λ literal. literal_of text.now ≡ Ok literal) (OnlyRefusedBy (literal_of text.now)) }
+
+        // It is what the text denotes, and a text that denotes a literal is accepted.
         ensures denoted { IfOk result (Denotes text.now) }
+        ensures accepted { (bits : Bits) → Denotes text.now bits → result ≡ Ok bits }
     {
-        let Some((width_text, value_text)) = parts::split_typed(text) else {
-            return Err(refuse_untyped(alloc, text));
-        };
-        let width = width::read_width(alloc, text, width_text)?;
-        let value = value::read_value(alloc, text, value_text, width)?;
-        Ok(Literal { width, value })
+        read_literal(alloc, text)
     }
 
     /// Whether a format takes the number; the unsized formats have a limit.
@@ -121,4 +119,17 @@ fn refuse_untyped(alloc: Global, text: &str) -> VastFault
     ensures { HasText result (untyped_text text.now) }
 {
     refusal(format!(in alloc; "expected a typed bits literal, got `{text}`"))
+}
+
+/// The literal of a text, by the checks in their order.
+#[tactic(auto, unfolding(crate::specs::Literal::literal_of))]
+fn read_literal(alloc: Global, text: &str) -> Result<Literal, VastFault>
+    ensures { MatchResult result (λ literal. literal_of text.now ≡ Ok literal) (OnlyRefusedBy (literal_of text.now)) }
+{
+    let Some((width_text, value_text)) = parts::split_typed(text) else {
+        return Err(refuse_untyped(alloc, text));
+    };
+    let width = width::read_width(alloc, text, width_text)?;
+    let value = value::read_value(alloc, text, value_text, width)?;
+    Ok(Literal { width, value })
 }

@@ -2,7 +2,7 @@
 
 ghost use Rattle.std.specs.Prelude.{◌≡◌, Ok, MatchResult};
 ghost use Rattle.vast_literal.specs.Fault.{HasText, OnlyRefusedBy};
-ghost use Rattle.vast_literal.specs.Spelling.{limit_text, limited, taken};
+ghost use Rattle.vast_literal.specs.LiteralText.{limit_text, limited, taken};
 
 use crate::refusal::refusal;
 use crate::{LiteralFormat, VastFault};
@@ -15,7 +15,7 @@ const MOST_DECIMAL: u128 = 2_147_483_647;
 const MOST_BASED: u128 = 4_294_967_295;
 
 /// The refusal of a number above a limit.
-#[tactic(auto, unfolding(crate::specs::Spelling::limit_text))]
+#[tactic(auto, unfolding(crate::specs::LiteralText::limit_text))]
 fn refuse_number(alloc: Global, kind: &str, most: u128, value: u128) -> VastFault
     ensures { HasText result (limit_text kind.now most value) }
 {
@@ -23,7 +23,7 @@ fn refuse_number(alloc: Global, kind: &str, most: u128, value: u128) -> VastFaul
 }
 
 /// Refuses a number above a limit.
-#[tactic(auto, unfolding(crate::specs::Spelling::limited))]
+#[tactic(auto, unfolding(crate::specs::LiteralText::limited))]
 fn limit(alloc: Global, kind: &str, most: u128, value: u128) -> Result<(), VastFault>
     ensures { MatchResult result (λ _. limited kind.now most value ≡ Ok tt) (OnlyRefusedBy (limited kind.now most value)) }
 {

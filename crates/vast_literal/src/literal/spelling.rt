@@ -2,7 +2,7 @@
 
 ghost use Rattle.std.specs.Prelude.{◌≡◌, ◌^◌, ◌<◌, ◌≤◌, ◌-◌, ◌++◌, codes, IfOk, string_bytes};
 ghost use Rattle.std.specs.Fmt.{decimal};
-ghost use Rattle.vast_literal.specs.Spelling.{padded_count, is_below_half, sized, signed_text, spelled};
+ghost use Rattle.vast_literal.specs.LiteralText.{padded_count, is_below_half, sized, signed_text, spelled};
 ghost use Rattle.vast_literal.specs.Digits.{characters, grouped, lowest_digits, digit_count};
 
 use crate::LiteralFormat;
@@ -36,7 +36,7 @@ fn unsigned_text(alloc: Global, width: usize, value: u128) -> Result<String, All
 }
 
 /// Whether the highest bit of a number of a width is unset.
-#[tactic(auto, using(crate::proofs::Widths::below_wide_half), unfolding(crate::specs::Spelling::is_below_half))]
+#[tactic(auto, using(crate::proofs::Widths::below_wide_half), unfolding(crate::specs::LiteralText::is_below_half))]
 fn is_below_half(width: usize, value: u128) -> bool
     requires { 1 ≤ width }
     ensures { result ≡ is_below_half width value }
@@ -48,7 +48,7 @@ fn is_below_half(width: usize, value: u128) -> bool
 }
 
 /// The text in two's complement.
-#[tactic(auto, using(crate::proofs::Widths::narrow_from_high, crate::proofs::Widths::positive_from_high), unfolding(crate::specs::Spelling::signed_text))]
+#[tactic(auto, using(crate::proofs::Widths::narrow_from_high, crate::proofs::Widths::positive_from_high), unfolding(crate::specs::LiteralText::signed_text))]
 fn signed_text(alloc: Global, width: usize, value: u128) -> Result<String, AllocError>
     requires positive { 1 ≤ width }
     requires fits { value < 2 ^ width }
@@ -103,7 +103,7 @@ fn unsized_hex(alloc: Global, value: u128) -> Result<String, AllocError>
 }
 
 /// The text of a number of a width in a format.
-#[tactic(auto, unfolding(crate::specs::Spelling::spelled))]
+#[tactic(auto, unfolding(crate::specs::LiteralText::spelled))]
 pub fn literal_text(
     alloc: Global,
     format: LiteralFormat,

@@ -1,7 +1,9 @@
-use Rattle.vast_literal.specs.Literal.{literal_of}
-use Rattle.vast_literal.proofs.Denoted.{denoted}
+use Rattle.vast_literal.proofs.Denoted.{denoted_if_ok}
+use Rattle.vast_literal.proofs.Accepted.{accepts}
 use Rattle.vast_literal.proofs.literal.Literal.parse.Goals as goal
 
 pub returns-clause-denoted : goal.returns-clause-denoted
-unfolding literal_of
-returns-clause-denoted c = denoted c.args.text.now _ (rw (c.in-Some.ensures, c.in_ok-width.ensures.width, c.in_ok-value.ensures.value))
+returns-clause-denoted c = denoted_if_ok c.args.text.now c.read_literal.result c.read_literal.ensures
+
+pub returns-clause-accepted : goal.returns-clause-accepted
+returns-clause-accepted c = accepts c.args.text.now c.read_literal.result c.read_literal.ensures
