@@ -24,7 +24,7 @@ modulo_minus : (n v : ℕ) → v < 2 ^ n → IsModulo n true (2 ^ n - v) v
 modulo_minus n v h = record { below = h; same = ap (λ k. k % 2 ^ n) (let e : v + (2 ^ n - v) ≡ 2 ^ n = omega arith in e) ∙ mod_self (2 ^ n) }
 
 -- a number fits in its padded digits
-padded_some : (n v : ℕ) (b : Bool) → 1 ≤ n → 0 < cond b 1 (div_ceil n 1)
+pub padded_some : (n v : ℕ) (b : Bool) → 1 ≤ n → 0 < cond b 1 (div_ceil n 1)
 padded_some n v true p = lit< tt
 padded_some n v false p = omega arith
 
@@ -36,7 +36,7 @@ padded_fits_4 : (n v : ℕ) (b : Bool) → (b ≡ true → v ≡ 0) → v < 2 ^ 
 padded_fits_4 n v true z h = rw (z refl) (lit< tt)
 padded_fits_4 n v false z h = rw (pow-pow 4 (div_ceil n 4)) (let m = pow_mono {i = n} {j = 4 * div_ceil n 4} (omega arith) in omega arith)
 
-padded_some_4 : (n v : ℕ) (b : Bool) → 1 ≤ n → 0 < cond b 1 (div_ceil n 4)
+pub padded_some_4 : (n v : ℕ) (b : Bool) → 1 ≤ n → 0 < cond b 1 (div_ceil n 4)
 padded_some_4 n v true p = lit< tt
 padded_some_4 n v false p = omega arith
 

@@ -8,3 +8,4 @@ pub mod Spelt
 pub mod Decimals
 pub mod Formats
 pub mod Accepted
+pub mod LiteralRows

@@ -34,7 +34,7 @@ char_lower d h = grind (arith, nat_tests)
 abbrev pub Below : ℕ → List ℕ → Type 0
 Below radix ds = AllByRecursion (λ d. d < radix) ds
 
-lowest_below : (radix count n : ℕ) → 0 < radix → Below radix (lowest_digits radix count n)
+pub lowest_below : (radix count n : ℕ) → 0 < radix → Below radix (lowest_digits radix count n)
 unfolding lowest_digits
 lowest_below radix zero n p = tt
 lowest_below radix (suc count) n p = (mod_below (n / radix ^ count) radix p, lowest_below radix count n p)
@@ -61,11 +61,11 @@ all_separated : (p : ℕ → Bool) (s t : List ℕ) → (s ≡ 95 ∷ []) ⊎ (s
 all_separated p s t (inl e) g h = rw (e, g) h
 all_separated p s t (inr e) g h = rw e h
 
-all_grouped : (p : ℕ → Bool) (radix : ℕ) (ds : List ℕ) → p 95 ≡ true → ((d : ℕ) → d < radix → p (digit_char d) ≡ true) → Below radix ds → list_all p (grouped ds) ≡ true
+pub all_grouped : (p : ℕ → Bool) (radix : ℕ) (ds : List ℕ) → p 95 ≡ true → ((d : ℕ) → d < radix → p (digit_char d) ≡ true) → Below radix ds → list_all p (grouped ds) ≡ true
 all_grouped p radix [] g f h = refl
 all_grouped p radix (d ∷ ds) g f h = rw (f d h.0) (all_separated p (separator (length ds)) (grouped ds) (separator_cases (length ds)) g (all_grouped p radix ds g f h.1))
 
-all_characters : (p : ℕ → Bool) (radix : ℕ) (ds : List ℕ) → ((d : ℕ) → d < radix → p (digit_char d) ≡ true) → Below radix ds → list_all p (characters ds) ≡ true
+pub all_characters : (p : ℕ → Bool) (radix : ℕ) (ds : List ℕ) → ((d : ℕ) → d < radix → p (digit_char d) ≡ true) → Below radix ds → list_all p (characters ds) ≡ true
 all_characters p radix [] f h = refl
 all_characters p radix (d ∷ ds) f h = rw (f d h.0) (all_characters p radix ds f h.1)
 
