@@ -4,3 +4,4 @@ pub mod Tokens
 pub mod Scan
 pub mod NormalExpr
 pub mod Grammar
+pub mod Parser
