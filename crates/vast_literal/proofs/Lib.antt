@@ -5,3 +5,4 @@ pub mod Sound
 pub mod SoundPrimary
 pub mod SoundLevels
 pub mod Answers
+pub mod Pins

@@ -3,5 +3,8 @@ pub mod Keyword
 pub mod Tokens
 pub mod Scan
 pub mod NormalExpr
+pub mod LiteralToken
+pub mod Spelling
+pub mod Plain
 pub mod Grammar
 pub mod Parser
