@@ -6,3 +6,5 @@ pub mod SoundPrimary
 pub mod SoundLevels
 pub mod Answers
 pub mod Pins
+pub mod TokenReads
+pub mod ScanLaws

@@ -125,5 +125,4 @@ keyword_token None word = Keyword word
 
 -- A word is a keyword or a name.
 unfoldable pub word_token : List ℕ → Token
-unfolding reserved_keys key_text is_keyword
 word_token word = cond (is_keyword word) (keyword_token (key_written reserved_keys word) word) (Word word)
