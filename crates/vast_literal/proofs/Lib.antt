@@ -8,3 +8,5 @@ pub mod Answers
 pub mod Pins
 pub mod TokenReads
 pub mod ScanLaws
+pub mod Pieces
+pub mod LiteralLaws

@@ -6,5 +6,7 @@ pub mod NormalExpr
 pub mod LiteralToken
 pub mod Spelling
 pub mod Plain
+pub mod ExprTokens
+pub mod WellFormed
 pub mod Grammar
 pub mod Parser
