@@ -10,3 +10,5 @@ pub mod TokenReads
 pub mod ScanLaws
 pub mod Pieces
 pub mod LiteralLaws
+pub mod Spelled
+pub mod Words

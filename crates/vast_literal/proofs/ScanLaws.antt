@@ -237,12 +237,12 @@ opens_digit true c cs h = grind (arith, nat_tests)
 opens_digit false c cs h = grind (arith, nat_tests)
 
 -- each keyword of the grammar
-key_token : (k : Key) → word_token (key_text k) ≡ Reserved k
+pub key_token : (k : Key) → word_token (key_text k) ≡ Reserved k
 unfolding word_token is_keyword reserved_keys key_text
 key_token IfKey = refl
 key_token _ = refl
 
-key_identifier : (k : Key) → is_identifier (key_text k) ≡ true
+pub key_identifier : (k : Key) → is_identifier (key_text k) ≡ true
 unfolding key_text
 key_identifier IfKey = refl
 key_identifier _ = refl
