@@ -10,3 +10,5 @@ pub mod ExprTokens
 pub mod WellFormed
 pub mod Grammar
 pub mod Parser
+pub mod NormalFile
+pub mod FileGrammar
