@@ -12,3 +12,6 @@ pub mod Pieces
 pub mod LiteralLaws
 pub mod Spelled
 pub mod Words
+pub mod ReaderGives
+pub mod Soon
+pub mod StatementsParse

@@ -12,3 +12,5 @@ pub mod Grammar
 pub mod Parser
 pub mod NormalFile
 pub mod FileGrammar
+pub mod StatementParser
+pub mod DeclarationParser
