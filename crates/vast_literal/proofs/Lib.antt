@@ -15,3 +15,4 @@ pub mod Words
 pub mod ReaderGives
 pub mod Soon
 pub mod StatementsParse
+pub mod DeclarationsParse
