@@ -16,3 +16,6 @@ pub mod ReaderGives
 pub mod Soon
 pub mod StatementsParse
 pub mod DeclarationsParse
+pub mod ListsParse
+pub mod MemberKinds
+pub mod MembersParse

@@ -14,3 +14,4 @@ pub mod NormalFile
 pub mod FileGrammar
 pub mod StatementParser
 pub mod DeclarationParser
+pub mod MemberParser
