@@ -3,7 +3,7 @@ use Rattle.std.proofs.Common.{◌≡◌, ℕ, suc, ◌+◌, Bool, true, false, c
 use Rattle.vast_literal.specs.Tokens.{Punct, OpenParen, CloseParen, OpenBracket, CloseBracket, Comma, Colon, Semicolon, DoubleColon, Assign, Key, SignedKey, UnsignedKey, Token, Reserved, Word, Mark}
 use Rattle.vast_literal.specs.NormalExpr.{NormalExpr}
 use Rattle.vast_literal.specs.NormalFile.{Group, One, Range, NormalDeclaration}
-use Rattle.vast_literal.specs.FileGrammar.{IsMany, no_items, more_items, is_kind, is_sign, IsGroup, one, range, IsMaybe, absent, present, IsTypeName, no_type, own_type, packaged, IsDeclaration, declares}
+use Rattle.vast_literal.specs.FileGrammar.{OneDeclaration, IsMany, no_items, more_items, is_kind, is_sign, IsGroup, one, range, IsMaybe, absent, present, IsTypeName, no_type, own_type, packaged, IsDeclaration, declares}
 use Rattle.vast_literal.specs.Parser.{Parser, lead, code, after, key_at, word_at, run}
 use Rattle.vast_literal.specs.StatementParser.{ReadOf}
 use Rattle.vast_literal.specs.DeclarationParser.{many_on, many, group_on, group_at, is_bracket, Fueled, groups_at, maybe_on, maybe_at, signed_at, sign_on, named_on, unscoped, worded, typed_on, kinded, declaration_at}
@@ -241,5 +241,7 @@ pub declaration_parses : (ts : List Token) (d : NormalDeclaration) → IsDeclara
 declaration_parses all d (declares {ks = ks} {ts = ts} {ss = ss} {gs = gs} {hs = hs} {k = k} {s = s} {p = p} {t = t} {g = g} {h = h} n ik it is ig ih) q us iq = simp append_assoc
     (same (λ m e. kind_gives run m k _ _ _ (kind_parses ks _ k ik (no_kind s p t g n ts ss gs _ it is ig)) e) (typed_parses k s p t g h n ts ss gs hs q us it is ig ih iq))
 
-pub one_declaration : (ts : List Token) (a b : NormalDeclaration) → IsDeclaration ts a → IsDeclaration ts b → a ≡ b
-one_declaration ts a b x y = ap (λ (r : NormalDeclaration × List Token). r.0) (one_result (declaration_parses ts a x Semicolon [] at_semicolon) (declaration_parses ts b y Semicolon [] at_semicolon))
+-- Each token list spells at most one declaration.
+pub one_declaration : OneDeclaration
+one_declaration = record { same = λ ts a b x y. ap (λ (r : NormalDeclaration × List Token). r.0)
+    (one_result (declaration_parses ts a x Semicolon [] at_semicolon) (declaration_parses ts b y Semicolon [] at_semicolon)) }

@@ -19,3 +19,4 @@ pub mod DeclarationsParse
 pub mod ListsParse
 pub mod MemberKinds
 pub mod MembersParse
+pub mod FilesParse

@@ -5,7 +5,7 @@ use Rattle.vast_literal.specs.Tokens.{level, OpenParen, CloseParen, Colon, Semic
 use Rattle.vast_literal.specs.NormalExpr.{NormalExpr}
 use Rattle.vast_literal.specs.NormalFile.{NormalStatement, AssignStatement, ChoiceStatement, CaseStatement, NormalStatements, Done, Then, Arms, Only, Otherwise, Or, Labels, NoLabels, Label}
 use Rattle.vast_literal.specs.Grammar.{is_cast_word, Spells}
-use Rattle.vast_literal.specs.FileGrammar.{arrow, assignment, IsUnique, unique, not_unique, IsCase, case_word, casez_word, casex_word, IsStatement, simple, assigned, choice, cases, IsCases, cased, IsAssign, assigns, IsStatements, done, then, IsChoice, only, otherwise, or, IsLabels, no_labels, label, default, IsBody, body, bare}
+use Rattle.vast_literal.specs.FileGrammar.{OneStatement, arrow, assignment, IsUnique, unique, not_unique, IsCase, case_word, casez_word, casex_word, IsStatement, simple, assigned, choice, cases, IsCases, cased, IsAssign, assigns, IsStatements, done, then, IsChoice, only, otherwise, or, IsLabels, no_labels, label, default, IsBody, body, bare}
 use Rattle.vast_literal.specs.Parser.{◌>>=◌, Parser, lead, key_at, enclosed, selected}
 use Rattle.vast_literal.specs.StatementParser.{Reader, key_code, after_key_on, after_key, arrow_at, simple_at, block_at, cases_at, case_of, statement_on, statement_step, statements_on, statements_step, tail_on, choice_on, choice_step, body_on, arm_at, labels_on, labels_step}
 use Rattle.vast_literal.proofs.Gives.{Gives}
@@ -367,7 +367,12 @@ mutual
   body_parse z ts b (body h) = body_parses _ _ _ (statements_parse _ _ h)
   body_parse z ts b (bare a) = bare_parses _ _ (assign_parses _ _ a)
 
-pub one_statement : (ts : List Token) (a b : NormalStatement) → IsStatement ts a → IsStatement ts b → a ≡ b
+-- nothing stands behind
+no_else : after_key ElseKey [] ≡ None
 unfolding after_key after_key_on key_at
-one_statement ts a b x y = let h = statement_parses ts a x in let k = statement_parses ts b y in
-    ap (λ (r : NormalStatement × List Token). r.0) (one_result (h.parses [] refl) (k.parses [] refl))
+no_else = refl
+
+-- Each token list spells at most one statement.
+pub one_statement : OneStatement
+one_statement = record { same = λ ts a b x y. let h = statement_parses ts a x in let k = statement_parses ts b y in
+    ap (λ (r : NormalStatement × List Token). r.0) (one_result (h.parses [] no_else) (k.parses [] no_else)) }

@@ -15,3 +15,4 @@ pub mod FileGrammar
 pub mod StatementParser
 pub mod DeclarationParser
 pub mod MemberParser
+pub mod FileParser
