@@ -16,3 +16,4 @@ pub mod StatementParser
 pub mod DeclarationParser
 pub mod MemberParser
 pub mod FileParser
+pub mod NormalTree
