@@ -17,3 +17,6 @@ pub mod DeclarationParser
 pub mod MemberParser
 pub mod FileParser
 pub mod NormalTree
+pub mod FileTokens
+pub mod PlainFile
+pub mod WellFormedFile
