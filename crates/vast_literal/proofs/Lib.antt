@@ -20,3 +20,4 @@ pub mod ListsParse
 pub mod MemberKinds
 pub mod MembersParse
 pub mod FilesParse
+pub mod DeclarationSpelled

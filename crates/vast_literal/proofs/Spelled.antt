@@ -16,31 +16,31 @@ use Rattle.vast_literal.specs.WellFormed.{is_positive, is_cast_type, is_well_for
 use Rattle.vast_literal.proofs.ScanLaws.{and_left, and_right, or_left}
 use Rattle.vast_literal.proofs.Sound.{level_small, lower}
 
-positive : (op : BinaryOp) → 0 < level (binary_sign op)
+pub positive : (op : BinaryOp) → 0 < level (binary_sign op)
 unfolding level binary_sign
 positive AddOp = omega arith
 positive _ = omega arith
 
 -- a level is at most that of a select
-literal_bound : (b : Bool) → cond b 12 13 ≤ 13
+pub literal_bound : (b : Bool) → cond b 12 13 ≤ 13
 literal_bound true = omega arith
 literal_bound false = omega arith
 
-level_bound : (e : ExprTree) → spelled_level e ≤ 13
+pub level_bound : (e : ExprTree) → spelled_level e ≤ 13
 level_bound (BinaryTree op left right) = let small = level_small (binary_sign op) in omega arith
 level_bound (TernaryTree condition consequent alternate) = omega arith
 level_bound (UnaryTree op operand) = omega arith
 level_bound (LiteralTree text value) = literal_bound (is_negative_text text)
 level_bound _ = omega arith
 
-wrapped_spells : (b : Bool) (m k : ℕ) (ts : List Token) (t : NormalExpr) → m ≤ 14 → k ≤ 14 → (b ≡ false → k ≤ m) → Spells m ts t → Spells k (wrapped_tokens b ts) t
+pub wrapped_spells : (b : Bool) (m k : ℕ) (ts : List Token) (t : NormalExpr) → m ≤ 14 → k ≤ 14 → (b ≡ false → k ≤ m) → Spells m ts t → Spells k (wrapped_tokens b ts) t
 wrapped_spells true m k ts t small low f e = lower 14 k _ t low (omega arith) (paren (lower m 0 ts t (omega arith) small e))
 wrapped_spells false m k ts t small low f e = lower m k ts t (f refl) small e
 
-not_lt : (a b : ℕ) (c : Bool) → (nat_lt a b || c) ≡ false → b ≤ a
+pub not_lt : (a b : ℕ) (c : Bool) → (nat_lt a b || c) ≡ false → b ≤ a
 not_lt a b c h = ltb-false a b (or_left (nat_lt a b) c h)
 
-not_le : (a b : ℕ) (c : Bool) → (nat_le a b || c) ≡ false → suc b ≤ a
+pub not_le : (a b : ℕ) (c : Bool) → (nat_le a b || c) ≡ false → suc b ≤ a
 not_le a b c h = leb-false a b (or_left (nat_le a b) c h)
 
 literal_positive : (b : Bool) → 1 ≤ cond b 12 13
@@ -62,7 +62,7 @@ bare_spells text = go (is_number text)
     go true = number text
     go false = based text
 
-literal_spells : (text : List ℕ) → Spells (literal_level text) (literal_tokens text) (normal_literal text)
+pub literal_spells : (text : List ℕ) → Spells (literal_level text) (literal_tokens text) (normal_literal text)
 unfolding normal_literal is_unary
 literal_spells [] = lower 14 13 _ _ (omega arith) (omega arith) (based [])
 literal_spells (c ∷ cs) = go (eqb c 45)
@@ -81,7 +81,7 @@ joined_spells : {ts : List Token} {t : NormalExpr} {parts : List (List Token)} {
 joined_spells e no_parts = rw append-nil (last e)
 joined_spells e (more_parts f more) = next e (joined_spells f more)
 
-list_spells : {parts : List (List Token)} {xs : NormalExprs} → EachSpelled parts xs → SpellsList (comma_tokens parts) xs
+pub list_spells : {parts : List (List Token)} {xs : NormalExprs} → EachSpelled parts xs → SpellsList (comma_tokens parts) xs
 list_spells no_parts = none
 list_spells (more_parts e more) = some (joined_spells e more)
 
@@ -191,10 +191,10 @@ unary_word NegateOp = refl
 unary_word _ = refl
 
 -- at level 0
-low : (e : ExprTree) {ts : List Token} {t : NormalExpr} → Spells (spelled_level e) ts t → Spells 0 ts t
+pub low : (e : ExprTree) {ts : List Token} {t : NormalExpr} → Spells (spelled_level e) ts t → Spells 0 ts t
 low e s = lower (spelled_level e) 0 _ _ (omega arith) (let b = level_bound e in omega arith) s
 
-below : {ts : List Token} {t : NormalExpr} → Spells 14 ts t → Spells 13 ts t
+pub below : {ts : List Token} {t : NormalExpr} → Spells 14 ts t → Spells 13 ts t
 below s = lower 14 13 _ _ (omega arith) (omega arith) s
 
 -- the subject of a select
