@@ -21,3 +21,4 @@ pub mod MemberKinds
 pub mod MembersParse
 pub mod FilesParse
 pub mod DeclarationSpelled
+pub mod StatementsSpelled
