@@ -22,3 +22,4 @@ pub mod MembersParse
 pub mod FilesParse
 pub mod DeclarationSpelled
 pub mod StatementsSpelled
+pub mod MembersSpelled
