@@ -23,3 +23,4 @@ pub mod FilesParse
 pub mod DeclarationSpelled
 pub mod StatementsSpelled
 pub mod MembersSpelled
+pub mod FilesSpelled
