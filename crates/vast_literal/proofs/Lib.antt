@@ -24,3 +24,4 @@ pub mod DeclarationSpelled
 pub mod StatementsSpelled
 pub mod MembersSpelled
 pub mod FilesSpelled
+pub mod NumberLaws
