@@ -167,14 +167,16 @@ impl LogicRef {
     pub fn to_expr(&self) -> Expr
         ensures { result ≡ logic_ref_to_expr self.now }
     {
-        Expr { id: self.id }
+        let LogicRef { id } = *self;
+        Expr { id }
     }
 
     /// The same node as an expression that may be selected from.
     pub fn to_indexable_expr(&self) -> IndexableExpr
         ensures { result ≡ logic_ref_to_indexable_expr self.now }
     {
-        IndexableExpr { id: self.id }
+        let LogicRef { id } = self;
+        IndexableExpr { id: *id }
     }
 }
 
@@ -183,7 +185,8 @@ impl IndexableExpr {
     pub fn to_expr(&self) -> Expr
         ensures { result ≡ indexable_expr_to_expr self.now }
     {
-        Expr { id: self.id }
+        let IndexableExpr { id } = *self;
+        Expr { id }
     }
 }
 
@@ -192,7 +195,8 @@ impl Slice {
     pub fn to_expr(&self) -> Expr
         ensures { result ≡ slice_to_expr self.now }
     {
-        Expr { id: self.id }
+        let Slice { id } = *self;
+        Expr { id }
     }
 }
 
@@ -201,14 +205,16 @@ impl Index {
     pub fn to_expr(&self) -> Expr
         ensures { result ≡ index_to_expr self.now }
     {
-        Expr { id: self.id }
+        let Index { id } = *self;
+        Expr { id }
     }
 
     /// The same node as an expression that may be selected from.
     pub fn to_indexable_expr(&self) -> IndexableExpr
         ensures { result ≡ index_to_indexable_expr self.now }
     {
-        IndexableExpr { id: self.id }
+        let Index { id } = self;
+        IndexableExpr { id: *id }
     }
 }
 
@@ -217,14 +223,16 @@ impl ParameterRef {
     pub fn to_expr(&self) -> Expr
         ensures { result ≡ parameter_ref_to_expr self.now }
     {
-        Expr { id: self.id }
+        let ParameterRef { id } = *self;
+        Expr { id }
     }
 
     /// The same node as an expression that may be selected from.
     pub fn to_indexable_expr(&self) -> IndexableExpr
         ensures { result ≡ parameter_ref_to_indexable_expr self.now }
     {
-        IndexableExpr { id: self.id }
+        let ParameterRef { id } = self;
+        IndexableExpr { id: *id }
     }
 }
 
@@ -233,7 +241,8 @@ impl LocalparamRef {
     pub fn to_expr(&self) -> Expr
         ensures { result ≡ localparam_ref_to_expr self.now }
     {
-        Expr { id: self.id }
+        let LocalparamRef { id } = *self;
+        Expr { id }
     }
 }
 
@@ -242,6 +251,7 @@ impl MacroRef {
     pub fn to_expr(&self) -> Expr
         ensures { result ≡ macro_ref_to_expr self.now }
     {
-        Expr { id: self.id }
+        let MacroRef { id } = *self;
+        Expr { id }
     }
 }

@@ -1,6 +1,8 @@
 //! What the program does with its words and its streams.
 
-ghost use Rattle.std.specs.Prelude.{◌≡◌, ◌≤◌};
+ghost use Rattle.std.specs.Prelude.{◌≡◌, ◌≤◌, true, false, MatchResult, string_bytes};
+ghost use Rattle.std.specs.Io.KnownBytes.{Appends};
+ghost use Rattle.vast_demo.specs.Words.{names_design};
 
 use crate::designs::passthrough;
 use std::alloc::Global;
@@ -13,12 +15,24 @@ use xlsynth_vast::{VastError, VastFault};
 /// write prints `write fault` there, status 1. No word, another word or more than one prints `unknown design` there,
 /// status 2. Every text on `err` has a line break behind it; a failed write there changes no status. No design reads
 /// `input`.
-pub fn run<R: Read, W: Write, E: Write>(alloc: Global, words: &[&str], _input: &mut R, out: &mut W, err: &mut E) -> u8 {
+pub fn run<R: Read, W: Write, E: Write>(
+    alloc: Global,
+    words: &[&str],
+    _input: &mut R,
+    out: &mut W,
+    err: &mut E,
+) -> u8
+    ensures unknown { names_design words.now ≡ false → result ≡ 2 }
+    ensures known { names_design words.now ≡ true → result ≤ 1 }
+{
     match words {
-        [word] => match *word {
-            "passthrough" => print_design(passthrough(alloc), out, err),
-            _ => unknown(err),
-        },
+        [word] => {
+            if *word == "passthrough" {
+                print_design(passthrough(alloc), out, err)
+            } else {
+                unknown(err)
+            }
+        }
         _ => unknown(err),
     }
 }
@@ -31,7 +45,8 @@ fn unknown<E: Write>(err: &mut E) -> u8
 }
 
 fn print_design<W: Write, E: Write>(text: Result<String, VastFault>, out: &mut W, err: &mut E) -> u8
-    ensures { result ≤ 1 }
+    ensures status { result ≤ 1 }
+    ensures written { result ≡ 0 → MatchResult text (λ t. Appends (W.contents out.old) (W.contents out.new) (string_bytes t)) (λ _. ⊥) }
 {
     match text {
         Ok(text) => match out.write_all(text.as_bytes()) {
@@ -49,4 +64,70 @@ fn fail<E: Write>(text: &str, err: &mut E) -> u8
     let _ = err.write_all(text.as_bytes());
     let _ = err.write_all(b"\n");
     1
+}
+
+#[cfg(test)]
+mod tests {
+    use super::run;
+    use std::io;
+    use std::io::{Read, Write};
+
+    #[derive(Drop)]
+    struct NoInput;
+
+    impl Read for NoInput {
+        fn read(&mut self, _buf: &mut [u8]) -> io::Result<usize> {
+            Ok(0)
+        }
+    }
+
+    #[derive(Drop)]
+    struct Closed;
+
+    impl Write for Closed {
+        fn write(&mut self, _buf: &[u8]) -> io::Result<usize> {
+            Err(io::Error::from(io::ErrorKind::BrokenPipe))
+        }
+
+        fn flush(&mut self) -> io::Result<()> {
+            Ok(())
+        }
+    }
+
+    #[test]
+    fn prints_the_design(rt: HostRuntime) {
+        let alloc = rt.alloc();
+        let mut out: Vec<u8> = Vec::new(alloc);
+        let mut err: Vec<u8> = Vec::new(alloc);
+        let status = run(alloc, &["passthrough"], &mut NoInput, &mut out, &mut err);
+        assert_eq!(rt; status, 0);
+        assert!(rt; err.is_empty());
+        let text = "module passthrough(\n  input wire [7:0] input_data,\n  output wire [7:0] output_data\n);\n  assign output_data = input_data;\nendmodule\n";
+        assert!(rt; out.as_slice() == text.as_bytes());
+    }
+
+    #[test]
+    fn knows_no_other_design(rt: HostRuntime) {
+        let alloc = rt.alloc();
+        let mut out: Vec<u8> = Vec::new(alloc);
+        let mut err: Vec<u8> = Vec::new(alloc);
+        assert_eq!(rt; run(alloc, &[], &mut NoInput, &mut out, &mut err), 2);
+        assert_eq!(rt; run(alloc, &["x"], &mut NoInput, &mut out, &mut err), 2);
+        let twice = ["passthrough", "passthrough"];
+        assert_eq!(rt; run(alloc, &twice, &mut NoInput, &mut out, &mut err), 2);
+        assert!(rt; out.is_empty());
+        let said = "unknown design\nunknown design\nunknown design\n";
+        assert!(rt; err.as_slice() == said.as_bytes());
+    }
+
+    #[test]
+    fn says_that_a_write_failed(rt: HostRuntime) {
+        let alloc = rt.alloc();
+        let mut err: Vec<u8> = Vec::new(alloc);
+        let status = run(alloc, &["passthrough"], &mut NoInput, &mut Closed, &mut err);
+        assert_eq!(rt; status, 1);
+        assert!(rt; err.as_slice() == "write fault\n".as_bytes());
+        let status = run(alloc, &["passthrough"], &mut NoInput, &mut Closed, &mut Closed);
+        assert_eq!(rt; status, 1);
+    }
 }

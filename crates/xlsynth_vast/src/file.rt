@@ -1,17 +1,18 @@
 //! The file itself: its making, its dialect, its handles, its text.
 
 ghost use Rattle.std.specs.Prelude.{◌≡◌, ◌+◌, ◌↔◌, IsTrue, IsErr, IfOk, OnOk, OnErr};
-ghost use Rattle.vast_core.specs.Bench.{start};
+ghost use Rattle.vast_core.specs.Bench.{start, tree_of, OwnsExpr};
 ghost use Rattle.vast_core.specs.FileTree.{tree};
 ghost use Rattle.vast_core.specs.View.{bench};
-ghost use Rattle.vast_print.specs.Emits.{Emits};
+ghost use Rattle.vast_print.specs.Emits.{Emits, EmitsText};
+ghost use Rattle.vast_print.specs.Text.{expr_text};
 ghost use Rattle.vast_print.specs.Layout.{layout};
 
 use std::alloc::Global;
 use std::marker::Model;
-use vast_core::{Ast, FileIds, Handle, IdsSpent, VastFileType};
+use vast_core::{Ast, Expr, FileIds, Handle, IdsSpent, VastFileType};
 use vast_literal::VastFault;
-use vast_print::print_file;
+use vast_print::{print_expr, print_file};
 
 /// A file of Verilog or SystemVerilog: every node is made by a call on it and lives as long as it.
 ///
@@ -64,6 +65,17 @@ impl VastFile {
         ensures { IsTrue result ↔ H.owned (bench self.now) handle.now }
     {
         handle.belongs_to(&self.ast)
+    }
+
+    /// The text of one expression.
+    ///
+    /// # Errors
+    /// As [`VastFile::emit`].
+    pub fn emit_expression(&self, e: &Expr) -> Result<String, VastFault>
+        requires { OwnsExpr (bench self.now) e.now }
+        ensures { EmitsText (expr_text (tree_of (bench self.now) e.now)) result }
+    {
+        print_expr(&self.ast, *e)
     }
 
     /// The text of the file: the printed layout of its tree.

@@ -7,6 +7,8 @@
 mod artifacts;
 mod file;
 mod modules;
+#[cfg(test)]
+mod tests;
 mod types;
 
 pub use file::VastFile;

@@ -1,0 +1,243 @@
+-- The tokens of a member's page spell its normal form.
+use Rattle.std.proofs.Common.{◌≡◌, ℕ, ◌+◌, List, [], ◌∷◌, ◌++◌, Bool, true, false, ◌&&◌, Option, Some, None, IsTrue, refl, append_assoc, append-nil, arith}
+use Rattle.vast_literal.specs.Tokens.{Less, level, OpenParen, CloseParen, Comma, Semicolon, Dot, Key, BeginKey, EndKey, WireKey, RegKey, LogicKey, IntKey, AlwaysFFKey, AlwaysKey, PosedgeKey, NegedgeKey, OrKey, Token, Reserved, Word, Operator, Mark}
+use Rattle.vast_literal.specs.Tree.{Dialect, ExprTree, NameTree, LiteralTree, StringTree, UnaryTree, BinaryTree, TernaryTree, IndexTree, SliceTree, PartSelectTree, ConcatTree, PatternTree, WidthCastTree, TypeCastTree, PosEdgeTree, NegEdgeTree, MacroTree, CallTree, MissingExpr, MaybeExpr, NoExpr, SomeExpr, Exprs, NoExprs, MoreExprs, NoArguments, SomeArguments, Kind, RegKind, WireKind, LogicKind, Declaration, Continuous, AlwaysWord, AlwaysFFWord, AlwaysAtWord, AlwaysCombWord, ParameterName, PlainParameter, IntParameter, DefinedParameter, Connection, InstanceTree, FunctionTree, MemberTree, DeclarationMember, AssignMember, ParameterMember, CommentMember, BlankMember, InlineMember, MacroMember, InstanceMember, AlwaysMember, ConditionalMember, FunctionMember, LoopMember, Members, NoMembers, MoreMembers}
+use Rattle.vast_literal.specs.NormalExpr.{NormalExpr, Name, Binary, normal}
+use Rattle.vast_literal.specs.NormalFile.{NormalStatements, Event, AssignPart, InstancePart, NormalMembers}
+use Rattle.vast_literal.specs.Grammar.{Spells, binary, name, call}
+use Rattle.vast_literal.specs.FileGrammar.{IsMany, no_items, more_items, IsJoined, last_item, next_item, IsList, empty, full, IsStatements, body, is_kind, absent, present, no_type, IsDeclaration, declares, is_member_kind, is_local_kind, is_parameter_word, is_clocked, is_edge, IsEvent, edge, plain, IsInput, input, IsDeclared, declared, IsGiven, given, IsConnection, connected, unconnected, IsGivenList, no_parameters, with_parameters, IsSemicolon, with_one, without, IsLabel, no_label, labelled, IsMember, declaration, continuous, parameter, macro, macro_with, instance, combinational, clocked, conditional, function, loop, IsMembers, closed, and_member}
+use Rattle.vast_literal.specs.Plain.{is_plain_name, is_plain, are_plain, is_edgeless, are_edgeless}
+use Rattle.vast_literal.specs.ExprTokens.{spelled_level, is_reduction, is_right_wrapped, wrapped_tokens, expr_tokens}
+use Rattle.vast_literal.specs.WellFormed.{is_well_formed, is_well_formed_type}
+use Rattle.vast_literal.specs.NormalTree.{kind_key, normal_declaration, result_kind, normal_declared, normal_label, parameter_key, normal_parameter_name, normal_arguments, normal_macro, normal_connection, normal_connections, normal_event, normal_events, normal_always, normal_inputs, normal_locals, normal_function, normal_member_before, normal_members}
+use Rattle.vast_literal.specs.FileTokens.{declared_tokens, assignment_tokens, separated, parameter_name_tokens, semicolon_tokens, value_tokens, connection_tokens, each_connection, given_tokens, instance_tokens, more_event_tokens, event_tokens, always_tokens, each_input, local_tokens, function_tokens, loop_label_tokens, member_tokens, members_tokens}
+use Rattle.vast_literal.specs.PlainFile.{is_plain_value, is_plain_maybe, is_left_side, is_plain_declaration, is_plain_declared, are_plain_declared, are_plain_statements, are_plain_alternates, is_plain_event, are_plain_events, is_plain_parameter_name, are_plain_connections, is_plain_instance, is_plain_function, is_plain_label, is_plain_member, are_plain_members}
+use Rattle.vast_literal.specs.WellFormedFile.{is_well_formed_maybe, is_own_kind, is_local_word, is_macro, are_well_formed_statements, are_well_formed_alternates, is_well_formed_event, are_well_formed_events, is_well_formed_parameter_name, are_well_formed_connections, is_given, are_given, are_well_formed_inputs, are_well_formed_locals, is_well_formed_function, is_well_formed_member, are_well_formed_members}
+use Rattle.vast_literal.proofs.ScanLaws.{and_left, and_right}
+use Rattle.vast_literal.proofs.Sound.{lower}
+use Rattle.vast_literal.proofs.Spelled.{level_bound, wrapped_spells, not_le, list_spells, spelled, each_spelled}
+use Rattle.vast_literal.proofs.DeclarationSpelled.{value_spelled, left_spelled, declared_spelled, port_declaration_spelled, named_spelled}
+use Rattle.vast_literal.proofs.StatementsSpelled.{statements_spelled, choice_spelled, function_body_spelled}
+
+-- lists of items with commas
+
+pub data Each {A : Type 0} (P : List Token → A → Type 0) : List (List Token) → List A → Type 0 where
+  each_none : Each P [] []
+  each_more : {ts : List Token} {x : A} {parts : List (List Token)} {xs : List A} → P ts x → Each P parts xs → Each P (ts ∷ parts) (x ∷ xs)
+
+pub each_joined : {A : Type 0} {P : List Token → A → Type 0} (ts : List Token) (x : A) {parts : List (List Token)} {xs : List A} → P ts x → Each P parts xs → IsJoined P (Mark Comma) (separated (ts ∷ parts)) (x ∷ xs)
+unfolding separated
+each_joined ts x p each_none = last_item p
+each_joined ts x p (each_more {ts = us} {x = y} q more) = next_item p (each_joined us y q more)
+
+pub each_list : {A : Type 0} {P : List Token → A → Type 0} {parts : List (List Token)} {xs : List A} → Each P parts xs → IsList P (Mark Comma) (separated parts) xs
+unfolding separated
+each_list each_none = empty
+each_list (each_more {ts = ts} {x = x} p more) = full (each_joined ts x p more)
+
+-- connections
+
+value_connected : (n : List ℕ) (v : MaybeExpr) → is_plain_maybe v ≡ true → is_well_formed_maybe v ≡ true → IsConnection (Mark Dot ∷ (Word n ∷ (Mark OpenParen ∷ (value_tokens v ++ (Mark CloseParen ∷ []))))) (record { name = n; value = normal_label v })
+unfolding value_tokens normal_label
+value_connected n NoExpr p w = unconnected n
+value_connected n (SomeExpr e) p w = connected (given n (value_spelled e p w))
+
+connection_spelled : (c : Connection) → is_plain_maybe c.value ≡ true → is_well_formed_maybe c.value ≡ true → IsConnection (connection_tokens c) (normal_connection c)
+unfolding connection_tokens normal_connection
+connection_spelled c p w = value_connected c.name c.value p w
+
+connections_spelled : (cs : List Connection) → are_plain_connections cs ≡ true → are_well_formed_connections cs ≡ true → Each IsConnection (each_connection cs) (normal_connections cs)
+unfolding each_connection normal_connections
+connections_spelled [] p w = each_none
+connections_spelled (c ∷ cs) p w = each_more (connection_spelled c (and_right (is_plain_name c.name) (is_plain_maybe c.value) (and_left _ _ p)) (and_left _ _ w))
+    (connections_spelled cs (and_right (is_plain_name c.name && is_plain_maybe c.value) (are_plain_connections cs) p) (and_right (is_well_formed_maybe c.value) (are_well_formed_connections cs) w))
+
+value_given : (n : List ℕ) (v : MaybeExpr) → is_plain_maybe v ≡ true → is_given v ≡ true → IsGiven (Mark Dot ∷ (Word n ∷ (Mark OpenParen ∷ (value_tokens v ++ (Mark CloseParen ∷ []))))) (record { name = n; value = normal_label v })
+unfolding value_tokens normal_label
+value_given n NoExpr p w = absurd (cc w)
+value_given n (SomeExpr e) p w = given n (value_spelled e p w)
+
+given_spelled : (c : Connection) → is_plain_maybe c.value ≡ true → is_given c.value ≡ true → IsGiven (connection_tokens c) (normal_connection c)
+unfolding connection_tokens normal_connection
+given_spelled c p w = value_given c.name c.value p w
+
+each_given : (cs : List Connection) → are_plain_connections cs ≡ true → are_given cs ≡ true → Each IsGiven (each_connection cs) (normal_connections cs)
+unfolding each_connection normal_connections
+each_given [] p w = each_none
+each_given (c ∷ cs) p w = each_more (given_spelled c (and_right (is_plain_name c.name) (is_plain_maybe c.value) (and_left _ _ p)) (and_left _ _ w))
+    (each_given cs (and_right (is_plain_name c.name && is_plain_maybe c.value) (are_plain_connections cs) p) (and_right (is_given c.value) (are_given cs) w))
+
+givens_spelled : (cs : List Connection) → are_plain_connections cs ≡ true → are_given cs ≡ true → IsGivenList (given_tokens cs) (normal_connections cs)
+unfolding given_tokens each_connection normal_connections
+givens_spelled [] p w = no_parameters
+givens_spelled (c ∷ cs) p w = with_parameters (each_joined _ _ (given_spelled c (and_right (is_plain_name c.name) (is_plain_maybe c.value) (and_left _ _ p)) (and_left _ _ w))
+    (each_given cs (and_right (is_plain_name c.name && is_plain_maybe c.value) (are_plain_connections cs) p) (and_right (is_given c.value) (are_given cs) w)))
+
+instance_spelled : (i : InstanceTree) → is_plain_instance i ≡ true → (are_given i.parameters && are_well_formed_connections i.connections) ≡ true →
+    IsMember (instance_tokens i) (InstancePart i.module_name (normal_connections i.parameters) i.instance_name (normal_connections i.connections))
+unfolding instance_tokens
+instance_spelled i p w =
+    let p1 = and_right (is_plain_name i.module_name && is_plain_name i.instance_name) (are_plain_connections i.parameters && are_plain_connections i.connections) p in
+    instance i.module_name i.instance_name (givens_spelled i.parameters (and_left _ _ p1) (and_left _ _ w))
+    (each_list (connections_spelled i.connections (and_right (are_plain_connections i.parameters) (are_plain_connections i.connections) p1) (and_right (are_given i.parameters) (are_well_formed_connections i.connections) w)))
+
+-- events
+
+event_spelled : (e : ExprTree) → is_plain_event e ≡ true → is_well_formed_event e ≡ true → IsEvent (expr_tokens e) (normal_event e)
+unfolding expr_tokens normal_event is_edge
+event_spelled (PosEdgeTree e) p w = edge PosedgeKey refl (value_spelled e p w)
+event_spelled (NegEdgeTree e) p w = edge NegedgeKey refl (value_spelled e p w)
+event_spelled (NameTree n type) p w = plain n
+event_spelled _ p w = absurd (cc w)
+
+more_events_spelled : (es : Exprs) {ts : List Token} {x : Event} → IsEvent ts x → are_plain_events es ≡ true → are_well_formed_events es ≡ true → IsJoined IsEvent (Reserved OrKey) (ts ++ more_event_tokens es) (x ∷ normal_events es)
+unfolding more_event_tokens normal_events
+more_events_spelled NoExprs h p w = rw append-nil (last_item h)
+more_events_spelled (MoreExprs e es) h p w = next_item h (more_events_spelled es (event_spelled e (and_left _ _ p) (and_left _ _ w)) (and_right (is_plain_event e) (are_plain_events es) p) (and_right (is_well_formed_event e) (are_well_formed_events es) w))
+
+events_spelled : (es : Exprs) → are_plain_events es ≡ true → are_well_formed_events es ≡ true → IsList IsEvent (Reserved OrKey) (event_tokens es) (normal_events es)
+unfolding event_tokens normal_events
+events_spelled NoExprs p w = empty
+events_spelled (MoreExprs e es) p w = full (more_events_spelled es (event_spelled e (and_left _ _ p) (and_left _ _ w)) (and_right (is_plain_event e) (are_plain_events es) p) (and_right (is_well_formed_event e) (are_well_formed_events es) w))
+
+always_spelled : (word : AlwaysWord) (es : Exprs) {bs : List Token} {b : NormalStatements} → are_plain_events es ≡ true → are_well_formed_events es ≡ true → IsStatements bs b → IsMember (always_tokens word es (Reserved BeginKey ∷ bs)) (normal_always word es b)
+unfolding always_tokens normal_always is_clocked
+always_spelled AlwaysFFWord es p w h = clocked AlwaysFFKey refl (events_spelled es p w) h
+always_spelled AlwaysAtWord es p w h = clocked AlwaysKey refl (events_spelled es p w) h
+always_spelled AlwaysCombWord es p w h = combinational h
+
+-- declarations
+
+own_kind : (kind : Kind) → is_own_kind kind ≡ true → (k : Key) × (kind_key kind ≡ Some k) × IsTrue (is_member_kind k)
+unfolding kind_key is_member_kind
+own_kind WireKind h = (WireKey, refl, refl)
+own_kind RegKind h = (RegKey, refl, refl)
+own_kind LogicKind h = (LogicKey, refl, refl)
+own_kind _ h = absurd (cc h)
+
+local_kind : (kind : Kind) → is_local_word kind ≡ true → (k : Key) × (kind_key kind ≡ Some k) × IsTrue (is_local_kind k)
+unfolding kind_key is_local_kind
+local_kind RegKind h = (RegKey, refl, refl)
+local_kind LogicKind h = (LogicKey, refl, refl)
+local_kind _ h = absurd (cc h)
+
+kind_of : (dialect : Dialect) (d : Declaration) → (normal_declared dialect d).kind ≡ kind_key d.kind
+unfolding normal_declared normal_declaration
+kind_of dialect d = refl
+
+own_spelled : (dialect : Dialect) (d : Declaration) → is_plain_declared d ≡ true → (is_own_kind d.kind && is_well_formed_type d.type) ≡ true → IsDeclared is_member_kind (declared_tokens dialect d ++ (Mark Semicolon ∷ [])) (normal_declared dialect d)
+own_spelled dialect d p w = let (k, e, h) = own_kind d.kind (and_left _ _ w) in let f = kind_of dialect d in
+    declared k (cc (e, f)) h (declared_spelled dialect d p (and_right (is_own_kind d.kind) (is_well_formed_type d.type) w))
+
+local_spelled : (dialect : Dialect) (d : Declaration) → is_plain_declared d ≡ true → (is_local_word d.kind && is_well_formed_type d.type) ≡ true → IsDeclared is_local_kind (declared_tokens dialect d ++ (Mark Semicolon ∷ [])) (normal_declared dialect d)
+local_spelled dialect d p w = let (k, e, h) = local_kind d.kind (and_left _ _ w) in let f = kind_of dialect d in
+    declared k (cc (e, f)) h (declared_spelled dialect d p (and_right (is_local_word d.kind) (is_well_formed_type d.type) w))
+
+locals_spelled : (dialect : Dialect) (ds : List Declaration) → are_plain_declared ds ≡ true → are_well_formed_locals ds ≡ true → IsMany (IsDeclared is_local_kind) (local_tokens dialect ds) (normal_locals dialect ds)
+unfolding local_tokens normal_locals
+locals_spelled dialect [] p w = no_items
+locals_spelled dialect (d ∷ ds) p w = more_items (local_spelled dialect d (and_left _ _ p) (and_left _ _ w)) (locals_spelled dialect ds (and_right (is_plain_declared d) (are_plain_declared ds) p) (and_right (is_local_word d.kind && is_well_formed_type d.type) (are_well_formed_locals ds) w))
+
+inputs_spelled : (dialect : Dialect) (ds : List Declaration) → are_plain_declared ds ≡ true → are_well_formed_inputs ds ≡ true → Each IsInput (each_input dialect ds) (normal_inputs dialect ds)
+unfolding each_input normal_inputs
+inputs_spelled dialect [] p w = each_none
+inputs_spelled dialect (d ∷ ds) p w = each_more (input (port_declaration_spelled dialect d (and_left _ _ p) (and_left _ _ w))) (inputs_spelled dialect ds (and_right (is_plain_declared d) (are_plain_declared ds) p) (and_right (is_well_formed_type d.type) (are_well_formed_inputs ds) w))
+
+function_spelled : (dialect : Dialect) (f : FunctionTree) → is_plain_function f ≡ true → is_well_formed_function f ≡ true → IsMember (function_tokens dialect f) (normal_function dialect f)
+unfolding function_tokens normal_function
+function_spelled dialect f p w =
+    let p1 = and_right (is_plain_declaration f.result f.name) (are_plain_declared f.inputs && (are_plain_declared f.locals && are_plain_statements f.body)) p in
+    let w1 = and_right (is_well_formed_type f.result) (are_well_formed_inputs f.inputs && (are_well_formed_locals f.locals && are_well_formed_statements f.body)) w in
+    let p2 = and_right (are_plain_declared f.inputs) (are_plain_declared f.locals && are_plain_statements f.body) p1 in
+    let w2 = and_right (are_well_formed_inputs f.inputs) (are_well_formed_locals f.locals && are_well_formed_statements f.body) w1 in
+    function (named_spelled dialect f.result (result_kind dialect f.result) f.name (and_left _ _ p) (and_left _ _ w)) (each_list (inputs_spelled dialect f.inputs (and_left _ _ p1) (and_left _ _ w1)))
+    (locals_spelled dialect f.locals (and_left _ _ p2) (and_left _ _ w2)) (function_body_spelled f.body (and_right (are_plain_declared f.locals) (are_plain_statements f.body) p2) (and_right (are_well_formed_locals f.locals) (are_well_formed_statements f.body) w2))
+
+-- parameters, macros and loops
+
+parameter_name_spelled : (dialect : Dialect) (n : ParameterName) → is_plain_parameter_name n ≡ true → is_well_formed_parameter_name n ≡ true → IsDeclaration (parameter_name_tokens dialect n) (normal_parameter_name dialect n)
+unfolding parameter_name_tokens normal_parameter_name is_kind
+parameter_name_spelled dialect (PlainParameter n) p w = declares n absent no_type absent no_items no_items
+parameter_name_spelled dialect (IntParameter n) p w = declares n (present IntKey refl) no_type absent no_items no_items
+parameter_name_spelled dialect (DefinedParameter d) p w = declared_spelled dialect d p w
+
+parameter_word : (local : Bool) → IsTrue (is_parameter_word (parameter_key local))
+unfolding parameter_key is_parameter_word
+parameter_word true = refl
+parameter_word false = refl
+
+semicolon_spelled : (s : Bool) → IsSemicolon (semicolon_tokens s) s
+semicolon_spelled true = with_one
+semicolon_spelled false = without
+
+macro_spelled : (call : ExprTree) (s : Bool) → is_plain_value call ≡ true → (is_macro call && is_well_formed call) ≡ true → IsMember (expr_tokens call ++ semicolon_tokens s) (normal_macro call s)
+unfolding expr_tokens normal_macro normal_arguments
+macro_spelled (MacroTree m NoArguments) s p w = macro m (semicolon_spelled s)
+macro_spelled (MacroTree m (SomeArguments es)) s p w = simp append_assoc (macro_with m (list_spells (each_spelled es (and_right (is_plain_name m && are_plain es) (are_edgeless es) p) w)) (semicolon_spelled s))
+macro_spelled (NameTree _ _) s p w = absurd (cc w)
+macro_spelled (LiteralTree _ _) s p w = absurd (cc w)
+macro_spelled (StringTree _) s p w = absurd (cc w)
+macro_spelled (UnaryTree _ _) s p w = absurd (cc w)
+macro_spelled (BinaryTree _ _ _) s p w = absurd (cc w)
+macro_spelled (TernaryTree _ _ _) s p w = absurd (cc w)
+macro_spelled (IndexTree _ _) s p w = absurd (cc w)
+macro_spelled (SliceTree _ _ _) s p w = absurd (cc w)
+macro_spelled (PartSelectTree _ _ _) s p w = absurd (cc w)
+macro_spelled (ConcatTree _ _) s p w = absurd (cc w)
+macro_spelled (PatternTree _) s p w = absurd (cc w)
+macro_spelled (WidthCastTree _ _) s p w = absurd (cc w)
+macro_spelled (TypeCastTree _ _) s p w = absurd (cc w)
+macro_spelled (PosEdgeTree _) s p w = absurd (cc w)
+macro_spelled (NegEdgeTree _) s p w = absurd (cc w)
+macro_spelled (CallTree _ _) s p w = absurd (cc w)
+macro_spelled MissingExpr s p w = absurd (cc w)
+
+label_spelled : (l : Option (List ℕ)) → IsLabel (loop_label_tokens l) l
+unfolding loop_label_tokens
+label_spelled None = no_label
+label_spelled (Some w) = labelled w
+
+-- the test of a loop: the end is the right operand of `<`
+test_spelled : (i : List ℕ) (e : ExprTree) → is_plain_value e ≡ true → is_well_formed e ≡ true → Spells 0 (Word i ∷ (Operator Less ∷ wrapped_tokens (is_right_wrapped Less e) (expr_tokens e))) (Binary Less (Name i) (normal e))
+unfolding level
+test_spelled i e p w = let b = level_bound e in
+    lower 7 0 _ _ (omega arith) (omega arith) (binary Less (omega arith) (lower 14 7 _ _ (omega arith) (omega arith) (name i))
+    (wrapped_spells (is_right_wrapped Less e) (spelled_level e) 8 _ _ (omega arith) (omega arith) (λ h. not_le (spelled_level e) 7 (is_reduction e) h) (spelled e (and_right (is_plain e) (is_edgeless e) p) w)))
+
+assign_member : {ls rs : List Token} {l r : NormalExpr} → Spells 13 ls l → Spells 0 rs r → IsMember (assignment_tokens Continuous ls rs) (AssignPart l r)
+unfolding assignment_tokens
+assign_member l r = continuous l r
+
+mutual
+  unfolding member_tokens normal_member_before
+
+  pub members_spelled : (dialect : Dialect) (k : Key) (ms : Members) → are_plain_members ms ≡ true → are_well_formed_members ms ≡ true → IsMembers k (members_tokens dialect ms ++ (Reserved k ∷ [])) (normal_members dialect ms)
+  members_spelled dialect k NoMembers p w = closed k
+  members_spelled dialect k (MoreMembers m ms) p w = rw append_assoc
+      (before_spelled dialect m (and_left _ _ p) (and_left _ _ w) (members_spelled dialect k ms (and_right (is_plain_member m) (are_plain_members ms) p) (and_right (is_well_formed_member m) (are_well_formed_members ms) w)))
+
+  before_spelled : (dialect : Dialect) (m : MemberTree) {k : Key} {us : List Token} {xs : NormalMembers} → is_plain_member m ≡ true → is_well_formed_member m ≡ true → IsMembers k us xs → IsMembers k (member_tokens dialect m ++ us) (normal_member_before dialect m xs)
+  before_spelled dialect (DeclarationMember d) p w rest = and_member (declaration (own_spelled dialect d p w)) rest
+  before_spelled dialect (AssignMember l r) p w rest =
+      and_member (assign_member (left_spelled l (and_left (is_left_side l && is_plain_value l) (is_plain_value r) p) (and_left _ _ w)) (value_spelled r (and_right (is_left_side l && is_plain_value l) (is_plain_value r) p) (and_right (is_well_formed l) (is_well_formed r) w))) rest
+  before_spelled dialect (ParameterMember local n v) p w rest =
+      and_member (parameter (parameter_key local) (parameter_word local) (parameter_name_spelled dialect n (and_left _ _ p) (and_left _ _ w)) (value_spelled v (and_right (is_plain_parameter_name n) (is_plain_value v) p) (and_right (is_well_formed_parameter_name n) (is_well_formed v) w))) rest
+  before_spelled dialect (CommentMember text) p w rest = rest
+  before_spelled dialect BlankMember p w rest = rest
+  before_spelled dialect (InlineMember text) p w rest = rest
+  before_spelled dialect (MacroMember e s) p w rest = and_member (macro_spelled e s p w) rest
+  before_spelled dialect (InstanceMember i) p w rest = and_member (instance_spelled i p w) rest
+  before_spelled dialect (AlwaysMember word es b) p w rest =
+      and_member (always_spelled word es (and_left _ _ p) (and_left _ _ w) (statements_spelled b (and_right (are_plain_events es) (are_plain_statements b) p) (and_right (are_well_formed_events es) (are_well_formed_statements b) w))) rest
+  before_spelled dialect (ConditionalMember c b alternates) p w rest =
+      let p1 = and_right (is_plain_value c) (are_plain_statements b && are_plain_alternates alternates) p in
+      let w1 = and_right (is_well_formed c) (are_well_formed_statements b && are_well_formed_alternates alternates) w in
+      and_member (conditional (choice_spelled alternates (value_spelled c (and_left _ _ p) (and_left _ _ w)) (statements_spelled b (and_left _ _ p1) (and_left _ _ w1))
+      (and_right (are_plain_statements b) (are_plain_alternates alternates) p1) (and_right (are_well_formed_statements b) (are_well_formed_alternates alternates) w1))) rest
+  before_spelled dialect (FunctionMember f) p w rest = and_member (function_spelled dialect f p w) rest
+  before_spelled dialect (LoopMember i s e l ms) p w rest =
+      let p1 = and_right (is_plain_name i && is_plain_label l) ((is_plain_value s && is_plain_value e) && are_plain_members ms) p in
+      let p2 = and_left (is_plain_value s && is_plain_value e) (are_plain_members ms) p1 in
+      let w2 = and_left (is_well_formed s && is_well_formed e) (are_well_formed_members ms) w in
+      and_member (loop i (value_spelled s (and_left _ _ p2) (and_left _ _ w2)) (test_spelled i e (and_right (is_plain_value s) (is_plain_value e) p2) (and_right (is_well_formed s) (is_well_formed e) w2)) (label_spelled l)
+      (members_spelled dialect EndKey ms (and_right (is_plain_value s && is_plain_value e) (are_plain_members ms) p1) (and_right (is_well_formed s && is_well_formed e) (are_well_formed_members ms) w))) rest

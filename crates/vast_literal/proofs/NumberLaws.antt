@@ -1,0 +1,60 @@
+-- A written number is a number, perhaps behind a minus.
+use Rattle.std.proofs.Common.{◌≡◌, ℕ, zero, suc, ◌+◌, ◌/◌, ◌%◌, ◌<◌, ◌≤◌, ℤ, pos, negsuc, List, [], ◌∷◌, Bool, true, false, cond, ◌&&◌, ◌||◌, eqb, refl, sym, ◌∙◌, arith, mod-lt, lit<}
+use Rattle.std.proofs.lemmas.Bool.Decides.{nat_tests}
+use Rattle.std.specs.Prelude.{nat_lt, ◌==◌, if◌then◌else◌}
+use Rattle.std.specs.Fmt.{digits, digits_onto, digit_glyph, decimal, signed_decimal}
+use Rattle.vast_literal.specs.Scan.{is_digit}
+use Rattle.vast_literal.specs.LiteralToken.{every, is_number, is_based, is_filled, is_bare_literal, is_literal_text}
+use Rattle.vast_literal.proofs.ScanLaws.{and_left}
+
+small_glyph : (m : ℕ) → m < 10 → is_digit (48 + m) ≡ true
+small_glyph m h = grind (arith, nat_tests)
+
+small_is : (m : ℕ) → m < 10 → nat_lt m 10 ≡ true
+small_is m h = grind (arith, nat_tests)
+
+glyph : (n : ℕ) → is_digit (digit_glyph false (n % 10)) ≡ true
+glyph n = let h : n % 10 < 10 = mod-lt n (lit< tt) in go (nat_lt (n % 10) 10) (small_is (n % 10) h)
+  where
+    go : (b : Bool) → b ≡ true → is_digit (if b then 48 + n % 10 else 87 + n % 10) ≡ true
+    go true e = small_glyph (n % 10) (mod-lt n (lit< tt))
+    go false e = absurd (cc e)
+
+both : (a b : Bool) → a ≡ true → b ≡ true → (a && b) ≡ true
+both true b h k = k
+both false b h k = absurd (cc h)
+
+digits_number : (k n c : ℕ) (acc : List ℕ) → every is_digit (c ∷ acc) ≡ true → is_number (digits_onto k 10 false n (c ∷ acc)) ≡ true
+digits_number zero n c acc h = h
+digits_number (suc k) n c acc h =
+    go (n / 10 == 0) (both _ _ (glyph n) h) (digits_number k (n / 10) (digit_glyph false (n % 10)) (c ∷ acc) (both _ _ (glyph n) h))
+  where
+    go : (b : Bool) → every is_digit (digit_glyph false (n % 10) ∷ c ∷ acc) ≡ true → is_number (digits_onto k 10 false (n / 10) (digit_glyph false (n % 10) ∷ c ∷ acc)) ≡ true →
+        is_number (if b then digit_glyph false (n % 10) ∷ c ∷ acc else digits_onto k 10 false (n / 10) (digit_glyph false (n % 10) ∷ c ∷ acc)) ≡ true
+    go true a b = a
+    go false a b = b
+
+pub decimal_number : (n : ℕ) → is_number (decimal n) ≡ true
+unfolding digits
+decimal_number n = go (n / 10 == 0) (both _ _ (glyph n) refl) (digits_number 63 (n / 10) (digit_glyph false (n % 10)) [] (both _ _ (glyph n) refl))
+  where
+    go : (b : Bool) → every is_digit (digit_glyph false (n % 10) ∷ []) ≡ true → is_number (digits_onto 63 10 false (n / 10) (digit_glyph false (n % 10) ∷ [])) ≡ true →
+        is_number (if b then digit_glyph false (n % 10) ∷ [] else digits_onto 63 10 false (n / 10) (digit_glyph false (n % 10) ∷ [])) ≡ true
+    go true a b = a
+    go false a b = b
+
+bare_number : (a b : Bool) → a ≡ true → (a || b) ≡ true
+bare_number true b h = refl
+bare_number false b h = absurd (cc h)
+
+no_minus : (c : ℕ) → is_digit c ≡ true → eqb c 45 ≡ false
+no_minus c h = grind (arith, nat_tests)
+
+number_text : (w : List ℕ) → is_number w ≡ true → is_literal_text w ≡ true
+number_text [] h = absurd (cc h)
+number_text (c ∷ cs) h = let e = no_minus c (and_left (is_digit c) (every is_digit cs) h) in
+    rw e (bare_number (is_number (c ∷ cs)) (is_based (c ∷ cs) || is_filled (c ∷ cs)) h)
+
+pub signed_text : (z : ℤ) → is_literal_text (signed_decimal z) ≡ true
+signed_text (pos n) = number_text (decimal n) (decimal_number n)
+signed_text (negsuc n) = let h = decimal_number (suc n) in bare_number (is_number (decimal (suc n))) (is_based (decimal (suc n)) || is_filled (decimal (suc n))) h

@@ -1,0 +1,277 @@
+-- The tokens of an expression's text spell its normal expression.
+use Rattle.std.proofs.Common.{◌≡◌, ℕ, suc, ◌+◌, ◌<◌, ◌≤◌, List, [], ◌∷◌, ◌++◌, Bool, true, false, cond, not, ◌&&◌, ◌||◌, eqb, nat_lt, nat_le, Option, Some, None, IsTrue, refl, sym, subst, append_assoc, append-nil, arith, leb-false}
+use Rattle.std.proofs.lemmas.Bool.{ltb-false}
+use Rattle.std.proofs.lemmas.Bool.Decides.{nat_tests}
+use Rattle.std.proofs.lemmas.Option.{same_Some}
+use Rattle.std.specs.Fmt.{signed_decimal}
+use Rattle.vast_literal.specs.Tokens.{Minus, level, is_unary, OpenParen, CloseParen, Key, LogicKey, IntegerKey, IntKey, Token, Word, SystemWord, Number, Based, Operator, Mark}
+use Rattle.vast_literal.specs.Tree.{UnaryOp, NegateOp, BinaryOp, AddOp, ExprTree, NameTree, LiteralTree, StringTree, UnaryTree, BinaryTree, TernaryTree, IndexTree, SliceTree, PartSelectTree, ConcatTree, PatternTree, WidthCastTree, TypeCastTree, PosEdgeTree, NegEdgeTree, MacroTree, CallTree, MissingExpr, TypeTree, ScalarTree, VectorTree, IntegerTree, IntTree, ExternalTree, PackageTree, PackedTree, UnpackedTree, MissingType, Typed, NoExpr, SomeExpr, Exprs, NoExprs, MoreExprs, NoArguments, SomeArguments}
+use Rattle.vast_literal.specs.Scan.{is_digit}
+use Rattle.vast_literal.specs.NormalExpr.{NormalExpr, Name, Literal, Unary, Call, Cast, NormalExprs, NoNormals, MoreNormals, unary_sign, binary_sign, normal_literal, is_scalar_name, is_zero_literal, is_elided_index, is_elided_slice, sign_key, normal_word_cast, scalar_sign, integer_sign, normal, normal_cast, normals}
+use Rattle.vast_literal.specs.Grammar.{is_cast_word, Spells, ternary, binary, unary, index, slice, part_select, name, number, based, quoted, paren, call, system_call, concat, replicated, array_pattern, macro_alone, macro_call, number_cast, name_cast, package_cast, paren_cast, word_cast, SpellsList, none, some, SpellsJoined, last, next}
+use Rattle.vast_literal.specs.LiteralToken.{is_number, bare_token, literal_tokens}
+use Rattle.vast_literal.specs.Plain.{is_edgeless, is_edgeless_type, are_edgeless}
+use Rattle.vast_literal.specs.ExprTokens.{is_negative_text, literal_level, spelled_level, is_reduction, is_ternary, is_width_cast, is_left_wrapped, is_right_wrapped, is_operand_wrapped, is_subject_wrapped, is_bare_head, wrapped_tokens, cast_operand, comma_tail_tokens, comma_tokens, called_token, word_cast_tokens, expr_tokens, cast_tokens, each_tokens}
+use Rattle.vast_literal.specs.WellFormed.{is_positive, is_cast_type, is_well_formed, is_well_formed_type, are_well_formed}
+use Rattle.vast_literal.proofs.ScanLaws.{and_left, and_right, or_left}
+use Rattle.vast_literal.proofs.Sound.{level_small, lower}
+
+pub positive : (op : BinaryOp) → 0 < level (binary_sign op)
+unfolding level binary_sign
+positive AddOp = omega arith
+positive _ = omega arith
+
+-- a level is at most that of a select
+pub literal_bound : (b : Bool) → cond b 12 13 ≤ 13
+literal_bound true = omega arith
+literal_bound false = omega arith
+
+pub level_bound : (e : ExprTree) → spelled_level e ≤ 13
+level_bound (BinaryTree op left right) = let small = level_small (binary_sign op) in omega arith
+level_bound (TernaryTree condition consequent alternate) = omega arith
+level_bound (UnaryTree op operand) = omega arith
+level_bound (LiteralTree text value) = literal_bound (is_negative_text text)
+level_bound _ = omega arith
+
+pub wrapped_spells : (b : Bool) (m k : ℕ) (ts : List Token) (t : NormalExpr) → m ≤ 14 → k ≤ 14 → (b ≡ false → k ≤ m) → Spells m ts t → Spells k (wrapped_tokens b ts) t
+wrapped_spells true m k ts t small low f e = lower 14 k _ t low (omega arith) (paren (lower m 0 ts t (omega arith) small e))
+wrapped_spells false m k ts t small low f e = lower m k ts t (f refl) small e
+
+pub not_lt : (a b : ℕ) (c : Bool) → (nat_lt a b || c) ≡ false → b ≤ a
+not_lt a b c h = ltb-false a b (or_left (nat_lt a b) c h)
+
+pub not_le : (a b : ℕ) (c : Bool) → (nat_le a b || c) ≡ false → suc b ≤ a
+not_le a b c h = leb-false a b (or_left (nat_le a b) c h)
+
+literal_positive : (b : Bool) → 1 ≤ cond b 12 13
+literal_positive true = omega arith
+literal_positive false = omega arith
+
+not_ternary : (e : ExprTree) → is_ternary e ≡ false → 1 ≤ spelled_level e
+not_ternary (TernaryTree condition consequent alternate) h = absurd (cc h)
+not_ternary (BinaryTree op left right) h = positive op
+not_ternary (LiteralTree text value) h = literal_positive (is_negative_text text)
+not_ternary _ h = omega arith
+
+-- literals
+
+bare_spells : (text : List ℕ) → Spells 14 (bare_token text ∷ []) (Literal text)
+bare_spells text = go (is_number text)
+  where
+    go : (b : Bool) → Spells 14 (cond b (Number text) (Based text) ∷ []) (Literal text)
+    go true = number text
+    go false = based text
+
+pub literal_spells : (text : List ℕ) → Spells (literal_level text) (literal_tokens text) (normal_literal text)
+unfolding normal_literal is_unary
+literal_spells [] = lower 14 13 _ _ (omega arith) (omega arith) (based [])
+literal_spells (c ∷ cs) = go (eqb c 45)
+  where
+    go : (b : Bool) → Spells (cond b 12 13) (cond b (Operator Minus ∷ bare_token cs ∷ []) (bare_token (c ∷ cs) ∷ [])) (cond b (Unary Minus (Literal cs)) (Literal (c ∷ cs)))
+    go true = unary Minus refl (lower 14 12 _ _ (omega arith) (omega arith) (bare_spells cs))
+    go false = lower 14 13 _ _ (omega arith) (omega arith) (bare_spells (c ∷ cs))
+
+-- lists
+
+pub data EachSpelled : List (List Token) → NormalExprs → Type 0 where
+  no_parts : EachSpelled [] NoNormals
+  more_parts : {ts : List Token} {t : NormalExpr} {parts : List (List Token)} {xs : NormalExprs} → Spells 0 ts t → EachSpelled parts xs → EachSpelled (ts ∷ parts) (MoreNormals t xs)
+
+joined_spells : {ts : List Token} {t : NormalExpr} {parts : List (List Token)} {xs : NormalExprs} → Spells 0 ts t → EachSpelled parts xs → SpellsJoined (ts ++ comma_tail_tokens parts) (MoreNormals t xs)
+joined_spells e no_parts = rw append-nil (last e)
+joined_spells e (more_parts f more) = next e (joined_spells f more)
+
+pub list_spells : {parts : List (List Token)} {xs : NormalExprs} → EachSpelled parts xs → SpellsList (comma_tokens parts) xs
+list_spells no_parts = none
+list_spells (more_parts e more) = some (joined_spells e more)
+
+called_spells : (name : List ℕ) {ts : List Token} {xs : NormalExprs} → SpellsList ts xs → Spells 14 (called_token name ∷ (Mark OpenParen ∷ (ts ++ (Mark CloseParen ∷ [])))) (Call name xs)
+called_spells [] es = call [] es
+called_spells (c ∷ cs) {ts = ts} {xs = xs} es = go (eqb c 36)
+  where
+    go : (b : Bool) → Spells 14 (cond b (SystemWord (c ∷ cs)) (Word (c ∷ cs)) ∷ (Mark OpenParen ∷ (ts ++ (Mark CloseParen ∷ [])))) (Call (c ∷ cs) xs)
+    go true = system_call (c ∷ cs) es
+    go false = call (c ∷ cs) es
+
+-- elided selects
+
+scalar_spells : (s : ExprTree) → is_scalar_name s ≡ true → Spells 13 (expr_tokens s) (normal s)
+unfolding is_scalar_name expr_tokens normal
+scalar_spells (NameTree n (Typed (ScalarTree signed))) h = lower 14 13 _ _ (omega arith) (omega arith) (name n)
+scalar_spells _ h = absurd (cc h)
+
+select_spells : (b : Bool) (s : ExprTree) {ts : List Token} {t : NormalExpr} → (b ≡ true → is_scalar_name s ≡ true) → Spells 13 ts t → Spells 13 (cond b (expr_tokens s) ts) (cond b (normal s) t)
+select_spells true s f e = scalar_spells s (f refl)
+select_spells false s f e = e
+
+elided_index : (s i : ExprTree) → is_elided_index s i ≡ true → is_scalar_name s ≡ true
+unfolding is_elided_index
+elided_index s i h = and_left (is_scalar_name s) (is_zero_literal i) h
+
+elided_slice : (s h l : ExprTree) → is_elided_slice s h l ≡ true → is_scalar_name s ≡ true
+unfolding is_elided_slice
+elided_slice s a b h = and_left (is_scalar_name s) (is_zero_literal a) (and_left (is_scalar_name s && is_zero_literal a) (is_zero_literal b) h)
+
+-- the heads of casts
+
+pub data BareHead : List Token → NormalExpr → Type 0 where
+  word_head : (w : List ℕ) → BareHead (Word w ∷ []) (Name w)
+  number_head : (w : List ℕ) → BareHead (Number w ∷ []) (Literal w)
+
+number_literal : (text : List ℕ) → is_number text ≡ true → BareHead (literal_tokens text) (normal_literal text)
+unfolding normal_literal
+number_literal [] h = absurd (cc h)
+number_literal (c ∷ cs) h = let e = no_minus c (and_left _ _ h) in
+    subst (λ (b : Bool). BareHead (cond b (Operator Minus ∷ bare_token cs ∷ []) (bare_token (c ∷ cs) ∷ [])) (cond b (Unary Minus (Literal cs)) (Literal (c ∷ cs)))) (sym e)
+    (subst (λ (b : Bool). BareHead (cond b (Number (c ∷ cs)) (Based (c ∷ cs)) ∷ []) (Literal (c ∷ cs))) (sym h) (number_head (c ∷ cs)))
+  where
+    no_minus : (c : ℕ) → is_digit c ≡ true → eqb c 45 ≡ false
+    no_minus c h = grind (arith, nat_tests)
+
+elided_head : (b : Bool) (s : ExprTree) (ts : List Token) (t : NormalExpr) → b ≡ true → BareHead (expr_tokens s) (normal s) → BareHead (cond b (expr_tokens s) ts) (cond b (normal s) t)
+elided_head true s ts t e f = f
+elided_head false s ts t e f = absurd (cc e)
+
+bare_head : (w : ExprTree) → is_bare_head w ≡ true → BareHead (expr_tokens w) (normal w)
+unfolding is_bare_head expr_tokens normal
+bare_head (NameTree n type) h = word_head n
+bare_head (LiteralTree text value) h = number_literal text h
+bare_head (IndexTree s i) h = elided_head (is_elided_index s i) s _ _ (and_left (is_elided_index s i) (is_bare_head s) h) (bare_head s (and_right (is_elided_index s i) (is_bare_head s) h))
+bare_head (SliceTree s a b) h = elided_head (is_elided_slice s a b) s _ _ (and_left (is_elided_slice s a b) (is_bare_head s) h) (bare_head s (and_right (is_elided_slice s a b) (is_bare_head s) h))
+bare_head _ h = absurd (cc h)
+
+head_spells : {hs ts : List Token} {h x : NormalExpr} → BareHead hs h → Spells 0 ts x → Spells 14 (hs ++ cast_operand ts) (Cast h x)
+head_spells (word_head w) e = name_cast w e
+head_spells (number_head w) e = number_cast w e
+
+width_spells : (w : ExprTree) (m : ℕ) {ts : List Token} {x : NormalExpr} → m ≤ 14 → Spells m (expr_tokens w) (normal w) → Spells 0 ts x →
+    Spells 14 (wrapped_tokens (not (is_bare_head w)) (expr_tokens w) ++ cast_operand ts) (Cast (normal w) x)
+width_spells w m {ts = ts} {x = x} small f e = go (is_bare_head w) refl
+  where
+    go : (b : Bool) → is_bare_head w ≡ b → Spells 14 (wrapped_tokens (not b) (expr_tokens w) ++ cast_operand ts) (Cast (normal w) x)
+    go true h = head_spells (bare_head w h) e
+    go false h = simp append_assoc (paren_cast (lower m 0 _ _ (omega arith) small f) e)
+
+word_spells : (word : Option Key) (base : Key) {ts : List Token} {x : NormalExpr} → ((k : Key) → word ≡ Some k → IsTrue (is_cast_word k)) → IsTrue (is_cast_word base) → Spells 0 ts x →
+    Spells 14 (word_cast_tokens word base ts) (normal_word_cast word base x)
+unfolding normal_word_cast
+word_spells None base f g e = word_cast base g e
+word_spells (Some k) base f g e = word_cast k (f k refl) (lower 14 0 _ _ (omega arith) (omega arith) (word_cast base g e))
+
+scalar_word : (signed : Bool) (k : Key) → scalar_sign signed ≡ Some k → IsTrue (is_cast_word k)
+unfolding scalar_sign is_cast_word
+scalar_word true k h = subst (λ (v : Key). is_cast_word v ≡ true) (same_Some _ _ h) refl
+scalar_word false k h = absurd (cc h)
+
+integer_word : (signed : Bool) (k : Key) → integer_sign signed ≡ Some k → IsTrue (is_cast_word k)
+unfolding integer_sign is_cast_word
+integer_word true k h = absurd (cc h)
+integer_word false k h = subst (λ (v : Key). is_cast_word v ≡ true) (same_Some _ _ h) refl
+
+sign_word : (signed : Bool) → IsTrue (is_cast_word (sign_key signed))
+unfolding sign_key is_cast_word
+sign_word true = refl
+sign_word false = refl
+
+logic_word : IsTrue (is_cast_word LogicKey)
+unfolding is_cast_word
+logic_word = refl
+
+whole_word : IsTrue (is_cast_word IntegerKey)
+unfolding is_cast_word
+whole_word = refl
+
+int_word : IsTrue (is_cast_word IntKey)
+unfolding is_cast_word
+int_word = refl
+
+unary_word : (op : UnaryOp) → IsTrue (is_unary (unary_sign op))
+unfolding is_unary unary_sign
+unary_word NegateOp = refl
+unary_word _ = refl
+
+-- at level 0
+pub low : (e : ExprTree) {ts : List Token} {t : NormalExpr} → Spells (spelled_level e) ts t → Spells 0 ts t
+low e s = lower (spelled_level e) 0 _ _ (omega arith) (let b = level_bound e in omega arith) s
+
+pub below : {ts : List Token} {t : NormalExpr} → Spells 14 ts t → Spells 13 ts t
+below s = lower 14 13 _ _ (omega arith) (omega arith) s
+
+-- the subject of a select
+subject_spells : (s : ExprTree) {ts : List Token} {t : NormalExpr} → Spells (spelled_level s) ts t → Spells 13 (wrapped_tokens (is_subject_wrapped s) ts) t
+subject_spells s e = let b = level_bound s in wrapped_spells (is_subject_wrapped s) (spelled_level s) 13 _ _ (omega arith) (omega arith) (λ h. ltb-false (spelled_level s) 13 h) e
+
+part_of_ternary : (s : ExprTree) (k : ℕ) {ts : List Token} {t : NormalExpr} → k ≤ 1 → Spells (spelled_level s) ts t → Spells k (wrapped_tokens (is_ternary s) ts) t
+part_of_ternary s k small e = let b = level_bound s in
+    wrapped_spells (is_ternary s) (spelled_level s) k _ _ (omega arith) (omega arith) (λ h. let p = not_ternary s h in omega arith) e
+
+mutual
+  unfolding expr_tokens normal
+
+  -- The tokens of a well-formed expression's text spell its normal expression.
+  pub spelled : (e : ExprTree) → is_edgeless e ≡ true → is_well_formed e ≡ true → Spells (spelled_level e) (expr_tokens e) (normal e)
+  spelled (NameTree n type) l w = below (name n)
+  spelled (LiteralTree text value) l w = literal_spells text
+  spelled (StringTree text) l w = below (quoted text)
+  spelled (UnaryTree op e) l w = let b = level_bound e in
+      unary (unary_sign op) (unary_word op) (wrapped_spells (is_operand_wrapped e) (spelled_level e) 12 _ _ (omega arith) (omega arith) (λ h. let c = not_lt (spelled_level e) 13 (is_width_cast e) h in omega arith) (spelled e l w))
+  spelled (BinaryTree op a c) l w =
+      let small = level_small (binary_sign op) in
+      let ba = level_bound a in
+      let bc = level_bound c in
+      binary (binary_sign op) (positive op)
+      (wrapped_spells (is_left_wrapped (binary_sign op) a) (spelled_level a) (level (binary_sign op)) _ _ (omega arith) (omega arith) (λ h. not_lt (spelled_level a) (level (binary_sign op)) (is_reduction a) h) (spelled a (and_left _ _ l) (and_left _ _ w)))
+      (wrapped_spells (is_right_wrapped (binary_sign op) c) (spelled_level c) (suc (level (binary_sign op))) _ _ (omega arith) (omega arith) (λ h. not_le (spelled_level c) (level (binary_sign op)) (is_reduction c) h) (spelled c (and_right (is_edgeless a) _ l) (and_right (is_well_formed a) _ w)))
+  spelled (TernaryTree c a b) l w =
+      let l1 = and_right (is_edgeless c) (is_edgeless a && is_edgeless b) l in
+      let w1 = and_right (is_well_formed c) (is_well_formed a && is_well_formed b) w in
+      ternary (part_of_ternary c 1 (omega arith) (spelled c (and_left _ _ l) (and_left _ _ w)))
+      (part_of_ternary a 0 (omega arith) (spelled a (and_left _ _ l1) (and_left _ _ w1)))
+      (part_of_ternary b 0 (omega arith) (spelled b (and_right (is_edgeless a) (is_edgeless b) l1) (and_right (is_well_formed a) (is_well_formed b) w1)))
+  spelled (IndexTree s i) l w =
+      select_spells (is_elided_index s i) s (elided_index s i)
+      (index (subject_spells s (spelled s (and_left _ _ l) (and_left _ _ w))) (low i (spelled i (and_right (is_edgeless s) (is_edgeless i) l) (and_right (is_well_formed s) (is_well_formed i) w))))
+  spelled (SliceTree s a b) l w =
+      let l1 = and_right (is_edgeless s) (is_edgeless a && is_edgeless b) l in
+      let w1 = and_right (is_well_formed s) (is_well_formed a && is_well_formed b) w in
+      select_spells (is_elided_slice s a b) s (elided_slice s a b)
+      (slice (subject_spells s (spelled s (and_left _ _ l) (and_left _ _ w))) (low a (spelled a (and_left _ _ l1) (and_left _ _ w1)))
+      (low b (spelled b (and_right (is_edgeless a) (is_edgeless b) l1) (and_right (is_well_formed a) (is_well_formed b) w1))))
+  spelled (PartSelectTree s i n) l w =
+      let w1 = and_right (is_well_formed s) (is_well_formed i && is_positive n) w in
+      part_select (signed_decimal n) (subject_spells s (spelled s (and_left _ _ l) (and_left _ _ w))) (low i (spelled i (and_right (is_edgeless s) (is_edgeless i) l) (and_left _ _ w1)))
+  spelled (ConcatTree NoExpr es) l w = below (concat (list_spells (each_spelled es l w)))
+  spelled (ConcatTree (SomeExpr n) es) l w =
+      below (replicated (low n (spelled n (and_left _ _ l) (and_left _ _ w))) (list_spells (each_spelled es (and_right (is_edgeless n) (are_edgeless es) l) (and_right (is_well_formed n) (are_well_formed es) w))))
+  spelled (PatternTree es) l w = below (array_pattern (list_spells (each_spelled es l w)))
+  spelled (WidthCastTree h e) l w =
+      let b = level_bound h in
+      below (width_spells h (spelled_level h) (omega arith) (spelled h (and_left _ _ l) (and_left _ _ w)) (low e (spelled e (and_right (is_edgeless h) (is_edgeless e) l) (and_right (is_well_formed h) (is_well_formed e) w))))
+  spelled (TypeCastTree type e) l w =
+      let w1 = and_right (is_cast_type type) (is_well_formed_type type && is_well_formed e) w in
+      cast_spelled type (low e (spelled e (and_right (is_edgeless_type type) (is_edgeless e) l) (and_right (is_well_formed_type type) (is_well_formed e) w1))) (and_left _ _ w) (and_left _ _ l) (and_left _ _ w1)
+  spelled (PosEdgeTree e) l w = absurd (cc l)
+  spelled (NegEdgeTree e) l w = absurd (cc l)
+  spelled (MacroTree m NoArguments) l w = below (macro_alone m)
+  spelled (MacroTree m (SomeArguments es)) l w = below (macro_call m (list_spells (each_spelled es l w)))
+  spelled (CallTree f es) l w = below (called_spells f (list_spells (each_spelled es l w)))
+  spelled MissingExpr l w = absurd (cc w)
+
+  pub cast_spelled : (type : TypeTree) {ts : List Token} {x : NormalExpr} → Spells 0 ts x → is_cast_type type ≡ true → is_edgeless_type type ≡ true → is_well_formed_type type ≡ true →
+      Spells 13 (cast_tokens type ts) (normal_cast type x)
+  cast_spelled (ScalarTree signed) e c l w = below (word_spells (scalar_sign signed) LogicKey (scalar_word signed) logic_word e)
+  cast_spelled (VectorTree h value signed) e c l w =
+      let b = level_bound h in
+      below (word_cast (sign_key signed) (sign_word signed) (lower 14 0 _ _ (omega arith) (omega arith) (width_spells h (spelled_level h) (omega arith) (spelled h l w) e)))
+  cast_spelled (IntegerTree signed) e c l w = below (word_spells (integer_sign signed) IntegerKey (integer_word signed) whole_word e)
+  cast_spelled (IntTree signed) e c l w = below (word_spells (integer_sign signed) IntKey (integer_word signed) int_word e)
+  cast_spelled (ExternalTree n) e c l w = below (name_cast n e)
+  cast_spelled (PackageTree p n) e c l w = below (package_cast p n e)
+  cast_spelled (PackedTree element dimensions) e c l w = absurd (cc c)
+  cast_spelled (UnpackedTree element dimensions) e c l w = absurd (cc c)
+  cast_spelled MissingType e c l w = absurd (cc c)
+
+  pub each_spelled : (es : Exprs) → are_edgeless es ≡ true → are_well_formed es ≡ true → EachSpelled (each_tokens es) (normals es)
+  each_spelled NoExprs l w = no_parts
+  each_spelled (MoreExprs e es) l w =
+      more_parts (low e (spelled e (and_left _ _ l) (and_left _ _ w))) (each_spelled es (and_right (is_edgeless e) (are_edgeless es) l) (and_right (is_well_formed e) (are_well_formed es) w))

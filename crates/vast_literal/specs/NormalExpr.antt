@@ -1,0 +1,155 @@
+-- Normal expressions: what of an expression's tree its tokens tell, and the normal expression of a tree.
+use Rattle.std.specs.Prelude.{ℕ, ℤ, pos, zero, List, [], ◌∷◌, ◌++◌, Bool, true, false, cond, ◌&&◌, eqb, Option, Some, None}
+use Rattle.std.specs.Fmt.{signed_decimal}
+use Rattle.vast_literal.specs.Tokens.{Op, LogicOr, LogicAnd, BitOr, BitXor, BitAnd, NotEqual, CaseNotEqual, Equal, CaseEqual, GreaterEqual, Greater, LessEqual, Less, ShiftLeft, ShiftRightSigned, ShiftRight, Plus, Minus, Times, Divide, Modulo, Power, BitNot, LogicNot}
+use Rattle.vast_literal.specs.Tokens.{Key, LogicKey, IntegerKey, IntKey, SignedKey, UnsignedKey}
+use Rattle.vast_literal.specs.Tree.{UnaryOp, NegateOp, BitwiseNotOp, LogicalNotOp, AndReduceOp, OrReduceOp, XorReduceOp}
+use Rattle.vast_literal.specs.Tree.{BinaryOp, AddOp, SubOp, MulOp, DivOp, ModOp, PowerOp, BitwiseAndOp, BitwiseOrOp, BitwiseXorOp, ShllOp, ShraOp, ShrlOp, NeOp, CaseNeOp, EqOp, CaseEqOp, GeOp, GtOp, LeOp, LtOp, LogicalAndOp, LogicalOrOp, NeXOp, EqXOp}
+use Rattle.vast_literal.specs.Tree.{ExprTree, NameTree, LiteralTree, StringTree, UnaryTree, BinaryTree, TernaryTree, IndexTree, SliceTree, PartSelectTree, ConcatTree, PatternTree, WidthCastTree, TypeCastTree, PosEdgeTree, NegEdgeTree, MacroTree, CallTree, MissingExpr}
+use Rattle.vast_literal.specs.Tree.{TypeTree, ScalarTree, VectorTree, IntegerTree, IntTree, ExternalTree, PackageTree, PackedTree, UnpackedTree, MissingType}
+use Rattle.vast_literal.specs.Tree.{MaybeType, Typed, Untyped, MaybeExpr, NoExpr, SomeExpr, Exprs, NoExprs, MoreExprs, MaybeExprs, NoArguments, SomeArguments}
+
+-- A normal expression: names and tokens as they are written, signs and subexpressions; no parentheses and no types of names.
+mutual
+  pub data NormalExpr : Type 0 where
+    Name Literal Text MacroAlone : (bytes : List ℕ) → NormalExpr
+    Unary : Op → (operand : NormalExpr) → NormalExpr
+    Binary : Op → (left right : NormalExpr) → NormalExpr
+    Ternary : (condition consequent alternate : NormalExpr) → NormalExpr
+    Index : (subject index : NormalExpr) → NormalExpr
+    Slice : (subject high low : NormalExpr) → NormalExpr
+    PartSelect : (subject start : NormalExpr) (width : List ℕ) → NormalExpr
+    Concat Pattern : (parts : NormalExprs) → NormalExpr
+    Replicated : (count : NormalExpr) (parts : NormalExprs) → NormalExpr
+    Call MacroCall : (name : List ℕ) (arguments : NormalExprs) → NormalExpr
+    -- A cast by an expression or by the name of a type, by a package's type, or by a keyword.
+    Cast : (head operand : NormalExpr) → NormalExpr
+    PackageCast : (package_name name : List ℕ) (operand : NormalExpr) → NormalExpr
+    WordCast : Key → (operand : NormalExpr) → NormalExpr
+
+  pub data NormalExprs : Type 0 where
+    NoNormals : NormalExprs
+    MoreNormals : NormalExpr → NormalExprs → NormalExprs
+
+-- The sign of a unary operator.
+unfoldable pub unary_sign : UnaryOp → Op
+unary_sign NegateOp = Minus
+unary_sign BitwiseNotOp = BitNot
+unary_sign LogicalNotOp = LogicNot
+unary_sign AndReduceOp = BitAnd
+unary_sign OrReduceOp = BitOr
+unary_sign XorReduceOp = BitXor
+
+-- The sign of a binary operator; the comparisons with x are the case comparisons.
+unfoldable pub binary_sign : BinaryOp → Op
+binary_sign AddOp = Plus
+binary_sign SubOp = Minus
+binary_sign MulOp = Times
+binary_sign DivOp = Divide
+binary_sign ModOp = Modulo
+binary_sign PowerOp = Power
+binary_sign BitwiseAndOp = BitAnd
+binary_sign BitwiseOrOp = BitOr
+binary_sign BitwiseXorOp = BitXor
+binary_sign ShllOp = ShiftLeft
+binary_sign ShraOp = ShiftRightSigned
+binary_sign ShrlOp = ShiftRight
+binary_sign NeOp = NotEqual
+binary_sign CaseNeOp = CaseNotEqual
+binary_sign EqOp = Equal
+binary_sign CaseEqOp = CaseEqual
+binary_sign GeOp = GreaterEqual
+binary_sign GtOp = Greater
+binary_sign LeOp = LessEqual
+binary_sign LtOp = Less
+binary_sign LogicalAndOp = LogicAnd
+binary_sign LogicalOrOp = LogicOr
+binary_sign NeXOp = CaseNotEqual
+binary_sign EqXOp = CaseEqual
+
+-- A literal is its token, after a minus the negation of the token that is left.
+unfoldable pub normal_literal : (text : List ℕ) → NormalExpr
+normal_literal [] = Literal []
+normal_literal (c ∷ cs) = cond (eqb c 45) (Unary Minus (Literal cs)) (Literal (c ∷ cs))
+
+-- A name whose type is a scalar.
+unfoldable pub is_scalar_name : ExprTree → Bool
+is_scalar_name (NameTree name (Typed (ScalarTree signed))) = true
+is_scalar_name _ = false
+
+unfoldable pub is_zero_value : Option ℤ → Bool
+is_zero_value (Some (pos zero)) = true
+is_zero_value _ = false
+
+-- A literal of value 0.
+unfoldable pub is_zero_literal : ExprTree → Bool
+is_zero_literal (LiteralTree text value) = is_zero_value value
+is_zero_literal _ = false
+
+-- An index of a scalar name by 0, which stands for the name.
+unfoldable pub is_elided_index : (subject index : ExprTree) → Bool
+is_elided_index subject index = is_scalar_name subject && is_zero_literal index
+
+-- A slice of a scalar name from 0 to 0, which stands for the name.
+unfoldable pub is_elided_slice : (subject high low : ExprTree) → Bool
+is_elided_slice subject high low = is_scalar_name subject && is_zero_literal high && is_zero_literal low
+
+-- The keyword of a sign.
+unfoldable pub sign_key : (signed : Bool) → Key
+sign_key true = SignedKey
+sign_key false = UnsignedKey
+
+-- A cast to `logic`, `integer` or `int`, and another by `word` around it where one is written.
+unfoldable pub normal_word_cast : (word : Option Key) (base : Key) (operand : NormalExpr) → NormalExpr
+normal_word_cast None base operand = WordCast base operand
+normal_word_cast (Some word) base operand = WordCast word (WordCast base operand)
+
+-- The sign that is written around the cast to a scalar, and around the cast to an integer.
+unfoldable pub scalar_sign : (signed : Bool) → Option Key
+scalar_sign true = Some SignedKey
+scalar_sign false = None
+
+unfoldable pub integer_sign : (signed : Bool) → Option Key
+integer_sign true = None
+integer_sign false = Some UnsignedKey
+
+unfoldable mutual
+  -- The normal expression of a tree. An edge is no expression; what is missing is a name of no bytes.
+  pub normal : ExprTree → NormalExpr
+  normal (NameTree name type) = Name name
+  normal (LiteralTree text value) = normal_literal text
+  normal (StringTree text) = Text text
+  normal (UnaryTree op operand) = Unary (unary_sign op) (normal operand)
+  normal (BinaryTree op left right) = Binary (binary_sign op) (normal left) (normal right)
+  normal (TernaryTree condition consequent alternate) = Ternary (normal condition) (normal consequent) (normal alternate)
+  normal (IndexTree subject index) = cond (is_elided_index subject index) (normal subject) (Index (normal subject) (normal index))
+  normal (SliceTree subject high low) = cond (is_elided_slice subject high low) (normal subject) (Slice (normal subject) (normal high) (normal low))
+  normal (PartSelectTree subject start width) = PartSelect (normal subject) (normal start) (signed_decimal width)
+  normal (ConcatTree NoExpr parts) = Concat (normals parts)
+  normal (ConcatTree (SomeExpr count) parts) = Replicated (normal count) (normals parts)
+  normal (PatternTree parts) = Pattern (normals parts)
+  normal (WidthCastTree width operand) = Cast (normal width) (normal operand)
+  normal (TypeCastTree type operand) = normal_cast type (normal operand)
+  normal (PosEdgeTree operand) = normal operand
+  normal (NegEdgeTree operand) = normal operand
+  normal (MacroTree name NoArguments) = MacroAlone name
+  normal (MacroTree name (SomeArguments arguments)) = MacroCall name (normals arguments)
+  normal (CallTree name arguments) = Call name (normals arguments)
+  normal MissingExpr = Name []
+
+  -- The casts that a cast to a type is written as: a signed vector's is a cast by its width inside one by `signed`.
+  pub normal_cast : TypeTree → (operand : NormalExpr) → NormalExpr
+  normal_cast (ScalarTree signed) operand = normal_word_cast (scalar_sign signed) LogicKey operand
+  normal_cast (VectorTree width value signed) operand = WordCast (sign_key signed) (Cast (normal width) operand)
+  normal_cast (IntegerTree signed) operand = normal_word_cast (integer_sign signed) IntegerKey operand
+  normal_cast (IntTree signed) operand = normal_word_cast (integer_sign signed) IntKey operand
+  normal_cast (ExternalTree name) operand = Cast (Name name) operand
+  normal_cast (PackageTree package_name name) operand = PackageCast package_name name operand
+  -- No cast is to an array.
+  normal_cast (PackedTree element dimensions) operand = operand
+  normal_cast (UnpackedTree element dimensions) operand = operand
+  normal_cast MissingType operand = operand
+
+  pub normals : Exprs → NormalExprs
+  normals NoExprs = NoNormals
+  normals (MoreExprs part parts) = MoreNormals (normal part) (normals parts)

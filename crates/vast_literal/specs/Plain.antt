@@ -1,0 +1,102 @@
+-- Plain trees: all names that are printed are identifiers and no keywords.
+use Rattle.std.specs.Prelude.{ℕ, List, [], ◌∷◌, Bool, true, false, cond, not, ◌&&◌, eqb}
+use Rattle.vast_literal.specs.Keyword.{is_keyword}
+use Rattle.vast_literal.specs.Scan.{is_letter, is_word_byte}
+use Rattle.vast_literal.specs.LiteralToken.{every, is_literal_text, is_string_text}
+use Rattle.vast_literal.specs.Tree.{ExprTree, NameTree, LiteralTree, StringTree, UnaryTree, BinaryTree, TernaryTree, IndexTree, SliceTree, PartSelectTree, ConcatTree, PatternTree, WidthCastTree, TypeCastTree, PosEdgeTree, NegEdgeTree, MacroTree, CallTree, MissingExpr}
+use Rattle.vast_literal.specs.Tree.{TypeTree, ScalarTree, VectorTree, IntegerTree, IntTree, ExternalTree, PackageTree, PackedTree, UnpackedTree, MissingType}
+use Rattle.vast_literal.specs.Tree.{MaybeExpr, NoExpr, SomeExpr, Exprs, NoExprs, MoreExprs, MaybeExprs, NoArguments, SomeArguments}
+
+-- An ASCII letter or `_`, then letters, digits, `_` and `$`.
+abbrev pub is_identifier : List ℕ → Bool
+is_identifier [] = false
+is_identifier (c ∷ cs) = is_letter c && every is_word_byte cs
+
+-- An identifier that is no keyword.
+abbrev pub is_plain_name : List ℕ → Bool
+is_plain_name name = is_identifier name && not (is_keyword name)
+
+-- The name of a function: a plain name, or `$` and an identifier.
+abbrev pub is_called_name : List ℕ → Bool
+is_called_name [] = false
+is_called_name (c ∷ cs) = cond (eqb c 36) (is_identifier cs) (is_plain_name (c ∷ cs))
+
+abbrev mutual
+  -- Each name that the expression prints is plain; the types of names are not printed.
+  pub is_plain : ExprTree → Bool
+  is_plain (NameTree name type) = is_plain_name name
+  is_plain (LiteralTree text value) = true
+  is_plain (StringTree text) = true
+  is_plain (UnaryTree op operand) = is_plain operand
+  is_plain (BinaryTree op left right) = is_plain left && is_plain right
+  is_plain (TernaryTree condition consequent alternate) = is_plain condition && (is_plain consequent && is_plain alternate)
+  is_plain (IndexTree subject index) = is_plain subject && is_plain index
+  is_plain (SliceTree subject high low) = is_plain subject && (is_plain high && is_plain low)
+  is_plain (PartSelectTree subject start width) = is_plain subject && is_plain start
+  is_plain (ConcatTree NoExpr parts) = are_plain parts
+  is_plain (ConcatTree (SomeExpr count) parts) = is_plain count && are_plain parts
+  is_plain (PatternTree parts) = are_plain parts
+  is_plain (WidthCastTree width operand) = is_plain width && is_plain operand
+  is_plain (TypeCastTree type operand) = is_plain_type type && is_plain operand
+  is_plain (PosEdgeTree operand) = is_plain operand
+  is_plain (NegEdgeTree operand) = is_plain operand
+  is_plain (MacroTree name NoArguments) = is_plain_name name
+  is_plain (MacroTree name (SomeArguments arguments)) = is_plain_name name && are_plain arguments
+  is_plain (CallTree name arguments) = is_called_name name && are_plain arguments
+  is_plain MissingExpr = false
+
+  -- Each name that the type prints is plain.
+  pub is_plain_type : TypeTree → Bool
+  is_plain_type (ScalarTree signed) = true
+  is_plain_type (VectorTree width value signed) = is_plain width
+  is_plain_type (IntegerTree signed) = true
+  is_plain_type (IntTree signed) = true
+  is_plain_type (ExternalTree name) = is_plain_name name
+  is_plain_type (PackageTree package_name name) = is_plain_name package_name && is_plain_name name
+  is_plain_type (PackedTree element dimensions) = is_plain_type element
+  is_plain_type (UnpackedTree element dimensions) = is_plain_type element
+  is_plain_type MissingType = false
+
+  pub are_plain : Exprs → Bool
+  are_plain NoExprs = true
+  are_plain (MoreExprs part parts) = is_plain part && are_plain parts
+
+abbrev mutual
+  -- No edge stands in the expression.
+  pub is_edgeless : ExprTree → Bool
+  is_edgeless (NameTree name type) = true
+  is_edgeless (LiteralTree text value) = true
+  is_edgeless (StringTree text) = true
+  is_edgeless (UnaryTree op operand) = is_edgeless operand
+  is_edgeless (BinaryTree op left right) = is_edgeless left && is_edgeless right
+  is_edgeless (TernaryTree condition consequent alternate) = is_edgeless condition && (is_edgeless consequent && is_edgeless alternate)
+  is_edgeless (IndexTree subject index) = is_edgeless subject && is_edgeless index
+  is_edgeless (SliceTree subject high low) = is_edgeless subject && (is_edgeless high && is_edgeless low)
+  is_edgeless (PartSelectTree subject start width) = is_edgeless subject && is_edgeless start
+  is_edgeless (ConcatTree NoExpr parts) = are_edgeless parts
+  is_edgeless (ConcatTree (SomeExpr count) parts) = is_edgeless count && are_edgeless parts
+  is_edgeless (PatternTree parts) = are_edgeless parts
+  is_edgeless (WidthCastTree width operand) = is_edgeless width && is_edgeless operand
+  is_edgeless (TypeCastTree type operand) = is_edgeless_type type && is_edgeless operand
+  is_edgeless (PosEdgeTree operand) = false
+  is_edgeless (NegEdgeTree operand) = false
+  is_edgeless (MacroTree name NoArguments) = true
+  is_edgeless (MacroTree name (SomeArguments arguments)) = are_edgeless arguments
+  is_edgeless (CallTree name arguments) = are_edgeless arguments
+  is_edgeless MissingExpr = true
+
+  -- No edge stands in the widths of the type.
+  pub is_edgeless_type : TypeTree → Bool
+  is_edgeless_type (VectorTree width value signed) = is_edgeless width
+  is_edgeless_type (PackedTree element dimensions) = is_edgeless_type element
+  is_edgeless_type (UnpackedTree element dimensions) = is_edgeless_type element
+  is_edgeless_type (ScalarTree signed) = true
+  is_edgeless_type (IntegerTree signed) = true
+  is_edgeless_type (IntTree signed) = true
+  is_edgeless_type (ExternalTree name) = true
+  is_edgeless_type (PackageTree package_name name) = true
+  is_edgeless_type MissingType = true
+
+  pub are_edgeless : Exprs → Bool
+  are_edgeless NoExprs = true
+  are_edgeless (MoreExprs part parts) = is_edgeless part && are_edgeless parts

@@ -1,0 +1,142 @@
+-- Plain files: all names that are printed are identifiers and no keywords, and nothing stands where it has no meaning.
+use Rattle.std.specs.Prelude.{ℕ, List, [], ◌∷◌, Bool, true, false, not, ◌&&◌, ◌||◌, eqb, Option, Some, None}
+use Rattle.vast_literal.specs.Tree.{ExprTree, NameTree, LiteralTree, StringTree, UnaryTree, BinaryTree, TernaryTree, IndexTree, SliceTree, PartSelectTree, ConcatTree, PatternTree, WidthCastTree, TypeCastTree, PosEdgeTree, NegEdgeTree, MacroTree, CallTree, MissingExpr, TypeTree}
+use Rattle.vast_literal.specs.Tree.{MaybeExpr, NoExpr, SomeExpr, Exprs, NoExprs, MoreExprs, MaybeType, Untyped, Typed, Declaration}
+use Rattle.vast_literal.specs.Tree.{StatementTree, AssignTree, CommentTree, BlankTree, InlineTree, ConditionalTree, CaseTree, Statements, NoStatements, MoreStatements, Alternates, NoElse, ElseIf, Else, CaseArms, NoCaseArms, CaseArm}
+use Rattle.vast_literal.specs.Tree.{ParameterName, PlainParameter, IntParameter, DefinedParameter, Connection, InstanceTree, FunctionTree}
+use Rattle.vast_literal.specs.Tree.{MemberTree, DeclarationMember, AssignMember, ParameterMember, CommentMember, BlankMember, InlineMember, MacroMember, InstanceMember, AlwaysMember, ConditionalMember, FunctionMember, LoopMember, Members, NoMembers, MoreMembers}
+use Rattle.vast_literal.specs.Tree.{PortTree, ParameterPortTree, ModuleTree, FileItemTree, ModuleItem, IncludeItem, CommentItem, BlankItem, FileTree}
+use Rattle.vast_literal.specs.LiteralToken.{every}
+use Rattle.vast_literal.specs.Plain.{is_plain_name, is_plain, is_plain_type, is_edgeless, is_edgeless_type}
+
+-- A plain expression without edges.
+abbrev pub is_plain_value : ExprTree → Bool
+is_plain_value value = is_plain value && is_edgeless value
+
+abbrev pub is_plain_maybe : MaybeExpr → Bool
+is_plain_maybe NoExpr = true
+is_plain_maybe (SomeExpr value) = is_plain_value value
+
+-- A name, a select or a concatenation.
+abbrev pub is_left_side : ExprTree → Bool
+is_left_side (NameTree name type) = true
+is_left_side (IndexTree subject index) = true
+is_left_side (SliceTree subject high low) = true
+is_left_side (PartSelectTree subject start width) = true
+is_left_side (ConcatTree count parts) = true
+is_left_side _ = false
+
+abbrev pub is_plain_assignment : (left right : ExprTree) → Bool
+is_plain_assignment left right = (is_left_side left && is_plain_value left) && is_plain_value right
+
+abbrev pub is_plain_declaration : TypeTree → (name : List ℕ) → Bool
+is_plain_declaration type name = is_plain_name name && (is_plain_type type && is_edgeless_type type)
+
+abbrev pub is_plain_declared : Declaration → Bool
+is_plain_declared d = is_plain_declaration d.type d.name
+
+abbrev pub are_plain_declared : List Declaration → Bool
+are_plain_declared [] = true
+are_plain_declared (d ∷ ds) = is_plain_declared d && are_plain_declared ds
+
+abbrev mutual
+  -- No inline text stands in the statement, and its names are plain.
+  pub is_plain_statement : StatementTree → Bool
+  is_plain_statement (AssignTree form left right) = is_plain_assignment left right
+  is_plain_statement (CommentTree text) = true
+  is_plain_statement BlankTree = true
+  is_plain_statement (InlineTree text) = false
+  is_plain_statement (ConditionalTree condition consequent alternates) = is_plain_value condition && (are_plain_statements consequent && are_plain_alternates alternates)
+  is_plain_statement (CaseTree unique word selector arms) = is_plain_value selector && are_plain_arms arms
+
+  pub are_plain_statements : Statements → Bool
+  are_plain_statements NoStatements = true
+  are_plain_statements (MoreStatements statement statements) = is_plain_statement statement && are_plain_statements statements
+
+  pub are_plain_alternates : Alternates → Bool
+  are_plain_alternates NoElse = true
+  are_plain_alternates (ElseIf condition block alternates) = is_plain_value condition && (are_plain_statements block && are_plain_alternates alternates)
+  are_plain_alternates (Else block) = are_plain_statements block
+
+  pub are_plain_arms : CaseArms → Bool
+  are_plain_arms NoCaseArms = true
+  are_plain_arms (CaseArm label block arms) = is_plain_maybe label && (are_plain_statements block && are_plain_arms arms)
+
+-- An edge stands directly in the list of what an always block waits for.
+abbrev pub is_plain_event : ExprTree → Bool
+is_plain_event (PosEdgeTree operand) = is_plain_value operand
+is_plain_event (NegEdgeTree operand) = is_plain_value operand
+is_plain_event other = is_plain_value other
+
+abbrev pub are_plain_events : Exprs → Bool
+are_plain_events NoExprs = true
+are_plain_events (MoreExprs event events) = is_plain_event event && are_plain_events events
+
+abbrev pub is_plain_parameter_name : ParameterName → Bool
+is_plain_parameter_name (PlainParameter name) = is_plain_name name
+is_plain_parameter_name (IntParameter name) = is_plain_name name
+is_plain_parameter_name (DefinedParameter d) = is_plain_declared d
+
+abbrev pub are_plain_connections : List Connection → Bool
+are_plain_connections [] = true
+are_plain_connections (c ∷ cs) = (is_plain_name c.name && is_plain_maybe c.value) && are_plain_connections cs
+
+abbrev pub is_plain_instance : InstanceTree → Bool
+is_plain_instance i = (is_plain_name i.module_name && is_plain_name i.instance_name) && (are_plain_connections i.parameters && are_plain_connections i.connections)
+
+abbrev pub is_plain_function : FunctionTree → Bool
+is_plain_function f = is_plain_declaration f.result f.name && (are_plain_declared f.inputs && (are_plain_declared f.locals && are_plain_statements f.body))
+
+abbrev pub is_plain_label : Option (List ℕ) → Bool
+is_plain_label None = true
+is_plain_label (Some label) = is_plain_name label
+
+abbrev mutual
+  pub is_plain_member : MemberTree → Bool
+  is_plain_member (DeclarationMember d) = is_plain_declared d
+  is_plain_member (AssignMember left right) = is_plain_assignment left right
+  is_plain_member (ParameterMember local parameter value) = is_plain_parameter_name parameter && is_plain_value value
+  is_plain_member (CommentMember text) = true
+  is_plain_member BlankMember = true
+  is_plain_member (InlineMember text) = false
+  is_plain_member (MacroMember call semicolon) = is_plain_value call
+  is_plain_member (InstanceMember i) = is_plain_instance i
+  is_plain_member (AlwaysMember word events body) = are_plain_events events && are_plain_statements body
+  is_plain_member (ConditionalMember condition consequent alternates) = is_plain_value condition && (are_plain_statements consequent && are_plain_alternates alternates)
+  is_plain_member (FunctionMember f) = is_plain_function f
+  is_plain_member (LoopMember genvar start end label members) = (is_plain_name genvar && is_plain_label label) && ((is_plain_value start && is_plain_value end) && are_plain_members members)
+
+  pub are_plain_members : Members → Bool
+  are_plain_members NoMembers = true
+  are_plain_members (MoreMembers member members) = is_plain_member member && are_plain_members members
+
+abbrev pub are_plain_ports : List PortTree → Bool
+are_plain_ports [] = true
+are_plain_ports (p ∷ ps) = is_plain_declared p.declaration && are_plain_ports ps
+
+abbrev pub is_plain_typed : MaybeType → (name : List ℕ) → Bool
+is_plain_typed Untyped name = is_plain_name name
+is_plain_typed (Typed type) name = is_plain_declaration type name
+
+abbrev pub are_plain_parameters : List ParameterPortTree → Bool
+are_plain_parameters [] = true
+are_plain_parameters (p ∷ ps) = (is_plain_typed p.type p.name && is_plain_value p.value) && are_plain_parameters ps
+
+abbrev pub is_plain_module : ModuleTree → Bool
+is_plain_module m = is_plain_name m.name && (are_plain_parameters m.parameters && (are_plain_ports m.ports && are_plain_members m.members))
+
+-- A byte other than a quote, a backslash and a line break.
+abbrev pub is_path_byte : ℕ → Bool
+is_path_byte c = not (eqb c 34 || (eqb c 92 || eqb c 10))
+
+abbrev pub are_plain_items : List FileItemTree → Bool
+are_plain_items [] = true
+are_plain_items (ModuleItem m ∷ items) = is_plain_module m && are_plain_items items
+are_plain_items (IncludeItem path ∷ items) = every is_path_byte path && are_plain_items items
+are_plain_items (CommentItem text ∷ items) = are_plain_items items
+are_plain_items (BlankItem ∷ items) = are_plain_items items
+
+-- The names of the file's modules, instances, ports, connections, parameters, labels, packages, types and macros are plain, no
+-- inline text stands in it, edges stand only in the lists of events, and left sides are names, selects and concatenations.
+abbrev pub is_plain_file : FileTree → Bool
+is_plain_file f = are_plain_items f.items

@@ -1,0 +1,51 @@
+-- How signs and marks are written.
+use Rattle.std.specs.Prelude.{ℕ, List, [], ◌∷◌}
+use Rattle.vast_literal.specs.Tokens.{Op, LogicOr, LogicAnd, BitOr, BitXor, BitAnd, NotEqual, CaseNotEqual, Equal, CaseEqual, GreaterEqual, Greater, LessEqual, Less, ShiftLeft, ShiftRightSigned, ShiftRight, Plus, Minus, Times, Divide, Modulo, Power, BitNot, LogicNot}
+use Rattle.vast_literal.specs.Tokens.{Punct, OpenParen, CloseParen, OpenBracket, CloseBracket, OpenBrace, CloseBrace, Comma, Colon, Semicolon, Dot, Hash, At, Question, DoubleColon, PlusColon, Assign, Apostrophe}
+
+-- An operator's sign as it is written.
+abbrev pub op_text : Op → List ℕ
+op_text LogicOr = 124 ∷ 124 ∷ []
+op_text LogicAnd = 38 ∷ 38 ∷ []
+op_text BitOr = 124 ∷ []
+op_text BitXor = 94 ∷ []
+op_text BitAnd = 38 ∷ []
+op_text NotEqual = 33 ∷ 61 ∷ []
+op_text CaseNotEqual = 33 ∷ 61 ∷ 61 ∷ []
+op_text Equal = 61 ∷ 61 ∷ []
+op_text CaseEqual = 61 ∷ 61 ∷ 61 ∷ []
+op_text GreaterEqual = 62 ∷ 61 ∷ []
+op_text Greater = 62 ∷ []
+op_text LessEqual = 60 ∷ 61 ∷ []
+op_text Less = 60 ∷ []
+op_text ShiftLeft = 60 ∷ 60 ∷ []
+op_text ShiftRightSigned = 62 ∷ 62 ∷ 62 ∷ []
+op_text ShiftRight = 62 ∷ 62 ∷ []
+op_text Plus = 43 ∷ []
+op_text Minus = 45 ∷ []
+op_text Times = 42 ∷ []
+op_text Divide = 47 ∷ []
+op_text Modulo = 37 ∷ []
+op_text Power = 42 ∷ 42 ∷ []
+op_text BitNot = 126 ∷ []
+op_text LogicNot = 33 ∷ []
+
+-- A mark as it is written.
+abbrev pub punct_text : Punct → List ℕ
+punct_text OpenParen = 40 ∷ []
+punct_text CloseParen = 41 ∷ []
+punct_text OpenBracket = 91 ∷ []
+punct_text CloseBracket = 93 ∷ []
+punct_text OpenBrace = 123 ∷ []
+punct_text CloseBrace = 125 ∷ []
+punct_text Comma = 44 ∷ []
+punct_text Colon = 58 ∷ []
+punct_text Semicolon = 59 ∷ []
+punct_text Dot = 46 ∷ []
+punct_text Hash = 35 ∷ []
+punct_text At = 64 ∷ []
+punct_text Question = 63 ∷ []
+punct_text DoubleColon = 58 ∷ 58 ∷ []
+punct_text PlusColon = 43 ∷ 58 ∷ []
+punct_text Assign = 61 ∷ []
+punct_text Apostrophe = 39 ∷ []
