@@ -11,3 +11,5 @@ pub mod MemberLaws
 pub mod TypeLaws
 pub mod BareLaws
 pub mod ModuleLaws
+mod Pins
+mod PagePins
