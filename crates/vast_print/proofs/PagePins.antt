@@ -72,9 +72,9 @@ file_items = refl
 
 passthrough :
     print (layout (module_file (codes "passthrough")
-      (record { direction = InputDirection; declaration = record { kind = WireKind; type = bits 8 false (codes "8"); name = codes "input_data" } }
-      ∷ record { direction = OutputDirection; declaration = record { kind = WireKind; type = bits 8 false (codes "8"); name = codes "output_data" } } ∷ [])
-      (MoreMembers (AssignMember (name (codes "output_data")) (name (codes "input_data"))) NoMembers)))
+    (record { direction = InputDirection; declaration = record { kind = WireKind; type = bits 8 false (codes "8"); name = codes "input_data" } }
+    ∷ record { direction = OutputDirection; declaration = record { kind = WireKind; type = bits 8 false (codes "8"); name = codes "output_data" } } ∷ [])
+    (MoreMembers (AssignMember (name (codes "output_data")) (name (codes "input_data"))) NoMembers)))
     ≡ codes "module passthrough(\n  input wire [7:0] input_data,\n  output wire [7:0] output_data\n);\n  assign output_data = input_data;\nendmodule\n"
 unfolding print print_lines layout items_page item_page module_page header_page opening_page ports_page port_text entries_page body_page members_page member_page expr_text declaration_text name_text type_text based_text base_of is_external packed_text unpacked_text limit_text joined spaced inner inner_lines lead lead_lines no_lines line above written written_lines beside_lines plain_text ◌⊕◌ digits
 passthrough = refl
@@ -94,9 +94,12 @@ unfolding print print_lines member_page instance_page instance_head_page connect
 unconnected = refl
 
 connected :
-    print (member_page SystemVerilogDialect (InstanceMember (record
-      { module_name = codes "sub"; instance_name = codes "u0"; parameters = record { name = codes "W"; value = SomeExpr (number (codes "8") 8) } ∷ []
-      ; connections = record { name = codes "a"; value = SomeExpr (name (codes "x")) } ∷ record { name = codes "b"; value = NoExpr } ∷ [] })))
+    print (member_page SystemVerilogDialect (InstanceMember (record {
+      module_name = codes "sub";
+      instance_name = codes "u0";
+      parameters = record { name = codes "W"; value = SomeExpr (number (codes "8") 8) } ∷ [];
+      connections = record { name = codes "a"; value = SomeExpr (name (codes "x")) } ∷ record { name = codes "b"; value = NoExpr } ∷ [];
+    })))
     ≡ codes "sub #(\n  .W(8)\n) u0 (\n  .a(x),\n  .b()\n);\n"
 unfolding print print_lines member_page instance_page instance_head_page connections_page entries_page connection_text expr_text lead lead_lines no_lines line above written written_lines beside_lines plain_text ◌⊕◌
 connected = refl
@@ -115,19 +118,22 @@ assigned l r = MoreStatements (AssignTree Blocking (name l) (name r)) NoStatemen
 
 conditional :
     print (member_page SystemVerilogDialect (AlwaysMember AlwaysCombWord NoExprs (MoreStatements
-      (ConditionalTree (name (codes "a")) (assigned (codes "x") (codes "1")) (ElseIf (name (codes "b")) NoStatements (Else (assigned (codes "x") (codes "0"))))) NoStatements)))
+    (ConditionalTree (name (codes "a")) (assigned (codes "x") (codes "1")) (ElseIf (name (codes "b")) NoStatements (Else (assigned (codes "x") (codes "0"))))) NoStatements)))
     ≡ codes "always_comb begin\n  if (a) begin\n    x = 1;\n  end else if (b) begin end else begin\n    x = 0;\n  end\nend\n"
 unfolding print print_lines member_page always_text statement_page statements_page block_page alternates_page begin_end expr_text inner inner_lines no_lines line above beside written written_lines beside_lines plain_text ◌⊕◌
 conditional = refl
 
 -- a function whose body is one casez, whose arms are bare where they are one assignment
 casez_function :
-    print (member_page SystemVerilogDialect (FunctionMember (record
-      { name = codes "f"; result = bits 2 false (codes "2")
-      ; inputs = record { kind = RegKind; type = bits 4 false (codes "4"); name = codes "s" } ∷ []; locals = []
-      ; body = MoreStatements (CaseTree true CaseZ (name (codes "s"))
+    print (member_page SystemVerilogDialect (FunctionMember (record {
+      name = codes "f";
+      result = bits 2 false (codes "2");
+      inputs = record { kind = RegKind; type = bits 4 false (codes "4"); name = codes "s" } ∷ [];
+      locals = [];
+      body = MoreStatements (CaseTree true CaseZ (name (codes "s"))
           (CaseArm (SomeExpr (LiteralTree (codes "4'b1???") None)) (assigned (codes "f") (codes "2"))
-          (CaseArm NoExpr (MoreStatements (CommentTree (codes "none")) (assigned (codes "f") (codes "0"))) NoCaseArms))) NoStatements })))
+          (CaseArm NoExpr (MoreStatements (CommentTree (codes "none")) (assigned (codes "f") (codes "0"))) NoCaseArms))) NoStatements;
+    })))
     ≡ codes "function automatic logic [1:0] f (input reg [3:0] s);\n  unique casez (s)\n    4'b1???: f = 2;\n    default: begin\n      // none\n      f = 0;\n    end\n  endcase\nendfunction\n"
 unfolding print print_lines member_page function_page inputs_text more_inputs_text input_text locals_page function_body_page statement_page statements_page block_page arms_page begin_end expr_text declaration_text name_text type_text based_text base_of is_external packed_text unpacked_text limit_text joined spaced commented commented_lines inner inner_lines no_lines line above beside written written_lines beside_lines plain_text ◌⊕◌ digits
 casez_function = refl
