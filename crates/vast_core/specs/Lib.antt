@@ -1,7 +1,7 @@
 pub mod Kinds
 pub mod Handles
-pub mod Nodes
 pub mod Types
+pub mod Nodes
 pub mod Records
 pub mod Raw
 pub mod Bench

@@ -4,7 +4,7 @@ ghost use Rattle.std.specs.Prelude.{◌≡◌, ◌≤ℤ◌, pos, IsTrue, All};
 ghost use Rattle.vast_core.specs.Kinds.{unary_of, binary_of};
 ghost use Rattle.vast_core.specs.Handles.{indexable_expr_to_expr};
 ghost use Rattle.vast_core.specs.Nodes.{ExprChildrenHold, OptionHolds, expr_tree};
-ghost use Rattle.vast_core.specs.Types.{is_castable};
+ghost use Rattle.vast_core.specs.Types.{is_castable, ExprFits};
 ghost use Rattle.vast_core.specs.Bench.{OwnsExpr, OwnsIndexable, OwnsType, tree_of, type_of, maybe_tree_of, trees_of};
 ghost use Rattle.vast_core.specs.Growth.{Builds, with_expr, with_fixed_index, with_fixed_slice, with_fixed_replication, next_expr, next_index, next_fixed_index, next_slice, next_fixed_slice, next_fixed_replication, next_macro_ref, decimal_literal};
 ghost use Rattle.vast_core.specs.View.{bench};
@@ -18,7 +18,8 @@ use std::alloc::AllocError;
 
 impl Ast {
     fn push_expr(&mut self, node: ExprNode) -> Result<Expr, AllocError>
-        requires { ExprChildrenHold (OwnsExpr (bench self.old)) (OwnsType (bench self.old)) node }
+        requires children { ExprChildrenHold (OwnsExpr (bench self.old)) (OwnsType (bench self.old)) node }
+        requires fits { ExprFits (expr_tree (bench self.old).nodes node) }
         ensures { Builds (bench self.old) (bench self.new) result (next_expr (bench self.old)) (with_expr (bench self.old) (expr_tree (bench self.old).nodes node)) }
     {
         self.reserve_terms(1)?;

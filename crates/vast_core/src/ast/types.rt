@@ -2,7 +2,7 @@
 
 ghost use Rattle.std.specs.Prelude.{◌≡◌, ◌≤ℤ◌, pos, IsTrue};
 ghost use Rattle.vast_core.specs.Nodes.{TypeChildrenHold, type_tree};
-ghost use Rattle.vast_core.specs.Types.{literal_value, IsUsableWidth, is_packable, AreDimensions};
+ghost use Rattle.vast_core.specs.Types.{literal_value, IsUsableWidth, is_packable, AreDimensions, TypeFits};
 ghost use Rattle.vast_core.specs.Bench.{OwnsExpr, OwnsType, tree_of, type_of};
 ghost use Rattle.vast_core.specs.Growth.{Builds, with_type, with_vector, next_type, next_vector};
 ghost use Rattle.vast_core.specs.View.{bench};
@@ -15,7 +15,8 @@ use std::alloc::AllocError;
 
 impl Ast {
     fn push_type(&mut self, node: TypeNode) -> Result<VastDataType, AllocError>
-        requires { TypeChildrenHold (OwnsExpr (bench self.old)) (OwnsType (bench self.old)) node }
+        requires children { TypeChildrenHold (OwnsExpr (bench self.old)) (OwnsType (bench self.old)) node }
+        requires fits { TypeFits (type_tree (bench self.old).nodes node) }
         ensures { Builds (bench self.old) (bench self.new) result (next_type (bench self.old)) (with_type (bench self.old) (type_tree (bench self.old).nodes node)) }
     {
         self.reserve_terms(1)?;
