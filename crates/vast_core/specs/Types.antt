@@ -29,6 +29,38 @@ pub record AreDimensions (dimensions : List ℤ) : Type 0 where
   pub any : 0 < length dimensions
   pub each : All (λ d. pos 1 ≤ℤ d) dimensions
 
+-- The type within the arrays.
+abbrev pub base_of : TypeTree → TypeTree
+base_of (PackedTree element dimensions) = base_of element
+base_of (UnpackedTree element dimensions) = base_of element
+base_of (ScalarTree signed) = ScalarTree signed
+base_of (VectorTree width value signed) = VectorTree width value signed
+base_of (IntegerTree signed) = IntegerTree signed
+base_of (IntTree signed) = IntTree signed
+base_of (ExternalTree name) = ExternalTree name
+base_of (PackageTree package_name name) = PackageTree package_name name
+base_of MissingType = MissingType
+
+-- A vector's width.
+abbrev pub vector_width : TypeTree → MaybeExpr
+vector_width (VectorTree width value signed) = SomeExpr width
+vector_width _ = NoExpr
+
+-- The width of the vector within the arrays.
+abbrev pub width_of : TypeTree → MaybeExpr
+width_of t = vector_width (base_of t)
+
+-- Whether a type that is no array is signed; what is declared elsewhere counts as unsigned.
+abbrev pub base_is_signed : TypeTree → Bool
+base_is_signed (ScalarTree signed) = signed
+base_is_signed (VectorTree width value signed) = signed
+base_is_signed (IntegerTree signed) = signed
+base_is_signed (IntTree signed) = signed
+base_is_signed _ = false
+
+abbrev pub is_signed : TypeTree → Bool
+is_signed t = base_is_signed (base_of t)
+
 -- What an expression keeps of itself: a part select has a bit at least, and a cast is to no array.
 abbrev pub ExprFits : ExprTree → Type 0
 ExprFits (PartSelectTree subject start width) = pos 1 ≤ℤ width

@@ -12,6 +12,7 @@ use std::marker::Model;
 
 mod assignments;
 mod expressions;
+mod inspect;
 mod modules;
 pub(crate) mod owns;
 mod places;
