@@ -92,6 +92,10 @@ All-own P [] h k d below = absurd (omega arith)
 All-own P (x ∷ xs) h zero d below = h.0
 All-own P (x ∷ xs) h (suc k) d below = All-own P xs h.1 k d (omega arith)
 
+pub All-cons : {A : Type 0} (P : A → Type 0) (x : A) (xs : List A) → P x → All P xs → All P (x ∷ xs)
+All-cons P x xs p h zero d below = p
+All-cons P x xs p h (suc k) d below = h k d (omega arith)
+
 pub All-head : {A : Type 0} (P : A → Type 0) (x : A) (xs : List A) → All P (x ∷ xs) → P x
 All-head P x xs h = h 0 x (omega arith)
 

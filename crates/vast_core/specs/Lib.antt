@@ -5,6 +5,7 @@ pub mod Nodes
 pub mod Records
 pub mod Raw
 pub mod Bench
+pub mod BitCount
 pub mod View
 pub mod Growth
 pub mod Sound

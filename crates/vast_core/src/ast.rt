@@ -11,6 +11,7 @@ use std::alloc::Global;
 use std::marker::Model;
 
 mod assignments;
+mod bit_count;
 mod expressions;
 mod inspect;
 mod modules;

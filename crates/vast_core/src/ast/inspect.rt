@@ -1,9 +1,9 @@
 //! What types and widths are.
 
-ghost use Rattle.std.specs.Prelude.{◌≡◌, ◌↔◌, ◌<◌, IsTrue, IfNone, IfSome};
-ghost use Rattle.vast_core.specs.Handles.{type_rank};
+ghost use Rattle.std.specs.Prelude.{◌≡◌, ◌↔◌, IsTrue, IfNone, IfSome};
 ghost use Rattle.vast_core.specs.Nodes.{OptionHolds};
 ghost use Rattle.vast_core.specs.Types.{IsUsableWidth, base_of, width_of, vector_width, is_signed, is_packable, is_castable};
+ghost use Rattle.vast_core.specs.BitCount.{IsArrayOf, IsNoArray};
 ghost use Rattle.vast_core.specs.Bench.{OwnsExpr, OwnsType, tree_of, type_of, maybe_tree_of};
 ghost use Rattle.vast_core.specs.View.{bench};
 
@@ -45,18 +45,21 @@ impl Ast {
         }
     }
 
-    /// The type of an array's elements.
-    pub(crate) fn element(&self, data_type: VastDataType) -> Option<VastDataType>
+    /// An array's element type and dimensions.
+    pub(crate) fn array(&self, data_type: VastDataType) -> Option<(VastDataType, &[i64])>
         requires { OwnsType (bench self.now) data_type }
-        ensures owned { OptionHolds (OwnsType (bench self.now)) result }
-        ensures older { OptionHolds (λ e. type_rank e < type_rank data_type) result }
-        ensures none { IfNone result (base_of (type_of (bench self.now) data_type) ≡ type_of (bench self.now) data_type) }
-        ensures base { OptionHolds (λ e. base_of (type_of (bench self.now) e) ≡ base_of (type_of (bench self.now) data_type)) result }
+        ensures some { IfSome result (λ a. IsArrayOf (bench self.now) data_type a.0 a.1.now) }
+        ensures none { IfNone result (IsNoArray (type_of (bench self.now) data_type)) }
     {
         match self.data_type(data_type) {
-            TypeNode::Packed(element, _) => Some(*element),
-            TypeNode::Unpacked(element, _) => Some(*element),
-            TypeNode::Scalar(_) | TypeNode::Vector(_, _, _) | TypeNode::Integer(_) | TypeNode::Int(_) | TypeNode::External(_) | TypeNode::Package(_, _) => None,
+            TypeNode::Packed(element, dimensions) => Some((*element, dimensions)),
+            TypeNode::Unpacked(element, dimensions) => Some((*element, dimensions)),
+            TypeNode::Scalar(_) => None,
+            TypeNode::Vector(_, _, _) => None,
+            TypeNode::Integer(_) => None,
+            TypeNode::Int(_) => None,
+            TypeNode::External(_) => None,
+            TypeNode::Package(_, _) => None,
         }
     }
 
@@ -65,9 +68,10 @@ impl Ast {
         requires { OwnsType (bench self.now) data_type }
         ensures owned { OwnsType (bench self.now) result }
         ensures base { type_of (bench self.now) result ≡ base_of (type_of (bench self.now) data_type) }
+        ensures no_array { IsTrue (is_castable (type_of (bench self.now) result)) }
     {
         let mut base = data_type;
-        while let Some(element) = self.element(base) {
+        while let Some((element, _)) = self.array(base) {
             base = element;
         }
         base
