@@ -30,7 +30,11 @@ impl Ast {
     {
         match self.data_type(data_type) {
             TypeNode::Unpacked(_, _) | TypeNode::Integer(_) | TypeNode::Int(_) => false,
-            TypeNode::Scalar(_) | TypeNode::Vector(_, _, _) | TypeNode::External(_) | TypeNode::Package(_, _) | TypeNode::Packed(_, _) => true,
+            TypeNode::Scalar(_)
+            | TypeNode::Vector(_, _, _)
+            | TypeNode::External(_)
+            | TypeNode::Package(_, _)
+            | TypeNode::Packed(_, _) => true,
         }
     }
 
@@ -41,7 +45,12 @@ impl Ast {
     {
         match self.data_type(data_type) {
             TypeNode::Packed(_, _) | TypeNode::Unpacked(_, _) => false,
-            TypeNode::Scalar(_) | TypeNode::Vector(_, _, _) | TypeNode::Integer(_) | TypeNode::Int(_) | TypeNode::External(_) | TypeNode::Package(_, _) => true,
+            TypeNode::Scalar(_)
+            | TypeNode::Vector(_, _, _)
+            | TypeNode::Integer(_)
+            | TypeNode::Int(_)
+            | TypeNode::External(_)
+            | TypeNode::Package(_, _) => true,
         }
     }
 
@@ -93,7 +102,13 @@ impl Ast {
     {
         match self.data_type(data_type) {
             TypeNode::Vector(width, _, _) => Some(*width),
-            TypeNode::Scalar(_) | TypeNode::Integer(_) | TypeNode::Int(_) | TypeNode::External(_) | TypeNode::Package(_, _) | TypeNode::Packed(_, _) | TypeNode::Unpacked(_, _) => None,
+            TypeNode::Scalar(_)
+            | TypeNode::Integer(_)
+            | TypeNode::Int(_)
+            | TypeNode::External(_)
+            | TypeNode::Package(_, _)
+            | TypeNode::Packed(_, _)
+            | TypeNode::Unpacked(_, _) => None,
         }
     }
 
@@ -107,7 +122,10 @@ impl Ast {
             TypeNode::Vector(_, _, signed) => *signed,
             TypeNode::Integer(signed) => *signed,
             TypeNode::Int(signed) => *signed,
-            TypeNode::External(_) | TypeNode::Package(_, _) | TypeNode::Packed(_, _) | TypeNode::Unpacked(_, _) => false,
+            TypeNode::External(_)
+            | TypeNode::Package(_, _)
+            | TypeNode::Packed(_, _)
+            | TypeNode::Unpacked(_, _) => false,
         }
     }
 }

@@ -52,12 +52,14 @@ impl Ast {
     ///
     /// # Errors
     /// `AllocError` where a growth was refused; nothing changed.
-    pub fn push_vector_expr(&mut self, width: Expr, signed: bool) -> Result<VastDataType, AllocError>
+    pub fn push_vector_expr(
+        &mut self,
+        width: Expr,
+        signed: bool,
+    ) -> Result<VastDataType, AllocError>
         requires width { OwnsExpr (bench self.old) width }
         requires usable { IsUsableWidth (tree_of (bench self.old) width) }
-        ensures {
-            Builds (bench self.old) (bench self.new) result (next_type (bench self.old)) (with_type (bench self.old) (VectorTree (tree_of (bench self.old) width) (literal_value (tree_of (bench self.old) width)) signed))
-        }
+        ensures { Builds (bench self.old) (bench self.new) result (next_type (bench self.old)) (with_type (bench self.old) (VectorTree (tree_of (bench self.old) width) (literal_value (tree_of (bench self.old) width)) signed)) }
     {
         let value = self.expr(width).literal_value();
         self.push_type(TypeNode::Vector(width, value, signed))
@@ -98,7 +100,11 @@ impl Ast {
     ///
     /// # Errors
     /// `AllocError` where a growth was refused; nothing changed.
-    pub fn push_package(&mut self, package_name: &str, name: &str) -> Result<VastDataType, AllocError>
+    pub fn push_package(
+        &mut self,
+        package_name: &str,
+        name: &str,
+    ) -> Result<VastDataType, AllocError>
         ensures { Builds (bench self.old) (bench self.new) result (next_type (bench self.old)) (with_type (bench self.old) (PackageTree package_name.now name.now)) }
     {
         let package_name = String::from_str(self.alloc, package_name)?;
@@ -110,7 +116,11 @@ impl Ast {
     ///
     /// # Errors
     /// `AllocError` where a growth was refused; nothing changed.
-    pub fn push_packed(&mut self, element: VastDataType, dimensions: &[i64]) -> Result<VastDataType, AllocError>
+    pub fn push_packed(
+        &mut self,
+        element: VastDataType,
+        dimensions: &[i64],
+    ) -> Result<VastDataType, AllocError>
         requires element { OwnsType (bench self.old) element }
         requires packable { IsTrue (is_packable (type_of (bench self.old) element)) }
         requires dimensions { AreDimensions dimensions.now }
@@ -124,7 +134,11 @@ impl Ast {
     ///
     /// # Errors
     /// `AllocError` where a growth was refused; nothing changed.
-    pub fn push_unpacked(&mut self, element: VastDataType, dimensions: &[i64]) -> Result<VastDataType, AllocError>
+    pub fn push_unpacked(
+        &mut self,
+        element: VastDataType,
+        dimensions: &[i64],
+    ) -> Result<VastDataType, AllocError>
         requires element { OwnsType (bench self.old) element }
         requires dimensions { AreDimensions dimensions.now }
         ensures { Builds (bench self.old) (bench self.new) result (next_type (bench self.old)) (with_type (bench self.old) (UnpackedTree (type_of (bench self.old) element) dimensions.now)) }
