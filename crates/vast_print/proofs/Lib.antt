@@ -12,3 +12,5 @@ pub mod TypeLaws
 pub mod BareLaws
 pub mod ModuleLaws
 pub mod ArenaLaws
+pub mod PieceLaws
+pub mod PrintLaws
