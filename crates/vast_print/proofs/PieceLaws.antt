@@ -12,7 +12,7 @@ use Rattle.vast_print.specs.declared.refusal.Refusal.{Refusal}
 use Rattle.vast_print.specs.Printed.{Printed, first_fault, plain_text, ◌⊕◌, wrapped}
 use Rattle.vast_print.specs.Page.{written}
 use Rattle.vast_print.specs.Ink.{Ink, word, pour}
-use Rattle.vast_print.specs.Levels.{unary_sign_text, binary_sign_text, is_scalar_name, unary_wraps, left_child_wraps, right_child_wraps, ternary_wraps, select_wraps}
+use Rattle.vast_print.specs.Levels.{unary_sign_text, binary_sign_text, is_scalar_name, is_zero, unary_wraps, left_child_wraps, right_child_wraps, ternary_wraps, select_wraps}
 use Rattle.vast_print.specs.Bare.{is_bare, is_bare_head}
 use Rattle.vast_print.specs.Text.{cast_to, width_cast, sign_cast, package_text, expr_text, arguments_text, replicated, list_text, more_text, type_cast}
 use Rattle.vast_print.specs.Words.{separator, cast_sign_word, scalar_cast_opening, scalar_cast_closing, number_cast_opening, number_cast_closing}
@@ -113,6 +113,24 @@ pub pour-unpacked-cast : (d : ℕ) (k : Ink) (t : TypeTree) (ds : List ℤ) (p :
 unfolding type_cast
 pour-unpacked-cast d k t ds p = refl
 
+-- selects, before what is behind them
+
+pub slice-then : (d : ℕ) (k : Ink) (s h l : ExprTree) (w : Printed) → is_scalar_name s ≡ false →
+    pour d (pour d k (written (expr_text (SliceTree s h l)))) (written w)
+    ≡ pour d k (written (wrapped (select_wraps s) (expr_text s) ⊕ (plain_text (codes "[") ⊕ (wrapped false (expr_text h) ⊕ (plain_text (codes ":") ⊕ (wrapped false (expr_text l) ⊕ (plain_text (codes "]") ⊕ w)))))))
+unfolding expr_text
+slice-then d k s h l w e = rw e (simp (pour-then, pour-bare))
+
+pub scalar-slice-then : (d : ℕ) (k : Ink) (s h l : ExprTree) (w : Printed) → is_scalar_name s ≡ true → (is_zero h && is_zero l) ≡ true →
+    pour d (pour d k (written (expr_text (SliceTree s h l)))) (written w) ≡ pour d k (written (wrapped false (expr_text s) ⊕ w))
+scalar-slice-then d k s h l w e z = rw (pour-scalar-slice d k s h l e z) (simp (pour-then, pour-bare))
+
+pub part-select-then : (d : ℕ) (k : Ink) (s i : ExprTree) (width : ℤ) (w : Printed) →
+    pour d (pour d k (written (expr_text (PartSelectTree s i width)))) (written w)
+    ≡ pour d k (written (wrapped (select_wraps s) (expr_text s) ⊕ (plain_text (codes "[") ⊕ (wrapped false (expr_text i) ⊕ (plain_text (codes " +: ") ⊕ (plain_text (signed_decimal width) ⊕ (plain_text (codes "]") ⊕ w)))))))
+unfolding expr_text
+part-select-then d k s i width w = simp (pour-then, pour-bare)
+
 -- lists
 
 pub list-all : (ps : List Expr) (b : Bench) → rest_text 0 (trees_of b (drop 0 ps)) ≡ list_text (trees_of b ps)
@@ -154,7 +172,11 @@ pub ruleset list_parts = (list-none, weight-none, then-empty, bare-part)
 
 pub ruleset begins = (pour-then, pour-bare, pour-unary, pour-operands, pour-ternary, pour-question, pour-alternative, pour-rising, pour-falling)
 
-pub ruleset selects = (pour-then, pour-bare, pour-number, pour-index, pour-slice, pour-scalar-index, pour-scalar-slice, pour-refused-index, pour-refused-slice, pour-part-select, pour-bracket, pour-close-bracket, pour-colon, pour-part)
+pub ruleset indexes = (pour-then, pour-bare, pour-index, pour-scalar-index, pour-refused-index, pour-bracket, pour-close-bracket)
+
+pub ruleset slices = (slice-then, scalar-slice-then, pour-refused-slice)
+
+pub ruleset part_selects = (part-select-then)
 
 pub ruleset lists = (pour-then, pour-bare, pour-concat, pour-parts, pour-replicated, pour-pattern-list, pour-macro, pour-no-arguments, pour-arguments, pour-call, pour-brace, pour-close-brace, pour-close)
 

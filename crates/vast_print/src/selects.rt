@@ -13,7 +13,7 @@ use crate::writer::Writer;
 use vast_core::{Ast, Expr};
 
 /// A select of a named scalar by a literal of value zero is the name alone.
-#[tactic(auto, using(crate::proofs::PieceLaws::selects))]
+#[tactic(auto, using(crate::proofs::PieceLaws::indexes))]
 pub(crate) fn begin_index(
     ast: &Ast,
     subject: Expr,
@@ -43,7 +43,7 @@ pub(crate) fn begin_index(
 }
 
 /// A slice of a named scalar at `[0:0]` is the name alone.
-#[tactic(auto, using(crate::proofs::PieceLaws::selects))]
+#[tactic(auto, using(crate::proofs::PieceLaws::slices))]
 pub(crate) fn begin_slice(
     ast: &Ast,
     subject: Expr,
@@ -76,7 +76,7 @@ pub(crate) fn begin_slice(
     Ok(())
 }
 
-#[tactic(auto, using(crate::proofs::PieceLaws::selects))]
+#[tactic(auto, using(crate::proofs::PieceLaws::part_selects))]
 pub(crate) fn begin_part_select(
     ast: &Ast,
     subject: Expr,

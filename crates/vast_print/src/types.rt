@@ -181,28 +181,40 @@ pub(crate) fn print_type(ast: &Ast, t: VastDataType, depth: usize, out: &mut Wri
     ensures { Writes (pour depth (Wet out.old) (written (spaced (type_text (type_of (bench ast.now) t))))) out.new result }
 {
     match ast.data_type(base_of(ast, t)) {
-        TypeNode::Scalar(signed) => out.word(words::signed(*signed))?,
+        TypeNode::Scalar(signed) => {
+            out.word(words::signed(*signed))?;
+            print_spaced_packed(ast, t, depth, out)
+        }
         TypeNode::Vector(width, value, signed) => {
             out.word(words::signed(*signed))?;
             print_packed(ast, t, depth, out)?;
             out.word("[")?;
             print_width_limit(ast, *width, *value, depth, out)?;
             out.word(":0] ")?;
-            return Ok(());
+            Ok(())
         }
-        TypeNode::Integer(signed) => out.word(words::unsigned(*signed))?,
-        TypeNode::Int(signed) => out.word(words::unsigned(*signed))?,
-        TypeNode::External(name) => print_spaced_name(name, depth, out)?,
+        TypeNode::Integer(signed) => {
+            out.word(words::unsigned(*signed))?;
+            print_spaced_packed(ast, t, depth, out)
+        }
+        TypeNode::Int(signed) => {
+            out.word(words::unsigned(*signed))?;
+            print_spaced_packed(ast, t, depth, out)
+        }
+        TypeNode::External(name) => {
+            print_spaced_name(name, depth, out)?;
+            print_spaced_packed(ast, t, depth, out)
+        }
         TypeNode::Package(package_name, name) => {
             out.written(depth, package_name)?;
             out.word("::")?;
             out.written(depth, name)?;
             out.word(" ")?;
+            print_spaced_packed(ast, t, depth, out)
         }
-        TypeNode::Packed(_, _) => {}
-        TypeNode::Unpacked(_, _) => {}
+        TypeNode::Packed(_, _) => print_spaced_packed(ast, t, depth, out),
+        TypeNode::Unpacked(_, _) => print_spaced_packed(ast, t, depth, out),
     }
-    print_spaced_packed(ast, t, depth, out)
 }
 
 /// Writes a dimension behind a name: a range in Verilog, its number of elements in SystemVerilog.

@@ -14,3 +14,6 @@ invariant-loop-i l =
     weight : pieces_weight (bench l.ast) l.work.items ≡ pieces_weight (bench l.ast) l.fn.work.items + exprs_weight (trees_of (bench l.ast) (drop l.i l.parts));
     owned : PiecesOwned (bench l.ast) l.work.items
   }
+
+abbrev pub decreases-loop-i : goal.decreases-loop-i
+decreases-loop-i l = l.i
