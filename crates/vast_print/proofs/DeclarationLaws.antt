@@ -73,7 +73,7 @@ unfolding spaced plain_text
 spaced-plain c w = refl
 
 -- a text that ends in something is followed by a space
-spaced-then : (p : Printed) (c : ℕ) (w : List ℕ) → spaced (p ⊕ plain_text (c ∷ w)) ≡ p ⊕ plain_text (c ∷ w) ⊕ plain_text (codes " ")
+pub spaced-then : (p : Printed) (c : ℕ) (w : List ℕ) → spaced (p ⊕ plain_text (c ∷ w)) ≡ p ⊕ plain_text (c ∷ w) ⊕ plain_text (codes " ")
 unfolding spaced plain_text ◌⊕◌
 spaced-then p c w = go p.text
   where
@@ -81,27 +81,27 @@ spaced-then p c w = go p.text
     go [] = refl
     go (x ∷ t) = refl
 
-package_then : (scope name : List ℕ) → package_text scope name ≡ plain_text scope ⊕ plain_text (codes "::") ⊕ plain_text name
+pub package_then : (scope name : List ℕ) → package_text scope name ≡ plain_text scope ⊕ plain_text (codes "::") ⊕ plain_text name
 unfolding package_text
 package_then scope name = refl
 
-spaced-package : (scope name : List ℕ) → spaced (package_text scope name) ≡ package_text scope name ⊕ plain_text (codes " ")
+pub spaced-package : (scope name : List ℕ) → spaced (package_text scope name) ≡ package_text scope name ⊕ plain_text (codes " ")
 unfolding spaced package_text plain_text ◌⊕◌
 spaced-package [] name = refl
 spaced-package (c ∷ scope) name = refl
 
-pour-signed-word : (d : ℕ) (k : Ink) (signed : Bool) → pour d k (written (spaced (plain_text (signed_word signed)))) ≡ word k (signed_opening signed)
+pub pour-signed-word : (d : ℕ) (k : Ink) (signed : Bool) → pour d k (written (spaced (plain_text (signed_word signed)))) ≡ word k (signed_opening signed)
 unfolding pour written spaced plain_text ◌⊕◌ written_lines beside_lines pour_lines hang_lines stop
 pour-signed-word d k true = refl
 pour-signed-word d k false = refl
 
-pour-unsigned-word : (d : ℕ) (k : Ink) (signed : Bool) → pour d k (written (spaced (plain_text (unsigned_word signed)))) ≡ word k (unsigned_opening signed)
+pub pour-unsigned-word : (d : ℕ) (k : Ink) (signed : Bool) → pour d k (written (spaced (plain_text (unsigned_word signed)))) ≡ word k (unsigned_opening signed)
 unfolding pour written spaced plain_text ◌⊕◌ written_lines beside_lines pour_lines hang_lines stop
 pour-unsigned-word d k true = refl
 pour-unsigned-word d k false = refl
 
 -- a base type, and its packed dimensions behind it
-pour-joined : (d : ℕ) (k : Ink) (p : Printed) (ds : List ℕ) →
+pub pour-joined : (d : ℕ) (k : Ink) (p : Printed) (ds : List ℕ) →
     pour d k (written (spaced (joined p ds))) ≡ pour d (pour d k (written (spaced p))) (written (spaced (plain_text ds)))
 unfolding joined
 pour-joined d k p [] = sym (ap (λ x. pour d (pour d k (written (spaced p))) (written x)) spaced-empty ∙ pour-empty d (pour d k (written (spaced p))))

@@ -14,3 +14,5 @@ pub mod ModuleLaws
 pub mod ArenaLaws
 mod Pins
 mod PagePins
+pub mod PieceLaws
+pub mod PrintLaws

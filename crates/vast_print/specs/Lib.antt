@@ -11,3 +11,4 @@ pub mod Members
 pub mod Layout
 pub mod Words
 pub mod Emits
+pub mod Pieces

@@ -1,33 +1,34 @@
-//! Expressions.
+//! Expressions, by a list of the pieces that are still to write.
 
-ghost use Rattle.std.specs.Prelude.{◌≡◌};
+ghost use Rattle.std.specs.Prelude.{◌≡◌, ◌+◌};
 ghost use Rattle.vast_core.specs.Bench.{OwnsExpr, tree_of};
 ghost use Rattle.vast_core.specs.View.{bench};
 ghost use Rattle.vast_print.specs.Ink.{Writes, Wet, pour};
 ghost use Rattle.vast_print.specs.Page.{written};
 ghost use Rattle.vast_print.specs.Printed.{wrapped};
-ghost use Rattle.vast_print.specs.Levels.{limit_wraps};
 ghost use Rattle.vast_print.specs.Text.{expr_text};
+ghost use Rattle.vast_print.specs.Pieces.{expr_weight, piece_weight, piece_text, PieceOwned, PiecesOwned, Begins};
 
+use crate::casts::{begin_type_cast, begin_width_cast};
+use crate::lists::{begin_call, begin_concat, begin_macro, begin_pattern};
+use crate::operators::{begin_binary, begin_negedge, begin_posedge, begin_ternary, begin_unary};
+use crate::pieces::{Piece, push_part, push_plain};
 use crate::refusal::PrintFault;
+use crate::selects::{begin_index, begin_part_select, begin_slice};
 use crate::writer::Writer;
 use vast_core::{Ast, Expr, ExprNode};
 
 /// Writes an expression behind the last line; what stands behind a line break goes on at the depth.
-#[tactic(auto, using(crate::proofs::TextLaws::texts, crate::proofs::ArenaLaws::stops))]
+#[tactic(auto, using(crate::proofs::PieceLaws::pieces))]
 pub(crate) fn print_expression(ast: &Ast, e: Expr, depth: usize, out: &mut Writer) -> Result<(), PrintFault>
     requires { OwnsExpr (bench ast.now) e }
     ensures { Writes (pour depth (Wet out.old) (written (expr_text (tree_of (bench ast.now) e)))) out.new result }
 {
-    match ast.expr(e) {
-        ExprNode::Name(name, _) => out.written(depth, name)?,
-        ExprNode::Literal(text, _) => out.written(depth, text)?,
-    }
-    Ok(())
+    print_wrapped(ast, e, false, depth, out)
 }
 
 /// Writes an expression, in parentheses where it needs them.
-#[tactic(auto, using(crate::proofs::TextLaws::texts, crate::proofs::ArenaLaws::stops))]
+#[tactic(auto, using(crate::proofs::PieceLaws::works))]
 pub(crate) fn print_wrapped(
     ast: &Ast,
     e: Expr,
@@ -38,23 +39,98 @@ pub(crate) fn print_wrapped(
     requires { OwnsExpr (bench ast.now) e }
     ensures { Writes (pour depth (Wet out.old) (written (wrapped wraps (expr_text (tree_of (bench ast.now) e))))) out.new result }
 {
-    if wraps {
-        out.word("(")?;
-        print_expression(ast, e, depth, out)?;
-        out.word(")")?;
-        Ok(())
-    } else {
-        print_expression(ast, e, depth, out)
+    let mut work = Vec::new(ast.allocator());
+    push_part(ast, e, wraps, &mut work)?;
+    while let Some(piece) = work.pop() {
+        print_piece(ast, piece, depth, out, &mut work)?;
+    }
+    Ok(())
+}
+
+/// Writes a piece, or begins it.
+#[tactic(auto, using(crate::proofs::PieceLaws::pieces))]
+fn print_piece(
+    ast: &Ast,
+    piece: Piece,
+    depth: usize,
+    out: &mut Writer,
+    work: &mut Vec<Piece>,
+) -> Result<(), PrintFault>
+    requires piece { PieceOwned (bench ast.now) piece }
+    requires owned { PiecesOwned (bench ast.now) work.old.items }
+    ensures {
+        Begins (bench ast.now) depth out.old out.new work.old.items work.new.items (piece_text (bench ast.now) piece) (piece_weight (bench ast.now) piece) result
+    }
+{
+    match piece {
+        Piece::Plain(text) => {
+            out.written(depth, text)?;
+            Ok(())
+        }
+        Piece::Number(number) => {
+            out.number(number)?;
+            Ok(())
+        }
+        Piece::Part(e, wraps) => begin_part(ast, e, wraps, depth, out, work),
     }
 }
 
-/// Whether a width needs parentheses before ` - 1`.
-pub(crate) fn limit_wraps(ast: &Ast, e: Expr) -> bool
-    requires { OwnsExpr (bench ast.now) e }
-    ensures { result ≡ limit_wraps (tree_of (bench ast.now) e) }
+/// Begins an expression, in parentheses where it needs them.
+#[tactic(auto, using(crate::proofs::PieceLaws::parts))]
+fn begin_part(
+    ast: &Ast,
+    e: Expr,
+    wraps: bool,
+    depth: usize,
+    out: &mut Writer,
+    work: &mut Vec<Piece>,
+) -> Result<(), PrintFault>
+    requires part { OwnsExpr (bench ast.now) e }
+    requires owned { PiecesOwned (bench ast.now) work.old.items }
+    ensures {
+        Begins (bench ast.now) depth out.old out.new work.old.items work.new.items (wrapped wraps (expr_text (tree_of (bench ast.now) e))) (expr_weight (tree_of (bench ast.now) e) + 1) result
+    }
+{
+    if wraps {
+        out.word("(")?;
+        push_plain(ast, ")", work)?;
+        begin(ast, e, depth, out, work)
+    } else {
+        begin(ast, e, depth, out, work)
+    }
+}
+
+/// Writes the first words of an expression, and puts what is left of it on the list.
+#[tactic(auto, using(crate::proofs::PieceLaws::leaves))]
+fn begin(ast: &Ast, e: Expr, depth: usize, out: &mut Writer, work: &mut Vec<Piece>) -> Result<(), PrintFault>
+    requires part { OwnsExpr (bench ast.now) e }
+    requires owned { PiecesOwned (bench ast.now) work.old.items }
+    ensures {
+        Begins (bench ast.now) depth out.old out.new work.old.items work.new.items (expr_text (tree_of (bench ast.now) e)) (expr_weight (tree_of (bench ast.now) e)) result
+    }
 {
     match ast.expr(e) {
-        ExprNode::Name(_, _) => false,
-        ExprNode::Literal(_, _) => false,
+        ExprNode::Name(text, _) => out.written(depth, text)?,
+        ExprNode::Literal(text, _) => out.written(depth, text)?,
+        ExprNode::StringText(text) => out.written(depth, text)?,
+        ExprNode::Unary(operator, operand) => begin_unary(ast, *operator, *operand, depth, out, work)?,
+        ExprNode::Binary(operator, left, right) => begin_binary(ast, *operator, *left, *right, depth, out, work)?,
+        ExprNode::Ternary(condition, consequent, alternate) => {
+            begin_ternary(ast, *condition, *consequent, *alternate, depth, out, work)?;
+        }
+        ExprNode::Index(subject, index) => begin_index(ast, *subject, *index, depth, out, work)?,
+        ExprNode::Slice(subject, high, low) => begin_slice(ast, *subject, *high, *low, depth, out, work)?,
+        ExprNode::PartSelect(subject, start, width) => {
+            begin_part_select(ast, *subject, *start, *width, depth, out, work)?;
+        }
+        ExprNode::Concat(count, parts) => begin_concat(ast, *count, parts, depth, out, work)?,
+        ExprNode::Pattern(parts) => begin_pattern(ast, parts, depth, out, work)?,
+        ExprNode::WidthCast(width, operand) => begin_width_cast(ast, *width, *operand, depth, out, work)?,
+        ExprNode::TypeCast(data_type, operand) => begin_type_cast(ast, *data_type, *operand, depth, out, work)?,
+        ExprNode::PosEdge(operand) => begin_posedge(ast, *operand, depth, out, work)?,
+        ExprNode::NegEdge(operand) => begin_negedge(ast, *operand, depth, out, work)?,
+        ExprNode::Macro(name, arguments) => begin_macro(ast, name, arguments, depth, out, work)?,
+        ExprNode::Call(name, arguments) => begin_call(ast, name, arguments, depth, out, work)?,
     }
+    Ok(())
 }

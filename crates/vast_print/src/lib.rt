@@ -2,11 +2,18 @@
 #![tactic(auto)]
 
 mod bare;
+mod casts;
 mod declaration;
 mod expression;
 mod file;
+mod levels;
+mod lists;
 mod module;
+mod operators;
+mod pieces;
 mod refusal;
+mod selects;
+mod types;
 mod words;
 mod writer;
 

@@ -1,0 +1,105 @@
+-- Laws of writing types as the arena holds them: bases and dimensions, array by array.
+use Rattle.std.proofs.Common.{◌≡◌, ◌<◌, ◌≤◌, ℕ, zero, suc, ◌+◌, ℤ, pos, Bool, true, false, List, [], ◌∷◌, ◌++◌, length, get_or, drop, refl, sym, ◌∙◌, ap, codes, arith, Option, Some, None}
+use Rattle.vast_literal.specs.Tree.{Dialect, ExprTree, TypeTree, ScalarTree, VectorTree, IntegerTree, IntTree, ExternalTree, PackageTree, PackedTree, UnpackedTree}
+use Rattle.vast_print.specs.Printed.{Printed, plain_text, spaced}
+use Rattle.vast_print.specs.Page.{written}
+use Rattle.vast_print.specs.Ink.{Ink, Wet, word, pour}
+use Rattle.vast_print.specs.Declaration.{base_of, packed_ranges, packed_text, unpacked_ranges, unpacked_text, based_text, type_text, signed_word, unsigned_word, limit_text}
+use Rattle.vast_print.specs.Words.{has_text, signed_opening, unsigned_opening}
+use Rattle.vast_print.specs.Text.{package_text}
+use Rattle.vast_print.proofs.Laws.{pour-then, pour-empty, pour-stopped}
+use Rattle.vast_print.proofs.Lines.{word-word, word-stopped}
+use Rattle.vast_print.proofs.NumberLaws.{pour-number}
+use Rattle.vast_print.proofs.DeclarationLaws.{pour-joined, spaced-then, spaced-package, package_then, pour-signed-word, pour-unsigned-word, pour-spaced, pour-spaced-none, pour-limit-value, pour-limit}
+use Rattle.vast_print.proofs.WordLaws.{words}
+use Rattle.vast_print.proofs.TypeLaws.{base-scalar, base-vector, base-integer, base-int, base-external, base-package, base-packed, base-unpacked, packed-scalar, packed-vector, packed-integer, packed-int, packed-external, packed-package, packed-packed, packed-unpacked, unpacked-scalar, unpacked-vector, unpacked-integer, unpacked-int, unpacked-external, unpacked-package, unpacked-packed, unpacked-unpacked, pour-append, pour-verilog-range, pour-system-range}
+
+-- packed dimensions are there or not
+
+has-append : (a b : List ℕ) → has_text a ≡ true → has_text (a ++ b) ≡ true
+has-append [] b h = absurd (cc (h))
+has-append (c ∷ a) b h = refl
+
+pub has-packed-some : (t : TypeTree) (ds : List ℤ) → 0 < length ds → has_text (packed_text (PackedTree t ds)) ≡ true
+unfolding packed_text packed_ranges
+has-packed-some t [] h = absurd (omega arith)
+has-packed-some t (d ∷ ds) h = refl
+
+pub has-packed-none : (t : TypeTree) (ds : List ℤ) → length ds ≡ 0 → has_text (packed_text (PackedTree t ds)) ≡ has_text (packed_text t)
+unfolding packed_text packed_ranges
+has-packed-none t [] h = refl
+has-packed-none t (d ∷ ds) h = absurd (omega arith)
+
+pub has-some : (w : List ℕ) → 0 < length w → has_text w ≡ true
+has-some [] h = absurd (omega arith)
+has-some (c ∷ w) h = refl
+
+pub has-none : (w : List ℕ) → length w ≡ 0 → has_text w ≡ false
+has-none [] h = refl
+has-none (c ∷ w) h = absurd (omega arith)
+
+-- a type by what it is made of
+
+pub type-based : (d : ℕ) (k : Ink) (t : TypeTree) → pour d k (written (spaced (type_text t))) ≡ pour d k (written (spaced (based_text (base_of t) (packed_text t))))
+unfolding type_text
+type-based d k t = refl
+
+pub pour-scalar-base : (d : ℕ) (k : Ink) (signed : Bool) (ds : List ℕ) →
+    pour d k (written (spaced (based_text (ScalarTree signed) ds))) ≡ pour d (word k (signed_opening signed)) (written (spaced (plain_text ds)))
+unfolding based_text
+pour-scalar-base d k signed ds = pour-joined d k (plain_text (signed_word signed)) ds ∙ ap (λ j. pour d j (written (spaced (plain_text ds)))) (pour-signed-word d k signed)
+
+pub pour-integer-base : (d : ℕ) (k : Ink) (signed : Bool) (ds : List ℕ) →
+    pour d k (written (spaced (based_text (IntegerTree signed) ds))) ≡ pour d (word k (unsigned_opening signed)) (written (spaced (plain_text ds)))
+unfolding based_text
+pour-integer-base d k signed ds = pour-joined d k (plain_text (unsigned_word signed)) ds ∙ ap (λ j. pour d j (written (spaced (plain_text ds)))) (pour-unsigned-word d k signed)
+
+pub pour-int-base : (d : ℕ) (k : Ink) (signed : Bool) (ds : List ℕ) →
+    pour d k (written (spaced (based_text (IntTree signed) ds))) ≡ pour d (word k (unsigned_opening signed)) (written (spaced (plain_text ds)))
+unfolding based_text
+pour-int-base d k signed ds = pour-joined d k (plain_text (unsigned_word signed)) ds ∙ ap (λ j. pour d j (written (spaced (plain_text ds)))) (pour-unsigned-word d k signed)
+
+pub pour-external-base : (d : ℕ) (k : Ink) (name ds : List ℕ) →
+    pour d k (written (spaced (based_text (ExternalTree name) ds))) ≡ pour d (pour d k (written (spaced (plain_text name)))) (written (spaced (plain_text ds)))
+unfolding based_text
+pour-external-base d k name ds = pour-joined d k (plain_text name) ds
+
+pub pour-package-base : (d : ℕ) (k : Ink) (scope name ds : List ℕ) →
+    pour d k (written (spaced (based_text (PackageTree scope name) ds)))
+    ≡ pour d (word (pour d (word (pour d k (written (plain_text scope))) (codes "::")) (written (plain_text name))) (codes " ")) (written (spaced (plain_text ds)))
+unfolding based_text
+pour-package-base d k scope name ds =
+    pour-joined d k (package_text scope name) ds
+    ∙ ap (λ j. pour d j (written (spaced (plain_text ds)))) (ap (λ x. pour d k (written x)) (spaced-package scope name) ∙ simp (package_then, pour-then, words))
+
+pub pour-vector-base : (d : ℕ) (k : Ink) (w : ExprTree) (v : Option ℤ) (signed : Bool) (ds : List ℕ) →
+    pour d k (written (spaced (based_text (VectorTree w v signed) ds)))
+    ≡ word (pour d (word (pour d (word k (signed_opening signed)) (written (plain_text ds))) (codes "[")) (written (limit_text w v))) (codes ":0] ")
+unfolding based_text
+pour-vector-base d k w v signed ds = simp (spaced-then, pour-then, pour-signed-word, words, word-word)
+
+-- a base is no array
+
+pub pour-packed-base : (d : ℕ) (k : Ink) (t : TypeTree) (own : List ℤ) (ds : List ℕ) → pour d k (written (spaced (based_text (PackedTree t own) ds))) ≡ pour d k (written (spaced (plain_text ds)))
+unfolding based_text
+pour-packed-base d k t own ds = refl
+
+pub pour-unpacked-base : (d : ℕ) (k : Ink) (t : TypeTree) (own : List ℤ) (ds : List ℕ) → pour d k (written (spaced (based_text (UnpackedTree t own) ds))) ≡ pour d k (written (spaced (plain_text ds)))
+unfolding based_text
+pour-unpacked-base d k t own ds = refl
+
+pub ruleset bases = (base-scalar, base-vector, base-integer, base-int, base-external, base-package, base-packed, base-unpacked)
+
+pub ruleset packed = (packed-scalar, packed-vector, packed-integer, packed-int, packed-external, packed-package, packed-packed, packed-unpacked, has-packed-some, has-packed-none, pour-append, pour-empty, pour-stopped)
+
+pub ruleset unpacked = (unpacked-scalar, unpacked-vector, unpacked-integer, unpacked-int, unpacked-external, unpacked-package, unpacked-packed, unpacked-unpacked, pour-append, pour-empty, pour-stopped)
+
+pub ruleset ranges = (word-stopped, pour-stopped)
+
+pub ruleset range_parts = (pour-verilog-range, pour-system-range, word-stopped)
+
+pub ruleset spaces = (pour-spaced, pour-spaced-none, has-some, has-none, word-stopped)
+
+pub ruleset limits = (pour-limit-value, pour-limit, pour-number, word-stopped)
+
+pub ruleset types = (type-based, pour-scalar-base, pour-integer-base, pour-int-base, pour-external-base, pour-package-base, pour-vector-base, pour-packed-base, pour-unpacked-base, word-stopped, pour-stopped)

@@ -1,0 +1,19 @@
+use Rattle.std.proofs.Common.{◌≡◌}
+use Rattle.vast_core.specs.Bench.{tree_of}
+use Rattle.vast_core.specs.View.{bench}
+use Rattle.vast_print.specs.Ink.{Wet, pour}
+use Rattle.vast_print.specs.Page.{written}
+use Rattle.vast_print.specs.Printed.{wrapped}
+use Rattle.vast_print.specs.Text.{expr_text}
+use Rattle.vast_print.specs.Pieces.{pieces_text, pieces_weight, PiecesOwned}
+use Rattle.vast_print.proofs.expression.print_wrapped.Given as goal
+
+abbrev pub invariant-loop-piece : goal.invariant-loop-piece
+invariant-loop-piece l =
+  record {
+    same : pour l.depth (Wet l.fn.out) (written (wrapped l.fn.wraps (expr_text (tree_of (bench l.ast) l.fn.e)))) ≡ pour l.depth (Wet l.out) (written (pieces_text (bench l.ast) l.work.items));
+    owned : PiecesOwned (bench l.ast) l.work.items
+  }
+
+abbrev pub decreases-loop-piece : goal.decreases-loop-piece
+decreases-loop-piece l = pieces_weight (bench l.ast) l.work.items

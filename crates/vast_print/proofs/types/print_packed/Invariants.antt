@@ -1,0 +1,19 @@
+use Rattle.std.proofs.Common.{◌≡◌}
+use Rattle.vast_core.specs.Handles.{type_rank}
+use Rattle.vast_core.specs.Bench.{OwnsType, type_of}
+use Rattle.vast_print.specs.Declaration.{packed_text}
+use Rattle.vast_print.specs.Ink.{Wet, pour}
+use Rattle.vast_print.specs.Page.{written}
+use Rattle.vast_print.specs.Printed.{plain_text}
+use Rattle.vast_core.specs.View.{bench}
+use Rattle.vast_print.proofs.types.print_packed.Given as goal
+
+abbrev pub invariant-loop-element : goal.invariant-loop-element
+invariant-loop-element l =
+  record {
+    owned : OwnsType (bench l.ast) l.inner;
+    same : pour l.depth (Wet l.fn.out) (written (plain_text (packed_text (type_of (bench l.ast) l.fn.t)))) ≡ pour l.depth (Wet l.out) (written (plain_text (packed_text (type_of (bench l.ast) l.inner))))
+  }
+
+abbrev pub decreases-loop-element : goal.decreases-loop-element
+decreases-loop-element l = type_rank l.inner

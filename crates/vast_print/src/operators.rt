@@ -1,0 +1,122 @@
+//! Signs and their operands, and edges.
+
+ghost use Rattle.vast_literal.specs.Tree.{UnaryTree, BinaryTree, TernaryTree, PosEdgeTree, NegEdgeTree};
+ghost use Rattle.vast_core.specs.Bench.{OwnsExpr, tree_of};
+ghost use Rattle.vast_core.specs.Kinds.{unary_of, binary_of};
+ghost use Rattle.vast_core.specs.View.{bench};
+ghost use Rattle.vast_print.specs.Pieces.{expr_weight, PiecesOwned, Begins};
+ghost use Rattle.vast_print.specs.Text.{expr_text};
+
+use crate::levels::{binary_sign, left_wraps, right_wraps, ternary_wraps, unary_sign, unary_wraps};
+use crate::pieces::{Piece, push_part, push_plain};
+use crate::refusal::PrintFault;
+use crate::writer::Writer;
+use vast_core::{Ast, BinaryOperator, Expr, UnaryOperator};
+
+#[tactic(auto, using(crate::proofs::PieceLaws::begins))]
+pub(crate) fn begin_unary(
+    ast: &Ast,
+    operator: UnaryOperator,
+    operand: Expr,
+    depth: usize,
+    out: &mut Writer,
+    work: &mut Vec<Piece>,
+) -> Result<(), PrintFault>
+    requires operand { OwnsExpr (bench ast.now) operand }
+    requires owned { PiecesOwned (bench ast.now) work.old.items }
+    ensures {
+        Begins (bench ast.now) depth out.old out.new work.old.items work.new.items (expr_text (UnaryTree (unary_of operator) (tree_of (bench ast.now) operand))) (expr_weight (UnaryTree (unary_of operator) (tree_of (bench ast.now) operand))) result
+    }
+{
+    let wraps = unary_wraps(ast, operand);
+    out.word(unary_sign(operator))?;
+    push_part(ast, operand, wraps, work)?;
+    Ok(())
+}
+
+#[tactic(auto, using(crate::proofs::PieceLaws::begins))]
+pub(crate) fn begin_binary(
+    ast: &Ast,
+    operator: BinaryOperator,
+    left: Expr,
+    right: Expr,
+    depth: usize,
+    out: &mut Writer,
+    work: &mut Vec<Piece>,
+) -> Result<(), PrintFault>
+    requires left { OwnsExpr (bench ast.now) left }
+    requires right { OwnsExpr (bench ast.now) right }
+    requires owned { PiecesOwned (bench ast.now) work.old.items }
+    ensures {
+        Begins (bench ast.now) depth out.old out.new work.old.items work.new.items (expr_text (BinaryTree (binary_of operator) (tree_of (bench ast.now) left) (tree_of (bench ast.now) right))) (expr_weight (BinaryTree (binary_of operator) (tree_of (bench ast.now) left) (tree_of (bench ast.now) right))) result
+    }
+{
+    push_part(ast, right, right_wraps(ast, operator, right), work)?;
+    push_plain(ast, binary_sign(operator), work)?;
+    push_part(ast, left, left_wraps(ast, operator, left), work)?;
+    Ok(())
+}
+
+#[tactic(auto, using(crate::proofs::PieceLaws::begins))]
+pub(crate) fn begin_ternary(
+    ast: &Ast,
+    condition: Expr,
+    consequent: Expr,
+    alternate: Expr,
+    depth: usize,
+    out: &mut Writer,
+    work: &mut Vec<Piece>,
+) -> Result<(), PrintFault>
+    requires condition { OwnsExpr (bench ast.now) condition }
+    requires consequent { OwnsExpr (bench ast.now) consequent }
+    requires alternate { OwnsExpr (bench ast.now) alternate }
+    requires owned { PiecesOwned (bench ast.now) work.old.items }
+    ensures {
+        Begins (bench ast.now) depth out.old out.new work.old.items work.new.items (expr_text (TernaryTree (tree_of (bench ast.now) condition) (tree_of (bench ast.now) consequent) (tree_of (bench ast.now) alternate))) (expr_weight (TernaryTree (tree_of (bench ast.now) condition) (tree_of (bench ast.now) consequent) (tree_of (bench ast.now) alternate))) result
+    }
+{
+    push_part(ast, alternate, ternary_wraps(ast, alternate), work)?;
+    push_plain(ast, " : ", work)?;
+    push_part(ast, consequent, ternary_wraps(ast, consequent), work)?;
+    push_plain(ast, " ? ", work)?;
+    push_part(ast, condition, ternary_wraps(ast, condition), work)?;
+    Ok(())
+}
+
+#[tactic(auto, using(crate::proofs::PieceLaws::begins))]
+pub(crate) fn begin_posedge(
+    ast: &Ast,
+    operand: Expr,
+    depth: usize,
+    out: &mut Writer,
+    work: &mut Vec<Piece>,
+) -> Result<(), PrintFault>
+    requires operand { OwnsExpr (bench ast.now) operand }
+    requires owned { PiecesOwned (bench ast.now) work.old.items }
+    ensures {
+        Begins (bench ast.now) depth out.old out.new work.old.items work.new.items (expr_text (PosEdgeTree (tree_of (bench ast.now) operand))) (expr_weight (PosEdgeTree (tree_of (bench ast.now) operand))) result
+    }
+{
+    out.word("posedge ")?;
+    push_part(ast, operand, false, work)?;
+    Ok(())
+}
+
+#[tactic(auto, using(crate::proofs::PieceLaws::begins))]
+pub(crate) fn begin_negedge(
+    ast: &Ast,
+    operand: Expr,
+    depth: usize,
+    out: &mut Writer,
+    work: &mut Vec<Piece>,
+) -> Result<(), PrintFault>
+    requires operand { OwnsExpr (bench ast.now) operand }
+    requires owned { PiecesOwned (bench ast.now) work.old.items }
+    ensures {
+        Begins (bench ast.now) depth out.old out.new work.old.items work.new.items (expr_text (NegEdgeTree (tree_of (bench ast.now) operand))) (expr_weight (NegEdgeTree (tree_of (bench ast.now) operand))) result
+    }
+{
+    out.word("negedge ")?;
+    push_part(ast, operand, false, work)?;
+    Ok(())
+}

@@ -1,0 +1,284 @@
+//! Types, as they stand before and behind a declared name. Arrays of arrays are walked to what they are made of.
+
+ghost use Rattle.std.specs.Prelude.{◌≡◌, ◌-ℤ◌, pos};
+ghost use Rattle.std.specs.Fmt.{signed_decimal};
+ghost use Rattle.vast_core.specs.Kinds.{dialect_of};
+ghost use Rattle.vast_core.specs.Bench.{OwnsExpr, OwnsType, tree_of, type_of};
+ghost use Rattle.vast_core.specs.View.{bench};
+ghost use Rattle.vast_print.specs.Ink.{Writes, Wet, word, pour};
+ghost use Rattle.vast_print.specs.Page.{written};
+ghost use Rattle.vast_print.specs.Printed.{plain_text, spaced};
+ghost use Rattle.vast_print.specs.Declaration.{base_of, is_external, packed_ranges, packed_text, unpacked_range, unpacked_ranges, unpacked_text, type_text, limit_text};
+ghost use Rattle.vast_print.specs.Words.{has_text};
+
+use crate::expression::print_wrapped;
+use crate::levels::limit_wraps;
+use crate::refusal::PrintFault;
+use crate::words;
+use crate::writer::Writer;
+use vast_core::{Ast, Expr, TypeNode, VastDataType, VastFileType};
+
+/// What an array is made of, through arrays of arrays; any other type itself.
+#[tactic(auto, using(crate::proofs::PrintLaws::bases))]
+pub(crate) fn base_of(ast: &Ast, t: VastDataType) -> VastDataType
+    requires { OwnsType (bench ast.now) t }
+    ensures owned { OwnsType (bench ast.now) result }
+    ensures base { type_of (bench ast.now) result ≡ base_of (type_of (bench ast.now) t) }
+{
+    let mut base = t;
+    loop {
+        match ast.data_type(base) {
+            TypeNode::Packed(element, _) => base = *element,
+            TypeNode::Unpacked(element, _) => base = *element,
+            TypeNode::Scalar(_) => return base,
+            TypeNode::Vector(_, _, _) => return base,
+            TypeNode::Integer(_) => return base,
+            TypeNode::Int(_) => return base,
+            TypeNode::External(_) => return base,
+            TypeNode::Package(_, _) => return base,
+        }
+    }
+}
+
+/// Whether a type is declared elsewhere, through arrays.
+#[tactic(auto, unfolding(crate::specs::Declaration::is_external))]
+pub(crate) fn is_external(ast: &Ast, t: VastDataType) -> bool
+    requires { OwnsType (bench ast.now) t }
+    ensures { result ≡ is_external (type_of (bench ast.now) t) }
+{
+    match ast.data_type(base_of(ast, t)) {
+        TypeNode::External(_) => true,
+        TypeNode::Package(_, _) => true,
+        _ => false,
+    }
+}
+
+/// The highest index of a number of elements or bits: the number minus one.
+pub(crate) fn print_limit(value: i64, out: &mut Writer) -> Result<(), PrintFault>
+    ensures { Writes (word (Wet out.old) (signed_decimal (value -ℤ pos 1))) out.new result }
+{
+    if value == i64::MIN {
+        out.word("-9223372036854775809")?;
+    } else {
+        out.number(value - 1)?;
+    }
+    Ok(())
+}
+
+#[tactic(auto, using(crate::proofs::PrintLaws::ranges))]
+fn print_packed_ranges(dimensions: &[i64], depth: usize, out: &mut Writer) -> Result<(), PrintFault>
+    ensures { Writes (pour depth (Wet out.old) (written (plain_text (packed_ranges dimensions.now)))) out.new result }
+{
+    for dimension in dimensions.iter() {
+        out.word("[")?;
+        print_limit(*dimension, out)?;
+        out.word(":0]")?;
+    }
+    Ok(())
+}
+
+/// Whether a type has packed dimensions.
+#[tactic(auto, using(crate::proofs::PrintLaws::packed))]
+fn has_packed(ast: &Ast, t: VastDataType) -> bool
+    requires { OwnsType (bench ast.now) t }
+    ensures { result ≡ has_text (packed_text (type_of (bench ast.now) t)) }
+{
+    let mut inner = t;
+    loop {
+        match ast.data_type(inner) {
+            TypeNode::Packed(element, dimensions) => {
+                if !dimensions.is_empty() {
+                    return true;
+                }
+                inner = *element;
+            }
+            TypeNode::Unpacked(element, _) => inner = *element,
+            TypeNode::Scalar(_) => return false,
+            TypeNode::Vector(_, _, _) => return false,
+            TypeNode::Integer(_) => return false,
+            TypeNode::Int(_) => return false,
+            TypeNode::External(_) => return false,
+            TypeNode::Package(_, _) => return false,
+        }
+    }
+}
+
+/// Writes all packed dimensions of a type, the outermost array's first.
+#[tactic(auto, using(crate::proofs::PrintLaws::packed))]
+fn print_packed(ast: &Ast, t: VastDataType, depth: usize, out: &mut Writer) -> Result<(), PrintFault>
+    requires { OwnsType (bench ast.now) t }
+    ensures { Writes (pour depth (Wet out.old) (written (plain_text (packed_text (type_of (bench ast.now) t))))) out.new result }
+{
+    let mut inner = t;
+    loop {
+        match ast.data_type(inner) {
+            TypeNode::Packed(element, dimensions) => {
+                print_packed_ranges(dimensions, depth, out)?;
+                inner = *element;
+            }
+            TypeNode::Unpacked(element, _) => inner = *element,
+            TypeNode::Scalar(_) => return Ok(()),
+            TypeNode::Vector(_, _, _) => return Ok(()),
+            TypeNode::Integer(_) => return Ok(()),
+            TypeNode::Int(_) => return Ok(()),
+            TypeNode::External(_) => return Ok(()),
+            TypeNode::Package(_, _) => return Ok(()),
+        }
+    }
+}
+
+/// Writes all packed dimensions of a type and the space behind them, where there are any.
+#[tactic(auto, using(crate::proofs::PrintLaws::spaces))]
+fn print_spaced_packed(ast: &Ast, t: VastDataType, depth: usize, out: &mut Writer) -> Result<(), PrintFault>
+    requires { OwnsType (bench ast.now) t }
+    ensures { Writes (pour depth (Wet out.old) (written (spaced (plain_text (packed_text (type_of (bench ast.now) t)))))) out.new result }
+{
+    if has_packed(ast, t) {
+        print_packed(ast, t, depth, out)?;
+        out.word(" ")?;
+    }
+    Ok(())
+}
+
+/// Writes a name and the space behind it, where it isn't empty.
+#[tactic(auto, using(crate::proofs::PrintLaws::spaces))]
+fn print_spaced_name(name: &str, depth: usize, out: &mut Writer) -> Result<(), PrintFault>
+    ensures { Writes (pour depth (Wet out.old) (written (spaced (plain_text name.now)))) out.new result }
+{
+    if !name.is_empty() {
+        out.written(depth, name)?;
+        out.word(" ")?;
+    }
+    Ok(())
+}
+
+/// Writes a vector's highest index: computed where the width has a value, else the width less one.
+#[tactic(auto, using(crate::proofs::PrintLaws::limits))]
+fn print_width_limit(
+    ast: &Ast,
+    width: Expr,
+    value: Option<i64>,
+    depth: usize,
+    out: &mut Writer,
+) -> Result<(), PrintFault>
+    requires { OwnsExpr (bench ast.now) width }
+    ensures { Writes (pour depth (Wet out.old) (written (limit_text (tree_of (bench ast.now) width) value))) out.new result }
+{
+    match value {
+        Some(value) => print_limit(value, out),
+        None => {
+            print_wrapped(ast, width, limit_wraps(ast, width), depth, out)?;
+            out.word(" - 1")?;
+            Ok(())
+        }
+    }
+}
+
+/// Writes a type, and the space behind it where it isn't empty.
+#[tactic(auto, using(crate::proofs::PrintLaws::types))]
+pub(crate) fn print_type(ast: &Ast, t: VastDataType, depth: usize, out: &mut Writer) -> Result<(), PrintFault>
+    requires { OwnsType (bench ast.now) t }
+    ensures { Writes (pour depth (Wet out.old) (written (spaced (type_text (type_of (bench ast.now) t))))) out.new result }
+{
+    match ast.data_type(base_of(ast, t)) {
+        TypeNode::Scalar(signed) => {
+            out.word(words::signed(*signed))?;
+            print_spaced_packed(ast, t, depth, out)
+        }
+        TypeNode::Vector(width, value, signed) => {
+            out.word(words::signed(*signed))?;
+            print_packed(ast, t, depth, out)?;
+            out.word("[")?;
+            print_width_limit(ast, *width, *value, depth, out)?;
+            out.word(":0] ")?;
+            Ok(())
+        }
+        TypeNode::Integer(signed) => {
+            out.word(words::unsigned(*signed))?;
+            print_spaced_packed(ast, t, depth, out)
+        }
+        TypeNode::Int(signed) => {
+            out.word(words::unsigned(*signed))?;
+            print_spaced_packed(ast, t, depth, out)
+        }
+        TypeNode::External(name) => {
+            print_spaced_name(name, depth, out)?;
+            print_spaced_packed(ast, t, depth, out)
+        }
+        TypeNode::Package(package_name, name) => {
+            out.written(depth, package_name)?;
+            out.word("::")?;
+            out.written(depth, name)?;
+            out.word(" ")?;
+            print_spaced_packed(ast, t, depth, out)
+        }
+        TypeNode::Packed(_, _) => print_spaced_packed(ast, t, depth, out),
+        TypeNode::Unpacked(_, _) => print_spaced_packed(ast, t, depth, out),
+    }
+}
+
+/// Writes a dimension behind a name: a range in Verilog, its number of elements in SystemVerilog.
+#[tactic(auto, using(crate::proofs::PrintLaws::range_parts))]
+fn print_unpacked_range(
+    file_type: VastFileType,
+    dimension: i64,
+    depth: usize,
+    out: &mut Writer,
+) -> Result<(), PrintFault>
+    ensures { Writes (pour depth (Wet out.old) (written (plain_text (unpacked_range (dialect_of file_type) dimension)))) out.new result }
+{
+    match file_type {
+        VastFileType::Verilog => {
+            out.word("[0:")?;
+            print_limit(dimension, out)?;
+        }
+        VastFileType::SystemVerilog => {
+            out.word("[")?;
+            out.number(dimension)?;
+        }
+    }
+    out.word("]")?;
+    Ok(())
+}
+
+#[tactic(auto, using(crate::proofs::PrintLaws::ranges))]
+fn print_unpacked_ranges(
+    file_type: VastFileType,
+    dimensions: &[i64],
+    depth: usize,
+    out: &mut Writer,
+) -> Result<(), PrintFault>
+    ensures { Writes (pour depth (Wet out.old) (written (plain_text (unpacked_ranges (dialect_of file_type) dimensions.now)))) out.new result }
+{
+    for dimension in dimensions.iter() {
+        print_unpacked_range(file_type, *dimension, depth, out)?;
+    }
+    Ok(())
+}
+
+/// Writes the unpacked dimensions of a type, which stand behind the name.
+#[tactic(auto, using(crate::proofs::PrintLaws::unpacked))]
+pub(crate) fn print_dimensions(ast: &Ast, t: VastDataType, depth: usize, out: &mut Writer) -> Result<(), PrintFault>
+    requires { OwnsType (bench ast.now) t }
+    ensures {
+        Writes (pour depth (Wet out.old) (written (plain_text (unpacked_text (dialect_of (bench ast.now).file_type) (type_of (bench ast.now) t))))) out.new result
+    }
+{
+    let file_type = ast.file_type();
+    let mut inner = t;
+    loop {
+        match ast.data_type(inner) {
+            TypeNode::Unpacked(element, dimensions) => {
+                print_unpacked_ranges(file_type, dimensions, depth, out)?;
+                inner = *element;
+            }
+            TypeNode::Packed(element, _) => inner = *element,
+            TypeNode::Scalar(_) => return Ok(()),
+            TypeNode::Vector(_, _, _) => return Ok(()),
+            TypeNode::Integer(_) => return Ok(()),
+            TypeNode::Int(_) => return Ok(()),
+            TypeNode::External(_) => return Ok(()),
+            TypeNode::Package(_, _) => return Ok(()),
+        }
+    }
+}
