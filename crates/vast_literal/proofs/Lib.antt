@@ -9,3 +9,4 @@ pub mod Decimals
 pub mod Formats
 pub mod Accepted
 pub mod LiteralRows
+pub mod TypedDecimals
