@@ -105,7 +105,7 @@ unfolding magnitude_of
 magnitude_ok text number radix digits e h s = rw (e, h, lt-ltb (number_in radix digits) (2 ^ 128) s)
 
 -- the one value that is the number or its opposite modulo 2^n
-opposite_is : (n m v : ℕ) → m ≤ 2 ^ n → v < 2 ^ n → (v + m) % 2 ^ n ≡ 0 → (v + m < 2 ^ n) ⊎ (2 ^ n ≤ v + m) → (2 ^ n - m) % 2 ^ n ≡ v
+pub opposite_is : (n m v : ℕ) → m ≤ 2 ^ n → v < 2 ^ n → (v + m) % 2 ^ n ≡ 0 → (v + m < 2 ^ n) ⊎ (2 ^ n ≤ v + m) → (2 ^ n - m) % 2 ^ n ≡ v
 opposite_is n m v h b s (inl l) =
     let z : v + m ≡ 0 = sym (mod-eq_of_lt l) ∙ s in
     let e : 2 ^ n - m ≡ 2 ^ n = omega arith in

@@ -10,3 +10,4 @@ pub mod Formats
 pub mod Accepted
 pub mod LiteralRows
 pub mod TypedDecimals
+pub mod SpeltOnce
