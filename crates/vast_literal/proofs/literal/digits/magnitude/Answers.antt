@@ -1,6 +1,5 @@
-use Rattle.std.proofs.Common.{arith, ◌∙◌, ap, sym, filter, drop, ◌+◌, ◌*◌, ◌<◌, ◌^◌, subst}
-use Rattle.std.specs.Char.{is_digit}
-use Rattle.vast_literal.proofs.Numbers.{weighted_after-le, one_read, one_skipped, all_read, too_large, number_in-digits}
+use Rattle.std.proofs.Common.{◌∙◌, ap, ◌+◌, ◌*◌, ◌<◌, ◌^◌, subst}
+use Rattle.vast_literal.proofs.Numbers.{one_read, one_skipped, all_read, too_large, number_in-digits}
 use Rattle.vast_literal.proofs.literal.digits.magnitude.Goals.{in-Some+in-Some-appended, in_default}
 use Rattle.vast_literal.proofs.literal.digits.magnitude.Goals as goal
 
