@@ -1,14 +1,13 @@
 -- A text that denotes a literal is accepted.
-use Rattle.std.proofs.Common.{◌≡◌, ◌≢◌, ℕ, ◌+◌, ◌-◌, ◌%◌, ◌^◌, ◌<◌, ◌≤◌, List, [], ◌∷◌, ◌++◌, Bool, true, false, cond, eqb, leb, ltb, refl, sym, ap, ◌∙◌, arith, Option, Some, None, Result, Ok, Err, subst, inl, inr, MatchResult}
-use Rattle.std.specs.Prelude.{◌&&◌, ◌⊎◌, IsErr}
+use Rattle.std.proofs.Common.{◌≡◌, ◌≢◌, ℕ, ◌+◌, ◌-◌, ◌%◌, ◌^◌, ◌<◌, ◌≤◌, List, [], ◌∷◌, ◌++◌, Bool, true, false, cond, eqb, refl, sym, ap, ◌∙◌, arith, Some, None, Result, Ok, Err, inl, inr, MatchResult}
+use Rattle.std.specs.Prelude.{◌⊎◌}
 use Rattle.std.specs.Bool.{MatchBool}
 use Rattle.std.specs.Int.{IsInRange}
-use Rattle.std.specs.List.{list_all, starts_with}
+use Rattle.std.specs.List.{list_all}
 use Rattle.std.specs.Char.{is_ascii_digit}
 use Rattle.std.proofs.Math.Nat.{mod_self, mod-eq_of_lt, add-mod_left}
 use Rattle.std.proofs.lemmas.Bool.{lt-ltb, le-leb, ne_eqb, cases_lt, false≢true}
 use Rattle.std.proofs.lemmas.Bool.Decides.{nat_tests}
-use Rattle.std.proofs.lemmas.Nat.{pow_pos}
 use Rattle.vast_literal.specs.declared.error.VastFault.{VastFault}
 use Rattle.vast_literal.specs.declared.error.VastFault.TheVariants.{Refused, Memory}
 use Rattle.vast_literal.specs.Fault.{OnlyRefusedBy}
@@ -105,7 +104,7 @@ unfolding magnitude_of
 magnitude_ok text number radix digits e h s = rw (e, h, lt-ltb (number_in radix digits) (2 ^ 128) s)
 
 -- the one value that is the number or its opposite modulo 2^n
-opposite_is : (n m v : ℕ) → m ≤ 2 ^ n → v < 2 ^ n → (v + m) % 2 ^ n ≡ 0 → (v + m < 2 ^ n) ⊎ (2 ^ n ≤ v + m) → (2 ^ n - m) % 2 ^ n ≡ v
+pub opposite_is : (n m v : ℕ) → m ≤ 2 ^ n → v < 2 ^ n → (v + m) % 2 ^ n ≡ 0 → (v + m < 2 ^ n) ⊎ (2 ^ n ≤ v + m) → (2 ^ n - m) % 2 ^ n ≡ v
 opposite_is n m v h b s (inl l) =
     let z : v + m ≡ 0 = sym (mod-eq_of_lt l) ∙ s in
     let e : 2 ^ n - m ≡ 2 ^ n = omega arith in

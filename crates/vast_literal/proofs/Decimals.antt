@@ -1,8 +1,7 @@
 -- Decimal texts are written digits.
-use Rattle.std.proofs.Common.{◌≡◌, ◌≢◌, ℕ, zero, suc, ◌+◌, ◌-◌, ◌*◌, ◌/◌, ◌%◌, ◌^◌, ◌<◌, ◌≤◌, List, [], ◌∷◌, ◌++◌, Bool, true, false, cond, not, eqb, leb, ltb, refl, sym, ap, ◌∙◌, length, arith, subst, max, lit≤, lit<, length-append}
-use Rattle.std.specs.Prelude.{◌||◌, ◌&&◌, filter}
+use Rattle.std.proofs.Common.{◌≡◌, ℕ, ◌+◌, ◌*◌, ◌/◌, ◌%◌, ◌^◌, ◌<◌, ◌≤◌, List, [], ◌∷◌, Bool, true, false, not, refl, sym, ap, ◌∙◌, length, arith, max, lit≤, length-append}
 use Rattle.std.specs.List.{list_all, list_any}
-use Rattle.std.specs.Char.{digit_value, is_digit}
+use Rattle.std.specs.Char.{digit_value}
 use Rattle.std.specs.Fmt.{decimal}
 use Rattle.std.specs.Int.{IsInRange}
 use Rattle.std.specs.Int.Digits.{digits_of}

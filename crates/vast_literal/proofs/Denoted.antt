@@ -1,10 +1,10 @@
 -- An accepted text denotes its literal, and a text that denotes one is accepted.
-use Rattle.std.proofs.Common.{◌≡◌, ◌≢◌, ℕ, zero, suc, ◌+◌, ◌-◌, ◌*◌, ◌%◌, ◌^◌, ◌<◌, ◌≤◌, List, [], ◌∷◌, ◌++◌, Bool, true, false, cond, eqb, eqb-true, leb, ltb, refl, sym, ap, ◌∙◌, length, take, drop, arith, append_assoc, Option, Some, None, Result, Ok, Err, subst, ⊎_elim}
-use Rattle.std.specs.Prelude.{◌||◌, ◌&&◌}
+use Rattle.std.proofs.Common.{◌≡◌, ℕ, ◌+◌, ◌-◌, ◌%◌, ◌^◌, ◌<◌, ◌≤◌, List, [], ◌∷◌, ◌++◌, Bool, true, false, eqb, eqb-true, refl, sym, ap, ◌∙◌, length, drop, arith, Option, Some, None, Result, Ok, Err, subst}
+use Rattle.std.specs.Prelude.{◌||◌}
 use Rattle.std.specs.Bool.{MatchBool, if◌then◌else◌}
 use Rattle.std.specs.List.{starts_with}
 use Rattle.std.specs.Option.{option_map}
-use Rattle.std.proofs.lemmas.Bool.{ltb-true, leb-true, cases_Bool}
+use Rattle.std.proofs.lemmas.Bool.{ltb-true, leb-true}
 use Rattle.std.proofs.lemmas.Bool.Decides.{Decides-eqb}
 use Rattle.std.proofs.lemmas.Slice.Eq.{starts_is}
 use Rattle.std.proofs.lemmas.Nat.{pow_pos, mod_below}
@@ -13,7 +13,7 @@ use Rattle.std.proofs.Common.{MatchResult, IfOk}
 use Rattle.vast_literal.specs.declared.error.VastFault.{VastFault}
 use Rattle.vast_literal.specs.Fault.{OnlyRefusedBy}
 use Rattle.vast_literal.specs.Digits.{is_numeral, number_in, weighted}
-use Rattle.vast_literal.specs.Literal.{Bits, split_at, typed_parts, without_sign, has_minus, marked_radix, radix_or_ten, digits_or_all, radix_and_digits, checked, is_decimal, width_of, fits_in, modulo_width, magnitude_of, fitted, value_of_magnitude, value_of, bits_of_value, bits_of_width, bits_of_parts, literal_of}
+use Rattle.vast_literal.specs.Literal.{Bits, split_at, typed_parts, without_sign, has_minus, marked_radix, radix_or_ten, digits_or_all, radix_and_digits, is_decimal, width_of, fits_in, modulo_width, magnitude_of, fitted, value_of_magnitude, value_of, bits_of_value, bits_of_width, bits_of_parts, literal_of}
 use Rattle.vast_literal.specs.Denotes.{IsSign, IsRadixMark, IsModulo, Denotes}
 use Rattle.vast_literal.specs.Denotes.IsSign.{NoSign, PlusSign, MinusSign}
 use Rattle.vast_literal.specs.Denotes.IsRadixMark.{NoMark, LowerHexMark, UpperHexMark, LowerBinaryMark, UpperBinaryMark, LowerOctalMark, UpperOctalMark}

@@ -36,3 +36,5 @@ pub mod StatementsSpelled
 pub mod MembersSpelled
 pub mod FilesSpelled
 pub mod NumberLaws
+pub mod TypedDecimals
+pub mod SpeltOnce

@@ -1,14 +1,13 @@
 -- Worked rows, computed from the definitions.
-use Rattle.std.proofs.Common.{◌≡◌, ℕ, ◌-◌, ◌^◌, List, [], ◌∷◌, refl, Ok, Err}
-use Rattle.std.specs.Prelude.{codes, length}
-use Rattle.std.specs.Fmt.{decimal, digits}
-use Rattle.std.specs.Int.Digits.{digits_of}
+use Rattle.std.proofs.Common.{◌≡◌, ◌-◌, ◌^◌, [], ◌∷◌, refl, Ok, Err}
+use Rattle.std.specs.Prelude.{codes}
+use Rattle.std.specs.Fmt.{digits}
 use Rattle.vast_literal.specs.declared.literal.LiteralFormat.TheVariants.{Binary, Hex, SignedDecimal, UnsizedHex}
-use Rattle.vast_literal.specs.Digits.{is_numeral, digits_in, number_in, lowest_digits, digit_count, separator}
-use Rattle.vast_literal.specs.Literal.{split_at, typed_parts, without_sign, has_minus, radix_and_digits, is_decimal, width_of, fits_in, modulo_width, magnitude_of, fitted, value_of, literal_of, untyped_text, bad_width_text, long_width_text, zero_width_text, wide_text, bad_digits_text, large_magnitude_text, no_fit_text, large_value_text}
+use Rattle.vast_literal.specs.Digits.{is_numeral, digits_in, number_in, lowest_digits, separator}
+use Rattle.vast_literal.specs.Literal.{split_at, typed_parts, without_sign, has_minus, radix_and_digits, is_decimal, width_of, fits_in, modulo_width, magnitude_of, fitted, value_of, literal_of, bad_digits_text, large_value_text}
 use Rattle.vast_literal.specs.LiteralText.{limit_text, limited, taken, is_below_half, signed_text, spelled}
 use Rattle.vast_literal.specs.Pattern.{is_pattern, pattern}
-use Rattle.vast_literal.specs.Quoted.{escaped, quoted, content_of}
+use Rattle.vast_literal.specs.Quoted.{escaped, quoted}
 
 -- minus 256 in 8 bits is 0
 lowest : literal_of (codes "bits[8]:-256") ≡ Ok (record { width = 8; value = 0 })

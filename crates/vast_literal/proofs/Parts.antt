@@ -1,9 +1,8 @@
 -- The parts of a literal's text, as `strip_prefix` and `split_once` find them.
-use Rattle.std.proofs.Common.{◌≡◌, ◌≢◌, ℕ, zero, suc, ◌+◌, ◌<◌, ◌≤◌, List, [], ◌∷◌, ◌++◌, Bool, true, false, eqb, refl, sym, ap, ◌∙◌, length, take, drop, arith, append_assoc, Option, Some, None, MatchOption, Bor, subst, ⊎_elim, lit<, zero-add, length-append, length-drop}
+use Rattle.std.proofs.Common.{◌≡◌, ℕ, zero, suc, ◌+◌, ◌<◌, ◌≤◌, List, [], ◌∷◌, ◌++◌, true, false, eqb, refl, sym, ap, ◌∙◌, length, take, drop, arith, Option, Some, None, MatchOption, Bor, ⊎_elim, lit<, zero-add, length-append, length-drop}
 use Rattle.std.proofs.Math.Nat.{suc-add}
 use Rattle.std.specs.List.{starts_with}
-use Rattle.std.specs.Option.{option_map}
-use Rattle.std.specs.Str.Pattern.{FindsText, FindsTextPrefix, LacksTextAt, StripsPrefix, SplitsAroundMatch}
+use Rattle.std.specs.Str.Pattern.{FindsText, FindsTextPrefix, LacksTextAt, SplitsAroundMatch}
 use Rattle.std.proofs.lemmas.Slice.Eq.{starts_is}
 use Rattle.std.proofs.lemmas.Bool.{cases_Bool}
 use Rattle.std.proofs.lemmas.Bool.Decides.{Decides-eqb}

@@ -1,14 +1,13 @@
 -- A quoted text: what each character adds, that it is one string token, and that undoing its escapes gives the content back.
-use Rattle.std.proofs.Common.{◌≡◌, ℕ, ◌+◌, ◌-◌, ◌*◌, ◌/◌, ◌%◌, ◌<◌, ◌≤◌, List, [], ◌∷◌, ◌++◌, Bool, true, false, cond, not, ◌&&◌, ◌||◌, refl, sym, ap, ◌∙◌, append_assoc, arith, ⊎_elim, eqb, eqb-true, ltb, leb, length, mod-lt, lit<}
+use Rattle.std.proofs.Common.{◌≡◌, ℕ, ◌+◌, ◌-◌, ◌*◌, ◌/◌, ◌%◌, ◌<◌, ◌≤◌, List, [], ◌∷◌, ◌++◌, Bool, true, false, cond, ◌&&◌, refl, sym, ap, ◌∙◌, append_assoc, arith, ⊎_elim, eqb, eqb-true, ltb, leb, length, mod-lt, lit<}
 use Rattle.std.proofs.lemmas.Bool.Decides.{nat_tests}
 use Rattle.std.specs.Prelude.{◌≢◌, ◌⊎◌}
-use Rattle.std.proofs.Common.{inl, inr}
 use Rattle.std.proofs.lemmas.Bool.{le-ltb, lt-ltb, cases_lt, ne_eqb}
 use Rattle.std.specs.Prelude.{encode_utf8}
 use lib.Utf8.{encode, next}
 use Rattle.std.specs.List.{flat_map}
 use Rattle.vast_literal.specs.Quoted.{escaped, octal_escape, quoted, closes, is_string_token, undone, content_of}
-use Rattle.vast_literal.specs.Quoted.Escape.{Outside, Backslash, OneDigit, TwoDigits}
+use Rattle.vast_literal.specs.Quoted.Escape.{Outside}
 use Rattle.std.proofs.lemmas.List.Concat.{flat_map-append}
 use mathlib.Core.List.{append-nil}
 use Rattle.std.specs.Char.{is_ascii_control}

@@ -1,18 +1,15 @@
 -- What `spelled` gives is the text that a format wants.
-use Rattle.std.proofs.Common.{◌≡◌, ◌≢◌, ℕ, zero, suc, ◌+◌, ◌-◌, ◌*◌, ◌/◌, ◌%◌, ◌^◌, ◌<◌, ◌≤◌, List, [], ◌∷◌, ◌++◌, Bool, true, false, cond, not, eqb, eqb-true, leb, ltb, refl, sym, ap, ◌∙◌, length, arith, append_assoc, append-nil, subst, ⊎_elim, max}
-use Rattle.std.specs.Prelude.{◌||◌, ◌&&◌, filter}
-use Rattle.std.specs.List.{list_all, list_any, AllByRecursion}
+use Rattle.std.proofs.Common.{◌≡◌, ◌≢◌, ℕ, zero, suc, ◌+◌, ◌*◌, ◌/◌, ◌%◌, ◌^◌, ◌<◌, ◌≤◌, List, [], ◌∷◌, ◌++◌, Bool, true, false, cond, eqb, eqb-true, leb, refl, sym, ap, ◌∙◌, length, arith}
+use Rattle.std.specs.Prelude.{◌&&◌}
+use Rattle.std.specs.List.{list_all, AllByRecursion}
 use Rattle.std.specs.Char.{digit_value, digit_char, is_digit}
-use Rattle.std.specs.Fmt.{decimal}
-use Rattle.std.specs.Int.Digits.{digits_of, number_from_digits}
-use Rattle.std.proofs.lemmas.Int.Digits.{number_digits_of, number_lt, all_below_base_digits_of, length-digits_of_step, length-digits_of-le}
 use Rattle.std.proofs.Math.Nat.{pow-zero, mod-one, mul-suc, add_comm, mod-eq_of_lt}
 use Rattle.std.proofs.Math.Pow.{pow_mono}
 use Rattle.std.proofs.Common.{inl, inr, ◌⊎◌, lit≤}
-use Rattle.std.proofs.lemmas.Bool.{eqb-false, lt-ltb, ltb-true, ltb-false, le-ltb, cases_lt, cases_Bool}
+use Rattle.std.proofs.lemmas.Bool.{eqb-false, lt-ltb}
 use Rattle.std.proofs.lemmas.Bool.Decides.{nat_tests}
 use Rattle.std.proofs.lemmas.Nat.{mod_below, pow_pos, mod-pow-add}
-use Rattle.vast_literal.specs.Digits.{is_gap, is_digit_or_gap, is_numeral, digits_in, number_in, weighted, lowest_digits, digit_count, characters, separator, grouped}
+use Rattle.vast_literal.specs.Digits.{is_gap, is_digit_or_gap, is_numeral, digits_in, number_in, weighted, lowest_digits, characters, separator, grouped}
 use Rattle.vast_literal.specs.Spells.{is_no_capital, IsWritten, AreFours, IsGrouped}
 use Rattle.vast_literal.specs.Spells.AreFours.{NoGroup, OneGroup}
 use Rattle.vast_literal.proofs.Numbers.{pow-pow, length-lowest_digits}

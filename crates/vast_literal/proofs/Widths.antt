@@ -1,5 +1,5 @@
 -- Numbers below 2^128, and widths below and above 128 bits.
-use Rattle.std.proofs.Common.{◌≡◌, ◌≢◌, ℕ, ◌+◌, ◌-◌, ◌%◌, ◌^◌, ◌<◌, ◌≤◌, Bool, true, false, cond, ltb, leb, refl, sym, ap, ◌∙◌, arith, ⊎_elim, subst, List, Ok}
+use Rattle.std.proofs.Common.{◌≡◌, ℕ, ◌-◌, ◌^◌, ◌<◌, ◌≤◌, Bool, true, false, ltb, sym, arith, ⊎_elim, List, Ok}
 use Rattle.std.proofs.Math.Pow.{pow_mono}
 use Rattle.std.proofs.lemmas.Bool.{lt-ltb, le-leb, leb-true, ltb-true, ltb-false, cases_lt}
 use Rattle.std.proofs.lemmas.Nat.{pow_pos, mod_below}

@@ -1,5 +1,5 @@
 -- Literals: what `bits[N]:value` denotes, and why a text is refused.
-use Rattle.std.specs.Prelude.{◌≡◌, ℕ, ◌+◌, ◌-◌, ◌*◌, ◌/◌, ◌%◌, ◌^◌, ◌<◌, ◌≤◌, List, [], ◌∷◌, ◌++◌, length, drop, Bool, true, false, ◌&&◌, ◌||◌, ◌==◌, nat_lt, nat_le, nat_eq, codes, Option, Some, None, Result, Ok, Err, if◌then◌else◌}
+use Rattle.std.specs.Prelude.{ℕ, ◌-◌, ◌%◌, ◌^◌, ◌<◌, ◌≤◌, List, [], ◌∷◌, ◌++◌, length, drop, Bool, false, ◌&&◌, ◌||◌, ◌==◌, nat_lt, nat_le, nat_eq, codes, Option, Some, None, Result, Ok, Err, if◌then◌else◌}
 use Rattle.std.specs.List.{list_all, starts_with}
 use Rattle.std.specs.Char.{is_ascii_digit}
 use Rattle.std.specs.Option.{option_map}
@@ -46,10 +46,12 @@ marked_radix c =
     (if c == 98 || c == 66 then Some 2 else
     (if c == 111 || c == 79 then Some 8 else None))
 
+-- The radix of a mark, and ten without one.
 abbrev pub radix_or_ten : Option ℕ → ℕ
 radix_or_ten None = 10
 radix_or_ten (Some radix) = radix
 
+-- The digits behind a mark, and all without one.
 abbrev pub digits_or_all : Option ℕ → List ℕ → List ℕ → List ℕ
 digits_or_all None all digits = all
 digits_or_all (Some radix) all digits = digits
@@ -67,30 +69,39 @@ abbrev pub checked : {A : Type 0} → List (Bool × List ℕ) → A → Result A
 checked [] result = Ok result
 checked (check ∷ checks) result = if check.0 then checked checks result else Err check.1
 
+-- The refusal of a text without `bits[` and `]:`.
 unfoldable pub untyped_text : List ℕ → List ℕ
 untyped_text text = codes "expected a typed bits literal, got `" ++ text ++ codes "`"
 
+-- The refusal of a width with other characters than digits.
 unfoldable pub bad_width_text : List ℕ → List ℕ
 bad_width_text text = codes "invalid bit width in literal `" ++ text ++ codes "`"
 
+-- The refusal of a width of 2^64 or more.
 unfoldable pub long_width_text : List ℕ → List ℕ
 long_width_text width = codes "invalid bit width `" ++ width ++ codes "`: number too large to fit in target type"
 
+-- The refusal of no bits.
 unfoldable pub zero_width_text : List ℕ
 zero_width_text = codes "literal bit width must be greater than zero"
 
+-- The refusal of too many bits.
 unfoldable pub wide_text : ℕ → List ℕ
 wide_text n = codes "literal bit width " ++ decimal n ++ codes " exceeds maximum supported width 1048576"
 
+-- The refusal of a value with other characters than digits of its radix, or without any.
 unfoldable pub bad_digits_text : List ℕ → List ℕ
 bad_digits_text text = codes "invalid digits in literal `" ++ text ++ codes "`"
 
+-- The refusal of digits that write 2^128 or more.
 unfoldable pub large_magnitude_text : List ℕ → List ℕ
 large_magnitude_text text = codes "literal `" ++ text ++ codes "` has a magnitude of 2^128 or more"
 
+-- The refusal of a number that needs more bits.
 unfoldable pub no_fit_text : List ℕ → ℕ → List ℕ
 no_fit_text text n = codes "literal `" ++ text ++ codes "` does not fit in " ++ decimal n ++ codes " bits"
 
+-- The refusal of a value of 2^128 or more.
 unfoldable pub large_value_text : List ℕ → List ℕ
 large_value_text text = codes "literal `" ++ text ++ codes "` has a value of 2^128 or more"
 
@@ -130,6 +141,7 @@ fitted text n negative m =
     ∷ (nat_lt (modulo_width n negative m) (2 ^ 128), large_value_text text) ∷ [])
     (modulo_width n negative m)
 
+-- The value of what the digits write, where they are not refused.
 abbrev pub value_of_magnitude : List ℕ → ℕ → Bool → Result ℕ (List ℕ) → Result ℕ (List ℕ)
 value_of_magnitude text n negative (Ok m) = fitted text n negative m
 value_of_magnitude text n negative (Err refusal) = Err refusal
@@ -138,14 +150,17 @@ value_of_magnitude text n negative (Err refusal) = Err refusal
 unfoldable pub value_of : List ℕ → List ℕ → ℕ → Result ℕ (List ℕ)
 value_of text value n = value_of_magnitude text n (has_minus value) (magnitude_of text (without_sign value))
 
+-- The literal of a value, where it is not refused.
 abbrev pub bits_of_value : ℕ → Result ℕ (List ℕ) → Result Bits (List ℕ)
 bits_of_value n (Ok v) = Ok (record { width = n; value = v })
 bits_of_value n (Err refusal) = Err refusal
 
+-- The literal of a width, where it is not refused.
 abbrev pub bits_of_width : List ℕ → List ℕ → Result ℕ (List ℕ) → Result Bits (List ℕ)
 bits_of_width text value (Ok n) = bits_of_value n (value_of text value n)
 bits_of_width text value (Err refusal) = Err refusal
 
+-- The literal of the two parts, where the text has them.
 abbrev pub bits_of_parts : List ℕ → Option (List ℕ × List ℕ) → Result Bits (List ℕ)
 bits_of_parts text None = Err (untyped_text text)
 bits_of_parts text (Some parts) = bits_of_width text parts.1 (width_of text parts.0)

@@ -11,6 +11,7 @@ is_pattern_digit c = c == 48 || c == 49 || c == 63
 unfoldable pub is_pattern : List ℕ → Bool
 is_pattern bits = nat_le 1 (length bits) && nat_le (length bits) 1048576 && list_all is_pattern_digit bits
 
+-- the refusal of any other text
 unfoldable pub pattern_refusal : List ℕ
 pattern_refusal = codes "binary patterns require 1 to 1048576 MSB-first 0, 1, or ? digits"
 

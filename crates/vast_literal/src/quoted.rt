@@ -1,4 +1,4 @@
-//! The text of a string literal: its content between quotes, with escapes (IEEE 1800-2005 section 3.6).
+//! The text of a string literal: its content between quotes, with escapes (as the crate xlsynth-vast writes them).
 
 ghost use Rattle.std.specs.Prelude.{◌≡◌, ◌+◌, ◌<◌, ◌++◌, IsTrue, IfOk, OnOk, string_bytes, encode_utf8};
 ghost use Rattle.std.specs.List.{flat_map};

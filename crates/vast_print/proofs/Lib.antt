@@ -16,3 +16,9 @@ mod Pins
 mod PagePins
 pub mod PieceLaws
 pub mod PrintLaws
+pub mod PrintedTokens
+pub mod SoundLaws
+pub mod OpensLaws
+pub mod Agreement
+pub mod ExprTokens
+pub mod PageTokens

@@ -25,8 +25,8 @@ fn are_digits_or_gaps(digits: &[u8], radix: u32) -> bool
     digits.iter().all(|&byte| is_digit_or_gap(byte, radix))
 }
 
-/// Whether a byte is no underscore.
-fn has_no_gap_only(digits: &[u8]) -> bool
+/// Whether some byte is no underscore.
+fn has_more_than_gaps(digits: &[u8]) -> bool
     ensures { result ≡ list_any (λ c. not (is_gap c)) digits.now }
 {
     digits.iter().any(|&byte| byte != b'_')
@@ -39,11 +39,11 @@ pub fn is_numeral(digits: &[u8], radix: u32) -> bool
     requires high { radix ≤ 36 }
     ensures { result ≡ is_numeral radix digits.now }
 {
-    are_digits_or_gaps(digits, radix) && has_no_gap_only(digits)
+    are_digits_or_gaps(digits, radix) && has_more_than_gaps(digits)
 }
 
 /// A number with one digit more, where it is below 2^128.
-fn appended(number: u128, radix: u32, digit: u32) -> Option<u128>
+fn with_digit(number: u128, radix: u32, digit: u32) -> Option<u128>
     ensures { SomeIff result (number * radix + digit < 2 ^ 128) (number * radix + digit) }
 {
     number
@@ -61,7 +61,7 @@ pub fn magnitude(digits: &[u8], radix: u32) -> Option<u128>
     let mut total: u128 = 0;
     for &byte in digits {
         if let Some(digit) = (byte as char).to_digit(radix) {
-            let Some(more) = appended(total, radix, digit) else {
+            let Some(more) = with_digit(total, radix, digit) else {
                 return None
             };
             total = more;

@@ -1,6 +1,3 @@
-use Rattle.std.proofs.Common.{rules, ◌≡◌, ◌+◌, ◌<◌, ◌++◌, IsTrue, IfOk, OnOk, string_bytes, encode_utf8, ℕ, ◌-◌, ◌*◌, ◌≤◌, length, ◌/◌, ◌%◌, Bool, true, false, nat_eq, nat_lt, List, [], ◌∷◌, slice_index_or, slice_set, bit_and, bit_or, Fits, w8, w32, w64, Bor, MutBor, ap, sym, ◌∙◌}
-use Rattle.std.specs.List.{flat_map}
-use Rattle.vast_literal.specs.Quoted.{escaped, octal_escape, quoted, is_string_token, content_of}
 use Rattle.vast_literal.proofs.QuotedLaws.{one_more, whole, quoted_token, quoted_content}
 use Rattle.vast_literal.proofs.quoted.quoted_text.Goals as goal
 
