@@ -5,6 +5,7 @@
 #![tactic(auto)]
 
 mod artifacts;
+mod expressions;
 mod file;
 mod modules;
 mod types;

@@ -1,0 +1,5 @@
+//! Expressions.
+
+mod arithmetic;
+mod comparisons;
+mod unary;
