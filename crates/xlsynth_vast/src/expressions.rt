@@ -1,5 +1,8 @@
 //! Expressions.
 
 mod arithmetic;
+mod casts;
 mod comparisons;
+mod lists;
+mod selects;
 mod unary;
