@@ -1,2 +1,3 @@
 pub mod Equations
 pub mod Expressions
+pub mod Types

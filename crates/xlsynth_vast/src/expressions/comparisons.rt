@@ -1,11 +1,11 @@
-//! Comparisons and logical signs.
+//! Comparisons, logical signs and the choice between two expressions.
 
 ghost use Rattle.std.specs.Prelude.{◌≡◌};
 ghost use Rattle.vast_literal.specs.Tree.{NeOp, CaseNeOp, EqOp, CaseEqOp, GeOp, GtOp, LeOp, LtOp, LogicalAndOp, LogicalOrOp, NeXOp, EqXOp};
 ghost use Rattle.vast_core.specs.Bench.{OwnsExpr};
 ghost use Rattle.vast_core.specs.Growth.{Builds, next_expr};
 ghost use Rattle.vast_core.specs.View.{bench};
-ghost use Rattle.xlsynth_vast.specs.Expressions.{with_binary};
+ghost use Rattle.xlsynth_vast.specs.Expressions.{with_binary, with_ternary};
 
 use crate::file::VastFile;
 use std::alloc::AllocError;
@@ -154,5 +154,18 @@ impl VastFile {
         ensures { Builds (bench self.old) (bench self.new) result (next_expr (bench self.old)) (with_binary EqXOp lhs.now rhs.now (bench self.old)) }
     {
         self.ast.push_binary(BinaryOperator::EqX, *lhs, *rhs)
+    }
+
+    /// The choice `c ? a : b`.
+    ///
+    /// # Errors
+    /// `AllocError` where a growth was refused; the file is unchanged.
+    pub fn make_ternary(&mut self, condition: &Expr, consequent: &Expr, alternate: &Expr) -> Result<Expr, AllocError>
+        requires condition { OwnsExpr (bench self.old) condition.now }
+        requires consequent { OwnsExpr (bench self.old) consequent.now }
+        requires alternate { OwnsExpr (bench self.old) alternate.now }
+        ensures { Builds (bench self.old) (bench self.new) result (next_expr (bench self.old)) (with_ternary condition.now consequent.now alternate.now (bench self.old)) }
+    {
+        self.ast.push_ternary(*condition, *consequent, *alternate)
     }
 }
