@@ -1,0 +1,9 @@
+pub mod QuotedLaws
+pub mod Numbers
+pub mod Widths
+pub mod Parts
+pub mod ParsedWidths
+pub mod Denoted
+pub mod Spelt
+pub mod Decimals
+pub mod Formats

@@ -2,5 +2,14 @@
 #![tactic(auto)]
 
 mod error;
+mod literal;
+mod pattern;
+mod quoted;
+mod refusal;
+#[cfg(test)]
+mod tests;
 
 pub use error::{VastError, VastFault};
+pub use literal::{Literal, LiteralFormat};
+pub use pattern::pattern_text;
+pub use quoted::quoted_text;

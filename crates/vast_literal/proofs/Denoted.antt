@@ -1,0 +1,186 @@
+-- An accepted text denotes its literal, and a text that denotes one is accepted.
+use Rattle.std.proofs.Common.{◌≡◌, ◌≢◌, ℕ, zero, suc, ◌+◌, ◌-◌, ◌*◌, ◌%◌, ◌^◌, ◌<◌, ◌≤◌, List, [], ◌∷◌, ◌++◌, Bool, true, false, cond, eqb, eqb-true, leb, ltb, refl, sym, ap, ◌∙◌, length, take, drop, arith, append_assoc, Option, Some, None, Result, Ok, Err, subst, ⊎_elim}
+use Rattle.std.specs.Prelude.{◌||◌, ◌&&◌}
+use Rattle.std.specs.Bool.{MatchBool, if◌then◌else◌}
+use Rattle.std.specs.List.{starts_with}
+use Rattle.std.specs.Option.{option_map}
+use Rattle.std.proofs.lemmas.Bool.{ltb-true, leb-true, cases_Bool}
+use Rattle.std.proofs.lemmas.Bool.Decides.{Decides-eqb}
+use Rattle.std.proofs.lemmas.Slice.Eq.{starts_is}
+use Rattle.std.proofs.lemmas.Nat.{pow_pos, mod_below}
+use Rattle.std.proofs.Math.Nat.{mod_self, mod-eq_of_lt, mod-add-mod}
+use Rattle.vast_literal.specs.Digits.{is_numeral, number_in, weighted}
+use Rattle.vast_literal.specs.Literal.{Bits, split_at, typed_parts, without_sign, has_minus, marked_radix, radix_or_ten, digits_or_all, radix_and_digits, checked, is_decimal, width_of, fits_in, modulo_width, magnitude_of, fitted, value_of_magnitude, value_of, bits_of_value, bits_of_width, bits_of_parts, literal_of}
+use Rattle.vast_literal.specs.Denotes.{IsSign, IsRadixMark, IsModulo, Denotes}
+use Rattle.vast_literal.specs.Denotes.IsSign.{NoSign, PlusSign, MinusSign}
+use Rattle.vast_literal.specs.Denotes.IsRadixMark.{NoMark, LowerHexMark, UpperHexMark, LowerBinaryMark, UpperBinaryMark, LowerOctalMark, UpperOctalMark}
+
+-- a check that passed, where the result is there
+passed : (b : Bool) (r : Result ℕ (List ℕ)) (t : List ℕ) (x : ℕ) → (if b then r else Err t) ≡ Ok x → (b ≡ true) × (r ≡ Ok x)
+passed true r t x h = (refl, h)
+passed false r t x h = cc
+
+some_parts : {A : Type 0} (x y : A) → Some x ≡ Some y → x ≡ y
+some_parts x y h = cc
+
+ok_parts : {A : Type 0} (x y : A) (r : Result A (List ℕ)) → r ≡ Ok x → r ≡ Ok y → x ≡ y
+ok_parts x y r e h = cc
+
+-- what stands on the sides of a mark
+split_step : (mark : List ℕ) (c : ℕ) (cs : List ℕ) (b : Bool) (r : Option (List ℕ × List ℕ)) (parts : List ℕ × List ℕ) → (b ≡ true → c ∷ cs ≡ mark ++ drop (length mark) (c ∷ cs))
+    → ((q : List ℕ × List ℕ) → r ≡ Some q → cs ≡ q.0 ++ (mark ++ q.1)) → (if b then Some ([], drop (length mark) (c ∷ cs)) else option_map (λ p. (c ∷ p.0, p.1)) r) ≡ Some parts → c ∷ cs ≡ parts.0 ++ (mark ++ parts.1)
+split_step mark c cs true r parts f g h = rw (← some_parts _ _ h) (f refl)
+split_step mark c cs false None parts f g h = cc
+split_step mark c cs false (Some q) parts f g h = rw (← some_parts _ _ h) (ap (λ t. c ∷ t) (g q refl))
+
+split_at-parts : (mark text : List ℕ) (parts : List ℕ × List ℕ) → split_at mark text ≡ Some parts → text ≡ parts.0 ++ (mark ++ parts.1)
+unfolding split_at
+split_at-parts mark [] parts h = cc
+split_at-parts mark (c ∷ cs) parts h =
+    split_step mark c cs (starts_with eqb (c ∷ cs) mark) (split_at mark cs) parts (λ e. (starts_is Decides-eqb (c ∷ cs) mark _ refl).0 e) (λ q e. split_at-parts mark cs q e) h
+
+typed_step : (text : List ℕ) (b : Bool) (parts : List ℕ × List ℕ) → (b ≡ true → text ≡ 98 ∷ 105 ∷ 116 ∷ 115 ∷ 91 ∷ drop 5 text) → (if b then split_at (93 ∷ 58 ∷ []) (drop 5 text) else None) ≡ Some parts
+    → text ≡ 98 ∷ 105 ∷ 116 ∷ 115 ∷ 91 ∷ (parts.0 ++ (93 ∷ 58 ∷ parts.1))
+typed_step text true parts f h = f refl ∙ ap (λ t. 98 ∷ 105 ∷ 116 ∷ 115 ∷ 91 ∷ t) (split_at-parts (93 ∷ 58 ∷ []) (drop 5 text) parts h)
+typed_step text false parts f h = cc
+
+typed_parts-text : (text : List ℕ) (parts : List ℕ × List ℕ) → typed_parts text ≡ Some parts → text ≡ 98 ∷ 105 ∷ 116 ∷ 115 ∷ 91 ∷ (parts.0 ++ (93 ∷ 58 ∷ parts.1))
+unfolding typed_parts
+typed_parts-text text parts h = typed_step text (starts_with eqb text (98 ∷ 105 ∷ 116 ∷ 115 ∷ 91 ∷ [])) parts (λ e. (starts_is Decides-eqb text (98 ∷ 105 ∷ 116 ∷ 115 ∷ 91 ∷ []) _ refl).0 e) h
+
+-- the sign that a number begins with
+sign_cases : (c : ℕ) (cs : List ℕ) (m p : Bool) → eqb c 45 ≡ m → eqb c 43 ≡ p → (sign : List ℕ) × IsSign sign m × (c ∷ cs ≡ sign ++ (if m || p then cs else c ∷ cs))
+sign_cases c cs true p e f = (45 ∷ [], MinusSign, ap (λ d. d ∷ cs) (eqb-true c 45 e))
+sign_cases c cs false true e f = (43 ∷ [], PlusSign, ap (λ d. d ∷ cs) (eqb-true c 43 f))
+sign_cases c cs false false e f = ([], NoSign, refl)
+
+sign_of : (value : List ℕ) → (sign : List ℕ) × IsSign sign (has_minus value) × (value ≡ sign ++ without_sign value)
+unfolding has_minus without_sign
+sign_of [] = ([], NoSign, refl)
+sign_of (c ∷ cs) = sign_cases c cs (eqb c 45) (eqb c 43) refl refl
+
+-- the mark that a number without a sign begins with
+two : (z m : ℕ) (y n : ℕ) (ds : List ℕ) → eqb z y ≡ true → eqb m n ≡ true → z ∷ m ∷ ds ≡ y ∷ n ∷ ds
+two z m y n ds e f = ap (λ a. a ∷ m ∷ ds) (eqb-true z y e) ∙ ap (λ b. y ∷ b ∷ ds) (eqb-true m n f)
+
+mark_cases : (z m : ℕ) (ds : List ℕ) (x X b B o O : Bool) → eqb z 48 ≡ true → eqb m 120 ≡ x → eqb m 88 ≡ X → eqb m 98 ≡ b → eqb m 66 ≡ B → eqb m 111 ≡ o → eqb m 79 ≡ O →
+    (mark : List ℕ) × IsRadixMark mark (radix_or_ten (if x || X then Some 16 else (if b || B then Some 2 else (if o || O then Some 8 else None))))
+    × (z ∷ m ∷ ds ≡ mark ++ digits_or_all (if x || X then Some 16 else (if b || B then Some 2 else (if o || O then Some 8 else None))) (z ∷ m ∷ ds) ds)
+mark_cases z m ds true X b B o O e e1 e2 e3 e4 e5 e6 = (48 ∷ 120 ∷ [], LowerHexMark, two z m 48 120 ds e e1)
+mark_cases z m ds false true b B o O e e1 e2 e3 e4 e5 e6 = (48 ∷ 88 ∷ [], UpperHexMark, two z m 48 88 ds e e2)
+mark_cases z m ds false false true B o O e e1 e2 e3 e4 e5 e6 = (48 ∷ 98 ∷ [], LowerBinaryMark, two z m 48 98 ds e e3)
+mark_cases z m ds false false false true o O e e1 e2 e3 e4 e5 e6 = (48 ∷ 66 ∷ [], UpperBinaryMark, two z m 48 66 ds e e4)
+mark_cases z m ds false false false false true O e e1 e2 e3 e4 e5 e6 = (48 ∷ 111 ∷ [], LowerOctalMark, two z m 48 111 ds e e5)
+mark_cases z m ds false false false false false true e e1 e2 e3 e4 e5 e6 = (48 ∷ 79 ∷ [], UpperOctalMark, two z m 48 79 ds e e6)
+mark_cases z m ds false false false false false false e e1 e2 e3 e4 e5 e6 = ([], NoMark, refl)
+
+zero_cases : (z m : ℕ) (ds : List ℕ) (b : Bool) → eqb z 48 ≡ b → let parts : ℕ × List ℕ = if b then (radix_or_ten (marked_radix m), digits_or_all (marked_radix m) (z ∷ m ∷ ds) ds) else (10, z ∷ m ∷ ds) in
+    (mark : List ℕ) × IsRadixMark mark parts.0 × (z ∷ m ∷ ds ≡ mark ++ parts.1)
+zero_cases z m ds true e = mark_cases z m ds (eqb m 120) (eqb m 88) (eqb m 98) (eqb m 66) (eqb m 111) (eqb m 79) e refl refl refl refl refl refl
+zero_cases z m ds false e = ([], NoMark, refl)
+
+mark_of : (number : List ℕ) → (mark : List ℕ) × IsRadixMark mark (radix_and_digits number).0 × (number ≡ mark ++ (radix_and_digits number).1)
+unfolding radix_and_digits
+mark_of [] = ([], NoMark, refl)
+mark_of (z ∷ []) = ([], NoMark, refl)
+mark_of (z ∷ m ∷ ds) = zero_cases z m ds (eqb z 48) refl
+
+-- what the checks say
+width_facts : (text w : List ℕ) (n : ℕ) → width_of text w ≡ Ok n → (is_decimal w ≡ true) × (n ≡ weighted 10 w) × (1 ≤ n) × (n ≤ 1048576)
+unfolding width_of
+width_facts text w n h =
+    let a = passed _ _ _ n h in
+    let b = passed _ _ _ n a.1 in
+    let c = passed _ _ _ n b.1 in
+    let d = passed _ _ _ n c.1 in
+    let e : weighted 10 w ≡ n = ok_parts _ _ _ refl d.1 in
+    let low = leb-true 1 (weighted 10 w) c.0 in
+    let high = leb-true (weighted 10 w) 1048576 d.0 in
+    (a.0, sym e, omega arith, omega arith)
+
+magnitude_facts : (text number : List ℕ) (m : ℕ) → magnitude_of text number ≡ Ok m → (is_numeral (radix_and_digits number).0 (radix_and_digits number).1 ≡ true) × (number_in (radix_and_digits number).0 (radix_and_digits number).1 ≡ m) × (m < 2 ^ 128)
+unfolding magnitude_of
+magnitude_facts text number m h =
+    let a = passed _ _ _ m h in
+    let b = passed _ _ _ m a.1 in
+    let e = ok_parts _ _ _ refl b.1 in
+    (a.0, e, subst (λ k. k < 2 ^ 128) e (ltb-true _ (2 ^ 128) b.0))
+
+fits_facts : (n : ℕ) (negative : Bool) (m : ℕ) → fits_in n negative m ≡ true → MatchBool negative (m ≤ 2 ^ n) (m < 2 ^ n)
+unfolding fits_in
+fits_facts n true m h = leb-true m (2 ^ n) h
+fits_facts n false m h = ltb-true m (2 ^ n) h
+
+opposite : (n m : ℕ) → m ≤ 2 ^ n → ((2 ^ n - m) % 2 ^ n + m) % 2 ^ n ≡ 0
+opposite n m h = mod-add-mod (2 ^ n - m) (2 ^ n) m ∙ ap (λ k. k % 2 ^ n) (let e : 2 ^ n - m + m ≡ 2 ^ n = omega arith in e) ∙ mod_self (2 ^ n)
+
+is_modulo : (n : ℕ) (negative : Bool) (m : ℕ) → MatchBool negative (m ≤ 2 ^ n) (m < 2 ^ n) → IsModulo n negative m (modulo_width n negative m)
+unfolding modulo_width
+is_modulo n true m h = record { below = mod_below (2 ^ n - m) (2 ^ n) (pow_pos n); same = opposite n m h }
+is_modulo n false m h = record { below = h; same = sym (mod-eq_of_lt h) }
+
+fitted_facts : (text : List ℕ) (n : ℕ) (negative : Bool) (m v : ℕ) → fitted text n negative m ≡ Ok v → MatchBool negative (m ≤ 2 ^ n) (m < 2 ^ n) × IsModulo n negative m v × (v < 2 ^ 128)
+unfolding fitted
+fitted_facts text n negative m v h =
+    let a = passed _ _ _ v h in
+    let b = passed _ _ _ v a.1 in
+    let e = ok_parts _ _ _ refl b.1 in
+    let f = fits_facts n negative m a.0 in
+    (f, subst (IsModulo n negative m) e (is_modulo n negative m f), subst (λ k. k < 2 ^ 128) e (ltb-true _ (2 ^ 128) b.0))
+
+-- each step of the reading, where it answers
+value_facts : (text : List ℕ) (n : ℕ) (negative : Bool) (r : Result ℕ (List ℕ)) (v : ℕ) → value_of_magnitude text n negative r ≡ Ok v → (m : ℕ) × (r ≡ Ok m) × (fitted text n negative m ≡ Ok v)
+value_facts text n negative (Ok m) v h = (m, refl, h)
+value_facts text n negative (Err t) v h = cc
+
+bits_value : (n : ℕ) (r : Result ℕ (List ℕ)) (bits : Bits) → bits_of_value n r ≡ Ok bits → (v : ℕ) × (r ≡ Ok v) × (bits ≡ record { width = n; value = v })
+bits_value n (Ok v) bits h = (v, refl, sym (ok_parts _ _ _ refl h))
+bits_value n (Err t) bits h = cc
+
+bits_width : (text value : List ℕ) (r : Result ℕ (List ℕ)) (bits : Bits) → bits_of_width text value r ≡ Ok bits → (n : ℕ) × (r ≡ Ok n) × (bits_of_value n (value_of text value n) ≡ Ok bits)
+bits_width text value (Ok n) bits h = (n, refl, h)
+bits_width text value (Err t) bits h = cc
+
+bits_parts : (text : List ℕ) (r : Option (List ℕ × List ℕ)) (bits : Bits) → bits_of_parts text r ≡ Ok bits → (parts : List ℕ × List ℕ) × (r ≡ Some parts) × (bits_of_width text parts.1 (width_of text parts.0) ≡ Ok bits)
+bits_parts text None bits h = cc
+bits_parts text (Some parts) bits h = (parts, refl, h)
+
+whole_text : (text w value sign number mark digits : List ℕ) → text ≡ 98 ∷ 105 ∷ 116 ∷ 115 ∷ 91 ∷ (w ++ (93 ∷ 58 ∷ value)) → value ≡ sign ++ number → number ≡ mark ++ digits
+    → text ≡ 98 ∷ 105 ∷ 116 ∷ 115 ∷ 91 ∷ (w ++ (93 ∷ 58 ∷ (sign ++ (mark ++ digits))))
+whole_text text w value sign number mark digits h e f = h ∙ ap (λ t. 98 ∷ 105 ∷ 116 ∷ 115 ∷ 91 ∷ (w ++ (93 ∷ 58 ∷ t))) (e ∙ ap (λ t. sign ++ t) f)
+
+pub denoted : (text : List ℕ) (bits : Bits) → literal_of text ≡ Ok bits → Denotes text bits
+unfolding literal_of value_of
+denoted text bits h =
+    let p = bits_parts text (typed_parts text) bits h in
+    let w = bits_width text p.0.1 (width_of text p.0.0) bits p.2 in
+    let n = w.0 in
+    let b = bits_value n (value_of text p.0.1 n) bits w.2 in
+    let v = value_facts text n (has_minus p.0.1) (magnitude_of text (without_sign p.0.1)) b.0 b.1 in
+    let facts_w = width_facts text p.0.0 n w.1 in
+    let facts_m = magnitude_facts text (without_sign p.0.1) v.0 v.1 in
+    let facts_v = fitted_facts text n (has_minus p.0.1) v.0 b.0 v.2 in
+    let sign = sign_of p.0.1 in
+    let mark = mark_of (without_sign p.0.1) in
+    let digits = (radix_and_digits (without_sign p.0.1)).1 in
+    let all : Denotes text (record { width = n; value = b.0 }) = record {
+      width_text = p.0.0;
+      sign = sign.0;
+      mark = mark.0;
+      digits = digits;
+      negative = has_minus p.0.1;
+      radix = (radix_and_digits (without_sign p.0.1)).0;
+      parts = whole_text text p.0.0 p.0.1 sign.0 (without_sign p.0.1) mark.0 digits (typed_parts-text text p.0 p.1) sign.2 mark.2;
+      decimal_width = facts_w.0;
+      width = facts_w.1;
+      positive = facts_w.2;
+      narrow = facts_w.3;
+      is_sign = sign.1;
+      is_mark = mark.1;
+      numeral = facts_m.0;
+      small_magnitude = rw facts_m.1 facts_m.2;
+      fits = rw facts_m.1 facts_v.0;
+      value = rw facts_m.1 facts_v.1;
+      small = facts_v.2;
+    } in
+    subst (Denotes text) (sym b.2) all

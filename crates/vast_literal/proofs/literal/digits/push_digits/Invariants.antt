@@ -1,0 +1,7 @@
+use Rattle.std.proofs.Common.{◌≡◌, ◌^◌, ◌++◌, string_bytes}
+use Rattle.vast_literal.specs.Digits.{characters, lowest_digits}
+use Rattle.vast_literal.proofs.literal.digits.push_digits.Given as goal
+
+-- the text so far, with the digits that are left, is the old text with all digits
+abbrev pub invariant-loop-place : goal.invariant-loop-place
+invariant-loop-place l = string_bytes l.text ++ characters (lowest_digits (2 ^ l.digit_bits) l.place l.value) ≡ string_bytes l.initial.text ++ characters (lowest_digits (2 ^ l.digit_bits) l.count l.value)

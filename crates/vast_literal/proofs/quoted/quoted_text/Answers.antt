@@ -1,0 +1,17 @@
+use Rattle.std.proofs.Common.{rules, ◌≡◌, ◌+◌, ◌<◌, ◌++◌, IsTrue, IfOk, OnOk, string_bytes, encode_utf8, ℕ, ◌-◌, ◌*◌, ◌≤◌, length, ◌/◌, ◌%◌, Bool, true, false, nat_eq, nat_lt, List, [], ◌∷◌, slice_index_or, slice_set, bit_and, bit_or, Fits, w8, w32, w64, Bor, MutBor, ap, sym, ◌∙◌}
+use Rattle.std.specs.List.{flat_map}
+use Rattle.vast_literal.specs.Quoted.{escaped, octal_escape, quoted, is_string_token, content_of}
+use Rattle.vast_literal.proofs.QuotedLaws.{one_more, whole, quoted_token, quoted_content}
+use Rattle.vast_literal.proofs.quoted.quoted_text.Goals as goal
+
+pub loop-character-preserved : goal.loop-character-preserved
+loop-character-preserved c = one_more _ _ _ _ _ _ c.loop-character.invariant c.in-Some.ensures.steps.0 (c.in_ok-push_escaped.ensures)
+
+pub returns-clause-text : goal.returns-clause-text
+returns-clause-text c = whole _ _ _ _ c.loop-character.invariant c.in-None.ensures.steps.0.0 c.in_ok-push.ensures.bytes
+
+pub returns-clause-token : goal.returns-clause-token
+returns-clause-token c = rw (returns-clause-text c) (quoted_token _)
+
+pub returns-clause-undone : goal.returns-clause-undone
+returns-clause-undone c = rw (returns-clause-text c) (quoted_content _)

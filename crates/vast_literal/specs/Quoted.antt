@@ -1,0 +1,58 @@
+-- String literals: a content between quotes, with escapes.
+use Rattle.std.specs.Prelude.{ℕ, ◌+◌, ◌*◌, ◌-◌, ◌/◌, ◌%◌, List, [], ◌∷◌, ◌++◌, length, Bool, true, false, not, ◌&&◌, ◌||◌, ◌==◌, nat_lt, nat_le, if◌then◌else◌}
+use Rattle.std.specs.Char.{is_ascii_control}
+use Rattle.std.specs.List.{flat_map}
+
+-- A backslash and three digits in base eight.
+abbrev pub octal_escape : ℕ → List ℕ
+octal_escape c = 92 ∷ (48 + c / 64) ∷ (48 + c / 8 % 8) ∷ (48 + c % 8) ∷ []
+
+-- A byte as a string literal holds it.
+unfoldable pub escaped : ℕ → List ℕ
+escaped c =
+    if c == 34 then 92 ∷ 34 ∷ [] else
+    (if c == 92 then 92 ∷ 92 ∷ [] else
+    (if c == 10 then 92 ∷ 110 ∷ [] else
+    (if c == 13 then 92 ∷ 114 ∷ [] else
+    (if c == 9 then 92 ∷ 116 ∷ [] else
+    (if is_ascii_control c then octal_escape c else c ∷ [])))))
+
+-- The content between quotes.
+unfoldable pub quoted : List ℕ → List ℕ
+quoted content = 34 ∷ (flat_map escaped content ++ 34 ∷ [])
+
+-- Behind the opening quote stand characters other than quote, backslash and line break, or a backslash with any but
+-- a line break, up to the quote that ends the text. The flag says that a backslash stands before.
+abbrev pub closes : Bool → List ℕ → Bool
+closes behind [] = false
+closes true (c ∷ cs) = not (c == 10) && closes false cs
+closes false (c ∷ cs) = if c == 34 then length cs == 0 else (not (c == 10) && closes (c == 92) cs)
+
+-- The text is one string token.
+unfoldable pub is_string_token : List ℕ → Bool
+is_string_token [] = false
+is_string_token (c ∷ cs) = c == 34 && closes false cs
+
+-- How far an escape was read: not begun, the backslash, and the number of one or two digits.
+pub data Escape : Type 0 where
+  Outside : Escape
+  Backslash : Escape
+  OneDigit : ℕ → Escape
+  TwoDigits : ℕ → Escape
+
+-- What a letter means behind a backslash.
+abbrev pub letter_meaning : ℕ → ℕ
+letter_meaning c = if c == 110 then 10 else (if c == 114 then 13 else (if c == 116 then 9 else c))
+
+-- The escapes undone, up to the closing quote.
+abbrev pub undone : Escape → List ℕ → List ℕ
+undone escape [] = []
+undone Outside (c ∷ cs) = if c == 34 then [] else (if c == 92 then undone Backslash cs else c ∷ undone Outside cs)
+undone Backslash (c ∷ cs) = if nat_le 48 c && nat_lt c 56 then undone (OneDigit (c - 48)) cs else letter_meaning c ∷ undone Outside cs
+undone (OneDigit n) (c ∷ cs) = undone (TwoDigits (8 * n + (c - 48))) cs
+undone (TwoDigits n) (c ∷ cs) = (8 * n + (c - 48)) ∷ undone Outside cs
+
+-- What a string token stands for: what follows its opening quote, with the escapes undone.
+unfoldable pub content_of : List ℕ → List ℕ
+content_of [] = []
+content_of (c ∷ cs) = undone Outside cs
