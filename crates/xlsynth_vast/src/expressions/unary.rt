@@ -20,7 +20,7 @@ impl VastFile {
         requires { OwnsExpr (bench self.old) expression.now }
         ensures { Builds (bench self.old) (bench self.new) result (next_expr (bench self.old)) (with_unary BitwiseNotOp expression.now (bench self.old)) }
     {
-        self.ast.push_unary(UnaryOperator::BitwiseNot, *expression)
+        self.make_bitwise_not(expression)
     }
 
     /// The bitwise complement `~a`.
