@@ -2,7 +2,7 @@
 
 ghost use Rattle.std.specs.Prelude.{◌≡◌, ◌≤ℤ◌, pos, IsTrue, All};
 ghost use Rattle.vast_core.specs.Kinds.{unary_of, binary_of};
-ghost use Rattle.vast_core.specs.Handles.{indexable_expr_to_expr, expr_to_indexable_expr};
+ghost use Rattle.vast_core.specs.Handles.{indexable_expr_to_expr};
 ghost use Rattle.vast_core.specs.Nodes.{ExprChildrenHold, OptionHolds, expr_tree};
 ghost use Rattle.vast_core.specs.Types.{is_castable};
 ghost use Rattle.vast_core.specs.Bench.{OwnsExpr, OwnsIndexable, OwnsType, tree_of, type_of, maybe_tree_of, trees_of};
@@ -303,13 +303,5 @@ impl Ast {
         let name = String::from_str(self.alloc, name)?;
         let parts = Vec::from_slice(self.alloc, parts)?;
         self.push_expr(ExprNode::Call(name, parts))
-    }
-
-    /// The same node as an expression that may be selected from.
-    pub fn indexable(&self, e: Expr) -> IndexableExpr
-        requires { OwnsExpr (bench self.now) e }
-        ensures { result ≡ expr_to_indexable_expr e }
-    {
-        IndexableExpr { id: e.id }
     }
 }
