@@ -12,37 +12,38 @@ use Rattle.vast_core.specs.Growth.{with_expr, with_bounds, with_fixed_index, wit
 use Rattle.vast_core.proofs.Laws.{next_owned, next_tree, old_owned, old_tree}
 
 index-built :
-  (b : Bench) (s : IndexableExpr) (text : List ℕ) (v : ℤ) → OwnsIndexable b s →
-  with_expr (with_expr b (known_literal text v)) (IndexTree (tree_of (with_expr b (known_literal text v)) (indexable_expr_to_expr s)) (tree_of (with_expr b (known_literal text v)) (next_expr b))) ≡ with_fixed_index s text v b
+    (b : Bench) (s : IndexableExpr) (text : List ℕ) (v : ℤ) → OwnsIndexable b s →
+    with_expr (with_expr b (known_literal text v)) (IndexTree (tree_of (with_expr b (known_literal text v)) (indexable_expr_to_expr s)) (tree_of (with_expr b (known_literal text v)) (next_expr b))) ≡ with_fixed_index s text v b
 index-built b s text v h =
-  rw (old_tree b (ExprRoot (known_literal text v)) (indexable_expr_to_expr s) h, next_tree b (known_literal text v)) refl
+    rw (old_tree b (ExprRoot (known_literal text v)) (indexable_expr_to_expr s) h, next_tree b (known_literal text v)) refl
 
 pub fixed-index :
-  (a b b1 b2 : Bench) (s : IndexableExpr) (text t : List ℕ) (v w : ℤ) (i e x : Expr) → OwnsIndexable a s → b ≡ a → t ≡ text → w ≡ v →
-  i ≡ next_expr b → b1 ≡ with_expr b (LiteralTree t (Some w)) → e ≡ indexable_expr_to_expr s →
-  x ≡ next_expr b1 → b2 ≡ with_expr b1 (IndexTree (tree_of b1 e) (tree_of b1 i)) →
-  (record { id = x.id } ≡ next_fixed_index text v a) × (b2 ≡ with_fixed_index s text v a)
+    (a b b1 b2 : Bench) (s : IndexableExpr) (text t : List ℕ) (v w : ℤ) (i e x : Expr) → OwnsIndexable a s → b ≡ a → t ≡ text → w ≡ v →
+    i ≡ next_expr b → b1 ≡ with_expr b (LiteralTree t (Some w)) → e ≡ indexable_expr_to_expr s →
+    x ≡ next_expr b1 → b2 ≡ with_expr b1 (IndexTree (tree_of b1 e) (tree_of b1 i)) →
+    (record { id = x.id } ≡ next_fixed_index text v a) × (b2 ≡ with_fixed_index s text v a)
 fixed-index a b b1 b2 s text t v w i e x h p q o j k l m n =
-  rw (n, m, l, k, j, p, q, o) (refl, index-built a s text v h)
+    rw (n, m, l, k, j, p, q, o) (refl, index-built a s text v h)
 
 slice-built :
-  (b : Bench) (s : IndexableExpr) (text1 : List ℕ) (v1 : ℤ) (text2 : List ℕ) (v2 : ℤ) → OwnsIndexable b s →
-  with_expr (with_bounds text1 v1 text2 v2 b)
+    (b : Bench) (s : IndexableExpr) (text1 : List ℕ) (v1 : ℤ) (text2 : List ℕ) (v2 : ℤ) → OwnsIndexable b s →
+    with_expr (with_bounds text1 v1 text2 v2 b)
     (SliceTree (tree_of (with_bounds text1 v1 text2 v2 b) (indexable_expr_to_expr s)) (tree_of (with_bounds text1 v1 text2 v2 b) (next_expr b)) (tree_of (with_bounds text1 v1 text2 v2 b) (next_expr (with_expr b (known_literal text1 v1)))))
-  ≡ with_fixed_slice s text1 v1 text2 v2 b
+    ≡ with_fixed_slice s text1 v1 text2 v2 b
 slice-built b s text1 v1 text2 v2 h =
-  let b1 : Bench = with_expr b (known_literal text1 v1) in
-  rw ( old_tree b1 (ExprRoot (known_literal text2 v2)) (indexable_expr_to_expr s) (old_owned b (ExprRoot (known_literal text1 v1)) (indexable_expr_to_expr s) h)
-     , old_tree b (ExprRoot (known_literal text1 v1)) (indexable_expr_to_expr s) h
-     , old_tree b1 (ExprRoot (known_literal text2 v2)) (next_expr b) (next_owned b (known_literal text1 v1))
-     , next_tree b (known_literal text1 v1)
-     , next_tree b1 (known_literal text2 v2)
-     ) refl
+    let b1 : Bench = with_expr b (known_literal text1 v1) in
+    rw (
+      old_tree b1 (ExprRoot (known_literal text2 v2)) (indexable_expr_to_expr s) (old_owned b (ExprRoot (known_literal text1 v1)) (indexable_expr_to_expr s) h),
+      old_tree b (ExprRoot (known_literal text1 v1)) (indexable_expr_to_expr s) h,
+      old_tree b1 (ExprRoot (known_literal text2 v2)) (next_expr b) (next_owned b (known_literal text1 v1)),
+      next_tree b (known_literal text1 v1),
+      next_tree b1 (known_literal text2 v2),
+    ) refl
 
 pub fixed-slice :
-  (a b b1 b2 b3 : Bench) (s : IndexableExpr) (text1 t1 : List ℕ) (v1 w1 : ℤ) (text2 t2 : List ℕ) (v2 w2 : ℤ) (i j e x : Expr) → OwnsIndexable a s → b ≡ a → t1 ≡ text1 → t2 ≡ text2 → w1 ≡ v1 → w2 ≡ v2 →
-  i ≡ next_expr b → b1 ≡ with_expr b (LiteralTree t1 (Some w1)) → j ≡ next_expr b1 → b2 ≡ with_expr b1 (LiteralTree t2 (Some w2)) → e ≡ indexable_expr_to_expr s →
-  x ≡ next_expr b2 → b3 ≡ with_expr b2 (SliceTree (tree_of b2 e) (tree_of b2 i) (tree_of b2 j)) →
-  (record { id = x.id } ≡ next_fixed_slice text1 v1 text2 v2 a) × (b3 ≡ with_fixed_slice s text1 v1 text2 v2 a)
+    (a b b1 b2 b3 : Bench) (s : IndexableExpr) (text1 t1 : List ℕ) (v1 w1 : ℤ) (text2 t2 : List ℕ) (v2 w2 : ℤ) (i j e x : Expr) → OwnsIndexable a s → b ≡ a → t1 ≡ text1 → t2 ≡ text2 → w1 ≡ v1 → w2 ≡ v2 →
+    i ≡ next_expr b → b1 ≡ with_expr b (LiteralTree t1 (Some w1)) → j ≡ next_expr b1 → b2 ≡ with_expr b1 (LiteralTree t2 (Some w2)) → e ≡ indexable_expr_to_expr s →
+    x ≡ next_expr b2 → b3 ≡ with_expr b2 (SliceTree (tree_of b2 e) (tree_of b2 i) (tree_of b2 j)) →
+    (record { id = x.id } ≡ next_fixed_slice text1 v1 text2 v2 a) × (b3 ≡ with_fixed_slice s text1 v1 text2 v2 a)
 fixed-slice a b b1 b2 b3 s text1 t1 v1 w1 text2 t2 v2 w2 i j e x h p q1 q2 o1 o2 k1 k2 k3 k4 k5 k6 k7 =
-  rw (k7, k6, k5, k4, k3, k2, k1, p, q1, q2, o1, o2) (refl, slice-built a s text1 v1 text2 v2 h)
+    rw (k7, k6, k5, k4, k3, k2, k1, p, q1, q2, o1, o2) (refl, slice-built a s text1 v1 text2 v2 h)

@@ -14,7 +14,7 @@ use Rattle.vast_core.specs.declared.node.Module.{Module}
 use Rattle.vast_core.specs.declared.node.FileItem.{FileItem}
 use Rattle.vast_core.specs.declared.node.Assignment.{Assignment}
 use Rattle.vast_core.specs.Raw.{Raw}
-use Rattle.vast_core.specs.Nodes.{Root, ExprRoot, no_nodes, built, TermsSound, ChildrenHold, term_root}
+use Rattle.vast_core.specs.Nodes.{Root, ExprRoot, no_nodes, built, TermsSound, ChildrenHold, RootFits, term_root}
 use Rattle.vast_core.specs.Records.{PortRecord, ModuleRecord, MemberEntry, FileEntry, ModuleEntry, port_record, module_record, file_entry, new_module, changed_at, with_port as with_listed_port, with_member as with_listed_member}
 use Rattle.vast_core.specs.Bench.{Bench, type_of, OwnsExpr, OwnsType, OwnsPort, OwnsModule, OwnsContinuous}
 use Rattle.vast_core.specs.View.{bench, room}
@@ -43,14 +43,14 @@ bench-term : (a : Raw) (t : Term) (r : ℕ) → bench (record a { terms = a.term
 unfolding bench
 bench-term a t r = rw (built-push (no_nodes a.id) a.terms t) refl
 
-terms-term : (a : Raw) (t : Term) → TermsSound (no_nodes a.id) a.terms → ChildrenHold (OwnsExpr (bench a)) (OwnsType (bench a)) t → TermsSound (no_nodes a.id) (a.terms ++ t ∷ [])
+terms-term : (a : Raw) (t : Term) → TermsSound (no_nodes a.id) a.terms → ChildrenHold (OwnsExpr (bench a)) (OwnsType (bench a)) t → RootFits (term_root (bench a).nodes t) → TermsSound (no_nodes a.id) (a.terms ++ t ∷ [])
 unfolding bench
-terms-term a t s h = TermsSound-push (no_nodes a.id) a.terms t s h
+terms-term a t s h f = TermsSound-push (no_nodes a.id) a.terms t s h f
 
-sound-term : (a : Raw) (t : Term) (r : ℕ) → IsSound a → ChildrenHold (OwnsExpr (bench a)) (OwnsType (bench a)) t → IsSound (record a { terms = a.terms ++ t ∷ []; term_room = r })
-sound-term a t r s h =
+sound-term : (a : Raw) (t : Term) (r : ℕ) → IsSound a → ChildrenHold (OwnsExpr (bench a)) (OwnsType (bench a)) t → RootFits (term_root (bench a).nodes t) → IsSound (record a { terms = a.terms ++ t ∷ []; term_room = r })
+sound-term a t r s h f =
   record {
-    terms = terms-term a t s.terms h;
+    terms = terms-term a t s.terms h f;
     records = rw (bench-term a t r) (RecordsSound-root (bench a) (term_root (bench a).nodes t) s.records)
   }
 
@@ -60,11 +60,12 @@ pub bench-plant :
 bench-plant a b t ts r e q = rw (q, e) (bench-term a t r)
 
 pub sound-plant :
-  (a b : Raw) (t : Term) (ts : List Term) (r : ℕ) → b ≡ a → ts ≡ b.terms ++ t ∷ [] → IsSound b → ChildrenHold (OwnsExpr (bench a)) (OwnsType (bench a)) t →
+  (a b : Raw) (t : Term) (ts : List Term) (r : ℕ) → b ≡ a → ts ≡ b.terms ++ t ∷ [] → IsSound b → ChildrenHold (OwnsExpr (bench a)) (OwnsType (bench a)) t → RootFits (term_root (bench a).nodes t) →
   IsSound (record b { terms = ts; term_room = r })
-sound-plant a b t ts r e q s h =
+sound-plant a b t ts r e q s h f =
   let P : Raw → Type 0 = λ x. ChildrenHold (OwnsExpr (bench x)) (OwnsType (bench x)) t in
-  rw q (sound-term b t r s (subst P (sym e) h))
+  let F : Raw → Type 0 = λ x. RootFits (term_root (bench x).nodes t) in
+  rw q (sound-term b t r s (subst P (sym e) h) (subst F (sym e) f))
 
 pub length-plant : (a b : Raw) → b ≡ a → length (bench a).nodes.roots ≡ length b.terms
 unfolding bench
@@ -277,8 +278,9 @@ pub sound-port :
 sound-port a b m d k n t node p ts r ps ms e q o w x y s h c =
   let P : Raw → Type 0 = λ z. RecordsSound (bench z) in
   let C : Raw → Type 0 = λ z. ChildrenHold (OwnsExpr (bench z)) (OwnsType (bench z)) node in
+  let F : Raw → Type 0 = λ z. RootFits (term_root (bench z).nodes node) in
   record {
-    terms = rw q (terms-term b node s.terms (subst C (sym e) c));
+    terms = rw q (terms-term b node s.terms (subst C (sym e) c) (subst F (sym e) (subst RootFits (sym x) tt)));
     records = rw (bench-port a b m d k n t node p ts r ps ms e q o w x y) (RecordsSound-port (bench a) m d k n t (subst P e s.records) h)
   }
 

@@ -1,13 +1,22 @@
 -- What callers cite after a call that makes something.
-use Rattle.std.proofs.Common.{◌≡◌, ℕ, List, All, refl}
-use Rattle.vast_literal.specs.Tree.{ExprTree, TypeTree}
+use Rattle.std.proofs.Common.{◌≡◌, ℕ, Bool, IsTrue, List, All, Option, Some, None, slice_get, refl}
+use Rattle.vast_literal.specs.Tree.{ExprTree, TypeTree, MaybeType, MaybeExprs, NameTree, IndexTree, SliceTree, MacroTree}
+use Rattle.vast_core.specs.declared.handle.Id.{Id}
 use Rattle.vast_core.specs.declared.handle.Expr.{Expr}
+use Rattle.vast_core.specs.declared.handle.IndexableExpr.{IndexableExpr}
+use Rattle.vast_core.specs.declared.handle.Index.{Index}
+use Rattle.vast_core.specs.declared.handle.Slice.{Slice}
+use Rattle.vast_core.specs.declared.handle.MacroRef.{MacroRef}
+use Rattle.vast_core.specs.declared.handle.LogicRef.{LogicRef}
+use Rattle.vast_core.specs.declared.handle.ParameterRef.{ParameterRef}
+use Rattle.vast_core.specs.declared.handle.LocalparamRef.{LocalparamRef}
 use Rattle.vast_core.specs.declared.handle.VastDataType.{VastDataType}
-use Rattle.vast_core.specs.Nodes.{Root, ExprRoot, TypeRoot, expr_in, type_in}
-use Rattle.vast_core.specs.Bench.{Bench, OwnsExpr, OwnsType, tree_of, trees_of, type_of}
-use Rattle.vast_core.specs.Growth.{with_root, with_expr, with_type, next_expr, next_type}
+use Rattle.vast_core.specs.Handles.{logic_ref_to_expr, indexable_expr_to_expr, slice_to_expr, index_to_expr, parameter_ref_to_expr, localparam_ref_to_expr, macro_ref_to_expr, logic_ref_to_indexable_expr, index_to_indexable_expr, parameter_ref_to_indexable_expr, expr_to_indexable_expr}
+use Rattle.vast_core.specs.Nodes.{Root, ExprRoot, TypeRoot, IsOwned, is_expr_root, is_root_of, is_name, is_index, is_slice, is_macro, expr_in, type_in}
+use Rattle.vast_core.specs.Bench.{Bench, OwnsExpr, OwnsIndexable, OwnsType, OwnsIndex, OwnsSlice, OwnsMacroRef, OwnsLogicRef, OwnsParameterRef, OwnsLocalparamRef, has_root, tree_of, trees_of, type_of}
+use Rattle.vast_core.specs.Growth.{with_root, with_expr, with_type, next_expr, next_type, next_index, next_slice, next_macro_ref, next_logic_ref}
 use Rattle.vast_core.proofs.Lists.{slice_get-seam, All-implies}
-use Rattle.vast_core.proofs.NodeLaws.{Extends-root, HasExpr-kept, HasType-kept, expr_in-kept, type_in-kept, exprs-kept}
+use Rattle.vast_core.proofs.NodeLaws.{Extends-root, HasExpr-kept, HasType-kept, shape-kept, expr_in-kept, type_in-kept, exprs-kept}
 
 pub next_owned : (b : Bench) (e : ExprTree) → OwnsExpr (with_expr b e) (next_expr b)
 next_owned b e = record { of_file = refl; of_kind = rw (slice_get-seam b.nodes.roots (ExprRoot e)) refl }
@@ -46,3 +55,104 @@ pub old_trees : (b : Bench) (r : Root) (es : List Expr) → All (OwnsExpr b) es 
 old_trees b r es h = exprs-kept b.nodes (with_root b r).nodes (Extends-root b.nodes r) es h
 
 pub ruleset older_terms = (old_owned, old_tree, old_type_owned, old_type, all_old_owned, old_trees)
+
+-- Handles of their own kind.
+
+pub next_index_owned : (b : Bench) (subject index : ExprTree) → OwnsIndex (with_expr b (IndexTree subject index)) (next_index b)
+next_index_owned b subject index = record { of_file = refl; of_kind = rw (slice_get-seam b.nodes.roots (ExprRoot (IndexTree subject index))) refl }
+
+pub next_index_tree : (b : Bench) (e : ExprTree) → tree_of (with_expr b e) (index_to_expr (next_index b)) ≡ e
+next_index_tree b e = next_tree b e
+
+pub next_slice_owned : (b : Bench) (subject high low : ExprTree) → OwnsSlice (with_expr b (SliceTree subject high low)) (next_slice b)
+next_slice_owned b subject high low = record { of_file = refl; of_kind = rw (slice_get-seam b.nodes.roots (ExprRoot (SliceTree subject high low))) refl }
+
+pub next_slice_tree : (b : Bench) (e : ExprTree) → tree_of (with_expr b e) (slice_to_expr (next_slice b)) ≡ e
+next_slice_tree b e = next_tree b e
+
+pub next_macro_ref_owned : (b : Bench) (name : List ℕ) (arguments : MaybeExprs) → OwnsMacroRef (with_expr b (MacroTree name arguments)) (next_macro_ref b)
+next_macro_ref_owned b name arguments = record { of_file = refl; of_kind = rw (slice_get-seam b.nodes.roots (ExprRoot (MacroTree name arguments))) refl }
+
+pub next_macro_ref_tree : (b : Bench) (e : ExprTree) → tree_of (with_expr b e) (macro_ref_to_expr (next_macro_ref b)) ≡ e
+next_macro_ref_tree b e = next_tree b e
+
+pub next_logic_ref_owned : (b : Bench) (name : List ℕ) (type : MaybeType) → OwnsLogicRef (with_expr b (NameTree name type)) (next_logic_ref b)
+next_logic_ref_owned b name type = record { of_file = refl; of_kind = rw (slice_get-seam b.nodes.roots (ExprRoot (NameTree name type))) refl }
+
+pub next_logic_ref_tree : (b : Bench) (e : ExprTree) → tree_of (with_expr b e) (logic_ref_to_expr (next_logic_ref b)) ≡ e
+next_logic_ref_tree b e = next_tree b e
+
+pub ruleset next_handles = (next_index_owned, next_index_tree, next_slice_owned, next_slice_tree, next_macro_ref_owned, next_macro_ref_tree, next_logic_ref_owned, next_logic_ref_tree)
+
+-- A handle of a kind of its own is one of an expression.
+
+some_expr : (shape : ExprTree → Bool) (o : Option Root) → IsTrue (is_root_of shape o) → IsTrue (is_expr_root o)
+some_expr shape None h = cc
+some_expr shape (Some (ExprRoot e)) h = refl
+some_expr shape (Some (TypeRoot t)) h = cc
+
+as_expr : (shape : ExprTree → Bool) (b : Bench) (id : Id) → IsOwned b.nodes.id id (has_root shape b id.index) → OwnsExpr b (record { id = id })
+as_expr shape b id h = record { of_file = h.of_file; of_kind = some_expr shape (slice_get b.nodes.roots id.index) h.of_kind }
+
+pub indexable_is_expr : (b : Bench) (r : IndexableExpr) → OwnsIndexable b r → OwnsExpr b (indexable_expr_to_expr r)
+indexable_is_expr b r h = h
+
+pub expr_is_indexable : (b : Bench) (e : Expr) → OwnsExpr b e → OwnsIndexable b (expr_to_indexable_expr e)
+expr_is_indexable b e h = h
+
+pub index_is_expr : (b : Bench) (r : Index) → OwnsIndex b r → OwnsExpr b (index_to_expr r)
+index_is_expr b r h = as_expr is_index b r.id h
+
+pub slice_is_expr : (b : Bench) (r : Slice) → OwnsSlice b r → OwnsExpr b (slice_to_expr r)
+slice_is_expr b r h = as_expr is_slice b r.id h
+
+pub macro_ref_is_expr : (b : Bench) (r : MacroRef) → OwnsMacroRef b r → OwnsExpr b (macro_ref_to_expr r)
+macro_ref_is_expr b r h = as_expr is_macro b r.id h
+
+pub logic_ref_is_expr : (b : Bench) (r : LogicRef) → OwnsLogicRef b r → OwnsExpr b (logic_ref_to_expr r)
+logic_ref_is_expr b r h = as_expr is_name b r.id h
+
+pub parameter_ref_is_expr : (b : Bench) (r : ParameterRef) → OwnsParameterRef b r → OwnsExpr b (parameter_ref_to_expr r)
+parameter_ref_is_expr b r h = as_expr is_name b r.id h
+
+pub localparam_ref_is_expr : (b : Bench) (r : LocalparamRef) → OwnsLocalparamRef b r → OwnsExpr b (localparam_ref_to_expr r)
+localparam_ref_is_expr b r h = as_expr is_name b r.id h
+
+pub index_is_indexable : (b : Bench) (r : Index) → OwnsIndex b r → OwnsIndexable b (index_to_indexable_expr r)
+index_is_indexable b r h = as_expr is_index b r.id h
+
+pub logic_ref_is_indexable : (b : Bench) (r : LogicRef) → OwnsLogicRef b r → OwnsIndexable b (logic_ref_to_indexable_expr r)
+logic_ref_is_indexable b r h = as_expr is_name b r.id h
+
+pub parameter_ref_is_indexable : (b : Bench) (r : ParameterRef) → OwnsParameterRef b r → OwnsIndexable b (parameter_ref_to_indexable_expr r)
+parameter_ref_is_indexable b r h = as_expr is_name b r.id h
+
+pub ruleset conversions = (indexable_is_expr, expr_is_indexable, index_is_expr, slice_is_expr, macro_ref_is_expr, logic_ref_is_expr, parameter_ref_is_expr, localparam_ref_is_expr, index_is_indexable, logic_ref_is_indexable, parameter_ref_is_indexable)
+
+-- Handles of a kind of their own stay the file's.
+
+old_shape : (shape : ExprTree → Bool) (b : Bench) (r : Root) (id : Id) → IsOwned b.nodes.id id (has_root shape b id.index) → IsOwned (with_root b r).nodes.id id (has_root shape (with_root b r) id.index)
+old_shape shape b r id h = record { of_file = h.of_file; of_kind = shape-kept shape b.nodes (with_root b r).nodes (Extends-root b.nodes r) id.index h.of_kind }
+
+pub old_indexable_owned : (b : Bench) (r : Root) (h : IndexableExpr) → OwnsIndexable b h → OwnsIndexable (with_root b r) h
+old_indexable_owned b r h k = old_owned b r (indexable_expr_to_expr h) k
+
+pub old_index_owned : (b : Bench) (r : Root) (h : Index) → OwnsIndex b h → OwnsIndex (with_root b r) h
+old_index_owned b r h k = old_shape is_index b r h.id k
+
+pub old_slice_owned : (b : Bench) (r : Root) (h : Slice) → OwnsSlice b h → OwnsSlice (with_root b r) h
+old_slice_owned b r h k = old_shape is_slice b r h.id k
+
+pub old_macro_ref_owned : (b : Bench) (r : Root) (h : MacroRef) → OwnsMacroRef b h → OwnsMacroRef (with_root b r) h
+old_macro_ref_owned b r h k = old_shape is_macro b r h.id k
+
+pub old_logic_ref_owned : (b : Bench) (r : Root) (h : LogicRef) → OwnsLogicRef b h → OwnsLogicRef (with_root b r) h
+old_logic_ref_owned b r h k = old_shape is_name b r h.id k
+
+pub old_parameter_ref_owned : (b : Bench) (r : Root) (h : ParameterRef) → OwnsParameterRef b h → OwnsParameterRef (with_root b r) h
+old_parameter_ref_owned b r h k = old_shape is_name b r h.id k
+
+pub old_localparam_ref_owned : (b : Bench) (r : Root) (h : LocalparamRef) → OwnsLocalparamRef b h → OwnsLocalparamRef (with_root b r) h
+old_localparam_ref_owned b r h k = old_shape is_name b r h.id k
+
+pub ruleset older_handles = (old_indexable_owned, old_index_owned, old_slice_owned, old_macro_ref_owned, old_logic_ref_owned, old_parameter_ref_owned, old_localparam_ref_owned)

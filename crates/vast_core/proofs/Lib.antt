@@ -1,6 +1,8 @@
 pub mod Lists
 pub mod NodeLaws
 pub mod Names
+pub mod Products
+pub mod Arrays
 pub mod Sound
 pub mod Growth
 pub mod Readers

@@ -77,6 +77,11 @@ Each-at v P [] i x h below is = absurd (omega arith)
 Each-at v P (y ∷ xs) zero x h below is = rw is h.0
 Each-at v P (y ∷ xs) (suc i) x h below is = Each-at v P xs i x h.1 (omega arith) is
 
+pub Each-get : {A : Type 0} (P : A → Type 0) (xs : List A) (i : ℕ) (x : A) → Each P xs → slice_get xs i ≡ Some x → P x
+Each-get P [] i x h e = cc
+Each-get P (y ∷ xs) zero x h e = let same : x ≡ y = cc in rw same h.0
+Each-get P (y ∷ xs) (suc i) x h e = Each-get P xs i x h.1 e
+
 pub All-Each : {A B : Type 0} (v : A → B) (P : B → Type 0) (xs : List A) → Each P (map v xs) → All (λ x. P (v x)) xs
 All-Each v P [] h k d below = absurd (omega arith)
 All-Each v P (x ∷ xs) h zero d below = h.0
@@ -86,6 +91,10 @@ pub All-own : {A : Type 0} (P : A → Type 0) (xs : List A) → Each P xs → Al
 All-own P [] h k d below = absurd (omega arith)
 All-own P (x ∷ xs) h zero d below = h.0
 All-own P (x ∷ xs) h (suc k) d below = All-own P xs h.1 k d (omega arith)
+
+pub All-cons : {A : Type 0} (P : A → Type 0) (x : A) (xs : List A) → P x → All P xs → All P (x ∷ xs)
+All-cons P x xs p h zero d below = p
+All-cons P x xs p h (suc k) d below = h k d (omega arith)
 
 pub All-head : {A : Type 0} (P : A → Type 0) (x : A) (xs : List A) → All P (x ∷ xs) → P x
 All-head P x xs h = h 0 x (omega arith)

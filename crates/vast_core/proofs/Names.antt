@@ -13,7 +13,7 @@ use Rattle.std.specs.Str.{bytes_eq}
 use Rattle.std.proofs.lemmas.Map.Text.{is_eq-slice_cmp}
 use Rattle.std.proofs.lemmas.Slice.Eq.{bytes_eq-Decides}
 use Rattle.vast_core.specs.Records.{IsFree, with_name}
-use Rattle.vast_core.proofs.Lists.{All-head, All-tail}
+use Rattle.vast_core.proofs.Lists.{All-cons, All-head, All-tail}
 
 -- The texts of a set's strings, with one string more.
 insert-case :
@@ -32,10 +32,6 @@ map-insert_key [] name = refl
 map-insert_key (x ∷ xs) name = insert-case x name xs (slice_cmp nat_cmp (string_bytes name) (string_bytes x)) refl (map-insert_key xs name)
 
 -- A name is free exactly where no string of the set has its bytes.
-
-All-cons : {A : Type 0} (P : A → Type 0) (x : A) (xs : List A) → P x → All P xs → All P (x ∷ xs)
-All-cons P x xs p h zero d below = p
-All-cons P x xs p h (suc k) d below = h k d (omega arith)
 
 -- Whether a string of the set has these bytes.
 abbrev pub is_taken : List ℕ → List (String Global) → Bool

@@ -1,5 +1,5 @@
 -- Laws of the arena of expressions and types.
-use Rattle.std.proofs.Common.{zero, suc, get_or, ◌≡◌, ℕ, ◌+◌, ◌<◌, ◌≤◌, Bool, true, false, IsTrue, List, [], ◌∷◌, ◌++◌, length, Option, Some, None, slice_get, All, refl, sym, ap, ◌∙◌, arith, length-append}
+use Rattle.std.proofs.Common.{zero, suc, get_or, ◌≡◌, ℕ, ◌+◌, ◌<◌, ◌≤◌, Bool, true, false, IsTrue, List, [], ◌∷◌, ◌++◌, length, Option, Some, None, slice_get, All, refl, sym, ap, ◌∙◌, subst, arith, length-append}
 use Rattle.std.proofs.lemmas.Option.{slice_get_within, slice_get_past, slice_get_read}
 use Rattle.vast_literal.specs.Tree.{ExprTree, TypeTree, Typed, SomeExpr, Exprs}
 use Rattle.vast_core.specs.declared.handle.Expr.{Expr}
@@ -11,8 +11,10 @@ use Rattle.vast_core.specs.declared.node.TypeNode.TheVariants.{Scalar, Vector, I
 use Rattle.vast_core.specs.declared.node.Term.{Term}
 use Rattle.vast_core.specs.declared.node.Term.TheVariants.{Expression, DataType}
 use Rattle.vast_core.specs.Handles.{rank, type_rank}
-use Rattle.vast_core.specs.Nodes.{Root, ExprRoot, TypeRoot, Nodes, no_nodes, with_root, is_expr_root, is_type_root, is_root_of, expr_of_root, type_of_root, IsOwned, HasExpr, HasType, expr_in, type_in, maybe_type_in, maybe_expr_in, exprs_in, expr_tree, type_tree, term_root, OptionHolds, ExprChildrenHold, TypeChildrenHold, ChildrenHold, built, TermsSound, IsNodeAt}
-use Rattle.vast_core.proofs.Lists.{slice_get-append, slice_get-seam, All-head, All-tail, All-implies}
+use Rattle.vast_core.specs.Nodes.{Root, ExprRoot, TypeRoot, Nodes, no_nodes, with_root, is_expr_root, is_type_root, is_root_of, expr_of_root, type_of_root, IsOwned, HasExpr, HasType, expr_in, type_in, maybe_type_in, maybe_expr_in, exprs_in, expr_tree, type_tree, term_root, OptionHolds, ExprChildrenHold, TypeChildrenHold, ChildrenHold, RootFits, RootWellFormed, built, TermsSound, IsNodeAt}
+use Rattle.vast_core.specs.Types.{ExprFits, TypeFits, ExprWellFormed, TypeWellFormed, MaybeTypeWellFormed, MaybeExprWellFormed, ExprsWellFormed}
+use Rattle.vast_core.specs.Sound.{Each}
+use Rattle.vast_core.proofs.Lists.{slice_get-append, slice_get-seam, All-head, All-tail, All-implies, Each-push, Each-get}
 
 -- Growing by a term.
 
@@ -25,10 +27,11 @@ pub TermsSound-push :
   (b : Nodes) (ts : List Term) (t : Term) →
   TermsSound b ts →
   ChildrenHold (HasExpr (built b ts)) (HasType (built b ts)) t →
+  RootFits (term_root (built b ts) t) →
   TermsSound b (ts ++ t ∷ [])
 unfolding built TermsSound
-TermsSound-push b [] t s h = (h, tt)
-TermsSound-push b (u ∷ ts) t s h = (s.0, TermsSound-push (with_root b (term_root b u)) ts t s.1 h)
+TermsSound-push b [] t s h f = (h, f, tt)
+TermsSound-push b (u ∷ ts) t s h f = (s.0, s.1, TermsSound-push (with_root b (term_root b u)) ts t s.2 h f)
 
 pub built-id : (b : Nodes) (ts : List Term) → (built b ts).id ≡ b.id
 unfolding built
@@ -226,24 +229,88 @@ term_root-kept : (b c : Nodes) → Extends b c → (t : Term) → ChildrenHold (
 term_root-kept b c x (Expression n) h = ap ExprRoot (expr_tree-kept b c x n h)
 term_root-kept b c x (DataType n) h = ap TypeRoot (type_tree-kept b c x n h)
 
+-- Each node that fits is well formed, since those that it is made of are.
+
+expr-well_formed : (b : Nodes) → Each RootWellFormed b.roots → (e : Expr) → HasExpr b e → ExprWellFormed (expr_in b e)
+unfolding expr_in
+expr-well_formed b w e h =
+  let r = has_expr (slice_get b.roots e.id.index) h.of_kind
+  in rw r.1 (Each-get RootWellFormed b.roots e.id.index (ExprRoot r.0) w r.1)
+
+type-well_formed : (b : Nodes) → Each RootWellFormed b.roots → (t : VastDataType) → HasType b t → TypeWellFormed (type_in b t)
+unfolding type_in
+type-well_formed b w t h =
+  let r = has_type (slice_get b.roots t.id.index) h.of_kind
+  in rw r.1 (Each-get RootWellFormed b.roots t.id.index (TypeRoot r.0) w r.1)
+
+maybe_type-well_formed : (b : Nodes) (o : Option VastDataType) → OptionHolds (λ t. TypeWellFormed (type_in b t)) o → MaybeTypeWellFormed (maybe_type_in b o)
+maybe_type-well_formed b None h = tt
+maybe_type-well_formed b (Some t) h = h
+
+maybe_expr-well_formed : (b : Nodes) (o : Option Expr) → OptionHolds (λ e. ExprWellFormed (expr_in b e)) o → MaybeExprWellFormed (maybe_expr_in b o)
+maybe_expr-well_formed b None h = tt
+maybe_expr-well_formed b (Some e) h = h
+
+exprs-well_formed : (b : Nodes) (es : List Expr) → All (λ e. ExprWellFormed (expr_in b e)) es → ExprsWellFormed (exprs_in b es)
+exprs-well_formed b [] h = tt
+exprs-well_formed b (e ∷ es) h =
+  let P : Expr → Type 0 = λ x. ExprWellFormed (expr_in b x)
+  in (All-head P e es h, exprs-well_formed b es (All-tail P e es h))
+
+expr_node-well_formed : (b : Nodes) (n : ExprNode) → ExprChildrenHold (λ e. ExprWellFormed (expr_in b e)) (λ t. TypeWellFormed (type_in b t)) n → ExprFits (expr_tree b n) → ExprWellFormed (expr_tree b n)
+expr_node-well_formed b (Name name type) h f = maybe_type-well_formed b type h
+expr_node-well_formed b (Literal text value) h f = tt
+expr_node-well_formed b (StringText text) h f = tt
+expr_node-well_formed b (Unary operator operand) h f = h
+expr_node-well_formed b (Binary operator left right) h f = h
+expr_node-well_formed b (Ternary condition consequent alternate) h f = h
+expr_node-well_formed b (Index subject index) h f = h
+expr_node-well_formed b (Slice subject high low) h f = h
+expr_node-well_formed b (PartSelect subject start width) h f = (f, h.0, h.1)
+expr_node-well_formed b (Concat count parts) h f = (maybe_expr-well_formed b count h.0, exprs-well_formed b parts.items h.1)
+expr_node-well_formed b (Pattern parts) h f = exprs-well_formed b parts.items h
+expr_node-well_formed b (WidthCast width operand) h f = h
+expr_node-well_formed b (TypeCast type operand) h f = (f, h.0, h.1)
+expr_node-well_formed b (PosEdge operand) h f = h
+expr_node-well_formed b (NegEdge operand) h f = h
+expr_node-well_formed b (Macro name None) h f = tt
+expr_node-well_formed b (Macro name (Some parts)) h f = exprs-well_formed b parts.items h
+expr_node-well_formed b (Call name arguments) h f = exprs-well_formed b arguments.items h
+
+type_node-well_formed : (b : Nodes) (n : TypeNode) → TypeChildrenHold (λ e. ExprWellFormed (expr_in b e)) (λ t. TypeWellFormed (type_in b t)) n → TypeFits (type_tree b n) → TypeWellFormed (type_tree b n)
+type_node-well_formed b (Scalar signed) h f = tt
+type_node-well_formed b (Vector width value signed) h f = (f, h)
+type_node-well_formed b (Integer signed) h f = tt
+type_node-well_formed b (Int signed) h f = tt
+type_node-well_formed b (External name) h f = tt
+type_node-well_formed b (Package package_name name) h f = tt
+type_node-well_formed b (Packed element dimensions) h f = (f, h)
+type_node-well_formed b (Unpacked element dimensions) h f = (f, h)
+
+node-well_formed : (b : Nodes) (t : Term) → Each RootWellFormed b.roots → ChildrenHold (HasExpr b) (HasType b) t → RootFits (term_root b t) → RootWellFormed (term_root b t)
+node-well_formed b (Expression n) w h f = expr_node-well_formed b n (expr_children-map (expr-well_formed b w) (type-well_formed b w) n h) f
+node-well_formed b (DataType n) w h f = type_node-well_formed b n (type_children-map (expr-well_formed b w) (type-well_formed b w) n h) f
+
 -- A node of the arena.
 
-node_at : (b : Nodes) (ts : List Term) (i n : ℕ) (t : Term) → TermsSound b ts → slice_get ts i ≡ Some t → n ≡ length b.roots + i → IsNodeAt (built b ts) n t
+node_at : (b : Nodes) (ts : List Term) (i n : ℕ) (t : Term) → Each RootWellFormed b.roots → TermsSound b ts → slice_get ts i ≡ Some t → n ≡ length b.roots + i → IsNodeAt (built b ts) n t
 unfolding built TermsSound
-node_at b [] i n t s h q = cc
-node_at b (u ∷ ts) zero n t s h q =
+node_at b [] i n t w s h q = cc
+node_at b (u ∷ ts) zero n t w s h q =
   let c : Nodes = built (with_root b (term_root b u)) ts in
   let same : t ≡ u = cc in
   let x : Extends b c = Extends-built b (u ∷ ts) in
   let at : n ≡ length b.roots = omega arith in
+  let kept : term_root c u ≡ term_root b u = term_root-kept b c x u s.0 in
   rw (at, same)
   (record {
-    root = (Extends-built (with_root b (term_root b u)) ts).same_roots (length b.roots) (term_root b u) (slice_get-seam b.roots (term_root b u)) ∙ ap Some (sym (term_root-kept b c x u s.0));
+    root = (Extends-built (with_root b (term_root b u)) ts).same_roots (length b.roots) (term_root b u) (slice_get-seam b.roots (term_root b u)) ∙ ap Some (sym kept);
     owned = children-map (HasExpr-kept b c x) (HasType-kept b c x) u s.0;
-    older = children-map (rank-below b) (type_rank-below b) u s.0
+    older = children-map (rank-below b) (type_rank-below b) u s.0;
+    well_formed = subst RootWellFormed (sym kept) (node-well_formed b u w s.0 s.1)
   })
-node_at b (u ∷ ts) (suc i) n t s h q =
-  node_at (with_root b (term_root b u)) ts i n t s.1 h (omega (arith, length-append b.roots (term_root b u ∷ [])))
+node_at b (u ∷ ts) (suc i) n t w s h q =
+  node_at (with_root b (term_root b u)) ts i n t (Each-push RootWellFormed b.roots (term_root b u) w (node-well_formed b u w s.0 s.1)) s.2 h (omega (arith, length-append b.roots (term_root b u ∷ [])))
 
 pub at_some :
   (id : ℕ) (ts : List Term) (i : ℕ) (t : Term) →
@@ -251,7 +318,7 @@ pub at_some :
   i < length ts →
   t ≡ get_or ts i t →
   IsNodeAt (built (no_nodes id) ts) i t
-at_some id ts i t s below q = node_at (no_nodes id) ts i i t s (slice_get_read ts (length ts) i t refl below q) (omega arith)
+at_some id ts i t s below q = node_at (no_nodes id) ts i i t tt s (slice_get_read ts (length ts) i t refl below q) (omega arith)
 
 pub at_none : (id : ℕ) (ts : List Term) (i : ℕ) → length ts ≤ i → slice_get (built (no_nodes id) ts).roots i ≡ None
 at_none id ts i past = slice_get_past (built (no_nodes id) ts).roots i (omega (arith, built-length (no_nodes id) ts))

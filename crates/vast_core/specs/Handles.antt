@@ -63,3 +63,6 @@ index_to_indexable_expr r = record { id = r.id }
 
 abbrev pub parameter_ref_to_indexable_expr : ParameterRef → IndexableExpr
 parameter_ref_to_indexable_expr r = record { id = r.id }
+
+abbrev pub expr_to_indexable_expr : Expr → IndexableExpr
+expr_to_indexable_expr e = record { id = e.id }

@@ -1,10 +1,11 @@
 pub mod Kinds
 pub mod Handles
-pub mod Nodes
 pub mod Types
+pub mod Nodes
 pub mod Records
 pub mod Raw
 pub mod Bench
+pub mod BitCount
 pub mod View
 pub mod Growth
 pub mod Sound

@@ -13,6 +13,7 @@ use Rattle.vast_core.specs.declared.node.Term.{Term}
 use Rattle.vast_core.specs.declared.node.Term.TheVariants.{Expression, DataType}
 use Rattle.vast_core.specs.Handles.{rank, type_rank}
 use Rattle.vast_core.specs.Kinds.{unary_of, binary_of}
+use Rattle.vast_core.specs.Types.{ExprFits, TypeFits, ExprWellFormed, TypeWellFormed}
 
 -- What a node of the arena stands for.
 pub data Root : Type 0 where
@@ -181,18 +182,28 @@ abbrev pub ChildrenHold : (P : Expr → Type 0) (Q : VastDataType → Type 0) �
 ChildrenHold P Q (Expression n) = ExprChildrenHold P Q n
 ChildrenHold P Q (DataType n) = TypeChildrenHold P Q n
 
+-- What a node keeps of itself, and of all that it is made of.
+abbrev pub RootFits : Root → Type 0
+RootFits (ExprRoot e) = ExprFits e
+RootFits (TypeRoot t) = TypeFits t
+
+abbrev pub RootWellFormed : Root → Type 0
+RootWellFormed (ExprRoot e) = ExprWellFormed e
+RootWellFormed (TypeRoot t) = TypeWellFormed t
+
 -- The nodes after these terms, each made of older ones.
 unfoldable pub built : Nodes → List Term → Nodes
 built b [] = b
 built b (t ∷ ts) = built (with_root b (term_root b t)) ts
 
--- Each term's children are older nodes of the file.
+-- Each term fits, and its children are older nodes of the file.
 unfoldable pub TermsSound : Nodes → List Term → Type 0
 TermsSound b [] = Unit {0}
-TermsSound b (t ∷ ts) = ChildrenHold (HasExpr b) (HasType b) t × TermsSound (with_root b (term_root b t)) ts
+TermsSound b (t ∷ ts) = ChildrenHold (HasExpr b) (HasType b) t × RootFits (term_root b t) × TermsSound (with_root b (term_root b t)) ts
 
--- The term is node i, and its children are older nodes of the file.
+-- The term is node i, is well formed, and its children are older nodes of the file.
 pub record IsNodeAt (b : Nodes) (i : ℕ) (t : Term) : Type 0 where
   pub root : slice_get b.roots i ≡ Some (term_root b t)
   pub owned : ChildrenHold (HasExpr b) (HasType b) t
   pub older : ChildrenHold (λ e. rank e < i) (λ u. type_rank u < i) t
+  pub well_formed : RootWellFormed (term_root b t)

@@ -1,4 +1,5 @@
--- What every file keeps: children are older, and each handle in its records and lists is its own.
+-- What every file keeps: children are older, each expression and type fits, and each handle in its records and lists
+-- is its own.
 use Rattle.std.specs.Prelude.{ℕ, List, [], ◌∷◌}
 use Rattle.vast_core.specs.declared.node.Assignment.{Assignment}
 use Rattle.vast_core.specs.Nodes.{no_nodes, TermsSound}

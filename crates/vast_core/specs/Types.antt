@@ -1,7 +1,6 @@
--- What types and widths are, read off their trees.
-use Rattle.std.specs.Prelude.{ℕ, ℤ, ◌<◌, ◌≤ℤ◌, pos, Bool, true, false, List, length, Option, None, All}
-use Rattle.vast_literal.specs.Tree.{ExprTree, LiteralTree, TypeTree, IntegerTree, IntTree, PackedTree, UnpackedTree}
-use Rattle.vast_core.specs.Nodes.{OptionHolds}
+-- What types and widths are, read off their trees, and what is kept of every tree.
+use Rattle.std.specs.Prelude.{◌≡◌, ℕ, ℤ, ◌<◌, ◌≤ℤ◌, pos, Bool, true, false, IsTrue, List, length, Option, None, IfSome, All}
+use Rattle.vast_literal.specs.Tree.{ExprTree, NameTree, LiteralTree, StringTree, UnaryTree, BinaryTree, TernaryTree, IndexTree, SliceTree, PartSelectTree, ConcatTree, PatternTree, WidthCastTree, TypeCastTree, PosEdgeTree, NegEdgeTree, MacroTree, CallTree, MissingExpr, TypeTree, ScalarTree, VectorTree, IntegerTree, IntTree, ExternalTree, PackageTree, PackedTree, UnpackedTree, MissingType, MaybeType, Untyped, Typed, MaybeExpr, NoExpr, SomeExpr, Exprs, NoExprs, MoreExprs, MaybeExprs, NoArguments, SomeArguments}
 
 -- A literal's value, where that is known.
 abbrev pub literal_value : ExprTree → Option ℤ
@@ -10,7 +9,7 @@ literal_value _ = None
 
 -- Not a literal with a value below 1.
 abbrev pub IsUsableWidth : ExprTree → Type 0
-IsUsableWidth width = OptionHolds (λ value. pos 1 ≤ℤ value) (literal_value width)
+IsUsableWidth width = IfSome (literal_value width) (λ value. pos 1 ≤ℤ value)
 
 -- What a packed array may be made of: no unpacked array, no integer and no int.
 abbrev pub is_packable : TypeTree → Bool
@@ -29,3 +28,98 @@ is_castable _ = true
 pub record AreDimensions (dimensions : List ℤ) : Type 0 where
   pub any : 0 < length dimensions
   pub each : All (λ d. pos 1 ≤ℤ d) dimensions
+
+-- The type within the arrays.
+abbrev pub base_of : TypeTree → TypeTree
+base_of (PackedTree element dimensions) = base_of element
+base_of (UnpackedTree element dimensions) = base_of element
+base_of (ScalarTree signed) = ScalarTree signed
+base_of (VectorTree width value signed) = VectorTree width value signed
+base_of (IntegerTree signed) = IntegerTree signed
+base_of (IntTree signed) = IntTree signed
+base_of (ExternalTree name) = ExternalTree name
+base_of (PackageTree package_name name) = PackageTree package_name name
+base_of MissingType = MissingType
+
+-- A vector's width.
+abbrev pub vector_width : TypeTree → MaybeExpr
+vector_width (VectorTree width value signed) = SomeExpr width
+vector_width _ = NoExpr
+
+-- The width of the vector within the arrays.
+abbrev pub width_of : TypeTree → MaybeExpr
+width_of t = vector_width (base_of t)
+
+-- Whether a type that is no array is signed; what is declared elsewhere counts as unsigned.
+abbrev pub base_is_signed : TypeTree → Bool
+base_is_signed (ScalarTree signed) = signed
+base_is_signed (VectorTree width value signed) = signed
+base_is_signed (IntegerTree signed) = signed
+base_is_signed (IntTree signed) = signed
+base_is_signed _ = false
+
+abbrev pub is_signed : TypeTree → Bool
+is_signed t = base_is_signed (base_of t)
+
+-- What an expression keeps of itself: a part select has a bit at least, and a cast is to no array.
+abbrev pub ExprFits : ExprTree → Type 0
+ExprFits (PartSelectTree subject start width) = pos 1 ≤ℤ width
+ExprFits (TypeCastTree type operand) = IsTrue (is_castable type)
+ExprFits _ = Unit {0}
+
+-- What a type keeps of itself: a vector's width is usable, and its value is that of its literal; an array has
+-- dimensions, and a packed one is made of what can be packed.
+abbrev pub TypeFits : TypeTree → Type 0
+TypeFits (VectorTree width value signed) = IsUsableWidth width × (value ≡ literal_value width)
+TypeFits (PackedTree element dimensions) = IsTrue (is_packable element) × AreDimensions dimensions
+TypeFits (UnpackedTree element dimensions) = AreDimensions dimensions
+TypeFits _ = Unit {0}
+
+-- Each expression and each type in the tree fits.
+abbrev mutual
+  pub ExprWellFormed : ExprTree → Type 0
+  ExprWellFormed (NameTree name type) = MaybeTypeWellFormed type
+  ExprWellFormed (LiteralTree text value) = Unit {0}
+  ExprWellFormed (StringTree text) = Unit {0}
+  ExprWellFormed (UnaryTree operator operand) = ExprWellFormed operand
+  ExprWellFormed (BinaryTree operator left right) = ExprWellFormed left × ExprWellFormed right
+  ExprWellFormed (TernaryTree condition consequent alternate) = ExprWellFormed condition × ExprWellFormed consequent × ExprWellFormed alternate
+  ExprWellFormed (IndexTree subject index) = ExprWellFormed subject × ExprWellFormed index
+  ExprWellFormed (SliceTree subject high low) = ExprWellFormed subject × ExprWellFormed high × ExprWellFormed low
+  ExprWellFormed (PartSelectTree subject start width) = (pos 1 ≤ℤ width) × ExprWellFormed subject × ExprWellFormed start
+  ExprWellFormed (ConcatTree count parts) = MaybeExprWellFormed count × ExprsWellFormed parts
+  ExprWellFormed (PatternTree parts) = ExprsWellFormed parts
+  ExprWellFormed (WidthCastTree width operand) = ExprWellFormed width × ExprWellFormed operand
+  ExprWellFormed (TypeCastTree type operand) = IsTrue (is_castable type) × TypeWellFormed type × ExprWellFormed operand
+  ExprWellFormed (PosEdgeTree operand) = ExprWellFormed operand
+  ExprWellFormed (NegEdgeTree operand) = ExprWellFormed operand
+  ExprWellFormed (MacroTree name arguments) = MaybeExprsWellFormed arguments
+  ExprWellFormed (CallTree name arguments) = ExprsWellFormed arguments
+  ExprWellFormed MissingExpr = Unit {0}
+
+  pub TypeWellFormed : TypeTree → Type 0
+  TypeWellFormed (ScalarTree signed) = Unit {0}
+  TypeWellFormed (VectorTree width value signed) = (IsUsableWidth width × (value ≡ literal_value width)) × ExprWellFormed width
+  TypeWellFormed (IntegerTree signed) = Unit {0}
+  TypeWellFormed (IntTree signed) = Unit {0}
+  TypeWellFormed (ExternalTree name) = Unit {0}
+  TypeWellFormed (PackageTree package_name name) = Unit {0}
+  TypeWellFormed (PackedTree element dimensions) = (IsTrue (is_packable element) × AreDimensions dimensions) × TypeWellFormed element
+  TypeWellFormed (UnpackedTree element dimensions) = AreDimensions dimensions × TypeWellFormed element
+  TypeWellFormed MissingType = Unit {0}
+
+  pub MaybeTypeWellFormed : MaybeType → Type 0
+  MaybeTypeWellFormed Untyped = Unit {0}
+  MaybeTypeWellFormed (Typed type) = TypeWellFormed type
+
+  pub MaybeExprWellFormed : MaybeExpr → Type 0
+  MaybeExprWellFormed NoExpr = Unit {0}
+  MaybeExprWellFormed (SomeExpr e) = ExprWellFormed e
+
+  pub ExprsWellFormed : Exprs → Type 0
+  ExprsWellFormed NoExprs = Unit {0}
+  ExprsWellFormed (MoreExprs e es) = ExprWellFormed e × ExprsWellFormed es
+
+  pub MaybeExprsWellFormed : MaybeExprs → Type 0
+  MaybeExprsWellFormed NoArguments = Unit {0}
+  MaybeExprsWellFormed (SomeArguments es) = ExprsWellFormed es

@@ -11,18 +11,23 @@ use std::alloc::Global;
 use std::marker::Model;
 
 mod assignments;
+mod bit_count;
 mod expressions;
+mod inspect;
 mod modules;
 pub(crate) mod owns;
 mod places;
 mod ports;
 mod terms;
+#[cfg(test)]
+mod tests;
 mod types;
 
 /// The nodes of one file, in arenas. Handles name nodes by their index.
 ///
 /// In contracts it is its bench (`specs/Bench.antt`): the trees of its expressions and types, its records and lists.
-/// Children of an expression or type are older than it, and every handle in a record or a list is the file's own.
+/// Children of an expression or type are older than it, each expression and type is well formed
+/// (`specs/Types.antt`), and every handle in a record or a list is the file's own.
 #[derive(Drop)]
 pub struct Ast {
     alloc: Global,

@@ -5,6 +5,7 @@
 #![tactic(auto)]
 
 mod ast;
+mod bits;
 mod file_ids;
 mod handle;
 mod kind;
@@ -14,6 +15,7 @@ mod shape;
 
 pub use ast::Ast;
 pub use ast::owns::Handle;
+pub use bits::{BitCountFault, WidthFault};
 pub use file_ids::{FileIds, IdsSpent};
 pub use handle::{BlankLine, CaseStatement, Comment, Conditional, ContinuousAssignment, Def};
 pub use handle::{Expr, GenerateLoop, Index, IndexableExpr, InlineVerilogStatement, Instantiation};

@@ -13,7 +13,22 @@ impl ExprNode {
     {
         match self {
             ExprNode::Name(_, _) => true,
-            ExprNode::Literal(_, _) | ExprNode::StringText(_) | ExprNode::Unary(_, _) | ExprNode::Binary(_, _, _) | ExprNode::Ternary(_, _, _) | ExprNode::Index(_, _) | ExprNode::Slice(_, _, _) | ExprNode::PartSelect(_, _, _) | ExprNode::Concat(_, _) | ExprNode::Pattern(_) | ExprNode::WidthCast(_, _) | ExprNode::TypeCast(_, _) | ExprNode::PosEdge(_) | ExprNode::NegEdge(_) | ExprNode::Macro(_, _) | ExprNode::Call(_, _) => false,
+            ExprNode::Literal(_, _)
+            | ExprNode::StringText(_)
+            | ExprNode::Unary(_, _)
+            | ExprNode::Binary(_, _, _)
+            | ExprNode::Ternary(_, _, _)
+            | ExprNode::Index(_, _)
+            | ExprNode::Slice(_, _, _)
+            | ExprNode::PartSelect(_, _, _)
+            | ExprNode::Concat(_, _)
+            | ExprNode::Pattern(_)
+            | ExprNode::WidthCast(_, _)
+            | ExprNode::TypeCast(_, _)
+            | ExprNode::PosEdge(_)
+            | ExprNode::NegEdge(_)
+            | ExprNode::Macro(_, _)
+            | ExprNode::Call(_, _) => false,
         }
     }
 
@@ -23,7 +38,22 @@ impl ExprNode {
     {
         match self {
             ExprNode::Index(_, _) => true,
-            ExprNode::Name(_, _) | ExprNode::Literal(_, _) | ExprNode::StringText(_) | ExprNode::Unary(_, _) | ExprNode::Binary(_, _, _) | ExprNode::Ternary(_, _, _) | ExprNode::Slice(_, _, _) | ExprNode::PartSelect(_, _, _) | ExprNode::Concat(_, _) | ExprNode::Pattern(_) | ExprNode::WidthCast(_, _) | ExprNode::TypeCast(_, _) | ExprNode::PosEdge(_) | ExprNode::NegEdge(_) | ExprNode::Macro(_, _) | ExprNode::Call(_, _) => false,
+            ExprNode::Name(_, _)
+            | ExprNode::Literal(_, _)
+            | ExprNode::StringText(_)
+            | ExprNode::Unary(_, _)
+            | ExprNode::Binary(_, _, _)
+            | ExprNode::Ternary(_, _, _)
+            | ExprNode::Slice(_, _, _)
+            | ExprNode::PartSelect(_, _, _)
+            | ExprNode::Concat(_, _)
+            | ExprNode::Pattern(_)
+            | ExprNode::WidthCast(_, _)
+            | ExprNode::TypeCast(_, _)
+            | ExprNode::PosEdge(_)
+            | ExprNode::NegEdge(_)
+            | ExprNode::Macro(_, _)
+            | ExprNode::Call(_, _) => false,
         }
     }
 
@@ -33,7 +63,22 @@ impl ExprNode {
     {
         match self {
             ExprNode::Slice(_, _, _) => true,
-            ExprNode::Name(_, _) | ExprNode::Literal(_, _) | ExprNode::StringText(_) | ExprNode::Unary(_, _) | ExprNode::Binary(_, _, _) | ExprNode::Ternary(_, _, _) | ExprNode::Index(_, _) | ExprNode::PartSelect(_, _, _) | ExprNode::Concat(_, _) | ExprNode::Pattern(_) | ExprNode::WidthCast(_, _) | ExprNode::TypeCast(_, _) | ExprNode::PosEdge(_) | ExprNode::NegEdge(_) | ExprNode::Macro(_, _) | ExprNode::Call(_, _) => false,
+            ExprNode::Name(_, _)
+            | ExprNode::Literal(_, _)
+            | ExprNode::StringText(_)
+            | ExprNode::Unary(_, _)
+            | ExprNode::Binary(_, _, _)
+            | ExprNode::Ternary(_, _, _)
+            | ExprNode::Index(_, _)
+            | ExprNode::PartSelect(_, _, _)
+            | ExprNode::Concat(_, _)
+            | ExprNode::Pattern(_)
+            | ExprNode::WidthCast(_, _)
+            | ExprNode::TypeCast(_, _)
+            | ExprNode::PosEdge(_)
+            | ExprNode::NegEdge(_)
+            | ExprNode::Macro(_, _)
+            | ExprNode::Call(_, _) => false,
         }
     }
 
@@ -43,7 +88,22 @@ impl ExprNode {
     {
         match self {
             ExprNode::Macro(_, _) => true,
-            ExprNode::Name(_, _) | ExprNode::Literal(_, _) | ExprNode::StringText(_) | ExprNode::Unary(_, _) | ExprNode::Binary(_, _, _) | ExprNode::Ternary(_, _, _) | ExprNode::Index(_, _) | ExprNode::Slice(_, _, _) | ExprNode::PartSelect(_, _, _) | ExprNode::Concat(_, _) | ExprNode::Pattern(_) | ExprNode::WidthCast(_, _) | ExprNode::TypeCast(_, _) | ExprNode::PosEdge(_) | ExprNode::NegEdge(_) | ExprNode::Call(_, _) => false,
+            ExprNode::Name(_, _)
+            | ExprNode::Literal(_, _)
+            | ExprNode::StringText(_)
+            | ExprNode::Unary(_, _)
+            | ExprNode::Binary(_, _, _)
+            | ExprNode::Ternary(_, _, _)
+            | ExprNode::Index(_, _)
+            | ExprNode::Slice(_, _, _)
+            | ExprNode::PartSelect(_, _, _)
+            | ExprNode::Concat(_, _)
+            | ExprNode::Pattern(_)
+            | ExprNode::WidthCast(_, _)
+            | ExprNode::TypeCast(_, _)
+            | ExprNode::PosEdge(_)
+            | ExprNode::NegEdge(_)
+            | ExprNode::Call(_, _) => false,
         }
     }
 
@@ -53,7 +113,22 @@ impl ExprNode {
     {
         match self {
             ExprNode::Literal(_, value) => *value,
-            ExprNode::Name(_, _) | ExprNode::StringText(_) | ExprNode::Unary(_, _) | ExprNode::Binary(_, _, _) | ExprNode::Ternary(_, _, _) | ExprNode::Index(_, _) | ExprNode::Slice(_, _, _) | ExprNode::PartSelect(_, _, _) | ExprNode::Concat(_, _) | ExprNode::Pattern(_) | ExprNode::WidthCast(_, _) | ExprNode::TypeCast(_, _) | ExprNode::PosEdge(_) | ExprNode::NegEdge(_) | ExprNode::Macro(_, _) | ExprNode::Call(_, _) => None,
+            ExprNode::Name(_, _)
+            | ExprNode::StringText(_)
+            | ExprNode::Unary(_, _)
+            | ExprNode::Binary(_, _, _)
+            | ExprNode::Ternary(_, _, _)
+            | ExprNode::Index(_, _)
+            | ExprNode::Slice(_, _, _)
+            | ExprNode::PartSelect(_, _, _)
+            | ExprNode::Concat(_, _)
+            | ExprNode::Pattern(_)
+            | ExprNode::WidthCast(_, _)
+            | ExprNode::TypeCast(_, _)
+            | ExprNode::PosEdge(_)
+            | ExprNode::NegEdge(_)
+            | ExprNode::Macro(_, _)
+            | ExprNode::Call(_, _) => None,
         }
     }
 }

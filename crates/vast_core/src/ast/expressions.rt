@@ -2,9 +2,9 @@
 
 ghost use Rattle.std.specs.Prelude.{◌≡◌, ◌≤ℤ◌, pos, IsTrue, All};
 ghost use Rattle.vast_core.specs.Kinds.{unary_of, binary_of};
-ghost use Rattle.vast_core.specs.Handles.{indexable_expr_to_expr};
+ghost use Rattle.vast_core.specs.Handles.{indexable_expr_to_expr, expr_to_indexable_expr};
 ghost use Rattle.vast_core.specs.Nodes.{ExprChildrenHold, OptionHolds, expr_tree};
-ghost use Rattle.vast_core.specs.Types.{is_castable};
+ghost use Rattle.vast_core.specs.Types.{is_castable, ExprFits};
 ghost use Rattle.vast_core.specs.Bench.{OwnsExpr, OwnsIndexable, OwnsType, tree_of, type_of, maybe_tree_of, trees_of};
 ghost use Rattle.vast_core.specs.Growth.{Builds, with_expr, with_fixed_index, with_fixed_slice, with_fixed_replication, next_expr, next_index, next_fixed_index, next_slice, next_fixed_slice, next_fixed_replication, next_macro_ref, decimal_literal};
 ghost use Rattle.vast_core.specs.View.{bench};
@@ -17,8 +17,16 @@ use crate::operator::{BinaryOperator, UnaryOperator};
 use std::alloc::AllocError;
 
 impl Ast {
+    /// The same node as an expression that may be selected from.
+    pub fn indexable(&self, e: Expr) -> IndexableExpr
+        ensures { result ≡ expr_to_indexable_expr e }
+    {
+        IndexableExpr { id: e.id }
+    }
+
     fn push_expr(&mut self, node: ExprNode) -> Result<Expr, AllocError>
-        requires { ExprChildrenHold (OwnsExpr (bench self.old)) (OwnsType (bench self.old)) node }
+        requires children { ExprChildrenHold (OwnsExpr (bench self.old)) (OwnsType (bench self.old)) node }
+        requires fits { ExprFits (expr_tree (bench self.old).nodes node) }
         ensures { Builds (bench self.old) (bench self.new) result (next_expr (bench self.old)) (with_expr (bench self.old) (expr_tree (bench self.old).nodes node)) }
     {
         self.reserve_terms(1)?;
@@ -73,7 +81,12 @@ impl Ast {
     ///
     /// # Errors
     /// `AllocError` where a growth was refused; nothing changed.
-    pub fn push_binary(&mut self, operator: BinaryOperator, left: Expr, right: Expr) -> Result<Expr, AllocError>
+    pub fn push_binary(
+        &mut self,
+        operator: BinaryOperator,
+        left: Expr,
+        right: Expr,
+    ) -> Result<Expr, AllocError>
         requires left { OwnsExpr (bench self.old) left }
         requires right { OwnsExpr (bench self.old) right }
         ensures { Builds (bench self.old) (bench self.new) result (next_expr (bench self.old)) (with_expr (bench self.old) (BinaryTree (binary_of operator) (tree_of (bench self.old) left) (tree_of (bench self.old) right))) }
@@ -85,7 +98,12 @@ impl Ast {
     ///
     /// # Errors
     /// `AllocError` where a growth was refused; nothing changed.
-    pub fn push_ternary(&mut self, condition: Expr, consequent: Expr, alternate: Expr) -> Result<Expr, AllocError>
+    pub fn push_ternary(
+        &mut self,
+        condition: Expr,
+        consequent: Expr,
+        alternate: Expr,
+    ) -> Result<Expr, AllocError>
         requires condition { OwnsExpr (bench self.old) condition }
         requires consequent { OwnsExpr (bench self.old) consequent }
         requires alternate { OwnsExpr (bench self.old) alternate }
@@ -112,7 +130,12 @@ impl Ast {
     /// # Errors
     /// `AllocError` where a growth was refused; nothing changed.
     #[tactic(auto, using(crate::proofs::Laws::terms, crate::proofs::Laws::older_terms))]
-    pub fn push_index_fixed(&mut self, subject: IndexableExpr, text: &str, index: i64) -> Result<Index, AllocError>
+    pub fn push_index_fixed(
+        &mut self,
+        subject: IndexableExpr,
+        text: &str,
+        index: i64,
+    ) -> Result<Index, AllocError>
         requires { OwnsIndexable (bench self.old) subject }
         ensures { Builds (bench self.old) (bench self.new) result (next_fixed_index text.now index (bench self.old)) (with_fixed_index subject text.now index (bench self.old)) }
     {
@@ -127,7 +150,12 @@ impl Ast {
     ///
     /// # Errors
     /// `AllocError` where a growth was refused; nothing changed.
-    pub fn push_slice(&mut self, subject: IndexableExpr, high: Expr, low: Expr) -> Result<Slice, AllocError>
+    pub fn push_slice(
+        &mut self,
+        subject: IndexableExpr,
+        high: Expr,
+        low: Expr,
+    ) -> Result<Slice, AllocError>
         requires subject { OwnsIndexable (bench self.old) subject }
         requires high { OwnsExpr (bench self.old) high }
         requires low { OwnsExpr (bench self.old) low }
@@ -152,9 +180,7 @@ impl Ast {
         low: i64,
     ) -> Result<Slice, AllocError>
         requires { OwnsIndexable (bench self.old) subject }
-        ensures {
-            Builds (bench self.old) (bench self.new) result (next_fixed_slice high_text.now high low_text.now low (bench self.old)) (with_fixed_slice subject high_text.now high low_text.now low (bench self.old))
-        }
+        ensures { Builds (bench self.old) (bench self.new) result (next_fixed_slice high_text.now high low_text.now low (bench self.old)) (with_fixed_slice subject high_text.now high low_text.now low (bench self.old)) }
     {
         let high_text = String::from_str(self.alloc, high_text)?;
         let low_text = String::from_str(self.alloc, low_text)?;
@@ -169,7 +195,12 @@ impl Ast {
     ///
     /// # Errors
     /// `AllocError` where a growth was refused; nothing changed.
-    pub fn push_part_select(&mut self, subject: IndexableExpr, start: Expr, width: i64) -> Result<Expr, AllocError>
+    pub fn push_part_select(
+        &mut self,
+        subject: IndexableExpr,
+        start: Expr,
+        width: i64,
+    ) -> Result<Expr, AllocError>
         requires subject { OwnsIndexable (bench self.old) subject }
         requires start { OwnsExpr (bench self.old) start }
         requires width { pos 1 ≤ℤ width }
@@ -235,7 +266,11 @@ impl Ast {
     ///
     /// # Errors
     /// `AllocError` where a growth was refused; nothing changed.
-    pub fn push_type_cast(&mut self, data_type: VastDataType, operand: Expr) -> Result<Expr, AllocError>
+    pub fn push_type_cast(
+        &mut self,
+        data_type: VastDataType,
+        operand: Expr,
+    ) -> Result<Expr, AllocError>
         requires data_type { OwnsType (bench self.old) data_type }
         requires castable { IsTrue (is_castable (type_of (bench self.old) data_type)) }
         requires operand { OwnsExpr (bench self.old) operand }
@@ -282,7 +317,11 @@ impl Ast {
     ///
     /// # Errors
     /// `AllocError` where a growth was refused; nothing changed.
-    pub fn push_macro_with_args(&mut self, name: &str, parts: &[Expr]) -> Result<MacroRef, AllocError>
+    pub fn push_macro_with_args(
+        &mut self,
+        name: &str,
+        parts: &[Expr],
+    ) -> Result<MacroRef, AllocError>
         requires { All (OwnsExpr (bench self.old)) parts.now }
         ensures { Builds (bench self.old) (bench self.new) result (next_macro_ref (bench self.old)) (with_expr (bench self.old) (MacroTree name.now (SomeArguments (trees_of (bench self.old) parts.now)))) }
     {

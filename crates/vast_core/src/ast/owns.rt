@@ -4,11 +4,12 @@ ghost use Rattle.std.specs.Prelude.{◌↔◌, IsTrue};
 ghost use Rattle.vast_core.specs.View.{bench};
 
 use crate::ast::Ast;
-use crate::handle::{BlankLine, CaseStatement, Comment, Conditional, ContinuousAssignment, Def};
-use crate::handle::{Expr, GenerateLoop, Index, IndexableExpr, InlineVerilogStatement};
-use crate::handle::{Instantiation, LocalparamRef, LogicRef, MacroRef, MacroStatement, ModulePort};
-use crate::handle::{ParameterRef, Slice, VastAlwaysBase, VastDataType, VastFunction, VastModule};
-use crate::handle::{VastStatement, VastStatementBlock};
+use crate::handle::{
+    BlankLine, CaseStatement, Comment, Conditional, ContinuousAssignment, Def, Expr, GenerateLoop,
+    Index, IndexableExpr, InlineVerilogStatement, Instantiation, LocalparamRef, LogicRef, MacroRef,
+    MacroStatement, ModulePort, ParameterRef, Slice, VastAlwaysBase, VastDataType, VastFunction,
+    VastModule, VastStatement, VastStatementBlock,
+};
 
 /// A handle of a file's node. A handle belongs to a file where its id is the file's and its index names a node of
 /// the handle's kind; a handle of another file, or of another kind's node, doesn't.

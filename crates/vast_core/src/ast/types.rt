@@ -2,7 +2,7 @@
 
 ghost use Rattle.std.specs.Prelude.{◌≡◌, ◌≤ℤ◌, pos, IsTrue};
 ghost use Rattle.vast_core.specs.Nodes.{TypeChildrenHold, type_tree};
-ghost use Rattle.vast_core.specs.Types.{literal_value, IsUsableWidth, is_packable, AreDimensions};
+ghost use Rattle.vast_core.specs.Types.{literal_value, IsUsableWidth, is_packable, AreDimensions, TypeFits};
 ghost use Rattle.vast_core.specs.Bench.{OwnsExpr, OwnsType, tree_of, type_of};
 ghost use Rattle.vast_core.specs.Growth.{Builds, with_type, with_vector, next_type, next_vector};
 ghost use Rattle.vast_core.specs.View.{bench};
@@ -15,7 +15,8 @@ use std::alloc::AllocError;
 
 impl Ast {
     fn push_type(&mut self, node: TypeNode) -> Result<VastDataType, AllocError>
-        requires { TypeChildrenHold (OwnsExpr (bench self.old)) (OwnsType (bench self.old)) node }
+        requires children { TypeChildrenHold (OwnsExpr (bench self.old)) (OwnsType (bench self.old)) node }
+        requires fits { TypeFits (type_tree (bench self.old).nodes node) }
         ensures { Builds (bench self.old) (bench self.new) result (next_type (bench self.old)) (with_type (bench self.old) (type_tree (bench self.old).nodes node)) }
     {
         self.reserve_terms(1)?;
@@ -51,12 +52,14 @@ impl Ast {
     ///
     /// # Errors
     /// `AllocError` where a growth was refused; nothing changed.
-    pub fn push_vector_expr(&mut self, width: Expr, signed: bool) -> Result<VastDataType, AllocError>
+    pub fn push_vector_expr(
+        &mut self,
+        width: Expr,
+        signed: bool,
+    ) -> Result<VastDataType, AllocError>
         requires width { OwnsExpr (bench self.old) width }
         requires usable { IsUsableWidth (tree_of (bench self.old) width) }
-        ensures {
-            Builds (bench self.old) (bench self.new) result (next_type (bench self.old)) (with_type (bench self.old) (VectorTree (tree_of (bench self.old) width) (literal_value (tree_of (bench self.old) width)) signed))
-        }
+        ensures { Builds (bench self.old) (bench self.new) result (next_type (bench self.old)) (with_type (bench self.old) (VectorTree (tree_of (bench self.old) width) (literal_value (tree_of (bench self.old) width)) signed)) }
     {
         let value = self.expr(width).literal_value();
         self.push_type(TypeNode::Vector(width, value, signed))
@@ -97,7 +100,11 @@ impl Ast {
     ///
     /// # Errors
     /// `AllocError` where a growth was refused; nothing changed.
-    pub fn push_package(&mut self, package_name: &str, name: &str) -> Result<VastDataType, AllocError>
+    pub fn push_package(
+        &mut self,
+        package_name: &str,
+        name: &str,
+    ) -> Result<VastDataType, AllocError>
         ensures { Builds (bench self.old) (bench self.new) result (next_type (bench self.old)) (with_type (bench self.old) (PackageTree package_name.now name.now)) }
     {
         let package_name = String::from_str(self.alloc, package_name)?;
@@ -109,7 +116,11 @@ impl Ast {
     ///
     /// # Errors
     /// `AllocError` where a growth was refused; nothing changed.
-    pub fn push_packed(&mut self, element: VastDataType, dimensions: &[i64]) -> Result<VastDataType, AllocError>
+    pub fn push_packed(
+        &mut self,
+        element: VastDataType,
+        dimensions: &[i64],
+    ) -> Result<VastDataType, AllocError>
         requires element { OwnsType (bench self.old) element }
         requires packable { IsTrue (is_packable (type_of (bench self.old) element)) }
         requires dimensions { AreDimensions dimensions.now }
@@ -123,7 +134,11 @@ impl Ast {
     ///
     /// # Errors
     /// `AllocError` where a growth was refused; nothing changed.
-    pub fn push_unpacked(&mut self, element: VastDataType, dimensions: &[i64]) -> Result<VastDataType, AllocError>
+    pub fn push_unpacked(
+        &mut self,
+        element: VastDataType,
+        dimensions: &[i64],
+    ) -> Result<VastDataType, AllocError>
         requires element { OwnsType (bench self.old) element }
         requires dimensions { AreDimensions dimensions.now }
         ensures { Builds (bench self.old) (bench self.new) result (next_type (bench self.old)) (with_type (bench self.old) (UnpackedTree (type_of (bench self.old) element) dimensions.now)) }

@@ -14,7 +14,7 @@ unwrap-requires c =
 pub invariant_of-self : goal.invariant_of-self
 invariant_of-self c =
   let items : c.push.new.self.items ≡ c.self.inside.terms.items ++ c.args.term ∷ [] = search rules in
-  sound-plant c.args.self.now _ c.args.term c.push.new.self.items _ c.self.view_is items c.self.invariant c.requires.children
+  sound-plant c.args.self.now _ c.args.term c.push.new.self.items _ c.self.view_is items c.self.invariant c.requires.children c.requires.fits
 
 pub returns-clause-index : goal.returns-clause-index
 returns-clause-index c =
