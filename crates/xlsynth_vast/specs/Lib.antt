@@ -1,1 +1,5 @@
 pub mod Equations
+pub mod Expressions
+pub mod Types
+pub mod Refusals
+pub mod Literals

@@ -5,6 +5,7 @@
 #![tactic(auto)]
 
 mod artifacts;
+mod expressions;
 mod file;
 mod modules;
 #[cfg(test)]
@@ -18,4 +19,4 @@ pub use vast_core::{Expr, GenerateLoop, Index, IndexableExpr, InlineVerilogState
 pub use vast_core::{LocalparamRef, LogicRef, MacroRef, MacroStatement, ModulePort, ParameterRef, Slice};
 pub use vast_core::{VastAlwaysBase, VastDataType, VastFunction, VastModule, VastStatement};
 pub use vast_core::VastStatementBlock;
-pub use vast_literal::{VastError, VastFault};
+pub use vast_literal::{LiteralFormat, VastError, VastFault};

@@ -1,0 +1,67 @@
+-- What a file holds after a call that makes an expression: one node more, or a literal and a node.
+use Rattle.std.specs.Prelude.{ℕ, ℤ, List}
+use Rattle.vast_literal.specs.Tree.{UnaryOp, BinaryOp, UnaryTree, BinaryTree, TernaryTree, IndexTree, SliceTree, PartSelectTree, NoExpr, SomeExpr, ConcatTree, PatternTree, WidthCastTree, TypeCastTree, PosEdgeTree, NegEdgeTree, NoArguments, SomeArguments, MacroTree, CallTree, ExprTree}
+use Rattle.vast_core.specs.declared.handle.Expr.{Expr}
+use Rattle.vast_core.specs.declared.handle.IndexableExpr.{IndexableExpr}
+use Rattle.vast_core.specs.declared.handle.VastDataType.{VastDataType}
+use Rattle.vast_core.specs.Handles.{indexable_expr_to_expr}
+use Rattle.vast_core.specs.Bench.{Bench, tree_of, type_of, trees_of}
+use Rattle.vast_core.specs.Growth.{with_expr}
+
+-- a sign before its operand
+abbrev pub with_unary : UnaryOp → Expr → Bench → Bench
+with_unary sign operand b = with_expr b (UnaryTree sign (tree_of b operand))
+
+-- a sign between its operands
+abbrev pub with_binary : BinaryOp → Expr → Expr → Bench → Bench
+with_binary sign left right b = with_expr b (BinaryTree sign (tree_of b left) (tree_of b right))
+
+-- a choice between two expressions
+abbrev pub with_ternary : Expr → Expr → Expr → Bench → Bench
+with_ternary condition consequent alternate b = with_expr b (TernaryTree (tree_of b condition) (tree_of b consequent) (tree_of b alternate))
+
+-- events of an edge
+abbrev pub with_pos_edge : Expr → Bench → Bench
+with_pos_edge operand b = with_expr b (PosEdgeTree (tree_of b operand))
+
+abbrev pub with_neg_edge : Expr → Bench → Bench
+with_neg_edge operand b = with_expr b (NegEdgeTree (tree_of b operand))
+
+-- casts
+abbrev pub with_width_cast : Expr → Expr → Bench → Bench
+with_width_cast width operand b = with_expr b (WidthCastTree (tree_of b width) (tree_of b operand))
+
+abbrev pub with_type_cast : VastDataType → Expr → Bench → Bench
+with_type_cast data_type operand b = with_expr b (TypeCastTree (type_of b data_type) (tree_of b operand))
+
+-- selects
+abbrev pub subject_of : Bench → IndexableExpr → ExprTree
+subject_of b subject = tree_of b (indexable_expr_to_expr subject)
+
+abbrev pub with_index : IndexableExpr → Expr → Bench → Bench
+with_index subject index b = with_expr b (IndexTree (subject_of b subject) (tree_of b index))
+
+abbrev pub with_slice : IndexableExpr → Expr → Expr → Bench → Bench
+with_slice subject high low b = with_expr b (SliceTree (subject_of b subject) (tree_of b high) (tree_of b low))
+
+abbrev pub with_part_select : IndexableExpr → Expr → ℤ → Bench → Bench
+with_part_select subject start width b = with_expr b (PartSelectTree (subject_of b subject) (tree_of b start) width)
+
+-- lists of expressions
+abbrev pub with_concat : List Expr → Bench → Bench
+with_concat parts b = with_expr b (ConcatTree NoExpr (trees_of b parts))
+
+abbrev pub with_replication : Expr → List Expr → Bench → Bench
+with_replication count parts b = with_expr b (ConcatTree (SomeExpr (tree_of b count)) (trees_of b parts))
+
+abbrev pub with_pattern : List Expr → Bench → Bench
+with_pattern parts b = with_expr b (PatternTree (trees_of b parts))
+
+abbrev pub with_call : List ℕ → List Expr → Bench → Bench
+with_call name arguments b = with_expr b (CallTree name (trees_of b arguments))
+
+abbrev pub with_macro : List ℕ → Bench → Bench
+with_macro name b = with_expr b (MacroTree name NoArguments)
+
+abbrev pub with_macro_call : List ℕ → List Expr → Bench → Bench
+with_macro_call name arguments b = with_expr b (MacroTree name (SomeArguments (trees_of b arguments)))

@@ -1,0 +1,9 @@
+//! Expressions.
+
+mod arithmetic;
+mod casts;
+mod comparisons;
+mod lists;
+mod literals;
+mod selects;
+mod unary;

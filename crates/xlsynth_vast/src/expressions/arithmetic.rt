@@ -1,0 +1,158 @@
+//! Arithmetic, bitwise signs and shifts.
+
+ghost use Rattle.std.specs.Prelude.{◌≡◌};
+ghost use Rattle.vast_literal.specs.Tree.{AddOp, SubOp, MulOp, DivOp, ModOp, PowerOp, BitwiseAndOp, BitwiseOrOp, BitwiseXorOp, ShllOp, ShraOp, ShrlOp};
+ghost use Rattle.vast_core.specs.Bench.{OwnsExpr};
+ghost use Rattle.vast_core.specs.Growth.{Builds, next_expr};
+ghost use Rattle.vast_core.specs.View.{bench};
+ghost use Rattle.xlsynth_vast.specs.Expressions.{with_binary};
+
+use crate::file::VastFile;
+use std::alloc::AllocError;
+use vast_core::{BinaryOperator, Expr};
+
+impl VastFile {
+    /// The sum `a + b`.
+    ///
+    /// # Errors
+    /// `AllocError` where a growth was refused; the file is unchanged.
+    pub fn make_add(&mut self, lhs: &Expr, rhs: &Expr) -> Result<Expr, AllocError>
+        requires lhs { OwnsExpr (bench self.old) lhs.now }
+        requires rhs { OwnsExpr (bench self.old) rhs.now }
+        ensures { Builds (bench self.old) (bench self.new) result (next_expr (bench self.old)) (with_binary AddOp lhs.now rhs.now (bench self.old)) }
+    {
+        self.ast.push_binary(BinaryOperator::Add, *lhs, *rhs)
+    }
+
+    /// The difference `a - b`.
+    ///
+    /// # Errors
+    /// `AllocError` where a growth was refused; the file is unchanged.
+    pub fn make_sub(&mut self, lhs: &Expr, rhs: &Expr) -> Result<Expr, AllocError>
+        requires lhs { OwnsExpr (bench self.old) lhs.now }
+        requires rhs { OwnsExpr (bench self.old) rhs.now }
+        ensures { Builds (bench self.old) (bench self.new) result (next_expr (bench self.old)) (with_binary SubOp lhs.now rhs.now (bench self.old)) }
+    {
+        self.ast.push_binary(BinaryOperator::Sub, *lhs, *rhs)
+    }
+
+    /// The product `a * b`.
+    ///
+    /// # Errors
+    /// `AllocError` where a growth was refused; the file is unchanged.
+    pub fn make_mul(&mut self, lhs: &Expr, rhs: &Expr) -> Result<Expr, AllocError>
+        requires lhs { OwnsExpr (bench self.old) lhs.now }
+        requires rhs { OwnsExpr (bench self.old) rhs.now }
+        ensures { Builds (bench self.old) (bench self.new) result (next_expr (bench self.old)) (with_binary MulOp lhs.now rhs.now (bench self.old)) }
+    {
+        self.ast.push_binary(BinaryOperator::Mul, *lhs, *rhs)
+    }
+
+    /// The quotient `a / b`.
+    ///
+    /// # Errors
+    /// `AllocError` where a growth was refused; the file is unchanged.
+    pub fn make_div(&mut self, lhs: &Expr, rhs: &Expr) -> Result<Expr, AllocError>
+        requires lhs { OwnsExpr (bench self.old) lhs.now }
+        requires rhs { OwnsExpr (bench self.old) rhs.now }
+        ensures { Builds (bench self.old) (bench self.new) result (next_expr (bench self.old)) (with_binary DivOp lhs.now rhs.now (bench self.old)) }
+    {
+        self.ast.push_binary(BinaryOperator::Div, *lhs, *rhs)
+    }
+
+    /// The remainder `a % b`.
+    ///
+    /// # Errors
+    /// `AllocError` where a growth was refused; the file is unchanged.
+    pub fn make_mod(&mut self, lhs: &Expr, rhs: &Expr) -> Result<Expr, AllocError>
+        requires lhs { OwnsExpr (bench self.old) lhs.now }
+        requires rhs { OwnsExpr (bench self.old) rhs.now }
+        ensures { Builds (bench self.old) (bench self.new) result (next_expr (bench self.old)) (with_binary ModOp lhs.now rhs.now (bench self.old)) }
+    {
+        self.ast.push_binary(BinaryOperator::Mod, *lhs, *rhs)
+    }
+
+    /// The power `a ** b`.
+    ///
+    /// # Errors
+    /// `AllocError` where a growth was refused; the file is unchanged.
+    pub fn make_power(&mut self, lhs: &Expr, rhs: &Expr) -> Result<Expr, AllocError>
+        requires lhs { OwnsExpr (bench self.old) lhs.now }
+        requires rhs { OwnsExpr (bench self.old) rhs.now }
+        ensures { Builds (bench self.old) (bench self.new) result (next_expr (bench self.old)) (with_binary PowerOp lhs.now rhs.now (bench self.old)) }
+    {
+        self.ast.push_binary(BinaryOperator::Power, *lhs, *rhs)
+    }
+
+    /// The bitwise AND `a & b`.
+    ///
+    /// # Errors
+    /// `AllocError` where a growth was refused; the file is unchanged.
+    pub fn make_bitwise_and(&mut self, lhs: &Expr, rhs: &Expr) -> Result<Expr, AllocError>
+        requires lhs { OwnsExpr (bench self.old) lhs.now }
+        requires rhs { OwnsExpr (bench self.old) rhs.now }
+        ensures { Builds (bench self.old) (bench self.new) result (next_expr (bench self.old)) (with_binary BitwiseAndOp lhs.now rhs.now (bench self.old)) }
+    {
+        self.ast.push_binary(BinaryOperator::BitwiseAnd, *lhs, *rhs)
+    }
+
+    /// The bitwise OR `a | b`.
+    ///
+    /// # Errors
+    /// `AllocError` where a growth was refused; the file is unchanged.
+    pub fn make_bitwise_or(&mut self, lhs: &Expr, rhs: &Expr) -> Result<Expr, AllocError>
+        requires lhs { OwnsExpr (bench self.old) lhs.now }
+        requires rhs { OwnsExpr (bench self.old) rhs.now }
+        ensures { Builds (bench self.old) (bench self.new) result (next_expr (bench self.old)) (with_binary BitwiseOrOp lhs.now rhs.now (bench self.old)) }
+    {
+        self.ast.push_binary(BinaryOperator::BitwiseOr, *lhs, *rhs)
+    }
+
+    /// The bitwise XOR `a ^ b`.
+    ///
+    /// # Errors
+    /// `AllocError` where a growth was refused; the file is unchanged.
+    pub fn make_bitwise_xor(&mut self, lhs: &Expr, rhs: &Expr) -> Result<Expr, AllocError>
+        requires lhs { OwnsExpr (bench self.old) lhs.now }
+        requires rhs { OwnsExpr (bench self.old) rhs.now }
+        ensures { Builds (bench self.old) (bench self.new) result (next_expr (bench self.old)) (with_binary BitwiseXorOp lhs.now rhs.now (bench self.old)) }
+    {
+        self.ast.push_binary(BinaryOperator::BitwiseXor, *lhs, *rhs)
+    }
+
+    /// The logical shift to the left, `a << b`.
+    ///
+    /// # Errors
+    /// `AllocError` where a growth was refused; the file is unchanged.
+    pub fn make_shll(&mut self, lhs: &Expr, rhs: &Expr) -> Result<Expr, AllocError>
+        requires lhs { OwnsExpr (bench self.old) lhs.now }
+        requires rhs { OwnsExpr (bench self.old) rhs.now }
+        ensures { Builds (bench self.old) (bench self.new) result (next_expr (bench self.old)) (with_binary ShllOp lhs.now rhs.now (bench self.old)) }
+    {
+        self.ast.push_binary(BinaryOperator::Shll, *lhs, *rhs)
+    }
+
+    /// The arithmetic shift to the right, `a >>> b`.
+    ///
+    /// # Errors
+    /// `AllocError` where a growth was refused; the file is unchanged.
+    pub fn make_shra(&mut self, lhs: &Expr, rhs: &Expr) -> Result<Expr, AllocError>
+        requires lhs { OwnsExpr (bench self.old) lhs.now }
+        requires rhs { OwnsExpr (bench self.old) rhs.now }
+        ensures { Builds (bench self.old) (bench self.new) result (next_expr (bench self.old)) (with_binary ShraOp lhs.now rhs.now (bench self.old)) }
+    {
+        self.ast.push_binary(BinaryOperator::Shra, *lhs, *rhs)
+    }
+
+    /// The logical shift to the right, `a >> b`.
+    ///
+    /// # Errors
+    /// `AllocError` where a growth was refused; the file is unchanged.
+    pub fn make_shrl(&mut self, lhs: &Expr, rhs: &Expr) -> Result<Expr, AllocError>
+        requires lhs { OwnsExpr (bench self.old) lhs.now }
+        requires rhs { OwnsExpr (bench self.old) rhs.now }
+        ensures { Builds (bench self.old) (bench self.new) result (next_expr (bench self.old)) (with_binary ShrlOp lhs.now rhs.now (bench self.old)) }
+    {
+        self.ast.push_binary(BinaryOperator::Shrl, *lhs, *rhs)
+    }
+}

@@ -1,0 +1,39 @@
+//! Casts.
+
+ghost use Rattle.std.specs.Prelude.{◌≡◌, IsTrue};
+ghost use Rattle.vast_core.specs.Types.{is_castable};
+ghost use Rattle.vast_core.specs.Bench.{OwnsExpr, OwnsType, type_of};
+ghost use Rattle.vast_core.specs.Growth.{Builds, next_expr};
+ghost use Rattle.vast_core.specs.View.{bench};
+ghost use Rattle.xlsynth_vast.specs.Expressions.{with_width_cast, with_type_cast};
+
+use crate::file::VastFile;
+use std::alloc::AllocError;
+use vast_core::{Expr, VastDataType};
+
+impl VastFile {
+    /// The value, cast to a width: `w'(v)`.
+    ///
+    /// # Errors
+    /// `AllocError` where a growth was refused; the file is unchanged.
+    pub fn make_width_cast(&mut self, width: &Expr, value: &Expr) -> Result<Expr, AllocError>
+        requires width { OwnsExpr (bench self.old) width.now }
+        requires value { OwnsExpr (bench self.old) value.now }
+        ensures { Builds (bench self.old) (bench self.new) result (next_expr (bench self.old)) (with_width_cast width.now value.now (bench self.old)) }
+    {
+        self.ast.push_width_cast(*width, *value)
+    }
+
+    /// The value, cast to a type that is no array; [`VastFile::type_can_be_cast`] is the test.
+    ///
+    /// # Errors
+    /// `AllocError` where a growth was refused; the file is unchanged.
+    pub fn make_type_cast(&mut self, data_type: &VastDataType, value: &Expr) -> Result<Expr, AllocError>
+        requires data_type { OwnsType (bench self.old) data_type.now }
+        requires castable { IsTrue (is_castable (type_of (bench self.old) data_type.now)) }
+        requires value { OwnsExpr (bench self.old) value.now }
+        ensures { Builds (bench self.old) (bench self.new) result (next_expr (bench self.old)) (with_type_cast data_type.now value.now (bench self.old)) }
+    {
+        self.ast.push_type_cast(*data_type, *value)
+    }
+}

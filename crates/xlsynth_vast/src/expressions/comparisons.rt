@@ -1,0 +1,171 @@
+//! Comparisons, logical signs and the choice between two expressions.
+
+ghost use Rattle.std.specs.Prelude.{◌≡◌};
+ghost use Rattle.vast_literal.specs.Tree.{NeOp, CaseNeOp, EqOp, CaseEqOp, GeOp, GtOp, LeOp, LtOp, LogicalAndOp, LogicalOrOp, NeXOp, EqXOp};
+ghost use Rattle.vast_core.specs.Bench.{OwnsExpr};
+ghost use Rattle.vast_core.specs.Growth.{Builds, next_expr};
+ghost use Rattle.vast_core.specs.View.{bench};
+ghost use Rattle.xlsynth_vast.specs.Expressions.{with_binary, with_ternary};
+
+use crate::file::VastFile;
+use std::alloc::AllocError;
+use vast_core::{BinaryOperator, Expr};
+
+impl VastFile {
+    /// The inequality `a != b`.
+    ///
+    /// # Errors
+    /// `AllocError` where a growth was refused; the file is unchanged.
+    pub fn make_ne(&mut self, lhs: &Expr, rhs: &Expr) -> Result<Expr, AllocError>
+        requires lhs { OwnsExpr (bench self.old) lhs.now }
+        requires rhs { OwnsExpr (bench self.old) rhs.now }
+        ensures { Builds (bench self.old) (bench self.new) result (next_expr (bench self.old)) (with_binary NeOp lhs.now rhs.now (bench self.old)) }
+    {
+        self.ast.push_binary(BinaryOperator::Ne, *lhs, *rhs)
+    }
+
+    /// The inequality with unknown bits compared too, `a !== b`.
+    ///
+    /// # Errors
+    /// `AllocError` where a growth was refused; the file is unchanged.
+    pub fn make_case_ne(&mut self, lhs: &Expr, rhs: &Expr) -> Result<Expr, AllocError>
+        requires lhs { OwnsExpr (bench self.old) lhs.now }
+        requires rhs { OwnsExpr (bench self.old) rhs.now }
+        ensures { Builds (bench self.old) (bench self.new) result (next_expr (bench self.old)) (with_binary CaseNeOp lhs.now rhs.now (bench self.old)) }
+    {
+        self.ast.push_binary(BinaryOperator::CaseNe, *lhs, *rhs)
+    }
+
+    /// The equality `a == b`.
+    ///
+    /// # Errors
+    /// `AllocError` where a growth was refused; the file is unchanged.
+    pub fn make_eq(&mut self, lhs: &Expr, rhs: &Expr) -> Result<Expr, AllocError>
+        requires lhs { OwnsExpr (bench self.old) lhs.now }
+        requires rhs { OwnsExpr (bench self.old) rhs.now }
+        ensures { Builds (bench self.old) (bench self.new) result (next_expr (bench self.old)) (with_binary EqOp lhs.now rhs.now (bench self.old)) }
+    {
+        self.ast.push_binary(BinaryOperator::Eq, *lhs, *rhs)
+    }
+
+    /// The equality with unknown bits compared too, `a === b`.
+    ///
+    /// # Errors
+    /// `AllocError` where a growth was refused; the file is unchanged.
+    pub fn make_case_eq(&mut self, lhs: &Expr, rhs: &Expr) -> Result<Expr, AllocError>
+        requires lhs { OwnsExpr (bench self.old) lhs.now }
+        requires rhs { OwnsExpr (bench self.old) rhs.now }
+        ensures { Builds (bench self.old) (bench self.new) result (next_expr (bench self.old)) (with_binary CaseEqOp lhs.now rhs.now (bench self.old)) }
+    {
+        self.ast.push_binary(BinaryOperator::CaseEq, *lhs, *rhs)
+    }
+
+    /// The comparison `a >= b`.
+    ///
+    /// # Errors
+    /// `AllocError` where a growth was refused; the file is unchanged.
+    pub fn make_ge(&mut self, lhs: &Expr, rhs: &Expr) -> Result<Expr, AllocError>
+        requires lhs { OwnsExpr (bench self.old) lhs.now }
+        requires rhs { OwnsExpr (bench self.old) rhs.now }
+        ensures { Builds (bench self.old) (bench self.new) result (next_expr (bench self.old)) (with_binary GeOp lhs.now rhs.now (bench self.old)) }
+    {
+        self.ast.push_binary(BinaryOperator::Ge, *lhs, *rhs)
+    }
+
+    /// The comparison `a > b`.
+    ///
+    /// # Errors
+    /// `AllocError` where a growth was refused; the file is unchanged.
+    pub fn make_gt(&mut self, lhs: &Expr, rhs: &Expr) -> Result<Expr, AllocError>
+        requires lhs { OwnsExpr (bench self.old) lhs.now }
+        requires rhs { OwnsExpr (bench self.old) rhs.now }
+        ensures { Builds (bench self.old) (bench self.new) result (next_expr (bench self.old)) (with_binary GtOp lhs.now rhs.now (bench self.old)) }
+    {
+        self.ast.push_binary(BinaryOperator::Gt, *lhs, *rhs)
+    }
+
+    /// The comparison `a <= b`.
+    ///
+    /// # Errors
+    /// `AllocError` where a growth was refused; the file is unchanged.
+    pub fn make_le(&mut self, lhs: &Expr, rhs: &Expr) -> Result<Expr, AllocError>
+        requires lhs { OwnsExpr (bench self.old) lhs.now }
+        requires rhs { OwnsExpr (bench self.old) rhs.now }
+        ensures { Builds (bench self.old) (bench self.new) result (next_expr (bench self.old)) (with_binary LeOp lhs.now rhs.now (bench self.old)) }
+    {
+        self.ast.push_binary(BinaryOperator::Le, *lhs, *rhs)
+    }
+
+    /// The comparison `a < b`.
+    ///
+    /// # Errors
+    /// `AllocError` where a growth was refused; the file is unchanged.
+    pub fn make_lt(&mut self, lhs: &Expr, rhs: &Expr) -> Result<Expr, AllocError>
+        requires lhs { OwnsExpr (bench self.old) lhs.now }
+        requires rhs { OwnsExpr (bench self.old) rhs.now }
+        ensures { Builds (bench self.old) (bench self.new) result (next_expr (bench self.old)) (with_binary LtOp lhs.now rhs.now (bench self.old)) }
+    {
+        self.ast.push_binary(BinaryOperator::Lt, *lhs, *rhs)
+    }
+
+    /// The logical AND `a && b`.
+    ///
+    /// # Errors
+    /// `AllocError` where a growth was refused; the file is unchanged.
+    pub fn make_logical_and(&mut self, lhs: &Expr, rhs: &Expr) -> Result<Expr, AllocError>
+        requires lhs { OwnsExpr (bench self.old) lhs.now }
+        requires rhs { OwnsExpr (bench self.old) rhs.now }
+        ensures { Builds (bench self.old) (bench self.new) result (next_expr (bench self.old)) (with_binary LogicalAndOp lhs.now rhs.now (bench self.old)) }
+    {
+        self.ast.push_binary(BinaryOperator::LogicalAnd, *lhs, *rhs)
+    }
+
+    /// The logical OR `a || b`.
+    ///
+    /// # Errors
+    /// `AllocError` where a growth was refused; the file is unchanged.
+    pub fn make_logical_or(&mut self, lhs: &Expr, rhs: &Expr) -> Result<Expr, AllocError>
+        requires lhs { OwnsExpr (bench self.old) lhs.now }
+        requires rhs { OwnsExpr (bench self.old) rhs.now }
+        ensures { Builds (bench self.old) (bench self.new) result (next_expr (bench self.old)) (with_binary LogicalOrOp lhs.now rhs.now (bench self.old)) }
+    {
+        self.ast.push_binary(BinaryOperator::LogicalOr, *lhs, *rhs)
+    }
+
+    /// The inequality with an unknown value, written `a !== b`.
+    ///
+    /// # Errors
+    /// `AllocError` where a growth was refused; the file is unchanged.
+    pub fn make_ne_x(&mut self, lhs: &Expr, rhs: &Expr) -> Result<Expr, AllocError>
+        requires lhs { OwnsExpr (bench self.old) lhs.now }
+        requires rhs { OwnsExpr (bench self.old) rhs.now }
+        ensures { Builds (bench self.old) (bench self.new) result (next_expr (bench self.old)) (with_binary NeXOp lhs.now rhs.now (bench self.old)) }
+    {
+        self.ast.push_binary(BinaryOperator::NeX, *lhs, *rhs)
+    }
+
+    /// The equality with an unknown value, written `a === b`.
+    ///
+    /// # Errors
+    /// `AllocError` where a growth was refused; the file is unchanged.
+    pub fn make_eq_x(&mut self, lhs: &Expr, rhs: &Expr) -> Result<Expr, AllocError>
+        requires lhs { OwnsExpr (bench self.old) lhs.now }
+        requires rhs { OwnsExpr (bench self.old) rhs.now }
+        ensures { Builds (bench self.old) (bench self.new) result (next_expr (bench self.old)) (with_binary EqXOp lhs.now rhs.now (bench self.old)) }
+    {
+        self.ast.push_binary(BinaryOperator::EqX, *lhs, *rhs)
+    }
+
+    /// The choice `c ? a : b`.
+    ///
+    /// # Errors
+    /// `AllocError` where a growth was refused; the file is unchanged.
+    pub fn make_ternary(&mut self, condition: &Expr, consequent: &Expr, alternate: &Expr) -> Result<Expr, AllocError>
+        requires condition { OwnsExpr (bench self.old) condition.now }
+        requires consequent { OwnsExpr (bench self.old) consequent.now }
+        requires alternate { OwnsExpr (bench self.old) alternate.now }
+        ensures { Builds (bench self.old) (bench self.new) result (next_expr (bench self.old)) (with_ternary condition.now consequent.now alternate.now (bench self.old)) }
+    {
+        self.ast.push_ternary(*condition, *consequent, *alternate)
+    }
+}

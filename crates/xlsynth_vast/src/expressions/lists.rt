@@ -1,0 +1,118 @@
+//! Expressions over lists of others: concatenations, patterns, calls and macros.
+
+ghost use Rattle.std.specs.Prelude.{◌≡◌, ◌≢◌, IfOk, All, [], map};
+ghost use Rattle.vast_core.specs.Bench.{OwnsExpr};
+ghost use Rattle.vast_core.specs.Growth.{Builds, next_expr, next_macro_ref, next_fixed_replication, with_fixed_replication};
+ghost use Rattle.vast_core.specs.View.{bench};
+ghost use Rattle.xlsynth_vast.specs.Expressions.{with_concat, with_replication, with_pattern, with_call, with_macro, with_macro_call};
+
+use crate::file::VastFile;
+use std::alloc::AllocError;
+use vast_core::{Expr, MacroRef};
+
+impl VastFile {
+    /// The handles behind the references, which are the file's own as those are.
+    fn handles(&self, parts: &[&Expr]) -> Result<Vec<Expr>, AllocError>
+        requires { All (λ e. OwnsExpr (bench self.now) e.now) parts.now }
+        ensures items { IfOk result (λ handles. handles.items ≡ map (λ e. e.now) parts.now) }
+        ensures owned { IfOk result (λ handles. All (OwnsExpr (bench self.now)) handles.items) }
+    {
+        parts.iter().map(|e| **e).collect(self.ast.allocator())
+    }
+
+    /// The concatenation `{a, b}`; there may be no parts.
+    ///
+    /// # Errors
+    /// `AllocError` where a growth was refused; the file is unchanged.
+    pub fn make_concat(&mut self, expressions: &[&Expr]) -> Result<Expr, AllocError>
+        requires { All (λ e. OwnsExpr (bench self.old) e.now) expressions.now }
+        ensures {
+            Builds (bench self.old) (bench self.new) result (next_expr (bench self.old)) (with_concat (map (λ e. e.now) expressions.now) (bench self.old))
+        }
+    {
+        let parts = self.handles(expressions)?;
+        self.ast.push_concat(None, &parts)
+    }
+
+    /// The replicated concatenation `{n{a, b}}`.
+    ///
+    /// # Errors
+    /// `AllocError` where a growth was refused; the file is unchanged.
+    pub fn make_replicated_concat(&mut self, replication: &Expr, elements: &[&Expr]) -> Result<Expr, AllocError>
+        requires replication { OwnsExpr (bench self.old) replication.now }
+        requires elements { All (λ e. OwnsExpr (bench self.old) e.now) elements.now }
+        ensures {
+            Builds (bench self.old) (bench self.new) result (next_expr (bench self.old)) (with_replication replication.now (map (λ e. e.now) elements.now) (bench self.old))
+        }
+    {
+        let parts = self.handles(elements)?;
+        self.ast.push_concat(Some(*replication), &parts)
+    }
+
+    /// The replicated concatenation by a number, for which a literal is made too.
+    ///
+    /// # Errors
+    /// `AllocError` where a growth was refused; the file is unchanged.
+    pub fn make_replicated_concat_i64(&mut self, replication: i64, elements: &[&Expr]) -> Result<Expr, AllocError>
+        requires { All (λ e. OwnsExpr (bench self.old) e.now) elements.now }
+        ensures {
+            Builds (bench self.old) (bench self.new) result (next_fixed_replication replication (bench self.old)) (with_fixed_replication replication (map (λ e. e.now) elements.now) (bench self.old))
+        }
+    {
+        let parts = self.handles(elements)?;
+        self.ast.push_replication_fixed(replication, &parts)
+    }
+
+    /// The array assignment pattern `'{a, b}`.
+    ///
+    /// # Errors
+    /// `AllocError` where a growth was refused; the file is unchanged.
+    pub fn make_array_assignment_pattern(&mut self, elements: &[&Expr]) -> Result<Expr, AllocError>
+        requires { All (λ e. OwnsExpr (bench self.old) e.now) elements.now }
+        ensures {
+            Builds (bench self.old) (bench self.new) result (next_expr (bench self.old)) (with_pattern (map (λ e. e.now) elements.now) (bench self.old))
+        }
+    {
+        let parts = self.handles(elements)?;
+        self.ast.push_pattern(&parts)
+    }
+
+    /// The call `f(a, b)` of a function of this name.
+    ///
+    /// # Errors
+    /// `AllocError` where a growth was refused; the file is unchanged.
+    pub fn make_function_call(&mut self, name: &str, arguments: &[&Expr]) -> Result<Expr, AllocError>
+        requires name { name.now ≢ [] }
+        requires arguments { All (λ e. OwnsExpr (bench self.old) e.now) arguments.now }
+        ensures {
+            Builds (bench self.old) (bench self.new) result (next_expr (bench self.old)) (with_call name.now (map (λ e. e.now) arguments.now) (bench self.old))
+        }
+    {
+        let parts = self.handles(arguments)?;
+        self.ast.push_call(name, &parts)
+    }
+
+    /// The use of a macro without arguments, `` `M ``.
+    ///
+    /// # Errors
+    /// `AllocError` where a growth was refused; the file is unchanged.
+    pub fn make_macro_ref(&mut self, name: &str) -> Result<MacroRef, AllocError>
+        ensures { Builds (bench self.old) (bench self.new) result (next_macro_ref (bench self.old)) (with_macro name.now (bench self.old)) }
+    {
+        self.ast.push_macro(name)
+    }
+
+    /// The use of a macro with arguments, `` `M(a, b) ``; there may be none.
+    ///
+    /// # Errors
+    /// `AllocError` where a growth was refused; the file is unchanged.
+    pub fn make_macro_ref_with_args(&mut self, name: &str, arguments: &[&Expr]) -> Result<MacroRef, AllocError>
+        requires { All (λ e. OwnsExpr (bench self.old) e.now) arguments.now }
+        ensures {
+            Builds (bench self.old) (bench self.new) result (next_macro_ref (bench self.old)) (with_macro_call name.now (map (λ e. e.now) arguments.now) (bench self.old))
+        }
+    {
+        let parts = self.handles(arguments)?;
+        self.ast.push_macro_with_args(name, &parts)
+    }
+}

@@ -1,0 +1,127 @@
+//! Selects: single bits and ranges of an expression.
+
+ghost use Rattle.std.specs.Prelude.{◌≡◌, ◌≤ℤ◌, pos, IfOk, string_bytes};
+ghost use Rattle.vast_literal.specs.Spelling.{spelled};
+ghost use Rattle.vast_core.specs.Handles.{expr_to_indexable_expr};
+ghost use Rattle.vast_core.specs.Bench.{OwnsExpr, OwnsIndexable};
+ghost use Rattle.vast_core.specs.Growth.{Builds, next_expr, next_index, next_fixed_index, with_fixed_index, next_slice, next_fixed_slice, with_fixed_slice};
+ghost use Rattle.vast_core.specs.View.{bench};
+ghost use Rattle.xlsynth_vast.specs.Expressions.{with_index, with_slice, with_part_select};
+ghost use Rattle.xlsynth_vast.specs.Literals.{selector_text};
+
+use crate::file::VastFile;
+use std::alloc::{AllocError, Global};
+use vast_core::{Expr, Index, IndexableExpr, Slice};
+use vast_literal::{Literal, LiteralFormat};
+
+impl VastFile {
+    /// The same node, as an expression that may be selected from.
+    ///
+    /// Tools commonly take selects of named signals and arrays, and not of other expressions.
+    pub fn make_indexable_expression(&self, expression: &Expr) -> IndexableExpr
+        requires { OwnsExpr (bench self.now) expression.now }
+        ensures { result ≡ expr_to_indexable_expr expression.now }
+    {
+        self.ast.indexable(*expression)
+    }
+
+    /// The range `s[hi:lo]` between two numbers, for which literals are made, that of `hi` first.
+    ///
+    /// # Errors
+    /// `AllocError` where a growth was refused; the file is unchanged.
+    pub fn make_slice(&mut self, subject: &IndexableExpr, hi: i64, lo: i64) -> Result<Slice, AllocError>
+        requires subject { OwnsIndexable (bench self.old) subject.now }
+        requires hi { pos 0 ≤ℤ hi }
+        requires lo { pos 0 ≤ℤ lo }
+        ensures {
+            Builds (bench self.old) (bench self.new) result (next_fixed_slice (selector_text hi) hi (selector_text lo) lo (bench self.old)) (with_fixed_slice subject.now (selector_text hi) hi (selector_text lo) lo (bench self.old))
+        }
+    {
+        let alloc = self.ast.allocator();
+        let high_text = selector_text(alloc, hi)?;
+        let low_text = selector_text(alloc, lo)?;
+        self.ast.push_slice_fixed(*subject, &high_text, hi, &low_text, lo)
+    }
+
+    /// The bit `s[index]`, by a number, for which a literal is made.
+    ///
+    /// # Errors
+    /// `AllocError` where a growth was refused; the file is unchanged.
+    pub fn make_index(&mut self, subject: &IndexableExpr, index: i64) -> Result<Index, AllocError>
+        requires subject { OwnsIndexable (bench self.old) subject.now }
+        requires index { pos 0 ≤ℤ index }
+        ensures {
+            Builds (bench self.old) (bench self.new) result (next_fixed_index (selector_text index) index (bench self.old)) (with_fixed_index subject.now (selector_text index) index (bench self.old))
+        }
+    {
+        let text = selector_text(self.ast.allocator(), index)?;
+        self.ast.push_index_fixed(*subject, &text, index)
+    }
+
+    /// The range `s[hi:lo]` between two bounds that are expressions.
+    ///
+    /// # Errors
+    /// `AllocError` where a growth was refused; the file is unchanged.
+    pub fn make_slice_expr(&mut self, subject: &IndexableExpr, hi: &Expr, lo: &Expr) -> Result<Slice, AllocError>
+        requires subject { OwnsIndexable (bench self.old) subject.now }
+        requires hi { OwnsExpr (bench self.old) hi.now }
+        requires lo { OwnsExpr (bench self.old) lo.now }
+        ensures { Builds (bench self.old) (bench self.new) result (next_slice (bench self.old)) (with_slice subject.now hi.now lo.now (bench self.old)) }
+    {
+        self.ast.push_slice(*subject, *hi, *lo)
+    }
+
+    /// The bit `s[index]`, by an expression.
+    ///
+    /// # Errors
+    /// `AllocError` where a growth was refused; the file is unchanged.
+    pub fn make_index_expr(&mut self, subject: &IndexableExpr, index: &Expr) -> Result<Index, AllocError>
+        requires subject { OwnsIndexable (bench self.old) subject.now }
+        requires index { OwnsExpr (bench self.old) index.now }
+        ensures { Builds (bench self.old) (bench self.new) result (next_index (bench self.old)) (with_index subject.now index.now (bench self.old)) }
+    {
+        self.ast.push_index(*subject, *index)
+    }
+
+    /// The range `s[start +: width]` of so many bits upwards.
+    ///
+    /// # Errors
+    /// `AllocError` where a growth was refused; the file is unchanged.
+    pub fn make_indexed_part_select(
+        &mut self,
+        subject: &IndexableExpr,
+        start: &Expr,
+        width: i64,
+    ) -> Result<Expr, AllocError>
+        requires subject { OwnsIndexable (bench self.old) subject.now }
+        requires start { OwnsExpr (bench self.old) start.now }
+        requires width { pos 1 ≤ℤ width }
+        ensures { Builds (bench self.old) (bench self.new) result (next_expr (bench self.old)) (with_part_select subject.now start.now width (bench self.old)) }
+    {
+        self.ast.push_part_select(*subject, *start, width)
+    }
+}
+
+/// The text of a number that selects: in decimal up to `i32::MAX`, which every tool reads, and above that in base 16
+/// with a width of 64 bits.
+fn selector_text(alloc: Global, index: i64) -> Result<String, AllocError>
+    requires { pos 0 ≤ℤ index }
+    ensures { IfOk result (λ text. string_bytes text ≡ selector_text index) }
+{
+    if index <= i64::from(i32::MAX) {
+        format!(in alloc; "{index}")
+    } else {
+        wide_text(alloc, index.unsigned_abs())
+    }
+}
+
+/// The number in base 16 with a width of 64 bits.
+fn wide_text(alloc: Global, number: u64) -> Result<String, AllocError>
+    ensures { IfOk result (λ text. string_bytes text ≡ spelled LiteralFormat.Hex 64 number) }
+{
+    let text = format!(in alloc; "bits[64]:{number}")?;
+    let Ok(literal) = Literal::parse(alloc, &text) else {
+        unreachable!()
+    };
+    literal.format(alloc, LiteralFormat::Hex)
+}

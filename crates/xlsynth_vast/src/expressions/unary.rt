@@ -1,0 +1,113 @@
+//! Signs and edges before one operand.
+
+ghost use Rattle.std.specs.Prelude.{◌≡◌};
+ghost use Rattle.vast_literal.specs.Tree.{NegateOp, BitwiseNotOp, LogicalNotOp, AndReduceOp, OrReduceOp, XorReduceOp};
+ghost use Rattle.vast_core.specs.Bench.{OwnsExpr};
+ghost use Rattle.vast_core.specs.Growth.{Builds, next_expr};
+ghost use Rattle.vast_core.specs.View.{bench};
+ghost use Rattle.xlsynth_vast.specs.Expressions.{with_unary, with_pos_edge, with_neg_edge};
+
+use crate::file::VastFile;
+use std::alloc::AllocError;
+use vast_core::{Expr, UnaryOperator};
+
+impl VastFile {
+    /// The bitwise complement `~a`, as [`VastFile::make_bitwise_not`] makes it.
+    ///
+    /// # Errors
+    /// `AllocError` where a growth was refused; the file is unchanged.
+    pub fn make_not(&mut self, expression: &Expr) -> Result<Expr, AllocError>
+        requires { OwnsExpr (bench self.old) expression.now }
+        ensures { Builds (bench self.old) (bench self.new) result (next_expr (bench self.old)) (with_unary BitwiseNotOp expression.now (bench self.old)) }
+    {
+        self.make_bitwise_not(expression)
+    }
+
+    /// The bitwise complement `~a`.
+    ///
+    /// # Errors
+    /// `AllocError` where a growth was refused; the file is unchanged.
+    pub fn make_bitwise_not(&mut self, expression: &Expr) -> Result<Expr, AllocError>
+        requires { OwnsExpr (bench self.old) expression.now }
+        ensures { Builds (bench self.old) (bench self.new) result (next_expr (bench self.old)) (with_unary BitwiseNotOp expression.now (bench self.old)) }
+    {
+        self.ast.push_unary(UnaryOperator::BitwiseNot, *expression)
+    }
+
+    /// The negation `-a`.
+    ///
+    /// # Errors
+    /// `AllocError` where a growth was refused; the file is unchanged.
+    pub fn make_negate(&mut self, expression: &Expr) -> Result<Expr, AllocError>
+        requires { OwnsExpr (bench self.old) expression.now }
+        ensures { Builds (bench self.old) (bench self.new) result (next_expr (bench self.old)) (with_unary NegateOp expression.now (bench self.old)) }
+    {
+        self.ast.push_unary(UnaryOperator::Negate, *expression)
+    }
+
+    /// The logical complement `!a`.
+    ///
+    /// # Errors
+    /// `AllocError` where a growth was refused; the file is unchanged.
+    pub fn make_logical_not(&mut self, expression: &Expr) -> Result<Expr, AllocError>
+        requires { OwnsExpr (bench self.old) expression.now }
+        ensures { Builds (bench self.old) (bench self.new) result (next_expr (bench self.old)) (with_unary LogicalNotOp expression.now (bench self.old)) }
+    {
+        self.ast.push_unary(UnaryOperator::LogicalNot, *expression)
+    }
+
+    /// The AND of all bits, `&a`.
+    ///
+    /// # Errors
+    /// `AllocError` where a growth was refused; the file is unchanged.
+    pub fn make_and_reduce(&mut self, expression: &Expr) -> Result<Expr, AllocError>
+        requires { OwnsExpr (bench self.old) expression.now }
+        ensures { Builds (bench self.old) (bench self.new) result (next_expr (bench self.old)) (with_unary AndReduceOp expression.now (bench self.old)) }
+    {
+        self.ast.push_unary(UnaryOperator::AndReduce, *expression)
+    }
+
+    /// The OR of all bits, `|a`.
+    ///
+    /// # Errors
+    /// `AllocError` where a growth was refused; the file is unchanged.
+    pub fn make_or_reduce(&mut self, expression: &Expr) -> Result<Expr, AllocError>
+        requires { OwnsExpr (bench self.old) expression.now }
+        ensures { Builds (bench self.old) (bench self.new) result (next_expr (bench self.old)) (with_unary OrReduceOp expression.now (bench self.old)) }
+    {
+        self.ast.push_unary(UnaryOperator::OrReduce, *expression)
+    }
+
+    /// The XOR of all bits, `^a`.
+    ///
+    /// # Errors
+    /// `AllocError` where a growth was refused; the file is unchanged.
+    pub fn make_xor_reduce(&mut self, expression: &Expr) -> Result<Expr, AllocError>
+        requires { OwnsExpr (bench self.old) expression.now }
+        ensures { Builds (bench self.old) (bench self.new) result (next_expr (bench self.old)) (with_unary XorReduceOp expression.now (bench self.old)) }
+    {
+        self.ast.push_unary(UnaryOperator::XorReduce, *expression)
+    }
+
+    /// The event of a rising edge, `posedge a`.
+    ///
+    /// # Errors
+    /// `AllocError` where a growth was refused; the file is unchanged.
+    pub fn make_pos_edge(&mut self, expression: &Expr) -> Result<Expr, AllocError>
+        requires { OwnsExpr (bench self.old) expression.now }
+        ensures { Builds (bench self.old) (bench self.new) result (next_expr (bench self.old)) (with_pos_edge expression.now (bench self.old)) }
+    {
+        self.ast.push_pos_edge(*expression)
+    }
+
+    /// The event of a falling edge, `negedge a`.
+    ///
+    /// # Errors
+    /// `AllocError` where a growth was refused; the file is unchanged.
+    pub fn make_neg_edge(&mut self, expression: &Expr) -> Result<Expr, AllocError>
+        requires { OwnsExpr (bench self.old) expression.now }
+        ensures { Builds (bench self.old) (bench self.new) result (next_expr (bench self.old)) (with_neg_edge expression.now (bench self.old)) }
+    {
+        self.ast.push_neg_edge(*expression)
+    }
+}
