@@ -1,9 +1,10 @@
 //! Types.
 
-ghost use Rattle.std.specs.Prelude.{◌≡◌, ◌≤ℤ◌, pos, false, IsTrue};
+ghost use Rattle.std.specs.Prelude.{◌≡◌, ◌≤ℤ◌, ◌↔◌, pos, false, IsTrue};
 ghost use Rattle.vast_literal.specs.Tree.{ScalarTree, IntegerTree, IntTree, ExternalTree, PackageTree};
-ghost use Rattle.vast_core.specs.Types.{IsUsableWidth, is_packable, AreDimensions};
-ghost use Rattle.vast_core.specs.Bench.{OwnsExpr, OwnsType, tree_of, type_of};
+ghost use Rattle.vast_core.specs.Types.{IsUsableWidth, is_packable, is_castable, is_signed, width_of, AreDimensions};
+ghost use Rattle.vast_core.specs.Nodes.{OptionHolds};
+ghost use Rattle.vast_core.specs.Bench.{OwnsExpr, OwnsType, tree_of, maybe_tree_of, type_of};
 ghost use Rattle.vast_core.specs.Growth.{Builds, next_type, with_type};
 ghost use Rattle.vast_core.specs.View.{bench};
 ghost use Rattle.xlsynth_vast.specs.Equations.{next_bit_vector, with_bit_vector};
@@ -117,5 +118,46 @@ impl VastFile {
         ensures { Builds (bench self.old) (bench self.new) result (next_type (bench self.old)) (with_unpacked element dimensions.now (bench self.old)) }
     {
         self.ast.push_unpacked(element, dimensions)
+    }
+
+    /// Whether the expression may be a vector's width: it isn't a literal with a value below 1.
+    pub fn width_is_usable(&self, width: &Expr) -> bool
+        requires { OwnsExpr (bench self.now) width.now }
+        ensures { IsTrue result ↔ IsUsableWidth (tree_of (bench self.now) width.now) }
+    {
+        self.ast.width_is_usable(*width)
+    }
+
+    /// Whether a packed array may be made of the type: it is no unpacked array, no `integer` and no `int`.
+    pub fn type_can_be_packed(&self, data_type: VastDataType) -> bool
+        requires { OwnsType (bench self.now) data_type }
+        ensures { result ≡ is_packable (type_of (bench self.now) data_type) }
+    {
+        self.ast.type_can_be_packed(data_type)
+    }
+
+    /// Whether an expression may be cast to the type: it is no array.
+    pub fn type_can_be_cast(&self, data_type: VastDataType) -> bool
+        requires { OwnsType (bench self.now) data_type }
+        ensures { result ≡ is_castable (type_of (bench self.now) data_type) }
+    {
+        self.ast.type_can_be_cast(data_type)
+    }
+
+    /// The width of the vector within the arrays; `None` where no vector is within.
+    pub fn type_width_expr(&self, data_type: VastDataType) -> Option<Expr>
+        requires { OwnsType (bench self.now) data_type }
+        ensures owned { OptionHolds (OwnsExpr (bench self.now)) result }
+        ensures width { maybe_tree_of (bench self.now) result ≡ width_of (type_of (bench self.now) data_type) }
+    {
+        self.ast.type_width_expr(data_type)
+    }
+
+    /// Whether the type within the arrays is signed; one that is declared elsewhere isn't.
+    pub fn type_is_signed(&self, data_type: VastDataType) -> bool
+        requires { OwnsType (bench self.now) data_type }
+        ensures { result ≡ is_signed (type_of (bench self.now) data_type) }
+    {
+        self.ast.type_is_signed(data_type)
     }
 }

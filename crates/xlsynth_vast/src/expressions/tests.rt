@@ -145,7 +145,34 @@ fn makes_types(rt: HostRuntime) -> Result<(), Fail> {
     file.make_extern_type("T")?;
     file.make_extern_package_type("p", "T")?;
     assert!(rt; file.owns(&bit));
-    let array = file.make_unpacked_array_type(bit, &[2, 3])?;
+    assert!(rt; file.type_can_be_packed(bit));
+    let packed = file.make_packed_array_type(bit, &[2, 3])?;
+    assert!(rt; file.owns(&packed));
+    assert!(rt; !file.type_can_be_cast(packed));
+    let array = file.make_unpacked_array_type(packed, &[4])?;
     assert!(rt; file.owns(&array));
+    assert!(rt; !file.type_can_be_packed(array));
+    assert!(rt; file.type_width_expr(array).is_none());
+    assert!(rt; !file.type_is_signed(array));
+    Ok(())
+}
+
+#[test]
+fn makes_types_of_expressions(rt: HostRuntime) -> Result<(), Fail> {
+    let mut file = empty_file(&rt)?;
+    let zero = file.make_unsized_zero_literal()?;
+    assert!(rt; file.owns(&zero));
+    assert!(rt; !file.width_is_usable(&zero));
+    let width = make!(rt, file, make_not(zero));
+    assert!(rt; file.owns(&width));
+    assert!(rt; file.width_is_usable(&width));
+    let vector = file.make_bit_vector_type_expr(&width, true)?;
+    assert!(rt; file.owns(&vector));
+    assert!(rt; file.type_is_signed(vector));
+    assert!(rt; file.type_width_expr(vector) == Some(width));
+    assert!(rt; file.type_can_be_cast(vector));
+    assert!(rt; file.owns(&width));
+    let cast = file.make_type_cast(&vector, &width)?;
+    assert!(rt; file.owns(&cast));
     Ok(())
 }
