@@ -1,5 +1,5 @@
 -- Arrays of types, and how counting the bits goes on from an array to its elements.
-use Rattle.std.proofs.Common.{◌≡◌, ◌<◌, ◌^◌, ℤ, pos, ◌*ℤ◌, ◌≤ℤ◌, List, [], ◌++◌, Option, Some, All, refl, sym, ap, ◌∙◌}
+use Rattle.std.proofs.Common.{◌≡◌, ◌<◌, ◌^◌, ℤ, pos, ◌*ℤ◌, ◌≤ℤ◌, List, [], ◌++◌, Some, All, refl, sym, ap, ◌∙◌}
 use Rattle.std.proofs.Math.IntN.{*ℤ_comm}
 use Rattle.vast_literal.specs.Tree.{TypeTree, PackedTree, UnpackedTree}
 use Rattle.vast_core.specs.declared.handle.VastDataType.{VastDataType}

@@ -1,14 +1,12 @@
 -- Selects by numbers: what stands after the literals and the select.
-use Rattle.std.proofs.Common.{◌≡◌, ℕ, ℤ, List, Some, refl, sym, ap, ◌∙◌}
+use Rattle.std.proofs.Common.{◌≡◌, ℕ, ℤ, List, Some, refl}
 use Rattle.vast_literal.specs.Tree.{LiteralTree, IndexTree, SliceTree}
 use Rattle.vast_core.specs.declared.handle.Expr.{Expr}
 use Rattle.vast_core.specs.declared.handle.IndexableExpr.{IndexableExpr}
-use Rattle.vast_core.specs.declared.handle.Index.{Index}
-use Rattle.vast_core.specs.declared.handle.Slice.{Slice}
 use Rattle.vast_core.specs.Handles.{indexable_expr_to_expr}
 use Rattle.vast_core.specs.Nodes.{ExprRoot}
 use Rattle.vast_core.specs.Bench.{Bench, OwnsIndexable, tree_of}
-use Rattle.vast_core.specs.Growth.{with_expr, with_bounds, with_fixed_index, with_fixed_slice, next_expr, next_index, next_slice, next_fixed_index, next_fixed_slice, known_literal}
+use Rattle.vast_core.specs.Growth.{with_expr, with_bounds, with_fixed_index, with_fixed_slice, next_expr, next_fixed_index, next_fixed_slice, known_literal}
 use Rattle.vast_core.proofs.Laws.{next_owned, next_tree, old_owned, old_tree}
 
 index-built :

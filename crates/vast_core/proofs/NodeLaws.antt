@@ -1,7 +1,7 @@
 -- Laws of the arena of expressions and types.
-use Rattle.std.proofs.Common.{zero, suc, get_or, ◌≡◌, ℕ, ◌+◌, ◌<◌, ◌≤◌, Bool, true, false, IsTrue, List, [], ◌∷◌, ◌++◌, length, Option, Some, None, slice_get, All, refl, sym, ap, ◌∙◌, subst, arith, length-append}
+use Rattle.std.proofs.Common.{zero, suc, get_or, ◌≡◌, ℕ, ◌+◌, ◌<◌, ◌≤◌, Bool, IsTrue, List, [], ◌∷◌, ◌++◌, length, Option, Some, None, slice_get, All, refl, sym, ap, ◌∙◌, subst, arith, length-append}
 use Rattle.std.proofs.lemmas.Option.{slice_get_within, slice_get_past, slice_get_read}
-use Rattle.vast_literal.specs.Tree.{ExprTree, TypeTree, Typed, SomeExpr, Exprs}
+use Rattle.vast_literal.specs.Tree.{ExprTree, TypeTree, Typed, SomeExpr}
 use Rattle.vast_core.specs.declared.handle.Expr.{Expr}
 use Rattle.vast_core.specs.declared.handle.VastDataType.{VastDataType}
 use Rattle.vast_core.specs.declared.node.ExprNode.{ExprNode}
@@ -11,7 +11,7 @@ use Rattle.vast_core.specs.declared.node.TypeNode.TheVariants.{Scalar, Vector, I
 use Rattle.vast_core.specs.declared.node.Term.{Term}
 use Rattle.vast_core.specs.declared.node.Term.TheVariants.{Expression, DataType}
 use Rattle.vast_core.specs.Handles.{rank, type_rank}
-use Rattle.vast_core.specs.Nodes.{Root, ExprRoot, TypeRoot, Nodes, no_nodes, with_root, is_expr_root, is_type_root, is_root_of, expr_of_root, type_of_root, IsOwned, HasExpr, HasType, expr_in, type_in, maybe_type_in, maybe_expr_in, exprs_in, expr_tree, type_tree, term_root, OptionHolds, ExprChildrenHold, TypeChildrenHold, ChildrenHold, RootFits, RootWellFormed, built, TermsSound, IsNodeAt}
+use Rattle.vast_core.specs.Nodes.{Root, ExprRoot, TypeRoot, Nodes, no_nodes, with_root, is_expr_root, is_type_root, is_root_of, expr_of_root, type_of_root, HasExpr, HasType, expr_in, type_in, maybe_type_in, maybe_expr_in, exprs_in, expr_tree, type_tree, term_root, OptionHolds, ExprChildrenHold, TypeChildrenHold, ChildrenHold, RootFits, RootWellFormed, built, TermsSound, IsNodeAt}
 use Rattle.vast_core.specs.Types.{ExprFits, TypeFits, ExprWellFormed, TypeWellFormed, MaybeTypeWellFormed, MaybeExprWellFormed, ExprsWellFormed}
 use Rattle.vast_core.specs.Sound.{Each}
 use Rattle.vast_core.proofs.Lists.{slice_get-append, slice_get-seam, All-head, All-tail, All-implies, Each-push, Each-get}

@@ -1,5 +1,5 @@
 -- Products of numbers from 1 on.
-use Rattle.std.proofs.Common.{◌≡◌, zero, suc, ℕ, ◌+◌, ◌*◌, ◌<◌, ◌≤◌, ◌^◌, ℤ, pos, negsuc, ◌*ℤ◌, ◌≤ℤ◌, ◌<ℤ◌, FitsSigned, w64, List, [], ◌∷◌, ◌++◌, length, get_or, drop, drop-cons, add-one, All, refl, sym, ap, ◌∙◌, arith}
+use Rattle.std.proofs.Common.{◌≡◌, zero, suc, ℕ, ◌+◌, ◌*◌, ◌<◌, ◌^◌, ℤ, pos, negsuc, ◌*ℤ◌, ◌≤ℤ◌, FitsSigned, w64, List, [], ◌∷◌, ◌++◌, length, get_or, drop, drop-cons, add-one, All, refl, sym, ap, ◌∙◌, arith}
 use Rattle.std.proofs.lemmas.Int.{ints, by_lt_z, fits_signed_from_abs}
 use Rattle.std.proofs.Math.IntN.{pos-*ℤ-pos, *ℤ_comm}
 use Rattle.std.proofs.Math.Nat.{mul_assoc, mul_comm, suc-mul}

@@ -1,4 +1,4 @@
-use Rattle.std.proofs.Common.{rules, ◌≡◌, ◌*ℤ◌, ℤ, pos, ap, ◌∙◌, to_z, of_z, w64}
+use Rattle.std.proofs.Common.{rules, ◌≡◌, ◌*ℤ◌, ℤ, ap, ◌∙◌, to_z, of_z, w64}
 use Rattle.vast_core.specs.Bench.{type_of}
 use Rattle.vast_core.specs.BitCount.{product, dimensions_of}
 use Rattle.vast_core.specs.View.{bench}
