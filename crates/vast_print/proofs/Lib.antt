@@ -7,10 +7,10 @@ pub mod DeclarationLaws
 pub mod StatementLaws
 pub mod ListLaws
 pub mod SeparatedLaws
+pub mod PieceLaws
 pub mod MemberLaws
 pub mod TypeLaws
+pub mod PrintLaws
 pub mod BareLaws
 pub mod ModuleLaws
 pub mod ArenaLaws
-pub mod PieceLaws
-pub mod PrintLaws
