@@ -7,18 +7,28 @@ pub mod DeclarationLaws
 pub mod StatementLaws
 pub mod ListLaws
 pub mod SeparatedLaws
+pub mod PieceLaws
 pub mod MemberLaws
 pub mod TypeLaws
+pub mod PrintLaws
 pub mod BareLaws
 pub mod ModuleLaws
 pub mod ArenaLaws
 mod Pins
 mod PagePins
-pub mod PieceLaws
-pub mod PrintLaws
-pub mod PrintedTokens
-pub mod SoundLaws
-pub mod OpensLaws
-pub mod Agreement
-pub mod ExprTokens
-pub mod PageTokens
+pub mod TestLaws
+pub mod FaultLaws
+pub mod ExprOpens
+pub mod Shapes
+pub mod CastReads
+pub mod ExprReads
+pub mod PageLines
+pub mod PageReads
+pub mod StatementReads
+pub mod DeclarationReads
+pub mod EntryReads
+pub mod InstanceReads
+pub mod FunctionReads
+pub mod LoopReads
+pub mod MemberReads
+pub mod FileReads

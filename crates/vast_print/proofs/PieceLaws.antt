@@ -1,10 +1,9 @@
 -- Laws of pieces that are still to write.
-use Rattle.std.proofs.Common.{◌≡◌, ◌<◌, ◌≤◌, ℕ, zero, suc, ◌+◌, ℤ, Bool, true, false, not, List, [], ◌∷◌, ◌++◌, length, get_or, drop, refl, sym, ◌∙◌, ap, codes, arith, add-one, append_assoc, append-nil, Option, Some, None}
+use Rattle.std.proofs.Common.{◌≡◌, ◌<◌, ◌≤◌, ℕ, zero, suc, ◌+◌, ℤ, Bool, true, false, List, [], ◌∷◌, ◌++◌, length, get_or, drop, refl, sym, ◌∙◌, ap, codes, arith, add-one, append_assoc, append-nil, Option, Some, None}
 use Rattle.std.specs.Prelude.{◌&&◌}
 use Rattle.std.specs.Fmt.{signed_decimal}
 use Rattle.std.proofs.lemmas.List.{drop_all}
-use Rattle.vast_literal.specs.Tree.{UnaryOp, BinaryOp, ExprTree, UnaryTree, BinaryTree, TernaryTree, IndexTree, SliceTree, PartSelectTree, ConcatTree, PatternTree, WidthCastTree, TypeCastTree, PosEdgeTree, NegEdgeTree, MacroTree, CallTree, MissingExpr, TypeTree, ScalarTree, VectorTree, IntegerTree, IntTree, ExternalTree, PackageTree, PackedTree, UnpackedTree}
-use Rattle.vast_literal.specs.Tree.{MaybeExpr, NoExpr, SomeExpr, Exprs, NoExprs, MoreExprs, MaybeExprs, NoArguments, SomeArguments}
+use Rattle.vast_literal.specs.Tree.{BinaryOp, ExprTree, BinaryTree, SliceTree, PartSelectTree, TypeTree, ExternalTree, PackedTree, UnpackedTree}
 use Rattle.vast_core.specs.declared.handle.Expr.{Expr}
 use Rattle.vast_core.specs.Bench.{Bench, tree_of, trees_of}
 use Rattle.vast_print.specs.declared.pieces.Piece.{Piece}
@@ -12,10 +11,9 @@ use Rattle.vast_print.specs.declared.refusal.Refusal.{Refusal}
 use Rattle.vast_print.specs.Printed.{Printed, first_fault, plain_text, ◌⊕◌, wrapped}
 use Rattle.vast_print.specs.Page.{written}
 use Rattle.vast_print.specs.Ink.{Ink, word, pour}
-use Rattle.vast_print.specs.Levels.{unary_sign_text, binary_sign_text, is_scalar_name, is_zero, unary_wraps, left_child_wraps, right_child_wraps, ternary_wraps, select_wraps}
-use Rattle.vast_print.specs.Bare.{is_bare, is_bare_head}
-use Rattle.vast_print.specs.Text.{cast_to, width_cast, sign_cast, package_text, expr_text, arguments_text, replicated, list_text, more_text, type_cast}
-use Rattle.vast_print.specs.Words.{separator, cast_sign_word, scalar_cast_opening, scalar_cast_closing, number_cast_opening, number_cast_closing}
+use Rattle.vast_print.specs.Levels.{binary_sign_text, is_scalar_name, is_zero, left_child_wraps, right_child_wraps, select_wraps}
+use Rattle.vast_print.specs.Text.{expr_text, list_text, more_text, type_cast}
+use Rattle.vast_print.specs.Words.{separator, scalar_cast_closing, number_cast_closing}
 use Rattle.vast_print.specs.Pieces.{piece_text, piece_weight, PieceOwned, pieces_text, pieces_weight, PiecesOwned, exprs_weight, expr_weight}
 use Rattle.vast_print.proofs.Laws.{pour-then, pour-empty, pour-word, pour-stopped}
 use Rattle.vast_print.proofs.TextLaws.{pour-wrapped, pour-bare, pour-name, pour-literal, pour-string, pour-unary, pour-ternary, pour-index, pour-slice, pour-scalar-index, pour-scalar-slice, pour-refused-index, pour-refused-slice, pour-part-select, pour-concat, pour-parts, pour-replicated, pour-pattern-list, pour-macro, pour-no-arguments, pour-arguments, pour-call, pour-rising, pour-falling, pour-type-cast, pour-width-cast, pour-scalar-cast, pour-vector-cast, pour-integer-cast, pour-int-cast, pour-external-cast, pour-package-cast}
@@ -132,9 +130,6 @@ unfolding expr_text
 part-select-then d k s i width w = simp (pour-then, pour-bare)
 
 -- lists
-
-pub list-all : (ps : List Expr) (b : Bench) → rest_text 0 (trees_of b (drop 0 ps)) ≡ list_text (trees_of b ps)
-list-all ps b = refl
 
 pub list-none : (ps : List Expr) (b : Bench) (i : ℕ) → length ps ≤ i → rest_text i (trees_of b (drop i ps)) ≡ plain_text []
 unfolding list_text more_text

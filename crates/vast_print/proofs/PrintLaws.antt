@@ -1,10 +1,10 @@
 -- Laws of writing types as the arena holds them: bases and dimensions, array by array.
-use Rattle.std.proofs.Common.{◌≡◌, ◌<◌, ◌≤◌, ℕ, zero, suc, ◌+◌, ℤ, pos, Bool, true, false, List, [], ◌∷◌, ◌++◌, length, get_or, drop, refl, sym, ◌∙◌, ap, codes, arith, Option, Some, None}
-use Rattle.vast_literal.specs.Tree.{Dialect, ExprTree, TypeTree, ScalarTree, VectorTree, IntegerTree, IntTree, ExternalTree, PackageTree, PackedTree, UnpackedTree}
-use Rattle.vast_print.specs.Printed.{Printed, plain_text, spaced}
+use Rattle.std.proofs.Common.{◌≡◌, ◌<◌, ℕ, ℤ, Bool, true, false, List, [], ◌∷◌, ◌++◌, length, refl, ◌∙◌, ap, codes, arith, Option}
+use Rattle.vast_literal.specs.Tree.{ExprTree, TypeTree, ScalarTree, VectorTree, IntegerTree, IntTree, ExternalTree, PackageTree, PackedTree, UnpackedTree}
+use Rattle.vast_print.specs.Printed.{plain_text, spaced}
 use Rattle.vast_print.specs.Page.{written}
-use Rattle.vast_print.specs.Ink.{Ink, Wet, word, pour}
-use Rattle.vast_print.specs.Declaration.{base_of, packed_ranges, packed_text, unpacked_ranges, unpacked_text, based_text, type_text, signed_word, unsigned_word, limit_text}
+use Rattle.vast_print.specs.Ink.{Ink, word, pour}
+use Rattle.vast_print.specs.Declaration.{base_of, packed_ranges, packed_text, based_text, type_text, signed_word, unsigned_word, limit_text}
 use Rattle.vast_print.specs.Words.{has_text, signed_opening, unsigned_opening}
 use Rattle.vast_print.specs.Text.{package_text}
 use Rattle.vast_print.proofs.Laws.{pour-then, pour-empty, pour-stopped}
@@ -15,10 +15,6 @@ use Rattle.vast_print.proofs.WordLaws.{words}
 use Rattle.vast_print.proofs.TypeLaws.{base-scalar, base-vector, base-integer, base-int, base-external, base-package, base-packed, base-unpacked, packed-scalar, packed-vector, packed-integer, packed-int, packed-external, packed-package, packed-packed, packed-unpacked, unpacked-scalar, unpacked-vector, unpacked-integer, unpacked-int, unpacked-external, unpacked-package, unpacked-packed, unpacked-unpacked, pour-append, pour-verilog-range, pour-system-range}
 
 -- packed dimensions are there or not
-
-has-append : (a b : List ℕ) → has_text a ≡ true → has_text (a ++ b) ≡ true
-has-append [] b h = absurd (cc (h))
-has-append (c ∷ a) b h = refl
 
 pub has-packed-some : (t : TypeTree) (ds : List ℤ) → 0 < length ds → has_text (packed_text (PackedTree t ds)) ≡ true
 unfolding packed_text packed_ranges

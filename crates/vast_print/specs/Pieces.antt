@@ -1,5 +1,5 @@
 -- Pieces of a text that are still to write.
-use Rattle.std.specs.Prelude.{◌≡◌, ◌<◌, ℕ, ◌+◌, Bool, true, false, List, [], ◌∷◌, Result, Ok, Err}
+use Rattle.std.specs.Prelude.{◌≡◌, ◌<◌, ℕ, ◌+◌, List, [], ◌∷◌, Result, Ok, Err}
 use Rattle.std.specs.Fmt.{signed_decimal}
 use Rattle.vast_literal.specs.Tree.{ExprTree, NameTree, LiteralTree, StringTree, UnaryTree, BinaryTree, TernaryTree, IndexTree, SliceTree, PartSelectTree, ConcatTree, PatternTree, WidthCastTree, TypeCastTree, PosEdgeTree, NegEdgeTree, MacroTree, CallTree, MissingExpr}
 use Rattle.vast_literal.specs.Tree.{TypeTree, ScalarTree, VectorTree, IntegerTree, IntTree, ExternalTree, PackageTree, PackedTree, UnpackedTree, MissingType}
@@ -13,7 +13,7 @@ use Rattle.vast_print.specs.Printed.{Printed, plain_text, ◌⊕◌, wrapped}
 use Rattle.vast_print.specs.Text.{expr_text}
 use Rattle.vast_print.specs.Page.{written}
 use Rattle.vast_print.specs.Draft.{Draft}
-use Rattle.vast_print.specs.Ink.{Ink, Wet, Stopped, pour}
+use Rattle.vast_print.specs.Ink.{Wet, Stopped, pour}
 
 -- more than what the pieces of an expression, without parentheses of its own, can weigh
 abbrev mutual
@@ -91,8 +91,8 @@ PiecesOwned b (p ∷ ps) = PieceOwned b p × PiecesOwned b ps
 -- a text is begun: its first words are written, and what is left of it is put on the list, lighter than the text's weight
 abbrev pub Begins : Bench → ℕ → (old new : Draft) → (before after : List Piece) → Printed → (weight : ℕ) → Result (Unit {0}) PrintFault → Type 0
 Begins b d old new before after p weight (Ok _) =
-  (pour d (pour d (Wet old) (written p)) (written (pieces_text b before)) ≡ pour d (Wet new) (written (pieces_text b after)))
-  × (pieces_weight b after < pieces_weight b before + weight)
-  × PiecesOwned b after
+    (pour d (pour d (Wet old) (written p)) (written (pieces_text b before)) ≡ pour d (Wet new) (written (pieces_text b after)))
+    × (pieces_weight b after < pieces_weight b before + weight)
+    × PiecesOwned b after
 Begins b d old new before after p weight (Err (Refused r)) = pour d (Wet old) (written p) ≡ Stopped r
 Begins b d old new before after p weight (Err Memory) = Unit {0}

@@ -53,9 +53,7 @@ pub(crate) fn print_declaration(
     out: &mut Writer,
 ) -> Result<(), PrintFault>
     requires { OwnsType (bench ast.now) data_type }
-    ensures {
-        Writes (pour depth (Wet out.old) (written (declaration_text (dialect_of (bench ast.now).file_type) (kind_of kind) (type_of (bench ast.now) data_type) name.now))) out.new result
-    }
+    ensures { Writes (pour depth (Wet out.old) (written (declaration_text (dialect_of (bench ast.now).file_type) (kind_of kind) (type_of (bench ast.now) data_type) name.now))) out.new result }
 {
     out.word(kind_opening(kind))?;
     print_type(ast, data_type, depth, out)?;
@@ -68,12 +66,21 @@ pub(crate) fn port_kind(ast: &Ast, kind: DataKind, t: VastDataType) -> DataKind
     requires { OwnsType (bench ast.now) t }
     ensures { kind_of result ≡ port_kind (kind_of kind) (type_of (bench ast.now) t) }
 {
-    if is_external(ast, t) { DataKind::User } else { kind }
+    if is_external(ast, t) {
+        DataKind::User
+    } else {
+        kind
+    }
 }
 
 /// Writes a port with its direction behind the last line.
 #[tactic(auto, using(crate::proofs::ArenaLaws::declarations))]
-pub(crate) fn print_port(ast: &Ast, port: &Port, depth: usize, out: &mut Writer) -> Result<(), PrintFault>
+pub(crate) fn print_port(
+    ast: &Ast,
+    port: &Port,
+    depth: usize,
+    out: &mut Writer,
+) -> Result<(), PrintFault>
     requires { OwnsType (bench ast.now) port.now.data_type }
     ensures { Writes (pour depth (Wet out.old) (written (port_text (dialect_of (bench ast.now).file_type) (declared_port (bench ast.now) (port_record port.now))))) out.new result }
 {

@@ -20,7 +20,12 @@ use vast_core::{Ast, Expr, ExprNode};
 
 /// Writes an expression behind the last line; what stands behind a line break goes on at the depth.
 #[tactic(auto, using(crate::proofs::PieceLaws::pieces))]
-pub(crate) fn print_expression(ast: &Ast, e: Expr, depth: usize, out: &mut Writer) -> Result<(), PrintFault>
+pub(crate) fn print_expression(
+    ast: &Ast,
+    e: Expr,
+    depth: usize,
+    out: &mut Writer,
+) -> Result<(), PrintFault>
     requires { OwnsExpr (bench ast.now) e }
     ensures { Writes (pour depth (Wet out.old) (written (expr_text (tree_of (bench ast.now) e)))) out.new result }
 {
@@ -58,9 +63,7 @@ fn print_piece(
 ) -> Result<(), PrintFault>
     requires piece { PieceOwned (bench ast.now) piece }
     requires owned { PiecesOwned (bench ast.now) work.old.items }
-    ensures {
-        Begins (bench ast.now) depth out.old out.new work.old.items work.new.items (piece_text (bench ast.now) piece) (piece_weight (bench ast.now) piece) result
-    }
+    ensures { Begins (bench ast.now) depth out.old out.new work.old.items work.new.items (piece_text (bench ast.now) piece) (piece_weight (bench ast.now) piece) result }
 {
     match piece {
         Piece::Plain(text) => {
@@ -87,9 +90,7 @@ fn begin_part(
 ) -> Result<(), PrintFault>
     requires part { OwnsExpr (bench ast.now) e }
     requires owned { PiecesOwned (bench ast.now) work.old.items }
-    ensures {
-        Begins (bench ast.now) depth out.old out.new work.old.items work.new.items (wrapped wraps (expr_text (tree_of (bench ast.now) e))) (expr_weight (tree_of (bench ast.now) e) + 1) result
-    }
+    ensures { Begins (bench ast.now) depth out.old out.new work.old.items work.new.items (wrapped wraps (expr_text (tree_of (bench ast.now) e))) (expr_weight (tree_of (bench ast.now) e) + 1) result }
 {
     if wraps {
         out.word("(")?;
@@ -102,31 +103,45 @@ fn begin_part(
 
 /// Writes the first words of an expression, and puts what is left of it on the list.
 #[tactic(auto, using(crate::proofs::PieceLaws::leaves))]
-fn begin(ast: &Ast, e: Expr, depth: usize, out: &mut Writer, work: &mut Vec<Piece>) -> Result<(), PrintFault>
+fn begin(
+    ast: &Ast,
+    e: Expr,
+    depth: usize,
+    out: &mut Writer,
+    work: &mut Vec<Piece>,
+) -> Result<(), PrintFault>
     requires part { OwnsExpr (bench ast.now) e }
     requires owned { PiecesOwned (bench ast.now) work.old.items }
-    ensures {
-        Begins (bench ast.now) depth out.old out.new work.old.items work.new.items (expr_text (tree_of (bench ast.now) e)) (expr_weight (tree_of (bench ast.now) e)) result
-    }
+    ensures { Begins (bench ast.now) depth out.old out.new work.old.items work.new.items (expr_text (tree_of (bench ast.now) e)) (expr_weight (tree_of (bench ast.now) e)) result }
 {
     match ast.expr(e) {
         ExprNode::Name(text, _) => out.written(depth, text)?,
         ExprNode::Literal(text, _) => out.written(depth, text)?,
         ExprNode::StringText(text) => out.written(depth, text)?,
-        ExprNode::Unary(operator, operand) => begin_unary(ast, *operator, *operand, depth, out, work)?,
-        ExprNode::Binary(operator, left, right) => begin_binary(ast, *operator, *left, *right, depth, out, work)?,
+        ExprNode::Unary(operator, operand) => begin_unary(
+            ast, *operator, *operand, depth, out, work,
+        )?,
+        ExprNode::Binary(operator, left, right) => begin_binary(
+            ast, *operator, *left, *right, depth, out, work,
+        )?,
         ExprNode::Ternary(condition, consequent, alternate) => {
             begin_ternary(ast, *condition, *consequent, *alternate, depth, out, work)?;
         }
         ExprNode::Index(subject, index) => begin_index(ast, *subject, *index, depth, out, work)?,
-        ExprNode::Slice(subject, high, low) => begin_slice(ast, *subject, *high, *low, depth, out, work)?,
+        ExprNode::Slice(subject, high, low) => begin_slice(
+            ast, *subject, *high, *low, depth, out, work,
+        )?,
         ExprNode::PartSelect(subject, start, width) => {
             begin_part_select(ast, *subject, *start, *width, depth, out, work)?;
         }
         ExprNode::Concat(count, parts) => begin_concat(ast, *count, parts, depth, out, work)?,
         ExprNode::Pattern(parts) => begin_pattern(ast, parts, depth, out, work)?,
-        ExprNode::WidthCast(width, operand) => begin_width_cast(ast, *width, *operand, depth, out, work)?,
-        ExprNode::TypeCast(data_type, operand) => begin_type_cast(ast, *data_type, *operand, depth, out, work)?,
+        ExprNode::WidthCast(width, operand) => begin_width_cast(
+            ast, *width, *operand, depth, out, work,
+        )?,
+        ExprNode::TypeCast(data_type, operand) => begin_type_cast(
+            ast, *data_type, *operand, depth, out, work,
+        )?,
         ExprNode::PosEdge(operand) => begin_posedge(ast, *operand, depth, out, work)?,
         ExprNode::NegEdge(operand) => begin_negedge(ast, *operand, depth, out, work)?,
         ExprNode::Macro(name, arguments) => begin_macro(ast, name, arguments, depth, out, work)?,

@@ -2,7 +2,6 @@
 
 ghost use Rattle.std.specs.Prelude.{◌≡◌};
 ghost use Rattle.vast_core.specs.Bench.{OwnsExpr, OwnsType, tree_of, type_of};
-ghost use Rattle.vast_core.specs.Handles.{rank};
 ghost use Rattle.vast_core.specs.Kinds.{unary_of, binary_of};
 ghost use Rattle.vast_core.specs.View.{bench};
 ghost use Rattle.vast_print.specs.Bare.{is_bare_head};
@@ -171,7 +170,8 @@ pub(crate) fn is_bare_expr(ast: &Ast, e: Expr) -> bool
         ExprNode::Literal(text, _) => is_bare(text),
         ExprNode::StringText(text) => is_bare(text),
         ExprNode::Index(subject, _) => is_scalar_name(ast, *subject) && is_bare_expr(ast, *subject),
-        ExprNode::Slice(subject, _, _) => is_scalar_name(ast, *subject) && is_bare_expr(ast, *subject),
+        ExprNode::Slice(subject, _, _) => is_scalar_name(ast, *subject)
+            && is_bare_expr(ast, *subject),
         _ => false,
     }
 }

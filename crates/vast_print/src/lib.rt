@@ -17,6 +17,9 @@ mod types;
 mod words;
 mod writer;
 
+#[cfg(test)]
+mod tests;
+
 pub use file::{print_expr, print_file};
 pub use refusal::{PrintFault, Refusal};
 pub use writer::Writer;

@@ -26,9 +26,7 @@ pub(crate) fn begin_concat(
     requires count { OptionHolds (OwnsExpr (bench ast.now)) count }
     requires parts { All (OwnsExpr (bench ast.now)) parts.now }
     requires owned { PiecesOwned (bench ast.now) work.old.items }
-    ensures {
-        Begins (bench ast.now) depth out.old out.new work.old.items work.new.items (expr_text (ConcatTree (maybe_tree_of (bench ast.now) count) (trees_of (bench ast.now) parts.now))) (expr_weight (ConcatTree (maybe_tree_of (bench ast.now) count) (trees_of (bench ast.now) parts.now))) result
-    }
+    ensures { Begins (bench ast.now) depth out.old out.new work.old.items work.new.items (expr_text (ConcatTree (maybe_tree_of (bench ast.now) count) (trees_of (bench ast.now) parts.now))) (expr_weight (ConcatTree (maybe_tree_of (bench ast.now) count) (trees_of (bench ast.now) parts.now))) result }
 {
     out.word("{")?;
     push_plain(ast, "}", work)?;
@@ -54,9 +52,7 @@ pub(crate) fn begin_pattern(
 ) -> Result<(), PrintFault>
     requires parts { All (OwnsExpr (bench ast.now)) parts.now }
     requires owned { PiecesOwned (bench ast.now) work.old.items }
-    ensures {
-        Begins (bench ast.now) depth out.old out.new work.old.items work.new.items (expr_text (PatternTree (trees_of (bench ast.now) parts.now))) (expr_weight (PatternTree (trees_of (bench ast.now) parts.now))) result
-    }
+    ensures { Begins (bench ast.now) depth out.old out.new work.old.items work.new.items (expr_text (PatternTree (trees_of (bench ast.now) parts.now))) (expr_weight (PatternTree (trees_of (bench ast.now) parts.now))) result }
 {
     out.word("'{")?;
     push_plain(ast, "}", work)?;
@@ -75,9 +71,7 @@ pub(crate) fn begin_macro(
 ) -> Result<(), PrintFault>
     requires arguments { OptionHolds (λ parts. All (OwnsExpr (bench ast.now)) parts.items) arguments.now }
     requires owned { PiecesOwned (bench ast.now) work.old.items }
-    ensures {
-        Begins (bench ast.now) depth out.old out.new work.old.items work.new.items (expr_text (MacroTree name.now (maybe_exprs_in (bench ast.now).nodes arguments.now))) (expr_weight (MacroTree name.now (maybe_exprs_in (bench ast.now).nodes arguments.now))) result
-    }
+    ensures { Begins (bench ast.now) depth out.old out.new work.old.items work.new.items (expr_text (MacroTree name.now (maybe_exprs_in (bench ast.now).nodes arguments.now))) (expr_weight (MacroTree name.now (maybe_exprs_in (bench ast.now).nodes arguments.now))) result }
 {
     out.word("`")?;
     out.written(depth, name)?;
@@ -103,9 +97,7 @@ pub(crate) fn begin_call(
 ) -> Result<(), PrintFault>
     requires arguments { All (OwnsExpr (bench ast.now)) arguments.now }
     requires owned { PiecesOwned (bench ast.now) work.old.items }
-    ensures {
-        Begins (bench ast.now) depth out.old out.new work.old.items work.new.items (expr_text (CallTree name.now (trees_of (bench ast.now) arguments.now))) (expr_weight (CallTree name.now (trees_of (bench ast.now) arguments.now))) result
-    }
+    ensures { Begins (bench ast.now) depth out.old out.new work.old.items work.new.items (expr_text (CallTree name.now (trees_of (bench ast.now) arguments.now))) (expr_weight (CallTree name.now (trees_of (bench ast.now) arguments.now))) result }
 {
     out.written(depth, name)?;
     out.word("(")?;

@@ -27,7 +27,11 @@ pub(crate) enum Piece {
 }
 
 #[tactic(auto, using(crate::proofs::PieceLaws::pushes))]
-pub(crate) fn push_plain(ast: &Ast, text: &'static str, work: &mut Vec<Piece>) -> Result<(), AllocError>
+pub(crate) fn push_plain(
+    ast: &Ast,
+    text: &'static str,
+    work: &mut Vec<Piece>,
+) -> Result<(), AllocError>
     requires { PiecesOwned (bench ast.now) work.old.items }
     ensures text { OnOk result (pieces_text (bench ast.now) work.new.items ≡ plain_text text.now ⊕ pieces_text (bench ast.now) work.old.items) }
     ensures weight { OnOk result (pieces_weight (bench ast.now) work.new.items ≡ pieces_weight (bench ast.now) work.old.items + 1) }
@@ -49,7 +53,12 @@ pub(crate) fn push_number(ast: &Ast, number: i64, work: &mut Vec<Piece>) -> Resu
 }
 
 #[tactic(auto, using(crate::proofs::PieceLaws::pushes))]
-pub(crate) fn push_part(ast: &Ast, e: Expr, wraps: bool, work: &mut Vec<Piece>) -> Result<(), AllocError>
+pub(crate) fn push_part(
+    ast: &Ast,
+    e: Expr,
+    wraps: bool,
+    work: &mut Vec<Piece>,
+) -> Result<(), AllocError>
     requires part { OwnsExpr (bench ast.now) e }
     requires owned { PiecesOwned (bench ast.now) work.old.items }
     ensures text { OnOk result (pieces_text (bench ast.now) work.new.items ≡ wrapped wraps (expr_text (tree_of (bench ast.now) e)) ⊕ pieces_text (bench ast.now) work.old.items) }
@@ -62,7 +71,11 @@ pub(crate) fn push_part(ast: &Ast, e: Expr, wraps: bool, work: &mut Vec<Piece>) 
 
 /// Puts the subject of a select and the bracket behind it on the list of work.
 #[tactic(auto, using(crate::proofs::PieceLaws::pushes))]
-pub(crate) fn push_subject(ast: &Ast, subject: Expr, work: &mut Vec<Piece>) -> Result<(), AllocError>
+pub(crate) fn push_subject(
+    ast: &Ast,
+    subject: Expr,
+    work: &mut Vec<Piece>,
+) -> Result<(), AllocError>
     requires part { OwnsExpr (bench ast.now) subject }
     requires owned { PiecesOwned (bench ast.now) work.old.items }
     ensures text { OnOk result (pieces_text (bench ast.now) work.new.items ≡ wrapped (select_wraps (tree_of (bench ast.now) subject)) (expr_text (tree_of (bench ast.now) subject)) ⊕ (plain_text (codes "[") ⊕ pieces_text (bench ast.now) work.old.items)) }

@@ -105,7 +105,12 @@ fn has_packed(ast: &Ast, t: VastDataType) -> bool
 
 /// Writes all packed dimensions of a type, the outermost array's first.
 #[tactic(auto, using(crate::proofs::PrintLaws::packed))]
-fn print_packed(ast: &Ast, t: VastDataType, depth: usize, out: &mut Writer) -> Result<(), PrintFault>
+fn print_packed(
+    ast: &Ast,
+    t: VastDataType,
+    depth: usize,
+    out: &mut Writer,
+) -> Result<(), PrintFault>
     requires { OwnsType (bench ast.now) t }
     ensures { Writes (pour depth (Wet out.old) (written (plain_text (packed_text (type_of (bench ast.now) t))))) out.new result }
 {
@@ -129,7 +134,12 @@ fn print_packed(ast: &Ast, t: VastDataType, depth: usize, out: &mut Writer) -> R
 
 /// Writes all packed dimensions of a type and the space behind them, where there are any.
 #[tactic(auto, using(crate::proofs::PrintLaws::spaces))]
-fn print_spaced_packed(ast: &Ast, t: VastDataType, depth: usize, out: &mut Writer) -> Result<(), PrintFault>
+fn print_spaced_packed(
+    ast: &Ast,
+    t: VastDataType,
+    depth: usize,
+    out: &mut Writer,
+) -> Result<(), PrintFault>
     requires { OwnsType (bench ast.now) t }
     ensures { Writes (pour depth (Wet out.old) (written (spaced (plain_text (packed_text (type_of (bench ast.now) t)))))) out.new result }
 {
@@ -176,7 +186,12 @@ fn print_width_limit(
 
 /// Writes a type, and the space behind it where it isn't empty.
 #[tactic(auto, using(crate::proofs::PrintLaws::types))]
-pub(crate) fn print_type(ast: &Ast, t: VastDataType, depth: usize, out: &mut Writer) -> Result<(), PrintFault>
+pub(crate) fn print_type(
+    ast: &Ast,
+    t: VastDataType,
+    depth: usize,
+    out: &mut Writer,
+) -> Result<(), PrintFault>
     requires { OwnsType (bench ast.now) t }
     ensures { Writes (pour depth (Wet out.old) (written (spaced (type_text (type_of (bench ast.now) t))))) out.new result }
 {
@@ -258,11 +273,14 @@ fn print_unpacked_ranges(
 
 /// Writes the unpacked dimensions of a type, which stand behind the name.
 #[tactic(auto, using(crate::proofs::PrintLaws::unpacked))]
-pub(crate) fn print_dimensions(ast: &Ast, t: VastDataType, depth: usize, out: &mut Writer) -> Result<(), PrintFault>
+pub(crate) fn print_dimensions(
+    ast: &Ast,
+    t: VastDataType,
+    depth: usize,
+    out: &mut Writer,
+) -> Result<(), PrintFault>
     requires { OwnsType (bench ast.now) t }
-    ensures {
-        Writes (pour depth (Wet out.old) (written (plain_text (unpacked_text (dialect_of (bench ast.now).file_type) (type_of (bench ast.now) t))))) out.new result
-    }
+    ensures { Writes (pour depth (Wet out.old) (written (plain_text (unpacked_text (dialect_of (bench ast.now).file_type) (type_of (bench ast.now) t))))) out.new result }
 {
     let file_type = ast.file_type();
     let mut inner = t;

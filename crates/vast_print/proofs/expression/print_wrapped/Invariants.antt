@@ -10,10 +10,10 @@ use Rattle.vast_print.proofs.expression.print_wrapped.Given as goal
 
 abbrev pub invariant-loop-piece : goal.invariant-loop-piece
 invariant-loop-piece l =
-  record {
-    same : pour l.depth (Wet l.fn.out) (written (wrapped l.fn.wraps (expr_text (tree_of (bench l.ast) l.fn.e)))) ≡ pour l.depth (Wet l.out) (written (pieces_text (bench l.ast) l.work.items));
-    owned : PiecesOwned (bench l.ast) l.work.items
-  }
+    record {
+      same : pour l.depth (Wet l.fn.out) (written (wrapped l.fn.wraps (expr_text (tree_of (bench l.ast) l.fn.e)))) ≡ pour l.depth (Wet l.out) (written (pieces_text (bench l.ast) l.work.items));
+      owned : PiecesOwned (bench l.ast) l.work.items;
+    }
 
 abbrev pub decreases-loop-piece : goal.decreases-loop-piece
 decreases-loop-piece l = pieces_weight (bench l.ast) l.work.items

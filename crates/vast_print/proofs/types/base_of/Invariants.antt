@@ -7,10 +7,10 @@ use Rattle.vast_print.proofs.types.base_of.Given as goal
 
 abbrev pub invariant-loop-element : goal.invariant-loop-element
 invariant-loop-element l =
-  record {
-    owned : OwnsType (bench l.ast) l.base;
-    same : base_of (type_of (bench l.ast) l.base) ≡ base_of (type_of (bench l.ast) l.fn.t)
-  }
+    record {
+      owned : OwnsType (bench l.ast) l.base;
+      same : base_of (type_of (bench l.ast) l.base) ≡ base_of (type_of (bench l.ast) l.fn.t);
+    }
 
 abbrev pub decreases-loop-element : goal.decreases-loop-element
 decreases-loop-element l = type_rank l.base

@@ -8,10 +8,10 @@ use Rattle.vast_print.proofs.types.has_packed.Given as goal
 
 abbrev pub invariant-loop-element : goal.invariant-loop-element
 invariant-loop-element l =
-  record {
-    owned : OwnsType (bench l.ast) l.inner;
-    same : has_text (packed_text (type_of (bench l.ast) l.inner)) ≡ has_text (packed_text (type_of (bench l.ast) l.fn.t))
-  }
+    record {
+      owned : OwnsType (bench l.ast) l.inner;
+      same : has_text (packed_text (type_of (bench l.ast) l.inner)) ≡ has_text (packed_text (type_of (bench l.ast) l.fn.t));
+    }
 
 abbrev pub decreases-loop-element : goal.decreases-loop-element
 decreases-loop-element l = type_rank l.inner

@@ -11,10 +11,10 @@ use Rattle.vast_print.proofs.types.print_dimensions.Given as goal
 
 abbrev pub invariant-loop-element : goal.invariant-loop-element
 invariant-loop-element l =
-  record {
-    owned : OwnsType (bench l.ast) l.inner;
-    same : pour l.depth (Wet l.fn.out) (written (plain_text (unpacked_text (dialect_of (bench l.ast).file_type) (type_of (bench l.ast) l.fn.t)))) ≡ pour l.depth (Wet l.out) (written (plain_text (unpacked_text (dialect_of (bench l.ast).file_type) (type_of (bench l.ast) l.inner))))
-  }
+    record {
+      owned : OwnsType (bench l.ast) l.inner;
+      same : pour l.depth (Wet l.fn.out) (written (plain_text (unpacked_text (dialect_of (bench l.ast).file_type) (type_of (bench l.ast) l.fn.t)))) ≡ pour l.depth (Wet l.out) (written (plain_text (unpacked_text (dialect_of (bench l.ast).file_type) (type_of (bench l.ast) l.inner))));
+    }
 
 abbrev pub decreases-loop-element : goal.decreases-loop-element
 decreases-loop-element l = type_rank l.inner

@@ -10,5 +10,5 @@ below_smallest = refl
 
 pub returns-in_ok-word : goal.returns-in_ok-word
 returns-in_ok-word c =
-  let low : c.args.value ≡ negsuc 9223372036854775807 = search rules in
-  rw (low, below_smallest) c.in_ok-word.ensures
+    let low : c.args.value ≡ negsuc 9223372036854775807 = search rules in
+    rw (low, below_smallest) c.in_ok-word.ensures

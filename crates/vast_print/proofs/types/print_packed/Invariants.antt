@@ -10,10 +10,10 @@ use Rattle.vast_print.proofs.types.print_packed.Given as goal
 
 abbrev pub invariant-loop-element : goal.invariant-loop-element
 invariant-loop-element l =
-  record {
-    owned : OwnsType (bench l.ast) l.inner;
-    same : pour l.depth (Wet l.fn.out) (written (plain_text (packed_text (type_of (bench l.ast) l.fn.t)))) ≡ pour l.depth (Wet l.out) (written (plain_text (packed_text (type_of (bench l.ast) l.inner))))
-  }
+    record {
+      owned : OwnsType (bench l.ast) l.inner;
+      same : pour l.depth (Wet l.fn.out) (written (plain_text (packed_text (type_of (bench l.ast) l.fn.t)))) ≡ pour l.depth (Wet l.out) (written (plain_text (packed_text (type_of (bench l.ast) l.inner))));
+    }
 
 abbrev pub decreases-loop-element : goal.decreases-loop-element
 decreases-loop-element l = type_rank l.inner

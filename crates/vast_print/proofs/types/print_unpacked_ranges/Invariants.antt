@@ -8,5 +8,5 @@ use Rattle.vast_print.proofs.types.print_unpacked_ranges.Given as goal
 
 abbrev pub invariant-loop-dimension : goal.invariant-loop-dimension
 invariant-loop-dimension l =
-  pour l.depth (Wet l.fn.out) (written (plain_text (unpacked_ranges (dialect_of l.file_type) l.dimensions)))
-  ≡ pour l.depth (Wet l.out) (written (plain_text (unpacked_ranges (dialect_of l.file_type) (drop l.dimension-index l.dimensions))))
+    pour l.depth (Wet l.fn.out) (written (plain_text (unpacked_ranges (dialect_of l.file_type) l.dimensions)))
+    ≡ pour l.depth (Wet l.out) (written (plain_text (unpacked_ranges (dialect_of l.file_type) (drop l.dimension-index l.dimensions))))
