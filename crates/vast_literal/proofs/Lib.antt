@@ -25,3 +25,4 @@ pub mod StatementsSpelled
 pub mod MembersSpelled
 pub mod FilesSpelled
 pub mod NumberLaws
+pub mod DerivedOnce
