@@ -26,3 +26,4 @@ pub mod MembersSpelled
 pub mod FilesSpelled
 pub mod NumberLaws
 pub mod DerivedOnce
+pub mod FilePins
