@@ -1,5 +1,5 @@
 -- A text is derived from at most one expression and from at most one file.
-use Rattle.std.proofs.Common.{◌≡◌, ℕ, List, Some, subst, sym, ◌∙◌}
+use Rattle.std.proofs.Common.{◌≡◌, ℕ, List, subst, sym, ◌∙◌}
 use Rattle.std.proofs.lemmas.Option.{same_Some}
 use Rattle.vast_literal.specs.Tokens.{Token}
 use Rattle.vast_literal.specs.NormalExpr.{NormalExpr}

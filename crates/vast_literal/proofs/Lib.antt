@@ -27,3 +27,4 @@ pub mod FilesSpelled
 pub mod NumberLaws
 pub mod DerivedOnce
 pub mod FilePins
+pub mod LoopPin
