@@ -1,11 +1,11 @@
 -- The tokens of a declaration's text spell its normal form.
-use Rattle.std.proofs.Common.{◌≡◌, ℕ, ℤ, pos, ◌-ℤ◌, ◌+◌, List, [], ◌∷◌, ◌++◌, Bool, true, false, ◌&&◌, codes, Option, Some, None, refl, subst, append_assoc, append-nil, arith}
+use Rattle.std.proofs.Common.{◌≡◌, ℕ, ℤ, pos, ◌-ℤ◌, List, [], ◌∷◌, ◌++◌, Bool, true, false, ◌&&◌, codes, Option, Some, None, refl, subst, append_assoc, append-nil, arith}
 use Rattle.std.proofs.lemmas.Bool.{ltb-false}
 use Rattle.std.specs.Fmt.{signed_decimal}
 use Rattle.vast_literal.specs.Tokens.{Minus, level, WireKey, RegKey, LogicKey, IntegerKey, IntKey, GenvarKey, SignedKey, UnsignedKey, Token}
 use Rattle.vast_literal.specs.Tree.{Dialect, VerilogDialect, SystemVerilogDialect, ExprTree, NameTree, IndexTree, SliceTree, PartSelectTree, ConcatTree, TypeTree, ScalarTree, VectorTree, IntegerTree, IntTree, ExternalTree, PackageTree, PackedTree, UnpackedTree, Kind, RegKind, WireKind, LogicKind, IntegerKind, IntKind, UserKind, UntypedEnumKind, GenvarKind, Declaration}
 use Rattle.vast_literal.specs.NormalExpr.{scalar_sign, integer_sign, normal}
-use Rattle.vast_literal.specs.Grammar.{Spells, binary, name, number}
+use Rattle.vast_literal.specs.Grammar.{Spells, binary, number}
 use Rattle.vast_literal.specs.FileGrammar.{IsMany, no_items, more_items, is_kind, is_sign, IsGroup, one, range, IsMaybe, absent, present, IsTypeName, no_type, own_type, packaged, IsDeclaration, declares}
 use Rattle.vast_literal.specs.Plain.{is_plain_name, is_plain, is_plain_type, is_edgeless, is_edgeless_type}
 use Rattle.vast_literal.specs.ExprTokens.{is_negative_text, literal_level, spelled_level, expr_tokens}

@@ -1,5 +1,5 @@
 -- Each declaration that the grammar derives is parsed, whatever follows its end.
-use Rattle.std.proofs.Common.{◌≡◌, ℕ, suc, ◌+◌, Bool, true, false, cond, List, [], ◌∷◌, ◌++◌, Option, Some, None, refl, sym, subst, ap, append_assoc, IsTrue}
+use Rattle.std.proofs.Common.{◌≡◌, ℕ, suc, Bool, true, false, cond, List, [], ◌∷◌, ◌++◌, Option, Some, None, refl, sym, subst, ap, append_assoc, IsTrue}
 use Rattle.vast_literal.specs.Tokens.{Punct, OpenParen, CloseParen, OpenBracket, CloseBracket, Comma, Colon, Semicolon, DoubleColon, Assign, Key, SignedKey, UnsignedKey, Token, Reserved, Word, Mark}
 use Rattle.vast_literal.specs.NormalExpr.{NormalExpr}
 use Rattle.vast_literal.specs.NormalFile.{Group, One, Range, NormalDeclaration}
@@ -243,5 +243,7 @@ declaration_parses all d (declares {ks = ks} {ts = ts} {ss = ss} {gs = gs} {hs =
 
 -- Each token list spells at most one declaration.
 pub one_declaration : OneDeclaration
-one_declaration = record { same = λ ts a b x y. ap (λ (r : NormalDeclaration × List Token). r.0)
-    (one_result (declaration_parses ts a x Semicolon [] at_semicolon) (declaration_parses ts b y Semicolon [] at_semicolon)) }
+one_declaration = record {
+  same = λ ts a b x y. ap (λ (r : NormalDeclaration × List Token). r.0)
+      (one_result (declaration_parses ts a x Semicolon [] at_semicolon) (declaration_parses ts b y Semicolon [] at_semicolon));
+}

@@ -1,9 +1,9 @@
 -- Each file that the grammar derives is parsed, and so each token list has at most one.
-use Rattle.std.proofs.Common.{◌≡◌, ℕ, ◌+◌, true, false, cond, List, [], ◌∷◌, ◌++◌, Some, None, refl, sym, subst, ap, append_assoc, append-nil, IsTrue, codes}
+use Rattle.std.proofs.Common.{◌≡◌, ℕ, true, false, cond, List, [], ◌∷◌, ◌++◌, Some, None, refl, sym, subst, ap, append_assoc, append-nil, IsTrue, codes}
 use Rattle.vast_literal.specs.Tokens.{OpenParen, CloseParen, Comma, Semicolon, Hash, Assign, Key, ModuleKey, EndModuleKey, ParameterKey, Token, Reserved, Word, MacroWord, Quoted, Mark}
 use Rattle.vast_literal.specs.NormalExpr.{NormalExpr}
 use Rattle.vast_literal.specs.NormalFile.{NormalDeclaration, NormalMembers, NormalParameter, NormalPort, NormalItem, ModulePart, IncludePart, NormalFile}
-use Rattle.vast_literal.specs.FileGrammar.{IsJoined, is_direction, declaration, IsParameter, header_parameter, IsPort, port, IsParameters, no_header_parameters, header_parameters, IsPorts, no_ports, ports, IsItem, module_item, include_item, IsFile, file, OneFile}
+use Rattle.vast_literal.specs.FileGrammar.{IsJoined, is_direction, IsParameter, header_parameter, IsPort, port, IsParameters, no_header_parameters, header_parameters, IsPorts, no_ports, ports, IsItem, module_item, include_item, IsFile, file, OneFile}
 use Rattle.vast_literal.specs.Parser.{◌>>=◌, lead, code, after, key_at, word_at, run}
 use Rattle.vast_literal.specs.StatementParser.{ReadOf}
 use Rattle.vast_literal.specs.DeclarationParser.{many, declaration_at}
@@ -11,13 +11,11 @@ use Rattle.vast_literal.specs.MemberParser.{members}
 use Rattle.vast_literal.specs.FileParser.{parameter_at, port_on, port_at, header_parameters_at, header_ports_at, parameters_on, ports_on, module_at, path_end, path_of, include_on, item_at, is_more, file_at}
 use Rattle.vast_literal.proofs.Soon.{Soon, of_low, at_once, same, same2, same3, one_result}
 use Rattle.vast_literal.proofs.Moves.{Quiet, bound, after_self}
-use Rattle.vast_literal.proofs.Complete.{parses}
 use Rattle.vast_literal.proofs.StatementsParse.{key_self, expression_parses}
 use Rattle.vast_literal.proofs.DeclarationsParse.{many_parses, at_assign, at_comma, at_close, declaration_parses}
 use Rattle.vast_literal.proofs.ListsParse.{joined_parses, close_quiet, no_comma, EndsAt, ends}
 use Rattle.vast_literal.proofs.MemberKinds.{at_endmodule}
 use Rattle.vast_literal.proofs.MembersParse.{members_parse}
-use Rattle.vast_literal.proofs.Gives as Low
 
 -- parameters and ports
 

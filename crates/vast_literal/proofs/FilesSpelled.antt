@@ -1,10 +1,9 @@
 -- The tokens of a file's page spell its normal form.
-use Rattle.std.proofs.Common.{◌≡◌, ℕ, ◌+◌, List, [], ◌∷◌, ◌++◌, true, ◌&&◌, IsTrue, refl}
+use Rattle.std.proofs.Common.{◌≡◌, ℕ, List, [], ◌∷◌, ◌++◌, true, ◌&&◌, IsTrue, refl}
 use Rattle.vast_literal.specs.Tokens.{Assign, EndModuleKey, ParameterKey, Reserved, Mark}
 use Rattle.vast_literal.specs.Tree.{Dialect, MaybeType, Untyped, Typed, PortDirection, InputDirection, OutputDirection, InOutDirection, PortTree, ParameterPortTree, ModuleTree, FileItemTree, ModuleItem, IncludeItem, CommentItem, BlankItem, FileTree}
 use Rattle.vast_literal.specs.NormalFile.{ModulePart}
-use Rattle.vast_literal.specs.Grammar.{name}
-use Rattle.vast_literal.specs.FileGrammar.{IsMany, no_items, more_items, absent, no_type, IsDeclaration, declares, is_direction, declaration, IsParameter, header_parameter, IsPort, port, IsParameters, no_header_parameters, header_parameters, IsPorts, no_ports, ports, IsItem, module_item, include_item, IsFile, file}
+use Rattle.vast_literal.specs.FileGrammar.{IsMany, no_items, more_items, absent, no_type, IsDeclaration, declares, is_direction, IsParameter, header_parameter, IsPort, port, IsParameters, no_header_parameters, header_parameters, IsPorts, no_ports, ports, IsItem, module_item, include_item, IsFile, file}
 use Rattle.vast_literal.specs.Plain.{is_plain_name}
 use Rattle.vast_literal.specs.ExprTokens.{expr_tokens}
 use Rattle.vast_literal.specs.WellFormed.{is_well_formed, is_well_formed_type}

@@ -38,3 +38,6 @@ pub mod FilesSpelled
 pub mod NumberLaws
 pub mod TypedDecimals
 pub mod SpeltOnce
+pub mod DerivedOnce
+pub mod FilePins
+pub mod LoopPin

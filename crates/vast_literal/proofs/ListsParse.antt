@@ -1,5 +1,5 @@
 -- Lists in members: events, connections, inputs and locals are parsed up to what closes them.
-use Rattle.std.proofs.Common.{◌≡◌, ℕ, suc, ◌+◌, true, false, cond, List, [], ◌∷◌, ◌++◌, Option, Some, None, refl, sym, subst, ap, append_assoc, IsTrue}
+use Rattle.std.proofs.Common.{◌≡◌, ℕ, suc, true, false, cond, List, [], ◌∷◌, ◌++◌, Option, Some, None, refl, sym, subst, ap, append_assoc, IsTrue}
 use Rattle.std.proofs.lemmas.Option.{same_Some}
 use Rattle.vast_literal.specs.Tokens.{Punct, OpenParen, CloseParen, Comma, Semicolon, Dot, Key, OrKey, InputKey, Token, Reserved, Word, Mark}
 use Rattle.vast_literal.specs.NormalExpr.{NormalExpr}

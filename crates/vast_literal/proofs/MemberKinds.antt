@@ -1,21 +1,20 @@
 -- Each kind of member is parsed, whatever member or closing word follows: all but instances, functions and loops.
-use Rattle.std.proofs.Common.{◌≡◌, ℕ, suc, ◌+◌, Bool, false, List, [], ◌∷◌, ◌++◌, Some, None, refl, sym, subst, append_assoc, IsTrue}
+use Rattle.std.proofs.Common.{◌≡◌, ℕ, suc, Bool, false, List, [], ◌∷◌, ◌++◌, Some, None, refl, sym, subst, append_assoc, IsTrue}
 use Rattle.vast_literal.specs.Tokens.{OpenParen, CloseParen, Colon, Semicolon, At, Assign, Key, IfKey, ElseKey, BeginKey, EndKey, AssignKey, WireKey, RegKey, LogicKey, EndModuleKey, ParameterKey, LocalparamKey, AlwaysCombKey, AlwaysFFKey, AlwaysKey, OrKey, Token, Reserved, Word, MacroWord, Mark}
 use Rattle.vast_literal.specs.NormalExpr.{NormalExpr, NormalExprs}
 use Rattle.vast_literal.specs.NormalFile.{NormalStatements, Arms, NormalDeclaration, Event, NormalMember, DeclarationPart, AssignPart, ParameterPart, MacroPart, AlwaysPart, ConditionalPart, NormalMembers, NoParts, MoreParts}
 use Rattle.vast_literal.specs.Grammar.{Spells, SpellsList}
-use Rattle.vast_literal.specs.FileGrammar.{IsList, choice, IsDeclaration, is_member_kind, is_parameter_word, is_clocked, IsEvent, IsSemicolon, with_one, without}
+use Rattle.vast_literal.specs.FileGrammar.{IsList, IsDeclaration, is_member_kind, is_parameter_word, is_clocked, IsEvent, IsSemicolon, with_one, without}
 use Rattle.vast_literal.specs.Parser.{lead, code, after, key_at, arguments, selected, run}
 use Rattle.vast_literal.specs.StatementParser.{ReadOf, key_code, after_key_on, after_key, read_with}
 use Rattle.vast_literal.specs.DeclarationParser.{listed, declaration_at}
 use Rattle.vast_literal.specs.MemberParser.{event_at, semicolon_on, macro_end, macro_member, plain_member, block_with, keyed, member_on, members_on, members}
 use Rattle.vast_literal.proofs.Soon.{Soon, of_low, of_reader, now, at_once, same, same2, later2}
 use Rattle.vast_literal.proofs.Moves.{bound, after_self, enclosed_gives}
-use Rattle.vast_literal.proofs.Complete.{parses, all_parsed}
+use Rattle.vast_literal.proofs.Complete.{all_parsed}
 use Rattle.vast_literal.proofs.StatementsParse.{key_self, expression_parses, left_parses, StatementsParse, ChoiceParses}
 use Rattle.vast_literal.proofs.DeclarationsParse.{at_assign, at_semicolon, declaration_parses}
 use Rattle.vast_literal.proofs.ListsParse.{events_parse}
-use Rattle.vast_literal.proofs.Gives as Low
 
 -- members
 

@@ -1,5 +1,5 @@
 -- Each member that the grammar derives is parsed, whatever member or closing word follows.
-use Rattle.std.proofs.Common.{◌≡◌, ℕ, ◌+◌, Bool, true, false, cond, List, [], ◌∷◌, ◌++◌, Option, Some, None, refl, sym, subst, ap, append_assoc, codes}
+use Rattle.std.proofs.Common.{◌≡◌, ℕ, Bool, true, false, cond, List, [], ◌∷◌, ◌++◌, Option, Some, None, refl, sym, subst, ap, append_assoc, codes}
 use Rattle.std.proofs.lemmas.Slice.Eq.{bytes_eq-Decides}
 use Rattle.vast_literal.specs.Tokens.{Less, Plus, OpenParen, CloseParen, Comma, Colon, Semicolon, Hash, Assign, Key, CasezKey, BeginKey, EndKey, GenvarKey, FunctionKey, AutomaticKey, EndFunctionKey, ForKey, Token, Reserved, Word, Number, Operator, Mark}
 use Rattle.vast_literal.specs.NormalExpr.{NormalExpr, Name, Binary}
@@ -12,12 +12,10 @@ use Rattle.vast_literal.specs.DeclarationParser.{declaration_at}
 use Rattle.vast_literal.specs.MemberParser.{connections_at, givens_at, instance_at, instance_on, plain_member, bound_of, same_word, step_word, label_on, loop_body, loop_at, inputs_at, local_on, is_local, locals_at, casez_alone, function_body, function_end, function_at, keyed, member_on, members}
 use Rattle.vast_literal.proofs.Soon.{Soon, of_low, of_reader, same, same2, same3, one_result}
 use Rattle.vast_literal.proofs.Moves.{bound, after_self, enclosed_gives}
-use Rattle.vast_literal.proofs.Complete.{parses}
 use Rattle.vast_literal.proofs.StatementsParse.{key_self, expression_parses, StatementsParse, CasesParse, cases_parse, statements_parse, choice_parse}
 use Rattle.vast_literal.proofs.DeclarationsParse.{at_open, declaration_parses}
 use Rattle.vast_literal.proofs.ListsParse.{connections_parse, givens_parse, inputs_parse, kind_first, locals_parse}
 use Rattle.vast_literal.proofs.MemberKinds.{IsCloser, at_end, at_endmodule, Next, member_by, MemberParses, MembersParse, word_next, declared_parses, macro_parses, conditional_parses, done_parses, and_parses, continuous_parses, parameter_parses, macro_with_parses, combinational_parses, clocked_parses}
-use Rattle.vast_literal.proofs.Gives as Low
 
 -- loops
 
@@ -65,7 +63,6 @@ loop_parses i xs cs ls ms x e l m ex ec il h = record {
     no_closer : (c : Key) → IsCloser c → (rest : List Token) → after_key c ((Reserved ForKey ∷ (Mark OpenParen ∷ (Reserved GenvarKey ∷ (Word i ∷ (Mark Assign ∷ (xs ++ (Mark Semicolon ∷ (cs ++ (Mark Semicolon ∷ (Word i ∷ (Mark Assign ∷ (Word i ∷ (Operator Plus ∷ (Number (codes "1") ∷ (Mark CloseParen ∷ (Reserved BeginKey ∷ (ls ++ ms))))))))))))))))) ++ rest) ≡ None
     no_closer c at_end rest = refl
     no_closer c at_endmodule rest = refl
-
 
 -- instances
 
@@ -191,5 +188,7 @@ unfolding after after_key after_key_on key_at
 nothing_next = record { else_word = refl; open_paren = refl; semicolon = refl; colon = refl }
 
 pub one_member : OneMember
-one_member = record { same = λ ts a b x y. let h = member_parses ts a x in let k = member_parses ts b y in
-    ap (λ (r : NormalMember × List Token). r.0) (one_result (h.parses [] nothing_next) (k.parses [] nothing_next)) }
+one_member = record {
+  same = λ ts a b x y. let h = member_parses ts a x in let k = member_parses ts b y in
+      ap (λ (r : NormalMember × List Token). r.0) (one_result (h.parses [] nothing_next) (k.parses [] nothing_next));
+}

@@ -1,11 +1,11 @@
 -- The tokens of a member's page spell its normal form.
-use Rattle.std.proofs.Common.{◌≡◌, ℕ, ◌+◌, List, [], ◌∷◌, ◌++◌, Bool, true, false, ◌&&◌, Option, Some, None, IsTrue, refl, append_assoc, append-nil, arith}
+use Rattle.std.proofs.Common.{◌≡◌, ℕ, List, [], ◌∷◌, ◌++◌, Bool, true, false, ◌&&◌, Option, Some, None, IsTrue, refl, append_assoc, append-nil, arith}
 use Rattle.vast_literal.specs.Tokens.{Less, level, OpenParen, CloseParen, Comma, Semicolon, Dot, Key, BeginKey, EndKey, WireKey, RegKey, LogicKey, IntKey, AlwaysFFKey, AlwaysKey, PosedgeKey, NegedgeKey, OrKey, Token, Reserved, Word, Operator, Mark}
 use Rattle.vast_literal.specs.Tree.{Dialect, ExprTree, NameTree, LiteralTree, StringTree, UnaryTree, BinaryTree, TernaryTree, IndexTree, SliceTree, PartSelectTree, ConcatTree, PatternTree, WidthCastTree, TypeCastTree, PosEdgeTree, NegEdgeTree, MacroTree, CallTree, MissingExpr, MaybeExpr, NoExpr, SomeExpr, Exprs, NoExprs, MoreExprs, NoArguments, SomeArguments, Kind, RegKind, WireKind, LogicKind, Declaration, Continuous, AlwaysWord, AlwaysFFWord, AlwaysAtWord, AlwaysCombWord, ParameterName, PlainParameter, IntParameter, DefinedParameter, Connection, InstanceTree, FunctionTree, MemberTree, DeclarationMember, AssignMember, ParameterMember, CommentMember, BlankMember, InlineMember, MacroMember, InstanceMember, AlwaysMember, ConditionalMember, FunctionMember, LoopMember, Members, NoMembers, MoreMembers}
 use Rattle.vast_literal.specs.NormalExpr.{NormalExpr, Name, Binary, normal}
 use Rattle.vast_literal.specs.NormalFile.{NormalStatements, Event, AssignPart, InstancePart, NormalMembers}
-use Rattle.vast_literal.specs.Grammar.{Spells, binary, name, call}
-use Rattle.vast_literal.specs.FileGrammar.{IsMany, no_items, more_items, IsJoined, last_item, next_item, IsList, empty, full, IsStatements, body, is_kind, absent, present, no_type, IsDeclaration, declares, is_member_kind, is_local_kind, is_parameter_word, is_clocked, is_edge, IsEvent, edge, plain, IsInput, input, IsDeclared, declared, IsGiven, given, IsConnection, connected, unconnected, IsGivenList, no_parameters, with_parameters, IsSemicolon, with_one, without, IsLabel, no_label, labelled, IsMember, declaration, continuous, parameter, macro, macro_with, instance, combinational, clocked, conditional, function, loop, IsMembers, closed, and_member}
+use Rattle.vast_literal.specs.Grammar.{Spells, binary, name}
+use Rattle.vast_literal.specs.FileGrammar.{IsMany, no_items, more_items, IsJoined, last_item, next_item, IsList, empty, full, IsStatements, is_kind, absent, present, no_type, IsDeclaration, declares, is_member_kind, is_local_kind, is_parameter_word, is_clocked, is_edge, IsEvent, edge, plain, IsInput, input, IsDeclared, declared, IsGiven, given, IsConnection, connected, unconnected, IsGivenList, no_parameters, with_parameters, IsSemicolon, with_one, without, IsLabel, no_label, labelled, IsMember, declaration, continuous, parameter, macro, macro_with, instance, combinational, clocked, conditional, function, loop, IsMembers, closed, and_member}
 use Rattle.vast_literal.specs.Plain.{is_plain_name, is_plain, are_plain, is_edgeless, are_edgeless}
 use Rattle.vast_literal.specs.ExprTokens.{spelled_level, is_reduction, is_right_wrapped, wrapped_tokens, expr_tokens}
 use Rattle.vast_literal.specs.WellFormed.{is_well_formed, is_well_formed_type}

@@ -1,10 +1,10 @@
 -- A written number is a number, perhaps behind a minus.
-use Rattle.std.proofs.Common.{◌≡◌, ℕ, zero, suc, ◌+◌, ◌/◌, ◌%◌, ◌<◌, ◌≤◌, ℤ, pos, negsuc, List, [], ◌∷◌, Bool, true, false, cond, ◌&&◌, ◌||◌, eqb, refl, sym, ◌∙◌, arith, mod-lt, lit<}
+use Rattle.std.proofs.Common.{◌≡◌, ℕ, zero, suc, ◌+◌, ◌/◌, ◌%◌, ◌<◌, ℤ, pos, negsuc, List, [], ◌∷◌, Bool, true, false, ◌&&◌, ◌||◌, eqb, refl, arith, mod-lt, lit<}
 use Rattle.std.proofs.lemmas.Bool.Decides.{nat_tests}
 use Rattle.std.specs.Prelude.{nat_lt, ◌==◌, if◌then◌else◌}
 use Rattle.std.specs.Fmt.{digits, digits_onto, digit_glyph, decimal, signed_decimal}
 use Rattle.vast_literal.specs.Scan.{is_digit}
-use Rattle.vast_literal.specs.LiteralToken.{every, is_number, is_based, is_filled, is_bare_literal, is_literal_text}
+use Rattle.vast_literal.specs.LiteralToken.{every, is_number, is_based, is_filled, is_literal_text}
 use Rattle.vast_literal.proofs.ScanLaws.{and_left}
 
 small_glyph : (m : ℕ) → m < 10 → is_digit (48 + m) ≡ true

@@ -8,7 +8,7 @@ use Rattle.vast_literal.specs.Spelling.{op_text}
 use Rattle.vast_literal.specs.LiteralToken.{is_number}
 use Rattle.vast_literal.specs.Plain.{is_identifier}
 use Rattle.vast_literal.specs.ExprTokens.{wrapped_tokens, comma_tail_tokens, comma_tokens}
-use Rattle.vast_literal.proofs.TokenReads.{stop, stops, opens, Free, Divides, Reads}
+use Rattle.vast_literal.proofs.TokenReads.{stops, opens, Free, Divides, Reads}
 use Rattle.vast_literal.proofs.ScanLaws.{add_tokens-append, and_left, scan_word, scan_word_cast, scan_number, scan_number_cast, scan_operator, scan_not, scan_and, scan_or, scan_colon, opens_letter, opens_digit}
 
 -- A text in parentheses where `wrapped`.

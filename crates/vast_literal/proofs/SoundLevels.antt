@@ -1,5 +1,5 @@
 -- The whole parser is sound: what it answers is derived, and is the front of the tokens.
-use Rattle.std.proofs.Common.{◌≡◌, ℕ, zero, suc, ◌+◌, ◌-◌, ◌≤◌, ◌⊎◌, inl, inr, true, false, nat_le, List, [], ◌∷◌, ◌++◌, Option, Some, None, refl, sym, subst, arith, append_assoc, leb-true, leb-false}
+use Rattle.std.proofs.Common.{◌≡◌, ℕ, zero, suc, ◌≤◌, ◌⊎◌, inl, inr, true, false, nat_le, List, [], ◌∷◌, ◌++◌, Option, Some, None, refl, sym, subst, arith, append_assoc, leb-true, leb-false}
 use Rattle.std.proofs.lemmas.Option.{same_Some}
 use Rattle.vast_literal.specs.Tokens.{Op, level, OpenBracket, CloseBracket, Colon, Question, PlusColon, Token, Number, Operator, Mark}
 use Rattle.vast_literal.specs.NormalExpr.{NormalExpr, Binary, Index, Slice, PartSelect}

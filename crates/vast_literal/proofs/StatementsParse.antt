@@ -1,5 +1,5 @@
 -- Each statement that the grammar derives is parsed, whatever follows that is no `else`.
-use Rattle.std.proofs.Common.{◌≡◌, ◌+◌, Bool, true, false, cond, List, [], ◌∷◌, ◌++◌, Option, Some, None, refl, sym, subst, ap, arith, append_assoc, eq-eqb}
+use Rattle.std.proofs.Common.{◌≡◌, Bool, true, false, cond, List, [], ◌∷◌, ◌++◌, Option, Some, None, refl, sym, subst, ap, arith, append_assoc, eq-eqb}
 use Rattle.std.proofs.Common.{IsTrue}
 use Rattle.vast_literal.specs.Tokens.{level, OpenParen, CloseParen, Colon, Semicolon, Assign, Key, IfKey, ElseKey, EndCaseKey, DefaultKey, BeginKey, EndKey, AssignKey, LogicKey, IntegerKey, IntKey, SignedKey, UnsignedKey, Token, Reserved, Mark}
 use Rattle.vast_literal.specs.NormalExpr.{NormalExpr}
@@ -374,5 +374,7 @@ no_else = refl
 
 -- Each token list spells at most one statement.
 pub one_statement : OneStatement
-one_statement = record { same = λ ts a b x y. let h = statement_parses ts a x in let k = statement_parses ts b y in
-    ap (λ (r : NormalStatement × List Token). r.0) (one_result (h.parses [] no_else) (k.parses [] no_else)) }
+one_statement = record {
+  same = λ ts a b x y. let h = statement_parses ts a x in let k = statement_parses ts b y in
+      ap (λ (r : NormalStatement × List Token). r.0) (one_result (h.parses [] no_else) (k.parses [] no_else));
+}

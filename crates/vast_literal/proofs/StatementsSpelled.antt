@@ -1,5 +1,5 @@
 -- The tokens of a statement's page spell its normal form.
-use Rattle.std.proofs.Common.{◌≡◌, ◌+◌, List, [], ◌∷◌, ◌++◌, Bool, true, false, cond, ◌&&◌, refl, append_assoc, append-nil}
+use Rattle.std.proofs.Common.{◌≡◌, List, [], ◌∷◌, ◌++◌, Bool, true, false, cond, ◌&&◌, refl, append_assoc, append-nil}
 use Rattle.vast_literal.specs.Tokens.{OpenParen, CloseParen, Colon, Semicolon, IfKey, BeginKey, Token, Reserved, Mark}
 use Rattle.vast_literal.specs.Tree.{MaybeExpr, NoExpr, SomeExpr, AssignForm, Blocking, Nonblocking, Continuous, CaseWord, CaseExact, CaseZ, CaseX, StatementTree, AssignTree, CommentTree, BlankTree, InlineTree, ConditionalTree, CaseTree, Statements, NoStatements, MoreStatements, Alternates, NoElse, ElseIf, Else, CaseArms, NoCaseArms, CaseArm}
 use Rattle.vast_literal.specs.NormalExpr.{NormalExpr}

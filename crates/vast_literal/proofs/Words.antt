@@ -1,6 +1,6 @@
 -- Names, numbers, keywords and what stands at the apostrophe of a cast, as pieces of text.
-use Rattle.std.proofs.Common.{◌≡◌, ℕ, List, [], ◌∷◌, ◌++◌, Bool, true, false, cond, eqb, eqb-true, refl, sym, ◌∙◌, ap, append_assoc}
-use Rattle.vast_literal.specs.Tokens.{Op, Key, key_text, Token, Reserved, Word, SystemWord, MacroWord, Number, Quoted, Mark, OpenParen, OpenBrace, Apostrophe, DoubleColon, PlusColon}
+use Rattle.std.proofs.Common.{◌≡◌, ℕ, List, [], ◌∷◌, ◌++◌, Bool, true, false, cond, eqb, eqb-true, refl, ◌∙◌, append_assoc}
+use Rattle.vast_literal.specs.Tokens.{Key, key_text, Reserved, Word, SystemWord, MacroWord, Number, Quoted, Mark, OpenParen, OpenBrace, Apostrophe, DoubleColon, PlusColon}
 use Rattle.vast_literal.specs.Scan.{scan}
 use Rattle.vast_literal.specs.LiteralToken.{is_number, is_string_text}
 use Rattle.vast_literal.specs.Plain.{is_identifier, is_plain_name, is_called_name}

@@ -1,11 +1,11 @@
 -- The tokens that the printed text of an expression has: bracketed as the text is.
-use Rattle.std.specs.Prelude.{ℕ, suc, List, [], ◌∷◌, ◌++◌, Bool, true, false, cond, not, ◌&&◌, ◌||◌, eqb, nat_le, nat_lt, Option, Some, None}
+use Rattle.std.specs.Prelude.{ℕ, List, [], ◌∷◌, ◌++◌, Bool, true, false, cond, not, ◌&&◌, ◌||◌, eqb, nat_le, nat_lt, Option, Some, None}
 use Rattle.std.specs.Fmt.{signed_decimal}
-use Rattle.vast_literal.specs.Tokens.{Op, level, Key, LogicKey, IntegerKey, IntKey, PosedgeKey, NegedgeKey, Punct, OpenParen, CloseParen, OpenBracket, CloseBracket, OpenBrace, CloseBrace, Comma, Colon, Question, DoubleColon, PlusColon, Apostrophe, Token, Reserved, Word, SystemWord, MacroWord, Number, Quoted, Operator, Mark}
-use Rattle.vast_literal.specs.Tree.{UnaryOp, NegateOp, BitwiseNotOp, LogicalNotOp, AndReduceOp, OrReduceOp, XorReduceOp}
+use Rattle.vast_literal.specs.Tokens.{Op, level, Key, LogicKey, IntegerKey, IntKey, PosedgeKey, NegedgeKey, OpenParen, CloseParen, OpenBracket, CloseBracket, OpenBrace, CloseBrace, Comma, Colon, Question, DoubleColon, PlusColon, Apostrophe, Token, Reserved, Word, SystemWord, MacroWord, Number, Quoted, Operator, Mark}
+use Rattle.vast_literal.specs.Tree.{UnaryOp, AndReduceOp, OrReduceOp, XorReduceOp}
 use Rattle.vast_literal.specs.Tree.{ExprTree, NameTree, LiteralTree, StringTree, UnaryTree, BinaryTree, TernaryTree, IndexTree, SliceTree, PartSelectTree, ConcatTree, PatternTree, WidthCastTree, TypeCastTree, PosEdgeTree, NegEdgeTree, MacroTree, CallTree, MissingExpr}
 use Rattle.vast_literal.specs.Tree.{TypeTree, ScalarTree, VectorTree, IntegerTree, IntTree, ExternalTree, PackageTree, PackedTree, UnpackedTree, MissingType}
-use Rattle.vast_literal.specs.Tree.{MaybeExpr, NoExpr, SomeExpr, Exprs, NoExprs, MoreExprs, MaybeExprs, NoArguments, SomeArguments}
+use Rattle.vast_literal.specs.Tree.{NoExpr, SomeExpr, Exprs, NoExprs, MoreExprs, NoArguments, SomeArguments}
 use Rattle.vast_literal.specs.NormalExpr.{unary_sign, binary_sign, is_elided_index, is_elided_slice, sign_key, scalar_sign, integer_sign}
 use Rattle.vast_literal.specs.LiteralToken.{is_number, literal_tokens}
 use Rattle.vast_literal.specs.Plain.{is_identifier}
@@ -106,19 +106,19 @@ unfoldable mutual
   expr_tokens (StringTree text) = Quoted text ∷ []
   expr_tokens (UnaryTree op operand) = Operator (unary_sign op) ∷ wrapped_tokens (is_operand_wrapped operand) (expr_tokens operand)
   expr_tokens (BinaryTree op left right) =
-    wrapped_tokens (is_left_wrapped (binary_sign op) left) (expr_tokens left) ++ (Operator (binary_sign op) ∷ wrapped_tokens (is_right_wrapped (binary_sign op) right) (expr_tokens right))
+      wrapped_tokens (is_left_wrapped (binary_sign op) left) (expr_tokens left) ++ (Operator (binary_sign op) ∷ wrapped_tokens (is_right_wrapped (binary_sign op) right) (expr_tokens right))
   expr_tokens (TernaryTree condition consequent alternate) =
-    wrapped_tokens (is_ternary condition) (expr_tokens condition) ++ (Mark Question ∷
-    (wrapped_tokens (is_ternary consequent) (expr_tokens consequent) ++ (Mark Colon ∷ wrapped_tokens (is_ternary alternate) (expr_tokens alternate))))
+      wrapped_tokens (is_ternary condition) (expr_tokens condition) ++ (Mark Question ∷
+      (wrapped_tokens (is_ternary consequent) (expr_tokens consequent) ++ (Mark Colon ∷ wrapped_tokens (is_ternary alternate) (expr_tokens alternate))))
   expr_tokens (IndexTree subject index) = cond (is_elided_index subject index) (expr_tokens subject)
-    (wrapped_tokens (is_subject_wrapped subject) (expr_tokens subject) ++ (Mark OpenBracket ∷ (expr_tokens index ++ (Mark CloseBracket ∷ []))))
+      (wrapped_tokens (is_subject_wrapped subject) (expr_tokens subject) ++ (Mark OpenBracket ∷ (expr_tokens index ++ (Mark CloseBracket ∷ []))))
   expr_tokens (SliceTree subject high low) = cond (is_elided_slice subject high low) (expr_tokens subject)
-    (wrapped_tokens (is_subject_wrapped subject) (expr_tokens subject) ++ (Mark OpenBracket ∷ (expr_tokens high ++ (Mark Colon ∷ (expr_tokens low ++ (Mark CloseBracket ∷ []))))))
+      (wrapped_tokens (is_subject_wrapped subject) (expr_tokens subject) ++ (Mark OpenBracket ∷ (expr_tokens high ++ (Mark Colon ∷ (expr_tokens low ++ (Mark CloseBracket ∷ []))))))
   expr_tokens (PartSelectTree subject start width) =
-    wrapped_tokens (is_subject_wrapped subject) (expr_tokens subject) ++ (Mark OpenBracket ∷ (expr_tokens start ++ (Mark PlusColon ∷ (Number (signed_decimal width) ∷ (Mark CloseBracket ∷ [])))))
+      wrapped_tokens (is_subject_wrapped subject) (expr_tokens subject) ++ (Mark OpenBracket ∷ (expr_tokens start ++ (Mark PlusColon ∷ (Number (signed_decimal width) ∷ (Mark CloseBracket ∷ [])))))
   expr_tokens (ConcatTree NoExpr parts) = Mark OpenBrace ∷ (comma_tokens (each_tokens parts) ++ (Mark CloseBrace ∷ []))
   expr_tokens (ConcatTree (SomeExpr count) parts) =
-    Mark OpenBrace ∷ (expr_tokens count ++ (Mark OpenBrace ∷ (comma_tokens (each_tokens parts) ++ (Mark CloseBrace ∷ (Mark CloseBrace ∷ [])))))
+      Mark OpenBrace ∷ (expr_tokens count ++ (Mark OpenBrace ∷ (comma_tokens (each_tokens parts) ++ (Mark CloseBrace ∷ (Mark CloseBrace ∷ [])))))
   expr_tokens (PatternTree parts) = Mark Apostrophe ∷ (Mark OpenBrace ∷ (comma_tokens (each_tokens parts) ++ (Mark CloseBrace ∷ [])))
   expr_tokens (WidthCastTree width operand) = wrapped_tokens (not (is_bare_head width)) (expr_tokens width) ++ cast_operand (expr_tokens operand)
   expr_tokens (TypeCastTree type operand) = cast_tokens type (expr_tokens operand)
@@ -133,7 +133,7 @@ unfoldable mutual
   pub cast_tokens : TypeTree → List Token → List Token
   cast_tokens (ScalarTree signed) ts = word_cast_tokens (scalar_sign signed) LogicKey ts
   cast_tokens (VectorTree width value signed) ts =
-    Reserved (sign_key signed) ∷ cast_operand (wrapped_tokens (not (is_bare_head width)) (expr_tokens width) ++ cast_operand ts)
+      Reserved (sign_key signed) ∷ cast_operand (wrapped_tokens (not (is_bare_head width)) (expr_tokens width) ++ cast_operand ts)
   cast_tokens (IntegerTree signed) ts = word_cast_tokens (integer_sign signed) IntegerKey ts
   cast_tokens (IntTree signed) ts = word_cast_tokens (integer_sign signed) IntKey ts
   cast_tokens (ExternalTree name) ts = Word name ∷ cast_operand ts

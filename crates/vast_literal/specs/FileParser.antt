@@ -1,10 +1,9 @@
 -- A parser of modules and files, over that of members.
-use Rattle.std.specs.Prelude.{ℕ, zero, suc, List, [], ◌∷◌, Bool, true, false, cond, eqb, bytes_eq, codes, Option, Some, None}
-use Rattle.vast_literal.specs.Tokens.{Key, ModuleKey, EndModuleKey, ParameterKey, Punct, OpenParen, CloseParen, Comma, Semicolon, Hash, Assign, Token, Reserved, Word, MacroWord, Quoted, Mark}
-use Rattle.vast_literal.specs.NormalExpr.{NormalExpr}
-use Rattle.vast_literal.specs.NormalFile.{NormalDeclaration, NormalParameter, NormalPort, NormalModule, NormalItem, ModulePart, IncludePart, NormalFile}
+use Rattle.std.specs.Prelude.{ℕ, List, [], ◌∷◌, Bool, true, false, cond, eqb, bytes_eq, codes, Option, Some, None}
+use Rattle.vast_literal.specs.Tokens.{Key, ModuleKey, EndModuleKey, ParameterKey, OpenParen, CloseParen, Comma, Semicolon, Hash, Assign, Token, Reserved, MacroWord, Quoted}
+use Rattle.vast_literal.specs.NormalFile.{NormalParameter, NormalPort, NormalItem, ModulePart, IncludePart, NormalFile}
 use Rattle.vast_literal.specs.FileGrammar.{is_direction}
-use Rattle.vast_literal.specs.Parser.{◌>>=◌, Parser, after, key_at, word_at, run}
+use Rattle.vast_literal.specs.Parser.{◌>>=◌, after, key_at, word_at, run}
 use Rattle.vast_literal.specs.StatementParser.{ReadOf, after_key}
 use Rattle.vast_literal.specs.DeclarationParser.{many, joined, declaration_at}
 use Rattle.vast_literal.specs.MemberParser.{members}

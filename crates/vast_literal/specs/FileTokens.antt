@@ -1,8 +1,8 @@
 -- The tokens that the printed page of a file has.
 use Rattle.std.specs.Prelude.{ℕ, ℤ, pos, ◌-ℤ◌, Bool, true, false, List, [], ◌∷◌, ◌++◌, codes, Option, Some, None, cond, nat_lt}
 use Rattle.std.specs.Fmt.{signed_decimal}
-use Rattle.vast_literal.specs.Tokens.{Op, Less, LessEqual, Plus, Minus, Key, IfKey, ElseKey, EndCaseKey, DefaultKey, UniqueKey, BeginKey, EndKey, AssignKey, IntKey, GenvarKey, ModuleKey, EndModuleKey, ParameterKey, AlwaysCombKey, AlwaysFFKey, AlwaysKey, OrKey, FunctionKey, AutomaticKey, EndFunctionKey, InputKey, ForKey}
-use Rattle.vast_literal.specs.Tokens.{Punct, OpenParen, CloseParen, OpenBracket, CloseBracket, Comma, Colon, Semicolon, Dot, Hash, At, DoubleColon, Assign, Token, Reserved, Word, MacroWord, Number, Quoted, Operator, Mark}
+use Rattle.vast_literal.specs.Tokens.{Less, LessEqual, Plus, Minus, Key, IfKey, ElseKey, EndCaseKey, DefaultKey, UniqueKey, BeginKey, EndKey, AssignKey, IntKey, GenvarKey, ModuleKey, EndModuleKey, ParameterKey, AlwaysCombKey, AlwaysFFKey, AlwaysKey, OrKey, FunctionKey, AutomaticKey, EndFunctionKey, InputKey, ForKey}
+use Rattle.vast_literal.specs.Tokens.{OpenParen, CloseParen, OpenBracket, CloseBracket, Comma, Colon, Semicolon, Dot, Hash, At, DoubleColon, Assign, Token, Reserved, Word, MacroWord, Number, Quoted, Operator, Mark}
 use Rattle.vast_literal.specs.Tree.{Dialect, VerilogDialect, SystemVerilogDialect, ExprTree, Exprs, NoExprs, MoreExprs, MaybeExpr, NoExpr, SomeExpr, MaybeType, Untyped, Typed}
 use Rattle.vast_literal.specs.Tree.{TypeTree, VectorTree, ExternalTree, PackageTree, PackedTree, UnpackedTree, Kind, Declaration}
 use Rattle.vast_literal.specs.Tree.{AssignForm, Blocking, Nonblocking, Continuous, CaseWord, CaseExact, CaseZ, CaseX, StatementTree, AssignTree, CommentTree, BlankTree, InlineTree, ConditionalTree, CaseTree, Statements, NoStatements, MoreStatements, Alternates, NoElse, ElseIf, Else, CaseArms, NoCaseArms, CaseArm}
@@ -73,8 +73,8 @@ unpacked_tokens dialect _ = []
 
 unfoldable pub declaration_tokens : Dialect → Kind → TypeTree → (name : List ℕ) → List Token
 declaration_tokens dialect kind type name =
-  maybe_tokens (kind_key kind) ++ (type_name_tokens (base_type type) ++ (maybe_tokens (sign_of (base_type type)) ++
-  ((packed_tokens type ++ vector_tokens (base_type type)) ++ (Word name ∷ unpacked_tokens dialect type))))
+    maybe_tokens (kind_key kind) ++ (type_name_tokens (base_type type) ++ (maybe_tokens (sign_of (base_type type)) ++
+    ((packed_tokens type ++ vector_tokens (base_type type)) ++ (Word name ∷ unpacked_tokens dialect type))))
 
 unfoldable pub declared_tokens : Dialect → Declaration → List Token
 declared_tokens dialect d = declaration_tokens dialect d.kind d.type d.name
@@ -128,9 +128,9 @@ unfoldable mutual
   statement_tokens BlankTree = []
   statement_tokens (InlineTree text) = []
   statement_tokens (ConditionalTree condition consequent alternates) =
-    Reserved IfKey ∷ (Mark OpenParen ∷ (expr_tokens condition ++ (Mark CloseParen ∷ (Reserved BeginKey ∷ (ended (statements_tokens consequent) ++ alternates_tokens alternates)))))
+      Reserved IfKey ∷ (Mark OpenParen ∷ (expr_tokens condition ++ (Mark CloseParen ∷ (Reserved BeginKey ∷ (ended (statements_tokens consequent) ++ alternates_tokens alternates)))))
   statement_tokens (CaseTree unique word selector arms) =
-    unique_tokens unique ++ (Reserved (case_key word) ∷ (Mark OpenParen ∷ (expr_tokens selector ++ (Mark CloseParen ∷ arms_tokens word arms))))
+      unique_tokens unique ++ (Reserved (case_key word) ∷ (Mark OpenParen ∷ (expr_tokens selector ++ (Mark CloseParen ∷ arms_tokens word arms))))
 
   pub statements_tokens : Statements → List Token
   statements_tokens NoStatements = []
@@ -139,14 +139,14 @@ unfoldable mutual
   pub alternates_tokens : Alternates → List Token
   alternates_tokens NoElse = []
   alternates_tokens (ElseIf condition block alternates) =
-    Reserved ElseKey ∷ (Reserved IfKey ∷ (Mark OpenParen ∷ (expr_tokens condition ++ (Mark CloseParen ∷ (Reserved BeginKey ∷ (ended (statements_tokens block) ++ alternates_tokens alternates))))))
+      Reserved ElseKey ∷ (Reserved IfKey ∷ (Mark OpenParen ∷ (expr_tokens condition ++ (Mark CloseParen ∷ (Reserved BeginKey ∷ (ended (statements_tokens block) ++ alternates_tokens alternates))))))
   alternates_tokens (Else block) = Reserved ElseKey ∷ (Reserved BeginKey ∷ ended (statements_tokens block))
 
   -- The arms and `endcase`.
   pub arms_tokens : CaseWord → CaseArms → List Token
   arms_tokens word NoCaseArms = Reserved EndCaseKey ∷ []
   arms_tokens word (CaseArm label block arms) =
-    label_tokens label ++ (Mark Colon ∷ (cond (is_bare_arm word block) (statements_tokens block) (block_tokens (statements_tokens block)) ++ arms_tokens word arms))
+      label_tokens label ++ (Mark Colon ∷ (cond (is_bare_arm word block) (statements_tokens block) (block_tokens (statements_tokens block)) ++ arms_tokens word arms))
 
 -- Members.
 
@@ -183,7 +183,7 @@ given_tokens (c ∷ cs) = Mark Hash ∷ (Mark OpenParen ∷ (separated (each_con
 
 unfoldable pub instance_tokens : InstanceTree → List Token
 instance_tokens i =
-  Word i.module_name ∷ (given_tokens i.parameters ++ (Word i.instance_name ∷ (Mark OpenParen ∷ (separated (each_connection i.connections) ++ (Mark CloseParen ∷ (Mark Semicolon ∷ []))))))
+    Word i.module_name ∷ (given_tokens i.parameters ++ (Word i.instance_name ∷ (Mark OpenParen ∷ (separated (each_connection i.connections) ++ (Mark CloseParen ∷ (Mark Semicolon ∷ []))))))
 
 -- Events with `or` between each two.
 unfoldable pub more_event_tokens : Exprs → List Token
@@ -213,8 +213,8 @@ body_tokens body = cond (is_single_casez body) (statements_tokens body) (block_t
 
 unfoldable pub function_tokens : Dialect → FunctionTree → List Token
 function_tokens dialect f =
-  Reserved FunctionKey ∷ (Reserved AutomaticKey ∷ (declaration_tokens dialect (result_kind dialect f.result) f.result f.name ++ (Mark OpenParen ∷ (separated (each_input dialect f.inputs) ++
-  (Mark CloseParen ∷ (Mark Semicolon ∷ (local_tokens dialect f.locals ++ (body_tokens f.body ++ (Reserved EndFunctionKey ∷ [])))))))))
+    Reserved FunctionKey ∷ (Reserved AutomaticKey ∷ (declaration_tokens dialect (result_kind dialect f.result) f.result f.name ++ (Mark OpenParen ∷ (separated (each_input dialect f.inputs) ++
+    (Mark CloseParen ∷ (Mark Semicolon ∷ (local_tokens dialect f.locals ++ (body_tokens f.body ++ (Reserved EndFunctionKey ∷ [])))))))))
 
 unfoldable pub loop_label_tokens : Option (List ℕ) → List Token
 loop_label_tokens None = []
@@ -232,12 +232,12 @@ unfoldable mutual
   member_tokens dialect (InstanceMember i) = instance_tokens i
   member_tokens dialect (AlwaysMember word events body) = always_tokens word events (block_tokens (statements_tokens body))
   member_tokens dialect (ConditionalMember condition consequent alternates) =
-    Reserved IfKey ∷ (Mark OpenParen ∷ (expr_tokens condition ++ (Mark CloseParen ∷ (Reserved BeginKey ∷ (ended (statements_tokens consequent) ++ alternates_tokens alternates)))))
+      Reserved IfKey ∷ (Mark OpenParen ∷ (expr_tokens condition ++ (Mark CloseParen ∷ (Reserved BeginKey ∷ (ended (statements_tokens consequent) ++ alternates_tokens alternates)))))
   member_tokens dialect (FunctionMember f) = function_tokens dialect f
   member_tokens dialect (LoopMember genvar start end label members) =
-    Reserved ForKey ∷ (Mark OpenParen ∷ (Reserved GenvarKey ∷ (Word genvar ∷ (Mark Assign ∷ (expr_tokens start ++ (Mark Semicolon ∷
-    ((Word genvar ∷ (Operator Less ∷ wrapped_tokens (is_right_wrapped Less end) (expr_tokens end))) ++ (Mark Semicolon ∷ (Word genvar ∷ (Mark Assign ∷ (Word genvar ∷ (Operator Plus ∷ (Number (codes "1") ∷
-    (Mark CloseParen ∷ (Reserved BeginKey ∷ (loop_label_tokens label ++ ended (members_tokens dialect members)))))))))))))))))
+      Reserved ForKey ∷ (Mark OpenParen ∷ (Reserved GenvarKey ∷ (Word genvar ∷ (Mark Assign ∷ (expr_tokens start ++ (Mark Semicolon ∷
+      ((Word genvar ∷ (Operator Less ∷ wrapped_tokens (is_right_wrapped Less end) (expr_tokens end))) ++ (Mark Semicolon ∷ (Word genvar ∷ (Mark Assign ∷ (Word genvar ∷ (Operator Plus ∷ (Number (codes "1") ∷
+      (Mark CloseParen ∷ (Reserved BeginKey ∷ (loop_label_tokens label ++ ended (members_tokens dialect members)))))))))))))))))
 
   pub members_tokens : Dialect → Members → List Token
   members_tokens dialect NoMembers = []
@@ -268,7 +268,7 @@ header_port_tokens dialect (p ∷ ps) = Mark OpenParen ∷ (separated (each_port
 
 unfoldable pub module_tokens : Dialect → ModuleTree → List Token
 module_tokens dialect m =
-  Reserved ModuleKey ∷ (Word m.name ∷ (header_parameter_tokens dialect m.parameters ++ (header_port_tokens dialect m.ports ++ (Mark Semicolon ∷ (members_tokens dialect m.members ++ (Reserved EndModuleKey ∷ []))))))
+    Reserved ModuleKey ∷ (Word m.name ∷ (header_parameter_tokens dialect m.parameters ++ (header_port_tokens dialect m.ports ++ (Mark Semicolon ∷ (members_tokens dialect m.members ++ (Reserved EndModuleKey ∷ []))))))
 
 unfoldable pub item_tokens : Dialect → FileItemTree → List Token
 item_tokens dialect (ModuleItem m) = module_tokens dialect m

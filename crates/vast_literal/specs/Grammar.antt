@@ -1,7 +1,7 @@
 -- The grammar of expressions: which token lists spell which normal expression, at which level.
 use Rattle.std.specs.Prelude.{◌≡◌, ℕ, suc, ◌<◌, List, [], ◌∷◌, ◌++◌, Bool, true, false, Some, IsTrue}
 use Rattle.vast_literal.specs.Tokens.{Op, level, is_unary, Key, LogicKey, SignedKey, UnsignedKey, IntegerKey, IntKey}
-use Rattle.vast_literal.specs.Tokens.{Punct, OpenParen, CloseParen, OpenBracket, CloseBracket, OpenBrace, CloseBrace, Comma, Colon, Question, DoubleColon, PlusColon, Apostrophe}
+use Rattle.vast_literal.specs.Tokens.{OpenParen, CloseParen, OpenBracket, CloseBracket, OpenBrace, CloseBrace, Comma, Colon, Question, DoubleColon, PlusColon, Apostrophe}
 use Rattle.vast_literal.specs.Tokens.{Token, Reserved, Word, SystemWord, MacroWord, Number, Based, Quoted, Operator, Mark}
 use Rattle.vast_literal.specs.Scan.{tokens}
 use Rattle.vast_literal.specs.NormalExpr.{NormalExpr, Name, Literal, Text, MacroAlone, Unary, Binary, Ternary, Index, Slice, PartSelect, Concat, Pattern, Replicated, Call, MacroCall, Cast, PackageCast, WordCast, NormalExprs, NoNormals, MoreNormals}

@@ -1,6 +1,6 @@
 -- Which texts are one literal token or one string token.
 use Rattle.std.specs.Prelude.{ℕ, List, [], ◌∷◌, Bool, true, false, cond, not, ◌&&◌, ◌||◌, eqb}
-use Rattle.vast_literal.specs.Tokens.{Op, Minus, Token, Number, Based, Operator}
+use Rattle.vast_literal.specs.Tokens.{Minus, Token, Number, Based, Operator}
 use Rattle.vast_literal.specs.Scan.{is_digit, is_radix, is_based_digit, is_filler}
 
 -- Each byte passes the test.

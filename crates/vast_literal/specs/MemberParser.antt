@@ -3,7 +3,7 @@ use Rattle.std.specs.Prelude.{ℕ, zero, suc, List, [], ◌∷◌, Bool, true, f
 use Rattle.vast_literal.specs.Tokens.{Less, Plus, OpenParen, CloseParen, Comma, Colon, Semicolon, Dot, Hash, At, Assign, Key, IfKey, CasezKey, UniqueKey, BeginKey, EndKey, AssignKey, GenvarKey, AlwaysCombKey, OrKey, FunctionKey, AutomaticKey, EndFunctionKey, InputKey, ForKey, Token, Word, MacroWord, Operator}
 use Rattle.vast_literal.specs.NormalExpr.{NormalExpr, Name, Binary, NormalExprs}
 use Rattle.vast_literal.specs.NormalFile.{NormalStatement, NormalStatements, Done, Then, NormalDeclaration, Event, EdgeEvent, NameEvent, NormalConnection, NormalMember, DeclarationPart, AssignPart, ParameterPart, MacroPart, InstancePart, AlwaysPart, ConditionalPart, FunctionPart, LoopPart, NormalMembers, NoParts, MoreParts}
-use Rattle.vast_literal.specs.FileGrammar.{choice, is_member_kind, is_local_kind, is_parameter_word, is_clocked, is_edge}
+use Rattle.vast_literal.specs.FileGrammar.{is_member_kind, is_local_kind, is_parameter_word, is_clocked, is_edge}
 use Rattle.vast_literal.specs.Parser.{◌>>=◌, Parser, after, key_at, word_at, number_at, enclosed, arguments, selected, run}
 use Rattle.vast_literal.specs.StatementParser.{ReadOf, after_key, cases_at, read_with}
 use Rattle.vast_literal.specs.DeclarationParser.{many, joined, listed, declaration_at}

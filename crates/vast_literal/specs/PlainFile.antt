@@ -1,6 +1,6 @@
 -- Plain files: all names that are printed are identifiers and no keywords, and nothing stands where it has no meaning.
 use Rattle.std.specs.Prelude.{ℕ, List, [], ◌∷◌, Bool, true, false, not, ◌&&◌, ◌||◌, eqb, Option, Some, None}
-use Rattle.vast_literal.specs.Tree.{ExprTree, NameTree, LiteralTree, StringTree, UnaryTree, BinaryTree, TernaryTree, IndexTree, SliceTree, PartSelectTree, ConcatTree, PatternTree, WidthCastTree, TypeCastTree, PosEdgeTree, NegEdgeTree, MacroTree, CallTree, MissingExpr, TypeTree}
+use Rattle.vast_literal.specs.Tree.{ExprTree, NameTree, IndexTree, SliceTree, PartSelectTree, ConcatTree, PosEdgeTree, NegEdgeTree, TypeTree}
 use Rattle.vast_literal.specs.Tree.{MaybeExpr, NoExpr, SomeExpr, Exprs, NoExprs, MoreExprs, MaybeType, Untyped, Typed, Declaration}
 use Rattle.vast_literal.specs.Tree.{StatementTree, AssignTree, CommentTree, BlankTree, InlineTree, ConditionalTree, CaseTree, Statements, NoStatements, MoreStatements, Alternates, NoElse, ElseIf, Else, CaseArms, NoCaseArms, CaseArm}
 use Rattle.vast_literal.specs.Tree.{ParameterName, PlainParameter, IntParameter, DefinedParameter, Connection, InstanceTree, FunctionTree}

@@ -1,8 +1,8 @@
 -- The scan of a text into tokens, from the left, always taking the longest lexeme.
 use Rattle.std.specs.Prelude.{ℕ, List, [], ◌∷◌, ◌++◌, Bool, cond, ◌&&◌, ◌||◌, eqb, leb, Option, Some, None}
-use Rattle.vast_literal.specs.Tokens.{Op, LogicOr, LogicAnd, BitOr, BitXor, BitAnd, NotEqual, CaseNotEqual, Equal, CaseEqual, GreaterEqual, Greater, LessEqual, Less, ShiftLeft, ShiftRightSigned, ShiftRight, Plus, Minus, Times, Divide, Modulo, Power, BitNot, LogicNot}
-use Rattle.vast_literal.specs.Tokens.{Punct, OpenParen, CloseParen, OpenBracket, CloseBracket, OpenBrace, CloseBrace, Comma, Colon, Semicolon, Dot, Hash, At, Question, DoubleColon, PlusColon, Assign, Apostrophe}
-use Rattle.vast_literal.specs.Tokens.{Token, Word, SystemWord, MacroWord, Number, Based, Quoted, Operator, Mark, word_token}
+use Rattle.vast_literal.specs.Tokens.{LogicOr, LogicAnd, BitOr, BitXor, BitAnd, NotEqual, CaseNotEqual, Equal, CaseEqual, GreaterEqual, Greater, LessEqual, Less, ShiftLeft, ShiftRightSigned, ShiftRight, Plus, Minus, Times, Divide, Modulo, Power, BitNot, LogicNot}
+use Rattle.vast_literal.specs.Tokens.{OpenParen, CloseParen, OpenBracket, CloseBracket, OpenBrace, CloseBrace, Comma, Colon, Semicolon, Dot, Hash, At, Question, DoubleColon, PlusColon, Assign, Apostrophe}
+use Rattle.vast_literal.specs.Tokens.{Token, SystemWord, MacroWord, Number, Based, Quoted, Operator, Mark, word_token}
 
 -- A byte from `low` to `high`.
 abbrev pub is_within : (low high byte : ℕ) → Bool

@@ -1,12 +1,12 @@
 -- A parser of statements, over that of expressions.
 use Rattle.std.specs.Prelude.{ℕ, zero, suc, List, [], ◌∷◌, Bool, true, false, cond, nat_eq, Option, Some, None}
-use Rattle.vast_literal.specs.Tokens.{Op, LessEqual, Key, IfKey, ElseKey, CaseKey, CasezKey, CasexKey, EndCaseKey, DefaultKey, UniqueKey, BeginKey, EndKey, AssignKey, WireKey, RegKey, LogicKey, IntegerKey, IntKey, GenvarKey, SignedKey, UnsignedKey, ModuleKey, EndModuleKey, ParameterKey, LocalparamKey, AlwaysCombKey, AlwaysFFKey, AlwaysKey, PosedgeKey, NegedgeKey, OrKey, FunctionKey, AutomaticKey, EndFunctionKey, InputKey, OutputKey, InOutKey, ForKey}
-use Rattle.vast_literal.specs.Tokens.{Punct, OpenParen, CloseParen, Colon, Semicolon, Assign, Token, Operator, Mark}
+use Rattle.vast_literal.specs.Tokens.{LessEqual, Key, IfKey, ElseKey, CaseKey, CasezKey, CasexKey, EndCaseKey, DefaultKey, UniqueKey, BeginKey, EndKey, AssignKey, WireKey, RegKey, LogicKey, IntegerKey, IntKey, GenvarKey, SignedKey, UnsignedKey, ModuleKey, EndModuleKey, ParameterKey, LocalparamKey, AlwaysCombKey, AlwaysFFKey, AlwaysKey, PosedgeKey, NegedgeKey, OrKey, FunctionKey, AutomaticKey, EndFunctionKey, InputKey, OutputKey, InOutKey, ForKey}
+use Rattle.vast_literal.specs.Tokens.{OpenParen, CloseParen, Colon, Semicolon, Assign, Token, Operator, Mark}
 use Rattle.vast_literal.specs.NormalExpr.{NormalExpr}
 use Rattle.vast_literal.specs.NormalFile.{NormalStatement, AssignStatement, ChoiceStatement, CaseStatement, NormalStatements, Done, Then, Arms, Only, Otherwise, Or, Labels, NoLabels, Label}
 use Rattle.vast_literal.specs.Grammar.{is_cast_word}
 use Rattle.vast_literal.specs.FileGrammar.{assignment}
-use Rattle.vast_literal.specs.Parser.{◌>>=◌, Parser, after, key_at, enclosed, selected, step, silent, run}
+use Rattle.vast_literal.specs.Parser.{◌>>=◌, Parser, after, key_at, enclosed, selected, step, silent}
 
 -- What was read, and the tokens behind it.
 abbrev pub ReadOf : Type 0 → Type 0

@@ -1,9 +1,9 @@
 -- Well-formed expressions: those whose literals and strings are tokens. Each expression that was built is one.
-use Rattle.std.specs.Prelude.{ℕ, suc, ℤ, pos, List, Bool, true, false, ◌&&◌}
+use Rattle.std.specs.Prelude.{suc, ℤ, pos, Bool, true, false, ◌&&◌}
 use Rattle.vast_literal.specs.LiteralToken.{is_literal_text, is_string_text}
 use Rattle.vast_literal.specs.Tree.{ExprTree, NameTree, LiteralTree, StringTree, UnaryTree, BinaryTree, TernaryTree, IndexTree, SliceTree, PartSelectTree, ConcatTree, PatternTree, WidthCastTree, TypeCastTree, PosEdgeTree, NegEdgeTree, MacroTree, CallTree, MissingExpr}
 use Rattle.vast_literal.specs.Tree.{TypeTree, ScalarTree, VectorTree, IntegerTree, IntTree, ExternalTree, PackageTree, PackedTree, UnpackedTree, MissingType}
-use Rattle.vast_literal.specs.Tree.{MaybeExpr, NoExpr, SomeExpr, Exprs, NoExprs, MoreExprs, MaybeExprs, NoArguments, SomeArguments}
+use Rattle.vast_literal.specs.Tree.{NoExpr, SomeExpr, Exprs, NoExprs, MoreExprs, NoArguments, SomeArguments}
 
 -- A number of at least 1.
 abbrev pub is_positive : ℤ → Bool

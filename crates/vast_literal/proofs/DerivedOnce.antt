@@ -1,0 +1,20 @@
+-- A text is derived from at most one expression and from at most one file.
+use Rattle.std.proofs.Common.{◌≡◌, ℕ, List, subst, sym, ◌∙◌}
+use Rattle.std.proofs.lemmas.Option.{same_Some}
+use Rattle.vast_literal.specs.Tokens.{Token}
+use Rattle.vast_literal.specs.NormalExpr.{NormalExpr}
+use Rattle.vast_literal.specs.NormalFile.{NormalFile}
+use Rattle.vast_literal.specs.Grammar.{DerivesExpression, Spells}
+use Rattle.vast_literal.specs.FileGrammar.{DerivesFile, IsFile}
+use Rattle.vast_literal.proofs.Complete.{one_expression}
+use Rattle.vast_literal.proofs.FilesParse.{one_file}
+
+pub expression_once : (text : List ℕ) (a b : NormalExpr) → DerivesExpression text a → DerivesExpression text b → a ≡ b
+expression_once text a b x y =
+    let e : x.parts ≡ y.parts = same_Some _ _ (sym x.has_parts ∙ y.has_parts) in
+    one_expression.same y.parts a b (subst (λ (ts : List Token). Spells 0 ts a) e x.spelled) y.spelled
+
+pub file_once : (text : List ℕ) (a b : NormalFile) → DerivesFile text a → DerivesFile text b → a ≡ b
+file_once text a b x y =
+    let e : x.parts ≡ y.parts = same_Some _ _ (sym x.has_parts ∙ y.has_parts) in
+    one_file.same y.parts a b (subst (λ (ts : List Token). IsFile ts a) e x.spelled) y.spelled

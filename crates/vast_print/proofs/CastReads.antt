@@ -1,0 +1,208 @@
+-- Signs, elided selects and casts in the text of an expression.
+use Rattle.std.proofs.Common.{◌≡◌, ℕ, ℤ, pos, List, [], ◌∷◌, ◌++◌, Bool, true, false, cond, not, ◌&&◌, ◌||◌, eqb, eqb-true, None, refl, sym, subst, ◌∙◌, ap, append_assoc, arith, codes}
+use Rattle.std.proofs.lemmas.Bool.Decides.{nat_tests}
+use Rattle.std.specs.Prelude.{negsuc, if◌then◌else◌}
+use Rattle.std.specs.Fmt.{signed_decimal}
+use Rattle.vast_literal.specs.Tokens.{Token, Operator, Mark, OpenParen, Apostrophe, DoubleColon, Key, LogicKey, SignedKey, UnsignedKey, Reserved, Word, key_text}
+use Rattle.vast_literal.specs.Tree.{UnaryOp, NegateOp}
+use Rattle.vast_literal.specs.Tree.{BinaryOp, AddOp}
+use Rattle.vast_literal.specs.Tree.{ExprTree, NameTree, LiteralTree, StringTree, IndexTree, SliceTree}
+use Rattle.vast_literal.specs.Tree.{TypeTree, ScalarTree, VectorTree, IntegerTree, IntTree, ExternalTree, PackageTree, PackedTree, UnpackedTree, MissingType}
+use Rattle.vast_literal.specs.Scan.{is_letter, is_digit, is_word_byte}
+use Rattle.vast_literal.specs.NormalExpr.{normal}
+use Rattle.vast_literal.specs.Spelling.{op_text}
+use Rattle.vast_literal.specs.LiteralToken.{every, is_number, is_bare_literal, is_literal_text, is_string_text}
+use Rattle.vast_literal.specs.NormalExpr.{unary_sign, binary_sign, is_elided_index, is_elided_slice, scalar_sign, integer_sign, sign_key}
+use Rattle.vast_literal.specs.NormalExpr as Normal
+use Rattle.vast_literal.specs.Plain.{is_identifier, is_plain_name}
+use Rattle.vast_literal.specs.ExprTokens.{expr_tokens, cast_tokens, each_tokens, comma_tokens, comma_tail_tokens, argument_tokens, called_token, cast_operand, wrapped_tokens, word_cast_tokens, is_left_wrapped, is_right_wrapped, is_operand_wrapped, is_subject_wrapped, is_ternary}
+use Rattle.vast_literal.specs.ExprTokens as Tokens
+use Rattle.vast_literal.specs.WellFormed.{is_well_formed, is_positive}
+use Rattle.vast_literal.proofs.ScanLaws.{and_left}
+use Rattle.vast_literal.proofs.TokenReads.{opens, Free, Divides, Reads}
+use Rattle.vast_literal.proofs.Pieces.{free_free, reads_end, sign_reads, operator_divides, head_wrapped}
+use Rattle.vast_literal.proofs.NumberLaws.{decimal_number}
+use Rattle.vast_literal.proofs.Words.{name_reads, name_cast_free, key_cast_free, double_colon}
+use Rattle.vast_print.specs.declared.refusal.Refusal.{Refusal}
+use Rattle.vast_print.specs.declared.refusal.Refusal.TheVariants.{ScalarIndex, ScalarSlice}
+use Rattle.vast_print.specs.Printed.{Printed, plain_text, ◌⊕◌, wrapped}
+use Rattle.vast_print.specs.Levels.{unary_sign_text, binary_sign_text, unary_wraps, is_scalar_name, is_zero}
+use Rattle.vast_print.specs.Bare.{is_bare}
+use Rattle.vast_print.specs.Bare as Bare
+use Rattle.vast_print.specs.Text.{elided, cast_to, width_cast, sign_cast, scalar_cast, number_cast, package_text, expr_text, type_cast}
+use Rattle.vast_print.proofs.BareLaws.{bare-head}
+use Rattle.vast_print.proofs.TestLaws.{bare_same, scalar_same, zero_same, operand_same}
+use Rattle.vast_print.proofs.FaultLaws.{both_fine, wrapped_fine, elided_fine, elided_text}
+use Rattle.vast_print.proofs.ExprOpens.{is_tight, literal_first}
+use Rattle.vast_print.proofs.Shapes.{cast_left, head_reads}
+
+-- signs
+
+pub unary_same : (o : UnaryOp) → unary_sign_text o ≡ op_text (unary_sign o)
+unfolding unary_sign
+unary_same NegateOp = refl
+unary_same _ = refl
+
+pub binary_same : (o : BinaryOp) → binary_sign_text o ≡ (32 ∷ (op_text (binary_sign o) ++ (32 ∷ [])))
+unfolding binary_sign
+binary_same AddOp = refl
+binary_same _ = refl
+
+pub binary_divides : (o : BinaryOp) → Divides (binary_sign_text o) (Operator (binary_sign o) ∷ [])
+binary_divides o = subst (λ (a : List ℕ). Divides a (Operator (binary_sign o) ∷ [])) (sym (binary_same o)) (operator_divides (binary_sign o))
+
+pub unary_reads : (o : UnaryOp) (a : List ℕ) {ts : List Token} → opens true a ≡ true → Reads a ts → Reads (unary_sign_text o ++ a) (Operator (unary_sign o) ∷ ts)
+unary_reads o a {ts = ts} h f = subst (λ (s : List ℕ). Reads (s ++ a) (Operator (unary_sign o) ∷ ts)) (sym (unary_same o)) (sign_reads o a h f)
+
+pub not_false : (a b : Bool) → a ≡ b → a ≡ false → not b ≡ true
+not_false a true e h = absurd (cc (e, h))
+not_false a false e h = refl
+
+-- an operand that stands bare begins with no sign
+pub or_left_false : (a b : Bool) → (a || b) ≡ false → a ≡ false
+or_left_false true b h = absurd (cc h)
+or_left_false false b h = refl
+
+pub operand_tight : (e : ExprTree) → unary_wraps e ≡ false → is_tight e ≡ true
+operand_tight e h = let s = operand_same e in let k : is_operand_wrapped e ≡ false = cc (s, h) in not_false _ _ refl (or_left_false _ (Tokens.is_width_cast e) k)
+
+-- positive widths
+
+pub positive_number : (z : ℤ) → is_positive z ≡ true → is_number (signed_decimal z) ≡ true
+positive_number (pos n) h = decimal_number n
+positive_number (negsuc n) h = absurd (cc h)
+
+-- elided selects
+
+pub pick_reads : (b z : Bool) (r : Refusal) (s rest : Printed) {ss ts : List Token} → (if b then elided z r s else rest).fault ≡ None → (b ≡ true → s.fault ≡ None → Reads s.text ss) → (b ≡ false → rest.fault ≡ None → Reads rest.text ts) →
+    Reads (if b then elided z r s else rest).text (cond (b && z) ss ts)
+pick_reads true z r s rest {ss = ss} {ts = ts} e f g = let (d, k) = elided_fine z r s e in
+    rw (elided_text z r s) (subst (λ (c : Bool). Reads s.text (cond c ss ts)) (sym d) (f refl k))
+pick_reads false z r s rest e f g = g refl e
+
+pub index_same : (s i : ExprTree) → (is_scalar_name s && is_zero i) ≡ is_elided_index s i
+unfolding is_elided_index
+index_same s i = let a = scalar_same s in let b = zero_same i in cc (a, b)
+
+pub and_assoc : (a b c : Bool) → (a && (b && c)) ≡ ((a && b) && c)
+and_assoc true b c = refl
+and_assoc false b c = refl
+
+pub slice_same : (s h l : ExprTree) → (is_scalar_name s && (is_zero h && is_zero l)) ≡ is_elided_slice s h l
+unfolding is_elided_slice
+slice_same s h l = let a = scalar_same s in let b = zero_same h in let c = zero_same l in let d = and_assoc (Normal.is_scalar_name s) (Normal.is_zero_literal h) (Normal.is_zero_literal l) in cc (a, b, c, d)
+
+-- the heads of width casts
+
+pub no_letter : (c : ℕ) → (is_digit c || eqb c 39) ≡ true → is_letter c ≡ false
+no_letter c h = grind (arith, nat_tests)
+
+pub false_and : (a b : Bool) → a ≡ false → (a && b) ≡ false
+false_and true b h = absurd (cc h)
+false_and false b h = refl
+
+pub literal_no_word : (w : List ℕ) → is_literal_text w ≡ true → is_identifier w ≡ false
+literal_no_word [] h = refl
+literal_no_word (c ∷ cs) h = go (eqb c 45) refl h
+  where
+    go : (b : Bool) → eqb c 45 ≡ b → cond b (is_bare_literal cs) (is_bare_literal (c ∷ cs)) ≡ true → is_identifier (c ∷ cs) ≡ false
+    go true e k = rw (eqb-true c 45 e) refl
+    go false e k = false_and (is_letter c) (every is_word_byte cs) (no_letter c (literal_first c cs k))
+
+pub string_no_head : (w : List ℕ) → is_string_text w ≡ true → (is_number w || is_identifier w) ≡ false
+string_no_head [] h = absurd (cc h)
+string_no_head (c ∷ cs) h = rw (eqb-true c 34 (and_left _ _ h)) refl
+
+pub or_false : (a b : Bool) → b ≡ false → (a || b) ≡ a
+or_false true b h = refl
+or_false false b h = h
+
+pub elided_head : (b z n m : Bool) (r : Refusal) (s rest : Printed) → (if b then elided z r s else rest).fault ≡ None → (b ≡ true → s.fault ≡ None → n ≡ m) → (b && n) ≡ ((b && z) && m)
+elided_head true z n m r s rest e f = let (d, k) = elided_fine z r s e in let g = f refl k in cc (d, g)
+elided_head false z n m r s rest e f = refl
+
+pub heads : (e : ExprTree) → is_well_formed e ≡ true → (expr_text e).fault ≡ None → Bare.is_bare_head e ≡ Tokens.is_bare_head e
+unfolding Bare.is_bare_head Tokens.is_bare_head expr_text
+heads (NameTree n type) w f = bare_same n
+heads (LiteralTree t v) w f = bare_same t ∙ or_false (is_number t) (is_identifier t) (literal_no_word t w)
+heads (StringTree t) w f = bare_same t ∙ string_no_head t w
+heads (IndexTree s i) w f = elided_head (is_scalar_name s) (is_zero i) (Bare.is_bare_head s) (Tokens.is_bare_head s) ScalarIndex (expr_text s) _ f (λ _ k. heads s (and_left _ _ w) k) ∙ ap (λ (b : Bool). b && Tokens.is_bare_head s) (index_same s i)
+heads (SliceTree s a b) w f = elided_head (is_scalar_name s) (is_zero a && is_zero b) (Bare.is_bare_head s) (Tokens.is_bare_head s) ScalarSlice (expr_text s) _ f (λ _ k. heads s (and_left _ _ w) k) ∙ ap (λ (b : Bool). b && Tokens.is_bare_head s) (slice_same s a b)
+heads _ w f = refl
+
+pub head_of_text : (t : List ℕ) → not (is_bare t) ≡ head_wrapped t
+head_of_text t = ap not (bare_same t)
+
+pub head_of_tree : (e : ExprTree) → is_well_formed e ≡ true → (expr_text e).fault ≡ None → not (Tokens.is_bare_head e) ≡ head_wrapped (expr_text e).text
+head_of_tree e w f = ap not (sym (heads e w f) ∙ (sym (bare-head e) ∙ bare_same (expr_text e).text))
+
+-- casts
+
+pub cast_fine : (h p : Printed) → (cast_to h p).fault ≡ None → (h.fault ≡ None) × (p.fault ≡ None)
+unfolding cast_to
+cast_fine h p e = let (a, b) = both_fine _ _ e in let (c, d) = both_fine _ _ a in let (x, y) = both_fine _ _ c in (x, d)
+
+pub cast_reads : (h p : Printed) (hs : List Token) {ts : List Token} → Free (h.text ++ (39 ∷ 40 ∷ [])) (hs ++ (Mark Apostrophe ∷ Mark OpenParen ∷ [])) → Reads p.text ts → Reads (cast_to h p).text (hs ++ cast_operand ts)
+unfolding cast_to ◌⊕◌ plain_text
+cast_reads h p hs f g = cast_left h.text hs f g
+
+pub width_fine : (w p : Printed) → (width_cast w p).fault ≡ None → (w.fault ≡ None) × (p.fault ≡ None)
+unfolding width_cast
+width_fine w p e = let (a, b) = cast_fine (wrapped (not (is_bare w.text)) w) p e in (wrapped_fine (not (is_bare w.text)) w a, b)
+
+pub width_reads : (w : ExprTree) (p : Printed) {ts : List Token} → is_well_formed w ≡ true → (expr_text w).fault ≡ None → Reads (expr_text w).text (expr_tokens w) → Reads p.text ts →
+    Reads (width_cast (expr_text w) p).text (wrapped_tokens (not (Tokens.is_bare_head w)) (expr_tokens w) ++ cast_operand ts)
+unfolding width_cast
+width_reads w p h f g k = cast_reads (wrapped (not (is_bare (expr_text w).text)) (expr_text w)) p _ (head_reads _ _ (expr_text w) (head_of_text (expr_text w).text) (head_of_tree w h f) g) k
+
+pub key_reads : (k : Key) (p : Printed) (w : List ℕ) {ts : List Token} → w ≡ key_text k → Reads p.text ts → Reads (cast_to (plain_text w) p).text (Reserved k ∷ cast_operand ts)
+unfolding plain_text
+key_reads k p w e f = cast_reads (plain_text w) p (Reserved k ∷ []) (subst (λ (v : List ℕ). Free (v ++ (39 ∷ 40 ∷ [])) (Reserved k ∷ Mark Apostrophe ∷ Mark OpenParen ∷ [])) (sym e) (key_cast_free k)) f
+
+pub name_reads_cast : (n : List ℕ) (p : Printed) {ts : List Token} → is_plain_name n ≡ true → Reads p.text ts → Reads (cast_to (plain_text n) p).text (Word n ∷ cast_operand ts)
+unfolding plain_text
+name_reads_cast n p h f = cast_reads (plain_text n) p (Word n ∷ []) (name_cast_free n h) f
+
+pub package_free : (s n : List ℕ) → is_plain_name s ≡ true → is_plain_name n ≡ true → Free (((s ++ (58 ∷ 58 ∷ [])) ++ n) ++ (39 ∷ 40 ∷ [])) (Word s ∷ Mark DoubleColon ∷ Word n ∷ Mark Apostrophe ∷ Mark OpenParen ∷ [])
+package_free s n h k = simp append_assoc (simp append_assoc at (free_free (reads_end (name_reads s h) double_colon) (name_cast_free n k)))
+
+pub package_reads : (s n : List ℕ) (p : Printed) {ts : List Token} → is_plain_name s ≡ true → is_plain_name n ≡ true → Reads p.text ts → Reads (cast_to (package_text s n) p).text (Word s ∷ (Mark DoubleColon ∷ (Word n ∷ cast_operand ts)))
+unfolding package_text plain_text ◌⊕◌
+package_reads s n p h k f = cast_reads (package_text s n) p (Word s ∷ (Mark DoubleColon ∷ (Word n ∷ []))) (package_free s n h k) f
+
+-- casts to types
+
+pub sign_reads_cast : (signed : Bool) (p : Printed) {ts : List Token} → Reads p.text ts → Reads (cast_to (sign_cast signed) p).text (Reserved (sign_key signed) ∷ cast_operand ts)
+unfolding sign_key key_text
+sign_reads_cast true p f = key_reads SignedKey p (codes "signed") refl f
+sign_reads_cast false p f = key_reads UnsignedKey p (codes "unsigned") refl f
+
+pub scalar_reads : (signed : Bool) (p : Printed) {ts : List Token} → Reads p.text ts → Reads (scalar_cast signed p).text (word_cast_tokens (scalar_sign signed) LogicKey ts)
+unfolding scalar_sign key_text
+scalar_reads true p f = key_reads SignedKey _ (codes "signed") refl (key_reads LogicKey p (codes "logic") refl f)
+scalar_reads false p f = key_reads LogicKey p (codes "logic") refl f
+
+pub number_reads_cast : (k : Key) (w : List ℕ) (signed : Bool) (p : Printed) {ts : List Token} → w ≡ key_text k → Reads p.text ts → Reads (number_cast w signed p).text (word_cast_tokens (integer_sign signed) k ts)
+unfolding integer_sign key_text
+number_reads_cast k w true p e f = key_reads k p w e f
+number_reads_cast k w false p e f = key_reads UnsignedKey _ (codes "unsigned") refl (key_reads k p w e f)
+
+pub scalar_fine : (signed : Bool) (p : Printed) → (scalar_cast signed p).fault ≡ None → p.fault ≡ None
+scalar_fine true p e = (cast_fine _ p ((cast_fine _ _ e).1)).1
+scalar_fine false p e = (cast_fine _ p e).1
+
+pub number_fine : (w : List ℕ) (signed : Bool) (p : Printed) → (number_cast w signed p).fault ≡ None → p.fault ≡ None
+number_fine w true p e = (cast_fine _ p e).1
+number_fine w false p e = (cast_fine _ p ((cast_fine _ _ e).1)).1
+
+pub type_fine : (t : TypeTree) (p : Printed) → (type_cast t p).fault ≡ None → p.fault ≡ None
+unfolding type_cast
+type_fine (ScalarTree signed) p e = scalar_fine signed p e
+type_fine (VectorTree w v signed) p e = (width_fine (expr_text w) p ((cast_fine _ _ e).1)).1
+type_fine (IntegerTree signed) p e = number_fine (codes "integer") signed p e
+type_fine (IntTree signed) p e = number_fine (codes "int") signed p e
+type_fine (ExternalTree n) p e = (cast_fine _ p e).1
+type_fine (PackageTree s n) p e = (cast_fine _ p e).1
+type_fine (PackedTree t ds) p e = (cast_fine _ p e).1
+type_fine (UnpackedTree t ds) p e = (cast_fine _ p e).1
+type_fine MissingType p e = (cast_fine _ p e).1

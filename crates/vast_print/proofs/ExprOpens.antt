@@ -1,0 +1,209 @@
+-- With which bytes the text of an expression begins.
+use Rattle.std.proofs.Common.{◌≡◌, ℕ, List, [], ◌∷◌, Bool, true, false, cond, not, ◌&&◌, ◌||◌, eqb, eqb-true, nat_lt, refl, codes}
+use Rattle.std.specs.Prelude.{if◌then◌else◌}
+use Rattle.vast_literal.specs.Tokens.{level}
+use Rattle.vast_literal.specs.Tree.{UnaryOp, NegateOp}
+use Rattle.vast_literal.specs.Tree.{BinaryOp, AddOp}
+use Rattle.vast_literal.specs.Tree.{ExprTree, NameTree, LiteralTree, StringTree, UnaryTree, BinaryTree, TernaryTree, IndexTree, SliceTree, PartSelectTree, ConcatTree, PatternTree, WidthCastTree, TypeCastTree, PosEdgeTree, NegEdgeTree, MacroTree, CallTree, MissingExpr}
+use Rattle.vast_literal.specs.Tree.{TypeTree, ScalarTree, VectorTree, IntegerTree, IntTree, ExternalTree, PackageTree, PackedTree, UnpackedTree, MissingType}
+use Rattle.vast_literal.specs.Scan.{is_letter, is_digit, is_word_byte}
+use Rattle.vast_literal.specs.LiteralToken.{every, is_number, is_based, is_filled, is_based_tail, is_bare_literal, is_literal_text, is_string_text}
+use Rattle.vast_literal.specs.NormalExpr.{binary_sign}
+use Rattle.vast_literal.specs.Plain.{is_identifier, is_plain_name, is_called_name, is_plain, is_plain_type}
+use Rattle.vast_literal.specs.ExprTokens.{spelled_level, is_negative_text}
+use Rattle.vast_literal.specs.WellFormed.{is_well_formed, is_cast_type}
+use Rattle.vast_literal.proofs.ScanLaws.{and_left, opens_letter, opens_digit}
+use Rattle.vast_literal.proofs.Pieces.{opens-append}
+use Rattle.vast_literal.proofs.TokenReads.{opens}
+use Rattle.vast_print.specs.declared.refusal.Refusal.{Refusal}
+use Rattle.vast_print.specs.declared.refusal.Refusal.TheVariants.{ScalarIndex, ScalarSlice}
+use Rattle.vast_print.specs.Printed.{Printed, plain_text, ◌⊕◌, wrapped}
+use Rattle.vast_print.specs.Levels.{unary_sign_text, left_child_wraps, ternary_wraps, select_wraps, is_scalar_name, is_zero}
+use Rattle.vast_print.specs.Bare.{is_bare}
+use Rattle.vast_print.specs.Text.{elided, cast_to, width_cast, package_text, expr_text, type_cast}
+use Rattle.vast_print.proofs.FaultLaws.{elided_text}
+use Rattle.vast_print.proofs.TestLaws.{subject_same, bare_same}
+
+-- an expression that may stand bare behind a unary sign
+abbrev pub is_tight : ExprTree → Bool
+is_tight e = not (nat_lt (spelled_level e) 13)
+
+pub wrapped_opens : (tight b : Bool) (p : Printed) → (b ≡ false → opens tight p.text ≡ true) → opens tight (wrapped b p).text ≡ true
+unfolding wrapped ◌⊕◌ plain_text
+wrapped_opens true true p f = refl
+wrapped_opens false true p f = refl
+wrapped_opens tight false p f = f refl
+
+front : (tight : Bool) (p q : Printed) → opens tight p.text ≡ true → opens tight (p ⊕ q).text ≡ true
+unfolding ◌⊕◌
+front tight p q h = opens-append tight p.text q.text h
+
+identifier_opens : (tight : Bool) (w : List ℕ) → is_identifier w ≡ true → opens tight w ≡ true
+identifier_opens tight [] h = absurd (cc h)
+identifier_opens tight (c ∷ w) h = opens_letter tight c w (and_left (is_letter c) (every is_word_byte w) h)
+
+name_opens : (tight : Bool) (w : List ℕ) → is_plain_name w ≡ true → opens tight w ≡ true
+name_opens tight w h = identifier_opens tight w (and_left _ _ h)
+
+dollar_opens : (tight : Bool) (cs : List ℕ) → opens tight (36 ∷ cs) ≡ true
+dollar_opens true cs = refl
+dollar_opens false cs = refl
+
+tick_opens : (tight : Bool) (cs : List ℕ) → opens tight (39 ∷ cs) ≡ true
+tick_opens true cs = refl
+tick_opens false cs = refl
+
+quote_opens : (tight : Bool) (cs : List ℕ) → opens tight (34 ∷ cs) ≡ true
+quote_opens true cs = refl
+quote_opens false cs = refl
+
+called_opens : (tight : Bool) (w : List ℕ) → is_called_name w ≡ true → opens tight w ≡ true
+called_opens tight [] h = absurd (cc h)
+called_opens tight (c ∷ cs) h = go (eqb c 36) refl h
+  where
+    go : (b : Bool) → eqb c 36 ≡ b → cond b (is_identifier cs) (is_plain_name (c ∷ cs)) ≡ true → opens tight (c ∷ cs) ≡ true
+    go true e k = rw (eqb-true c 36 e) (dollar_opens tight cs)
+    go false e k = name_opens tight (c ∷ cs) k
+
+-- the first byte of a literal
+based_first : (c : ℕ) (cs : List ℕ) (b : Bool) → eqb c 39 ≡ b → cond b (is_based_tail cs) (is_digit c && is_based cs) ≡ true → (is_digit c || eqb c 39) ≡ true
+based_first c cs true e h = rw (eqb-true c 39 e) refl
+based_first c cs false e h = let d = and_left (is_digit c) (is_based cs) h in rw d refl
+
+filled_first : (c : ℕ) (cs : List ℕ) → is_filled (c ∷ cs) ≡ true → (is_digit c || eqb c 39) ≡ true
+filled_first c [] h = absurd (cc h)
+filled_first c (d ∷ []) h = rw (eqb-true c 39 (and_left _ _ h)) refl
+filled_first c (d ∷ x ∷ v) h = absurd (cc h)
+
+bare_first : (c : ℕ) (cs : List ℕ) (n b f : Bool) → is_number (c ∷ cs) ≡ n → is_based (c ∷ cs) ≡ b → is_filled (c ∷ cs) ≡ f → (n || (b || f)) ≡ true → (is_digit c || eqb c 39) ≡ true
+bare_first c cs true b f en eb ef h = let d = and_left (is_digit c) (every is_digit cs) en in rw d refl
+bare_first c cs false true f en eb ef h = based_first c cs (eqb c 39) refl eb
+bare_first c cs false false true en eb ef h = filled_first c cs ef
+bare_first c cs false false false en eb ef h = absurd (cc h)
+
+pub literal_first : (c : ℕ) (cs : List ℕ) → is_bare_literal (c ∷ cs) ≡ true → (is_digit c || eqb c 39) ≡ true
+literal_first c cs h = bare_first c cs (is_number (c ∷ cs)) (is_based (c ∷ cs)) (is_filled (c ∷ cs)) refl refl refl h
+
+first_opens : (tight : Bool) (c : ℕ) (cs : List ℕ) (d : Bool) → is_digit c ≡ d → (d || eqb c 39) ≡ true → opens tight (c ∷ cs) ≡ true
+first_opens tight c cs true e h = opens_digit tight c cs e
+first_opens tight c cs false e h = rw (eqb-true c 39 h) (tick_opens tight cs)
+
+pub literal_opens : (tight : Bool) (w : List ℕ) → is_literal_text w ≡ true → (tight ≡ true → is_negative_text w ≡ false) → opens tight w ≡ true
+literal_opens tight [] h f = absurd (cc h)
+literal_opens tight (c ∷ cs) h f = go (eqb c 45) refl h
+  where
+    minus : (t : Bool) → (t ≡ true → eqb c 45 ≡ false) → eqb c 45 ≡ true → opens t (45 ∷ cs) ≡ true
+    minus true g e = let x = g refl in absurd (cc (x, e))
+    minus false g e = refl
+
+    go : (b : Bool) → eqb c 45 ≡ b → cond b (is_bare_literal cs) (is_bare_literal (c ∷ cs)) ≡ true → opens tight (c ∷ cs) ≡ true
+    go true e k = let x = eqb-true c 45 e in rw x (minus tight f e)
+    go false e k = first_opens tight c cs (is_digit c) refl (literal_first c cs k)
+
+string_opens : (tight : Bool) (w : List ℕ) → is_string_text w ≡ true → opens tight w ≡ true
+string_opens tight [] h = absurd (cc h)
+string_opens tight (c ∷ cs) h = rw (eqb-true c 34 (and_left _ _ h)) (quote_opens tight cs)
+
+not_negative : (b : Bool) → not (nat_lt (cond b 12 13) 13) ≡ true → b ≡ false
+not_negative true h = absurd (cc h)
+not_negative false h = refl
+
+low : (o : BinaryOp) → not (nat_lt (level (binary_sign o)) 13) ≡ false
+unfolding level binary_sign
+low AddOp = refl
+low _ = refl
+
+sign_opens : (o : UnaryOp) (p : Printed) → opens false (plain_text (unary_sign_text o) ⊕ p).text ≡ true
+unfolding ◌⊕◌ plain_text
+sign_opens NegateOp p = refl
+sign_opens _ p = refl
+
+not_false : (a b : Bool) → a ≡ b → a ≡ false → not b ≡ true
+not_false a true e h = absurd (cc (e, h))
+not_false a false e h = refl
+
+scalar_tight : (s : ExprTree) → is_scalar_name s ≡ true → is_tight s ≡ true
+scalar_tight (NameTree n type) h = refl
+scalar_tight _ h = absurd (cc h)
+
+pick_opens : (tight b z : Bool) (r : Refusal) (s rest : Printed) → (b ≡ true → opens tight s.text ≡ true) → (b ≡ false → opens tight rest.text ≡ true) → opens tight (if b then elided z r s else rest).text ≡ true
+pick_opens tight true z r s rest f g = rw (elided_text z r s) (f refl)
+pick_opens tight false z r s rest f g = g refl
+
+-- the head of a width cast: in parentheses, a number or a word
+bare_opens : (tight : Bool) (a : List ℕ) (n p : Bool) → is_number a ≡ n → is_identifier a ≡ p → (n || p) ≡ true → opens tight a ≡ true
+bare_opens tight [] n p en ep h = absurd (cc (en, ep, h))
+bare_opens tight (c ∷ cs) true p en ep h = opens_digit tight c cs (and_left (is_digit c) (every is_digit cs) en)
+bare_opens tight (c ∷ cs) false true en ep h = identifier_opens tight (c ∷ cs) ep
+bare_opens tight (c ∷ cs) false false en ep h = absurd (cc h)
+
+not_not : (b : Bool) → not b ≡ false → b ≡ true
+not_not true h = refl
+not_not false h = absurd (cc h)
+
+head_opens : (tight : Bool) (w : Printed) → opens tight (wrapped (not (is_bare w.text)) w).text ≡ true
+head_opens tight w = wrapped_opens tight (not (is_bare w.text)) w (λ h. let a = not_not (is_bare w.text) h in let b = bare_same w.text in
+    bare_opens tight w.text (is_number w.text) (is_identifier w.text) refl refl (cc (a, b)))
+
+cast_opens : (tight : Bool) (h p : Printed) → opens tight h.text ≡ true → opens tight (cast_to h p).text ≡ true
+unfolding cast_to
+cast_opens tight h p k = front tight _ _ (front tight _ _ (front tight h _ k))
+
+word_opens : (tight : Bool) (w : List ℕ) → opens true w ≡ true → opens false w ≡ true → opens tight (plain_text w).text ≡ true
+unfolding plain_text
+word_opens true w a b = a
+word_opens false w a b = b
+
+plain_opens : (tight : Bool) (w : List ℕ) → opens tight w ≡ true → opens tight (plain_text w).text ≡ true
+unfolding plain_text
+plain_opens tight w h = h
+
+width_opens : (tight : Bool) (w p : Printed) → opens tight (width_cast w p).text ≡ true
+unfolding width_cast
+width_opens tight w p = cast_opens tight _ _ (head_opens tight w)
+
+type_opens : (tight : Bool) (t : TypeTree) (p : Printed) → is_plain_type t ≡ true → is_cast_type t ≡ true → opens tight (type_cast t p).text ≡ true
+unfolding type_cast package_text
+type_opens tight (ScalarTree true) p h c = cast_opens tight _ _ (word_opens tight (codes "signed") refl refl)
+type_opens tight (ScalarTree false) p h c = cast_opens tight _ _ (word_opens tight (codes "logic") refl refl)
+type_opens tight (VectorTree w v true) p h c = cast_opens tight _ _ (word_opens tight (codes "signed") refl refl)
+type_opens tight (VectorTree w v false) p h c = cast_opens tight _ _ (word_opens tight (codes "unsigned") refl refl)
+type_opens tight (IntegerTree true) p h c = cast_opens tight _ _ (word_opens tight (codes "integer") refl refl)
+type_opens tight (IntegerTree false) p h c = cast_opens tight _ _ (word_opens tight (codes "unsigned") refl refl)
+type_opens tight (IntTree true) p h c = cast_opens tight _ _ (word_opens tight (codes "int") refl refl)
+type_opens tight (IntTree false) p h c = cast_opens tight _ _ (word_opens tight (codes "unsigned") refl refl)
+type_opens tight (ExternalTree n) p h c = cast_opens tight _ _ (plain_opens tight n (name_opens tight n h))
+type_opens tight (PackageTree s n) p h c = cast_opens tight _ _ (front tight _ _ (front tight _ _ (plain_opens tight s (name_opens tight s (and_left _ _ h)))))
+type_opens tight (PackedTree t ds) p h c = absurd (cc c)
+type_opens tight (UnpackedTree t ds) p h c = absurd (cc c)
+type_opens tight MissingType p h c = absurd (cc c)
+
+-- What the text of an expression begins with; bare behind a unary sign no sign comes first.
+pub opens_text : (tight : Bool) (e : ExprTree) → is_plain e ≡ true → is_well_formed e ≡ true → (tight ≡ true → is_tight e ≡ true) → opens tight (expr_text e).text ≡ true
+unfolding expr_text plain_text
+opens_text tight (NameTree n type) h w l = name_opens tight n h
+opens_text tight (LiteralTree t v) h w l = literal_opens tight t w (λ e. not_negative (is_negative_text t) (l e))
+opens_text tight (StringTree t) h w l = string_opens tight t w
+opens_text true (UnaryTree o e) h w l = let x = l refl in absurd (cc x)
+opens_text false (UnaryTree o e) h w l = sign_opens o _
+opens_text true (BinaryTree o a b) h w l = let x = l refl in let y = low o in absurd (cc (x, y))
+opens_text false (BinaryTree o a b) h w l = front false _ _ (front false _ _ (wrapped_opens false (left_child_wraps o a) (expr_text a) (λ _. opens_text false a (and_left _ _ h) (and_left _ _ w) (λ t. absurd (cc t)))))
+opens_text true (TernaryTree c a b) h w l = let x = l refl in absurd (cc x)
+opens_text false (TernaryTree c a b) h w l = front false _ _ (front false _ _ (front false _ _ (front false _ _ (wrapped_opens false (ternary_wraps c) (expr_text c) (λ _. opens_text false c (and_left _ _ h) (and_left _ _ w) (λ t. absurd (cc t)))))))
+opens_text tight (IndexTree s i) h w l =
+    pick_opens tight (is_scalar_name s) (is_zero i) ScalarIndex (expr_text s) _ (λ e. opens_text tight s (and_left _ _ h) (and_left _ _ w) (λ _. scalar_tight s e))
+    (λ _. front tight _ _ (front tight _ _ (front tight _ _ (wrapped_opens tight (select_wraps s) (expr_text s) (λ e. opens_text tight s (and_left _ _ h) (and_left _ _ w) (λ _. not_false (select_wraps s) _ (subject_same s) e))))))
+opens_text tight (SliceTree s a b) h w l =
+    pick_opens tight (is_scalar_name s) (is_zero a && is_zero b) ScalarSlice (expr_text s) _ (λ e. opens_text tight s (and_left _ _ h) (and_left _ _ w) (λ _. scalar_tight s e))
+    (λ _. front tight _ _ (front tight _ _ (front tight _ _ (front tight _ _ (front tight _ _ (wrapped_opens tight (select_wraps s) (expr_text s) (λ e. opens_text tight s (and_left _ _ h) (and_left _ _ w) (λ _. not_false (select_wraps s) _ (subject_same s) e))))))))
+opens_text tight (PartSelectTree s i n) h w l =
+    front tight _ _ (front tight _ _ (front tight _ _ (front tight _ _ (front tight _ _ (wrapped_opens tight (select_wraps s) (expr_text s) (λ e. opens_text tight s (and_left _ _ h) (and_left _ _ w) (λ _. not_false (select_wraps s) _ (subject_same s) e)))))))
+opens_text tight (ConcatTree n es) h w l = front tight _ _ (front tight _ _ (word_opens tight (codes "{") refl refl))
+opens_text tight (PatternTree es) h w l = front tight _ _ (front tight _ _ (word_opens tight (codes "'{") refl refl))
+opens_text tight (WidthCastTree w e) h k l = width_opens tight (expr_text w) (expr_text e)
+opens_text tight (TypeCastTree t e) h w l = type_opens tight t (expr_text e) (and_left _ _ h) (and_left _ _ w)
+opens_text tight (PosEdgeTree e) h w l = front tight _ _ (word_opens tight (codes "posedge ") refl refl)
+opens_text tight (NegEdgeTree e) h w l = front tight _ _ (word_opens tight (codes "negedge ") refl refl)
+opens_text tight (MacroTree m es) h w l = front tight _ _ (front tight _ _ (word_opens tight (codes "`") refl refl))
+opens_text tight (CallTree f es) h w l = front tight _ _ (front tight _ _ (front tight _ _ (called_opens tight f (and_left _ _ h))))
+opens_text tight MissingExpr h w l = absurd (cc w)

@@ -1,0 +1,242 @@
+-- Functions have the tokens that the grammar reads.
+use Rattle.std.proofs.Common.{◌≡◌, ℕ, List, [], ◌∷◌, ◌++◌, Bool, true, false, cond, ◌&&◌, None, refl, sym, subst, ap, ◌∙◌, append_assoc, append-nil, codes}
+use Rattle.vast_literal.specs.Tokens.{Token, Key, key_text, Reserved, FunctionKey, AutomaticKey, EndFunctionKey, InputKey, Mark, OpenParen, CloseParen, Semicolon, Comma}
+use Rattle.vast_literal.specs.Tree.{Dialect, VerilogDialect, SystemVerilogDialect, Declaration, TypeTree, ScalarTree, VectorTree, IntegerTree, IntTree, ExternalTree, PackageTree, PackedTree, UnpackedTree, MissingType, Kind, UserKind}
+use Rattle.vast_literal.specs.Tree.{FunctionTree}
+use Rattle.vast_literal.specs.Tree.{CaseExact, CaseZ, CaseX, AssignTree, CommentTree, BlankTree, InlineTree, ConditionalTree, CaseTree, Statements, NoStatements, MoreStatements}
+use Rattle.vast_literal.specs.PlainFile.{is_plain_declaration, is_plain_declared, are_plain_declared, are_plain_statements, is_plain_function}
+use Rattle.vast_literal.specs.WellFormed.{is_well_formed_type}
+use Rattle.vast_literal.specs.WellFormedFile.{are_well_formed_statements, are_well_formed_inputs, are_well_formed_locals, is_well_formed_function, is_local_word}
+use Rattle.vast_literal.specs.NormalTree.{base_type, port_kind, result_kind, parameter_key}
+use Rattle.vast_literal.specs.NormalTree as Normal
+use Rattle.vast_literal.specs.FileTokens.{declaration_tokens, declared_tokens, port_declaration_tokens, block_tokens, statements_tokens, is_single_casez, separated, each_input, local_tokens, body_tokens, function_tokens}
+use Rattle.vast_literal.proofs.TokenReads.{Reads}
+use Rattle.vast_literal.proofs.ScanLaws.{and_left, and_right}
+use Rattle.vast_literal.proofs.Pieces.{free_reads, free_free, reads_end, as_reads, reads_reads, reads_sep, comma}
+use Rattle.vast_literal.proofs.Words.{key_reads}
+use Rattle.vast_print.specs.Printed.{Printed, plain_text, ◌⊕◌}
+use Rattle.vast_print.specs.Declaration.{base_of, is_external, declaration_text, declared_text, port_declaration_text}
+use Rattle.vast_print.specs.Declaration as Print
+use Rattle.vast_print.specs.Page.{inner, above}
+use Rattle.vast_print.specs.Statements.{statements_page, block_page}
+use Rattle.vast_print.specs.Members.{input_text, more_inputs_text, inputs_text, local_page, locals_page, is_one_casez, function_body_page, result_text, function_page}
+use Rattle.vast_print.proofs.FaultLaws.{both_fine}
+use Rattle.vast_print.proofs.DeclarationReads.{declaration_reads, base_same}
+use Rattle.vast_print.proofs.StatementReads.{statements_whole, block_open}
+use Rattle.vast_print.proofs.PageReads.{above_fine, inner_fine, written_fine, Whole, whole_above, whole_inner, whole_none, whole, open_line, open_written, same_whole, space_open, semicolon, key_space}
+use Rattle.vast_print.proofs.StatementReads.{cond_fine}
+use Rattle.vast_print.proofs.EntryReads.{same_reads, close_semicolon}
+use Rattle.vast_print.proofs.InstanceReads.{Rest, rest_none, rest_more}
+
+-- kinds
+
+external_base : (t : TypeTree) → Print.is_external_base t ≡ Normal.is_external_base t
+external_base (ExternalTree n) = refl
+external_base (PackageTree s n) = refl
+external_base _ = refl
+
+external_same : (t : TypeTree) → is_external t ≡ Normal.is_external_base (base_type t)
+unfolding is_external
+external_same t = external_base (base_of t) ∙ ap (λ (b : TypeTree). Normal.is_external_base b) (base_same t)
+
+port_same : (kind : Kind) (t : TypeTree) → Print.port_kind kind t ≡ port_kind kind t
+unfolding port_kind
+port_same kind t = ap (λ (b : Bool). cond b UserKind kind) (external_same t)
+
+dialect_same : (dialect : Dialect) → Print.dialect_kind dialect ≡ Normal.dialect_kind dialect
+unfolding Normal.dialect_kind
+dialect_same VerilogDialect = refl
+dialect_same SystemVerilogDialect = refl
+
+other_same : (dialect : Dialect) (t : TypeTree) → cond (is_external t) UserKind (Print.dialect_kind dialect) ≡ cond (Normal.is_external_base (base_type t)) UserKind (Normal.dialect_kind dialect)
+other_same dialect t = let a = external_same t in let b = dialect_same dialect in cc (a, b)
+
+result_same : (dialect : Dialect) (t : TypeTree) → Print.result_kind dialect t ≡ result_kind dialect t
+unfolding result_kind
+result_same dialect (IntegerTree signed) = refl
+result_same dialect (IntTree signed) = refl
+result_same dialect (ScalarTree signed) = other_same dialect (ScalarTree signed)
+result_same dialect (VectorTree w v signed) = other_same dialect (VectorTree w v signed)
+result_same dialect (ExternalTree n) = other_same dialect (ExternalTree n)
+result_same dialect (PackageTree s n) = other_same dialect (PackageTree s n)
+result_same dialect (PackedTree t ds) = other_same dialect (PackedTree t ds)
+result_same dialect (UnpackedTree t ds) = other_same dialect (UnpackedTree t ds)
+result_same dialect MissingType = other_same dialect MissingType
+
+-- declarations of a kind that is written the same
+
+kind_reads : (dialect : Dialect) (k j : Kind) (t : TypeTree) (n : List ℕ) → k ≡ j → is_plain_declaration t n ≡ true → is_well_formed_type t ≡ true → (declaration_text dialect k t n).fault ≡ None → Reads (declaration_text dialect k t n).text (declaration_tokens dialect j t n)
+kind_reads dialect k j t n e p w f = subst (λ (i : Kind). Reads (declaration_text dialect k t n).text (declaration_tokens dialect i t n)) e (declaration_reads dialect k t n p w f)
+
+pub declared_told : (dialect : Dialect) (d : Declaration) → is_plain_declared d ≡ true → is_well_formed_type d.type ≡ true → (declared_text dialect d).fault ≡ None → Reads (declared_text dialect d).text (declared_tokens dialect d)
+unfolding declared_tokens
+declared_told dialect d p w f = declaration_reads dialect d.kind d.type d.name p w f
+
+pub port_told : (dialect : Dialect) (d : Declaration) → is_plain_declared d ≡ true → is_well_formed_type d.type ≡ true → (port_declaration_text dialect d).fault ≡ None → Reads (port_declaration_text dialect d).text (port_declaration_tokens dialect d)
+unfolding port_declaration_tokens
+port_told dialect d p w f = kind_reads dialect (Print.port_kind d.kind d.type) (port_kind d.kind d.type) d.type d.name (port_same d.kind d.type) p w f
+
+result_told : (dialect : Dialect) (t : TypeTree) (n : List ℕ) → is_plain_declaration t n ≡ true → is_well_formed_type t ≡ true → (result_text dialect t n).fault ≡ None → Reads (result_text dialect t n).text (declaration_tokens dialect (result_kind dialect t) t n)
+result_told dialect t n p w f = kind_reads dialect (Print.result_kind dialect t) (result_kind dialect t) t n (result_same dialect t) p w f
+
+-- inputs
+
+pub key_free : (k : Key) (p : Printed) {ts : List Token} → Reads p.text ts → Reads ((key_text k ++ (32 ∷ [])) ++ p.text) (Reserved k ∷ ts)
+key_free k p f = free_reads (key_space k) f
+
+input_fine : (dialect : Dialect) (d : Declaration) → (input_text dialect d).fault ≡ None → (port_declaration_text dialect d).fault ≡ None
+unfolding input_text
+input_fine dialect d f = (both_fine _ (port_declaration_text dialect d) f).1
+
+input_shape : (dialect : Dialect) (d : Declaration) → Reads (port_declaration_text dialect d).text (port_declaration_tokens dialect d) → Reads (input_text dialect d).text (Reserved InputKey ∷ port_declaration_tokens dialect d)
+unfolding input_text ◌⊕◌ plain_text key_text
+input_shape dialect d r = key_free InputKey (port_declaration_text dialect d) r
+
+input_told : (dialect : Dialect) (d : Declaration) → is_plain_declared d ≡ true → is_well_formed_type d.type ≡ true → (input_text dialect d).fault ≡ None → Reads (input_text dialect d).text (Reserved InputKey ∷ port_declaration_tokens dialect d)
+input_told dialect d p w f = input_shape dialect d (port_told dialect d p w (input_fine dialect d f))
+
+pub after_first : List (List Token) → List Token
+after_first [] = []
+after_first (t ∷ ts) = Mark Comma ∷ separated (t ∷ ts)
+
+pub separated_more : (t : List Token) (ts : List (List Token)) → separated (t ∷ ts) ≡ t ++ after_first ts
+unfolding separated after_first
+separated_more t [] = sym (append-nil t)
+separated_more t (u ∷ us) = refl
+
+more_inputs_fine : (dialect : Dialect) (d : Declaration) (ds : List Declaration) → (more_inputs_text dialect (d ∷ ds)).fault ≡ None → ((input_text dialect d).fault ≡ None) × ((more_inputs_text dialect ds).fault ≡ None)
+unfolding more_inputs_text
+more_inputs_fine dialect d ds f = let (x, y) = both_fine _ (more_inputs_text dialect ds) f in ((both_fine _ (input_text dialect d) x).1, y)
+
+pub same_rest : {a : List ℕ} {ts us : List Token} → ts ≡ us → Rest a ts → Rest a us
+same_rest e f = rw (sym e) f
+
+more_input_told : (dialect : Dialect) (d : Declaration) (ds : List Declaration) (ts : List Token) (tss : List (List Token)) → Reads (input_text dialect d).text ts → Rest (more_inputs_text dialect ds).text (after_first tss) → Rest (more_inputs_text dialect (d ∷ ds)).text (after_first (ts ∷ tss))
+unfolding more_inputs_text after_first ◌⊕◌ plain_text
+more_input_told dialect d ds ts tss r m = same_rest (ap (λ (us : List Token). Mark Comma ∷ us) (sym (separated_more ts tss))) (rest_more comma r m)
+
+no_input_told : (dialect : Dialect) → Rest (more_inputs_text dialect []).text (after_first [])
+unfolding more_inputs_text after_first plain_text
+no_input_told dialect = rest_none
+
+more_inputs_told : (dialect : Dialect) (ds : List Declaration) → are_plain_declared ds ≡ true → are_well_formed_inputs ds ≡ true → (more_inputs_text dialect ds).fault ≡ None → Rest (more_inputs_text dialect ds).text (after_first (each_input dialect ds))
+unfolding each_input
+more_inputs_told dialect [] p w f = no_input_told dialect
+more_inputs_told dialect (d ∷ ds) p w f = let (x, y) = more_inputs_fine dialect d ds f in
+    more_input_told dialect d ds _ _ (input_told dialect d (and_left _ _ p) (and_left _ _ w) x) (more_inputs_told dialect ds (and_right (is_plain_declared d) (are_plain_declared ds) p) (and_right (is_well_formed_type d.type) (are_well_formed_inputs ds) w) y)
+
+inputs_fine : (dialect : Dialect) (d : Declaration) (ds : List Declaration) → (inputs_text dialect (d ∷ ds)).fault ≡ None → ((input_text dialect d).fault ≡ None) × ((more_inputs_text dialect ds).fault ≡ None)
+unfolding inputs_text
+inputs_fine dialect d ds f = both_fine (input_text dialect d) (more_inputs_text dialect ds) f
+
+inputs_shape : (dialect : Dialect) (d : Declaration) (ds : List Declaration) (ts : List Token) (tss : List (List Token)) → Reads (input_text dialect d).text ts → Rest (more_inputs_text dialect ds).text (after_first tss) → Reads (inputs_text dialect (d ∷ ds)).text (separated (ts ∷ tss))
+unfolding inputs_text ◌⊕◌
+inputs_shape dialect d ds ts tss r m = same_reads (sym (separated_more ts tss)) (reads_reads r m.reads m.ends)
+
+no_inputs_shape : (dialect : Dialect) → Reads (inputs_text dialect []).text (separated [])
+unfolding inputs_text separated plain_text
+no_inputs_shape dialect = record { at = λ rest h. refl }
+
+inputs_told : (dialect : Dialect) (ds : List Declaration) → are_plain_declared ds ≡ true → are_well_formed_inputs ds ≡ true → (inputs_text dialect ds).fault ≡ None → Reads (inputs_text dialect ds).text (separated (each_input dialect ds))
+unfolding each_input
+inputs_told dialect [] p w f = no_inputs_shape dialect
+inputs_told dialect (d ∷ ds) p w f = let (x, y) = inputs_fine dialect d ds f in
+    inputs_shape dialect d ds _ _ (input_told dialect d (and_left _ _ p) (and_left _ _ w) x) (more_inputs_told dialect ds (and_right (is_plain_declared d) (are_plain_declared ds) p) (and_right (is_well_formed_type d.type) (are_well_formed_inputs ds) w) y)
+
+-- locals and bodies
+
+pub ended_left : {a : List ℕ} {ts : List Token} → Reads a ts → Reads (a ++ (59 ∷ [])) (ts ++ (Mark Semicolon ∷ []))
+ended_left f = as_reads (reads_end f semicolon)
+
+local_fine : (dialect : Dialect) (d : Declaration) → (local_page dialect d).fault ≡ None → (declared_text dialect d).fault ≡ None
+unfolding local_page
+local_fine dialect d f = (both_fine (declared_text dialect d) _ (written_fine _ f)).0
+
+local_whole : (dialect : Dialect) (d : Declaration) → Reads (declared_text dialect d).text (declared_tokens dialect d) → Whole (local_page dialect d) (declared_tokens dialect d ++ (Mark Semicolon ∷ []))
+unfolding local_page ◌⊕◌ plain_text
+local_whole dialect d r = whole (open_written (declared_text dialect d ⊕ plain_text (codes ";")) (ended_left r))
+
+locals_fine : (dialect : Dialect) (d : Declaration) (ds : List Declaration) → (locals_page dialect (d ∷ ds)).fault ≡ None → ((local_page dialect d).fault ≡ None) × ((locals_page dialect ds).fault ≡ None)
+unfolding locals_page
+locals_fine dialect d ds f = above_fine (local_page dialect d) (locals_page dialect ds) f
+
+locals_whole : (dialect : Dialect) (ds : List Declaration) → are_plain_declared ds ≡ true → are_well_formed_locals ds ≡ true → (locals_page dialect ds).fault ≡ None → Whole (locals_page dialect ds) (local_tokens dialect ds)
+unfolding locals_page local_tokens
+locals_whole dialect [] p w f = whole_none
+locals_whole dialect (d ∷ ds) p w f = let (x, y) = locals_fault dialect d ds f in
+    whole_above (local_whole dialect d (declared_told dialect d (and_left _ _ p) (and_right (is_local_word d.kind) (is_well_formed_type d.type) (and_left _ _ w)) (local_fine dialect d x)))
+    (locals_whole dialect ds (and_right (is_plain_declared d) (are_plain_declared ds) p) (and_right (is_local_word d.kind && is_well_formed_type d.type) (are_well_formed_locals ds) w) y)
+  where
+    locals_fault : (e : Dialect) (c : Declaration) (cs : List Declaration) → (locals_page e (c ∷ cs)).fault ≡ None → ((local_page e c).fault ≡ None) × ((locals_page e cs).fault ≡ None)
+    locals_fault e c cs g = locals_fine e c cs g
+
+casez_same : (b : Statements) → is_one_casez b ≡ is_single_casez b
+unfolding is_single_casez
+casez_same NoStatements = refl
+casez_same (MoreStatements (AssignTree a l r) NoStatements) = refl
+casez_same (MoreStatements (AssignTree a l r) (MoreStatements x xs)) = refl
+casez_same (MoreStatements (CommentTree t) NoStatements) = refl
+casez_same (MoreStatements (CommentTree t) (MoreStatements x xs)) = refl
+casez_same (MoreStatements BlankTree NoStatements) = refl
+casez_same (MoreStatements BlankTree (MoreStatements x xs)) = refl
+casez_same (MoreStatements (InlineTree t) NoStatements) = refl
+casez_same (MoreStatements (InlineTree t) (MoreStatements x xs)) = refl
+casez_same (MoreStatements (ConditionalTree c b a) NoStatements) = refl
+casez_same (MoreStatements (ConditionalTree c b a) (MoreStatements x xs)) = refl
+casez_same (MoreStatements (CaseTree u CaseZ e arms) NoStatements) = refl
+casez_same (MoreStatements (CaseTree u CaseZ e arms) (MoreStatements x xs)) = refl
+casez_same (MoreStatements (CaseTree u CaseExact e arms) NoStatements) = refl
+casez_same (MoreStatements (CaseTree u CaseExact e arms) (MoreStatements x xs)) = refl
+casez_same (MoreStatements (CaseTree u CaseX e arms) NoStatements) = refl
+casez_same (MoreStatements (CaseTree u CaseX e arms) (MoreStatements x xs)) = refl
+
+body_fine : (b : Statements) → (function_body_page b).fault ≡ None → (statements_page b).fault ≡ None
+unfolding function_body_page
+body_fine b f = cond_fine (is_one_casez b) b f
+
+body_whole : (b : Statements) → Whole (statements_page b) (statements_tokens b) → Whole (function_body_page b) (body_tokens b)
+unfolding function_body_page body_tokens
+body_whole b h = rw (sym (casez_same b)) (go (is_one_casez b))
+  where
+    go : (c : Bool) → Whole (cond c (statements_page b) (block_page b)) (cond c (statements_tokens b) (block_tokens (statements_tokens b)))
+    go true = h
+    go false = whole (block_open b h)
+
+-- functions
+
+function_left : {r i : List ℕ} {rs is : List Token} → Reads r rs → Reads i is →
+    Reads (((((((key_text FunctionKey ++ (32 ∷ [])) ++ (key_text AutomaticKey ++ (32 ∷ []))) ++ r) ++ (32 ∷ 40 ∷ [])) ++ i) ++ (41 ∷ 59 ∷ []))) (Reserved FunctionKey ∷ (Reserved AutomaticKey ∷ (rs ++ (Mark OpenParen ∷ (is ++ (Mark CloseParen ∷ (Mark Semicolon ∷ [])))))))
+function_left f g = simp append_assoc (simp append_assoc at (free_reads (free_free (key_space FunctionKey) (key_space AutomaticKey)) (reads_sep f space_open (as_reads (reads_end g close_semicolon)))))
+
+function_fine : (dialect : Dialect) (f : FunctionTree) → (function_page dialect f).fault ≡ None →
+    ((result_text dialect f.result f.name).fault ≡ None) × ((inputs_text dialect f.inputs).fault ≡ None) × ((locals_page dialect f.locals).fault ≡ None) × ((function_body_page f.body).fault ≡ None)
+unfolding function_page
+function_fine dialect f e =
+    let (x, y) = above_fine _ _ e in
+    let (a, b) = both_fine _ _ (written_fine _ x) in
+    let (c, d) = both_fine _ (inputs_text dialect f.inputs) a in
+    let (c1, d1) = both_fine _ _ c in
+    let (u, v) = above_fine (locals_page dialect f.locals) (function_body_page f.body) (inner_fine _ ((above_fine (inner (above (locals_page dialect f.locals) (function_body_page f.body))) _ y).0)) in
+    ((both_fine _ (result_text dialect f.result f.name) c1).1, d, u, v)
+
+regroup_function : (rs is ls bs : List Token) → (Reserved FunctionKey ∷ (Reserved AutomaticKey ∷ (rs ++ (Mark OpenParen ∷ (is ++ (Mark CloseParen ∷ (Mark Semicolon ∷ []))))))) ++ ((ls ++ bs) ++ (Reserved EndFunctionKey ∷ [])) ≡
+    Reserved FunctionKey ∷ (Reserved AutomaticKey ∷ (rs ++ (Mark OpenParen ∷ (is ++ (Mark CloseParen ∷ (Mark Semicolon ∷ (ls ++ (bs ++ (Reserved EndFunctionKey ∷ [])))))))))
+regroup_function rs is ls bs = simp append_assoc
+
+function_shape : (dialect : Dialect) (f : FunctionTree) → Reads (result_text dialect f.result f.name).text (declaration_tokens dialect (result_kind dialect f.result) f.result f.name) → Reads (inputs_text dialect f.inputs).text (separated (each_input dialect f.inputs)) →
+    Whole (locals_page dialect f.locals) (local_tokens dialect f.locals) → Whole (function_body_page f.body) (body_tokens f.body) → Whole (function_page dialect f) (function_tokens dialect f)
+unfolding function_page function_tokens ◌⊕◌ plain_text key_text
+function_shape dialect f r i l b = same_whole (regroup_function (declaration_tokens dialect (result_kind dialect f.result) f.result f.name) (separated (each_input dialect f.inputs)) (local_tokens dialect f.locals) (body_tokens f.body))
+    (whole_above (whole (open_written (plain_text (codes "function automatic ") ⊕ result_text dialect f.result f.name ⊕ plain_text (codes " (") ⊕ inputs_text dialect f.inputs ⊕ plain_text (codes ");")) (function_left r i)))
+    (whole_above (whole_inner (whole_above l b)) (whole (open_line (codes "endfunction") (key_reads EndFunctionKey)))))
+
+pub function_whole : (dialect : Dialect) (f : FunctionTree) → is_plain_function f ≡ true → is_well_formed_function f ≡ true → (function_page dialect f).fault ≡ None → Whole (function_page dialect f) (function_tokens dialect f)
+function_whole dialect f p w e =
+    let (x, y, u, v) = function_fine dialect f e in
+    let p1 = and_right (is_plain_declaration f.result f.name) (are_plain_declared f.inputs && (are_plain_declared f.locals && are_plain_statements f.body)) p in
+    let w1 = and_right (is_well_formed_type f.result) (are_well_formed_inputs f.inputs && (are_well_formed_locals f.locals && are_well_formed_statements f.body)) w in
+    let p2 = and_right (are_plain_declared f.inputs) (are_plain_declared f.locals && are_plain_statements f.body) p1 in
+    let w2 = and_right (are_well_formed_inputs f.inputs) (are_well_formed_locals f.locals && are_well_formed_statements f.body) w1 in
+    function_shape dialect f (result_told dialect f.result f.name (and_left _ _ p) (and_left _ _ w) x) (inputs_told dialect f.inputs (and_left _ _ p1) (and_left _ _ w1) y)
+    (locals_whole dialect f.locals (and_left _ _ p2) (and_left _ _ w2) u)
+    (body_whole f.body (statements_whole f.body (and_right (are_plain_declared f.locals) (are_plain_statements f.body) p2) (and_right (are_well_formed_locals f.locals) (are_well_formed_statements f.body) w2) (body_fine f.body v)))

@@ -1,0 +1,290 @@
+-- Laws of pages: what is printed, and its tokens.
+use Rattle.std.proofs.Common.{◌≡◌, ℕ, zero, suc, ◌*◌, List, [], ◌∷◌, ◌++◌, Bool, true, false, not, eqb, eqb-true, cond, Some, replicate, refl, sym, ◌∙◌, ap, append_assoc, append-nil}
+use Rattle.vast_literal.specs.Tokens.{Token, Mark, Operator, Colon, Plus}
+use Rattle.vast_literal.specs.Scan.{State, scan, tokens, join_tokens, step, Gap, InSystemWord, InMacroWord, Pending, InComment}
+use Rattle.vast_literal.specs.LiteralToken.{every}
+use Rattle.vast_literal.proofs.TokenReads.{Free, Divides, Reads}
+use Rattle.vast_literal.proofs.ScanLaws.{not_true, and_left, and_right}
+use Rattle.vast_literal.proofs.Pieces.{add_tokens-nil, free_reads, free_free, reads_end, as_reads, reads_sep}
+use Rattle.vast_print.specs.Page.{Line, indent, print_lines, one_line, inner_lines, beside_lines, written_lines, lead_lines}
+
+-- the lines without their depths
+unfoldable pub flat : List Line → List ℕ
+flat [] = []
+flat (l ∷ p) = l.bytes ++ (10 ∷ flat p)
+
+-- the same without the last line break
+abbrev pub onto : List ℕ → List Line → List ℕ
+onto w [] = w
+onto w (l ∷ p) = w ++ (10 ∷ onto l.bytes p)
+
+unfoldable pub body : List Line → List ℕ
+body [] = []
+body (l ∷ p) = onto l.bytes p
+
+-- bytes
+
+pub print-above : (p q : List Line) → print_lines (p ++ q) ≡ print_lines p ++ print_lines q
+unfolding print_lines
+print-above [] q = refl
+print-above (l ∷ p) q = simp (print-above p q, append_assoc)
+
+pub flat-above : (p q : List Line) → flat (p ++ q) ≡ flat p ++ flat q
+unfolding flat
+flat-above [] q = refl
+flat-above (l ∷ p) q = simp (flat-above p q, append_assoc)
+
+pub flat-inner : (p : List Line) → flat (inner_lines p) ≡ flat p
+unfolding flat inner_lines
+flat-inner [] = refl
+flat-inner (l ∷ p) = ap (λ x. l.bytes ++ (10 ∷ x)) (flat-inner p)
+
+flat-onto : (l : Line) (p : List Line) → flat (l ∷ p) ≡ onto l.bytes p ++ (10 ∷ [])
+unfolding flat
+flat-onto l [] = refl
+flat-onto l (m ∷ p) = rw (append_assoc) (ap (λ x. l.bytes ++ (10 ∷ x)) (flat-onto m p))
+
+onto-append : (v w : List ℕ) (q : List Line) → onto (v ++ w) q ≡ v ++ onto w q
+onto-append v w [] = refl
+onto-append v w (m ∷ q) = append_assoc v w (10 ∷ onto m.bytes q)
+
+onto-beside : (w : List ℕ) (m : Line) (p q : List Line) → onto w (beside_lines (m ∷ p) q) ≡ w ++ (10 ∷ body (beside_lines (m ∷ p) q))
+unfolding body beside_lines
+onto-beside w m [] [] = refl
+onto-beside w m [] (n ∷ q) = refl
+onto-beside w m (n ∷ p) q = refl
+
+-- two pages side by side
+pub body-beside : (p q : List Line) → body (beside_lines p q) ≡ body p ++ body q
+unfolding body beside_lines
+body-beside [] q = refl
+body-beside (l ∷ []) [] = sym (append-nil l.bytes)
+body-beside (l ∷ []) (m ∷ q) = onto-append l.bytes m.bytes q
+body-beside (l ∷ m ∷ p) q =
+    onto-beside l.bytes m p q ∙ (ap (λ x. l.bytes ++ (10 ∷ x)) (body-beside (m ∷ p) q) ∙ sym (append_assoc l.bytes (10 ∷ onto m.bytes p) (body q)))
+
+-- tokens: the indentation brings none
+
+spaces_scan : (n : ℕ) (rest : List ℕ) → scan Gap (replicate n 32 ++ rest) ≡ scan Gap rest
+unfolding scan
+spaces_scan zero rest = refl
+spaces_scan (suc n) rest = spaces_scan n rest
+
+-- behind a one_line break nothing is pending
+break_gap : (s : State) → (step s 10).state ≡ Gap
+break_gap (InSystemWord []) = refl
+break_gap (InSystemWord (c ∷ w)) = refl
+break_gap (InMacroWord []) = refl
+break_gap (InMacroWord (c ∷ w)) = refl
+break_gap (Pending (Mark Colon)) = refl
+break_gap (Pending (Mark _)) = refl
+break_gap (Pending (Operator Plus)) = refl
+break_gap (Pending (Operator _)) = refl
+break_gap (Pending _) = refl
+break_gap Gap = refl
+break_gap _ = refl
+
+-- a text and a one_line break, then more: what follows the break is scanned afresh
+break_scan : (s : State) (w a b : List ℕ) → scan Gap a ≡ scan Gap b → scan s (w ++ (10 ∷ a)) ≡ scan s (w ++ (10 ∷ b))
+unfolding scan
+break_scan s [] a b e = rw (break_gap s) (ap (join_tokens (step s 10).out) e)
+break_scan s (c ∷ w) a b e = ap (join_tokens (step s c).out) (break_scan (step s c).state w a b e)
+
+indent_scan : (d : ℕ) (w rest : List ℕ) → scan Gap (indent d w ++ rest) ≡ scan Gap rest
+indent_scan d [] rest = refl
+indent_scan d (c ∷ w) rest = spaces_scan (2 * d) rest
+
+pub print_scan : (p : List Line) (rest : List ℕ) → scan Gap (print_lines p ++ rest) ≡ scan Gap (flat p ++ rest)
+unfolding print_lines flat
+print_scan [] rest = refl
+print_scan (l ∷ p) rest =
+    rw (append_assoc, append_assoc, append_assoc)
+    (indent_scan l.depth l.bytes (l.bytes ++ ((10 ∷ print_lines p) ++ rest)) ∙ break_scan Gap l.bytes (print_lines p ++ rest) (flat p ++ rest) (print_scan p rest))
+
+-- a page of whole lines with their tokens
+pub record Lines (p : List Line) (ts : List Token) : Type 0 where
+  pub at : Free (flat p) ts
+
+abbrev pub filled : List Line → Bool
+filled [] = false
+filled (l ∷ p) = true
+
+-- a page whose last one_line may go on
+pub record Hangs (p : List Line) (ts : List Token) : Type 0 where
+  pub some : filled p ≡ true
+  pub at : Reads (body p) ts
+
+pub print_free : {p : List Line} {ts : List Token} → Lines p ts → Free (print_lines p) ts
+print_free {p} f = record { at = λ rest. print_scan p rest ∙ f.at.at rest }
+
+pub above_lines : {p q : List Line} {ts us : List Token} → Lines p ts → Lines q us → Lines (p ++ q) (ts ++ us)
+above_lines {p} {q} f g = record { at = rw (flat-above p q) (free_free f.at g.at) }
+
+pub inner_whole : {p : List Line} {ts : List Token} → Lines p ts → Lines (inner_lines p) ts
+inner_whole {p} f = record { at = rw (flat-inner p) f.at }
+
+pub no_lines_free : Lines [] []
+unfolding flat
+no_lines_free = record { at = record { at = λ rest. refl } }
+
+line_break : Divides (10 ∷ []) []
+unfolding scan
+line_break = record { free = record { at = λ rest. refl }; stop = λ rest. refl }
+
+flat-body : (p : List Line) → filled p ≡ true → flat p ≡ body p ++ (10 ∷ [])
+unfolding body
+flat-body [] h = cc
+flat-body (l ∷ p) h = flat-onto l p
+
+pub hangs_lines : {p : List Line} {ts : List Token} → Hangs p ts → Lines p ts
+hangs_lines {p} {ts} f = record { at = rw (flat-body p f.some) (rw append-nil at (reads_end f.at line_break)) }
+
+pub line_hangs : {w : List ℕ} {ts : List Token} → Reads w ts → Hangs (one_line w) ts
+unfolding body
+line_hangs f = record { some = refl; at = f }
+
+filled-beside : (p q : List Line) → filled p ≡ true → filled (beside_lines p q) ≡ true
+unfolding beside_lines
+filled-beside [] q h = cc
+filled-beside (l ∷ []) [] h = refl
+filled-beside (l ∷ []) (m ∷ q) h = refl
+filled-beside (l ∷ m ∷ p) q h = refl
+
+-- a text, and a page that hangs on it
+pub prefix_hangs : {w : List ℕ} {p : List Line} {ts us : List Token} → Free w ts → Hangs p us → Hangs (beside_lines (one_line w) p) (ts ++ us)
+unfolding body
+prefix_hangs {w} {p} f g = record { some = filled-beside (one_line w) p refl; at = rw (body-beside (one_line w) p) (free_reads f g.at) }
+
+-- two pages with a text between that stops the first
+pub beside_hangs : {p q : List Line} {w : List ℕ} {ts us vs : List Token} → Hangs p ts → Divides w us → Hangs q vs → Hangs (beside_lines p (beside_lines (one_line w) q)) (ts ++ (us ++ vs))
+unfolding body
+beside_hangs {p} {q} {w} f g k = record {
+  some = filled-beside p (beside_lines (one_line w) q) f.some;
+  at = rw (body-beside p (beside_lines (one_line w) q), body-beside (one_line w) q) (reads_sep f.at g k.at);
+}
+
+pub suffix_hangs : {p : List Line} {w : List ℕ} {ts us : List Token} → Hangs p ts → Divides w us → Hangs (beside_lines p (one_line w)) (ts ++ us)
+unfolding body
+suffix_hangs {p} {w} f g = record { some = filled-beside p (one_line w) f.some; at = rw (body-beside p (one_line w)) (as_reads (reads_end f.at g)) }
+
+-- lines, then a one_line that may go on
+onto-last : (v : List ℕ) (p : List Line) (w : List ℕ) → onto v (p ++ one_line w) ≡ v ++ (10 ∷ (flat p ++ w))
+unfolding flat
+onto-last v [] w = refl
+onto-last v (l ∷ p) w = ap (λ x. v ++ (10 ∷ x)) (onto-last l.bytes p w ∙ sym (append_assoc l.bytes (10 ∷ flat p) w))
+
+body-last : (p : List Line) (w : List ℕ) → body (p ++ one_line w) ≡ flat p ++ w
+unfolding body flat
+body-last [] w = refl
+body-last (l ∷ p) w = onto-last l.bytes p w ∙ sym (append_assoc l.bytes (10 ∷ flat p) w)
+
+filled-last : (p : List Line) (w : List ℕ) → filled (p ++ one_line w) ≡ true
+filled-last [] w = refl
+filled-last (l ∷ p) w = refl
+
+pub lines_hang : {p : List Line} {w : List ℕ} {ts us : List Token} → Lines p ts → Reads w us → Hangs (p ++ one_line w) (ts ++ us)
+lines_hang {p} {w} f g = record { some = filled-last p w; at = rw (body-last p w) (free_reads f.at g) }
+
+-- a comment, which runs to the end of its one_line
+comment_on : (w rest : List ℕ) → every (λ c. not (eqb c 10)) w ≡ true → scan InComment (w ++ (10 ∷ rest)) ≡ scan Gap rest
+unfolding scan
+comment_on [] rest h = refl
+comment_on (c ∷ w) rest h = rw (not_true (eqb c 10) (and_left _ _ h)) (comment_on w rest (and_right (not (eqb c 10)) (every (λ x. not (eqb x 10)) w) h))
+
+comment_start : (rest : List ℕ) → scan Gap (47 ∷ 47 ∷ rest) ≡ scan InComment rest
+unfolding scan
+comment_start rest = refl
+
+pub comment_lines : (w : List ℕ) → every (λ c. not (eqb c 10)) w ≡ true → Lines (one_line (47 ∷ 47 ∷ w)) []
+unfolding flat
+comment_lines w h = record { at = record { at = λ rest. rw append_assoc (comment_start (w ++ (10 ∷ rest)) ∙ comment_on w rest h) } }
+
+-- more on bytes
+
+pub filled-written : (w : List ℕ) → filled (written_lines w) ≡ true
+unfolding written_lines
+filled-written [] = refl
+filled-written (c ∷ w) = go (eqb c 10)
+  where
+    go : (b : Bool) → filled (cond b (one_line [] ++ written_lines w) (beside_lines (one_line (c ∷ [])) (written_lines w))) ≡ true
+    go true = refl
+    go false = filled-beside (one_line (c ∷ [])) (written_lines w) refl
+
+body-break : (p : List Line) → filled p ≡ true → body (one_line [] ++ p) ≡ 10 ∷ body p
+unfolding body
+body-break [] h = cc
+body-break (l ∷ p) h = refl
+
+pub body-written : (w : List ℕ) → body (written_lines w) ≡ w
+unfolding written_lines body
+body-written [] = refl
+body-written (c ∷ w) = go (eqb c 10) refl (body-written w)
+  where
+    go : (b : Bool) → eqb c 10 ≡ b → body (written_lines w) ≡ w → body (cond b (one_line [] ++ written_lines w) (beside_lines (one_line (c ∷ [])) (written_lines w))) ≡ c ∷ w
+    go true e h = rw (eqb-true c 10 e) (body-break (written_lines w) (filled-written w) ∙ ap (λ x. 10 ∷ x) h)
+    go false e h = body-beside (one_line (c ∷ [])) (written_lines w) ∙ ap (λ x. c ∷ x) h
+
+pub written_hangs : {w : List ℕ} {ts : List Token} → Reads w ts → Hangs (written_lines w) ts
+written_hangs {w} f = record { some = filled-written w; at = rw (body-written w) f }
+
+pub flat-lead : (p : List Line) → flat (lead_lines p) ≡ flat p
+unfolding flat lead_lines
+flat-lead [] = refl
+flat-lead (l ∷ p) = refl
+
+pub lead_whole : {p : List Line} {ts : List Token} → Lines p ts → Lines (lead_lines p) ts
+lead_whole {p} f = record { at = rw (flat-lead p) f.at }
+
+-- the whole page has the tokens
+pub print_tokens : {p : List Line} {ts : List Token} → Lines p ts → tokens (print_lines p) ≡ Some ts
+unfolding tokens scan
+print_tokens {p} {ts} f = rw append-nil at ((print_free f).at []) ∙ add_tokens-nil ts
+
+-- lines, then a page whose last line may go on
+onto-body : (w : List ℕ) (q : List Line) → filled q ≡ true → onto w q ≡ w ++ (10 ∷ body q)
+unfolding body
+onto-body w [] h = absurd (cc h)
+onto-body w (m ∷ q) h = refl
+
+filled-above : (p q : List Line) → filled q ≡ true → filled (p ++ q) ≡ true
+filled-above [] q h = h
+filled-above (l ∷ p) q h = refl
+
+body-above : (p q : List Line) → filled q ≡ true → body (p ++ q) ≡ flat p ++ body q
+unfolding body flat
+body-above [] q h = refl
+body-above (l ∷ p) q h = onto-body l.bytes (p ++ q) (filled-above p q h) ∙ (ap (λ x. l.bytes ++ (10 ∷ x)) (body-above p q h) ∙ sym (append_assoc l.bytes (10 ∷ flat p) (body q)))
+
+pub above_hangs : {p q : List Line} {ts us : List Token} → Lines p ts → Hangs q us → Hangs (p ++ q) (ts ++ us)
+above_hangs {p} {q} f g = record { some = filled-above p q g.some; at = rw (body-above p q g.some) (free_reads f.at g.at) }
+
+-- a page that goes on behind another
+pub record Behind (q : List Line) (us : List Token) : Type 0 where
+  pub at : (p : List Line) (ts : List Token) → Hangs p ts → Hangs (beside_lines p q) (ts ++ us)
+
+beside-none : (p : List Line) → beside_lines p [] ≡ p
+unfolding beside_lines
+beside-none [] = refl
+beside-none (l ∷ []) = refl
+beside-none (l ∷ m ∷ p) = ap (λ x. l ∷ x) (beside-none (m ∷ p))
+
+pub behind_none : Behind [] []
+behind_none = record { at = λ p ts h. rw (beside-none p, append-nil) h }
+
+-- a page whose text brings its tokens, and one that hangs on it
+pub free_hangs : (p : List Line) {q : List Line} {ts us : List Token} → filled p ≡ true → Free (body p) ts → Hangs q us → Hangs (beside_lines p q) (ts ++ us)
+free_hangs p {q} h f g = record { some = filled-beside p q h; at = rw (body-beside p q) (free_reads f g.at) }
+
+-- a page whose text stops what stands before it, and one that hangs on it
+pub behind_divides : (m : List Line) {q : List Line} {ts us : List Token} → Divides (body m) ts → Hangs q us → Behind (beside_lines m q) (ts ++ us)
+behind_divides m {q} f g = record { at = λ p vs h. record { some = filled-beside p (beside_lines m q) h.some; at = rw (body-beside p (beside_lines m q), body-beside m q) (reads_sep h.at f g.at) } }
+
+-- the same with a page that may be nothing behind it
+pub behind_hangs : {q : List Line} {p : List Line} {ts us : List Token} → Hangs p ts → Behind q us → Hangs (beside_lines p q) (ts ++ us)
+behind_hangs {p = p} {ts = ts} f g = g.at p ts f
+
+pub same_hangs : {p : List Line} {ts us : List Token} → ts ≡ us → Hangs p ts → Hangs p us
+same_hangs e f = rw (sym e) f
+
+pub same_lines : {p : List Line} {ts us : List Token} → ts ≡ us → Lines p ts → Lines p us
+same_lines e f = rw (sym e) f
