@@ -11,3 +11,4 @@ pub mod Accepted
 pub mod LiteralRows
 pub mod TypedDecimals
 pub mod SpeltOnce
+pub mod TokenTexts
