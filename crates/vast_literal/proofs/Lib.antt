@@ -41,3 +41,4 @@ pub mod SpeltOnce
 pub mod DerivedOnce
 pub mod FilePins
 pub mod LoopPin
+pub mod TokenTexts
