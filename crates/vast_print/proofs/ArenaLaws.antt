@@ -28,7 +28,7 @@ use Rattle.vast_print.specs.Declaration.{base_of, packed_text, unpacked_text, ty
 use Rattle.vast_print.specs.Words.{signed_opening}
 use Rattle.vast_print.specs.Members.{member_page, members_page}
 use Rattle.vast_print.specs.Layout.{body_page, header_page, ports_page, items_page, layout}
-use Rattle.vast_print.proofs.Laws.{pour-empty, hang-stopped, pour-stopped, whole-page, whole-fault, line-text, line-fault}
+use Rattle.vast_print.proofs.InkLaws.{pour-empty, hang-stopped, pour-stopped, whole-page, whole-fault, line-text, line-fault}
 use Rattle.vast_print.proofs.Lines.{word-word, word-stopped, word-nothing, next-stopped}
 use Rattle.vast_print.proofs.NumberLaws.{pour-number}
 use Rattle.vast_print.proofs.DeclarationLaws.{pour-scalar-type, pour-vector-type, pour-limit-value, pour-limit, pour-declaration, pour-port, pour-spaced-none}

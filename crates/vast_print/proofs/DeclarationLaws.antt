@@ -11,7 +11,7 @@ use Rattle.vast_print.specs.Text.{expr_text, package_text}
 use Rattle.vast_print.specs.Declaration.{base_of, packed_ranges, packed_text, unpacked_ranges, unpacked_text, limit_text, signed_word, unsigned_word, joined, based_text, type_text, name_text, kind_word, declaration_text, port_declaration_text, port_kind, base_kind}
 use Rattle.vast_print.specs.Layout.{port_text, parameter_port_text, direction_word}
 use Rattle.vast_print.specs.Words.{has_text, kind_opening, signed_opening, unsigned_opening, parameter_opening}
-use Rattle.vast_print.proofs.Laws.{pour-then, pour-empty, pour-word}
+use Rattle.vast_print.proofs.InkLaws.{pour-then, pour-empty, pour-word}
 use Rattle.vast_print.proofs.WordLaws.{words}
 use Rattle.vast_print.proofs.Lines.{word-word}
 

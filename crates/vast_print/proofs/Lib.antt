@@ -1,5 +1,5 @@
 pub mod Lines
-pub mod Laws
+pub mod InkLaws
 pub mod WordLaws
 pub mod NumberLaws
 pub mod TextLaws

@@ -13,7 +13,7 @@ use Rattle.vast_print.specs.Members.{entries_page, member_page, members_page, in
 use Rattle.vast_print.specs.Layout.{item_page, items_page}
 use Rattle.vast_print.specs.Words.{comma, separator, else_if_opening}
 use Rattle.vast_print.proofs.Lines.{word-nothing}
-use Rattle.vast_print.proofs.Laws.{hang-none, hang-above, hang-lead, pour-none, pour-beside, pour-then, pour-empty}
+use Rattle.vast_print.proofs.InkLaws.{hang-none, hang-above, hang-lead, pour-none, pour-beside, pour-then, pour-empty}
 use Rattle.vast_print.proofs.WordLaws.{words, pour-comma}
 use Rattle.vast_print.proofs.StatementLaws.{hang-arms-none, hang-arms, pour-else-if-arm}
 

@@ -12,7 +12,7 @@ use Rattle.vast_print.specs.Statements.{statement_page, statements_page, block_p
 use Rattle.vast_print.specs.Members.{entries_page, parameter_word, parameter_text, semicolon_text, connection_text, connections_page, instance_head_page, instance_page, events_text, always_text, input_text, inputs_text, local_page, locals_page, is_one_casez, function_body_page, function_page, loop_label_text, loop_text, member_page, members_page}
 use Rattle.vast_print.specs.Words.{always_ff_opening, always_at_opening, always_comb_opening, function_opening, endfunction_word, for_opening, step_word}
 use Rattle.vast_print.proofs.Lines.{word-word}
-use Rattle.vast_print.proofs.Laws.{hang-line, hang-none, hang-blank, hang-above, hang-beside, hang-inner, hang-written, pour-then, pour-empty, pour-word}
+use Rattle.vast_print.proofs.InkLaws.{hang-line, hang-none, hang-blank, hang-above, hang-beside, hang-inner, hang-written, pour-then, pour-empty, pour-word}
 use Rattle.vast_print.proofs.WordLaws.{words}
 use Rattle.vast_print.proofs.StatementLaws.{hang-block}
 

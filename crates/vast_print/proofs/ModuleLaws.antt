@@ -11,7 +11,7 @@ use Rattle.vast_print.specs.Words.{comma, endmodule_word, include_opening}
 use Rattle.vast_print.specs.Members.{entries_page, members_page}
 use Rattle.vast_print.specs.Layout.{port_text, parameter_port_text, ports_page, parameter_ports_page, opening_page, header_page, body_page, module_page, item_page, items_page, layout}
 use Rattle.vast_print.proofs.ListLaws.{entries-end, entries-step}
-use Rattle.vast_print.proofs.Laws.{hang-line, pour-line, hang-none, hang-blank, hang-above, hang-inner, hang-written, hang-lead, pour-then, pour-empty}
+use Rattle.vast_print.proofs.InkLaws.{hang-line, pour-line, hang-none, hang-blank, hang-above, hang-inner, hang-written, hang-lead, pour-then, pour-empty}
 use Rattle.vast_print.proofs.Lines.{word-nothing}
 use Rattle.vast_print.proofs.WordLaws.{words, pour-comma}
 

@@ -8,7 +8,7 @@ use Rattle.vast_print.specs.Draft.{Draft}
 use Rattle.vast_print.specs.Ink.{Ink, Wet, word, pour, onto, margin}
 use Rattle.vast_print.specs.Words.{has_text}
 use Rattle.vast_print.proofs.Lines.{unbroken, eqb-false}
-use Rattle.vast_print.proofs.Laws.{pour-word}
+use Rattle.vast_print.proofs.InkLaws.{pour-word}
 
 glyph-unbroken : (m : ℕ) (acc : List ℕ) → unbroken acc ≡ true → unbroken (digit_glyph false m ∷ acc) ≡ true
 glyph-unbroken m acc h = go (nat_lt m 10)

@@ -7,7 +7,7 @@ use Rattle.vast_print.specs.Ink.{Ink, word, pour}
 use Rattle.vast_print.specs.Declaration.{base_of, packed_ranges, packed_text, based_text, type_text, signed_word, unsigned_word, limit_text}
 use Rattle.vast_print.specs.Words.{has_text, signed_opening, unsigned_opening}
 use Rattle.vast_print.specs.Text.{package_text}
-use Rattle.vast_print.proofs.Laws.{pour-then, pour-empty, pour-stopped}
+use Rattle.vast_print.proofs.InkLaws.{pour-then, pour-empty, pour-stopped}
 use Rattle.vast_print.proofs.Lines.{word-word, word-stopped}
 use Rattle.vast_print.proofs.NumberLaws.{pour-number}
 use Rattle.vast_print.proofs.DeclarationLaws.{pour-joined, spaced-then, spaced-package, package_then, pour-signed-word, pour-unsigned-word, pour-spaced, pour-spaced-none, pour-limit-value, pour-limit}

@@ -9,7 +9,7 @@ use Rattle.vast_print.specs.Text.{expr_text, list_text, more_text}
 use Rattle.vast_print.specs.Members.{input_text, inputs_text, more_inputs_text, events_text, more_events_text}
 use Rattle.vast_print.specs.Words.{separator}
 use Rattle.vast_print.proofs.Lines.{word-nothing}
-use Rattle.vast_print.proofs.Laws.{pour-then, pour-empty}
+use Rattle.vast_print.proofs.InkLaws.{pour-then, pour-empty}
 use Rattle.vast_print.proofs.WordLaws.{words}
 
 -- expressions joined by commas

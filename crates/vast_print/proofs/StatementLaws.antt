@@ -8,7 +8,7 @@ use Rattle.vast_print.specs.Ink.{Ink, word, next, hang, pour}
 use Rattle.vast_print.specs.Text.{expr_text}
 use Rattle.vast_print.specs.Words.{else_if_opening, begin_end_word}
 use Rattle.vast_print.specs.Statements.{assign_opening, assign_sign, assign_text, case_word, unique_word, label_text, is_bare_arm, begin_end, statement_page, statements_page, block_page, alternates_page, arms_page, arm_body_page, arm_page}
-use Rattle.vast_print.proofs.Laws.{hang-line, pour-line, hang-none, pour-none, hang-blank, hang-above, pour-above, pour-above-none, pour-beside, hang-beside, hang-line-above, hang-inner, hang-written, pour-then, pour-empty, pour-word}
+use Rattle.vast_print.proofs.InkLaws.{hang-line, pour-line, hang-none, pour-none, hang-blank, hang-above, pour-above, pour-above-none, pour-beside, hang-beside, hang-line-above, hang-inner, hang-written, pour-then, pour-empty, pour-word}
 use Rattle.vast_print.proofs.Lines.{word-word}
 use Rattle.vast_print.proofs.WordLaws.{words}
 

@@ -16,7 +16,7 @@ use Rattle.vast_print.specs.Levels.{unary_sign_text, binary_sign_text, is_scalar
 use Rattle.vast_print.specs.Bare.{is_bare, is_bare_head}
 use Rattle.vast_print.specs.Text.{elided, cast_to, width_cast, sign_cast, scalar_cast, number_cast, package_text, expr_text, arguments_text, replicated, list_text, more_text, type_cast}
 use Rattle.vast_print.specs.Words.{cast_sign_word, scalar_cast_opening, scalar_cast_closing, number_cast_opening, number_cast_closing}
-use Rattle.vast_print.proofs.Laws.{pour-then, pour-empty, pour-word, pour-refused}
+use Rattle.vast_print.proofs.InkLaws.{pour-then, pour-empty, pour-word, pour-refused}
 use Rattle.vast_print.proofs.Lines.{word-word}
 use Rattle.vast_print.proofs.WordLaws.{words}
 use Rattle.vast_print.proofs.NumberLaws.{pour-number}

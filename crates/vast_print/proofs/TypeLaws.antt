@@ -8,7 +8,7 @@ use Rattle.vast_print.specs.Printed.{plain_text, ◌⊕◌}
 use Rattle.vast_print.specs.Page.{written}
 use Rattle.vast_print.specs.Ink.{Ink, word, pour}
 use Rattle.vast_print.specs.Declaration.{base_of, packed_range, packed_ranges, packed_text, unpacked_range, unpacked_ranges, unpacked_text}
-use Rattle.vast_print.proofs.Laws.{pour-then, pour-empty, pour-word}
+use Rattle.vast_print.proofs.InkLaws.{pour-then, pour-empty, pour-word}
 use Rattle.vast_print.proofs.Lines.{unbroken}
 use Rattle.vast_print.proofs.NumberLaws.{pour-number}
 use Rattle.vast_print.proofs.DeclarationLaws.{plain-append}

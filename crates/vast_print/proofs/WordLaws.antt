@@ -4,7 +4,7 @@ use Rattle.vast_print.specs.Printed.{plain_text}
 use Rattle.vast_print.specs.Page.{written}
 use Rattle.vast_print.specs.Ink.{Ink, word, pour}
 use Rattle.vast_print.specs.Words.{else_if_opening, parameter_opening, include_opening, function_opening, for_opening, step_word, always_ff_opening, always_at_opening, always_comb_opening}
-use Rattle.vast_print.proofs.Laws.{pour-word}
+use Rattle.vast_print.proofs.InkLaws.{pour-word}
 
 pub pour-paren : (d : ℕ) (k : Ink) → pour d k (written (plain_text (codes "("))) ≡ word k (codes "(")
 pour-paren d k = pour-word d k (codes "(") refl

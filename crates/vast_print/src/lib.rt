@@ -6,6 +6,7 @@ mod casts;
 mod declaration;
 mod expression;
 mod file;
+pub mod laws;
 mod levels;
 mod lists;
 mod module;

@@ -113,7 +113,7 @@ impl Writer {
         self.word(rest)
     }
 
-    #[tactic(auto, using(crate::proofs::Laws::comments))]
+    #[tactic(auto, using(crate::proofs::InkLaws::comments))]
     fn comment_line(&mut self, depth: usize, text: &str) -> Result<(), AllocError>
         ensures { OnOk result (hang depth (Wet self.old) (commented (line text.now)) ≡ Wet self.new) }
     {

@@ -1,7 +1,7 @@
 use Rattle.std.proofs.Common.{rules, arith}
 use Rattle.vast_print.specs.Ink.{Wet}
 use Rattle.vast_print.proofs.Lines.{cut, uncut}
-use Rattle.vast_print.proofs.Laws.{comment-step, comment-last}
+use Rattle.vast_print.proofs.InkLaws.{comment-step, comment-last}
 use Rattle.vast_print.proofs.writer.Writer.comment.Goals as goal
 
 pub loop-line-preserved : goal.loop-line-preserved

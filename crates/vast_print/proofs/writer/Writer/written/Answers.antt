@@ -1,7 +1,7 @@
 use Rattle.std.proofs.Common.{rules, arith}
 use Rattle.vast_print.specs.Ink.{Wet}
 use Rattle.vast_print.proofs.Lines.{cut, uncut}
-use Rattle.vast_print.proofs.Laws.{written-step, written-last}
+use Rattle.vast_print.proofs.InkLaws.{written-step, written-last}
 use Rattle.vast_print.proofs.writer.Writer.written.Goals as goal
 
 pub loop-line-preserved : goal.loop-line-preserved

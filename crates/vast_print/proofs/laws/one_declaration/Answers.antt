@@ -1,0 +1,5 @@
+use Rattle.vast_literal.proofs.DeclarationsParse.{one_declaration as law}
+use Rattle.vast_print.proofs.laws.one_declaration.Goals as goal
+
+pub returns : goal.returns
+returns c = law
