@@ -6,4 +6,6 @@ mod comparisons;
 mod lists;
 mod literals;
 mod selects;
+#[cfg(test)]
+mod tests;
 mod unary;
