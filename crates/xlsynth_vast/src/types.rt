@@ -29,11 +29,13 @@ impl VastFile {
     ///
     /// # Errors
     /// `AllocError` where a growth was refused; the file is unchanged.
-    pub fn make_bit_vector_type(&mut self, bit_count: i64, signed: bool) -> Result<VastDataType, AllocError>
+    pub fn make_bit_vector_type(
+        &mut self,
+        bit_count: i64,
+        signed: bool,
+    ) -> Result<VastDataType, AllocError>
         requires { pos 1 ≤ℤ bit_count }
-        ensures {
-            Builds (bench self.old) (bench self.new) result (next_bit_vector bit_count (bench self.old)) (with_bit_vector bit_count signed (bench self.old))
-        }
+        ensures { Builds (bench self.old) (bench self.new) result (next_bit_vector bit_count (bench self.old)) (with_bit_vector bit_count signed (bench self.old)) }
     {
         if bit_count == 1 {
             self.ast.push_scalar(signed)
@@ -46,7 +48,11 @@ impl VastFile {
     ///
     /// # Errors
     /// `AllocError` where a growth was refused; the file is unchanged.
-    pub fn make_bit_vector_type_expr(&mut self, width: &Expr, signed: bool) -> Result<VastDataType, AllocError>
+    pub fn make_bit_vector_type_expr(
+        &mut self,
+        width: &Expr,
+        signed: bool,
+    ) -> Result<VastDataType, AllocError>
         requires width { OwnsExpr (bench self.old) width.now }
         requires usable { IsUsableWidth (tree_of (bench self.old) width.now) }
         ensures { Builds (bench self.old) (bench self.new) result (next_type (bench self.old)) (with_vector_expr width.now signed (bench self.old)) }
@@ -88,7 +94,11 @@ impl VastFile {
     ///
     /// # Errors
     /// `AllocError` where a growth was refused; the file is unchanged.
-    pub fn make_extern_package_type(&mut self, package_name: &str, name: &str) -> Result<VastDataType, AllocError>
+    pub fn make_extern_package_type(
+        &mut self,
+        package_name: &str,
+        name: &str,
+    ) -> Result<VastDataType, AllocError>
         ensures { Builds (bench self.old) (bench self.new) result (next_type (bench self.old)) (with_type (bench self.old) (PackageTree package_name.now name.now)) }
     {
         self.ast.push_package(package_name, name)
@@ -99,7 +109,11 @@ impl VastFile {
     ///
     /// # Errors
     /// `AllocError` where a growth was refused; the file is unchanged.
-    pub fn make_packed_array_type(&mut self, element: VastDataType, dimensions: &[i64]) -> Result<VastDataType, AllocError>
+    pub fn make_packed_array_type(
+        &mut self,
+        element: VastDataType,
+        dimensions: &[i64],
+    ) -> Result<VastDataType, AllocError>
         requires element { OwnsType (bench self.old) element }
         requires packable { IsTrue (is_packable (type_of (bench self.old) element)) }
         requires dimensions { AreDimensions dimensions.now }
@@ -112,7 +126,11 @@ impl VastFile {
     ///
     /// # Errors
     /// `AllocError` where a growth was refused; the file is unchanged.
-    pub fn make_unpacked_array_type(&mut self, element: VastDataType, dimensions: &[i64]) -> Result<VastDataType, AllocError>
+    pub fn make_unpacked_array_type(
+        &mut self,
+        element: VastDataType,
+        dimensions: &[i64],
+    ) -> Result<VastDataType, AllocError>
         requires element { OwnsType (bench self.old) element }
         requires dimensions { AreDimensions dimensions.now }
         ensures { Builds (bench self.old) (bench self.new) result (next_type (bench self.old)) (with_unpacked element dimensions.now (bench self.old)) }

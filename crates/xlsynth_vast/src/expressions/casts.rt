@@ -28,7 +28,11 @@ impl VastFile {
     ///
     /// # Errors
     /// `AllocError` where a growth was refused; the file is unchanged.
-    pub fn make_type_cast(&mut self, data_type: &VastDataType, value: &Expr) -> Result<Expr, AllocError>
+    pub fn make_type_cast(
+        &mut self,
+        data_type: &VastDataType,
+        value: &Expr,
+    ) -> Result<Expr, AllocError>
         requires data_type { OwnsType (bench self.old) data_type.now }
         requires castable { IsTrue (is_castable (type_of (bench self.old) data_type.now)) }
         requires value { OwnsExpr (bench self.old) value.now }

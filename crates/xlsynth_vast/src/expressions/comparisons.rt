@@ -160,7 +160,12 @@ impl VastFile {
     ///
     /// # Errors
     /// `AllocError` where a growth was refused; the file is unchanged.
-    pub fn make_ternary(&mut self, condition: &Expr, consequent: &Expr, alternate: &Expr) -> Result<Expr, AllocError>
+    pub fn make_ternary(
+        &mut self,
+        condition: &Expr,
+        consequent: &Expr,
+        alternate: &Expr,
+    ) -> Result<Expr, AllocError>
         requires condition { OwnsExpr (bench self.old) condition.now }
         requires consequent { OwnsExpr (bench self.old) consequent.now }
         requires alternate { OwnsExpr (bench self.old) alternate.now }

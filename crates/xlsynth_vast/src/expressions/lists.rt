@@ -26,9 +26,7 @@ impl VastFile {
     /// `AllocError` where a growth was refused; the file is unchanged.
     pub fn make_concat(&mut self, expressions: &[&Expr]) -> Result<Expr, AllocError>
         requires { All (λ e. OwnsExpr (bench self.old) e.now) expressions.now }
-        ensures {
-            Builds (bench self.old) (bench self.new) result (next_expr (bench self.old)) (with_concat (map (λ e. e.now) expressions.now) (bench self.old))
-        }
+        ensures { Builds (bench self.old) (bench self.new) result (next_expr (bench self.old)) (with_concat (map (λ e. e.now) expressions.now) (bench self.old)) }
     {
         let parts = self.handles(expressions)?;
         self.ast.push_concat(None, &parts)
@@ -38,12 +36,14 @@ impl VastFile {
     ///
     /// # Errors
     /// `AllocError` where a growth was refused; the file is unchanged.
-    pub fn make_replicated_concat(&mut self, replication: &Expr, elements: &[&Expr]) -> Result<Expr, AllocError>
+    pub fn make_replicated_concat(
+        &mut self,
+        replication: &Expr,
+        elements: &[&Expr],
+    ) -> Result<Expr, AllocError>
         requires replication { OwnsExpr (bench self.old) replication.now }
         requires elements { All (λ e. OwnsExpr (bench self.old) e.now) elements.now }
-        ensures {
-            Builds (bench self.old) (bench self.new) result (next_expr (bench self.old)) (with_replication replication.now (map (λ e. e.now) elements.now) (bench self.old))
-        }
+        ensures { Builds (bench self.old) (bench self.new) result (next_expr (bench self.old)) (with_replication replication.now (map (λ e. e.now) elements.now) (bench self.old)) }
     {
         let parts = self.handles(elements)?;
         self.ast.push_concat(Some(*replication), &parts)
@@ -53,11 +53,13 @@ impl VastFile {
     ///
     /// # Errors
     /// `AllocError` where a growth was refused; the file is unchanged.
-    pub fn make_replicated_concat_i64(&mut self, replication: i64, elements: &[&Expr]) -> Result<Expr, AllocError>
+    pub fn make_replicated_concat_i64(
+        &mut self,
+        replication: i64,
+        elements: &[&Expr],
+    ) -> Result<Expr, AllocError>
         requires { All (λ e. OwnsExpr (bench self.old) e.now) elements.now }
-        ensures {
-            Builds (bench self.old) (bench self.new) result (next_fixed_replication replication (bench self.old)) (with_fixed_replication replication (map (λ e. e.now) elements.now) (bench self.old))
-        }
+        ensures { Builds (bench self.old) (bench self.new) result (next_fixed_replication replication (bench self.old)) (with_fixed_replication replication (map (λ e. e.now) elements.now) (bench self.old)) }
     {
         let parts = self.handles(elements)?;
         self.ast.push_replication_fixed(replication, &parts)
@@ -69,9 +71,7 @@ impl VastFile {
     /// `AllocError` where a growth was refused; the file is unchanged.
     pub fn make_array_assignment_pattern(&mut self, elements: &[&Expr]) -> Result<Expr, AllocError>
         requires { All (λ e. OwnsExpr (bench self.old) e.now) elements.now }
-        ensures {
-            Builds (bench self.old) (bench self.new) result (next_expr (bench self.old)) (with_pattern (map (λ e. e.now) elements.now) (bench self.old))
-        }
+        ensures { Builds (bench self.old) (bench self.new) result (next_expr (bench self.old)) (with_pattern (map (λ e. e.now) elements.now) (bench self.old)) }
     {
         let parts = self.handles(elements)?;
         self.ast.push_pattern(&parts)
@@ -81,12 +81,14 @@ impl VastFile {
     ///
     /// # Errors
     /// `AllocError` where a growth was refused; the file is unchanged.
-    pub fn make_function_call(&mut self, name: &str, arguments: &[&Expr]) -> Result<Expr, AllocError>
+    pub fn make_function_call(
+        &mut self,
+        name: &str,
+        arguments: &[&Expr],
+    ) -> Result<Expr, AllocError>
         requires name { name.now ≢ [] }
         requires arguments { All (λ e. OwnsExpr (bench self.old) e.now) arguments.now }
-        ensures {
-            Builds (bench self.old) (bench self.new) result (next_expr (bench self.old)) (with_call name.now (map (λ e. e.now) arguments.now) (bench self.old))
-        }
+        ensures { Builds (bench self.old) (bench self.new) result (next_expr (bench self.old)) (with_call name.now (map (λ e. e.now) arguments.now) (bench self.old)) }
     {
         let parts = self.handles(arguments)?;
         self.ast.push_call(name, &parts)
@@ -106,11 +108,13 @@ impl VastFile {
     ///
     /// # Errors
     /// `AllocError` where a growth was refused; the file is unchanged.
-    pub fn make_macro_ref_with_args(&mut self, name: &str, arguments: &[&Expr]) -> Result<MacroRef, AllocError>
+    pub fn make_macro_ref_with_args(
+        &mut self,
+        name: &str,
+        arguments: &[&Expr],
+    ) -> Result<MacroRef, AllocError>
         requires { All (λ e. OwnsExpr (bench self.old) e.now) arguments.now }
-        ensures {
-            Builds (bench self.old) (bench self.new) result (next_macro_ref (bench self.old)) (with_macro_call name.now (map (λ e. e.now) arguments.now) (bench self.old))
-        }
+        ensures { Builds (bench self.old) (bench self.new) result (next_macro_ref (bench self.old)) (with_macro_call name.now (map (λ e. e.now) arguments.now) (bench self.old)) }
     {
         let parts = self.handles(arguments)?;
         self.ast.push_macro_with_args(name, &parts)

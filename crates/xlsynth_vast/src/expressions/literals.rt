@@ -43,9 +43,7 @@ impl VastFile {
     /// `Refused` where there are no digits, more than 1,048,576, or others. `Memory` where a growth was refused. The
     /// file is unchanged.
     pub fn make_binary_pattern(&mut self, bits_msb: &str) -> Result<Expr, VastFault>
-        ensures {
-            MayBuild (bench self.old) (bench self.new) result (pattern bits_msb.now) (next_expr (bench self.old)) (λ text. with_expr (bench self.old) (pattern_literal text))
-        }
+        ensures { MayBuild (bench self.old) (bench self.new) result (pattern bits_msb.now) (next_expr (bench self.old)) (λ text. with_expr (bench self.old) (pattern_literal text)) }
     {
         let text = pattern_text(self.ast.allocator(), bits_msb)?;
         Ok(self.ast.push_literal(&text, None)?)

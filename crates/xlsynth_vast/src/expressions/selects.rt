@@ -29,18 +29,22 @@ impl VastFile {
     ///
     /// # Errors
     /// `AllocError` where a growth was refused; the file is unchanged.
-    pub fn make_slice(&mut self, subject: &IndexableExpr, hi: i64, lo: i64) -> Result<Slice, AllocError>
+    pub fn make_slice(
+        &mut self,
+        subject: &IndexableExpr,
+        hi: i64,
+        lo: i64,
+    ) -> Result<Slice, AllocError>
         requires subject { OwnsIndexable (bench self.old) subject.now }
         requires hi { pos 0 ≤ℤ hi }
         requires lo { pos 0 ≤ℤ lo }
-        ensures {
-            Builds (bench self.old) (bench self.new) result (next_fixed_slice (selector_text hi) hi (selector_text lo) lo (bench self.old)) (with_fixed_slice subject.now (selector_text hi) hi (selector_text lo) lo (bench self.old))
-        }
+        ensures { Builds (bench self.old) (bench self.new) result (next_fixed_slice (selector_text hi) hi (selector_text lo) lo (bench self.old)) (with_fixed_slice subject.now (selector_text hi) hi (selector_text lo) lo (bench self.old)) }
     {
         let alloc = self.ast.allocator();
         let high_text = selector_text(alloc, hi)?;
         let low_text = selector_text(alloc, lo)?;
-        self.ast.push_slice_fixed(*subject, &high_text, hi, &low_text, lo)
+        self.ast
+            .push_slice_fixed(*subject, &high_text, hi, &low_text, lo)
     }
 
     /// The bit `s[index]`, by a number, for which a literal is made.
@@ -50,9 +54,7 @@ impl VastFile {
     pub fn make_index(&mut self, subject: &IndexableExpr, index: i64) -> Result<Index, AllocError>
         requires subject { OwnsIndexable (bench self.old) subject.now }
         requires index { pos 0 ≤ℤ index }
-        ensures {
-            Builds (bench self.old) (bench self.new) result (next_fixed_index (selector_text index) index (bench self.old)) (with_fixed_index subject.now (selector_text index) index (bench self.old))
-        }
+        ensures { Builds (bench self.old) (bench self.new) result (next_fixed_index (selector_text index) index (bench self.old)) (with_fixed_index subject.now (selector_text index) index (bench self.old)) }
     {
         let text = selector_text(self.ast.allocator(), index)?;
         self.ast.push_index_fixed(*subject, &text, index)
@@ -62,7 +64,12 @@ impl VastFile {
     ///
     /// # Errors
     /// `AllocError` where a growth was refused; the file is unchanged.
-    pub fn make_slice_expr(&mut self, subject: &IndexableExpr, hi: &Expr, lo: &Expr) -> Result<Slice, AllocError>
+    pub fn make_slice_expr(
+        &mut self,
+        subject: &IndexableExpr,
+        hi: &Expr,
+        lo: &Expr,
+    ) -> Result<Slice, AllocError>
         requires subject { OwnsIndexable (bench self.old) subject.now }
         requires hi { OwnsExpr (bench self.old) hi.now }
         requires lo { OwnsExpr (bench self.old) lo.now }
@@ -75,7 +82,11 @@ impl VastFile {
     ///
     /// # Errors
     /// `AllocError` where a growth was refused; the file is unchanged.
-    pub fn make_index_expr(&mut self, subject: &IndexableExpr, index: &Expr) -> Result<Index, AllocError>
+    pub fn make_index_expr(
+        &mut self,
+        subject: &IndexableExpr,
+        index: &Expr,
+    ) -> Result<Index, AllocError>
         requires subject { OwnsIndexable (bench self.old) subject.now }
         requires index { OwnsExpr (bench self.old) index.now }
         ensures { Builds (bench self.old) (bench self.new) result (next_index (bench self.old)) (with_index subject.now index.now (bench self.old)) }
