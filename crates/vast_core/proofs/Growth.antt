@@ -31,13 +31,13 @@ Grows-root b r = record { nodes = Extends-root b.nodes r; ports = omega arith; a
 
 RecordsSound-root : (b : Bench) (r : Root) → RecordsSound b → RecordsSound (with_root b r)
 RecordsSound-root b r s =
-  let g = Grows-root b r in
-  record {
-    ports = Each-map (PortSound-kept b (with_root b r) g) b.ports s.ports;
-    assignments = Each-map (AssignmentSound-kept b (with_root b r) g) b.assignments s.assignments;
-    modules = Each-map (ModuleSound-kept b (with_root b r) g) b.modules s.modules;
-    items = Each-map (EntrySound-kept b (with_root b r) g) b.items s.items
-  }
+    let g = Grows-root b r in
+    record {
+      ports = Each-map (PortSound-kept b (with_root b r) g) b.ports s.ports;
+      assignments = Each-map (AssignmentSound-kept b (with_root b r) g) b.assignments s.assignments;
+      modules = Each-map (ModuleSound-kept b (with_root b r) g) b.modules s.modules;
+      items = Each-map (EntrySound-kept b (with_root b r) g) b.items s.items;
+    }
 
 bench-term : (a : Raw) (t : Term) (r : ℕ) → bench (record a { terms = a.terms ++ t ∷ []; term_room = r }) ≡ with_root (bench a) (term_root (bench a).nodes t)
 unfolding bench
@@ -49,23 +49,23 @@ terms-term a t s h f = TermsSound-push (no_nodes a.id) a.terms t s h f
 
 sound-term : (a : Raw) (t : Term) (r : ℕ) → IsSound a → ChildrenHold (OwnsExpr (bench a)) (OwnsType (bench a)) t → RootFits (term_root (bench a).nodes t) → IsSound (record a { terms = a.terms ++ t ∷ []; term_room = r })
 sound-term a t r s h f =
-  record {
-    terms = terms-term a t s.terms h f;
-    records = rw (bench-term a t r) (RecordsSound-root (bench a) (term_root (bench a).nodes t) s.records)
-  }
+    record {
+      terms = terms-term a t s.terms h f;
+      records = rw (bench-term a t r) (RecordsSound-root (bench a) (term_root (bench a).nodes t) s.records);
+    }
 
 pub bench-plant :
-  (a b : Raw) (t : Term) (ts : List Term) (r : ℕ) → b ≡ a → ts ≡ b.terms ++ t ∷ [] →
-  bench (record b { terms = ts; term_room = r }) ≡ with_root (bench a) (term_root (bench a).nodes t)
+    (a b : Raw) (t : Term) (ts : List Term) (r : ℕ) → b ≡ a → ts ≡ b.terms ++ t ∷ [] →
+    bench (record b { terms = ts; term_room = r }) ≡ with_root (bench a) (term_root (bench a).nodes t)
 bench-plant a b t ts r e q = rw (q, e) (bench-term a t r)
 
 pub sound-plant :
-  (a b : Raw) (t : Term) (ts : List Term) (r : ℕ) → b ≡ a → ts ≡ b.terms ++ t ∷ [] → IsSound b → ChildrenHold (OwnsExpr (bench a)) (OwnsType (bench a)) t → RootFits (term_root (bench a).nodes t) →
-  IsSound (record b { terms = ts; term_room = r })
+    (a b : Raw) (t : Term) (ts : List Term) (r : ℕ) → b ≡ a → ts ≡ b.terms ++ t ∷ [] → IsSound b → ChildrenHold (OwnsExpr (bench a)) (OwnsType (bench a)) t → RootFits (term_root (bench a).nodes t) →
+    IsSound (record b { terms = ts; term_room = r })
 sound-plant a b t ts r e q s h f =
-  let P : Raw → Type 0 = λ x. ChildrenHold (OwnsExpr (bench x)) (OwnsType (bench x)) t in
-  let F : Raw → Type 0 = λ x. RootFits (term_root (bench x).nodes t) in
-  rw q (sound-term b t r s (subst P (sym e) h) (subst F (sym e) f))
+    let P : Raw → Type 0 = λ x. ChildrenHold (OwnsExpr (bench x)) (OwnsType (bench x)) t in
+    let F : Raw → Type 0 = λ x. RootFits (term_root (bench x).nodes t) in
+    rw q (sound-term b t r s (subst P (sym e) h) (subst F (sym e) f))
 
 pub length-plant : (a b : Raw) → b ≡ a → length (bench a).nodes.roots ≡ length b.terms
 unfolding bench
@@ -78,14 +78,14 @@ Grows-assignment b x = record { nodes = Extends-same b.nodes; ports = omega arit
 
 RecordsSound-assignment : (b : Bench) (x : Assignment) → RecordsSound b → AssignmentSound b x → RecordsSound (with_assignment x b)
 RecordsSound-assignment b x s h =
-  let g = Grows-assignment b x in
-  let c : Bench = with_assignment x b in
-  record {
-    ports = Each-map (PortSound-kept b c g) b.ports s.ports;
-    assignments = Each-push (AssignmentSound c) b.assignments x (Each-map (AssignmentSound-kept b c g) b.assignments s.assignments) h;
-    modules = Each-map (ModuleSound-kept b c g) b.modules s.modules;
-    items = Each-map (EntrySound-kept b c g) b.items s.items
-  }
+    let g = Grows-assignment b x in
+    let c : Bench = with_assignment x b in
+    record {
+      ports = Each-map (PortSound-kept b c g) b.ports s.ports;
+      assignments = Each-push (AssignmentSound c) b.assignments x (Each-map (AssignmentSound-kept b c g) b.assignments s.assignments) h;
+      modules = Each-map (ModuleSound-kept b c g) b.modules s.modules;
+      items = Each-map (EntrySound-kept b c g) b.items s.items;
+    }
 
 bench-assigned : (a : Raw) (x : Assignment) → bench (record a { assignments = a.assignments ++ x ∷ [] }) ≡ with_assignment x (bench a)
 unfolding bench
@@ -98,12 +98,12 @@ terms-same : (a : Raw) → IsSound a → TermsSound (no_nodes a.id) a.terms
 terms-same a s = s.terms
 
 pub sound-assignment :
-  (a b : Raw) (x : Assignment) (xs : List Assignment) → b ≡ a → xs ≡ b.assignments ++ x ∷ [] → IsSound b → AssignmentSound (bench a) x →
-  IsSound (record b { assignments = xs })
+    (a b : Raw) (x : Assignment) (xs : List Assignment) → b ≡ a → xs ≡ b.assignments ++ x ∷ [] → IsSound b → AssignmentSound (bench a) x →
+    IsSound (record b { assignments = xs })
 sound-assignment a b x xs e q s h =
-  let P : Raw → Type 0 = λ y. AssignmentSound (bench y) x in
-  let k : AssignmentSound (bench b) x = subst P (sym e) h in
-  rw q (record { terms = s.terms; records = rw (bench-assigned b x) (RecordsSound-assignment (bench b) x s.records k) })
+    let P : Raw → Type 0 = λ y. AssignmentSound (bench y) x in
+    let k : AssignmentSound (bench b) x = subst P (sym e) h in
+    rw q (record { terms = s.terms; records = rw (bench-assigned b x) (RecordsSound-assignment (bench b) x s.records k) })
 
 -- A module more.
 
@@ -118,34 +118,34 @@ next_module-owned b name = record { of_file = refl; of_kind = rw (length-append 
 
 RecordsSound-module : (b : Bench) (name : List ℕ) → RecordsSound b → RecordsSound (with_module name b)
 RecordsSound-module b name s =
-  let g = Grows-module b name in
-  let c : Bench = with_module name b in
-  record {
-    ports = Each-map (PortSound-kept b c g) b.ports s.ports;
-    assignments = Each-map (AssignmentSound-kept b c g) b.assignments s.assignments;
-    modules = Each-push (ModuleSound c) b.modules (new_module name) (Each-map (ModuleSound-kept b c g) b.modules s.modules) (tt, tt);
-    items = Each-push (EntrySound c) b.items (ModuleEntry (next_module b)) (Each-map (EntrySound-kept b c g) b.items s.items) (next_module-owned b name)
-  }
+    let g = Grows-module b name in
+    let c : Bench = with_module name b in
+    record {
+      ports = Each-map (PortSound-kept b c g) b.ports s.ports;
+      assignments = Each-map (AssignmentSound-kept b c g) b.assignments s.assignments;
+      modules = Each-push (ModuleSound c) b.modules (new_module name) (Each-map (ModuleSound-kept b c g) b.modules s.modules) (tt, tt);
+      items = Each-push (EntrySound c) b.items (ModuleEntry (next_module b)) (Each-map (EntrySound-kept b c g) b.items s.items) (next_module-owned b name);
+    }
 
 pub module-fresh :
-  (m : Module) (name : List ℕ) → string_bytes m.name ≡ name → m.ports.items ≡ [] → m.members.items ≡ [] → m.names.keys ≡ [] → module_record m ≡ new_module name
+    (m : Module) (name : List ℕ) → string_bytes m.name ≡ name → m.ports.items ≡ [] → m.members.items ≡ [] → m.names.keys ≡ [] → module_record m ≡ new_module name
 module-fresh m name n p q k = rw (p, q, k) (ap new_module n)
 
 pub bench-module :
-  (a b : Raw) (m : Module) (item : FileItem) (ms : List Module) (is : List FileItem) (name : List ℕ) → b ≡ a →
-  ms ≡ b.modules ++ m ∷ [] → is ≡ b.items ++ item ∷ [] → module_record m ≡ new_module name → file_entry item ≡ ModuleEntry (next_module (bench a)) →
-  bench (record b { modules = ms; items = is }) ≡ with_module name (bench a)
+    (a b : Raw) (m : Module) (item : FileItem) (ms : List Module) (is : List FileItem) (name : List ℕ) → b ≡ a →
+    ms ≡ b.modules ++ m ∷ [] → is ≡ b.items ++ item ∷ [] → module_record m ≡ new_module name → file_entry item ≡ ModuleEntry (next_module (bench a)) →
+    bench (record b { modules = ms; items = is }) ≡ with_module name (bench a)
 unfolding bench
 bench-module a b m item ms is name e q p r t =
-  rw (q, p, ← e) (simp map-append (rw (r, rw (← e) at t) refl))
+    rw (q, p, ← e) (simp map-append (rw (r, rw (← e) at t) refl))
 
 pub sound-module :
-  (a b : Raw) (m : Module) (item : FileItem) (ms : List Module) (is : List FileItem) (name : List ℕ) → b ≡ a →
-  ms ≡ b.modules ++ m ∷ [] → is ≡ b.items ++ item ∷ [] → module_record m ≡ new_module name → file_entry item ≡ ModuleEntry (next_module (bench a)) → IsSound b →
-  IsSound (record b { modules = ms; items = is })
+    (a b : Raw) (m : Module) (item : FileItem) (ms : List Module) (is : List FileItem) (name : List ℕ) → b ≡ a →
+    ms ≡ b.modules ++ m ∷ [] → is ≡ b.items ++ item ∷ [] → module_record m ≡ new_module name → file_entry item ≡ ModuleEntry (next_module (bench a)) → IsSound b →
+    IsSound (record b { modules = ms; items = is })
 sound-module a b m item ms is name e q p r t s =
-  let P : Raw → Type 0 = λ y. RecordsSound (bench y) in
-  record { terms = s.terms; records = rw (bench-module a b m item ms is name e q p r t) (RecordsSound-module (bench a) name (subst P e s.records)) }
+    let P : Raw → Type 0 = λ y. RecordsSound (bench y) in
+    record { terms = s.terms; records = rw (bench-module a b m item ms is name e q p r t) (RecordsSound-module (bench a) name (subst P e s.records)) }
 
 pub length-modules : (a b : Raw) → b ≡ a → length (bench a).modules ≡ length b.modules
 unfolding bench
@@ -169,53 +169,53 @@ Grows-changed : (b : Bench) (i : ℕ) (f : ModuleRecord → ModuleRecord) → Gr
 Grows-changed b i f = record { nodes = Extends-same b.nodes; ports = omega arith; assignments = λ i a h. h; modules = omega (arith, length-changed_at f b.modules i) }
 
 RecordsSound-changed :
-  (b : Bench) (i : ℕ) (f : ModuleRecord → ModuleRecord) → ((m : ModuleRecord) → ModuleSound b m → ModuleSound b (f m)) → RecordsSound b →
-  RecordsSound (record b { modules = changed_at i f b.modules })
+    (b : Bench) (i : ℕ) (f : ModuleRecord → ModuleRecord) → ((m : ModuleRecord) → ModuleSound b m → ModuleSound b (f m)) → RecordsSound b →
+    RecordsSound (record b { modules = changed_at i f b.modules })
 RecordsSound-changed b i f k s =
-  let g = Grows-changed b i f in
-  let c : Bench = record b { modules = changed_at i f b.modules } in
-  record {
-    ports = Each-map (PortSound-kept b c g) b.ports s.ports;
-    assignments = Each-map (AssignmentSound-kept b c g) b.assignments s.assignments;
-    modules = Each-map (ModuleSound-kept b c g) (changed_at i f b.modules) (Each-changed_at (ModuleSound b) f k b.modules i s.modules);
-    items = Each-map (EntrySound-kept b c g) b.items s.items
-  }
+    let g = Grows-changed b i f in
+    let c : Bench = record b { modules = changed_at i f b.modules } in
+    record {
+      ports = Each-map (PortSound-kept b c g) b.ports s.ports;
+      assignments = Each-map (AssignmentSound-kept b c g) b.assignments s.assignments;
+      modules = Each-map (ModuleSound-kept b c g) (changed_at i f b.modules) (Each-changed_at (ModuleSound b) f k b.modules i s.modules);
+      items = Each-map (EntrySound-kept b c g) b.items s.items;
+    }
 
 -- A member more in a module.
 
 pub bench-member :
-  (a b : Raw) (m : VastModule) (entry : MemberEntry) (ms : List Module) → b ≡ a →
-  map module_record ms ≡ changed_at m.id.index (with_listed_member entry) (map module_record b.modules) →
-  bench (record b { modules = ms }) ≡ with_member m entry (bench a)
+    (a b : Raw) (m : VastModule) (entry : MemberEntry) (ms : List Module) → b ≡ a →
+    map module_record ms ≡ changed_at m.id.index (with_listed_member entry) (map module_record b.modules) →
+    bench (record b { modules = ms }) ≡ with_member m entry (bench a)
 unfolding bench
 bench-member a b m entry ms e q = rw (q, ← e) refl
 
 pub sound-member :
-  (a b : Raw) (m : VastModule) (entry : MemberEntry) (ms : List Module) → b ≡ a →
-  map module_record ms ≡ changed_at m.id.index (with_listed_member entry) (map module_record b.modules) → IsSound b → MemberSound (bench a) entry →
-  IsSound (record b { modules = ms })
+    (a b : Raw) (m : VastModule) (entry : MemberEntry) (ms : List Module) → b ≡ a →
+    map module_record ms ≡ changed_at m.id.index (with_listed_member entry) (map module_record b.modules) → IsSound b → MemberSound (bench a) entry →
+    IsSound (record b { modules = ms })
 sound-member a b m entry ms e q s h =
-  let P : Raw → Type 0 = λ y. RecordsSound (bench y) in
-  record {
-    terms = s.terms;
-    records = rw (bench-member a b m entry ms e q)
-      (RecordsSound-changed (bench a) m.id.index (with_listed_member entry) (λ x k. (k.0, Each-push (MemberSound (bench a)) x.members entry k.1 h)) (subst P e s.records))
-  }
+    let P : Raw → Type 0 = λ y. RecordsSound (bench y) in
+    record {
+      terms = s.terms;
+      records = rw (bench-member a b m entry ms e q)
+          (RecordsSound-changed (bench a) m.id.index (with_listed_member entry) (λ x k. (k.0, Each-push (MemberSound (bench a)) x.members entry k.1 h)) (subst P e s.records));
+    }
 
 -- Nothing that contracts see has changed: vectors may have grown in capacity.
 
 pub bench-same :
-  (a b : Raw) (ts : List Term) (r : ℕ) (ps : List Port) (ms : List Module) → b ≡ a → ts ≡ b.terms → ps ≡ b.ports → map module_record ms ≡ map module_record b.modules →
-  bench (record b { terms = ts; term_room = r; ports = ps; modules = ms }) ≡ bench a
+    (a b : Raw) (ts : List Term) (r : ℕ) (ps : List Port) (ms : List Module) → b ≡ a → ts ≡ b.terms → ps ≡ b.ports → map module_record ms ≡ map module_record b.modules →
+    bench (record b { terms = ts; term_room = r; ports = ps; modules = ms }) ≡ bench a
 unfolding bench
 bench-same a b ts r ps ms e t p m = rw (t, p, m, ← e) refl
 
 pub sound-same :
-  (a b : Raw) (ts : List Term) (r : ℕ) (ps : List Port) (ms : List Module) → b ≡ a → ts ≡ b.terms → ps ≡ b.ports → map module_record ms ≡ map module_record b.modules → IsSound b →
-  IsSound (record b { terms = ts; term_room = r; ports = ps; modules = ms })
+    (a b : Raw) (ts : List Term) (r : ℕ) (ps : List Port) (ms : List Module) → b ≡ a → ts ≡ b.terms → ps ≡ b.ports → map module_record ms ≡ map module_record b.modules → IsSound b →
+    IsSound (record b { terms = ts; term_room = r; ports = ps; modules = ms })
 sound-same a b ts r ps ms e t p m s =
-  let P : Raw → Type 0 = λ y. RecordsSound (bench y) in
-  record { terms = rw t s.terms; records = rw (bench-same a b ts r ps ms e t p m) (subst P e s.records) }
+    let P : Raw → Type 0 = λ y. RecordsSound (bench y) in
+    record { terms = rw t s.terms; records = rw (bench-same a b ts r ps ms e t p m) (subst P e s.records) }
 
 -- A port more: its name, its record, and its place in its module.
 
@@ -224,65 +224,65 @@ Grows-listed b p = record { nodes = Extends-same b.nodes; ports = omega (arith, 
 
 RecordsSound-listed : (b : Bench) (p : PortRecord) → RecordsSound b → PortSound b p → RecordsSound (record b { ports = b.ports ++ p ∷ [] })
 RecordsSound-listed b p s h =
-  let g = Grows-listed b p in
-  let c : Bench = record b { ports = b.ports ++ p ∷ [] } in
-  record {
-    ports = Each-push (PortSound c) b.ports p (Each-map (PortSound-kept b c g) b.ports s.ports) h;
-    assignments = Each-map (AssignmentSound-kept b c g) b.assignments s.assignments;
-    modules = Each-map (ModuleSound-kept b c g) b.modules s.modules;
-    items = Each-map (EntrySound-kept b c g) b.items s.items
-  }
+    let g = Grows-listed b p in
+    let c : Bench = record b { ports = b.ports ++ p ∷ [] } in
+    record {
+      ports = Each-push (PortSound c) b.ports p (Each-map (PortSound-kept b c g) b.ports s.ports) h;
+      assignments = Each-map (AssignmentSound-kept b c g) b.assignments s.assignments;
+      modules = Each-map (ModuleSound-kept b c g) b.modules s.modules;
+      items = Each-map (EntrySound-kept b c g) b.items s.items;
+    }
 
 abbrev name_root : Bench → List ℕ → VastDataType → Root
 name_root b n t = ExprRoot (NameTree n (Typed (type_of b t)))
 
 named-sound :
-  (b : Bench) (n : List ℕ) (t : VastDataType) (d : ModulePortDirection) (k : DataKind) → OwnsType b t →
-  PortSound (with_root b (name_root b n t)) (record { direction = d; kind = k; name = n; data_type = t; logic_ref = next_logic_ref b })
-named-sound b n t d k h =
-  ( HasType-kept b.nodes (with_root b (name_root b n t)).nodes (Extends-root b.nodes (name_root b n t)) t h
-  , record { of_file = refl; of_kind = rw (slice_get-seam b.nodes.roots (name_root b n t)) refl }
-  )
+    (b : Bench) (n : List ℕ) (t : VastDataType) (d : ModulePortDirection) (k : DataKind) → OwnsType b t →
+    PortSound (with_root b (name_root b n t)) (record { direction = d; kind = k; name = n; data_type = t; logic_ref = next_logic_ref b })
+named-sound b n t d k h = (
+  HasType-kept b.nodes (with_root b (name_root b n t)).nodes (Extends-root b.nodes (name_root b n t)) t h,
+  record { of_file = refl; of_kind = rw (slice_get-seam b.nodes.roots (name_root b n t)) refl },
+)
 
 next_port-owned : (b : Bench) (p : PortRecord) → OwnsPort (record b { ports = b.ports ++ p ∷ [] }) (next_port b)
 next_port-owned b p = record { of_file = refl; of_kind = rw (length-append b.ports (p ∷ [])) (last-test (length b.ports)) }
 
 RecordsSound-port :
-  (b : Bench) (m : VastModule) (d : ModulePortDirection) (k : DataKind) (n : List ℕ) (t : VastDataType) → RecordsSound b → OwnsType b t →
-  RecordsSound (with_port m d k n t b)
+    (b : Bench) (m : VastModule) (d : ModulePortDirection) (k : DataKind) (n : List ℕ) (t : VastDataType) → RecordsSound b → OwnsType b t →
+    RecordsSound (with_port m d k n t b)
 RecordsSound-port b m d k n t s h =
-  let p : PortRecord = record { direction = d; kind = k; name = n; data_type = t; logic_ref = next_logic_ref b } in
-  let b1 : Bench = with_root b (name_root b n t) in
-  let b2 : Bench = record b1 { ports = b.ports ++ p ∷ [] } in
-  RecordsSound-changed b2 m.id.index (with_listed_port (next_port b) n)
+    let p : PortRecord = record { direction = d; kind = k; name = n; data_type = t; logic_ref = next_logic_ref b } in
+    let b1 : Bench = with_root b (name_root b n t) in
+    let b2 : Bench = record b1 { ports = b.ports ++ p ∷ [] } in
+    RecordsSound-changed b2 m.id.index (with_listed_port (next_port b) n)
     (λ x q. (Each-push (OwnsPort b2) x.ports (next_port b) q.0 (next_port-owned b1 p), q.1))
     (RecordsSound-listed b1 p (RecordsSound-root b (name_root b n t) s) (named-sound b n t d k h))
 
 pub bench-port :
-  (a b : Raw) (m : VastModule) (d : ModulePortDirection) (k : DataKind) (n : List ℕ) (t : VastDataType) (node : Term) (p : Port)
-  (ts : List Term) (r : ℕ) (ps : List Port) (ms : List Module) → b ≡ a →
-  ts ≡ b.terms ++ node ∷ [] → ps ≡ b.ports ++ p ∷ [] → map module_record ms ≡ changed_at m.id.index (with_listed_port (next_port (bench a)) n) (map module_record b.modules) →
-  term_root (bench a).nodes node ≡ name_root (bench a) n t → port_record p ≡ record { direction = d; kind = k; name = n; data_type = t; logic_ref = next_logic_ref (bench a) } →
-  bench (record b { terms = ts; term_room = r; ports = ps; modules = ms }) ≡ with_port m d k n t (bench a)
+    (a b : Raw) (m : VastModule) (d : ModulePortDirection) (k : DataKind) (n : List ℕ) (t : VastDataType) (node : Term) (p : Port)
+    (ts : List Term) (r : ℕ) (ps : List Port) (ms : List Module) → b ≡ a →
+    ts ≡ b.terms ++ node ∷ [] → ps ≡ b.ports ++ p ∷ [] → map module_record ms ≡ changed_at m.id.index (with_listed_port (next_port (bench a)) n) (map module_record b.modules) →
+    term_root (bench a).nodes node ≡ name_root (bench a) n t → port_record p ≡ record { direction = d; kind = k; name = n; data_type = t; logic_ref = next_logic_ref (bench a) } →
+    bench (record b { terms = ts; term_room = r; ports = ps; modules = ms }) ≡ with_port m d k n t (bench a)
 unfolding bench
 bench-port a b m d k n t node p ts r ps ms e q o w x y =
-  rw (q, o, w, ← e, built-push (no_nodes b.id) b.terms node) (simp map-append (rw (rw (← e) at x, rw (← e) at y) refl))
+    rw (q, o, w, ← e, built-push (no_nodes b.id) b.terms node) (simp map-append (rw (rw (← e) at x, rw (← e) at y) refl))
 
 pub sound-port :
-  (a b : Raw) (m : VastModule) (d : ModulePortDirection) (k : DataKind) (n : List ℕ) (t : VastDataType) (node : Term) (p : Port)
-  (ts : List Term) (r : ℕ) (ps : List Port) (ms : List Module) → b ≡ a →
-  ts ≡ b.terms ++ node ∷ [] → ps ≡ b.ports ++ p ∷ [] → map module_record ms ≡ changed_at m.id.index (with_listed_port (next_port (bench a)) n) (map module_record b.modules) →
-  term_root (bench a).nodes node ≡ name_root (bench a) n t → port_record p ≡ record { direction = d; kind = k; name = n; data_type = t; logic_ref = next_logic_ref (bench a) } →
-  IsSound b → OwnsType (bench a) t → ChildrenHold (OwnsExpr (bench a)) (OwnsType (bench a)) node →
-  IsSound (record b { terms = ts; term_room = r; ports = ps; modules = ms })
+    (a b : Raw) (m : VastModule) (d : ModulePortDirection) (k : DataKind) (n : List ℕ) (t : VastDataType) (node : Term) (p : Port)
+    (ts : List Term) (r : ℕ) (ps : List Port) (ms : List Module) → b ≡ a →
+    ts ≡ b.terms ++ node ∷ [] → ps ≡ b.ports ++ p ∷ [] → map module_record ms ≡ changed_at m.id.index (with_listed_port (next_port (bench a)) n) (map module_record b.modules) →
+    term_root (bench a).nodes node ≡ name_root (bench a) n t → port_record p ≡ record { direction = d; kind = k; name = n; data_type = t; logic_ref = next_logic_ref (bench a) } →
+    IsSound b → OwnsType (bench a) t → ChildrenHold (OwnsExpr (bench a)) (OwnsType (bench a)) node →
+    IsSound (record b { terms = ts; term_room = r; ports = ps; modules = ms })
 sound-port a b m d k n t node p ts r ps ms e q o w x y s h c =
-  let P : Raw → Type 0 = λ z. RecordsSound (bench z) in
-  let C : Raw → Type 0 = λ z. ChildrenHold (OwnsExpr (bench z)) (OwnsType (bench z)) node in
-  let F : Raw → Type 0 = λ z. RootFits (term_root (bench z).nodes node) in
-  record {
-    terms = rw q (terms-term b node s.terms (subst C (sym e) c) (subst F (sym e) (subst RootFits (sym x) tt)));
-    records = rw (bench-port a b m d k n t node p ts r ps ms e q o w x y) (RecordsSound-port (bench a) m d k n t (subst P e s.records) h)
-  }
+    let P : Raw → Type 0 = λ z. RecordsSound (bench z) in
+    let C : Raw → Type 0 = λ z. ChildrenHold (OwnsExpr (bench z)) (OwnsType (bench z)) node in
+    let F : Raw → Type 0 = λ z. RootFits (term_root (bench z).nodes node) in
+    record {
+      terms = rw q (terms-term b node s.terms (subst C (sym e) c) (subst F (sym e) (subst RootFits (sym x) tt)));
+      records = rw (bench-port a b m d k n t node p ts r ps ms e q o w x y) (RecordsSound-port (bench a) m d k n t (subst P e s.records) h);
+    }
 
 -- The answer of a call whose memory was refused.
 pub refused : {A : Type 0} (old new : Bench) (r : Result A AllocError) (answer : A) (after : Bench) → IsErr r → new ≡ old → Builds old new r answer after

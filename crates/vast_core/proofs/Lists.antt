@@ -33,21 +33,21 @@ slice_get-past (y ∷ xs) (suc i) past = slice_get-past xs i (omega arith)
 -- Changing one element.
 
 pub changed-map :
-  {A B : Type 0} (v : A → B) (f : B → B) (xs : List A) (i : ℕ) (x y : A) →
-  i < length xs →
-  x ≡ get_or xs i x →
-  v y ≡ f (v x) →
-  map v (set xs i y) ≡ changed_at i f (map v xs)
+    {A B : Type 0} (v : A → B) (f : B → B) (xs : List A) (i : ℕ) (x y : A) →
+    i < length xs →
+    x ≡ get_or xs i x →
+    v y ≡ f (v x) →
+    map v (set xs i y) ≡ changed_at i f (map v xs)
 changed-map v f [] i x y below is e = absurd (omega arith)
 changed-map v f (z ∷ xs) zero x y below is e = cc
 changed-map v f (z ∷ xs) (suc i) x y below is e = ap (λ r. v z ∷ r) (changed-map v f xs i x y (omega arith) is e)
 
 pub unchanged-map :
-  {A B : Type 0} (v : A → B) (xs : List A) (i : ℕ) (x y : A) →
-  i < length xs →
-  x ≡ get_or xs i x →
-  v y ≡ v x →
-  map v (set xs i y) ≡ map v xs
+    {A B : Type 0} (v : A → B) (xs : List A) (i : ℕ) (x y : A) →
+    i < length xs →
+    x ≡ get_or xs i x →
+    v y ≡ v x →
+    map v (set xs i y) ≡ map v xs
 unchanged-map v [] i x y below is e = absurd (omega arith)
 unchanged-map v (z ∷ xs) zero x y below is e = cc
 unchanged-map v (z ∷ xs) (suc i) x y below is e = ap (λ r. v z ∷ r) (unchanged-map v xs i x y (omega arith) is e)

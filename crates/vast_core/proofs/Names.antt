@@ -17,17 +17,17 @@ use Rattle.vast_core.proofs.Lists.{All-cons, All-head, All-tail}
 
 -- The texts of a set's strings, with one string more.
 insert-case :
-  (x name : String Global) (xs : List (String Global)) (o : Ordering) →
-  slice_cmp nat_cmp (string_bytes name) (string_bytes x) ≡ o →
-  map string_bytes (insert_key string_cmp xs name) ≡ with_name (string_bytes name) (map string_bytes xs) →
-  map string_bytes (insert_key string_cmp (x ∷ xs) name) ≡ with_name (string_bytes name) (map string_bytes (x ∷ xs))
+    (x name : String Global) (xs : List (String Global)) (o : Ordering) →
+    slice_cmp nat_cmp (string_bytes name) (string_bytes x) ≡ o →
+    map string_bytes (insert_key string_cmp xs name) ≡ with_name (string_bytes name) (map string_bytes xs) →
+    map string_bytes (insert_key string_cmp (x ∷ xs) name) ≡ with_name (string_bytes name) (map string_bytes (x ∷ xs))
 insert-case x name xs Less e h = rw e refl
 insert-case x name xs Equal e h = rw e refl
 insert-case x name xs Greater e h = rw e (ap (λ r. string_bytes x ∷ r) h)
 
 pub map-insert_key :
-  (names : List (String Global)) (name : String Global) →
-  map string_bytes (insert_key string_cmp names name) ≡ with_name (string_bytes name) (map string_bytes names)
+    (names : List (String Global)) (name : String Global) →
+    map string_bytes (insert_key string_cmp names name) ≡ with_name (string_bytes name) (map string_bytes names)
 map-insert_key [] name = refl
 map-insert_key (x ∷ xs) name = insert-case x name xs (slice_cmp nat_cmp (string_bytes name) (string_bytes x)) refl (map-insert_key xs name)
 
@@ -64,14 +64,14 @@ not-true false h = refl
 free-from : (bytes : List ℕ) (names : List (String Global)) → is_taken bytes names ≡ false → IsFree bytes (map string_bytes names)
 free-from bytes [] h = λ k d below. absurd (omega arith)
 free-from bytes (x ∷ xs) h =
-  let other : (string_bytes x ≡ bytes) → ⊥ = λ e. true-not-false (sym (test-same bytes (string_bytes x) e) ∙ or-left (is_eq (slice_cmp nat_cmp bytes (string_bytes x))) (is_taken bytes xs) h)
-  in All-cons (λ taken. taken ≢ bytes) (string_bytes x) (map string_bytes xs) other (free-from bytes xs (or-right (is_eq (slice_cmp nat_cmp bytes (string_bytes x))) (is_taken bytes xs) h))
+    let other : (string_bytes x ≡ bytes) → ⊥ = λ e. true-not-false (sym (test-same bytes (string_bytes x) e) ∙ or-left (is_eq (slice_cmp nat_cmp bytes (string_bytes x))) (is_taken bytes xs) h)
+    in All-cons (λ taken. taken ≢ bytes) (string_bytes x) (map string_bytes xs) other (free-from bytes xs (or-right (is_eq (slice_cmp nat_cmp bytes (string_bytes x))) (is_taken bytes xs) h))
 
 free-to : (bytes : List ℕ) (names : List (String Global)) → IsFree bytes (map string_bytes names) → is_taken bytes names ≡ false
 free-to bytes [] h = refl
 free-to bytes (x ∷ xs) h =
-  let P : List ℕ → Type 0 = λ taken. taken ≢ bytes in
-  or-both (is_eq (slice_cmp nat_cmp bytes (string_bytes x))) (is_taken bytes xs)
+    let P : List ℕ → Type 0 = λ taken. taken ≢ bytes in
+    or-both (is_eq (slice_cmp nat_cmp bytes (string_bytes x))) (is_taken bytes xs)
     (not-true (is_eq (slice_cmp nat_cmp bytes (string_bytes x))) (λ e. All-head P (string_bytes x) (map string_bytes xs) h (test-equal bytes (string_bytes x) e)))
     (free-to bytes xs (All-tail P (string_bytes x) (map string_bytes xs) h))
 
@@ -84,7 +84,7 @@ not-of-false true h = cc
 not-of-false false h = refl
 
 pub free-test : (bytes : List ℕ) (names : List (String Global)) (b : Bool) → b ≡ is_taken bytes names → IsTrue (not b) ↔ IsFree bytes (map string_bytes names)
-free-test bytes names b e =
-  ( λ h. free-from bytes names (sym e ∙ false-of-not b h)
-  , λ h. not-of-false b (e ∙ free-to bytes names h)
-  )
+free-test bytes names b e = (
+  λ h. free-from bytes names (sym e ∙ false-of-not b h),
+  λ h. not-of-false b (e ∙ free-to bytes names h),
+)

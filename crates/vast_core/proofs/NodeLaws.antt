@@ -24,11 +24,11 @@ built-push b [] t = refl
 built-push b (u ∷ ts) t = built-push (with_root b (term_root b u)) ts t
 
 pub TermsSound-push :
-  (b : Nodes) (ts : List Term) (t : Term) →
-  TermsSound b ts →
-  ChildrenHold (HasExpr (built b ts)) (HasType (built b ts)) t →
-  RootFits (term_root (built b ts) t) →
-  TermsSound b (ts ++ t ∷ [])
+    (b : Nodes) (ts : List Term) (t : Term) →
+    TermsSound b ts →
+    ChildrenHold (HasExpr (built b ts)) (HasType (built b ts)) t →
+    RootFits (term_root (built b ts) t) →
+    TermsSound b (ts ++ t ∷ [])
 unfolding built TermsSound
 TermsSound-push b [] t s h f = (h, f, tt)
 TermsSound-push b (u ∷ ts) t s h f = (s.0, s.1, TermsSound-push (with_root b (term_root b u)) ts t s.2 h f)
@@ -42,7 +42,7 @@ pub built-length : (b : Nodes) (ts : List Term) → length (built b ts).roots �
 unfolding built
 built-length b [] = omega arith
 built-length b (u ∷ ts) =
-  omega (arith, built-length (with_root b (term_root b u)) ts, length-append b.roots (term_root b u ∷ []))
+    omega (arith, built-length (with_root b (term_root b u)) ts, length-append b.roots (term_root b u ∷ []))
 
 -- c has all that b has.
 
@@ -60,11 +60,11 @@ pub Extends-built : (b : Nodes) (ts : List Term) → Extends b (built b ts)
 unfolding built
 Extends-built b [] = Extends-same b
 Extends-built b (t ∷ ts) =
-  let e : Extends (with_root b (term_root b t)) (built (with_root b (term_root b t)) ts) = Extends-built (with_root b (term_root b t)) ts
-  in record {
-    same_id = e.same_id;
-    same_roots = λ i r h. e.same_roots i r (slice_get-append b.roots (term_root b t ∷ []) i r h)
-  }
+    let e : Extends (with_root b (term_root b t)) (built (with_root b (term_root b t)) ts) = Extends-built (with_root b (term_root b t)) ts
+    in record {
+      same_id = e.same_id;
+      same_roots = λ i r h. e.same_roots i r (slice_get-append b.roots (term_root b t ∷ []) i r h);
+    }
 
 -- Handles stay good.
 
@@ -85,46 +85,46 @@ has_shape shape (Some (TypeRoot t)) h = cc
 
 pub HasExpr-kept : (b c : Nodes) → Extends b c → (e : Expr) → HasExpr b e → HasExpr c e
 HasExpr-kept b c x e h =
-  let w = has_expr (slice_get b.roots e.id.index) h.of_kind
-  in record {
-    of_file = h.of_file ∙ sym x.same_id;
-    of_kind = rw (x.same_roots e.id.index (ExprRoot w.0) w.1) refl
-  }
+    let w = has_expr (slice_get b.roots e.id.index) h.of_kind
+    in record {
+      of_file = h.of_file ∙ sym x.same_id;
+      of_kind = rw (x.same_roots e.id.index (ExprRoot w.0) w.1) refl;
+    }
 
 pub HasType-kept : (b c : Nodes) → Extends b c → (t : VastDataType) → HasType b t → HasType c t
 HasType-kept b c x t h =
-  let w = has_type (slice_get b.roots t.id.index) h.of_kind
-  in record {
-    of_file = h.of_file ∙ sym x.same_id;
-    of_kind = rw (x.same_roots t.id.index (TypeRoot w.0) w.1) refl
-  }
+    let w = has_type (slice_get b.roots t.id.index) h.of_kind
+    in record {
+      of_file = h.of_file ∙ sym x.same_id;
+      of_kind = rw (x.same_roots t.id.index (TypeRoot w.0) w.1) refl;
+    }
 
 pub shape-kept : (shape : ExprTree → Bool) (b c : Nodes) → Extends b c → (i : ℕ) → IsTrue (is_root_of shape (slice_get b.roots i)) → IsTrue (is_root_of shape (slice_get c.roots i))
 shape-kept shape b c x i h =
-  let w = has_shape shape (slice_get b.roots i) h
-  in rw (x.same_roots i (ExprRoot w.0) w.1) w.2
+    let w = has_shape shape (slice_get b.roots i) h
+    in rw (x.same_roots i (ExprRoot w.0) w.1) w.2
 
 pub expr_in-kept : (b c : Nodes) → Extends b c → (e : Expr) → HasExpr b e → expr_in c e ≡ expr_in b e
 unfolding expr_in
 expr_in-kept b c x e h =
-  let w = has_expr (slice_get b.roots e.id.index) h.of_kind
-  in ap expr_of_root (x.same_roots e.id.index (ExprRoot w.0) w.1 ∙ sym w.1)
+    let w = has_expr (slice_get b.roots e.id.index) h.of_kind
+    in ap expr_of_root (x.same_roots e.id.index (ExprRoot w.0) w.1 ∙ sym w.1)
 
 pub type_in-kept : (b c : Nodes) → Extends b c → (t : VastDataType) → HasType b t → type_in c t ≡ type_in b t
 unfolding type_in
 type_in-kept b c x t h =
-  let w = has_type (slice_get b.roots t.id.index) h.of_kind
-  in ap type_of_root (x.same_roots t.id.index (TypeRoot w.0) w.1 ∙ sym w.1)
+    let w = has_type (slice_get b.roots t.id.index) h.of_kind
+    in ap type_of_root (x.same_roots t.id.index (TypeRoot w.0) w.1 ∙ sym w.1)
 
 rank-below : (b : Nodes) (e : Expr) → HasExpr b e → rank e < length b.roots
 rank-below b e h =
-  let w = has_expr (slice_get b.roots e.id.index) h.of_kind
-  in slice_get_within b.roots e.id.index (ExprRoot w.0) w.1
+    let w = has_expr (slice_get b.roots e.id.index) h.of_kind
+    in slice_get_within b.roots e.id.index (ExprRoot w.0) w.1
 
 type_rank-below : (b : Nodes) (t : VastDataType) → HasType b t → type_rank t < length b.roots
 type_rank-below b t h =
-  let w = has_type (slice_get b.roots t.id.index) h.of_kind
-  in slice_get_within b.roots t.id.index (TypeRoot w.0) w.1
+    let w = has_type (slice_get b.roots t.id.index) h.of_kind
+    in slice_get_within b.roots t.id.index (TypeRoot w.0) w.1
 
 -- Children.
 
@@ -133,12 +133,12 @@ OptionHolds-map f None h = tt
 OptionHolds-map f (Some x) h = f x h
 
 expr_children-map :
-  {P P2 : Expr → Type 0} {Q Q2 : VastDataType → Type 0} →
-  ((e : Expr) → P e → P2 e) →
-  ((t : VastDataType) → Q t → Q2 t) →
-  (n : ExprNode) →
-  ExprChildrenHold P Q n →
-  ExprChildrenHold P2 Q2 n
+    {P P2 : Expr → Type 0} {Q Q2 : VastDataType → Type 0} →
+    ((e : Expr) → P e → P2 e) →
+    ((t : VastDataType) → Q t → Q2 t) →
+    (n : ExprNode) →
+    ExprChildrenHold P Q n →
+    ExprChildrenHold P2 Q2 n
 expr_children-map f g (Name name type) h = OptionHolds-map g type h
 expr_children-map f g (Literal text value) h = tt
 expr_children-map f g (StringText text) h = tt
@@ -158,12 +158,12 @@ expr_children-map f g (Macro name arguments) h = OptionHolds-map (λ parts. All-
 expr_children-map f g (Call name arguments) h = All-implies f arguments.items h
 
 type_children-map :
-  {P P2 : Expr → Type 0} {Q Q2 : VastDataType → Type 0} →
-  ((e : Expr) → P e → P2 e) →
-  ((t : VastDataType) → Q t → Q2 t) →
-  (n : TypeNode) →
-  TypeChildrenHold P Q n →
-  TypeChildrenHold P2 Q2 n
+    {P P2 : Expr → Type 0} {Q Q2 : VastDataType → Type 0} →
+    ((e : Expr) → P e → P2 e) →
+    ((t : VastDataType) → Q t → Q2 t) →
+    (n : TypeNode) →
+    TypeChildrenHold P Q n →
+    TypeChildrenHold P2 Q2 n
 type_children-map f g (Scalar signed) h = tt
 type_children-map f g (Vector width value signed) h = f width h
 type_children-map f g (Integer signed) h = tt
@@ -174,12 +174,12 @@ type_children-map f g (Packed element dimensions) h = g element h
 type_children-map f g (Unpacked element dimensions) h = g element h
 
 children-map :
-  {P P2 : Expr → Type 0} {Q Q2 : VastDataType → Type 0} →
-  ((e : Expr) → P e → P2 e) →
-  ((t : VastDataType) → Q t → Q2 t) →
-  (n : Term) →
-  ChildrenHold P Q n →
-  ChildrenHold P2 Q2 n
+    {P P2 : Expr → Type 0} {Q Q2 : VastDataType → Type 0} →
+    ((e : Expr) → P e → P2 e) →
+    ((t : VastDataType) → Q t → Q2 t) →
+    (n : Term) →
+    ChildrenHold P Q n →
+    ChildrenHold P2 Q2 n
 children-map f g (Expression n) h = expr_children-map f g n h
 children-map f g (DataType n) h = type_children-map f g n h
 
@@ -234,14 +234,14 @@ term_root-kept b c x (DataType n) h = ap TypeRoot (type_tree-kept b c x n h)
 expr-well_formed : (b : Nodes) → Each RootWellFormed b.roots → (e : Expr) → HasExpr b e → ExprWellFormed (expr_in b e)
 unfolding expr_in
 expr-well_formed b w e h =
-  let r = has_expr (slice_get b.roots e.id.index) h.of_kind
-  in rw r.1 (Each-get RootWellFormed b.roots e.id.index (ExprRoot r.0) w r.1)
+    let r = has_expr (slice_get b.roots e.id.index) h.of_kind
+    in rw r.1 (Each-get RootWellFormed b.roots e.id.index (ExprRoot r.0) w r.1)
 
 type-well_formed : (b : Nodes) → Each RootWellFormed b.roots → (t : VastDataType) → HasType b t → TypeWellFormed (type_in b t)
 unfolding type_in
 type-well_formed b w t h =
-  let r = has_type (slice_get b.roots t.id.index) h.of_kind
-  in rw r.1 (Each-get RootWellFormed b.roots t.id.index (TypeRoot r.0) w r.1)
+    let r = has_type (slice_get b.roots t.id.index) h.of_kind
+    in rw r.1 (Each-get RootWellFormed b.roots t.id.index (TypeRoot r.0) w r.1)
 
 maybe_type-well_formed : (b : Nodes) (o : Option VastDataType) → OptionHolds (λ t. TypeWellFormed (type_in b t)) o → MaybeTypeWellFormed (maybe_type_in b o)
 maybe_type-well_formed b None h = tt
@@ -254,8 +254,8 @@ maybe_expr-well_formed b (Some e) h = h
 exprs-well_formed : (b : Nodes) (es : List Expr) → All (λ e. ExprWellFormed (expr_in b e)) es → ExprsWellFormed (exprs_in b es)
 exprs-well_formed b [] h = tt
 exprs-well_formed b (e ∷ es) h =
-  let P : Expr → Type 0 = λ x. ExprWellFormed (expr_in b x)
-  in (All-head P e es h, exprs-well_formed b es (All-tail P e es h))
+    let P : Expr → Type 0 = λ x. ExprWellFormed (expr_in b x)
+    in (All-head P e es h, exprs-well_formed b es (All-tail P e es h))
 
 expr_node-well_formed : (b : Nodes) (n : ExprNode) → ExprChildrenHold (λ e. ExprWellFormed (expr_in b e)) (λ t. TypeWellFormed (type_in b t)) n → ExprFits (expr_tree b n) → ExprWellFormed (expr_tree b n)
 expr_node-well_formed b (Name name type) h f = maybe_type-well_formed b type h
@@ -297,27 +297,27 @@ node_at : (b : Nodes) (ts : List Term) (i n : ℕ) (t : Term) → Each RootWellF
 unfolding built TermsSound
 node_at b [] i n t w s h q = cc
 node_at b (u ∷ ts) zero n t w s h q =
-  let c : Nodes = built (with_root b (term_root b u)) ts in
-  let same : t ≡ u = cc in
-  let x : Extends b c = Extends-built b (u ∷ ts) in
-  let at : n ≡ length b.roots = omega arith in
-  let kept : term_root c u ≡ term_root b u = term_root-kept b c x u s.0 in
-  rw (at, same)
-  (record {
-    root = (Extends-built (with_root b (term_root b u)) ts).same_roots (length b.roots) (term_root b u) (slice_get-seam b.roots (term_root b u)) ∙ ap Some (sym kept);
-    owned = children-map (HasExpr-kept b c x) (HasType-kept b c x) u s.0;
-    older = children-map (rank-below b) (type_rank-below b) u s.0;
-    well_formed = subst RootWellFormed (sym kept) (node-well_formed b u w s.0 s.1)
-  })
+    let c : Nodes = built (with_root b (term_root b u)) ts in
+    let same : t ≡ u = cc in
+    let x : Extends b c = Extends-built b (u ∷ ts) in
+    let at : n ≡ length b.roots = omega arith in
+    let kept : term_root c u ≡ term_root b u = term_root-kept b c x u s.0 in
+    rw (at, same)
+    (record {
+      root = (Extends-built (with_root b (term_root b u)) ts).same_roots (length b.roots) (term_root b u) (slice_get-seam b.roots (term_root b u)) ∙ ap Some (sym kept);
+      owned = children-map (HasExpr-kept b c x) (HasType-kept b c x) u s.0;
+      older = children-map (rank-below b) (type_rank-below b) u s.0;
+      well_formed = subst RootWellFormed (sym kept) (node-well_formed b u w s.0 s.1);
+    })
 node_at b (u ∷ ts) (suc i) n t w s h q =
-  node_at (with_root b (term_root b u)) ts i n t (Each-push RootWellFormed b.roots (term_root b u) w (node-well_formed b u w s.0 s.1)) s.2 h (omega (arith, length-append b.roots (term_root b u ∷ [])))
+    node_at (with_root b (term_root b u)) ts i n t (Each-push RootWellFormed b.roots (term_root b u) w (node-well_formed b u w s.0 s.1)) s.2 h (omega (arith, length-append b.roots (term_root b u ∷ [])))
 
 pub at_some :
-  (id : ℕ) (ts : List Term) (i : ℕ) (t : Term) →
-  TermsSound (no_nodes id) ts →
-  i < length ts →
-  t ≡ get_or ts i t →
-  IsNodeAt (built (no_nodes id) ts) i t
+    (id : ℕ) (ts : List Term) (i : ℕ) (t : Term) →
+    TermsSound (no_nodes id) ts →
+    i < length ts →
+    t ≡ get_or ts i t →
+    IsNodeAt (built (no_nodes id) ts) i t
 at_some id ts i t s below q = node_at (no_nodes id) ts i i t tt s (slice_get_read ts (length ts) i t refl below q) (omega arith)
 
 pub at_none : (id : ℕ) (ts : List Term) (i : ℕ) → length ts ≤ i → slice_get (built (no_nodes id) ts).roots i ≡ None

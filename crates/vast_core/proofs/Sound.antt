@@ -34,21 +34,21 @@ OwnsPort-kept : (b c : Bench) → Grows b c → (p : ModulePort) → OwnsPort b 
 OwnsPort-kept b c g p h = record { of_file = h.of_file ∙ sym g.nodes.same_id; of_kind = within p.id.index (length b.ports) (length c.ports) g.ports h.of_kind }
 
 pub PortSound-kept : (b c : Bench) → Grows b c → (p : PortRecord) → PortSound b p → PortSound c p
-PortSound-kept b c g p h =
-  ( HasType-kept b.nodes c.nodes g.nodes p.data_type h.0
-  , record { of_file = h.1.of_file ∙ sym g.nodes.same_id; of_kind = shape-kept is_name b.nodes c.nodes g.nodes p.logic_ref.id.index h.1.of_kind }
-  )
+PortSound-kept b c g p h = (
+  HasType-kept b.nodes c.nodes g.nodes p.data_type h.0,
+  record { of_file = h.1.of_file ∙ sym g.nodes.same_id; of_kind = shape-kept is_name b.nodes c.nodes g.nodes p.logic_ref.id.index h.1.of_kind },
+)
 
 pub AssignmentSound-kept : (b c : Bench) → Grows b c → (a : Assignment) → AssignmentSound b a → AssignmentSound c a
 AssignmentSound-kept b c g a h = (HasExpr-kept b.nodes c.nodes g.nodes a.lhs h.0, HasExpr-kept b.nodes c.nodes g.nodes a.rhs h.1)
 
 pub MemberSound-kept : (b c : Bench) → Grows b c → (m : MemberEntry) → MemberSound b m → MemberSound c m
 MemberSound-kept b c g (AssignmentEntry a) h =
-  let w = has_assignment (slice_get b.assignments a.id.index) h.of_kind
-  in record {
-    of_file = h.of_file ∙ sym g.nodes.same_id;
-    of_kind = rw (g.assignments a.id.index w.0 w.1 ∙ sym w.1) h.of_kind
-  }
+    let w = has_assignment (slice_get b.assignments a.id.index) h.of_kind
+    in record {
+      of_file = h.of_file ∙ sym g.nodes.same_id;
+      of_kind = rw (g.assignments a.id.index w.0 w.1 ∙ sym w.1) h.of_kind;
+    }
 
 pub ModuleSound-kept : (b c : Bench) → Grows b c → (m : ModuleRecord) → ModuleSound b m → ModuleSound c m
 ModuleSound-kept b c g m h = (Each-map (OwnsPort-kept b c g) m.ports h.0, Each-map (MemberSound-kept b c g) m.members h.1)

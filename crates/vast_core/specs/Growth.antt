@@ -77,7 +77,7 @@ decimal_literal value = known_literal (signed_decimal value) value
 -- A bit select by a number: a literal of the index, and the select.
 abbrev pub with_fixed_index : IndexableExpr → List ℕ → ℤ → Bench → Bench
 with_fixed_index subject text index b =
-  with_expr (with_expr b (known_literal text index)) (IndexTree (tree_of b (indexable_expr_to_expr subject)) (known_literal text index))
+    with_expr (with_expr b (known_literal text index)) (IndexTree (tree_of b (indexable_expr_to_expr subject)) (known_literal text index))
 
 abbrev pub next_fixed_index : List ℕ → ℤ → Bench → Index
 next_fixed_index text index b = next_index (with_expr b (known_literal text index))
@@ -88,7 +88,7 @@ with_bounds high_text high low_text low b = with_expr (with_expr b (known_litera
 
 abbrev pub with_fixed_slice : IndexableExpr → List ℕ → ℤ → List ℕ → ℤ → Bench → Bench
 with_fixed_slice subject high_text high low_text low b =
-  with_expr (with_bounds high_text high low_text low b) (SliceTree (tree_of b (indexable_expr_to_expr subject)) (known_literal high_text high) (known_literal low_text low))
+    with_expr (with_bounds high_text high low_text low b) (SliceTree (tree_of b (indexable_expr_to_expr subject)) (known_literal high_text high) (known_literal low_text low))
 
 abbrev pub next_fixed_slice : List ℕ → ℤ → List ℕ → ℤ → Bench → Slice
 next_fixed_slice high_text high low_text low b = next_slice (with_bounds high_text high low_text low b)
@@ -117,11 +117,11 @@ with_module name b = record b { modules = b.modules ++ new_module name ∷ []; i
 -- A port more: its name as an expression, its record, and its place at the end of the module's ports.
 abbrev pub with_port : VastModule → ModulePortDirection → DataKind → List ℕ → VastDataType → Bench → Bench
 with_port m direction kind name data_type b =
-  record b {
-    nodes = with_node b.nodes (ExprRoot (NameTree name (Typed (type_of b data_type))));
-    ports = b.ports ++ record { direction = direction; kind = kind; name = name; data_type = data_type; logic_ref = next_logic_ref b } ∷ [];
-    modules = changed_at (module_index m) (with_listed_port (next_port b) name) b.modules
-  }
+    record b {
+      nodes = with_node b.nodes (ExprRoot (NameTree name (Typed (type_of b data_type))));
+      ports = b.ports ++ record { direction = direction; kind = kind; name = name; data_type = data_type; logic_ref = next_logic_ref b } ∷ [];
+      modules = changed_at (module_index m) (with_listed_port (next_port b) name) b.modules;
+    }
 
 abbrev pub with_assignment : Assignment → Bench → Bench
 with_assignment a b = record b { assignments = b.assignments ++ a ∷ [] }

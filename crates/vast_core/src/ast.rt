@@ -5,8 +5,10 @@ ghost use Rattle.vast_core.specs.Bench.{start};
 ghost use Rattle.vast_core.specs.View.{bench};
 
 use crate::kind::VastFileType;
-use crate::node::{AlwaysBlock, Artifact, Assignment, Definition, FileItem, Function, Instance};
-use crate::node::{Module, Nest, Port, Term};
+use crate::node::{
+    AlwaysBlock, Artifact, Assignment, Definition, FileItem, Function, Instance, Module, Nest,
+    Port, Term,
+};
 use std::alloc::Global;
 use std::marker::Model;
 

@@ -1,7 +1,9 @@
 //! Nodes: what the arenas of a file hold, with handles in the place of children.
 
-use crate::handle::{CaseStatement, Conditional, ContinuousAssignment, Expr, LogicRef, MacroRef};
-use crate::handle::{ModulePort, VastDataType, VastModule, VastStatement, VastStatementBlock};
+use crate::handle::{
+    CaseStatement, Conditional, ContinuousAssignment, Expr, LogicRef, MacroRef, ModulePort,
+    VastDataType, VastModule, VastStatement, VastStatementBlock,
+};
 use crate::kind::{AlwaysKind, DataKind, ModulePortDirection};
 use crate::operator::{BinaryOperator, UnaryOperator};
 use std::collections::BTreeSet;

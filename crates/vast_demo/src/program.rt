@@ -102,7 +102,8 @@ mod tests {
         let status = run(alloc, &["passthrough"], &mut NoInput, &mut out, &mut err);
         assert_eq!(rt; status, 0);
         assert!(rt; err.is_empty());
-        let text = "module passthrough(\n  input wire [7:0] input_data,\n  output wire [7:0] output_data\n);\n  assign output_data = input_data;\nendmodule\n";
+        let text =
+            "module passthrough(\n  input wire [7:0] input_data,\n  output wire [7:0] output_data\n);\n  assign output_data = input_data;\nendmodule\n";
         assert!(rt; out.as_slice() == text.as_bytes());
     }
 
@@ -127,7 +128,13 @@ mod tests {
         let status = run(alloc, &["passthrough"], &mut NoInput, &mut Closed, &mut err);
         assert_eq!(rt; status, 1);
         assert!(rt; err.as_slice() == "write fault\n".as_bytes());
-        let status = run(alloc, &["passthrough"], &mut NoInput, &mut Closed, &mut Closed);
+        let status = run(
+            alloc,
+            &["passthrough"],
+            &mut NoInput,
+            &mut Closed,
+            &mut Closed,
+        );
         assert_eq!(rt; status, 1);
     }
 }

@@ -71,8 +71,8 @@ pub members-end : (dialect : Dialect) (b : Bench) (d : ℕ) (k : Ink) (ms : List
 members-end dialect b d k ms i h = ap (λ x. hang d k (members_page dialect (members_tree b (map member_entry x)))) (drop_all i ms h) ∙ hang-members-none d k dialect
 
 pub members-step :
-  (dialect : Dialect) (b : Bench) (d : ℕ) (k : Ink) (ms : List Member) (i : ℕ) (m : Member) → i < length ms → m ≡ get_or ms i m →
-  hang d k (members_page dialect (members_tree b (map member_entry (drop i ms)))) ≡ hang d (hang d k (member_page dialect (member_tree b (member_entry m)))) (members_page dialect (members_tree b (map member_entry (drop (i + 1) ms))))
+    (dialect : Dialect) (b : Bench) (d : ℕ) (k : Ink) (ms : List Member) (i : ℕ) (m : Member) → i < length ms → m ≡ get_or ms i m →
+    hang d k (members_page dialect (members_tree b (map member_entry (drop i ms)))) ≡ hang d (hang d k (member_page dialect (member_tree b (member_entry m)))) (members_page dialect (members_tree b (map member_entry (drop (i + 1) ms))))
 members-step dialect b d k [] i m h e = absurd (omega arith)
 members-step dialect b d k (x ∷ ms) zero m h e = rw e (hang-members d k dialect (member_tree b (member_entry x)) (members_tree b (map member_entry ms)))
 members-step dialect b d k (x ∷ ms) (suc i) m h e = rw add-one (rw add-one at (members-step dialect b d k ms i m (omega arith) e))
@@ -86,13 +86,13 @@ hang-body-empty dialect b d k [] h = hang-body-none d k dialect
 hang-body-empty dialect b d k (m ∷ ms) h = absurd (omega arith)
 
 pub hang-header-empty : (dialect : Dialect) (v : ModulePort → PortTree) (d : ℕ) (k : Ink) (name : List ℕ) (ps : List ModulePort) → length ps ≡ 0 →
-  hang d k (header_page dialect name [] (map v ps)) ≡ word (pour d (word (next d k) (codes "module ")) (written (plain_text name))) (codes ";")
+    hang d k (header_page dialect name [] (map v ps)) ≡ word (pour d (word (next d k) (codes "module ")) (written (plain_text name))) (codes ";")
 hang-header-empty dialect v d k name [] h = hang-header-bare d k dialect name
 hang-header-empty dialect v d k name (p ∷ ps) h = absurd (omega arith)
 
 pub hang-header-some : (dialect : Dialect) (v : ModulePort → PortTree) (d : ℕ) (k : Ink) (name : List ℕ) (ps : List ModulePort) → 0 < length ps →
-  hang d k (header_page dialect name [] (map v ps))
-  ≡ word (next d (hang d (word (pour d (word (next d k) (codes "module ")) (written (plain_text name))) (codes "(")) (ports_page dialect (map v ps)))) (codes ");")
+    hang d k (header_page dialect name [] (map v ps))
+    ≡ word (next d (hang d (word (pour d (word (next d k) (codes "module ")) (written (plain_text name))) (codes "(")) (ports_page dialect (map v ps)))) (codes ");")
 hang-header-some dialect v d k name [] h = absurd (omega arith)
 hang-header-some dialect v d k name (p ∷ ps) h = hang-header-ports d k dialect name (map v (p ∷ ps)) (omega arith)
 
@@ -117,17 +117,17 @@ pub emits-line : (p : Printed) (k : Draft) (text : List ℕ) → pour 0 (next 0 
 emits-line p k text h e = let w = line-text p k h in (w.0, e ∙ w.1)
 
 refuses : (text : List ℕ) (fault : Option Refusal) (ink : Ink) (new : Draft) (f : PrintFault) (answer : VastFault) →
-  ((r : Refusal) → ink ≡ Stopped r → fault ≡ Some r) → Writes ink new (Err f) → Faults f answer → Answers text fault (Err answer)
+    ((r : Refusal) → ink ≡ Stopped r → fault ≡ Some r) → Writes ink new (Err f) → Faults f answer → Answers text fault (Err answer)
 refuses text fault ink new (Refused r) (RefusedBy e) k w h = rw (k r w) (ap Some (sym h))
 refuses text fault ink new Memory (RefusedBy e) k w h = absurd h
 refuses text fault ink new f (NoMemory e) k w h = tt
 
 pub refuses-page : (p : Page) (start new : Draft) (f : PrintFault) (answer : VastFault) → start ≡ unwritten → Writes (hang 0 (Wet start) p) new (Err f) → Faults f answer → Answers (print p) p.fault (Err answer)
 refuses-page p start new f answer e w h =
-  let W : Draft → Type 0 = λ k. Writes (hang 0 (Wet k) p) new (Err f) in
-  refuses (print p) p.fault (hang 0 (Wet unwritten) p) new f answer (whole-fault p) (subst W e w) h
+    let W : Draft → Type 0 = λ k. Writes (hang 0 (Wet k) p) new (Err f) in
+    refuses (print p) p.fault (hang 0 (Wet unwritten) p) new f answer (whole-fault p) (subst W e w) h
 
 pub refuses-line : (p : Printed) (start new : Draft) (f : PrintFault) (answer : VastFault) → start ≡ unwritten → Writes (pour 0 (next 0 (Wet start)) (written p)) new (Err f) → Faults f answer → Answers p.text p.fault (Err answer)
 refuses-line p start new f answer e w h =
-  let W : Draft → Type 0 = λ k. Writes (pour 0 (next 0 (Wet k)) (written p)) new (Err f) in
-  refuses p.text p.fault (pour 0 (next 0 (Wet unwritten)) (written p)) new f answer (line-fault p) (subst W e w) h
+    let W : Draft → Type 0 = λ k. Writes (pour 0 (next 0 (Wet k)) (written p)) new (Err f) in
+    refuses p.text p.fault (pour 0 (next 0 (Wet unwritten)) (written p)) new f answer (line-fault p) (subst W e w) h

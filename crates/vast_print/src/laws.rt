@@ -7,29 +7,24 @@ ghost use Rattle.vast_literal.specs.FileGrammar.{OneDeclaration, OneStatement, O
 /// A token list spells at most one expression.
 pub fn one_expression()
     ensures { OneExpression }
-{
-}
+{}
 
 /// A token list spells at most one declaration.
 pub fn one_declaration()
     ensures { OneDeclaration }
-{
-}
+{}
 
 /// A token list spells at most one statement.
 pub fn one_statement()
     ensures { OneStatement }
-{
-}
+{}
 
 /// A token list spells at most one member of a module.
 pub fn one_member()
     ensures { OneMember }
-{
-}
+{}
 
 /// A token list spells at most one file.
 pub fn one_file()
     ensures { OneFile }
-{
-}
+{}

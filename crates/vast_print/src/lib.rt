@@ -14,12 +14,11 @@ mod operators;
 mod pieces;
 mod refusal;
 mod selects;
+#[cfg(test)]
+mod tests;
 mod types;
 mod words;
 mod writer;
-
-#[cfg(test)]
-mod tests;
 
 pub use file::{print_expr, print_file};
 pub use refusal::{PrintFault, Refusal};

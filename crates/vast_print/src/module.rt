@@ -21,7 +21,12 @@ use crate::writer::Writer;
 use vast_core::{Ast, Expr, Member, Module, ModulePort, VastModule};
 
 /// Writes a port of a header.
-fn print_listed_port(ast: &Ast, p: ModulePort, depth: usize, out: &mut Writer) -> Result<(), PrintFault>
+fn print_listed_port(
+    ast: &Ast,
+    p: ModulePort,
+    depth: usize,
+    out: &mut Writer,
+) -> Result<(), PrintFault>
     requires { OwnsPort (bench ast.now) p }
     ensures { Writes (pour depth (Wet out.old) (written (port_text (dialect_of (bench ast.now).file_type) (port_tree (bench ast.now) p)))) out.new result }
 {
@@ -31,7 +36,12 @@ fn print_listed_port(ast: &Ast, p: ModulePort, depth: usize, out: &mut Writer) -
 
 /// Writes the ports of a header, each on a line one deeper.
 #[tactic(auto, using(crate::proofs::ArenaLaws::modules))]
-fn print_ports(ast: &Ast, ports: &[ModulePort], depth: usize, out: &mut Writer) -> Result<(), PrintFault>
+fn print_ports(
+    ast: &Ast,
+    ports: &[ModulePort],
+    depth: usize,
+    out: &mut Writer,
+) -> Result<(), PrintFault>
     requires owned { All (OwnsPort (bench ast.now)) ports.now }
     requires room { depth < 2 ^ 63 }
     ensures { Writes (hang depth (Wet out.old) (ports_page (dialect_of (bench ast.now).file_type) (map (port_tree (bench ast.now)) ports.now))) out.new result }
@@ -54,9 +64,7 @@ fn comma(more: bool) -> &'static str
 #[tactic(auto, using(crate::proofs::ArenaLaws::modules))]
 fn print_header(ast: &Ast, module: &Module, out: &mut Writer) -> Result<(), PrintFault>
     requires { All (OwnsPort (bench ast.now)) module.now.ports.items }
-    ensures {
-        Writes (hang 0 (Wet out.old) (header_page (dialect_of (bench ast.now).file_type) (module_record module.now).name [] (map (port_tree (bench ast.now)) module.now.ports.items))) out.new result
-    }
+    ensures { Writes (hang 0 (Wet out.old) (header_page (dialect_of (bench ast.now).file_type) (module_record module.now).name [] (map (port_tree (bench ast.now)) module.now.ports.items))) out.new result }
 {
     out.next(0)?;
     out.word("module ")?;
@@ -74,12 +82,16 @@ fn print_header(ast: &Ast, module: &Module, out: &mut Writer) -> Result<(), Prin
 
 /// Writes `assign lhs = rhs;` on a line of its own.
 #[tactic(auto, using(crate::proofs::ArenaLaws::modules))]
-fn print_assign(ast: &Ast, lhs: Expr, rhs: Expr, depth: usize, out: &mut Writer) -> Result<(), PrintFault>
+fn print_assign(
+    ast: &Ast,
+    lhs: Expr,
+    rhs: Expr,
+    depth: usize,
+    out: &mut Writer,
+) -> Result<(), PrintFault>
     requires lhs { OwnsExpr (bench ast.now) lhs }
     requires rhs { OwnsExpr (bench ast.now) rhs }
-    ensures {
-        Writes (hang depth (Wet out.old) (member_page (dialect_of (bench ast.now).file_type) (AssignMember (tree_of (bench ast.now) lhs) (tree_of (bench ast.now) rhs)))) out.new result
-    }
+    ensures { Writes (hang depth (Wet out.old) (member_page (dialect_of (bench ast.now).file_type) (AssignMember (tree_of (bench ast.now) lhs) (tree_of (bench ast.now) rhs)))) out.new result }
 {
     out.next(depth)?;
     out.word("assign ")?;
@@ -91,7 +103,12 @@ fn print_assign(ast: &Ast, lhs: Expr, rhs: Expr, depth: usize, out: &mut Writer)
 }
 
 /// Writes a member on lines of its own.
-fn print_member(ast: &Ast, member: &Member, depth: usize, out: &mut Writer) -> Result<(), PrintFault>
+fn print_member(
+    ast: &Ast,
+    member: &Member,
+    depth: usize,
+    out: &mut Writer,
+) -> Result<(), PrintFault>
     requires { MemberSound (bench ast.now) (member_entry member.now) }
     ensures { Writes (hang depth (Wet out.old) (member_page (dialect_of (bench ast.now).file_type) (member_tree (bench ast.now) (member_entry member.now)))) out.new result }
 {
@@ -104,11 +121,14 @@ fn print_member(ast: &Ast, member: &Member, depth: usize, out: &mut Writer) -> R
 }
 
 #[tactic(auto, using(crate::proofs::ArenaLaws::modules))]
-fn print_members(ast: &Ast, members: &[Member], depth: usize, out: &mut Writer) -> Result<(), PrintFault>
+fn print_members(
+    ast: &Ast,
+    members: &[Member],
+    depth: usize,
+    out: &mut Writer,
+) -> Result<(), PrintFault>
     requires { All (λ m. MemberSound (bench ast.now) (member_entry m)) members.now }
-    ensures {
-        Writes (hang depth (Wet out.old) (members_page (dialect_of (bench ast.now).file_type) (members_tree (bench ast.now) (map member_entry members.now)))) out.new result
-    }
+    ensures { Writes (hang depth (Wet out.old) (members_page (dialect_of (bench ast.now).file_type) (members_tree (bench ast.now) (map member_entry members.now)))) out.new result }
 {
     for member in members {
         print_member(ast, member, depth, out)?;
@@ -120,9 +140,7 @@ fn print_members(ast: &Ast, members: &[Member], depth: usize, out: &mut Writer) 
 #[tactic(auto, using(crate::proofs::ArenaLaws::modules))]
 fn print_body(ast: &Ast, members: &[Member], out: &mut Writer) -> Result<(), PrintFault>
     requires { All (λ m. MemberSound (bench ast.now) (member_entry m)) members.now }
-    ensures {
-        Writes (hang 0 (Wet out.old) (body_page (dialect_of (bench ast.now).file_type) (members_tree (bench ast.now) (map member_entry members.now)))) out.new result
-    }
+    ensures { Writes (hang 0 (Wet out.old) (body_page (dialect_of (bench ast.now).file_type) (members_tree (bench ast.now) (map member_entry members.now)))) out.new result }
 {
     if members.is_empty() {
         out.next(0)?;
@@ -137,9 +155,7 @@ fn print_body(ast: &Ast, members: &[Member], out: &mut Writer) -> Result<(), Pri
 fn print_parts(ast: &Ast, module: &Module, out: &mut Writer) -> Result<(), PrintFault>
     requires ports { All (OwnsPort (bench ast.now)) module.now.ports.items }
     requires members { All (λ m. MemberSound (bench ast.now) (member_entry m)) module.now.members.items }
-    ensures {
-        Writes (hang 0 (Wet out.old) (module_page (dialect_of (bench ast.now).file_type) (module_tree (bench ast.now) (module_record module.now)))) out.new result
-    }
+    ensures { Writes (hang 0 (Wet out.old) (module_page (dialect_of (bench ast.now).file_type) (module_tree (bench ast.now) (module_record module.now)))) out.new result }
 {
     print_header(ast, module, out)?;
     print_body(ast, &module.members, out)?;

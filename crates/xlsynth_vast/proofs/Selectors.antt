@@ -12,7 +12,7 @@ use Rattle.vast_literal.specs.declared.error.VastFault.{VastFault}
 use Rattle.vast_literal.specs.declared.error.VastFault.TheVariants.{Refused, Memory}
 use Rattle.vast_literal.specs.declared.literal.LiteralFormat.TheVariants.{Hex}
 use Rattle.vast_literal.specs.Fault.{OnlyRefusedBy}
-use Rattle.vast_literal.specs.Spelling.{spelled}
+use Rattle.vast_literal.specs.LiteralText.{spelled}
 use Rattle.vast_literal.specs.Digits.{is_numeral, number_in}
 use Rattle.vast_literal.proofs.Decimals.{written-decimal}
 

@@ -7,7 +7,7 @@ use Rattle.vast_literal.specs.Tree.{ExprTree, LiteralTree, StringTree}
 use Rattle.vast_literal.specs.Literal.{Bits, literal_of}
 use Rattle.vast_literal.specs.Pattern.{pattern}
 use Rattle.vast_literal.specs.Quoted.{quoted}
-use Rattle.vast_literal.specs.Spelling.{taken, spelled}
+use Rattle.vast_literal.specs.LiteralText.{taken, spelled}
 
 -- A value that tools know is one that a signed number of 64 bits can be.
 abbrev pub known_value : ℕ → Option ℤ

@@ -15,12 +15,14 @@ impl VastFile {
     ///
     /// # Errors
     /// `AllocError` where a growth was refused; the file is unchanged.
-    pub fn make_continuous_assignment(&mut self, lhs: &Expr, rhs: &Expr) -> Result<ContinuousAssignment, AllocError>
+    pub fn make_continuous_assignment(
+        &mut self,
+        lhs: &Expr,
+        rhs: &Expr,
+    ) -> Result<ContinuousAssignment, AllocError>
         requires lhs { OwnsExpr (bench self.old) lhs.now }
         requires rhs { OwnsExpr (bench self.old) rhs.now }
-        ensures {
-            Builds (bench self.old) (bench self.new) result (next_continuous (bench self.old)) (with_assignment (record { lhs = lhs.now; rhs = rhs.now; nonblocking = false }) (bench self.old))
-        }
+        ensures { Builds (bench self.old) (bench self.new) result (next_continuous (bench self.old)) (with_assignment (record { lhs = lhs.now; rhs = rhs.now; nonblocking = false }) (bench self.old)) }
     {
         self.ast.push_continuous(*lhs, *rhs)
     }
@@ -29,7 +31,11 @@ impl VastFile {
     ///
     /// # Errors
     /// `AllocError` where a growth was refused; the file is unchanged.
-    pub fn add_member_continuous_assignment(&mut self, owner: VastModule, assignment: ContinuousAssignment) -> Result<(), AllocError>
+    pub fn add_member_continuous_assignment(
+        &mut self,
+        owner: VastModule,
+        assignment: ContinuousAssignment,
+    ) -> Result<(), AllocError>
         requires owner { OwnsModule (bench self.old) owner }
         requires assignment { OwnsContinuous (bench self.old) assignment }
         ensures { Builds (bench self.old) (bench self.new) result tt (with_member owner (AssignmentEntry assignment) (bench self.old)) }

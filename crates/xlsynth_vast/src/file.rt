@@ -36,7 +36,11 @@ impl VastFile {
     ///
     /// # Errors
     /// [`IdsSpent`] exactly where the ids are spent; `ids` is then unchanged.
-    pub fn new(alloc: Global, file_type: VastFileType, ids: &mut FileIds) -> Result<VastFile, IdsSpent>
+    pub fn new(
+        alloc: Global,
+        file_type: VastFileType,
+        ids: &mut FileIds,
+    ) -> Result<VastFile, IdsSpent>
         ensures file { IfOk result (λ file. bench file ≡ start file_type (ids.old + 1)) }
         ensures given { OnOk result (ids.new ≡ ids.old + 1) }
         ensures spent { IsErr result ↔ (ids.old ≡ u64.MAX) }

@@ -13,10 +13,11 @@ mod tests;
 mod types;
 
 pub use file::VastFile;
-pub use vast_core::{AlwaysKind, DataKind, FileIds, IdsSpent, ModulePortDirection, VastFileType};
-pub use vast_core::{BlankLine, CaseStatement, Comment, Conditional, ContinuousAssignment, Def};
-pub use vast_core::{Expr, GenerateLoop, Index, IndexableExpr, InlineVerilogStatement, Instantiation};
-pub use vast_core::{LocalparamRef, LogicRef, MacroRef, MacroStatement, ModulePort, ParameterRef, Slice};
-pub use vast_core::{VastAlwaysBase, VastDataType, VastFunction, VastModule, VastStatement};
-pub use vast_core::VastStatementBlock;
+pub use vast_core::{
+    AlwaysKind, BlankLine, CaseStatement, Comment, Conditional, ContinuousAssignment, DataKind,
+    Def, Expr, FileIds, GenerateLoop, IdsSpent, Index, IndexableExpr, InlineVerilogStatement,
+    Instantiation, LocalparamRef, LogicRef, MacroRef, MacroStatement, ModulePort,
+    ModulePortDirection, ParameterRef, Slice, VastAlwaysBase, VastDataType, VastFileType,
+    VastFunction, VastModule, VastStatement, VastStatementBlock,
+};
 pub use vast_literal::{LiteralFormat, VastError, VastFault};

@@ -47,29 +47,47 @@ impl VastFile {
     ///
     /// # Errors
     /// `AllocError` where a growth was refused; the file is unchanged.
-    pub fn add_input(&mut self, owner: VastModule, name: &str, data_type: &VastDataType) -> Result<LogicRef, AllocError>
+    pub fn add_input(
+        &mut self,
+        owner: VastModule,
+        name: &str,
+        data_type: &VastDataType,
+    ) -> Result<LogicRef, AllocError>
         requires owner { OwnsModule (bench self.old) owner }
         requires data_type { OwnsType (bench self.old) data_type.now }
         requires free { NameIsFree (bench self.old) owner name.now }
-        ensures {
-            Builds (bench self.old) (bench self.new) result (next_logic_ref (bench self.old)) (with_port owner ModulePortDirection.Input DataKind.Wire name.now data_type.now (bench self.old))
-        }
+        ensures { Builds (bench self.old) (bench self.new) result (next_logic_ref (bench self.old)) (with_port owner ModulePortDirection.Input DataKind.Wire name.now data_type.now (bench self.old)) }
     {
-        self.ast.push_port(owner, ModulePortDirection::Input, DataKind::Wire, name, *data_type)
+        self.ast.push_port(
+            owner,
+            ModulePortDirection::Input,
+            DataKind::Wire,
+            name,
+            *data_type,
+        )
     }
 
     /// An output, as the module's last port; answers its name as an expression.
     ///
     /// # Errors
     /// `AllocError` where a growth was refused; the file is unchanged.
-    pub fn add_output(&mut self, owner: VastModule, name: &str, data_type: &VastDataType) -> Result<LogicRef, AllocError>
+    pub fn add_output(
+        &mut self,
+        owner: VastModule,
+        name: &str,
+        data_type: &VastDataType,
+    ) -> Result<LogicRef, AllocError>
         requires owner { OwnsModule (bench self.old) owner }
         requires data_type { OwnsType (bench self.old) data_type.now }
         requires free { NameIsFree (bench self.old) owner name.now }
-        ensures {
-            Builds (bench self.old) (bench self.new) result (next_logic_ref (bench self.old)) (with_port owner ModulePortDirection.Output DataKind.Wire name.now data_type.now (bench self.old))
-        }
+        ensures { Builds (bench self.old) (bench self.new) result (next_logic_ref (bench self.old)) (with_port owner ModulePortDirection.Output DataKind.Wire name.now data_type.now (bench self.old)) }
     {
-        self.ast.push_port(owner, ModulePortDirection::Output, DataKind::Wire, name, *data_type)
+        self.ast.push_port(
+            owner,
+            ModulePortDirection::Output,
+            DataKind::Wire,
+            name,
+            *data_type,
+        )
     }
 }

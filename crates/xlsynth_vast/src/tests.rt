@@ -31,7 +31,8 @@ fn prints_ports_and_assignments(rt: HostRuntime) -> Result<(), Fail> {
     let _z = bench.input(m, "a\nb", one)?;
     bench.assign(m, y.to_expr(), x.to_expr())?;
     assert_eq!(rt; bench.expression(x.to_expr())?.as_str(), "x");
-    let text = "module m(\n  input wire x,\n  output wire signed [1:0] y,\n  input wire signed a\nb\n);\n  assign y = x;\nendmodule\n";
+    let text =
+        "module m(\n  input wire x,\n  output wire signed [1:0] y,\n  input wire signed a\nb\n);\n  assign y = x;\nendmodule\n";
     assert_eq!(rt; bench.file.emit()?.as_str(), text);
     Ok(())
 }

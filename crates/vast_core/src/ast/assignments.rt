@@ -16,12 +16,14 @@ impl Ast {
     ///
     /// # Errors
     /// `AllocError` where a growth was refused; nothing changed.
-    pub fn push_continuous(&mut self, lhs: Expr, rhs: Expr) -> Result<ContinuousAssignment, AllocError>
+    pub fn push_continuous(
+        &mut self,
+        lhs: Expr,
+        rhs: Expr,
+    ) -> Result<ContinuousAssignment, AllocError>
         requires lhs { OwnsExpr (bench self.old) lhs }
         requires rhs { OwnsExpr (bench self.old) rhs }
-        ensures {
-            Builds (bench self.old) (bench self.new) result (next_continuous (bench self.old)) (with_assignment (record { lhs = lhs; rhs = rhs; nonblocking = false }) (bench self.old))
-        }
+        ensures { Builds (bench self.old) (bench self.new) result (next_continuous (bench self.old)) (with_assignment (record { lhs = lhs; rhs = rhs; nonblocking = false }) (bench self.old)) }
     {
         let index = self.assignments.len();
         self.assignments.push(Assignment {

@@ -63,7 +63,11 @@ impl Ast {
     ///
     /// # Errors
     /// `AllocError` where a growth was refused; nothing changed.
-    pub fn append_continuous(&mut self, owner: VastModule, a: ContinuousAssignment) -> Result<(), AllocError>
+    pub fn append_continuous(
+        &mut self,
+        owner: VastModule,
+        a: ContinuousAssignment,
+    ) -> Result<(), AllocError>
         requires owner { OwnsModule (bench self.old) owner }
         requires assignment { OwnsContinuous (bench self.old) a }
         ensures { Builds (bench self.old) (bench self.new) result tt (with_member owner (AssignmentEntry a) (bench self.old)) }

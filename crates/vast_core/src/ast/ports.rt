@@ -42,9 +42,7 @@ impl Ast {
     ) -> Result<LogicRef, AllocError>
         requires owner { OwnsModule (bench self.old) owner }
         requires data_type { OwnsType (bench self.old) data_type }
-        ensures {
-            Builds (bench self.old) (bench self.new) result (next_logic_ref (bench self.old)) (with_port owner direction kind name.now data_type (bench self.old))
-        }
+        ensures { Builds (bench self.old) (bench self.new) result (next_logic_ref (bench self.old)) (with_port owner direction kind name.now data_type (bench self.old)) }
     {
         let node_name = String::from_str(self.alloc, name)?;
         let port_name = String::from_str(self.alloc, name)?;

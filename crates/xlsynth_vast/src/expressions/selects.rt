@@ -1,7 +1,7 @@
 //! Selects: single bits and ranges of an expression.
 
 ghost use Rattle.std.specs.Prelude.{◌≡◌, ◌≤ℤ◌, pos, IfOk, string_bytes};
-ghost use Rattle.vast_literal.specs.Spelling.{spelled};
+ghost use Rattle.vast_literal.specs.LiteralText.{spelled};
 ghost use Rattle.vast_core.specs.Handles.{expr_to_indexable_expr};
 ghost use Rattle.vast_core.specs.Bench.{OwnsExpr, OwnsIndexable};
 ghost use Rattle.vast_core.specs.Growth.{Builds, next_expr, next_index, next_fixed_index, with_fixed_index, next_slice, next_fixed_slice, with_fixed_slice};

@@ -35,14 +35,24 @@ impl<'a, R: Abort> Bench<'a, R> {
         self.file.name_is_free(m, name)
     }
 
-    pub(crate) fn input(&mut self, m: VastModule, name: &str, t: VastDataType) -> Result<LogicRef, AllocError> {
+    pub(crate) fn input(
+        &mut self,
+        m: VastModule,
+        name: &str,
+        t: VastDataType,
+    ) -> Result<LogicRef, AllocError> {
         assert!(self.rt; self.file.owns(&m));
         assert!(self.rt; self.file.owns(&t));
         assert!(self.rt; self.file.name_is_free(m, name));
         self.file.add_input(m, name, &t)
     }
 
-    pub(crate) fn output(&mut self, m: VastModule, name: &str, t: VastDataType) -> Result<LogicRef, AllocError> {
+    pub(crate) fn output(
+        &mut self,
+        m: VastModule,
+        name: &str,
+        t: VastDataType,
+    ) -> Result<LogicRef, AllocError> {
         assert!(self.rt; self.file.owns(&m));
         assert!(self.rt; self.file.owns(&t));
         assert!(self.rt; self.file.name_is_free(m, name));

@@ -20,17 +20,17 @@ loop-item-init c = ap (λ p. hang 0 (Wet c.args.out.now) p) (layout-items (bench
 
 pub loop-item-preserved : goal.loop-item-preserved
 loop-item-preserved c =
-  let v : FileItem → FileItemTree = λ x. item_tree (bench c.args.ast.now) (file_entry x) in
-  let item : FileItem = get_or c.items-item-items.result.now c.loop-item.item-index none in
-  grind (arith, items-step (dialect_of (bench c.args.ast.now).file_type) v 0 (Wet c.loop-item.out) c.items-item-items.result.now c.loop-item.item-index item c.loop-item-test.true (get_or_default c.items-item-items.result.now c.loop-item.item-index none item c.loop-item-test.true))
+    let v : FileItem → FileItemTree = λ x. item_tree (bench c.args.ast.now) (file_entry x) in
+    let item : FileItem = get_or c.items-item-items.result.now c.loop-item.item-index none in
+    grind (arith, items-step (dialect_of (bench c.args.ast.now).file_type) v 0 (Wet c.loop-item.out) c.items-item-items.result.now c.loop-item.item-index item c.loop-item-test.true (get_or_default c.items-item-items.result.now c.loop-item.item-index none item c.loop-item-test.true))
 
 pub returns-in_err-print_item : goal.returns-in_err-print_item
 returns-in_err-print_item c =
-  let v : FileItem → FileItemTree = λ x. item_tree (bench c.args.ast.now) (file_entry x) in
-  let item : FileItem = get_or c.items-item-items.result.now c.loop-item.item-index none in
-  grind (arith, stops, items-step (dialect_of (bench c.args.ast.now).file_type) v 0 (Wet c.loop-item.out) c.items-item-items.result.now c.loop-item.item-index item c.loop-item-test.true (get_or_default c.items-item-items.result.now c.loop-item.item-index none item c.loop-item-test.true))
+    let v : FileItem → FileItemTree = λ x. item_tree (bench c.args.ast.now) (file_entry x) in
+    let item : FileItem = get_or c.items-item-items.result.now c.loop-item.item-index none in
+    grind (arith, stops, items-step (dialect_of (bench c.args.ast.now).file_type) v 0 (Wet c.loop-item.out) c.items-item-items.result.now c.loop-item.item-index item c.loop-item-test.true (get_or_default c.items-item-items.result.now c.loop-item.item-index none item c.loop-item-test.true))
 
 pub returns : goal.returns
 returns c =
-  let v : FileItem → FileItemTree = λ x. item_tree (bench c.args.ast.now) (file_entry x) in
-  grind (arith, items-end (dialect_of (bench c.args.ast.now).file_type) v 0 (Wet c.loop-item.out) c.items-item-items.result.now c.loop-item.item-index c.loop-item-test.false)
+    let v : FileItem → FileItemTree = λ x. item_tree (bench c.args.ast.now) (file_entry x) in
+    grind (arith, items-end (dialect_of (bench c.args.ast.now).file_type) v 0 (Wet c.loop-item.out) c.items-item-items.result.now c.loop-item.item-index c.loop-item-test.false)

@@ -9,5 +9,5 @@ use Rattle.vast_print.proofs.file.print_items.Given as goal
 
 abbrev pub invariant-loop-item : goal.invariant-loop-item
 invariant-loop-item l =
-  hang 0 (Wet l.fn.out) (layout (tree (bench l.ast)))
-  ≡ hang 0 (Wet l.out) (items_page (dialect_of (bench l.ast).file_type) (map (λ x. item_tree (bench l.ast) (file_entry x)) (drop l.item-index l.item-items)))
+    hang 0 (Wet l.fn.out) (layout (tree (bench l.ast)))
+    ≡ hang 0 (Wet l.out) (items_page (dialect_of (bench l.ast).file_type) (map (λ x. item_tree (bench l.ast) (file_entry x)) (drop l.item-index l.item-items)))

@@ -13,14 +13,14 @@ none = ContinuousAssignment (record { id = record { file_id = 0; index = 0 } })
 
 pub loop-member-preserved : goal.loop-member-preserved
 loop-member-preserved c =
-  let m : Member = get_or c.args.members.now c.loop-member.member-index none in
-  grind (arith, members-step (dialect_of (bench c.args.ast.now).file_type) (bench c.args.ast.now) c.args.depth (Wet c.loop-member.out) c.args.members.now c.loop-member.member-index m c.loop-member-test.true (get_or_default c.args.members.now c.loop-member.member-index none m c.loop-member-test.true))
+    let m : Member = get_or c.args.members.now c.loop-member.member-index none in
+    grind (arith, members-step (dialect_of (bench c.args.ast.now).file_type) (bench c.args.ast.now) c.args.depth (Wet c.loop-member.out) c.args.members.now c.loop-member.member-index m c.loop-member-test.true (get_or_default c.args.members.now c.loop-member.member-index none m c.loop-member-test.true))
 
 pub returns-in_err-print_member : goal.returns-in_err-print_member
 returns-in_err-print_member c =
-  let m : Member = get_or c.args.members.now c.loop-member.member-index none in
-  grind (arith, stops, members-step (dialect_of (bench c.args.ast.now).file_type) (bench c.args.ast.now) c.args.depth (Wet c.loop-member.out) c.args.members.now c.loop-member.member-index m c.loop-member-test.true (get_or_default c.args.members.now c.loop-member.member-index none m c.loop-member-test.true))
+    let m : Member = get_or c.args.members.now c.loop-member.member-index none in
+    grind (arith, stops, members-step (dialect_of (bench c.args.ast.now).file_type) (bench c.args.ast.now) c.args.depth (Wet c.loop-member.out) c.args.members.now c.loop-member.member-index m c.loop-member-test.true (get_or_default c.args.members.now c.loop-member.member-index none m c.loop-member-test.true))
 
 pub returns : goal.returns
 returns c =
-  grind (arith, members-end (dialect_of (bench c.args.ast.now).file_type) (bench c.args.ast.now) c.args.depth (Wet c.loop-member.out) c.args.members.now c.loop-member.member-index c.loop-member-test.false)
+    grind (arith, members-end (dialect_of (bench c.args.ast.now).file_type) (bench c.args.ast.now) c.args.depth (Wet c.loop-member.out) c.args.members.now c.loop-member.member-index c.loop-member-test.false)

@@ -9,5 +9,5 @@ use Rattle.vast_print.proofs.module.print_members.Given as goal
 
 abbrev pub invariant-loop-member : goal.invariant-loop-member
 invariant-loop-member l =
-  hang l.depth (Wet l.fn.out) (members_page (dialect_of (bench l.ast).file_type) (members_tree (bench l.ast) (map member_entry l.members)))
-  ≡ hang l.depth (Wet l.out) (members_page (dialect_of (bench l.ast).file_type) (members_tree (bench l.ast) (map member_entry (drop l.member-index l.members))))
+    hang l.depth (Wet l.fn.out) (members_page (dialect_of (bench l.ast).file_type) (members_tree (bench l.ast) (map member_entry l.members)))
+    ≡ hang l.depth (Wet l.out) (members_page (dialect_of (bench l.ast).file_type) (members_tree (bench l.ast) (map member_entry (drop l.member-index l.members))))

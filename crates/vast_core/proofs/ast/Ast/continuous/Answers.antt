@@ -4,20 +4,20 @@ use Rattle.vast_core.proofs.ast.Ast.continuous.Goals as goal
 
 pub index-requires : goal.index-requires
 index-requires c =
-  let below : c.args.a.id.index < length c.self.inside.assignments.items = assignment-below c.args.self.now _ c.args.a.id.index c.self.view_is c.requires.of_kind
-  in search rules
+    let below : c.args.a.id.index < length c.self.inside.assignments.items = assignment-below c.args.self.now _ c.args.a.id.index c.self.view_is c.requires.of_kind
+    in search rules
 
 pub returns-clause-there : goal.returns-clause-there
 returns-clause-there c =
-  let below : c.args.a.id.index < length c.self.inside.assignments.items = assignment-below c.args.self.now _ c.args.a.id.index c.self.view_is c.requires.of_kind
-  in assignment-there c.args.self.now _ c.args.a.id.index _ c.self.view_is below c.index.ensures
+    let below : c.args.a.id.index < length c.self.inside.assignments.items = assignment-below c.args.self.now _ c.args.a.id.index c.self.view_is c.requires.of_kind
+    in assignment-there c.args.self.now _ c.args.a.id.index _ c.self.view_is below c.index.ensures
 
 pub returns-clause-lhs : goal.returns-clause-lhs
 returns-clause-lhs c =
-  let below : c.args.a.id.index < length c.self.inside.assignments.items = assignment-below c.args.self.now _ c.args.a.id.index c.self.view_is c.requires.of_kind
-  in (assignment-sound c.args.self.now _ c.args.a.id.index _ c.self.view_is c.self.invariant below c.index.ensures).0
+    let below : c.args.a.id.index < length c.self.inside.assignments.items = assignment-below c.args.self.now _ c.args.a.id.index c.self.view_is c.requires.of_kind
+    in (assignment-sound c.args.self.now _ c.args.a.id.index _ c.self.view_is c.self.invariant below c.index.ensures).0
 
 pub returns-clause-rhs : goal.returns-clause-rhs
 returns-clause-rhs c =
-  let below : c.args.a.id.index < length c.self.inside.assignments.items = assignment-below c.args.self.now _ c.args.a.id.index c.self.view_is c.requires.of_kind
-  in (assignment-sound c.args.self.now _ c.args.a.id.index _ c.self.view_is c.self.invariant below c.index.ensures).1
+    let below : c.args.a.id.index < length c.self.inside.assignments.items = assignment-below c.args.self.now _ c.args.a.id.index c.self.view_is c.requires.of_kind
+    in (assignment-sound c.args.self.now _ c.args.a.id.index _ c.self.view_is c.self.invariant below c.index.ensures).1

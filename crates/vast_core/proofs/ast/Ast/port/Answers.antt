@@ -4,20 +4,20 @@ use Rattle.vast_core.proofs.ast.Ast.port.Goals as goal
 
 pub index-requires : goal.index-requires
 index-requires c =
-  let below : c.args.p.id.index < length c.self.inside.ports.items = port-below c.args.self.now _ c.args.p.id.index c.self.view_is c.requires.of_kind
-  in search rules
+    let below : c.args.p.id.index < length c.self.inside.ports.items = port-below c.args.self.now _ c.args.p.id.index c.self.view_is c.requires.of_kind
+    in search rules
 
 pub returns-clause-there : goal.returns-clause-there
 returns-clause-there c =
-  let below : c.args.p.id.index < length c.self.inside.ports.items = port-below c.args.self.now _ c.args.p.id.index c.self.view_is c.requires.of_kind
-  in port-there c.args.self.now _ c.args.p.id.index _ c.self.view_is below c.index.ensures
+    let below : c.args.p.id.index < length c.self.inside.ports.items = port-below c.args.self.now _ c.args.p.id.index c.self.view_is c.requires.of_kind
+    in port-there c.args.self.now _ c.args.p.id.index _ c.self.view_is below c.index.ensures
 
 pub returns-clause-data_type : goal.returns-clause-data_type
 returns-clause-data_type c =
-  let below : c.args.p.id.index < length c.self.inside.ports.items = port-below c.args.self.now _ c.args.p.id.index c.self.view_is c.requires.of_kind
-  in (port-sound c.args.self.now _ c.args.p.id.index _ c.self.view_is c.self.invariant below c.index.ensures).0
+    let below : c.args.p.id.index < length c.self.inside.ports.items = port-below c.args.self.now _ c.args.p.id.index c.self.view_is c.requires.of_kind
+    in (port-sound c.args.self.now _ c.args.p.id.index _ c.self.view_is c.self.invariant below c.index.ensures).0
 
 pub returns-clause-logic_ref : goal.returns-clause-logic_ref
 returns-clause-logic_ref c =
-  let below : c.args.p.id.index < length c.self.inside.ports.items = port-below c.args.self.now _ c.args.p.id.index c.self.view_is c.requires.of_kind
-  in (port-sound c.args.self.now _ c.args.p.id.index _ c.self.view_is c.self.invariant below c.index.ensures).1
+    let below : c.args.p.id.index < length c.self.inside.ports.items = port-below c.args.self.now _ c.args.p.id.index c.self.view_is c.requires.of_kind
+    in (port-sound c.args.self.now _ c.args.p.id.index _ c.self.view_is c.self.invariant below c.index.ensures).1
