@@ -1,5 +1,5 @@
 -- The equations of calls whose result depends on more than the arena: what they answer, and what they leave.
-use Rattle.std.specs.Prelude.{ℕ, zero, suc, ℤ, pos, Bool, true, false, List, [], Option, Some, None, slice_get, cond, ◌==◌}
+use Rattle.std.specs.Prelude.{ℕ, ℤ, pos, Bool, false, List, [], Option, Some, None, slice_get, cond, ◌==◌}
 use Rattle.vast_literal.specs.Tree.{ScalarTree}
 use Rattle.vast_core.specs.declared.handle.VastDataType.{VastDataType}
 use Rattle.vast_core.specs.declared.handle.VastModule.{VastModule}

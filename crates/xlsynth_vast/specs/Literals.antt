@@ -5,7 +5,6 @@ use Rattle.vast_literal.specs.declared.literal.LiteralFormat.{LiteralFormat}
 use Rattle.vast_literal.specs.declared.literal.LiteralFormat.TheVariants.{Hex}
 use Rattle.vast_literal.specs.Tree.{ExprTree, LiteralTree, StringTree}
 use Rattle.vast_literal.specs.Literal.{Bits, literal_of}
-use Rattle.vast_literal.specs.Pattern.{pattern}
 use Rattle.vast_literal.specs.Quoted.{quoted}
 use Rattle.vast_literal.specs.LiteralText.{taken, spelled}
 

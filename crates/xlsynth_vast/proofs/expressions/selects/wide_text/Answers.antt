@@ -1,4 +1,4 @@
-use Rattle.std.proofs.Common.{◌≡◌, ◌++◌, codes, ap, ◌∙◌, string_bytes}
+use Rattle.std.proofs.Common.{◌≡◌, ◌++◌, codes, ap, ◌∙◌}
 use Rattle.std.specs.Fmt.{decimal}
 use Rattle.vast_literal.specs.Literal.{literal_of}
 use Rattle.xlsynth_vast.proofs.Selectors.{wide_literal, never_refused, spelled_by}
