@@ -12,3 +12,4 @@ pub mod Layout
 pub mod Words
 pub mod Emits
 pub mod Pieces
+pub mod Derived

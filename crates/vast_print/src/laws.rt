@@ -2,6 +2,7 @@
 //! over all token lists, over the grammar alone.
 
 ghost use Rattle.vast_literal.specs.Grammar.{OneExpression};
+ghost use Rattle.vast_print.specs.Derived.{PrintedExpressions, PrintedFiles};
 ghost use Rattle.vast_literal.specs.FileGrammar.{OneDeclaration, OneStatement, OneMember, OneFile};
 
 /// A token list spells at most one expression.
@@ -27,4 +28,14 @@ pub fn one_member()
 /// A token list spells at most one file.
 pub fn one_file()
     ensures { OneFile }
+{}
+
+/// The text of a plain expression derives its normal form, and no other.
+pub fn printed_expressions()
+    ensures { PrintedExpressions }
+{}
+
+/// The printed layout of a plain file derives its normal form, and no other.
+pub fn printed_files()
+    ensures { PrintedFiles }
 {}
