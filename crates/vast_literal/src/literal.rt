@@ -1,10 +1,11 @@
 //! Literals of up to 1,048,576 bits, read from `bits[N]:value` and written as Verilog does.
 
-ghost use Rattle.std.specs.Prelude.{◌≡◌, ◌^◌, ◌<◌, ◌≤◌, Ok, MatchResult, IfOk, string_bytes, List, ℕ};
+ghost use Rattle.std.specs.Prelude.{◌≡◌, ◌^◌, ◌<◌, ◌≤◌, Ok, MatchResult, IfOk, string_bytes, List, ℕ, IsTrue};
 ghost use Rattle.vast_literal.specs.Fault.{HasText, OnlyRefusedBy};
 ghost use Rattle.vast_literal.specs.Literal.{Bits, IsLiteral, untyped_text, literal_of};
 ghost use Rattle.vast_literal.specs.Denotes.{Denotes};
 ghost use Rattle.vast_literal.specs.LiteralText.{taken, spelled};
+ghost use Rattle.vast_literal.specs.LiteralToken.{is_literal_text};
 ghost use Rattle.vast_literal.specs.Spells.{Spells};
 
 mod digits;
@@ -109,7 +110,10 @@ impl Literal {
         // The digits write the number modulo 2 to the power of the width, or with a minus its opposite.
         ensures spells { IfOk result (λ text. Spells format self.now.width self.now.value (string_bytes text)) }
 
-        // No other text does.
+        // It is an optional minus and one literal token.
+        ensures token { IfOk result (λ text. IsTrue (is_literal_text (string_bytes text))) }
+
+        // No other text spells the number.
         ensures only { IfOk result (λ text. (other : List ℕ) → Spells format self.now.width self.now.value other → other ≡ string_bytes text) }
     {
         spelling::literal_text(alloc, format, self.width, self.value)

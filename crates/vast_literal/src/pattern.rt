@@ -1,8 +1,9 @@
 //! The text of a binary pattern, whose digits may be unknown.
 
-ghost use Rattle.std.specs.Prelude.{◌≡◌, Ok, MatchResult, string_bytes};
+ghost use Rattle.std.specs.Prelude.{◌≡◌, IsTrue, Ok, MatchResult, IfOk, string_bytes};
 ghost use Rattle.std.specs.List.{list_all};
 ghost use Rattle.vast_literal.specs.Fault.{HasText, RefusedBy};
+ghost use Rattle.vast_literal.specs.LiteralToken.{is_literal_text};
 ghost use Rattle.vast_literal.specs.Pattern.{is_pattern_digit, is_pattern, pattern_refusal, pattern};
 
 use crate::VastFault;
@@ -51,7 +52,9 @@ fn refuse_pattern(alloc: Global) -> VastFault
 /// `Refused` where there are no digits, more than 1,048,576, or others than `0`, `1` and `?`.
 #[tactic(auto, unfolding(crate::specs::Pattern::pattern))]
 pub fn pattern_text(alloc: Global, bits_msb: &str) -> Result<String, VastFault>
-    ensures { MatchResult result (λ text. pattern bits_msb.now ≡ Ok (string_bytes text)) (λ fault. RefusedBy (pattern bits_msb.now) fault) }
+    ensures answer { MatchResult result (λ text. pattern bits_msb.now ≡ Ok (string_bytes text)) (λ fault. RefusedBy (pattern bits_msb.now) fault) }
+    // It is one literal token.
+    ensures token { IfOk result (λ text. IsTrue (is_literal_text (string_bytes text))) }
 {
     if !is_pattern(bits_msb) {
         return Err(refuse_pattern(alloc));

@@ -1,4 +1,5 @@
 use Rattle.vast_literal.proofs.QuotedLaws.{one_more, whole, quoted_token, quoted_content}
+use Rattle.vast_literal.proofs.TokenTexts.{quoted_string}
 use Rattle.vast_literal.proofs.quoted.quoted_text.Goals as goal
 
 pub loop-character-preserved : goal.loop-character-preserved
@@ -12,3 +13,6 @@ returns-clause-token c = rw (returns-clause-text c) (quoted_token _)
 
 pub returns-clause-undone : goal.returns-clause-undone
 returns-clause-undone c = rw (returns-clause-text c) (quoted_content _)
+
+pub returns-clause-well_formed : goal.returns-clause-well_formed
+returns-clause-well_formed c = rw (returns-clause-text c) (quoted_string _)
