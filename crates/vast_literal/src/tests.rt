@@ -1,6 +1,6 @@
 //! Worked rows.
 
-use crate::{Literal, LiteralFormat, VastFault, pattern_text, quoted_text};
+use crate::{Literal, LiteralFormat, VastError, VastFault, pattern_text, quoted_text};
 use std::test::Fail;
 
 /// The text of a literal in a format, or the refusal's.
@@ -169,5 +169,13 @@ fn strings(rt: HostRuntime) -> Result<(), Fail> {
     }
     let escaped = quoted_text(rt.alloc(), ascii.as_str())?;
     assert_eq!(rt; escaped.len(), 225);
+    Ok(())
+}
+
+#[test]
+fn refusals_are_copied(rt: HostRuntime) -> Result<(), Fail> {
+    let refusal = VastError(String::from_str(rt.alloc(), "no")?);
+    assert_eq!(rt; refusal.clone(rt.alloc())?.0.as_str(), "no");
+    assert!(rt; refusal.clone(rt.alloc())? == refusal);
     Ok(())
 }

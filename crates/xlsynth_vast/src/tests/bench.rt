@@ -30,6 +30,17 @@ impl<'a, R: Abort> Bench<'a, R> {
         self.file.emit_expression(&e)
     }
 
+    pub(crate) fn negate(&mut self, e: Expr) -> Result<Expr, AllocError> {
+        assert!(self.rt; self.file.owns(&e));
+        self.file.make_negate(&e)
+    }
+
+    pub(crate) fn subtract(&mut self, lhs: Expr, rhs: Expr) -> Result<Expr, AllocError> {
+        assert!(self.rt; self.file.owns(&lhs));
+        assert!(self.rt; self.file.owns(&rhs));
+        self.file.make_sub(&lhs, &rhs)
+    }
+
     pub(crate) fn name_is_free(&self, m: VastModule, name: &str) -> bool {
         assert!(self.rt; self.file.owns(&m));
         self.file.name_is_free(m, name)
