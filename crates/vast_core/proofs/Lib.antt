@@ -3,6 +3,7 @@ pub mod NodeLaws
 pub mod Names
 pub mod Sound
 pub mod Growth
+pub mod Arenas
 pub mod Readers
 pub mod Laws
 pub mod Fixed

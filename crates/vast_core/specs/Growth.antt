@@ -19,7 +19,7 @@ use Rattle.vast_core.specs.declared.kind.DataKind.{DataKind}
 use Rattle.vast_core.specs.declared.node.Assignment.{Assignment}
 use Rattle.vast_core.specs.Handles.{module_index, indexable_expr_to_expr}
 use Rattle.vast_core.specs.Nodes.{Root, ExprRoot, TypeRoot, with_root as with_node}
-use Rattle.vast_core.specs.Records.{PortRecord, ModuleEntry, MemberEntry, new_module, with_port as with_listed_port, with_member as with_listed_member, changed_at}
+use Rattle.vast_core.specs.Records.{PortRecord, FileEntry, ModuleEntry, MemberEntry, DeclarationEntry, new_module, with_port as with_listed_port, with_member as with_listed_member, with_named_member as with_listed_name, changed_at}
 use Rattle.vast_core.specs.Bench.{Bench, tree_of, trees_of, type_of}
 
 -- The call answers this and leaves this, or memory was refused and nothing changed.
@@ -77,7 +77,7 @@ decimal_literal value = known_literal (signed_decimal value) value
 -- A bit select by a number: a literal of the index, and the select.
 abbrev pub with_fixed_index : IndexableExpr → List ℕ → ℤ → Bench → Bench
 with_fixed_index subject text index b =
-  with_expr (with_expr b (known_literal text index)) (IndexTree (tree_of b (indexable_expr_to_expr subject)) (known_literal text index))
+    with_expr (with_expr b (known_literal text index)) (IndexTree (tree_of b (indexable_expr_to_expr subject)) (known_literal text index))
 
 abbrev pub next_fixed_index : List ℕ → ℤ → Bench → Index
 next_fixed_index text index b = next_index (with_expr b (known_literal text index))
@@ -88,7 +88,7 @@ with_bounds high_text high low_text low b = with_expr (with_expr b (known_litera
 
 abbrev pub with_fixed_slice : IndexableExpr → List ℕ → ℤ → List ℕ → ℤ → Bench → Bench
 with_fixed_slice subject high_text high low_text low b =
-  with_expr (with_bounds high_text high low_text low b) (SliceTree (tree_of b (indexable_expr_to_expr subject)) (known_literal high_text high) (known_literal low_text low))
+    with_expr (with_bounds high_text high low_text low b) (SliceTree (tree_of b (indexable_expr_to_expr subject)) (known_literal high_text high) (known_literal low_text low))
 
 abbrev pub next_fixed_slice : List ℕ → ℤ → List ℕ → ℤ → Bench → Slice
 next_fixed_slice high_text high low_text low b = next_slice (with_bounds high_text high low_text low b)
@@ -117,11 +117,11 @@ with_module name b = record b { modules = b.modules ++ new_module name ∷ []; i
 -- A port more: its name as an expression, its record, and its place at the end of the module's ports.
 abbrev pub with_port : VastModule → ModulePortDirection → DataKind → List ℕ → VastDataType → Bench → Bench
 with_port m direction kind name data_type b =
-  record b {
-    nodes = with_node b.nodes (ExprRoot (NameTree name (Typed (type_of b data_type))));
-    ports = b.ports ++ record { direction = direction; kind = kind; name = name; data_type = data_type; logic_ref = next_logic_ref b } ∷ [];
-    modules = changed_at (module_index m) (with_listed_port (next_port b) name) b.modules
-  }
+    record b {
+      nodes = with_node b.nodes (ExprRoot (NameTree name (Typed (type_of b data_type))));
+      ports = b.ports ++ record { direction = direction; kind = kind; name = name; data_type = data_type; logic_ref = next_logic_ref b } ∷ [];
+      modules = changed_at (module_index m) (with_listed_port (next_port b) name) b.modules;
+    }
 
 abbrev pub with_assignment : Assignment → Bench → Bench
 with_assignment a b = record b { assignments = b.assignments ++ a ∷ [] }
@@ -129,3 +129,15 @@ with_assignment a b = record b { assignments = b.assignments ++ a ∷ [] }
 -- A member more at the end of the module's members.
 abbrev pub with_member : VastModule → MemberEntry → Bench → Bench
 with_member m entry b = record b { modules = changed_at (module_index m) (with_listed_member entry) b.modules }
+
+-- The same, with a name that is taken from then on.
+abbrev pub with_named_member : VastModule → MemberEntry → List ℕ → Bench → Bench
+with_named_member m entry name b = record b { modules = changed_at (module_index m) (with_listed_name entry name) b.modules }
+
+-- A wire, reg or logic more: its place at the end of the module's members, and its name as an expression.
+abbrev pub with_declaration : VastModule → DataKind → List ℕ → VastDataType → Bench → Bench
+with_declaration m kind name data_type b = with_expr (with_named_member m (DeclarationEntry kind name data_type) name b) (NameTree name (Typed (type_of b data_type)))
+
+-- An item more at the end of the file.
+abbrev pub with_item : FileEntry → Bench → Bench
+with_item entry b = record b { items = b.items ++ entry ∷ [] }

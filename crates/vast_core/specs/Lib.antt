@@ -7,5 +7,8 @@ pub mod Raw
 pub mod Bench
 pub mod View
 pub mod Growth
+pub mod Artifacts
+pub mod Parameters
+pub mod Hoisting
 pub mod Sound
 pub mod FileTree

@@ -2,7 +2,7 @@
 use Rattle.std.specs.Prelude.{ℕ, map}
 use Rattle.vast_core.specs.Raw.{Raw}
 use Rattle.vast_core.specs.Nodes.{no_nodes, built}
-use Rattle.vast_core.specs.Records.{port_record, module_record, file_entry}
+use Rattle.vast_core.specs.Records.{port_record, module_record, definition_record, artifact_record, instance_record, file_entry}
 use Rattle.vast_core.specs.Bench.{Bench}
 
 unfoldable pub bench : Raw → Bench
@@ -15,9 +15,9 @@ bench a =
     assignments = a.assignments;
     modules = map module_record a.modules;
     functions = a.functions;
-    definitions = a.definitions;
-    artifacts = a.artifacts;
-    instances = a.instances;
+    definitions = map definition_record a.definitions;
+    artifacts = map artifact_record a.artifacts;
+    instances = map instance_record a.instances;
     always_blocks = a.always_blocks;
     items = map file_entry a.items
   }

@@ -10,10 +10,13 @@ use crate::node::{Module, Nest, Port, Term};
 use std::alloc::Global;
 use std::marker::Model;
 
+mod artifacts;
 mod assignments;
 mod expressions;
+mod members;
 mod modules;
 pub(crate) mod owns;
+mod parameters;
 mod places;
 mod ports;
 mod terms;

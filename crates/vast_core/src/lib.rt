@@ -15,10 +15,15 @@ mod shape;
 pub use ast::Ast;
 pub use ast::owns::Handle;
 pub use file_ids::{FileIds, IdsSpent};
-pub use handle::{BlankLine, CaseStatement, Comment, Conditional, ContinuousAssignment, Def};
-pub use handle::{Expr, GenerateLoop, Index, IndexableExpr, InlineVerilogStatement, Instantiation};
-pub use handle::{LocalparamRef, LogicRef, MacroRef, MacroStatement, ModulePort, ParameterRef, Slice};
-pub use handle::{VastAlwaysBase, VastDataType, VastFunction, VastModule, VastStatement, VastStatementBlock};
+pub use handle::{
+    BlankLine, CaseStatement, Comment, Conditional, ContinuousAssignment, Def, Expr, GenerateLoop,
+    Index, IndexableExpr, InlineVerilogStatement, Instantiation, LocalparamRef, LogicRef, MacroRef,
+    MacroStatement, ModulePort, ParameterRef, Slice, VastAlwaysBase, VastDataType, VastFunction,
+    VastModule, VastStatement, VastStatementBlock,
+};
 pub use kind::{AlwaysKind, DataKind, ModulePortDirection, VastFileType};
-pub use node::{Assignment, ExprNode, FileItem, Member, Module, Port, TypeNode};
+pub use node::{
+    Artifact, Assignment, Connection, Definition, ExprNode, FileItem, Instance, Member, Module,
+    ParameterForm, ParameterPort, Port, TypeNode,
+};
 pub use operator::{BinaryOperator, UnaryOperator};
