@@ -5,5 +5,7 @@ pub mod Sound
 pub mod Growth
 pub mod Arenas
 pub mod Readers
+pub mod Parting
+pub mod Hoisting
 pub mod Laws
 pub mod Fixed

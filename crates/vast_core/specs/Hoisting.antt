@@ -1,5 +1,5 @@
 -- Hoisting: a module's declarations before its other members, from some member on.
-use Rattle.std.specs.Prelude.{ℕ, Bool, true, false, not, List, ◌++◌, take, drop}
+use Rattle.std.specs.Prelude.{ℕ, Bool, true, false, not, List, [], ◌++◌, take, drop, Option, Some, None}
 use Rattle.std.specs.List.{filter}
 use Rattle.vast_core.specs.declared.handle.VastModule.{VastModule}
 use Rattle.vast_core.specs.Handles.{module_index}
@@ -18,6 +18,10 @@ parted test xs = filter test xs ++ filter (λ x. not (test x)) xs
 -- The first members stay; of the rest the declarations come first.
 abbrev pub hoisted : ℕ → List MemberEntry → List MemberEntry
 hoisted start members = take start members ++ parted is_declaration (drop start members)
+
+abbrev pub members_of : Option ModuleRecord → List MemberEntry
+members_of None = []
+members_of (Some m) = m.members
 
 abbrev pub with_members_hoisted : ℕ → ModuleRecord → ModuleRecord
 with_members_hoisted start m = record m { members = hoisted start m.members }

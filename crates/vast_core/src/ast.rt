@@ -13,6 +13,7 @@ use std::marker::Model;
 mod artifacts;
 mod assignments;
 mod expressions;
+mod hoisting;
 mod members;
 mod modules;
 pub(crate) mod owns;
