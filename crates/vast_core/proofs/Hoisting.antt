@@ -55,6 +55,9 @@ members-hoisted b start x k = record { parameters = k.parameters; ports = k.port
 pub start-within : (start : ℕ) (o : Option ModuleRecord) (x : ModuleRecord) (xs : List Member) → o ≡ Some x → x.members ≡ map member_entry xs → start ≤ length (members_of o) → start ≤ length xs
 start-within start o x xs e m h = rw (e, m, length-map) at h
 
+pub members-counted : (o : Option ModuleRecord) (x : ModuleRecord) (xs : List Member) (n : ℕ) → o ≡ Some x → x.members ≡ map member_entry xs → n ≡ length xs → n ≡ length (members_of o)
+members-counted o x xs n e m h = rw (e, m, length-map) h
+
 -- Whether a member of a module's vector is a declaration.
 abbrev pub declares : Member → Bool
 declares x = is_declaration (member_entry x)

@@ -7,7 +7,7 @@ use Rattle.vast_core.specs.declared.handle.ModulePort.{ModulePort}
 use Rattle.vast_core.specs.declared.kind.DataKind.{DataKind}
 use Rattle.vast_core.specs.declared.node.Assignment.{Assignment}
 use Rattle.vast_core.specs.Kinds.{dialect_of, direction_of, kind_of}
-use Rattle.vast_core.specs.Handles.{module_index, macro_ref_to_expr}
+use Rattle.vast_core.specs.Handles.{module_index, port_index, continuous_index, definition_index, comment_index, inline_index, macro_statement_index, instantiation_index, macro_ref_to_expr}
 use Rattle.vast_core.specs.Nodes.{maybe_type_in, maybe_expr_in}
 use Rattle.vast_core.specs.Records.{PortRecord, ParameterPortRecord, ModuleRecord, FormEntry, PlainForm, IntForm, DefinedForm, MemberEntry, DeclarationEntry, AssignmentEntry, ParameterEntry, BlankEntry, CommentEntry, InlineEntry, MacroEntry, InstanceEntry, FileEntry, ModuleEntry, IncludeEntry, FileCommentEntry, FileBlankEntry, DefinitionRecord, ArtifactRecord, BlankLineRecord, CommentRecord, InlineRecord, MacroRecord, ConnectionRecord, InstanceRecord}
 use Rattle.vast_core.specs.Bench.{Bench, tree_of, type_of}
@@ -26,7 +26,7 @@ definition_tree b (Some d) = declared b d.kind d.name d.data_type
 abbrev pub form_tree : Bench → FormEntry → ParameterName
 form_tree b (PlainForm name) = PlainParameter name
 form_tree b (IntForm name) = IntParameter name
-form_tree b (DefinedForm d) = DefinedParameter (definition_tree b (slice_get b.definitions d.id.index))
+form_tree b (DefinedForm d) = DefinedParameter (definition_tree b (slice_get b.definitions (definition_index d)))
 
 abbrev pub assignment_member : Bench → Option Assignment → MemberTree
 assignment_member b None = BlankMember
@@ -49,13 +49,13 @@ instance_member b (Some i) = InstanceMember (record { module_name = i.module_nam
 -- The tree of a member; what a member names is read where it stands.
 abbrev pub member_tree : Bench → MemberEntry → MemberTree
 member_tree b (DeclarationEntry kind name data_type) = DeclarationMember (declared b kind name data_type)
-member_tree b (AssignmentEntry a) = assignment_member b (slice_get b.assignments a.id.index)
+member_tree b (AssignmentEntry a) = assignment_member b (slice_get b.assignments (continuous_index a))
 member_tree b (ParameterEntry local form value) = ParameterMember local (form_tree b form) (tree_of b value)
 member_tree b BlankEntry = BlankMember
-member_tree b (CommentEntry a) = artifact_member b (slice_get b.artifacts a.id.index)
-member_tree b (InlineEntry a) = artifact_member b (slice_get b.artifacts a.id.index)
-member_tree b (MacroEntry a) = artifact_member b (slice_get b.artifacts a.id.index)
-member_tree b (InstanceEntry i) = instance_member b (slice_get b.instances i.id.index)
+member_tree b (CommentEntry a) = artifact_member b (slice_get b.artifacts (comment_index a))
+member_tree b (InlineEntry a) = artifact_member b (slice_get b.artifacts (inline_index a))
+member_tree b (MacroEntry a) = artifact_member b (slice_get b.artifacts (macro_statement_index a))
+member_tree b (InstanceEntry i) = instance_member b (slice_get b.instances (instantiation_index i))
 
 abbrev pub members_tree : Bench → List MemberEntry → Members
 members_tree b [] = NoMembers
@@ -72,7 +72,7 @@ maybe_port_tree b None = missing_port
 maybe_port_tree b (Some p) = declared_port b p
 
 abbrev pub port_tree : Bench → ModulePort → PortTree
-port_tree b p = maybe_port_tree b (slice_get b.ports p.id.index)
+port_tree b p = maybe_port_tree b (slice_get b.ports (port_index p))
 
 abbrev pub parameter_port_tree : Bench → ParameterPortRecord → ParameterPortTree
 parameter_port_tree b p = record { name = p.name; type = maybe_type_in b.nodes p.data_type; value = tree_of b p.value }

@@ -7,7 +7,7 @@ use Rattle.vast_core.specs.declared.handle.VastModule.{VastModule}
 use Rattle.vast_core.specs.declared.handle.VastDataType.{VastDataType}
 use Rattle.vast_core.specs.declared.handle.ParameterRef.{ParameterRef}
 use Rattle.vast_core.specs.declared.handle.LocalparamRef.{LocalparamRef}
-use Rattle.vast_core.specs.Handles.{module_index}
+use Rattle.vast_core.specs.Handles.{module_index, definition_index}
 use Rattle.vast_core.specs.Nodes.{maybe_type_in}
 use Rattle.vast_core.specs.Records.{ParameterPortRecord, DefinitionRecord, FormEntry, PlainForm, IntForm, DefinedForm, ParameterEntry, with_parameter_port as with_listed_parameter, changed_at}
 use Rattle.vast_core.specs.Bench.{Bench, type_of}
@@ -45,4 +45,4 @@ defined_name b (Some d) = NameTree d.name (Typed (type_of b d.data_type))
 
 -- A parameter that declares what the definition does.
 abbrev pub with_defined_parameter : VastModule → Bool → Def → Expr → Bench → Bench
-with_defined_parameter m local d value b = with_parameter_named m local (DefinedForm d) value (defined_name b (slice_get b.definitions d.id.index)) b
+with_defined_parameter m local d value b = with_parameter_named m local (DefinedForm d) value (defined_name b (slice_get b.definitions (definition_index d))) b

@@ -1,7 +1,7 @@
 //! Assignments that members and statements are made of.
 
 ghost use Rattle.std.specs.Prelude.{◌≡◌, false, slice_get};
-ghost use Rattle.vast_core.specs.Handles.{continuous_index};
+ghost use Rattle.vast_core.specs.Handles.{continuous_index, statement_index};
 ghost use Rattle.vast_core.specs.Bench.{OwnsContinuous, OwnsStatement, OwnsExpr};
 ghost use Rattle.vast_core.specs.Growth.{Builds, next_continuous, with_assignment};
 ghost use Rattle.vast_core.specs.Artifacts.{next_statement};
@@ -81,7 +81,7 @@ impl Ast {
     /// The sides of an assignment of a procedural block, and its form.
     pub fn assignment(&self, s: VastStatement) -> &Assignment
         requires { OwnsStatement (bench self.now) s }
-        ensures there { slice_get (bench self.now).assignments s.id.index ≡ Some result.now }
+        ensures there { slice_get (bench self.now).assignments (statement_index s) ≡ Some result.now }
         ensures lhs { OwnsExpr (bench self.now) result.now.lhs }
         ensures rhs { OwnsExpr (bench self.now) result.now.rhs }
     {

@@ -1,11 +1,12 @@
 //! Modules, and the items of the file.
 
-ghost use Rattle.std.specs.Prelude.{◌≡◌, ◌↔◌, IsTrue, All, map, slice_get};
+ghost use Rattle.std.specs.Prelude.{◌≡◌, ◌↔◌, IsTrue, All, length, map, slice_get};
 ghost use Rattle.vast_core.specs.Handles.{module_index};
 ghost use Rattle.vast_core.specs.Records.{module_record, parameter_port_record, member_entry, file_entry, IsFree, IncludeEntry, FileCommentEntry, FileBlankEntry};
 ghost use Rattle.vast_core.specs.Bench.{OwnsModule, OwnsPort};
 ghost use Rattle.vast_core.specs.Sound.{MemberSound, ParameterPortSound, EntrySound};
 ghost use Rattle.vast_core.specs.Growth.{Builds, next_module, with_module, with_item};
+ghost use Rattle.vast_core.specs.Hoisting.{members_of};
 ghost use Rattle.vast_core.specs.View.{bench};
 
 use crate::ast::Ast;
@@ -101,6 +102,14 @@ impl Ast {
         ensures members { All (λ x. MemberSound (bench self.now) (member_entry x)) result.now.members.items }
     {
         &self.modules[m.id.index]
+    }
+
+    /// How many members a module has.
+    pub fn member_count(&self, m: VastModule) -> usize
+        requires { OwnsModule (bench self.now) m }
+        ensures { result ≡ length (members_of (slice_get (bench self.now).modules (module_index m))) }
+    {
+        self.module(m).members.len()
     }
 
     /// The items of the file, in order. Its modules are the file's.
