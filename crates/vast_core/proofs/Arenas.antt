@@ -18,7 +18,7 @@ use Rattle.vast_core.proofs.Sound.{Grows, carried, InstanceSound-kept}
 
 -- A definition more.
 
-Grows-definition : (b : Bench) (x : DefinitionRecord) → Grows b (with_definition x b)
+pub Grows-definition : (b : Bench) (x : DefinitionRecord) → Grows b (with_definition x b)
 Grows-definition b x = record { nodes = Extends-same b.nodes; ports = omega arith; assignments = λ i a h. h; modules = omega arith; definitions = omega (arith, length-append b.definitions (x ∷ [])); artifacts = λ i a h. h; instances = omega arith }
 
 RecordsSound-definition : (b : Bench) (x : DefinitionRecord) → RecordsSound b → DefinitionSound b x → RecordsSound (with_definition x b)
@@ -45,7 +45,7 @@ length-definitions a b e = rw (← e) (simp length-map)
 
 -- An artifact more.
 
-Grows-artifact : (b : Bench) (x : ArtifactRecord) → Grows b (with_artifact x b)
+pub Grows-artifact : (b : Bench) (x : ArtifactRecord) → Grows b (with_artifact x b)
 Grows-artifact b x = record { nodes = Extends-same b.nodes; ports = omega arith; assignments = λ i a h. h; modules = omega arith; definitions = omega arith; artifacts = λ i a h. slice_get-append b.artifacts (x ∷ []) i a h; instances = omega arith }
 
 RecordsSound-artifact : (b : Bench) (x : ArtifactRecord) → RecordsSound b → ArtifactSound b x → RecordsSound (with_artifact x b)
@@ -72,7 +72,7 @@ length-artifacts a b e = rw (← e) (simp length-map)
 
 -- An instantiation more.
 
-Grows-instance : (b : Bench) (x : InstanceRecord) → Grows b (with_instance x b)
+pub Grows-instance : (b : Bench) (x : InstanceRecord) → Grows b (with_instance x b)
 Grows-instance b x = record { nodes = Extends-same b.nodes; ports = omega arith; assignments = λ i a h. h; modules = omega arith; definitions = omega arith; artifacts = λ i a h. h; instances = omega (arith, length-append b.instances (x ∷ [])) }
 
 RecordsSound-instance : (b : Bench) (x : InstanceRecord) → RecordsSound b → InstanceSound b x → RecordsSound (with_instance x b)

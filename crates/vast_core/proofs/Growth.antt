@@ -68,7 +68,7 @@ length-plant a b e = rw (← e) (omega (arith, built-length (no_nodes b.id) b.te
 
 -- An assignment more.
 
-Grows-assignment : (b : Bench) (x : Assignment) → Grows b (with_assignment x b)
+pub Grows-assignment : (b : Bench) (x : Assignment) → Grows b (with_assignment x b)
 Grows-assignment b x = record { nodes = Extends-same b.nodes; ports = omega arith; assignments = λ i a h. slice_get-append b.assignments (x ∷ []) i a h; modules = omega arith; definitions = omega arith; artifacts = λ i a h. h; instances = omega arith }
 
 RecordsSound-assignment : (b : Bench) (x : Assignment) → RecordsSound b → AssignmentSound b x → RecordsSound (with_assignment x b)
@@ -97,10 +97,10 @@ sound-assignment a b x xs e q s h =
 
 -- A module more.
 
-Grows-module : (b : Bench) (name : List ℕ) → Grows b (with_module name b)
+pub Grows-module : (b : Bench) (name : List ℕ) → Grows b (with_module name b)
 Grows-module b name = record { nodes = Extends-same b.nodes; ports = omega arith; assignments = λ i a h. h; modules = omega (arith, length-append b.modules (new_module name ∷ [])); definitions = omega arith; artifacts = λ i a h. h; instances = omega arith }
 
-last-test : (n : ℕ) → IsTrue (nat_lt n (n + 1))
+pub last-test : (n : ℕ) → IsTrue (nat_lt n (n + 1))
 last-test n = grind arith
 
 next_module-owned : (b : Bench) (name : List ℕ) → OwnsModule (with_module name b) (next_module b)
@@ -150,7 +150,7 @@ id-of a b e = rw (← e) (built-id (no_nodes b.id) b.terms)
 
 -- A change of one module.
 
-Grows-changed : (b : Bench) (i : ℕ) (f : ModuleRecord → ModuleRecord) → Grows b (record b { modules = changed_at i f b.modules })
+pub Grows-changed : (b : Bench) (i : ℕ) (f : ModuleRecord → ModuleRecord) → Grows b (record b { modules = changed_at i f b.modules })
 Grows-changed b i f = record { nodes = Extends-same b.nodes; ports = omega arith; assignments = λ i a h. h; modules = omega (arith, length-changed_at f b.modules i); definitions = omega arith; artifacts = λ i a h. h; instances = omega arith }
 
 pub RecordsSound-changed :

@@ -9,3 +9,4 @@ pub mod Parting
 pub mod Hoisting
 pub mod Laws
 pub mod Fixed
+pub mod RecordLaws

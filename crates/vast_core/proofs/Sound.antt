@@ -6,6 +6,7 @@ use Rattle.vast_core.specs.declared.handle.Id.{Id}
 use Rattle.vast_core.specs.declared.handle.Expr.{Expr}
 use Rattle.vast_core.specs.declared.handle.VastDataType.{VastDataType}
 use Rattle.vast_core.specs.declared.handle.ModulePort.{ModulePort}
+use Rattle.vast_core.specs.declared.handle.ContinuousAssignment.{ContinuousAssignment}
 use Rattle.vast_core.specs.Nodes.{Nodes, IsOwned, HasExpr, HasType, OptionHolds, is_name, is_macro, is_root_of, with_root as with_node}
 use Rattle.vast_core.specs.Records.{PortRecord, ParameterPortRecord, ModuleRecord, FormEntry, PlainForm, IntForm, DefinedForm, MemberEntry, DeclarationEntry, AssignmentEntry, ParameterEntry, BlankEntry, CommentEntry, InlineEntry, MacroEntry, InstanceEntry, FileEntry, ModuleEntry, IncludeEntry, FileCommentEntry, FileBlankEntry, DefinitionRecord, ArtifactRecord, BlankLineRecord, CommentRecord, InlineRecord, MacroRecord, ConnectionRecord, InstanceRecord}
 use Rattle.vast_core.specs.Bench.{Bench, OwnsExpr, OwnsType, OwnsLogicRef, OwnsPort, OwnsContinuous, OwnsModule, is_continuous, is_comment, is_inline, is_macro_statement}
@@ -42,13 +43,13 @@ test-kept test xs ys i (Some x) e k n h = rw (k x e) h
 pub index-kept : (b c : Bench) (id : Id) (m n : ℕ) → Grows b c → m ≤ n → IsOwned b.nodes.id id (nat_lt id.index m) → IsOwned c.nodes.id id (nat_lt id.index n)
 index-kept b c id m n g le h = record { of_file = h.of_file ∙ sym g.nodes.same_id; of_kind = within id.index m n le h.of_kind }
 
-artifact-kept :
+pub artifact-kept :
     (test : Option ArtifactRecord → Bool) (b c : Bench) (id : Id) → Grows b c → (IsTrue (test None) → ⊥) →
     IsOwned b.nodes.id id (test (slice_get b.artifacts id.index)) → IsOwned c.nodes.id id (test (slice_get c.artifacts id.index))
 artifact-kept test b c id g n h =
     record { of_file = h.of_file ∙ sym g.nodes.same_id; of_kind = test-kept test b.artifacts c.artifacts id.index (slice_get b.artifacts id.index) refl (g.artifacts id.index) n h.of_kind }
 
-never : IsTrue false → ⊥
+pub never : IsTrue false → ⊥
 never h = cc
 
 OwnsPort-kept : (b c : Bench) → Grows b c → (p : ModulePort) → OwnsPort b p → OwnsPort c p
@@ -96,13 +97,16 @@ FormSound-kept b c g (PlainForm name) h = tt
 FormSound-kept b c g (IntForm name) h = tt
 FormSound-kept b c g (DefinedForm d) h = index-kept b c d.id (length b.definitions) (length c.definitions) g g.definitions h
 
+pub continuous-kept : (b c : Bench) → Grows b c → (a : ContinuousAssignment) → OwnsContinuous b a → OwnsContinuous c a
+continuous-kept b c g a h =
+    record {
+        of_file = h.of_file ∙ sym g.nodes.same_id;
+        of_kind = test-kept is_continuous b.assignments c.assignments a.id.index (slice_get b.assignments a.id.index) refl (g.assignments a.id.index) never h.of_kind
+    }
+
 pub MemberSound-kept : (b c : Bench) → Grows b c → (m : MemberEntry) → MemberSound b m → MemberSound c m
 MemberSound-kept b c g (DeclarationEntry kind name t) h = HasType-kept b.nodes c.nodes g.nodes t h
-MemberSound-kept b c g (AssignmentEntry a) h =
-    record {
-      of_file = h.of_file ∙ sym g.nodes.same_id;
-      of_kind = test-kept is_continuous b.assignments c.assignments a.id.index (slice_get b.assignments a.id.index) refl (g.assignments a.id.index) never h.of_kind;
-    }
+MemberSound-kept b c g (AssignmentEntry a) h = continuous-kept b c g a h
 MemberSound-kept b c g (ParameterEntry local form value) h = (FormSound-kept b c g form h.0, HasExpr-kept b.nodes c.nodes g.nodes value h.1)
 MemberSound-kept b c g BlankEntry h = tt
 MemberSound-kept b c g (CommentEntry a) h = artifact-kept is_comment b c a.id g never h
