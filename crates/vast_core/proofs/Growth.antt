@@ -15,29 +15,25 @@ use Rattle.vast_core.specs.declared.node.FileItem.{FileItem}
 use Rattle.vast_core.specs.declared.node.Assignment.{Assignment}
 use Rattle.vast_core.specs.Raw.{Raw}
 use Rattle.vast_core.specs.Nodes.{Root, ExprRoot, no_nodes, built, TermsSound, ChildrenHold, RootFits, term_root}
-use Rattle.vast_core.specs.Records.{PortRecord, ModuleRecord, MemberEntry, FileEntry, ModuleEntry, port_record, module_record, file_entry, new_module, changed_at, with_port as with_listed_port, with_member as with_listed_member}
+use Rattle.vast_core.specs.Records.{PortRecord, ParameterPortRecord, ModuleRecord, MemberEntry, FileEntry, ModuleEntry, port_record, module_record, file_entry, new_module, changed_at, with_port as with_listed_port, with_member as with_listed_member, with_named_member, with_parameter_port}
 use Rattle.vast_core.specs.Bench.{Bench, type_of, OwnsExpr, OwnsType, OwnsPort, OwnsModule, OwnsContinuous}
 use Rattle.vast_core.specs.View.{bench, room}
-use Rattle.vast_core.specs.Growth.{Builds, with_root, with_assignment, with_module, with_member, with_port, next_module, next_port, next_logic_ref}
-use Rattle.vast_core.specs.Sound.{Each, PortSound, AssignmentSound, MemberSound, ModuleSound, EntrySound, RecordsSound, IsSound}
+use Rattle.vast_core.specs.Growth.{Builds, with_root, with_assignment, with_module, with_port, next_module, next_port, next_logic_ref}
+use Rattle.vast_core.specs.Sound.{Each, PortSound, AssignmentSound, MemberSound, ParameterPortSound, ModuleSound, EntrySound, RecordsSound, IsSound}
 use Rattle.vast_core.proofs.Lists.{slice_get-append, slice_get-seam, changed-map, unchanged-map, length-changed_at, Each-map, Each-push, Each-changed_at}
 use Rattle.vast_core.proofs.NodeLaws.{Extends-same, Extends-root, HasType-kept, built-push, built-id, TermsSound-push, built-length}
-use Rattle.vast_core.proofs.Sound.{Grows, PortSound-kept, AssignmentSound-kept, ModuleSound-kept, EntrySound-kept, MemberSound-kept}
+use Rattle.vast_core.proofs.Sound.{Grows, Carried, carried, ModuleSound-kept}
 
 -- A term more.
 
 Grows-root : (b : Bench) (r : Root) → Grows b (with_root b r)
-Grows-root b r = record { nodes = Extends-root b.nodes r; ports = omega arith; assignments = λ i a h. h; modules = omega arith }
+Grows-root b r = record { nodes = Extends-root b.nodes r; ports = omega arith; assignments = λ i a h. h; modules = omega arith; definitions = omega arith; artifacts = λ i a h. h; instances = omega arith }
 
 RecordsSound-root : (b : Bench) (r : Root) → RecordsSound b → RecordsSound (with_root b r)
-RecordsSound-root b r s =
-    let g = Grows-root b r in
-    record {
-      ports = Each-map (PortSound-kept b (with_root b r) g) b.ports s.ports;
-      assignments = Each-map (AssignmentSound-kept b (with_root b r) g) b.assignments s.assignments;
-      modules = Each-map (ModuleSound-kept b (with_root b r) g) b.modules s.modules;
-      items = Each-map (EntrySound-kept b (with_root b r) g) b.items s.items;
-    }
+RecordsSound-root b r s = 
+  let c : Bench = with_root b r in
+  let k = carried b c (Grows-root b r) s in
+  record { ports = k.ports; assignments = k.assignments; modules = k.modules; definitions = k.definitions; artifacts = k.artifacts; instances = k.instances; items = k.items }
 
 bench-term : (a : Raw) (t : Term) (r : ℕ) → bench (record a { terms = a.terms ++ t ∷ []; term_room = r }) ≡ with_root (bench a) (term_root (bench a).nodes t)
 unfolding bench
@@ -73,19 +69,14 @@ length-plant a b e = rw (← e) (omega (arith, built-length (no_nodes b.id) b.te
 
 -- An assignment more.
 
-Grows-assignment : (b : Bench) (x : Assignment) → Grows b (with_assignment x b)
-Grows-assignment b x = record { nodes = Extends-same b.nodes; ports = omega arith; assignments = λ i a h. slice_get-append b.assignments (x ∷ []) i a h; modules = omega arith }
+pub Grows-assignment : (b : Bench) (x : Assignment) → Grows b (with_assignment x b)
+Grows-assignment b x = record { nodes = Extends-same b.nodes; ports = omega arith; assignments = λ i a h. slice_get-append b.assignments (x ∷ []) i a h; modules = omega arith; definitions = omega arith; artifacts = λ i a h. h; instances = omega arith }
 
 RecordsSound-assignment : (b : Bench) (x : Assignment) → RecordsSound b → AssignmentSound b x → RecordsSound (with_assignment x b)
-RecordsSound-assignment b x s h =
-    let g = Grows-assignment b x in
-    let c : Bench = with_assignment x b in
-    record {
-      ports = Each-map (PortSound-kept b c g) b.ports s.ports;
-      assignments = Each-push (AssignmentSound c) b.assignments x (Each-map (AssignmentSound-kept b c g) b.assignments s.assignments) h;
-      modules = Each-map (ModuleSound-kept b c g) b.modules s.modules;
-      items = Each-map (EntrySound-kept b c g) b.items s.items;
-    }
+RecordsSound-assignment b x s h = 
+  let c : Bench = with_assignment x b in
+  let k = carried b c (Grows-assignment b x) s in
+  record { ports = k.ports; assignments = Each-push (AssignmentSound c) b.assignments x k.assignments h; modules = k.modules; definitions = k.definitions; artifacts = k.artifacts; instances = k.instances; items = k.items }
 
 bench-assigned : (a : Raw) (x : Assignment) → bench (record a { assignments = a.assignments ++ x ∷ [] }) ≡ with_assignment x (bench a)
 unfolding bench
@@ -107,29 +98,24 @@ sound-assignment a b x xs e q s h =
 
 -- A module more.
 
-Grows-module : (b : Bench) (name : List ℕ) → Grows b (with_module name b)
-Grows-module b name = record { nodes = Extends-same b.nodes; ports = omega arith; assignments = λ i a h. h; modules = omega (arith, length-append b.modules (new_module name ∷ [])) }
+pub Grows-module : (b : Bench) (name : List ℕ) → Grows b (with_module name b)
+Grows-module b name = record { nodes = Extends-same b.nodes; ports = omega arith; assignments = λ i a h. h; modules = omega (arith, length-append b.modules (new_module name ∷ [])); definitions = omega arith; artifacts = λ i a h. h; instances = omega arith }
 
-last-test : (n : ℕ) → IsTrue (nat_lt n (n + 1))
+pub last-test : (n : ℕ) → IsTrue (nat_lt n (n + 1))
 last-test n = grind arith
 
 next_module-owned : (b : Bench) (name : List ℕ) → OwnsModule (with_module name b) (next_module b)
 next_module-owned b name = record { of_file = refl; of_kind = rw (length-append b.modules (new_module name ∷ [])) (last-test (length b.modules)) }
 
 RecordsSound-module : (b : Bench) (name : List ℕ) → RecordsSound b → RecordsSound (with_module name b)
-RecordsSound-module b name s =
-    let g = Grows-module b name in
-    let c : Bench = with_module name b in
-    record {
-      ports = Each-map (PortSound-kept b c g) b.ports s.ports;
-      assignments = Each-map (AssignmentSound-kept b c g) b.assignments s.assignments;
-      modules = Each-push (ModuleSound c) b.modules (new_module name) (Each-map (ModuleSound-kept b c g) b.modules s.modules) (tt, tt);
-      items = Each-push (EntrySound c) b.items (ModuleEntry (next_module b)) (Each-map (EntrySound-kept b c g) b.items s.items) (next_module-owned b name);
-    }
+RecordsSound-module b name s = 
+  let c : Bench = with_module name b in
+  let k = carried b c (Grows-module b name) s in
+  record { ports = k.ports; assignments = k.assignments; modules = Each-push (ModuleSound c) b.modules (new_module name) k.modules (record { parameters = tt; ports = tt; members = tt }); definitions = k.definitions; artifacts = k.artifacts; instances = k.instances; items = Each-push (EntrySound c) b.items (ModuleEntry (next_module b)) k.items (next_module-owned b name) }
 
 pub module-fresh :
-    (m : Module) (name : List ℕ) → string_bytes m.name ≡ name → m.ports.items ≡ [] → m.members.items ≡ [] → m.names.keys ≡ [] → module_record m ≡ new_module name
-module-fresh m name n p q k = rw (p, q, k) (ap new_module n)
+  (m : Module) (name : List ℕ) → string_bytes m.name ≡ name → m.parameters.items ≡ [] → m.ports.items ≡ [] → m.members.items ≡ [] → m.names.keys ≡ [] → module_record m ≡ new_module name
+module-fresh m name n o p q k = rw (o, p, q, k) (ap new_module n)
 
 pub bench-module :
     (a b : Raw) (m : Module) (item : FileItem) (ms : List Module) (is : List FileItem) (name : List ℕ) → b ≡ a →
@@ -165,42 +151,51 @@ id-of a b e = rw (← e) (built-id (no_nodes b.id) b.terms)
 
 -- A change of one module.
 
-Grows-changed : (b : Bench) (i : ℕ) (f : ModuleRecord → ModuleRecord) → Grows b (record b { modules = changed_at i f b.modules })
-Grows-changed b i f = record { nodes = Extends-same b.nodes; ports = omega arith; assignments = λ i a h. h; modules = omega (arith, length-changed_at f b.modules i) }
+pub Grows-changed : (b : Bench) (i : ℕ) (f : ModuleRecord → ModuleRecord) → Grows b (record b { modules = changed_at i f b.modules })
+Grows-changed b i f = record { nodes = Extends-same b.nodes; ports = omega arith; assignments = λ i a h. h; modules = omega (arith, length-changed_at f b.modules i); definitions = omega arith; artifacts = λ i a h. h; instances = omega arith }
 
-RecordsSound-changed :
-    (b : Bench) (i : ℕ) (f : ModuleRecord → ModuleRecord) → ((m : ModuleRecord) → ModuleSound b m → ModuleSound b (f m)) → RecordsSound b →
-    RecordsSound (record b { modules = changed_at i f b.modules })
-RecordsSound-changed b i f k s =
-    let g = Grows-changed b i f in
-    let c : Bench = record b { modules = changed_at i f b.modules } in
-    record {
-      ports = Each-map (PortSound-kept b c g) b.ports s.ports;
-      assignments = Each-map (AssignmentSound-kept b c g) b.assignments s.assignments;
-      modules = Each-map (ModuleSound-kept b c g) (changed_at i f b.modules) (Each-changed_at (ModuleSound b) f k b.modules i s.modules);
-      items = Each-map (EntrySound-kept b c g) b.items s.items;
-    }
+pub RecordsSound-changed :
+  (b : Bench) (i : ℕ) (f : ModuleRecord → ModuleRecord) → ((m : ModuleRecord) → ModuleSound b m → ModuleSound b (f m)) → RecordsSound b →
+  RecordsSound (record b { modules = changed_at i f b.modules })
+RecordsSound-changed b i f q s =
+  let g = Grows-changed b i f in
+  let c : Bench = record b { modules = changed_at i f b.modules } in
+  let k = carried b c g s in
+  record {
+    ports = k.ports;
+    assignments = k.assignments;
+    modules = Each-map (ModuleSound-kept b c g) (changed_at i f b.modules) (Each-changed_at (ModuleSound b) f q b.modules i s.modules);
+    definitions = k.definitions;
+    artifacts = k.artifacts;
+    instances = k.instances;
+    items = k.items
+  }
 
--- A member more in a module.
-
-pub bench-member :
-    (a b : Raw) (m : VastModule) (entry : MemberEntry) (ms : List Module) → b ≡ a →
-    map module_record ms ≡ changed_at m.id.index (with_listed_member entry) (map module_record b.modules) →
-    bench (record b { modules = ms }) ≡ with_member m entry (bench a)
+pub bench-changed :
+  (a b : Raw) (i : ℕ) (f : ModuleRecord → ModuleRecord) (ms : List Module) → b ≡ a →
+  map module_record ms ≡ changed_at i f (map module_record b.modules) →
+  bench (record b { modules = ms }) ≡ record (bench a) { modules = changed_at i f (bench a).modules }
 unfolding bench
-bench-member a b m entry ms e q = rw (q, ← e) refl
+bench-changed a b i f ms e q = rw (q, ← e) refl
 
-pub sound-member :
-    (a b : Raw) (m : VastModule) (entry : MemberEntry) (ms : List Module) → b ≡ a →
-    map module_record ms ≡ changed_at m.id.index (with_listed_member entry) (map module_record b.modules) → IsSound b → MemberSound (bench a) entry →
-    IsSound (record b { modules = ms })
-sound-member a b m entry ms e q s h =
-    let P : Raw → Type 0 = λ y. RecordsSound (bench y) in
-    record {
-      terms = s.terms;
-      records = rw (bench-member a b m entry ms e q)
-          (RecordsSound-changed (bench a) m.id.index (with_listed_member entry) (λ x k. (k.0, Each-push (MemberSound (bench a)) x.members entry k.1 h)) (subst P e s.records));
-    }
+pub sound-changed :
+  (a b : Raw) (i : ℕ) (f : ModuleRecord → ModuleRecord) (ms : List Module) → b ≡ a →
+  map module_record ms ≡ changed_at i f (map module_record b.modules) → IsSound b →
+  ((x : ModuleRecord) → ModuleSound (bench a) x → ModuleSound (bench a) (f x)) → IsSound (record b { modules = ms })
+sound-changed a b i f ms e q s h =
+  let P : Raw → Type 0 = λ y. RecordsSound (bench y) in
+  record { terms = s.terms; records = rw (bench-changed a b i f ms e q) (RecordsSound-changed (bench a) i f h (subst P e s.records)) }
+
+-- A member more in a module, with a name or without; a parameter more in its header.
+
+pub member-listed : (b : Bench) (entry : MemberEntry) → MemberSound b entry → (x : ModuleRecord) → ModuleSound b x → ModuleSound b (with_listed_member entry x)
+member-listed b entry h x k = record { parameters = k.parameters; ports = k.ports; members = Each-push (MemberSound b) x.members entry k.members h }
+
+pub named-listed : (b : Bench) (entry : MemberEntry) (name : List ℕ) → MemberSound b entry → (x : ModuleRecord) → ModuleSound b x → ModuleSound b (with_named_member entry name x)
+named-listed b entry name h x k = record { parameters = k.parameters; ports = k.ports; members = Each-push (MemberSound b) x.members entry k.members h }
+
+pub parameter-listed : (b : Bench) (p : ParameterPortRecord) → ParameterPortSound b p → (x : ModuleRecord) → ModuleSound b x → ModuleSound b (with_parameter_port p x)
+parameter-listed b p h x k = record { parameters = Each-push (ParameterPortSound b) x.parameters p k.parameters h; ports = k.ports; members = k.members }
 
 -- Nothing that contracts see has changed: vectors may have grown in capacity.
 
@@ -220,18 +215,13 @@ sound-same a b ts r ps ms e t p m s =
 -- A port more: its name, its record, and its place in its module.
 
 Grows-listed : (b : Bench) (p : PortRecord) → Grows b (record b { ports = b.ports ++ p ∷ [] })
-Grows-listed b p = record { nodes = Extends-same b.nodes; ports = omega (arith, length-append b.ports (p ∷ [])); assignments = λ i a h. h; modules = omega arith }
+Grows-listed b p = record { nodes = Extends-same b.nodes; ports = omega (arith, length-append b.ports (p ∷ [])); assignments = λ i a h. h; modules = omega arith; definitions = omega arith; artifacts = λ i a h. h; instances = omega arith }
 
 RecordsSound-listed : (b : Bench) (p : PortRecord) → RecordsSound b → PortSound b p → RecordsSound (record b { ports = b.ports ++ p ∷ [] })
-RecordsSound-listed b p s h =
-    let g = Grows-listed b p in
-    let c : Bench = record b { ports = b.ports ++ p ∷ [] } in
-    record {
-      ports = Each-push (PortSound c) b.ports p (Each-map (PortSound-kept b c g) b.ports s.ports) h;
-      assignments = Each-map (AssignmentSound-kept b c g) b.assignments s.assignments;
-      modules = Each-map (ModuleSound-kept b c g) b.modules s.modules;
-      items = Each-map (EntrySound-kept b c g) b.items s.items;
-    }
+RecordsSound-listed b p s h = 
+  let c : Bench = record b { ports = b.ports ++ p ∷ [] } in
+  let k = carried b c (Grows-listed b p) s in
+  record { ports = Each-push (PortSound c) b.ports p k.ports h; assignments = k.assignments; modules = k.modules; definitions = k.definitions; artifacts = k.artifacts; instances = k.instances; items = k.items }
 
 abbrev name_root : Bench → List ℕ → VastDataType → Root
 name_root b n t = ExprRoot (NameTree n (Typed (type_of b t)))
@@ -251,11 +241,11 @@ RecordsSound-port :
     (b : Bench) (m : VastModule) (d : ModulePortDirection) (k : DataKind) (n : List ℕ) (t : VastDataType) → RecordsSound b → OwnsType b t →
     RecordsSound (with_port m d k n t b)
 RecordsSound-port b m d k n t s h =
-    let p : PortRecord = record { direction = d; kind = k; name = n; data_type = t; logic_ref = next_logic_ref b } in
-    let b1 : Bench = with_root b (name_root b n t) in
-    let b2 : Bench = record b1 { ports = b.ports ++ p ∷ [] } in
-    RecordsSound-changed b2 m.id.index (with_listed_port (next_port b) n)
-    (λ x q. (Each-push (OwnsPort b2) x.ports (next_port b) q.0 (next_port-owned b1 p), q.1))
+  let p : PortRecord = record { direction = d; kind = k; name = n; data_type = t; logic_ref = next_logic_ref b } in
+  let b1 : Bench = with_root b (name_root b n t) in
+  let b2 : Bench = record b1 { ports = b.ports ++ p ∷ [] } in
+  RecordsSound-changed b2 m.id.index (with_listed_port (next_port b) n)
+    (λ x q. record { parameters = q.parameters; ports = Each-push (OwnsPort b2) x.ports (next_port b) q.ports (next_port-owned b1 p); members = q.members })
     (RecordsSound-listed b1 p (RecordsSound-root b (name_root b n t) s) (named-sound b n t d k h))
 
 pub bench-port :

@@ -5,6 +5,10 @@ pub mod Products
 pub mod Arrays
 pub mod Sound
 pub mod Growth
+pub mod Arenas
 pub mod Readers
+pub mod Parting
+pub mod Hoisting
 pub mod Laws
 pub mod Fixed
+pub mod RecordLaws

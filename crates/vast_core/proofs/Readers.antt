@@ -4,14 +4,18 @@ use Rattle.vast_core.specs.declared.node.Port.{Port}
 use Rattle.vast_core.specs.declared.node.Module.{Module}
 use Rattle.vast_core.specs.declared.node.FileItem.{FileItem}
 use Rattle.vast_core.specs.declared.node.Assignment.{Assignment}
+use Rattle.vast_core.specs.declared.node.Definition.{Definition}
+use Rattle.vast_core.specs.declared.node.Artifact.{Artifact}
+use Rattle.vast_core.specs.declared.node.Instance.{Instance}
 use Rattle.vast_core.specs.Raw.{Raw}
-use Rattle.vast_core.specs.Records.{port_record, module_record, file_entry}
+use Rattle.vast_core.specs.Records.{port_record, module_record, definition_record, artifact_record, instance_record, file_entry}
 use Rattle.vast_core.specs.Bench.{Bench, is_continuous}
 use Rattle.vast_core.specs.View.{bench}
-use Rattle.vast_core.specs.Sound.{Each, PortSound, AssignmentSound, ModuleSound, EntrySound, IsSound}
+use Rattle.vast_core.specs.Sound.{Each, PortSound, AssignmentSound, ModuleSound, DefinitionSound, ArtifactSound, InstanceSound, EntrySound, IsSound}
 use Rattle.vast_core.proofs.Lists.{slice_get-map, slice_get-at, slice_get-past, Each-at, All-Each}
 use Rattle.std.proofs.lemmas.Option.{slice_get_within}
 use Rattle.vast_core.proofs.Growth.{length-modules, length-ports, length-assignments}
+use Rattle.vast_core.proofs.Arenas.{length-definitions, length-artifacts, length-instances}
 
 map-same : {A : Type 0} (xs : List A) → map (λ x. x) xs ≡ xs
 map-same [] = refl
@@ -79,3 +83,49 @@ items-sound a b e s = let P : Raw → Type 0 = λ r. All (λ x. EntrySound (benc
 pub items-of : (a b : Raw) → b ≡ a → (bench a).items ≡ map file_entry b.items
 unfolding bench
 items-of a b e = rw (← e) refl
+
+pub definition-below : (a b : Raw) (i : ℕ) → b ≡ a → IsTrue (nat_lt i (length (bench a).definitions)) → i < length b.definitions
+definition-below a b i e h = let k : i < length (bench a).definitions = below-of i (length (bench a).definitions) h in rw (length-definitions a b e) at k
+
+pub definition-there : (a b : Raw) (i : ℕ) (x : Definition) → b ≡ a → i < length b.definitions → x ≡ get_or b.definitions i x → slice_get (bench a).definitions i ≡ Some (definition_record x)
+unfolding bench
+definition-there a b i x e below is = rw (← e) (slice_get-map definition_record b.definitions i x below is)
+
+definition-own : (b : Raw) (i : ℕ) (x : Definition) → IsSound b → i < length b.definitions → x ≡ get_or b.definitions i x → DefinitionSound (bench b) (definition_record x)
+unfolding bench
+definition-own b i x s below is = Each-at definition_record (DefinitionSound (bench b)) b.definitions i x s.records.definitions below is
+
+pub definition-sound : (a b : Raw) (i : ℕ) (x : Definition) → b ≡ a → IsSound b → i < length b.definitions → x ≡ get_or b.definitions i x → DefinitionSound (bench a) (definition_record x)
+definition-sound a b i x e s below is = let P : Raw → Type 0 = λ r. DefinitionSound (bench r) (definition_record x) in subst P e (definition-own b i x s below is)
+
+pub artifact-past : (a b : Raw) (i : ℕ) → b ≡ a → length b.artifacts ≤ i → slice_get (bench a).artifacts i ≡ None
+artifact-past a b i e past = slice_get-past (bench a).artifacts i (rw (length-artifacts a b e) past)
+
+pub artifact-there : (a b : Raw) (i : ℕ) (x : Artifact) → b ≡ a → i < length b.artifacts → x ≡ get_or b.artifacts i x → slice_get (bench a).artifacts i ≡ Some (artifact_record x)
+unfolding bench
+artifact-there a b i x e below is = rw (← e) (slice_get-map artifact_record b.artifacts i x below is)
+
+artifact-own : (b : Raw) (i : ℕ) (x : Artifact) → IsSound b → i < length b.artifacts → x ≡ get_or b.artifacts i x → ArtifactSound (bench b) (artifact_record x)
+unfolding bench
+artifact-own b i x s below is = Each-at artifact_record (ArtifactSound (bench b)) b.artifacts i x s.records.artifacts below is
+
+pub artifact-sound : (a b : Raw) (i : ℕ) (x : Artifact) → b ≡ a → IsSound b → i < length b.artifacts → x ≡ get_or b.artifacts i x → ArtifactSound (bench a) (artifact_record x)
+artifact-sound a b i x e s below is = let P : Raw → Type 0 = λ r. ArtifactSound (bench r) (artifact_record x) in subst P e (artifact-own b i x s below is)
+
+pub instance-below : (a b : Raw) (i : ℕ) → b ≡ a → IsTrue (nat_lt i (length (bench a).instances)) → i < length b.instances
+instance-below a b i e h = let k : i < length (bench a).instances = below-of i (length (bench a).instances) h in rw (length-instances a b e) at k
+
+pub instance-there : (a b : Raw) (i : ℕ) (x : Instance) → b ≡ a → i < length b.instances → x ≡ get_or b.instances i x → slice_get (bench a).instances i ≡ Some (instance_record x)
+unfolding bench
+instance-there a b i x e below is = rw (← e) (slice_get-map instance_record b.instances i x below is)
+
+instance-own : (b : Raw) (i : ℕ) (x : Instance) → IsSound b → i < length b.instances → x ≡ get_or b.instances i x → InstanceSound (bench b) (instance_record x)
+unfolding bench
+instance-own b i x s below is = Each-at instance_record (InstanceSound (bench b)) b.instances i x s.records.instances below is
+
+pub instance-sound : (a b : Raw) (i : ℕ) (x : Instance) → b ≡ a → IsSound b → i < length b.instances → x ≡ get_or b.instances i x → InstanceSound (bench a) (instance_record x)
+instance-sound a b i x e s below is = let P : Raw → Type 0 = λ r. InstanceSound (bench r) (instance_record x) in subst P e (instance-own b i x s below is)
+
+-- An assignment, of whatever kind.
+pub statement-below : (a b : Raw) (i : ℕ) → b ≡ a → IsTrue (nat_lt i (length (bench a).assignments)) → i < length b.assignments
+statement-below a b i e h = let k : i < length (bench a).assignments = below-of i (length (bench a).assignments) h in rw (length-assignments a b e) at k

@@ -30,16 +30,12 @@ use Rattle.vast_core.specs.declared.handle.GenerateLoop.{GenerateLoop}
 use Rattle.vast_core.specs.declared.kind.VastFileType.{VastFileType}
 use Rattle.vast_core.specs.declared.node.Assignment.{Assignment}
 use Rattle.vast_core.specs.declared.node.Function.{Function}
-use Rattle.vast_core.specs.declared.node.Definition.{Definition}
-use Rattle.vast_core.specs.declared.node.Artifact.{Artifact}
-use Rattle.vast_core.specs.declared.node.Artifact.TheVariants.{BlankLine as BlankLineOf, Comment as CommentOf, Inline as InlineOf, MacroStatement as MacroOf}
-use Rattle.vast_core.specs.declared.node.Instance.{Instance}
 use Rattle.vast_core.specs.declared.node.AlwaysBlock.{AlwaysBlock}
 use Rattle.vast_core.specs.declared.node.Nest.{Nest}
 use Rattle.vast_core.specs.declared.node.Nest.TheVariants.{Block as BlockOf, Conditional as ConditionalOf, Case as CaseOf, Loop as LoopOf}
 use Rattle.vast_core.specs.Handles.{module_index}
 use Rattle.vast_core.specs.Nodes.{Nodes, no_nodes, with_root, ExprRoot, TypeRoot, IsOwned, is_expr_root, is_type_root, is_root_of, is_name, is_index, is_slice, is_macro, expr_in, type_in, maybe_type_in, maybe_expr_in, exprs_in, OptionHolds}
-use Rattle.vast_core.specs.Records.{PortRecord, ModuleRecord, FileEntry, IsFree}
+use Rattle.vast_core.specs.Records.{PortRecord, ModuleRecord, DefinitionRecord, ArtifactRecord, BlankLineRecord, CommentRecord, InlineRecord, MacroRecord, InstanceRecord, FileEntry, IsFree}
 
 pub record Bench : Type 0 where
   pub file_type : VastFileType
@@ -49,9 +45,9 @@ pub record Bench : Type 0 where
   pub assignments : List Assignment
   pub modules : List ModuleRecord
   pub functions : List Function
-  pub definitions : List Definition
-  pub artifacts : List Artifact
-  pub instances : List Instance
+  pub definitions : List DefinitionRecord
+  pub artifacts : List ArtifactRecord
+  pub instances : List InstanceRecord
   pub always_blocks : List AlwaysBlock
   pub items : List FileEntry
 
@@ -141,20 +137,20 @@ abbrev pub OwnsContinuous : Bench → ContinuousAssignment → Type 0
 OwnsContinuous b a = IsOwned b.nodes.id a.id (is_continuous (slice_get b.assignments a.id.index))
 
 -- Artifacts of a kind.
-abbrev pub is_blank_line : Option Artifact → Bool
-is_blank_line (Some BlankLineOf) = true
+abbrev pub is_blank_line : Option ArtifactRecord → Bool
+is_blank_line (Some BlankLineRecord) = true
 is_blank_line _ = false
 
-abbrev pub is_comment : Option Artifact → Bool
-is_comment (Some (CommentOf text)) = true
+abbrev pub is_comment : Option ArtifactRecord → Bool
+is_comment (Some (CommentRecord text)) = true
 is_comment _ = false
 
-abbrev pub is_inline : Option Artifact → Bool
-is_inline (Some (InlineOf text)) = true
+abbrev pub is_inline : Option ArtifactRecord → Bool
+is_inline (Some (InlineRecord text)) = true
 is_inline _ = false
 
-abbrev pub is_macro_statement : Option Artifact → Bool
-is_macro_statement (Some (MacroOf call semicolon)) = true
+abbrev pub is_macro_statement : Option ArtifactRecord → Bool
+is_macro_statement (Some (MacroRecord call semicolon)) = true
 is_macro_statement _ = false
 
 abbrev pub OwnsBlankLine : Bench → BlankLine → Type 0

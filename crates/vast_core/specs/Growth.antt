@@ -19,7 +19,7 @@ use Rattle.vast_core.specs.declared.kind.DataKind.{DataKind}
 use Rattle.vast_core.specs.declared.node.Assignment.{Assignment}
 use Rattle.vast_core.specs.Handles.{module_index, indexable_expr_to_expr}
 use Rattle.vast_core.specs.Nodes.{Root, ExprRoot, TypeRoot, with_root as with_node}
-use Rattle.vast_core.specs.Records.{PortRecord, ModuleEntry, MemberEntry, new_module, with_port as with_listed_port, with_member as with_listed_member, changed_at}
+use Rattle.vast_core.specs.Records.{PortRecord, FileEntry, ModuleEntry, MemberEntry, DeclarationEntry, new_module, with_port as with_listed_port, with_member as with_listed_member, with_named_member as with_listed_name, changed_at}
 use Rattle.vast_core.specs.Bench.{Bench, tree_of, trees_of, type_of}
 
 -- The call answers this and leaves this, or memory was refused and nothing changed.
@@ -129,3 +129,15 @@ with_assignment a b = record b { assignments = b.assignments ++ a ∷ [] }
 -- A member more at the end of the module's members.
 abbrev pub with_member : VastModule → MemberEntry → Bench → Bench
 with_member m entry b = record b { modules = changed_at (module_index m) (with_listed_member entry) b.modules }
+
+-- The same, with a name that is taken from then on.
+abbrev pub with_named_member : VastModule → MemberEntry → List ℕ → Bench → Bench
+with_named_member m entry name b = record b { modules = changed_at (module_index m) (with_listed_name entry name) b.modules }
+
+-- A wire, reg or logic more: its place at the end of the module's members, and its name as an expression.
+abbrev pub with_declaration : VastModule → DataKind → List ℕ → VastDataType → Bench → Bench
+with_declaration m kind name data_type b = with_expr (with_named_member m (DeclarationEntry kind name data_type) name b) (NameTree name (Typed (type_of b data_type)))
+
+-- An item more at the end of the file.
+abbrev pub with_item : FileEntry → Bench → Bench
+with_item entry b = record b { items = b.items ++ entry ∷ [] }

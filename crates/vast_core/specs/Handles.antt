@@ -3,6 +3,12 @@ use Rattle.std.specs.Prelude.{ℕ}
 use Rattle.vast_core.specs.declared.handle.VastModule.{VastModule}
 use Rattle.vast_core.specs.declared.handle.ModulePort.{ModulePort}
 use Rattle.vast_core.specs.declared.handle.ContinuousAssignment.{ContinuousAssignment}
+use Rattle.vast_core.specs.declared.handle.VastStatement.{VastStatement}
+use Rattle.vast_core.specs.declared.handle.Def.{Def}
+use Rattle.vast_core.specs.declared.handle.Comment.{Comment}
+use Rattle.vast_core.specs.declared.handle.InlineVerilogStatement.{InlineVerilogStatement}
+use Rattle.vast_core.specs.declared.handle.MacroStatement.{MacroStatement}
+use Rattle.vast_core.specs.declared.handle.Instantiation.{Instantiation}
 use Rattle.vast_core.specs.declared.handle.VastDataType.{VastDataType}
 use Rattle.vast_core.specs.declared.handle.LogicRef.{LogicRef}
 use Rattle.vast_core.specs.declared.handle.Expr.{Expr}
@@ -31,6 +37,27 @@ port_index p = p.id.index
 -- An assignment's place among the file's assignments.
 abbrev pub continuous_index : ContinuousAssignment → ℕ
 continuous_index a = a.id.index
+
+abbrev pub statement_index : VastStatement → ℕ
+statement_index s = s.id.index
+
+-- A definition's place among the file's definitions.
+abbrev pub definition_index : Def → ℕ
+definition_index d = d.id.index
+
+-- An artifact's place among the file's artifacts.
+abbrev pub comment_index : Comment → ℕ
+comment_index a = a.id.index
+
+abbrev pub inline_index : InlineVerilogStatement → ℕ
+inline_index a = a.id.index
+
+abbrev pub macro_statement_index : MacroStatement → ℕ
+macro_statement_index a = a.id.index
+
+-- An instantiation's place among the file's instantiations.
+abbrev pub instantiation_index : Instantiation → ℕ
+instantiation_index i = i.id.index
 
 -- The same node, as an expression.
 abbrev pub logic_ref_to_expr : LogicRef → Expr

@@ -8,5 +8,8 @@ pub mod Bench
 pub mod BitCount
 pub mod View
 pub mod Growth
+pub mod Artifacts
+pub mod Parameters
+pub mod Hoisting
 pub mod Sound
 pub mod FileTree

@@ -12,12 +12,16 @@ use crate::node::{
 use std::alloc::Global;
 use std::marker::Model;
 
+mod artifacts;
 mod assignments;
 mod bit_count;
 mod expressions;
+mod hoisting;
 mod inspect;
+mod members;
 mod modules;
 pub(crate) mod owns;
+mod parameters;
 mod places;
 mod ports;
 mod terms;

@@ -24,5 +24,8 @@ pub use handle::{
     VastModule, VastStatement, VastStatementBlock,
 };
 pub use kind::{AlwaysKind, DataKind, ModulePortDirection, VastFileType};
-pub use node::{Assignment, ExprNode, FileItem, Member, Module, Port, TypeNode};
+pub use node::{
+    Artifact, Assignment, Connection, Definition, ExprNode, FileItem, Instance, Member, Module,
+    ParameterForm, ParameterPort, Port, TypeNode,
+};
 pub use operator::{BinaryOperator, UnaryOperator};

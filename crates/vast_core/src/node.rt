@@ -1,8 +1,9 @@
 //! Nodes: what the arenas of a file hold, with handles in the place of children.
 
 use crate::handle::{
-    CaseStatement, Conditional, ContinuousAssignment, Expr, LogicRef, MacroRef, ModulePort,
-    VastDataType, VastModule, VastStatement, VastStatementBlock,
+    CaseStatement, Comment, Conditional, ContinuousAssignment, Def, Expr, InlineVerilogStatement,
+    Instantiation, LogicRef, MacroRef, MacroStatement, ModulePort, VastDataType, VastModule,
+    VastStatement, VastStatementBlock,
 };
 use crate::kind::{AlwaysKind, DataKind, ModulePortDirection};
 use crate::operator::{BinaryOperator, UnaryOperator};
@@ -91,16 +92,45 @@ pub struct Assignment {
     pub nonblocking: bool,
 }
 
+/// What a parameter declares.
+#[derive(Drop)]
+pub enum ParameterForm {
+    /// A name alone.
+    Plain(String),
+    /// A name of type `int`.
+    Int(String),
+    /// The kind, the type and the name of a definition.
+    Defined(Def),
+}
+
 /// A member of a module.
 #[derive(Drop)]
 pub enum Member {
+    /// The kind, the name and the type of a wire, reg or logic.
+    Declaration(DataKind, String, VastDataType),
     ContinuousAssignment(ContinuousAssignment),
+    /// Whether the parameter is local, what it declares, and its value.
+    Parameter(bool, ParameterForm, Expr),
+    BlankLine,
+    Comment(Comment),
+    Inline(InlineVerilogStatement),
+    Macro(MacroStatement),
+    Instantiation(Instantiation),
+}
+
+/// A parameter of a module's header.
+#[derive(Drop)]
+pub struct ParameterPort {
+    pub name: String,
+    pub data_type: Option<VastDataType>,
+    pub value: Expr,
 }
 
 /// A module: its lists in the order of the calls, and the names that its ports and variables have taken.
 #[derive(Drop)]
 pub struct Module {
     pub name: String,
+    pub parameters: Vec<ParameterPort>,
     pub ports: Vec<ModulePort>,
     pub members: Vec<Member>,
     pub names: BTreeSet<String>,
@@ -110,6 +140,10 @@ pub struct Module {
 #[derive(Drop)]
 pub enum FileItem {
     Module(VastModule),
+    /// The path of an included file.
+    Include(String),
+    Comment(String),
+    BlankLine,
 }
 
 /// A name that a function declares, as an input or a local.
@@ -150,13 +184,20 @@ pub enum Artifact {
     MacroStatement(MacroRef, bool),
 }
 
-/// An instantiation: a port without an expression is open.
+/// What an instantiation gives to a parameter or to a port of this name; an open port has no expression.
+#[derive(Drop)]
+pub struct Connection {
+    pub name: String,
+    pub value: Option<Expr>,
+}
+
+/// An instantiation of a module.
 #[derive(Drop)]
 pub struct Instance {
     pub module_name: String,
     pub instance_name: String,
-    pub parameters: Vec<(String, Expr)>,
-    pub connections: Vec<(String, Option<Expr>)>,
+    pub parameters: Vec<Connection>,
+    pub connections: Vec<Connection>,
 }
 
 /// An always block, with its events.

@@ -1,13 +1,14 @@
 //! Assignments that members and statements are made of.
 
 ghost use Rattle.std.specs.Prelude.{◌≡◌, false, slice_get};
-ghost use Rattle.vast_core.specs.Handles.{continuous_index};
-ghost use Rattle.vast_core.specs.Bench.{OwnsContinuous, OwnsExpr};
+ghost use Rattle.vast_core.specs.Handles.{continuous_index, statement_index};
+ghost use Rattle.vast_core.specs.Bench.{OwnsContinuous, OwnsStatement, OwnsExpr};
 ghost use Rattle.vast_core.specs.Growth.{Builds, next_continuous, with_assignment};
+ghost use Rattle.vast_core.specs.Artifacts.{next_statement};
 ghost use Rattle.vast_core.specs.View.{bench};
 
 use crate::ast::Ast;
-use crate::handle::{ContinuousAssignment, Expr, Id};
+use crate::handle::{ContinuousAssignment, Expr, Id, VastStatement};
 use crate::node::Assignment;
 use std::alloc::AllocError;
 
@@ -39,6 +40,34 @@ impl Ast {
         })
     }
 
+    /// Adds an assignment of a procedural block, `lhs <= rhs` where it is nonblocking.
+    ///
+    /// # Errors
+    /// `AllocError` where a growth was refused; nothing changed.
+    pub fn push_assignment(
+        &mut self,
+        lhs: Expr,
+        rhs: Expr,
+        nonblocking: bool,
+    ) -> Result<VastStatement, AllocError>
+        requires lhs { OwnsExpr (bench self.old) lhs }
+        requires rhs { OwnsExpr (bench self.old) rhs }
+        ensures { Builds (bench self.old) (bench self.new) result (next_statement (bench self.old)) (with_assignment (record { lhs = lhs; rhs = rhs; nonblocking = nonblocking }) (bench self.old)) }
+    {
+        let index = self.assignments.len();
+        self.assignments.push(Assignment {
+            lhs,
+            rhs,
+            nonblocking,
+        })?;
+        Ok(VastStatement {
+            id: Id {
+                file_id: self.id,
+                index,
+            },
+        })
+    }
+
     /// The sides of an assignment.
     pub fn continuous(&self, a: ContinuousAssignment) -> &Assignment
         requires { OwnsContinuous (bench self.now) a }
@@ -47,5 +76,15 @@ impl Ast {
         ensures rhs { OwnsExpr (bench self.now) result.now.rhs }
     {
         &self.assignments[a.id.index]
+    }
+
+    /// The sides of an assignment of a procedural block, and its form.
+    pub fn assignment(&self, s: VastStatement) -> &Assignment
+        requires { OwnsStatement (bench self.now) s }
+        ensures there { slice_get (bench self.now).assignments (statement_index s) ≡ Some result.now }
+        ensures lhs { OwnsExpr (bench self.now) result.now.lhs }
+        ensures rhs { OwnsExpr (bench self.now) result.now.rhs }
+    {
+        &self.assignments[s.id.index]
     }
 }

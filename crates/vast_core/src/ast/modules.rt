@@ -1,16 +1,17 @@
 //! Modules, and the items of the file.
 
-ghost use Rattle.std.specs.Prelude.{◌≡◌, ◌↔◌, IsTrue, OnOk, OnErr, All, map, slice_get, string_bytes};
+ghost use Rattle.std.specs.Prelude.{◌≡◌, ◌↔◌, IsTrue, All, length, map, slice_get};
 ghost use Rattle.vast_core.specs.Handles.{module_index};
-ghost use Rattle.vast_core.specs.Records.{module_record, member_entry, file_entry, AssignmentEntry, IsFree, with_member as with_listed_member};
-ghost use Rattle.vast_core.specs.Bench.{OwnsModule, OwnsPort, OwnsContinuous, NameIsFree};
-ghost use Rattle.vast_core.specs.Sound.{MemberSound, EntrySound};
-ghost use Rattle.vast_core.specs.Growth.{Builds, next_module, with_module, with_member};
+ghost use Rattle.vast_core.specs.Records.{module_record, parameter_port_record, member_entry, file_entry, IsFree, IncludeEntry, FileCommentEntry, FileBlankEntry};
+ghost use Rattle.vast_core.specs.Bench.{OwnsModule, OwnsPort};
+ghost use Rattle.vast_core.specs.Sound.{MemberSound, ParameterPortSound, EntrySound};
+ghost use Rattle.vast_core.specs.Growth.{Builds, next_module, with_module, with_item};
+ghost use Rattle.vast_core.specs.Hoisting.{members_of};
 ghost use Rattle.vast_core.specs.View.{bench};
 
 use crate::ast::Ast;
-use crate::handle::{ContinuousAssignment, Id, VastModule};
-use crate::node::{FileItem, Member, Module};
+use crate::handle::{Id, VastModule};
+use crate::node::{FileItem, Module};
 use std::alloc::AllocError;
 use std::collections::BTreeSet;
 
@@ -20,14 +21,6 @@ impl Module {
         ensures { IsTrue result ↔ IsFree name.now (module_record self.now).names }
     {
         !self.names.contains(name)
-    }
-
-    fn push_member(&mut self, member: Member) -> Result<(), AllocError>
-        ensures ok { OnOk result (module_record self.new ≡ with_listed_member (member_entry member) (module_record self.old)) }
-        ensures err { OnErr result (module_record self.new ≡ module_record self.old) }
-    {
-        self.members.push(member)?;
-        Ok(())
     }
 }
 
@@ -51,6 +44,7 @@ impl Ast {
         self.modules
             .push(Module {
                 name,
+                parameters: Vec::new(self.alloc),
                 ports: Vec::new(self.alloc),
                 members: Vec::new(self.alloc),
                 names: BTreeSet::new(self.alloc),
@@ -59,32 +53,63 @@ impl Ast {
         Ok(handle)
     }
 
-    /// Appends the assignment to the module's members. The same assignment may be appended again, anywhere.
+    fn push_item(&mut self, item: FileItem) -> Result<(), AllocError>
+        requires { EntrySound (bench self.old) (file_entry item) }
+        ensures { Builds (bench self.old) (bench self.new) result tt (with_item (file_entry item) (bench self.old)) }
+    {
+        self.items.push(item)?;
+        Ok(())
+    }
+
+    /// Adds the inclusion of a file as the last item.
     ///
     /// # Errors
     /// `AllocError` where a growth was refused; nothing changed.
-    pub fn append_continuous(
-        &mut self,
-        owner: VastModule,
-        a: ContinuousAssignment,
-    ) -> Result<(), AllocError>
-        requires owner { OwnsModule (bench self.old) owner }
-        requires assignment { OwnsContinuous (bench self.old) a }
-        ensures { Builds (bench self.old) (bench self.new) result tt (with_member owner (AssignmentEntry a) (bench self.old)) }
+    pub fn append_include(&mut self, path: &str) -> Result<(), AllocError>
+        ensures { Builds (bench self.old) (bench self.new) result tt (with_item (IncludeEntry path.now) (bench self.old)) }
     {
-        let target = &mut self.modules[owner.id.index];
-        target.push_member(Member::ContinuousAssignment(a))?;
-        Ok(())
+        let path = String::from_str(self.alloc, path)?;
+        self.push_item(FileItem::Include(path))
+    }
+
+    /// Adds a comment as the last item of the file.
+    ///
+    /// # Errors
+    /// `AllocError` where a growth was refused; nothing changed.
+    pub fn append_file_comment(&mut self, text: &str) -> Result<(), AllocError>
+        ensures { Builds (bench self.old) (bench self.new) result tt (with_item (FileCommentEntry text.now) (bench self.old)) }
+    {
+        let text = String::from_str(self.alloc, text)?;
+        self.push_item(FileItem::Comment(text))
+    }
+
+    /// Adds a blank line as the last item of the file.
+    ///
+    /// # Errors
+    /// `AllocError` where a growth was refused; nothing changed.
+    pub fn append_file_blank_line(&mut self) -> Result<(), AllocError>
+        ensures { Builds (bench self.old) (bench self.new) result tt (with_item FileBlankEntry (bench self.old)) }
+    {
+        self.push_item(FileItem::BlankLine)
     }
 
     /// A module's name, lists and names. Its ports and what its members are made of are the file's.
     pub fn module(&self, m: VastModule) -> &Module
         requires { OwnsModule (bench self.now) m }
         ensures there { slice_get (bench self.now).modules (module_index m) ≡ Some (module_record result.now) }
+        ensures parameters { All (λ x. ParameterPortSound (bench self.now) (parameter_port_record x)) result.now.parameters.items }
         ensures ports { All (OwnsPort (bench self.now)) result.now.ports.items }
         ensures members { All (λ x. MemberSound (bench self.now) (member_entry x)) result.now.members.items }
     {
         &self.modules[m.id.index]
+    }
+
+    /// How many members a module has.
+    pub fn member_count(&self, m: VastModule) -> usize
+        requires { OwnsModule (bench self.now) m }
+        ensures { result ≡ length (members_of (slice_get (bench self.now).modules (module_index m))) }
+    {
+        self.module(m).members.len()
     }
 
     /// The items of the file, in order. Its modules are the file's.

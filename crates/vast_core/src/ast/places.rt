@@ -1,9 +1,11 @@
 //! What kind of node an index names.
 
-ghost use Rattle.std.specs.Prelude.{◌≡◌, ◌↔◌, IsTrue, length, nat_lt, slice_get};
+ghost use Rattle.std.specs.Prelude.{◌≡◌, ◌↔◌, IsTrue, IfNone, IfSome, None, Some, length, nat_lt, slice_get};
 ghost use Rattle.std.specs.Option.{option_copied};
 ghost use Rattle.vast_core.specs.Nodes.{is_expr_root, is_type_root, is_name, is_index, is_slice, is_macro};
 ghost use Rattle.vast_core.specs.Bench.{has_root, is_continuous, is_blank_line, is_comment, is_inline, is_macro_statement, is_block, is_conditional, is_case, is_loop};
+ghost use Rattle.vast_core.specs.Records.{artifact_record};
+ghost use Rattle.vast_core.specs.Sound.{ArtifactSound};
 ghost use Rattle.vast_core.specs.View.{bench};
 
 use crate::ast::Ast;
@@ -128,11 +130,16 @@ impl Ast {
 }
 
 impl Ast {
-    #[tactic(auto, unfolding(crate::specs::View::bench))]
-    fn artifact_at(&self, index: usize) -> Option<&Artifact>
-        ensures { slice_get (bench self.now).artifacts index ≡ option_copied result }
+    pub(crate) fn artifact_at(&self, index: usize) -> Option<&Artifact>
+        ensures none { IfNone result (slice_get (bench self.now).artifacts index ≡ None) }
+        ensures some { IfSome result (λ a. slice_get (bench self.now).artifacts index ≡ Some (artifact_record a.now)) }
+        ensures owned { IfSome result (λ a. ArtifactSound (bench self.now) (artifact_record a.now)) }
     {
-        self.artifacts.get(index)
+        if index < self.artifacts.len() {
+            Some(&self.artifacts[index])
+        } else {
+            None
+        }
     }
 
     pub(crate) fn is_blank_line_at(&self, index: usize) -> bool

@@ -1,7 +1,7 @@
 use Rattle.std.proofs.Common.{◌<◌, length, rules}
-use Rattle.vast_core.specs.Records.{member_entry}
+use Rattle.vast_core.specs.Records.{member_entry, parameter_port_record}
 use Rattle.vast_core.specs.Bench.{OwnsPort}
-use Rattle.vast_core.specs.Sound.{MemberSound}
+use Rattle.vast_core.specs.Sound.{MemberSound, ParameterPortSound}
 use Rattle.vast_core.specs.View.{bench}
 use Rattle.vast_core.proofs.Lists.{All-Each, All-own}
 use Rattle.vast_core.proofs.Readers.{module-below, module-there, module-sound}
@@ -20,9 +20,14 @@ returns-clause-there c =
 pub returns-clause-ports : goal.returns-clause-ports
 returns-clause-ports c =
     let below : c.args.m.id.index < length c.self.inside.modules.items = module-below c.args.self.now _ c.args.m.id.index c.self.view_is c.requires.of_kind
-    in All-own (OwnsPort (bench c.args.self.now)) c.index.result.now.ports.items (module-sound c.args.self.now _ c.args.m.id.index _ c.self.view_is c.self.invariant below c.index.ensures).0
+    in All-own (OwnsPort (bench c.args.self.now)) c.index.result.now.ports.items (module-sound c.args.self.now _ c.args.m.id.index _ c.self.view_is c.self.invariant below c.index.ensures).ports
 
 pub returns-clause-members : goal.returns-clause-members
 returns-clause-members c =
     let below : c.args.m.id.index < length c.self.inside.modules.items = module-below c.args.self.now _ c.args.m.id.index c.self.view_is c.requires.of_kind
-    in All-Each member_entry (MemberSound (bench c.args.self.now)) c.index.result.now.members.items (module-sound c.args.self.now _ c.args.m.id.index _ c.self.view_is c.self.invariant below c.index.ensures).1
+    in All-Each member_entry (MemberSound (bench c.args.self.now)) c.index.result.now.members.items (module-sound c.args.self.now _ c.args.m.id.index _ c.self.view_is c.self.invariant below c.index.ensures).members
+
+pub returns-clause-parameters : goal.returns-clause-parameters
+returns-clause-parameters c =
+    let below : c.args.m.id.index < length c.self.inside.modules.items = module-below c.args.self.now _ c.args.m.id.index c.self.view_is c.requires.of_kind
+    in All-Each parameter_port_record (ParameterPortSound (bench c.args.self.now)) c.index.result.now.parameters.items (module-sound c.args.self.now _ c.args.m.id.index _ c.self.view_is c.self.invariant below c.index.ensures).parameters

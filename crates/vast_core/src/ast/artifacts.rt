@@ -1,0 +1,200 @@
+//! Definitions, artifacts and instantiations, which members are made of.
+
+ghost use Rattle.std.specs.Prelude.{◌≡◌, All, Some, length, slice_get, map};
+ghost use Rattle.vast_core.specs.Handles.{definition_index, comment_index, inline_index, macro_statement_index, instantiation_index};
+ghost use Rattle.vast_core.specs.Records.{artifact_record, definition_record, connection_record, instance_record, BlankLineRecord, CommentRecord, InlineRecord, MacroRecord};
+ghost use Rattle.vast_core.specs.Bench.{OwnsType, OwnsMacroRef, OwnsDef, OwnsComment, OwnsInline, OwnsMacroStatement, OwnsInstantiation};
+ghost use Rattle.vast_core.specs.Sound.{ArtifactSound, ConnectionSound};
+ghost use Rattle.vast_core.specs.Growth.{Builds};
+ghost use Rattle.vast_core.specs.Artifacts.{next_def, with_definition, next_artifact, next_blank_line, next_comment, next_inline, next_macro_statement, with_artifact, next_instantiation, with_instance};
+ghost use Rattle.vast_core.specs.View.{bench};
+
+use crate::ast::Ast;
+use crate::handle::{
+    BlankLine, Comment, Def, Id, InlineVerilogStatement, Instantiation, MacroRef, MacroStatement,
+    VastDataType,
+};
+use crate::kind::DataKind;
+use crate::node::{Artifact, Connection, Definition, Instance};
+use std::alloc::AllocError;
+
+impl Ast {
+    /// Adds a definition, from which parameters take kind, type and name.
+    ///
+    /// # Errors
+    /// `AllocError` where a growth was refused; nothing changed.
+    pub fn push_def(
+        &mut self,
+        name: &str,
+        kind: DataKind,
+        data_type: VastDataType,
+    ) -> Result<Def, AllocError>
+        requires { OwnsType (bench self.old) data_type }
+        ensures { Builds (bench self.old) (bench self.new) result (next_def (bench self.old)) (with_definition (record { name = name.now; kind = kind; data_type = data_type }) (bench self.old)) }
+    {
+        let name = String::from_str(self.alloc, name)?;
+        let file_id = self.id;
+        let index = self.definitions.len();
+        self.definitions.push(Definition {
+            name,
+            kind,
+            data_type,
+        })?;
+        Ok(Def {
+            id: Id { file_id, index },
+        })
+    }
+
+    fn push_artifact(&mut self, artifact: Artifact) -> Result<Id, AllocError>
+        requires { ArtifactSound (bench self.old) (artifact_record artifact) }
+        ensures { Builds (bench self.old) (bench self.new) result (next_artifact (bench self.old)) (with_artifact (artifact_record artifact) (bench self.old)) }
+    {
+        let file_id = self.id;
+        let index = self.artifacts.len();
+        self.artifacts.push(artifact)?;
+        Ok(Id { file_id, index })
+    }
+
+    /// Adds a blank line, which no list holds yet.
+    ///
+    /// # Errors
+    /// `AllocError` where a growth was refused; nothing changed.
+    pub fn push_blank_line(&mut self) -> Result<BlankLine, AllocError>
+        ensures { Builds (bench self.old) (bench self.new) result (next_blank_line (bench self.old)) (with_artifact BlankLineRecord (bench self.old)) }
+    {
+        let id = self.push_artifact(Artifact::BlankLine)?;
+        Ok(BlankLine { id })
+    }
+
+    /// Adds a comment, which no list holds yet.
+    ///
+    /// # Errors
+    /// `AllocError` where a growth was refused; nothing changed.
+    pub fn push_comment(&mut self, text: &str) -> Result<Comment, AllocError>
+        ensures { Builds (bench self.old) (bench self.new) result (next_comment (bench self.old)) (with_artifact (CommentRecord text.now) (bench self.old)) }
+    {
+        let text = String::from_str(self.alloc, text)?;
+        let id = self.push_artifact(Artifact::Comment(text))?;
+        Ok(Comment { id })
+    }
+
+    /// Adds a text that is written as it is, which no list holds yet.
+    ///
+    /// # Errors
+    /// `AllocError` where a growth was refused; nothing changed.
+    pub fn push_inline(&mut self, text: &str) -> Result<InlineVerilogStatement, AllocError>
+        ensures { Builds (bench self.old) (bench self.new) result (next_inline (bench self.old)) (with_artifact (InlineRecord text.now) (bench self.old)) }
+    {
+        let text = String::from_str(self.alloc, text)?;
+        let id = self.push_artifact(Artifact::Inline(text))?;
+        Ok(InlineVerilogStatement { id })
+    }
+
+    /// Adds the use of a macro as a member, with a semicolon or without, which no list holds yet.
+    ///
+    /// # Errors
+    /// `AllocError` where a growth was refused; nothing changed.
+    pub fn push_macro_statement(
+        &mut self,
+        call: MacroRef,
+        semicolon: bool,
+    ) -> Result<MacroStatement, AllocError>
+        requires { OwnsMacroRef (bench self.old) call }
+        ensures { Builds (bench self.old) (bench self.new) result (next_macro_statement (bench self.old)) (with_artifact (MacroRecord call semicolon) (bench self.old)) }
+    {
+        let id = self.push_artifact(Artifact::MacroStatement(call, semicolon))?;
+        Ok(MacroStatement { id })
+    }
+
+    /// Adds an instantiation of a module, which no list holds yet.
+    ///
+    /// # Errors
+    /// `AllocError` where a growth was refused; nothing changed.
+    pub fn push_instantiation(
+        &mut self,
+        module_name: &str,
+        instance_name: &str,
+        parameters: Vec<Connection>,
+        connections: Vec<Connection>,
+    ) -> Result<Instantiation, AllocError>
+        requires parameters { All (λ c. ConnectionSound (bench self.old) (connection_record c)) parameters.items }
+        requires connections { All (λ c. ConnectionSound (bench self.old) (connection_record c)) connections.items }
+        ensures { Builds (bench self.old) (bench self.new) result (next_instantiation (bench self.old)) (with_instance (record { module_name = module_name.now; instance_name = instance_name.now; parameters = map connection_record parameters.items; connections = map connection_record connections.items }) (bench self.old)) }
+    {
+        let module_name = String::from_str(self.alloc, module_name)?;
+        let instance_name = String::from_str(self.alloc, instance_name)?;
+        let file_id = self.id;
+        let index = self.instances.len();
+        self.instances.push(Instance {
+            module_name,
+            instance_name,
+            parameters,
+            connections,
+        })?;
+        Ok(Instantiation {
+            id: Id { file_id, index },
+        })
+    }
+
+    /// A definition. Its type is the file's.
+    pub fn definition(&self, d: Def) -> &Definition
+        requires { OwnsDef (bench self.now) d }
+        ensures there { slice_get (bench self.now).definitions (definition_index d) ≡ Some (definition_record result.now) }
+        ensures data_type { OwnsType (bench self.now) result.now.data_type }
+    {
+        &self.definitions[d.id.index]
+    }
+
+    /// The text of a comment.
+    pub fn comment_text(&self, a: Comment) -> &str
+        requires { OwnsComment (bench self.now) a }
+        ensures { slice_get (bench self.now).artifacts (comment_index a) ≡ Some (CommentRecord result.now) }
+    {
+        match self.artifact_at(a.id.index) {
+            Some(Artifact::Comment(text)) => text.as_str(),
+            Some(Artifact::BlankLine) => unreachable!(),
+            Some(Artifact::Inline(_)) => unreachable!(),
+            Some(Artifact::MacroStatement(_, _)) => unreachable!(),
+            None => unreachable!(),
+        }
+    }
+
+    /// The text that is written as it is.
+    pub fn inline_text(&self, a: InlineVerilogStatement) -> &str
+        requires { OwnsInline (bench self.now) a }
+        ensures { slice_get (bench self.now).artifacts (inline_index a) ≡ Some (InlineRecord result.now) }
+    {
+        match self.artifact_at(a.id.index) {
+            Some(Artifact::Inline(text)) => text.as_str(),
+            Some(Artifact::BlankLine) => unreachable!(),
+            Some(Artifact::Comment(_)) => unreachable!(),
+            Some(Artifact::MacroStatement(_, _)) => unreachable!(),
+            None => unreachable!(),
+        }
+    }
+
+    /// The macro that is used, and whether a semicolon follows. The macro is the file's.
+    pub fn macro_statement(&self, a: MacroStatement) -> (MacroRef, bool)
+        requires { OwnsMacroStatement (bench self.now) a }
+        ensures there { slice_get (bench self.now).artifacts (macro_statement_index a) ≡ Some (MacroRecord result.0 result.1) }
+        ensures call { OwnsMacroRef (bench self.now) result.0 }
+    {
+        match self.artifact_at(a.id.index) {
+            Some(Artifact::MacroStatement(call, semicolon)) => (*call, *semicolon),
+            Some(Artifact::BlankLine) => unreachable!(),
+            Some(Artifact::Comment(_)) => unreachable!(),
+            Some(Artifact::Inline(_)) => unreachable!(),
+            None => unreachable!(),
+        }
+    }
+
+    /// An instantiation. What it gives to parameters and ports is the file's.
+    pub fn instance(&self, i: Instantiation) -> &Instance
+        requires { OwnsInstantiation (bench self.now) i }
+        ensures there { slice_get (bench self.now).instances (instantiation_index i) ≡ Some (instance_record result.now) }
+        ensures parameters { All (λ c. ConnectionSound (bench self.now) (connection_record c)) result.now.parameters.items }
+        ensures connections { All (λ c. ConnectionSound (bench self.now) (connection_record c)) result.now.connections.items }
+    {
+        &self.instances[i.id.index]
+    }
+}
