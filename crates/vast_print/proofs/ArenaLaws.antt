@@ -1,20 +1,19 @@
 -- Laws of writing what the arena holds.
-use Rattle.std.proofs.Common.{◌≡◌, ◌<◌, ◌≤◌, ℕ, zero, suc, ◌+◌, ℤ, pos, Bool, true, false, List, [], ◌∷◌, length, get_or, map, drop, refl, sym, ◌∙◌, ap, codes, arith, add-one, Option, Some, None}
+use Rattle.std.proofs.Common.{◌≡◌, ◌<◌, ◌≤◌, ℕ, zero, suc, ◌+◌, ltb, List, [], ◌∷◌, length, get_or, map, drop, refl, sym, ◌∙◌, ap, codes, arith, add-one, Option, Some, None}
 use Rattle.std.proofs.lemmas.List.{drop_all}
-use Rattle.std.specs.Prelude.{◌-ℤ◌}
-use Rattle.std.specs.Fmt.{signed_decimal}
 use Rattle.std.proofs.Common.{Err, subst}
 use Rattle.vast_literal.specs.declared.error.VastFault.{VastFault}
 use Rattle.vast_literal.specs.declared.error.VastFault.TheVariants.{Refused as RefusedBy, Memory as NoMemory}
-use Rattle.vast_literal.specs.Tree.{Dialect, ExprTree, TypeTree, ScalarTree, VectorTree, Members, NoMembers, MoreMembers, PortTree, ModuleTree}
+use Rattle.vast_literal.specs.Tree.{Dialect, Members, NoMembers, MoreMembers, PortTree, ParameterPortTree, Connection as ConnectionTree}
 use Rattle.vast_core.specs.declared.node.Member.{Member}
-use Rattle.vast_core.specs.declared.handle.ModulePort.{ModulePort}
+use Rattle.vast_core.specs.declared.node.ParameterPort.{ParameterPort}
+use Rattle.vast_core.specs.declared.node.Connection.{Connection}
 use Rattle.vast_core.specs.declared.node.FileItem.{FileItem}
 use Rattle.vast_core.specs.Kinds.{dialect_of}
 use Rattle.vast_core.specs.Bench.{Bench}
-use Rattle.vast_core.specs.Records.{member_entry, file_entry}
-use Rattle.vast_core.specs.FileTree.{member_tree, members_tree, item_tree, tree}
-use Rattle.vast_print.specs.Printed.{Printed, plain_text, spaced, wrapped}
+use Rattle.vast_core.specs.Records.{member_entry, parameter_port_record, connection_record, file_entry}
+use Rattle.vast_core.specs.FileTree.{member_tree, members_tree, parameter_port_tree, connection_tree, item_tree, tree}
+use Rattle.vast_print.specs.Printed.{Printed, plain_text}
 use Rattle.vast_print.specs.Page.{Page, written, print}
 use Rattle.vast_print.specs.Ink.{Ink, Wet, Stopped, Writes, word, next, hang, pour}
 use Rattle.vast_print.specs.Draft.{Draft, unwritten, whole}
@@ -22,48 +21,21 @@ use Rattle.vast_print.specs.Emits.{Answers, Faults}
 use Rattle.vast_print.specs.declared.refusal.Refusal.{Refusal}
 use Rattle.vast_print.specs.declared.refusal.PrintFault.{PrintFault}
 use Rattle.vast_print.specs.declared.refusal.PrintFault.TheVariants.{Refused, Memory}
-use Rattle.vast_print.specs.Levels.{limit_wraps}
-use Rattle.vast_print.specs.Text.{expr_text}
-use Rattle.vast_print.specs.Declaration.{base_of, packed_text, unpacked_text, type_text, limit_text}
-use Rattle.vast_print.specs.Words.{signed_opening}
-use Rattle.vast_print.specs.Members.{member_page, members_page}
-use Rattle.vast_print.specs.Layout.{body_page, header_page, ports_page, items_page, layout}
-use Rattle.vast_print.proofs.InkLaws.{pour-empty, hang-stopped, pour-stopped, whole-page, whole-fault, line-text, line-fault}
-use Rattle.vast_print.proofs.Lines.{word-word, word-stopped, word-nothing, next-stopped}
-use Rattle.vast_print.proofs.NumberLaws.{pour-number}
-use Rattle.vast_print.proofs.DeclarationLaws.{pour-scalar-type, pour-vector-type, pour-limit-value, pour-limit, pour-declaration, pour-port, pour-spaced-none}
-use Rattle.vast_print.proofs.MemberLaws.{hang-members-none, hang-members, hang-assign-member}
-use Rattle.vast_print.proofs.ModuleLaws.{hang-body-none, hang-body, hang-header-bare, hang-header-ports, hang-module}
+use Rattle.vast_print.specs.Words.{comma}
+use Rattle.vast_print.specs.Members.{member_page, members_page, entries_page, connection_text, connections_page, instance_head_page}
+use Rattle.vast_print.specs.Layout.{body_page, header_page, ports_page, parameter_port_text, parameter_ports_page, items_page, layout}
+use Rattle.vast_print.proofs.InkLaws.{hang-stopped, pour-stopped, whole-page, whole-fault, line-text, line-fault}
+use Rattle.vast_print.proofs.Lines.{word-stopped, next-stopped}
+use Rattle.vast_print.proofs.DeclarationLaws.{pour-declaration, pour-port, pour-untyped-parameter, pour-typed-parameter}
+use Rattle.vast_print.proofs.ListLaws.{entries-end, entries-step}
+use Rattle.vast_print.proofs.MemberLaws.{hang-members-none, hang-members, hang-declaration, hang-assign-member, hang-comment-member, hang-blank-member, hang-inline-member, hang-macro, hang-parameter, pour-plain-parameter, pour-int-parameter, hang-instance, hang-instance-head, hang-instance-parameters, hang-no-connections, hang-connections, pour-connection, pour-open-connection}
+use Rattle.vast_print.proofs.ModuleLaws.{hang-body-none, hang-body, hang-header-bare, hang-header-ports, hang-header-parameters, hang-header-both, hang-module, parameters-end, parameters-step, hang-include, hang-comment-item, hang-blank-item}
 
--- types
-
-pub pour-scalar : (d : ℕ) (k : Ink) (signed : Bool) → pour d k (written (spaced (type_text (ScalarTree signed)))) ≡ word k (signed_opening signed)
-unfolding base_of packed_text
-pour-scalar d k signed = pour-scalar-type d k (ScalarTree signed) signed refl ∙ pour-spaced-none d (word k (signed_opening signed)) [] refl
-
-pub pour-vector : (d : ℕ) (k : Ink) (w : ExprTree) (v : ℤ) (signed : Bool) →
-    pour d k (written (spaced (type_text (VectorTree w (Some v) signed)))) ≡ word (word (word (word k (signed_opening signed)) (codes "[")) (signed_decimal (v -ℤ pos 1))) (codes ":0] ")
-unfolding base_of packed_text
-pour-vector d k w v signed = pour-vector-type d k (VectorTree w (Some v) signed) w (Some v) signed refl ∙ simp (pour-empty, pour-limit-value, pour-number)
-
-pub pour-symbolic-vector : (d : ℕ) (k : Ink) (w : ExprTree) (signed : Bool) →
-    pour d k (written (spaced (type_text (VectorTree w None signed)))) ≡ word (pour d (word (word k (signed_opening signed)) (codes "[")) (written (limit_text w None))) (codes ":0] ")
-unfolding base_of packed_text
-pour-symbolic-vector d k w signed = pour-vector-type d k (VectorTree w None signed) w None signed refl ∙ simp pour-empty
-
-pub pour-scalar-dimensions : (d : ℕ) (k : Ink) (dialect : Dialect) (signed : Bool) → pour d k (written (plain_text (unpacked_text dialect (ScalarTree signed)))) ≡ k
-unfolding unpacked_text
-pour-scalar-dimensions d k dialect signed = pour-empty d k
-
-pub pour-vector-dimensions : (d : ℕ) (k : Ink) (dialect : Dialect) (w : ExprTree) (v : Option ℤ) (signed : Bool) → pour d k (written (plain_text (unpacked_text dialect (VectorTree w v signed)))) ≡ k
-unfolding unpacked_text
-pour-vector-dimensions d k dialect w v signed = pour-empty d k
+-- a refusal stays
 
 pub ruleset stops = (word-stopped, next-stopped, pour-stopped, hang-stopped)
 
-pub ruleset types = (pour-scalar, pour-vector, pour-symbolic-vector, pour-scalar-dimensions, pour-vector-dimensions, pour-limit, word-stopped, next-stopped, pour-stopped, hang-stopped)
-
-pub ruleset declarations = (pour-declaration, pour-port, word-stopped, next-stopped, pour-stopped, hang-stopped)
+pub ruleset declarations = (pour-declaration, pour-port, pour-untyped-parameter, pour-typed-parameter, stops)
 
 -- modules
 
@@ -85,24 +57,115 @@ pub hang-body-empty : (dialect : Dialect) (b : Bench) (d : ℕ) (k : Ink) (ms : 
 hang-body-empty dialect b d k [] h = hang-body-none d k dialect
 hang-body-empty dialect b d k (m ∷ ms) h = absurd (omega arith)
 
-pub hang-header-empty : (dialect : Dialect) (v : ModulePort → PortTree) (d : ℕ) (k : Ink) (name : List ℕ) (ps : List ModulePort) → length ps ≡ 0 →
-    hang d k (header_page dialect name [] (map v ps)) ≡ word (pour d (word (next d k) (codes "module ")) (written (plain_text name))) (codes ";")
-hang-header-empty dialect v d k name [] h = hang-header-bare d k dialect name
-hang-header-empty dialect v d k name (p ∷ ps) h = absurd (omega arith)
+-- headers, by which of their lists are empty
 
-pub hang-header-some : (dialect : Dialect) (v : ModulePort → PortTree) (d : ℕ) (k : Ink) (name : List ℕ) (ps : List ModulePort) → 0 < length ps →
-    hang d k (header_page dialect name [] (map v ps))
-    ≡ word (next d (hang d (word (pour d (word (next d k) (codes "module ")) (written (plain_text name))) (codes "(")) (ports_page dialect (map v ps)))) (codes ");")
-hang-header-some dialect v d k name [] h = absurd (omega arith)
-hang-header-some dialect v d k name (p ∷ ps) h = hang-header-ports d k dialect name (map v (p ∷ ps)) (omega arith)
+abbrev Opened : (d : ℕ) (k : Ink) (name end : List ℕ) → Ink
+Opened d k name end = word (pour d (word (next d k) (codes "module ")) (written (plain_text name))) end
 
-pub ruleset modules = (hang-assign-member, hang-body-some, hang-body-empty, hang-header-empty, hang-header-some, hang-module, word-stopped, next-stopped, pour-stopped, hang-stopped)
+pub hang-header-of-none :
+    {A B : Type 0} (dialect : Dialect) (u : A → ParameterPortTree) (v : B → PortTree) (d : ℕ) (k : Ink) (name : List ℕ) (ps : List A) (qs : List B) → length ps ≡ 0 → length qs ≡ 0 →
+    hang d k (header_page dialect name (map u ps) (map v qs)) ≡ Opened d k name (codes ";")
+hang-header-of-none dialect u v d k name [] [] h i = hang-header-bare d k dialect name
+hang-header-of-none dialect u v d k name [] (q ∷ qs) h i = absurd (omega arith)
+hang-header-of-none dialect u v d k name (p ∷ ps) qs h i = absurd (omega arith)
 
--- files
+pub hang-header-of-ports :
+    {A B : Type 0} (dialect : Dialect) (u : A → ParameterPortTree) (v : B → PortTree) (d : ℕ) (k : Ink) (name : List ℕ) (ps : List A) (qs : List B) → length ps ≡ 0 → 0 < length qs →
+    hang d k (header_page dialect name (map u ps) (map v qs)) ≡ word (next d (hang d (Opened d k name (codes "(")) (ports_page dialect (map v qs)))) (codes ");")
+hang-header-of-ports dialect u v d k name [] [] h i = absurd (omega arith)
+hang-header-of-ports dialect u v d k name [] (q ∷ qs) h i = hang-header-ports d k dialect name (map v (q ∷ qs)) (omega arith)
+hang-header-of-ports dialect u v d k name (p ∷ ps) qs h i = absurd (omega arith)
+
+pub hang-header-of-parameters :
+    {A B : Type 0} (dialect : Dialect) (u : A → ParameterPortTree) (v : B → PortTree) (d : ℕ) (k : Ink) (name : List ℕ) (ps : List A) (qs : List B) → 0 < length ps → length qs ≡ 0 →
+    hang d k (header_page dialect name (map u ps) (map v qs)) ≡ word (next d (hang d (Opened d k name (codes " #(")) (parameter_ports_page dialect (map u ps)))) (codes ");")
+hang-header-of-parameters dialect u v d k name [] qs h i = absurd (omega arith)
+hang-header-of-parameters dialect u v d k name (p ∷ ps) [] h i = hang-header-parameters d k dialect name (map u (p ∷ ps)) (omega arith)
+hang-header-of-parameters dialect u v d k name (p ∷ ps) (q ∷ qs) h i = absurd (omega arith)
+
+pub hang-header-of-both :
+    {A B : Type 0} (dialect : Dialect) (u : A → ParameterPortTree) (v : B → PortTree) (d : ℕ) (k : Ink) (name : List ℕ) (ps : List A) (qs : List B) → 0 < length ps → 0 < length qs →
+    hang d k (header_page dialect name (map u ps) (map v qs))
+    ≡ word (next d (hang d (word (next d (hang d (Opened d k name (codes " #(")) (parameter_ports_page dialect (map u ps)))) (codes ") (")) (ports_page dialect (map v qs)))) (codes ");")
+hang-header-of-both dialect u v d k name [] qs h i = absurd (omega arith)
+hang-header-of-both dialect u v d k name (p ∷ ps) [] h i = absurd (omega arith)
+hang-header-of-both dialect u v d k name (p ∷ ps) (q ∷ qs) h i = hang-header-both d k dialect name (map u (p ∷ ps)) (map v (q ∷ qs)) (omega arith) (omega arith)
+
+pub length-records : {A B : Type 0} (f : A → B) (xs : List A) → length (map f xs) ≡ length xs
+length-records f [] = refl
+length-records f (x ∷ xs) = ap suc (length-records f xs)
+
+pub ruleset modules = (hang-body-some, hang-body-empty, length-records, hang-header-of-none, hang-header-of-ports, hang-header-of-parameters, hang-header-of-both, hang-module, stops)
+
+pub ruleset members = (hang-declaration, hang-assign-member, hang-comment-member, hang-blank-member, hang-inline-member, hang-macro, stops)
+
+pub ruleset parameters = (hang-parameter, pour-plain-parameter, pour-int-parameter, stops)
+
+-- a list of records, each read from a node
 
 map-map : {A B C : Type 0} (f : A → B) (g : B → C) (xs : List A) → map g (map f xs) ≡ map (λ x. g (f x)) xs
 map-map f g [] = refl
 map-map f g (x ∷ xs) = ap (λ r. g (f x) ∷ r) (map-map f g xs)
+
+-- parameters of a header
+
+parameters-map : (b : Bench) (xs : List ParameterPort) → map (parameter_port_tree b) (map parameter_port_record xs) ≡ map (λ x. parameter_port_tree b (parameter_port_record x)) xs
+parameters-map b xs = map-map parameter_port_record (parameter_port_tree b) xs
+
+pub parameter-ports-end : (dialect : Dialect) (b : Bench) (d : ℕ) (k : Ink) (xs : List ParameterPort) (i : ℕ) → length xs ≤ i → hang d k (parameter_ports_page dialect (map (parameter_port_tree b) (map parameter_port_record (drop i xs)))) ≡ k
+parameter-ports-end dialect b d k xs i h = rw (parameters-map b (drop i xs)) (parameters-end dialect (λ x. parameter_port_tree b (parameter_port_record x)) d k xs i h)
+
+pub parameter-ports-step :
+    (dialect : Dialect) (b : Bench) (d : ℕ) (k : Ink) (xs : List ParameterPort) (i : ℕ) (x : ParameterPort) → i < length xs → x ≡ get_or xs i x →
+    hang d k (parameter_ports_page dialect (map (parameter_port_tree b) (map parameter_port_record (drop i xs))))
+    ≡ hang d (word (pour d (next (d + 1) k) (written (parameter_port_text dialect (parameter_port_tree b (parameter_port_record x))))) (comma (ltb (i + 1) (length xs)))) (parameter_ports_page dialect (map (parameter_port_tree b) (map parameter_port_record (drop (i + 1) xs))))
+parameter-ports-step dialect b d k xs i x h e =
+    rw (parameters-map b (drop i xs), parameters-map b (drop (i + 1) xs)) (parameters-step dialect (λ y. parameter_port_tree b (parameter_port_record y)) d k xs i x h e)
+
+-- instantiations
+
+abbrev Connected : Bench → List Connection → List ConnectionTree
+Connected b xs = map (connection_tree b) (map connection_record xs)
+
+connected-map : (b : Bench) (xs : List Connection) → Connected b xs ≡ map (λ x. connection_tree b (connection_record x)) xs
+connected-map b xs = map-map connection_record (connection_tree b) xs
+
+connected-length : (b : Bench) (xs : List Connection) → length (Connected b xs) ≡ length xs
+connected-length b xs = length-records (connection_tree b) (map connection_record xs) ∙ length-records connection_record xs
+
+pub connected-end : (b : Bench) (d : ℕ) (k : Ink) (xs : List Connection) (i : ℕ) → length xs ≤ i → hang d k (entries_page (map connection_text (Connected b (drop i xs)))) ≡ k
+connected-end b d k xs i h = rw (connected-map b (drop i xs)) (entries-end connection_text (λ x. connection_tree b (connection_record x)) d k xs i h)
+
+pub connected-step :
+    (b : Bench) (d : ℕ) (k : Ink) (xs : List Connection) (i : ℕ) (x : Connection) → i < length xs → x ≡ get_or xs i x →
+    hang d k (entries_page (map connection_text (Connected b (drop i xs))))
+    ≡ hang d (word (pour d (next (d + 1) k) (written (connection_text (connection_tree b (connection_record x))))) (comma (ltb (i + 1) (length xs)))) (entries_page (map connection_text (Connected b (drop (i + 1) xs))))
+connected-step b d k xs i x h e =
+    rw (connected-map b (drop i xs), connected-map b (drop (i + 1) xs)) (entries-step connection_text (λ y. connection_tree b (connection_record y)) d k xs i x h e)
+
+pub hang-head-bare : (b : Bench) (d : ℕ) (k : Ink) (name instance : List ℕ) (xs : List Connection) → length xs ≡ 0 →
+    hang d k (instance_head_page name (Connected b xs) instance)
+    ≡ word (pour d (word (pour d (next d k) (written (plain_text name))) (codes " ")) (written (plain_text instance))) (codes " (")
+hang-head-bare b d k name instance [] h = hang-instance-head d k name instance
+hang-head-bare b d k name instance (x ∷ xs) h = absurd (omega arith)
+
+pub hang-head-parameters : (b : Bench) (d : ℕ) (k : Ink) (name instance : List ℕ) (xs : List Connection) → 0 < length xs →
+    hang d k (instance_head_page name (Connected b xs) instance)
+    ≡ word (pour d (word (next d (hang d (word (pour d (next d k) (written (plain_text name))) (codes " #(")) (entries_page (map connection_text (Connected b xs))))) (codes ") ")) (written (plain_text instance))) (codes " (")
+hang-head-parameters b d k name instance xs h = hang-instance-parameters d k name instance (Connected b xs) (rw (connected-length b xs) h)
+
+pub hang-connections-none : (b : Bench) (d : ℕ) (k : Ink) (xs : List Connection) → length xs ≡ 0 → hang d k (connections_page (Connected b xs)) ≡ next d k
+hang-connections-none b d k [] h = hang-no-connections d k
+hang-connections-none b d k (x ∷ xs) h = absurd (omega arith)
+
+pub hang-connections-some : (b : Bench) (d : ℕ) (k : Ink) (xs : List Connection) → 0 < length xs → hang d k (connections_page (Connected b xs)) ≡ hang d k (entries_page (map connection_text (Connected b xs)))
+hang-connections-some b d k xs h = hang-connections d k (Connected b xs) (rw (connected-length b xs) h)
+
+pub ruleset instances = (hang-instance, hang-head-bare, hang-head-parameters, hang-connections-none, hang-connections-some, pour-connection, pour-open-connection, stops)
+
+-- files
+
+pub ruleset items = (hang-include, hang-comment-item, hang-blank-item, stops)
 
 pub layout-items : (b : Bench) (items : List FileItem) → b.items ≡ map file_entry items → layout (tree b) ≡ items_page (dialect_of b.file_type) (map (λ x. item_tree b (file_entry x)) items)
 unfolding layout tree

@@ -7,6 +7,7 @@ ghost use Rattle.vast_core.specs.Bench.{OwnsExpr, tree_of};
 ghost use Rattle.vast_core.specs.Sound.{EntrySound};
 ghost use Rattle.vast_core.specs.FileTree.{tree, item_tree};
 ghost use Rattle.vast_core.specs.View.{bench};
+ghost use Rattle.vast_literal.specs.Tree.{IncludeItem};
 ghost use Rattle.vast_print.specs.Emits.{Emits, EmitsText, Faults};
 ghost use Rattle.vast_print.specs.Ink.{Writes, Wet, hang, pour, next};
 ghost use Rattle.vast_print.specs.Page.{written};
@@ -16,18 +17,35 @@ ghost use Rattle.vast_print.specs.Layout.{item_page, items_page, layout};
 use crate::expression::print_expression;
 use crate::module::print_module;
 use crate::refusal::PrintFault;
+use crate::words;
 use crate::writer::Writer;
 use std::alloc::{AllocError, Global};
 use vast_core::{Ast, Expr, FileItem};
 use vast_literal::{VastError, VastFault};
 
-#[tactic(auto, using(crate::proofs::ArenaLaws::modules))]
+/// Writes the inclusion of a file.
+#[tactic(auto, using(crate::proofs::ArenaLaws::items))]
+fn print_include(ast: &Ast, path: &str, out: &mut Writer) -> Result<(), PrintFault>
+    ensures { Writes (hang 0 (Wet out.old) (item_page (dialect_of (bench ast.now).file_type) (IncludeItem path.now))) out.new result }
+{
+    out.next(0)?;
+    out.word(words::include())?;
+    out.written(0, path)?;
+    out.word("\"")?;
+    Ok(())
+}
+
+/// Writes an item of the file on lines of its own.
+#[tactic(auto, using(crate::proofs::ArenaLaws::items))]
 fn print_item(ast: &Ast, item: &FileItem, out: &mut Writer) -> Result<(), PrintFault>
     requires { EntrySound (bench ast.now) (file_entry item.now) }
     ensures { Writes (hang 0 (Wet out.old) (item_page (dialect_of (bench ast.now).file_type) (item_tree (bench ast.now) (file_entry item.now)))) out.new result }
 {
     match item {
         FileItem::Module(m) => print_module(ast, *m, out),
+        FileItem::Include(path) => print_include(ast, path, out),
+        FileItem::Comment(text) => Ok(out.comment(0, text)?),
+        FileItem::BlankLine => Ok(out.next(0)?),
     }
 }
 

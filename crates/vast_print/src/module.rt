@@ -1,24 +1,24 @@
 //! Modules: headers and members.
 
-ghost use Rattle.std.specs.Prelude.{◌≡◌, ◌<◌, ◌^◌, All, map, []};
+ghost use Rattle.std.specs.Prelude.{◌≡◌, ◌<◌, ◌^◌, All, map, codes};
 ghost use Rattle.vast_core.specs.Kinds.{dialect_of};
-ghost use Rattle.vast_core.specs.Bench.{OwnsExpr, OwnsModule, OwnsPort, tree_of};
-ghost use Rattle.vast_core.specs.Records.{module_record, member_entry, ModuleEntry};
-ghost use Rattle.vast_core.specs.Sound.{MemberSound};
-ghost use Rattle.vast_core.specs.FileTree.{port_tree, member_tree, members_tree, module_tree, item_tree};
+ghost use Rattle.vast_core.specs.Bench.{OwnsModule, OwnsPort};
+ghost use Rattle.vast_core.specs.Records.{module_record, parameter_port_record, member_entry, ModuleEntry};
+ghost use Rattle.vast_core.specs.Sound.{MemberSound, ParameterPortSound};
+ghost use Rattle.vast_core.specs.FileTree.{parameter_port_tree, port_tree, members_tree, module_tree, item_tree};
 ghost use Rattle.vast_core.specs.View.{bench};
-ghost use Rattle.vast_print.specs.Ink.{Writes, Wet, hang, pour};
-ghost use Rattle.vast_print.specs.Members.{member_page, members_page};
+ghost use Rattle.vast_print.specs.Ink.{Writes, Wet, word, next, hang, pour};
+ghost use Rattle.vast_print.specs.Printed.{plain_text};
 ghost use Rattle.vast_print.specs.Layout.{port_text, ports_page, header_page, body_page, module_page, item_page};
 ghost use Rattle.vast_print.specs.Page.{written};
-ghost use Rattle.vast_print.specs.Words.{comma, endmodule_word};
-ghost use Rattle.vast_literal.specs.Tree.{AssignMember};
 
 use crate::declaration::print_port;
-use crate::expression::print_expression;
+use crate::member::print_members;
+use crate::parameter::print_parameter_ports;
 use crate::refusal::PrintFault;
+use crate::words;
 use crate::writer::Writer;
-use vast_core::{Ast, Expr, Member, Module, ModulePort, VastModule};
+use vast_core::{Ast, Member, Module, ModulePort, VastModule};
 
 /// Writes a port of a header.
 fn print_listed_port(
@@ -49,89 +49,46 @@ fn print_ports(
     for (i, port) in ports.iter().enumerate() {
         out.next(depth + 1)?;
         print_listed_port(ast, *port, depth, out)?;
-        out.word(comma(i + 1 < ports.len()))?;
+        out.word(words::comma_word(i + 1 < ports.len()))?;
     }
     Ok(())
 }
 
-fn comma(more: bool) -> &'static str
-    ensures { result.now ≡ comma more }
+/// Writes the words before a header's first list, or before the end of a header without lists.
+fn print_opening(name: &str, end: &str, out: &mut Writer) -> Result<(), PrintFault>
+    ensures { Writes (word (pour 0 (word (next 0 (Wet out.old)) (codes "module ")) (written (plain_text name.now))) end.now) out.new result }
 {
-    if more { "," } else { "" }
+    out.next(0)?;
+    out.word("module ")?;
+    out.written(0, name)?;
+    out.word(end)?;
+    Ok(())
 }
 
 /// Writes a module's header; a list that is empty isn't written.
 #[tactic(auto, using(crate::proofs::ArenaLaws::modules))]
 fn print_header(ast: &Ast, module: &Module, out: &mut Writer) -> Result<(), PrintFault>
-    requires { All (OwnsPort (bench ast.now)) module.now.ports.items }
-    ensures { Writes (hang 0 (Wet out.old) (header_page (dialect_of (bench ast.now).file_type) (module_record module.now).name [] (map (port_tree (bench ast.now)) module.now.ports.items))) out.new result }
+    requires parameters { All (λ p. ParameterPortSound (bench ast.now) (parameter_port_record p)) module.now.parameters.items }
+    requires ports { All (OwnsPort (bench ast.now)) module.now.ports.items }
+    ensures { Writes (hang 0 (Wet out.old) (header_page (dialect_of (bench ast.now).file_type) (module_record module.now).name (map (parameter_port_tree (bench ast.now)) (map parameter_port_record module.now.parameters.items)) (map (port_tree (bench ast.now)) module.now.ports.items))) out.new result }
 {
-    out.next(0)?;
-    out.word("module ")?;
-    out.written(0, &module.name)?;
-    if module.ports.is_empty() {
-        out.word(";")?;
-    } else {
-        out.word("(")?;
+    if !module.parameters.is_empty() {
+        print_opening(&module.name, " #(", out)?;
+        print_parameter_ports(ast, &module.parameters, 0, out)?;
+        out.next(0)?;
+        if !module.ports.is_empty() {
+            out.word(") (")?;
+            print_ports(ast, &module.ports, 0, out)?;
+            out.next(0)?;
+        }
+        out.word(");")?;
+    } else if !module.ports.is_empty() {
+        print_opening(&module.name, "(", out)?;
         print_ports(ast, &module.ports, 0, out)?;
         out.next(0)?;
         out.word(");")?;
-    }
-    Ok(())
-}
-
-/// Writes `assign lhs = rhs;` on a line of its own.
-#[tactic(auto, using(crate::proofs::ArenaLaws::modules))]
-fn print_assign(
-    ast: &Ast,
-    lhs: Expr,
-    rhs: Expr,
-    depth: usize,
-    out: &mut Writer,
-) -> Result<(), PrintFault>
-    requires lhs { OwnsExpr (bench ast.now) lhs }
-    requires rhs { OwnsExpr (bench ast.now) rhs }
-    ensures { Writes (hang depth (Wet out.old) (member_page (dialect_of (bench ast.now).file_type) (AssignMember (tree_of (bench ast.now) lhs) (tree_of (bench ast.now) rhs)))) out.new result }
-{
-    out.next(depth)?;
-    out.word("assign ")?;
-    print_expression(ast, lhs, depth, out)?;
-    out.word(" = ")?;
-    print_expression(ast, rhs, depth, out)?;
-    out.word(";")?;
-    Ok(())
-}
-
-/// Writes a member on lines of its own.
-fn print_member(
-    ast: &Ast,
-    member: &Member,
-    depth: usize,
-    out: &mut Writer,
-) -> Result<(), PrintFault>
-    requires { MemberSound (bench ast.now) (member_entry member.now) }
-    ensures { Writes (hang depth (Wet out.old) (member_page (dialect_of (bench ast.now).file_type) (member_tree (bench ast.now) (member_entry member.now)))) out.new result }
-{
-    match member {
-        Member::ContinuousAssignment(a) => {
-            let assignment = ast.continuous(*a);
-            print_assign(ast, assignment.lhs, assignment.rhs, depth, out)
-        }
-    }
-}
-
-#[tactic(auto, using(crate::proofs::ArenaLaws::modules))]
-fn print_members(
-    ast: &Ast,
-    members: &[Member],
-    depth: usize,
-    out: &mut Writer,
-) -> Result<(), PrintFault>
-    requires { All (λ m. MemberSound (bench ast.now) (member_entry m)) members.now }
-    ensures { Writes (hang depth (Wet out.old) (members_page (dialect_of (bench ast.now).file_type) (members_tree (bench ast.now) (map member_entry members.now)))) out.new result }
-{
-    for member in members {
-        print_member(ast, member, depth, out)?;
+    } else {
+        print_opening(&module.name, ";", out)?;
     }
     Ok(())
 }
@@ -153,6 +110,7 @@ fn print_body(ast: &Ast, members: &[Member], out: &mut Writer) -> Result<(), Pri
 /// Writes a module: its header, its members and its end.
 #[tactic(auto, using(crate::proofs::ArenaLaws::modules))]
 fn print_parts(ast: &Ast, module: &Module, out: &mut Writer) -> Result<(), PrintFault>
+    requires parameters { All (λ p. ParameterPortSound (bench ast.now) (parameter_port_record p)) module.now.parameters.items }
     requires ports { All (OwnsPort (bench ast.now)) module.now.ports.items }
     requires members { All (λ m. MemberSound (bench ast.now) (member_entry m)) module.now.members.items }
     ensures { Writes (hang 0 (Wet out.old) (module_page (dialect_of (bench ast.now).file_type) (module_tree (bench ast.now) (module_record module.now)))) out.new result }
@@ -160,15 +118,8 @@ fn print_parts(ast: &Ast, module: &Module, out: &mut Writer) -> Result<(), Print
     print_header(ast, module, out)?;
     print_body(ast, &module.members, out)?;
     out.next(0)?;
-    out.word(endmodule_word())?;
+    out.word(words::endmodule())?;
     Ok(())
-}
-
-#[tactic(auto, unfolding(crate::specs::Words::endmodule_word))]
-fn endmodule_word() -> &'static str
-    ensures { result.now ≡ endmodule_word }
-{
-    "endmodule"
 }
 
 /// Writes a module of the file.

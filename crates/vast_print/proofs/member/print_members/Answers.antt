@@ -6,7 +6,7 @@ use Rattle.vast_core.specs.Kinds.{dialect_of}
 use Rattle.vast_core.specs.View.{bench}
 use Rattle.vast_print.specs.Ink.{Wet}
 use Rattle.vast_print.proofs.ArenaLaws.{members-step, members-end, stops}
-use Rattle.vast_print.proofs.module.print_members.Goals as goal
+use Rattle.vast_print.proofs.member.print_members.Goals as goal
 
 abbrev none : Member
 none = ContinuousAssignment (record { id = record { file_id = 0; index = 0 } })

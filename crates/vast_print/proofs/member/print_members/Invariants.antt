@@ -5,7 +5,7 @@ use Rattle.vast_core.specs.FileTree.{members_tree}
 use Rattle.vast_core.specs.View.{bench}
 use Rattle.vast_print.specs.Ink.{Wet, hang}
 use Rattle.vast_print.specs.Members.{members_page}
-use Rattle.vast_print.proofs.module.print_members.Given as goal
+use Rattle.vast_print.proofs.member.print_members.Given as goal
 
 abbrev pub invariant-loop-member : goal.invariant-loop-member
 invariant-loop-member l =

@@ -1,0 +1,12 @@
+use Rattle.std.proofs.Common.{◌≡◌, drop, map}
+use Rattle.vast_core.specs.Records.{connection_record}
+use Rattle.vast_core.specs.FileTree.{connection_tree}
+use Rattle.vast_core.specs.View.{bench}
+use Rattle.vast_print.specs.Ink.{Wet, hang}
+use Rattle.vast_print.specs.Members.{entries_page, connection_text}
+use Rattle.vast_print.proofs.instance.print_entries.Given as goal
+
+abbrev pub invariant-loop-i : goal.invariant-loop-i
+invariant-loop-i l =
+    hang l.depth (Wet l.fn.out) (entries_page (map connection_text (map (connection_tree (bench l.ast)) (map connection_record l.connections))))
+    ≡ hang l.depth (Wet l.out) (entries_page (map connection_text (map (connection_tree (bench l.ast)) (map connection_record (drop l.i l.connections)))))

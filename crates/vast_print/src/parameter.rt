@@ -1,0 +1,129 @@
+//! Parameters, in headers and among members.
+
+ghost use Rattle.std.specs.Prelude.{◌≡◌, ◌<◌, ◌^◌, All, map};
+ghost use Rattle.vast_literal.specs.Tree.{ParameterMember};
+ghost use Rattle.vast_core.specs.Kinds.{dialect_of, kind_of};
+ghost use Rattle.vast_core.specs.Bench.{OwnsExpr, OwnsType, tree_of, type_of};
+ghost use Rattle.vast_core.specs.Records.{parameter_port_record, form_entry};
+ghost use Rattle.vast_core.specs.Sound.{FormSound, ParameterPortSound};
+ghost use Rattle.vast_core.specs.FileTree.{form_tree, parameter_port_tree};
+ghost use Rattle.vast_core.specs.View.{bench};
+ghost use Rattle.vast_print.specs.Ink.{Writes, Wet, hang, pour};
+ghost use Rattle.vast_print.specs.Page.{written};
+ghost use Rattle.vast_print.specs.Declaration.{base_of, base_kind};
+ghost use Rattle.vast_print.specs.Layout.{parameter_port_text, parameter_ports_page};
+ghost use Rattle.vast_print.specs.Members.{parameter_text, member_page};
+
+use crate::declaration::print_declaration;
+use crate::expression::print_expression;
+use crate::refusal::PrintFault;
+use crate::types::base_of;
+use crate::words;
+use crate::writer::Writer;
+use vast_core::{Ast, DataKind, Expr, ParameterForm, ParameterPort, TypeNode, VastDataType};
+
+/// The kind that its type brings to a parameter of a header, through arrays.
+fn base_kind(ast: &Ast, t: VastDataType) -> DataKind
+    requires { OwnsType (bench ast.now) t }
+    ensures { kind_of result ≡ base_kind (base_of (type_of (bench ast.now) t)) }
+{
+    match ast.data_type(base_of(ast, t)) {
+        TypeNode::Scalar(_) => DataKind::Logic,
+        TypeNode::Vector(_, _, _) => DataKind::Logic,
+        TypeNode::Integer(_) => DataKind::Integer,
+        TypeNode::Int(_) => DataKind::Int,
+        TypeNode::External(_) => DataKind::User,
+        TypeNode::Package(_, _) => DataKind::User,
+        TypeNode::Packed(_, _) => DataKind::User,
+        TypeNode::Unpacked(_, _) => DataKind::User,
+    }
+}
+
+/// Writes a parameter of a header behind the last line: a declaration where it has a type, else its name.
+#[tactic(auto, using(crate::proofs::ArenaLaws::declarations))]
+fn print_parameter_port(
+    ast: &Ast,
+    parameter: &ParameterPort,
+    depth: usize,
+    out: &mut Writer,
+) -> Result<(), PrintFault>
+    requires { ParameterPortSound (bench ast.now) (parameter_port_record parameter.now) }
+    ensures { Writes (pour depth (Wet out.old) (written (parameter_port_text (dialect_of (bench ast.now).file_type) (parameter_port_tree (bench ast.now) (parameter_port_record parameter.now))))) out.new result }
+{
+    let name = &parameter.name;
+    out.word(words::parameter_port())?;
+    match parameter.data_type {
+        Some(t) => print_declaration(ast, base_kind(ast, t), t, name, depth, out)?,
+        None => out.written(depth, name)?,
+    }
+    out.word(" = ")?;
+    print_expression(ast, parameter.value, depth, out)
+}
+
+/// Writes the parameters of a header, each on a line one deeper.
+pub(crate) fn print_parameter_ports(
+    ast: &Ast,
+    parameters: &[ParameterPort],
+    depth: usize,
+    out: &mut Writer,
+) -> Result<(), PrintFault>
+    requires owned { All (λ p. ParameterPortSound (bench ast.now) (parameter_port_record p)) parameters.now }
+    requires room { depth < 2 ^ 63 }
+    ensures { Writes (hang depth (Wet out.old) (parameter_ports_page (dialect_of (bench ast.now).file_type) (map (parameter_port_tree (bench ast.now)) (map parameter_port_record parameters.now)))) out.new result }
+{
+    for (i, parameter) in parameters.iter().enumerate() {
+        out.next(depth + 1)?;
+        print_parameter_port(ast, parameter, depth, out)?;
+        out.word(words::comma_word(i + 1 < parameters.len()))?;
+    }
+    Ok(())
+}
+
+/// Writes what a parameter declares behind the last line.
+#[tactic(auto, using(crate::proofs::ArenaLaws::parameters))]
+fn print_form(
+    ast: &Ast,
+    form: &ParameterForm,
+    depth: usize,
+    out: &mut Writer,
+) -> Result<(), PrintFault>
+    requires { FormSound (bench ast.now) (form_entry form.now) }
+    ensures { Writes (pour depth (Wet out.old) (written (parameter_text (dialect_of (bench ast.now).file_type) (form_tree (bench ast.now) (form_entry form.now))))) out.new result }
+{
+    match form {
+        ParameterForm::Plain(name) => out.written(depth, name)?,
+        ParameterForm::Int(name) => {
+            out.word("int ")?;
+            out.written(depth, name)?;
+        }
+        ParameterForm::Defined(definition) => {
+            let definition = ast.definition(*definition);
+            let name = &definition.name;
+            print_declaration(ast, definition.kind, definition.data_type, name, depth, out)?;
+        }
+    }
+    Ok(())
+}
+
+/// Writes a parameter among members on a line of its own.
+#[tactic(auto, using(crate::proofs::ArenaLaws::parameters))]
+pub(crate) fn print_parameter(
+    ast: &Ast,
+    local: bool,
+    form: &ParameterForm,
+    value: Expr,
+    depth: usize,
+    out: &mut Writer,
+) -> Result<(), PrintFault>
+    requires form { FormSound (bench ast.now) (form_entry form.now) }
+    requires value { OwnsExpr (bench ast.now) value }
+    ensures { Writes (hang depth (Wet out.old) (member_page (dialect_of (bench ast.now).file_type) (ParameterMember local (form_tree (bench ast.now) (form_entry form.now)) (tree_of (bench ast.now) value)))) out.new result }
+{
+    out.next(depth)?;
+    out.word(words::parameter(local))?;
+    print_form(ast, form, depth, out)?;
+    out.word(" = ")?;
+    print_expression(ast, value, depth, out)?;
+    out.word(";")?;
+    Ok(())
+}
