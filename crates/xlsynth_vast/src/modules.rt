@@ -1,14 +1,14 @@
-//! Modules and their ports.
+//! Modules: their making and their names.
 
 ghost use Rattle.std.specs.Prelude.{◌≡◌, ◌↔◌, IsTrue, IfOk, string_bytes};
-ghost use Rattle.vast_core.specs.Bench.{OwnsModule, OwnsType, NameIsFree};
-ghost use Rattle.vast_core.specs.Growth.{Builds, next_module, next_logic_ref, with_module, with_port};
+ghost use Rattle.vast_core.specs.Bench.{OwnsModule, NameIsFree};
+ghost use Rattle.vast_core.specs.Growth.{Builds, next_module, with_module};
 ghost use Rattle.vast_core.specs.View.{bench};
 ghost use Rattle.xlsynth_vast.specs.Equations.{name_of};
 
 use crate::file::VastFile;
 use std::alloc::AllocError;
-use vast_core::{DataKind, LogicRef, ModulePortDirection, VastDataType, VastModule};
+use vast_core::VastModule;
 
 impl VastFile {
     /// An empty module, as the last item of the file.
@@ -41,53 +41,5 @@ impl VastFile {
     {
         let module = self.ast.module(owner);
         module.name_is_free(name)
-    }
-
-    /// An input, as the module's last port; answers its name as an expression.
-    ///
-    /// # Errors
-    /// `AllocError` where a growth was refused; the file is unchanged.
-    pub fn add_input(
-        &mut self,
-        owner: VastModule,
-        name: &str,
-        data_type: &VastDataType,
-    ) -> Result<LogicRef, AllocError>
-        requires owner { OwnsModule (bench self.old) owner }
-        requires data_type { OwnsType (bench self.old) data_type.now }
-        requires free { NameIsFree (bench self.old) owner name.now }
-        ensures { Builds (bench self.old) (bench self.new) result (next_logic_ref (bench self.old)) (with_port owner ModulePortDirection.Input DataKind.Wire name.now data_type.now (bench self.old)) }
-    {
-        self.ast.push_port(
-            owner,
-            ModulePortDirection::Input,
-            DataKind::Wire,
-            name,
-            *data_type,
-        )
-    }
-
-    /// An output, as the module's last port; answers its name as an expression.
-    ///
-    /// # Errors
-    /// `AllocError` where a growth was refused; the file is unchanged.
-    pub fn add_output(
-        &mut self,
-        owner: VastModule,
-        name: &str,
-        data_type: &VastDataType,
-    ) -> Result<LogicRef, AllocError>
-        requires owner { OwnsModule (bench self.old) owner }
-        requires data_type { OwnsType (bench self.old) data_type.now }
-        requires free { NameIsFree (bench self.old) owner name.now }
-        ensures { Builds (bench self.old) (bench self.new) result (next_logic_ref (bench self.old)) (with_port owner ModulePortDirection.Output DataKind.Wire name.now data_type.now (bench self.old)) }
-    {
-        self.ast.push_port(
-            owner,
-            ModulePortDirection::Output,
-            DataKind::Wire,
-            name,
-            *data_type,
-        )
     }
 }

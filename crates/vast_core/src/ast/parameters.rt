@@ -92,6 +92,22 @@ impl Ast {
         Ok(self.plant_expr(ExprNode::Name(name, data_type)))
     }
 
+    fn push_plain(
+        &mut self,
+        owner: VastModule,
+        local: bool,
+        name: &str,
+        value: Expr,
+    ) -> Result<Expr, AllocError>
+        requires owner { OwnsModule (bench self.old) owner }
+        requires value { OwnsExpr (bench self.old) value }
+        ensures { Builds (bench self.old) (bench self.new) result (next_expr (bench self.old)) (with_plain_parameter owner local name.now value (bench self.old)) }
+    {
+        let form = ParameterForm::Plain(String::from_str(self.alloc, name)?);
+        let name = String::from_str(self.alloc, name)?;
+        self.push_parameter_member(owner, local, form, value, name, None)
+    }
+
     /// Adds a parameter of this name as the module's last member, and answers its name.
     ///
     /// # Errors
@@ -106,9 +122,7 @@ impl Ast {
         requires value { OwnsExpr (bench self.old) value }
         ensures { Builds (bench self.old) (bench self.new) result (next_parameter_ref (bench self.old)) (with_plain_parameter owner false name.now value (bench self.old)) }
     {
-        let form = ParameterForm::Plain(String::from_str(self.alloc, name)?);
-        let name = String::from_str(self.alloc, name)?;
-        let expr = self.push_parameter_member(owner, false, form, value, name, None)?;
+        let expr = self.push_plain(owner, false, name, value)?;
         Ok(ParameterRef { id: expr.id })
     }
 
@@ -126,9 +140,7 @@ impl Ast {
         requires value { OwnsExpr (bench self.old) value }
         ensures { Builds (bench self.old) (bench self.new) result (next_localparam_ref (bench self.old)) (with_plain_parameter owner true name.now value (bench self.old)) }
     {
-        let form = ParameterForm::Plain(String::from_str(self.alloc, name)?);
-        let name = String::from_str(self.alloc, name)?;
-        let expr = self.push_parameter_member(owner, true, form, value, name, None)?;
+        let expr = self.push_plain(owner, true, name, value)?;
         Ok(LocalparamRef { id: expr.id })
     }
 

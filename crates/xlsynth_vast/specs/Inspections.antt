@@ -1,0 +1,69 @@
+-- What inspections read off a file.
+use Rattle.std.specs.Prelude.{ℕ, ℤ, pos, ◌^◌, int_lt, Bool, true, false, List, [], filter, Option, Some, None, option_map, slice_get, if◌then◌else◌}
+use Rattle.vast_literal.specs.Tree.{ExprTree, NameTree, TypeTree}
+use Rattle.vast_core.specs.declared.handle.VastModule.{VastModule}
+use Rattle.vast_core.specs.declared.handle.ModulePort.{ModulePort}
+use Rattle.vast_core.specs.declared.handle.VastDataType.{VastDataType}
+use Rattle.vast_core.specs.declared.handle.LogicRef.{LogicRef}
+use Rattle.vast_core.specs.declared.kind.ModulePortDirection.{ModulePortDirection}
+use Rattle.vast_core.specs.declared.kind.ModulePortDirection.TheVariants.{Input, Output, InOut}
+use Rattle.vast_core.specs.Handles.{module_index, port_index, logic_ref_to_expr}
+use Rattle.vast_core.specs.Records.{PortRecord, ModuleRecord, MemberEntry}
+use Rattle.vast_core.specs.BitCount.{bit_count}
+use Rattle.vast_core.specs.Hoisting.{members_of}
+use Rattle.vast_core.specs.Bench.{Bench, tree_of, type_of}
+
+-- The members of a module, in order.
+abbrev pub members_in : Bench → VastModule → List MemberEntry
+members_in b m = members_of (slice_get b.modules (module_index m))
+
+-- The ports of a module, in order.
+abbrev pub ports_of : Option ModuleRecord → List ModulePort
+ports_of None = []
+ports_of (Some m) = m.ports
+
+abbrev pub ports_in : Bench → VastModule → List ModulePort
+ports_in b m = ports_of (slice_get b.modules (module_index m))
+
+-- What the record of a port holds.
+abbrev pub port_at : Bench → ModulePort → Option PortRecord
+port_at b p = slice_get b.ports (port_index p)
+
+abbrev pub name_at : Bench → ModulePort → Option (List ℕ)
+name_at b p = option_map (λ (r : PortRecord). r.name) (port_at b p)
+
+abbrev pub direction_at : Bench → ModulePort → Option ModulePortDirection
+direction_at b p = option_map (λ (r : PortRecord). r.direction) (port_at b p)
+
+abbrev pub type_at : Bench → ModulePort → Option VastDataType
+type_at b p = option_map (λ (r : PortRecord). r.data_type) (port_at b p)
+
+abbrev pub logic_ref_at : Bench → ModulePort → Option LogicRef
+logic_ref_at b p = option_map (λ (r : PortRecord). r.logic_ref) (port_at b p)
+
+-- Whether a port has this direction.
+abbrev pub is_direction : ModulePortDirection → Option ModulePortDirection → Bool
+is_direction Input (Some Input) = true
+is_direction Output (Some Output) = true
+is_direction InOut (Some InOut) = true
+is_direction _ _ = false
+
+-- The module's ports of this direction, in order.
+abbrev pub ports_towards : ModulePortDirection → Bench → VastModule → List ModulePort
+ports_towards direction b m = filter (λ p. is_direction direction (direction_at b p)) (ports_in b m)
+
+-- The bits of a type where they are known and a signed number of 64 bits can be them, else 0.
+abbrev pub known_bits : Option ℤ → ℤ
+known_bits None = pos 0
+known_bits (Some n) = if int_lt n (pos (2 ^ 63)) then n else pos 0
+
+abbrev pub width_at : Bench → ModulePort → Option ℤ
+width_at b p = option_map (λ t. known_bits (bit_count (type_of b t))) (type_at b p)
+
+-- The name that an expression is, where it is one.
+abbrev pub named : ExprTree → Option (List ℕ)
+named (NameTree name type) = Some name
+named _ = None
+
+abbrev pub name_of_ref : Bench → LogicRef → Option (List ℕ)
+name_of_ref b r = named (tree_of b (logic_ref_to_expr r))

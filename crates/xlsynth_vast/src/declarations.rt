@@ -1,0 +1,109 @@
+//! Wires, regs and logics of modules (IEEE 1800-2017, 6.7 and 6.8), as in the crate `xlsynth-vast`.
+//!
+//! A module's ports, wires, variables and functions share one set of names; no name is declared twice.
+
+ghost use Rattle.std.specs.Prelude.{◌≡◌, Ok, IfOk, IfErr, codes, map, string_bytes};
+ghost use Rattle.vast_literal.specs.Fault.{OnlyRefusedBy};
+ghost use Rattle.vast_core.specs.Bench.{OwnsModule, OwnsType, NameIsFree};
+ghost use Rattle.vast_core.specs.Growth.{Builds, next_logic_ref, with_declaration};
+ghost use Rattle.vast_core.specs.View.{bench};
+ghost use Rattle.xlsynth_vast.specs.Refusals.{MayBuild};
+ghost use Rattle.xlsynth_vast.specs.Declarations.{names_in, already_declared, unless_taken};
+
+use crate::file::VastFile;
+use std::alloc::{AllocError, Global};
+use std::collections::BTreeSet;
+use vast_core::{DataKind, LogicRef, VastDataType, VastModule};
+use vast_literal::{VastError, VastFault};
+
+/// The words that refuse a name which the module has already: they list all its names in the order of their bytes.
+fn already_declared(
+    alloc: Global,
+    kind: &str,
+    name: &str,
+    names: &BTreeSet<String>,
+) -> Result<String, AllocError>
+    ensures { IfOk result (λ text. string_bytes text ≡ already_declared kind.now name.now (map string_bytes names.now.keys)) }
+{
+    let taken = names.iter().map(|taken| taken.as_str()).collect(alloc)?;
+    let list = taken.join(alloc, ", ")?;
+    format!(in alloc; "FAILED_PRECONDITION: Attempted to declare {kind} with name '{name}' multiple times in the same module. Already defined: [{list}]")
+}
+
+impl VastFile {
+    /// Refuses a name that the module has already, with the word for what was to be declared.
+    fn refuse_taken(&self, owner: VastModule, kind: &str, name: &str) -> Result<(), VastFault>
+        requires { OwnsModule (bench self.now) owner }
+        ensures free { IfOk result (λ _. unless_taken kind.now name.now (names_in (bench self.now) owner) ≡ Ok tt) }
+        ensures refused { IfErr result (λ fault. OnlyRefusedBy (unless_taken kind.now name.now (names_in (bench self.now) owner)) fault) }
+    {
+        let module = self.ast.module(owner);
+        if module.name_is_free(name) {
+            return Ok(());
+        }
+        let text = already_declared(self.ast.allocator(), kind, name, &module.names)?;
+        Err(VastFault::Refused(VastError(text)))
+    }
+
+    /// A wire, as the module's last member; answers its name as an expression. That the name is free is the caller's
+    /// to know; [`VastFile::name_is_free`] is the test.
+    ///
+    /// # Errors
+    /// `AllocError` where a growth was refused; the file is unchanged.
+    pub fn add_wire(
+        &mut self,
+        owner: VastModule,
+        name: &str,
+        data_type: &VastDataType,
+    ) -> Result<LogicRef, AllocError>
+        requires owner { OwnsModule (bench self.old) owner }
+        requires data_type { OwnsType (bench self.old) data_type.now }
+        requires free { NameIsFree (bench self.old) owner name.now }
+        ensures { Builds (bench self.old) (bench self.new) result (next_logic_ref (bench self.old)) (with_declaration owner DataKind.Wire name.now data_type.now (bench self.old)) }
+    {
+        self.ast
+            .push_declaration(owner, DataKind::Wire, name, *data_type)
+    }
+
+    /// A reg, as the module's last member; answers its name as an expression.
+    ///
+    /// # Errors
+    /// `Refused` where the module has the name already: `FAILED_PRECONDITION: Attempted to declare reg with name
+    /// '{name}' multiple times in the same module. Already defined: [{names}]`, with the names in the order of their
+    /// bytes. `Memory` where a growth was refused. The file is unchanged.
+    pub fn add_reg(
+        &mut self,
+        owner: VastModule,
+        name: &str,
+        data_type: &VastDataType,
+    ) -> Result<LogicRef, VastFault>
+        requires owner { OwnsModule (bench self.old) owner }
+        requires data_type { OwnsType (bench self.old) data_type.now }
+        ensures { MayBuild (bench self.old) (bench self.new) result (unless_taken (codes "reg") name.now (names_in (bench self.old) owner)) (next_logic_ref (bench self.old)) (λ _. with_declaration owner DataKind.Reg name.now data_type.now (bench self.old)) }
+    {
+        self.refuse_taken(owner, "reg", name)?;
+        Ok(self
+            .ast
+            .push_declaration(owner, DataKind::Reg, name, *data_type)?)
+    }
+
+    /// A logic, as the module's last member; answers its name as an expression.
+    ///
+    /// # Errors
+    /// As [`VastFile::add_reg`], with `logic` in the place of `reg`.
+    pub fn add_logic(
+        &mut self,
+        owner: VastModule,
+        name: &str,
+        data_type: &VastDataType,
+    ) -> Result<LogicRef, VastFault>
+        requires owner { OwnsModule (bench self.old) owner }
+        requires data_type { OwnsType (bench self.old) data_type.now }
+        ensures { MayBuild (bench self.old) (bench self.new) result (unless_taken (codes "logic") name.now (names_in (bench self.old) owner)) (next_logic_ref (bench self.old)) (λ _. with_declaration owner DataKind.Logic name.now data_type.now (bench self.old)) }
+    {
+        self.refuse_taken(owner, "logic", name)?;
+        Ok(self
+            .ast
+            .push_declaration(owner, DataKind::Logic, name, *data_type)?)
+    }
+}

@@ -1,0 +1,34 @@
+//! Hoisting of declarations, as in the crate `xlsynth-vast`.
+
+ghost use Rattle.std.specs.Prelude.{◌≡◌, ◌≤◌, length};
+ghost use Rattle.vast_core.specs.Bench.{OwnsModule};
+ghost use Rattle.vast_core.specs.Growth.{Builds};
+ghost use Rattle.vast_core.specs.Hoisting.{with_hoisted};
+ghost use Rattle.vast_core.specs.View.{bench};
+ghost use Rattle.xlsynth_vast.specs.Inspections.{members_in};
+
+use crate::file::VastFile;
+use std::alloc::AllocError;
+use vast_core::VastModule;
+
+impl VastFile {
+    /// Puts the module's wires, regs and logics from the member `start` on before the other members from there on.
+    /// Declarations keep their order, and so do the others; the members before `start` stay. `start` is at most
+    /// [`VastFile::module_member_count`].
+    ///
+    /// Hoisting again from the same start changes nothing ([`crate::laws::hoisting_again`]).
+    ///
+    /// # Errors
+    /// `AllocError` where memory was refused; the file is unchanged.
+    pub fn hoist_module_declarations(
+        &mut self,
+        owner: VastModule,
+        start: usize,
+    ) -> Result<(), AllocError>
+        requires owner { OwnsModule (bench self.old) owner }
+        requires start { start ≤ length (members_in (bench self.old) owner) }
+        ensures { Builds (bench self.old) (bench self.new) result tt (with_hoisted owner start (bench self.old)) }
+    {
+        self.ast.hoist_declarations(owner, start)
+    }
+}

@@ -1,0 +1,45 @@
+//! What stands between a file's modules: inclusions (IEEE 1800-2017, 22.4), comments (5.4) and blank lines, as in the
+//! crate `xlsynth-vast`.
+
+ghost use Rattle.std.specs.Prelude.{◌≡◌};
+ghost use Rattle.vast_core.specs.Bench.{OwnsBlankLine};
+ghost use Rattle.vast_core.specs.Records.{IncludeEntry, FileCommentEntry, FileBlankEntry};
+ghost use Rattle.vast_core.specs.Growth.{Builds, with_item};
+ghost use Rattle.vast_core.specs.View.{bench};
+
+use crate::file::VastFile;
+use std::alloc::AllocError;
+use vast_core::BlankLine;
+
+impl VastFile {
+    /// The inclusion of the file at this path, as the last item of the file.
+    ///
+    /// # Errors
+    /// `AllocError` where a growth was refused; the file is unchanged.
+    pub fn add_include(&mut self, include: &str) -> Result<(), AllocError>
+        ensures { Builds (bench self.old) (bench self.new) result tt (with_item (IncludeEntry include.now) (bench self.old)) }
+    {
+        self.ast.append_include(include)
+    }
+
+    /// A blank line, as the last item of the file.
+    ///
+    /// # Errors
+    /// `AllocError` where a growth was refused; the file is unchanged.
+    pub fn add_blank_line(&mut self, _blank_line: BlankLine) -> Result<(), AllocError>
+        requires { OwnsBlankLine (bench self.old) _blank_line }
+        ensures { Builds (bench self.old) (bench self.new) result tt (with_item FileBlankEntry (bench self.old)) }
+    {
+        self.ast.append_file_blank_line()
+    }
+
+    /// A comment, as the last item of the file; each line of the text becomes a line of its own.
+    ///
+    /// # Errors
+    /// `AllocError` where a growth was refused; the file is unchanged.
+    pub fn add_comment_text(&mut self, text: &str) -> Result<(), AllocError>
+        ensures { Builds (bench self.old) (bench self.new) result tt (with_item (FileCommentEntry text.now) (bench self.old)) }
+    {
+        self.ast.append_file_comment(text)
+    }
+}

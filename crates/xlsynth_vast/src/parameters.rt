@@ -1,0 +1,139 @@
+//! Parameters of modules, in headers and among members (IEEE 1800-2017, 6.20), as in the crate `xlsynth-vast`.
+//!
+//! The names of parameters aren't among those that a module keeps distinct.
+
+ghost use Rattle.std.specs.Prelude.{◌≡◌, true, false, None, Some};
+ghost use Rattle.vast_core.specs.Bench.{OwnsModule, OwnsExpr, OwnsType, OwnsDef};
+ghost use Rattle.vast_core.specs.Growth.{Builds, next_logic_ref};
+ghost use Rattle.vast_core.specs.Parameters.{next_parameter_ref, next_localparam_ref, with_parameter_port, with_plain_parameter, with_int_parameter, with_defined_parameter};
+ghost use Rattle.vast_core.specs.View.{bench};
+
+use crate::file::VastFile;
+use std::alloc::AllocError;
+use vast_core::{Def, Expr, LocalparamRef, LogicRef, ParameterRef, VastDataType, VastModule};
+
+impl VastFile {
+    /// A parameter without a type, as the last of the module's header; answers its name as an expression.
+    ///
+    /// # Errors
+    /// `AllocError` where a growth was refused; the file is unchanged.
+    pub fn add_parameter_port(
+        &mut self,
+        owner: VastModule,
+        name: &str,
+        value: &Expr,
+    ) -> Result<LogicRef, AllocError>
+        requires owner { OwnsModule (bench self.old) owner }
+        requires value { OwnsExpr (bench self.old) value.now }
+        ensures { Builds (bench self.old) (bench self.new) result (next_logic_ref (bench self.old)) (with_parameter_port owner name.now None value.now (bench self.old)) }
+    {
+        self.ast.push_parameter_port(owner, name, None, *value)
+    }
+
+    /// A parameter of this type, as the last of the module's header; answers its name as an expression.
+    ///
+    /// # Errors
+    /// `AllocError` where a growth was refused; the file is unchanged.
+    pub fn add_typed_parameter_port(
+        &mut self,
+        owner: VastModule,
+        name: &str,
+        data_type: &VastDataType,
+        value: &Expr,
+    ) -> Result<LogicRef, AllocError>
+        requires owner { OwnsModule (bench self.old) owner }
+        requires data_type { OwnsType (bench self.old) data_type.now }
+        requires value { OwnsExpr (bench self.old) value.now }
+        ensures { Builds (bench self.old) (bench self.new) result (next_logic_ref (bench self.old)) (with_parameter_port owner name.now (Some data_type.now) value.now (bench self.old)) }
+    {
+        self.ast
+            .push_parameter_port(owner, name, Some(*data_type), *value)
+    }
+
+    /// `parameter NAME = VALUE`, as the module's last member; answers its name.
+    ///
+    /// # Errors
+    /// `AllocError` where a growth was refused; the file is unchanged.
+    pub fn add_parameter(
+        &mut self,
+        owner: VastModule,
+        name: &str,
+        rhs: &Expr,
+    ) -> Result<ParameterRef, AllocError>
+        requires owner { OwnsModule (bench self.old) owner }
+        requires rhs { OwnsExpr (bench self.old) rhs.now }
+        ensures { Builds (bench self.old) (bench self.new) result (next_parameter_ref (bench self.old)) (with_plain_parameter owner false name.now rhs.now (bench self.old)) }
+    {
+        self.ast.push_parameter(owner, name, *rhs)
+    }
+
+    /// A parameter with the definition's kind, type and name, as the module's last member; answers its name.
+    ///
+    /// # Errors
+    /// `AllocError` where a growth was refused; the file is unchanged.
+    pub fn add_parameter_with_def(
+        &mut self,
+        owner: VastModule,
+        definition: &Def,
+        rhs: &Expr,
+    ) -> Result<ParameterRef, AllocError>
+        requires owner { OwnsModule (bench self.old) owner }
+        requires definition { OwnsDef (bench self.old) definition.now }
+        requires rhs { OwnsExpr (bench self.old) rhs.now }
+        ensures { Builds (bench self.old) (bench self.new) result (next_parameter_ref (bench self.old)) (with_defined_parameter owner false definition.now rhs.now (bench self.old)) }
+    {
+        self.ast.push_parameter_with_def(owner, *definition, *rhs)
+    }
+
+    /// `localparam NAME = VALUE`, as the module's last member; answers its name.
+    ///
+    /// # Errors
+    /// `AllocError` where a growth was refused; the file is unchanged.
+    pub fn add_localparam(
+        &mut self,
+        owner: VastModule,
+        name: &str,
+        rhs: &Expr,
+    ) -> Result<LocalparamRef, AllocError>
+        requires owner { OwnsModule (bench self.old) owner }
+        requires rhs { OwnsExpr (bench self.old) rhs.now }
+        ensures { Builds (bench self.old) (bench self.new) result (next_localparam_ref (bench self.old)) (with_plain_parameter owner true name.now rhs.now (bench self.old)) }
+    {
+        self.ast.push_localparam(owner, name, *rhs)
+    }
+
+    /// `localparam int NAME = VALUE`, as the module's last member; answers its name.
+    ///
+    /// # Errors
+    /// `AllocError` where a growth was refused; the file is unchanged.
+    pub fn add_int_localparam(
+        &mut self,
+        owner: VastModule,
+        name: &str,
+        rhs: &Expr,
+    ) -> Result<LocalparamRef, AllocError>
+        requires owner { OwnsModule (bench self.old) owner }
+        requires rhs { OwnsExpr (bench self.old) rhs.now }
+        ensures { Builds (bench self.old) (bench self.new) result (next_localparam_ref (bench self.old)) (with_int_parameter owner true name.now rhs.now (bench self.old)) }
+    {
+        self.ast.push_int_localparam(owner, name, *rhs)
+    }
+
+    /// A local parameter with the definition's kind, type and name, as the module's last member; answers its name.
+    ///
+    /// # Errors
+    /// `AllocError` where a growth was refused; the file is unchanged.
+    pub fn add_typed_localparam(
+        &mut self,
+        owner: VastModule,
+        definition: &Def,
+        rhs: &Expr,
+    ) -> Result<LocalparamRef, AllocError>
+        requires owner { OwnsModule (bench self.old) owner }
+        requires definition { OwnsDef (bench self.old) definition.now }
+        requires rhs { OwnsExpr (bench self.old) rhs.now }
+        ensures { Builds (bench self.old) (bench self.new) result (next_localparam_ref (bench self.old)) (with_defined_parameter owner true definition.now rhs.now (bench self.old)) }
+    {
+        self.ast.push_localparam_with_def(owner, *definition, *rhs)
+    }
+}

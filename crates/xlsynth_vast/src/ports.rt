@@ -1,0 +1,135 @@
+//! Ports of modules (IEEE 1800-2017, 23.2.2), as in the crate `xlsynth-vast`.
+//!
+//! A module's ports, wires, variables and functions share one set of names. That a port's name is free is the caller's
+//! to know; [`VastFile::name_is_free`] is the test.
+
+ghost use Rattle.std.specs.Prelude.{◌≡◌};
+ghost use Rattle.vast_core.specs.Bench.{OwnsModule, OwnsType, NameIsFree};
+ghost use Rattle.vast_core.specs.Growth.{Builds, next_logic_ref, with_port};
+ghost use Rattle.vast_core.specs.View.{bench};
+
+use crate::file::VastFile;
+use std::alloc::AllocError;
+use vast_core::{DataKind, LogicRef, ModulePortDirection, VastDataType, VastModule};
+
+impl VastFile {
+    /// An input, as the module's last port; answers its name as an expression.
+    ///
+    /// # Errors
+    /// `AllocError` where a growth was refused; the file is unchanged.
+    pub fn add_input(
+        &mut self,
+        owner: VastModule,
+        name: &str,
+        data_type: &VastDataType,
+    ) -> Result<LogicRef, AllocError>
+        requires owner { OwnsModule (bench self.old) owner }
+        requires data_type { OwnsType (bench self.old) data_type.now }
+        requires free { NameIsFree (bench self.old) owner name.now }
+        ensures { Builds (bench self.old) (bench self.new) result (next_logic_ref (bench self.old)) (with_port owner ModulePortDirection.Input DataKind.Wire name.now data_type.now (bench self.old)) }
+    {
+        self.ast.push_port(
+            owner,
+            ModulePortDirection::Input,
+            DataKind::Wire,
+            name,
+            *data_type,
+        )
+    }
+
+    /// An output, as the module's last port; answers its name as an expression.
+    ///
+    /// # Errors
+    /// `AllocError` where a growth was refused; the file is unchanged.
+    pub fn add_output(
+        &mut self,
+        owner: VastModule,
+        name: &str,
+        data_type: &VastDataType,
+    ) -> Result<LogicRef, AllocError>
+        requires owner { OwnsModule (bench self.old) owner }
+        requires data_type { OwnsType (bench self.old) data_type.now }
+        requires free { NameIsFree (bench self.old) owner name.now }
+        ensures { Builds (bench self.old) (bench self.new) result (next_logic_ref (bench self.old)) (with_port owner ModulePortDirection.Output DataKind.Wire name.now data_type.now (bench self.old)) }
+    {
+        self.ast.push_port(
+            owner,
+            ModulePortDirection::Output,
+            DataKind::Wire,
+            name,
+            *data_type,
+        )
+    }
+
+    /// A port of both directions, as the module's last port; answers its name as an expression.
+    ///
+    /// # Errors
+    /// `AllocError` where a growth was refused; the file is unchanged.
+    pub fn add_inout(
+        &mut self,
+        owner: VastModule,
+        name: &str,
+        data_type: &VastDataType,
+    ) -> Result<LogicRef, AllocError>
+        requires owner { OwnsModule (bench self.old) owner }
+        requires data_type { OwnsType (bench self.old) data_type.now }
+        requires free { NameIsFree (bench self.old) owner name.now }
+        ensures { Builds (bench self.old) (bench self.new) result (next_logic_ref (bench self.old)) (with_port owner ModulePortDirection.InOut DataKind.Wire name.now data_type.now (bench self.old)) }
+    {
+        self.ast.push_port(
+            owner,
+            ModulePortDirection::InOut,
+            DataKind::Wire,
+            name,
+            *data_type,
+        )
+    }
+
+    /// An input that is declared with the word `logic`, as the module's last port; answers its name as an expression.
+    ///
+    /// # Errors
+    /// `AllocError` where a growth was refused; the file is unchanged.
+    pub fn add_logic_input(
+        &mut self,
+        owner: VastModule,
+        name: &str,
+        data_type: &VastDataType,
+    ) -> Result<LogicRef, AllocError>
+        requires owner { OwnsModule (bench self.old) owner }
+        requires data_type { OwnsType (bench self.old) data_type.now }
+        requires free { NameIsFree (bench self.old) owner name.now }
+        ensures { Builds (bench self.old) (bench self.new) result (next_logic_ref (bench self.old)) (with_port owner ModulePortDirection.Input DataKind.Logic name.now data_type.now (bench self.old)) }
+    {
+        self.ast.push_port(
+            owner,
+            ModulePortDirection::Input,
+            DataKind::Logic,
+            name,
+            *data_type,
+        )
+    }
+
+    /// An output that is declared with the word `logic`, as the module's last port; answers its name as an expression.
+    ///
+    /// # Errors
+    /// `AllocError` where a growth was refused; the file is unchanged.
+    pub fn add_logic_output(
+        &mut self,
+        owner: VastModule,
+        name: &str,
+        data_type: &VastDataType,
+    ) -> Result<LogicRef, AllocError>
+        requires owner { OwnsModule (bench self.old) owner }
+        requires data_type { OwnsType (bench self.old) data_type.now }
+        requires free { NameIsFree (bench self.old) owner name.now }
+        ensures { Builds (bench self.old) (bench self.new) result (next_logic_ref (bench self.old)) (with_port owner ModulePortDirection.Output DataKind.Logic name.now data_type.now (bench self.old)) }
+    {
+        self.ast.push_port(
+            owner,
+            ModulePortDirection::Output,
+            DataKind::Logic,
+            name,
+            *data_type,
+        )
+    }
+}
