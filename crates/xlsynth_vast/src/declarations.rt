@@ -25,7 +25,7 @@ fn already_declared(
 ) -> Result<String, AllocError>
     ensures { IfOk result (λ text. string_bytes text ≡ already_declared kind.now name.now (map string_bytes names.now.keys)) }
 {
-    let taken = names.iter().map(|taken| taken.as_str()).collect(alloc)?;
+    let taken: Vec<&str> = names.iter().map(|taken| taken.as_str()).collect(alloc)?;
     let list = taken.join(alloc, ", ")?;
     format!(in alloc; "FAILED_PRECONDITION: Attempted to declare {kind} with name '{name}' multiple times in the same module. Already defined: [{list}]")
 }
