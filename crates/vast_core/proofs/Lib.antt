@@ -8,3 +8,4 @@ pub mod Growth
 pub mod Readers
 pub mod Laws
 pub mod Fixed
+pub mod KeywordTable
