@@ -3,3 +3,4 @@ pub mod Expressions
 pub mod Types
 pub mod Refusals
 pub mod Literals
+pub mod Widths

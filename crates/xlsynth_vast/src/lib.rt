@@ -8,6 +8,7 @@ mod artifacts;
 mod expressions;
 mod file;
 mod modules;
+mod refusals;
 #[cfg(test)]
 mod tests;
 mod types;
@@ -18,6 +19,6 @@ pub use vast_core::{
     Def, Expr, FileIds, GenerateLoop, IdsSpent, Index, IndexableExpr, InlineVerilogStatement,
     Instantiation, LocalparamRef, LogicRef, MacroRef, MacroStatement, ModulePort,
     ModulePortDirection, ParameterRef, Slice, VastAlwaysBase, VastDataType, VastFileType,
-    VastFunction, VastModule, VastStatement, VastStatementBlock,
+    VastFunction, VastModule, VastStatement, VastStatementBlock, is_system_verilog_keyword,
 };
 pub use vast_literal::{LiteralFormat, VastError, VastFault};
