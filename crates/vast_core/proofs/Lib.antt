@@ -12,3 +12,4 @@ pub mod Hoisting
 pub mod Laws
 pub mod Fixed
 pub mod RecordLaws
+pub mod KeywordTable

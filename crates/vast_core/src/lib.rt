@@ -8,6 +8,7 @@ mod ast;
 mod bits;
 mod file_ids;
 mod handle;
+mod keyword;
 mod kind;
 mod node;
 mod operator;
@@ -23,6 +24,7 @@ pub use handle::{
     MacroStatement, ModulePort, ParameterRef, Slice, VastAlwaysBase, VastDataType, VastFunction,
     VastModule, VastStatement, VastStatementBlock,
 };
+pub use keyword::is_system_verilog_keyword;
 pub use kind::{AlwaysKind, DataKind, ModulePortDirection, VastFileType};
 pub use node::{
     Artifact, Assignment, Connection, Definition, ExprNode, FileItem, Instance, Member, Module,
