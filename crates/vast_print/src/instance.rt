@@ -110,6 +110,7 @@ fn print_connections(
 }
 
 /// Writes an instantiation on lines of its own.
+#[tactic(auto, using(crate::proofs::ArenaLaws::instances))]
 pub(crate) fn print_instance(
     ast: &Ast,
     i: Instantiation,

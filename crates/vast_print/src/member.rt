@@ -41,7 +41,7 @@ fn print_variable(
 }
 
 /// Writes `assign lhs = rhs;` on a line of its own.
-#[tactic(auto, using(crate::proofs::ArenaLaws::modules))]
+#[tactic(auto, using(crate::proofs::ArenaLaws::members))]
 fn print_assign(
     ast: &Ast,
     lhs: Expr,
@@ -63,7 +63,7 @@ fn print_assign(
 }
 
 /// Writes the use of a macro on a line of its own.
-#[tactic(auto, using(crate::proofs::ArenaLaws::members, vast_core::proofs::Laws::handles))]
+#[tactic(auto, using(crate::proofs::ArenaLaws::members, vast_core::proofs::Laws::conversions))]
 fn print_macro(
     ast: &Ast,
     call: MacroRef,

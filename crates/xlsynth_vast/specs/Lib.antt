@@ -3,3 +3,7 @@ pub mod Expressions
 pub mod Types
 pub mod Refusals
 pub mod Literals
+pub mod Declarations
+pub mod Inspections
+pub mod Instances
+pub mod Laws

@@ -1,17 +1,86 @@
-//! Reusable parts of members.
+//! Reusable parts of members and statements: definitions, blank lines, comments, inline text, macros and assignments,
+//! as in the crate `xlsynth-vast`. A part that was made stands nowhere until it is added.
 
-ghost use Rattle.std.specs.Prelude.{◌≡◌, false};
-ghost use Rattle.vast_core.specs.Bench.{OwnsExpr, OwnsModule, OwnsContinuous};
-ghost use Rattle.vast_core.specs.Records.{AssignmentEntry};
-ghost use Rattle.vast_core.specs.Growth.{Builds, next_continuous, with_assignment, with_member};
+ghost use Rattle.std.specs.Prelude.{◌≡◌, true, false};
+ghost use Rattle.vast_core.specs.Bench.{OwnsExpr, OwnsType, OwnsMacroRef};
+ghost use Rattle.vast_core.specs.Records.{BlankLineRecord, CommentRecord, InlineRecord, MacroRecord};
+ghost use Rattle.vast_core.specs.Growth.{Builds, next_continuous, with_assignment};
+ghost use Rattle.vast_core.specs.Artifacts.{next_def, with_definition, next_blank_line, next_comment, next_inline, next_macro_statement, with_artifact, next_statement};
 ghost use Rattle.vast_core.specs.View.{bench};
 
 use crate::file::VastFile;
 use std::alloc::AllocError;
-use vast_core::{ContinuousAssignment, Expr, VastModule};
+use vast_core::{
+    BlankLine, Comment, ContinuousAssignment, DataKind, Def, Expr, InlineVerilogStatement,
+    MacroRef, MacroStatement, VastDataType, VastStatement,
+};
 
 impl VastFile {
-    /// The assignment `assign lhs = rhs`, which stands nowhere yet.
+    /// A declaration's kind, type and name, which parameters can be made with.
+    ///
+    /// # Errors
+    /// `AllocError` where a growth was refused; the file is unchanged.
+    pub fn make_def(
+        &mut self,
+        name: &str,
+        kind: DataKind,
+        data_type: &VastDataType,
+    ) -> Result<Def, AllocError>
+        requires { OwnsType (bench self.old) data_type.now }
+        ensures { Builds (bench self.old) (bench self.new) result (next_def (bench self.old)) (with_definition (record { name = name.now; kind = kind; data_type = data_type.now }) (bench self.old)) }
+    {
+        self.ast.push_def(name, kind, *data_type)
+    }
+
+    /// A blank line.
+    ///
+    /// # Errors
+    /// `AllocError` where a growth was refused; the file is unchanged.
+    pub fn make_blank_line(&mut self) -> Result<BlankLine, AllocError>
+        ensures { Builds (bench self.old) (bench self.new) result (next_blank_line (bench self.old)) (with_artifact BlankLineRecord (bench self.old)) }
+    {
+        self.ast.push_blank_line()
+    }
+
+    /// A comment; each line of the text becomes a line `// ..` (IEEE 1800-2017, 5.4).
+    ///
+    /// # Errors
+    /// `AllocError` where a growth was refused; the file is unchanged.
+    pub fn make_comment(&mut self, text: &str) -> Result<Comment, AllocError>
+        ensures { Builds (bench self.old) (bench self.new) result (next_comment (bench self.old)) (with_artifact (CommentRecord text.now) (bench self.old)) }
+    {
+        self.ast.push_comment(text)
+    }
+
+    /// A text that is written as it is, with the depth of the place before each of its lines.
+    ///
+    /// # Errors
+    /// `AllocError` where a growth was refused; the file is unchanged.
+    pub fn make_inline_verilog_statement(
+        &mut self,
+        text: &str,
+    ) -> Result<InlineVerilogStatement, AllocError>
+        ensures { Builds (bench self.old) (bench self.new) result (next_inline (bench self.old)) (with_artifact (InlineRecord text.now) (bench self.old)) }
+    {
+        self.ast.push_inline(text)
+    }
+
+    /// The use of a macro as a member, with a semicolon or without (IEEE 1800-2017, 22.5.1).
+    ///
+    /// # Errors
+    /// `AllocError` where a growth was refused; the file is unchanged.
+    pub fn make_macro_statement(
+        &mut self,
+        macro_ref: &MacroRef,
+        semicolon: bool,
+    ) -> Result<MacroStatement, AllocError>
+        requires { OwnsMacroRef (bench self.old) macro_ref.now }
+        ensures { Builds (bench self.old) (bench self.new) result (next_macro_statement (bench self.old)) (with_artifact (MacroRecord macro_ref.now semicolon) (bench self.old)) }
+    {
+        self.ast.push_macro_statement(*macro_ref, semicolon)
+    }
+
+    /// The assignment `assign lhs = rhs` (IEEE 1800-2017, 10.3.2).
     ///
     /// # Errors
     /// `AllocError` where a growth was refused; the file is unchanged.
@@ -27,19 +96,35 @@ impl VastFile {
         self.ast.push_continuous(*lhs, *rhs)
     }
 
-    /// The assignment, as the module's last member.
+    /// The procedural assignment `lhs <= rhs` (IEEE 1800-2017, 10.4.2).
     ///
     /// # Errors
     /// `AllocError` where a growth was refused; the file is unchanged.
-    pub fn add_member_continuous_assignment(
+    pub fn make_nonblocking_assignment(
         &mut self,
-        owner: VastModule,
-        assignment: ContinuousAssignment,
-    ) -> Result<(), AllocError>
-        requires owner { OwnsModule (bench self.old) owner }
-        requires assignment { OwnsContinuous (bench self.old) assignment }
-        ensures { Builds (bench self.old) (bench self.new) result tt (with_member owner (AssignmentEntry assignment) (bench self.old)) }
+        lhs: &Expr,
+        rhs: &Expr,
+    ) -> Result<VastStatement, AllocError>
+        requires lhs { OwnsExpr (bench self.old) lhs.now }
+        requires rhs { OwnsExpr (bench self.old) rhs.now }
+        ensures { Builds (bench self.old) (bench self.new) result (next_statement (bench self.old)) (with_assignment (record { lhs = lhs.now; rhs = rhs.now; nonblocking = true }) (bench self.old)) }
     {
-        self.ast.append_continuous(owner, assignment)
+        self.ast.push_assignment(*lhs, *rhs, true)
+    }
+
+    /// The procedural assignment `lhs = rhs` (IEEE 1800-2017, 10.4.1).
+    ///
+    /// # Errors
+    /// `AllocError` where a growth was refused; the file is unchanged.
+    pub fn make_blocking_assignment(
+        &mut self,
+        lhs: &Expr,
+        rhs: &Expr,
+    ) -> Result<VastStatement, AllocError>
+        requires lhs { OwnsExpr (bench self.old) lhs.now }
+        requires rhs { OwnsExpr (bench self.old) rhs.now }
+        ensures { Builds (bench self.old) (bench self.new) result (next_statement (bench self.old)) (with_assignment (record { lhs = lhs.now; rhs = rhs.now; nonblocking = false }) (bench self.old)) }
+    {
+        self.ast.push_assignment(*lhs, *rhs, false)
     }
 }

@@ -25,9 +25,11 @@ fn already_declared(
 ) -> Result<String, AllocError>
     ensures { IfOk result (λ text. string_bytes text ≡ already_declared kind.now name.now (map string_bytes names.now.keys)) }
 {
-    let taken = names.iter().map(|taken| taken.as_str()).collect(alloc)?;
+    let taken: Vec<&str> = names.iter().map(|taken| taken.as_str()).collect(alloc)?;
     let list = taken.join(alloc, ", ")?;
-    format!(in alloc; "FAILED_PRECONDITION: Attempted to declare {kind} with name '{name}' multiple times in the same module. Already defined: [{list}]")
+    format!(in alloc;
+        "FAILED_PRECONDITION: Attempted to declare {kind} with name '{name}' multiple times in the same module. Already defined: [{list}]"
+    )
 }
 
 impl VastFile {
@@ -82,9 +84,10 @@ impl VastFile {
         ensures { MayBuild (bench self.old) (bench self.new) result (unless_taken (codes "reg") name.now (names_in (bench self.old) owner)) (next_logic_ref (bench self.old)) (λ _. with_declaration owner DataKind.Reg name.now data_type.now (bench self.old)) }
     {
         self.refuse_taken(owner, "reg", name)?;
-        Ok(self
-            .ast
-            .push_declaration(owner, DataKind::Reg, name, *data_type)?)
+        Ok(
+            self.ast
+                .push_declaration(owner, DataKind::Reg, name, *data_type)?,
+        )
     }
 
     /// A logic, as the module's last member; answers its name as an expression.
@@ -102,8 +105,9 @@ impl VastFile {
         ensures { MayBuild (bench self.old) (bench self.new) result (unless_taken (codes "logic") name.now (names_in (bench self.old) owner)) (next_logic_ref (bench self.old)) (λ _. with_declaration owner DataKind.Logic name.now data_type.now (bench self.old)) }
     {
         self.refuse_taken(owner, "logic", name)?;
-        Ok(self
-            .ast
-            .push_declaration(owner, DataKind::Logic, name, *data_type)?)
+        Ok(
+            self.ast
+                .push_declaration(owner, DataKind::Logic, name, *data_type)?,
+        )
     }
 }

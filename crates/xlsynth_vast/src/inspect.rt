@@ -107,7 +107,7 @@ impl VastFile {
         requires { OwnsPort (bench self.now) port }
         ensures { width_at (bench self.now) port ≡ Some result }
     {
-        let data_type = self.ast.port(port).data_type;
+        let data_type = self.port_data_type(port);
         self.ast.flat_bit_count(data_type).unwrap_or(0)
     }
 

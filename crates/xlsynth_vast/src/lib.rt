@@ -5,9 +5,18 @@
 #![tactic(auto)]
 
 mod artifacts;
+mod declarations;
 mod expressions;
 mod file;
+mod hoisting;
+mod inspect;
+mod instances;
+mod items;
+pub mod laws;
+mod members;
 mod modules;
+mod parameters;
+mod ports;
 #[cfg(test)]
 mod tests;
 mod types;

@@ -13,6 +13,36 @@ use std::alloc::AllocError;
 use vast_core::{DataKind, LogicRef, ModulePortDirection, VastDataType, VastModule};
 
 impl VastFile {
+    fn wire_port(
+        &mut self,
+        owner: VastModule,
+        direction: ModulePortDirection,
+        name: &str,
+        data_type: VastDataType,
+    ) -> Result<LogicRef, AllocError>
+        requires owner { OwnsModule (bench self.old) owner }
+        requires data_type { OwnsType (bench self.old) data_type }
+        ensures { Builds (bench self.old) (bench self.new) result (next_logic_ref (bench self.old)) (with_port owner direction DataKind.Wire name.now data_type (bench self.old)) }
+    {
+        self.ast
+            .push_port(owner, direction, DataKind::Wire, name, data_type)
+    }
+
+    fn logic_port(
+        &mut self,
+        owner: VastModule,
+        direction: ModulePortDirection,
+        name: &str,
+        data_type: VastDataType,
+    ) -> Result<LogicRef, AllocError>
+        requires owner { OwnsModule (bench self.old) owner }
+        requires data_type { OwnsType (bench self.old) data_type }
+        ensures { Builds (bench self.old) (bench self.new) result (next_logic_ref (bench self.old)) (with_port owner direction DataKind.Logic name.now data_type (bench self.old)) }
+    {
+        self.ast
+            .push_port(owner, direction, DataKind::Logic, name, data_type)
+    }
+
     /// An input, as the module's last port; answers its name as an expression.
     ///
     /// # Errors
@@ -28,13 +58,7 @@ impl VastFile {
         requires free { NameIsFree (bench self.old) owner name.now }
         ensures { Builds (bench self.old) (bench self.new) result (next_logic_ref (bench self.old)) (with_port owner ModulePortDirection.Input DataKind.Wire name.now data_type.now (bench self.old)) }
     {
-        self.ast.push_port(
-            owner,
-            ModulePortDirection::Input,
-            DataKind::Wire,
-            name,
-            *data_type,
-        )
+        self.wire_port(owner, ModulePortDirection::Input, name, *data_type)
     }
 
     /// An output, as the module's last port; answers its name as an expression.
@@ -52,13 +76,7 @@ impl VastFile {
         requires free { NameIsFree (bench self.old) owner name.now }
         ensures { Builds (bench self.old) (bench self.new) result (next_logic_ref (bench self.old)) (with_port owner ModulePortDirection.Output DataKind.Wire name.now data_type.now (bench self.old)) }
     {
-        self.ast.push_port(
-            owner,
-            ModulePortDirection::Output,
-            DataKind::Wire,
-            name,
-            *data_type,
-        )
+        self.wire_port(owner, ModulePortDirection::Output, name, *data_type)
     }
 
     /// A port of both directions, as the module's last port; answers its name as an expression.
@@ -76,13 +94,7 @@ impl VastFile {
         requires free { NameIsFree (bench self.old) owner name.now }
         ensures { Builds (bench self.old) (bench self.new) result (next_logic_ref (bench self.old)) (with_port owner ModulePortDirection.InOut DataKind.Wire name.now data_type.now (bench self.old)) }
     {
-        self.ast.push_port(
-            owner,
-            ModulePortDirection::InOut,
-            DataKind::Wire,
-            name,
-            *data_type,
-        )
+        self.wire_port(owner, ModulePortDirection::InOut, name, *data_type)
     }
 
     /// An input that is declared with the word `logic`, as the module's last port; answers its name as an expression.
@@ -100,13 +112,7 @@ impl VastFile {
         requires free { NameIsFree (bench self.old) owner name.now }
         ensures { Builds (bench self.old) (bench self.new) result (next_logic_ref (bench self.old)) (with_port owner ModulePortDirection.Input DataKind.Logic name.now data_type.now (bench self.old)) }
     {
-        self.ast.push_port(
-            owner,
-            ModulePortDirection::Input,
-            DataKind::Logic,
-            name,
-            *data_type,
-        )
+        self.logic_port(owner, ModulePortDirection::Input, name, *data_type)
     }
 
     /// An output that is declared with the word `logic`, as the module's last port; answers its name as an expression.
@@ -124,12 +130,6 @@ impl VastFile {
         requires free { NameIsFree (bench self.old) owner name.now }
         ensures { Builds (bench self.old) (bench self.new) result (next_logic_ref (bench self.old)) (with_port owner ModulePortDirection.Output DataKind.Logic name.now data_type.now (bench self.old)) }
     {
-        self.ast.push_port(
-            owner,
-            ModulePortDirection::Output,
-            DataKind::Logic,
-            name,
-            *data_type,
-        )
+        self.logic_port(owner, ModulePortDirection::Output, name, *data_type)
     }
 }

@@ -4,6 +4,8 @@ use crate::{Expr, FileIds, LogicRef, VastDataType, VastFault, VastFile, VastFile
 use std::alloc::{AllocError, Global};
 use std::process::Abort;
 
+mod members;
+
 /// A file, and the runtime that ends a test where a condition is not met.
 #[derive(Drop)]
 pub(crate) struct Bench<'a, R> {

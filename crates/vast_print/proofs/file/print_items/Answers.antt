@@ -1,8 +1,6 @@
 use Rattle.std.proofs.Common.{◌≡◌, ◌<◌, length, get_or, arith, ap}
-use Rattle.std.proofs.lemmas.List.{get_or_default}
 use Rattle.vast_literal.specs.Tree.{FileItemTree}
 use Rattle.vast_core.specs.declared.node.FileItem.{FileItem}
-use Rattle.vast_core.specs.declared.node.FileItem.TheVariants.{Module}
 use Rattle.vast_core.specs.Kinds.{dialect_of}
 use Rattle.vast_core.specs.Records.{file_entry}
 use Rattle.vast_core.specs.FileTree.{item_tree}
@@ -12,23 +10,20 @@ use Rattle.vast_print.proofs.ArenaLaws.{layout-items, stops}
 use Rattle.vast_print.proofs.ModuleLaws.{items-step, items-end}
 use Rattle.vast_print.proofs.file.print_items.Goals as goal
 
-abbrev none : FileItem
-none = Module (record { id = record { file_id = 0; index = 0 } })
-
 pub loop-item-init : goal.loop-item-init
 loop-item-init c = ap (λ p. hang 0 (Wet c.args.out.now) p) (layout-items (bench c.args.ast.now) c.items-item-items.result.now c.items-item-items.ensures.items)
 
 pub loop-item-preserved : goal.loop-item-preserved
 loop-item-preserved c =
     let v : FileItem → FileItemTree = λ x. item_tree (bench c.args.ast.now) (file_entry x) in
-    let item : FileItem = get_or c.items-item-items.result.now c.loop-item.item-index none in
-    grind (arith, items-step (dialect_of (bench c.args.ast.now).file_type) v 0 (Wet c.loop-item.out) c.items-item-items.result.now c.loop-item.item-index item c.loop-item-test.true (get_or_default c.items-item-items.result.now c.loop-item.item-index none item c.loop-item-test.true))
+    let item : FileItem = c.item-item.result in
+    grind (arith, items-step (dialect_of (bench c.args.ast.now).file_type) v 0 (Wet c.loop-item.out) c.items-item-items.result.now c.loop-item.item-index item c.loop-item-test.true c.item-item.is)
 
 pub returns-in_err-print_item : goal.returns-in_err-print_item
 returns-in_err-print_item c =
     let v : FileItem → FileItemTree = λ x. item_tree (bench c.args.ast.now) (file_entry x) in
-    let item : FileItem = get_or c.items-item-items.result.now c.loop-item.item-index none in
-    grind (arith, stops, items-step (dialect_of (bench c.args.ast.now).file_type) v 0 (Wet c.loop-item.out) c.items-item-items.result.now c.loop-item.item-index item c.loop-item-test.true (get_or_default c.items-item-items.result.now c.loop-item.item-index none item c.loop-item-test.true))
+    let item : FileItem = c.item-item.result in
+    grind (arith, stops, items-step (dialect_of (bench c.args.ast.now).file_type) v 0 (Wet c.loop-item.out) c.items-item-items.result.now c.loop-item.item-index item c.loop-item-test.true c.item-item.is)
 
 pub returns : goal.returns
 returns c =

@@ -1,25 +1,20 @@
 use Rattle.std.proofs.Common.{◌<◌, length, get_or, arith}
-use Rattle.std.proofs.lemmas.List.{get_or_default}
 use Rattle.vast_core.specs.declared.node.Member.{Member}
-use Rattle.vast_core.specs.declared.node.Member.TheVariants.{ContinuousAssignment}
 use Rattle.vast_core.specs.Kinds.{dialect_of}
 use Rattle.vast_core.specs.View.{bench}
 use Rattle.vast_print.specs.Ink.{Wet}
 use Rattle.vast_print.proofs.ArenaLaws.{members-step, members-end, stops}
 use Rattle.vast_print.proofs.member.print_members.Goals as goal
 
-abbrev none : Member
-none = ContinuousAssignment (record { id = record { file_id = 0; index = 0 } })
-
 pub loop-member-preserved : goal.loop-member-preserved
 loop-member-preserved c =
-    let m : Member = get_or c.args.members.now c.loop-member.member-index none in
-    grind (arith, members-step (dialect_of (bench c.args.ast.now).file_type) (bench c.args.ast.now) c.args.depth (Wet c.loop-member.out) c.args.members.now c.loop-member.member-index m c.loop-member-test.true (get_or_default c.args.members.now c.loop-member.member-index none m c.loop-member-test.true))
+    let m : Member = c.member-item.result in
+    grind (arith, members-step (dialect_of (bench c.args.ast.now).file_type) (bench c.args.ast.now) c.args.depth (Wet c.loop-member.out) c.args.members.now c.loop-member.member-index m c.loop-member-test.true c.member-item.is)
 
 pub returns-in_err-print_member : goal.returns-in_err-print_member
 returns-in_err-print_member c =
-    let m : Member = get_or c.args.members.now c.loop-member.member-index none in
-    grind (arith, stops, members-step (dialect_of (bench c.args.ast.now).file_type) (bench c.args.ast.now) c.args.depth (Wet c.loop-member.out) c.args.members.now c.loop-member.member-index m c.loop-member-test.true (get_or_default c.args.members.now c.loop-member.member-index none m c.loop-member-test.true))
+    let m : Member = c.member-item.result in
+    grind (arith, stops, members-step (dialect_of (bench c.args.ast.now).file_type) (bench c.args.ast.now) c.args.depth (Wet c.loop-member.out) c.args.members.now c.loop-member.member-index m c.loop-member-test.true c.member-item.is)
 
 pub returns : goal.returns
 returns c =

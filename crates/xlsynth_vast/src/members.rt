@@ -1,0 +1,112 @@
+//! Members of modules that are made beforehand, as in the crate `xlsynth-vast`. One part may be added more than once.
+
+ghost use Rattle.std.specs.Prelude.{◌≡◌};
+ghost use Rattle.vast_core.specs.Bench.{OwnsModule, OwnsContinuous, OwnsBlankLine, OwnsComment, OwnsInline, OwnsMacroStatement, OwnsInstantiation};
+ghost use Rattle.vast_core.specs.Records.{AssignmentEntry, BlankEntry, CommentEntry, InlineEntry, MacroEntry, InstanceEntry};
+ghost use Rattle.vast_core.specs.Growth.{Builds, with_member};
+ghost use Rattle.vast_core.specs.View.{bench};
+
+use crate::file::VastFile;
+use std::alloc::AllocError;
+use vast_core::{
+    BlankLine, Comment, ContinuousAssignment, InlineVerilogStatement, Instantiation,
+    MacroStatement, VastModule,
+};
+
+impl VastFile {
+    /// The instantiation, as the module's last member.
+    ///
+    /// # Errors
+    /// `AllocError` where a growth was refused; the file is unchanged.
+    pub fn add_member_instantiation(
+        &mut self,
+        owner: VastModule,
+        instantiation: Instantiation,
+    ) -> Result<(), AllocError>
+        requires owner { OwnsModule (bench self.old) owner }
+        requires instantiation { OwnsInstantiation (bench self.old) instantiation }
+        ensures { Builds (bench self.old) (bench self.new) result tt (with_member owner (InstanceEntry instantiation) (bench self.old)) }
+    {
+        self.ast.append_instantiation(owner, instantiation)
+    }
+
+    /// The assignment, as the module's last member.
+    ///
+    /// # Errors
+    /// `AllocError` where a growth was refused; the file is unchanged.
+    pub fn add_member_continuous_assignment(
+        &mut self,
+        owner: VastModule,
+        assignment: ContinuousAssignment,
+    ) -> Result<(), AllocError>
+        requires owner { OwnsModule (bench self.old) owner }
+        requires assignment { OwnsContinuous (bench self.old) assignment }
+        ensures { Builds (bench self.old) (bench self.new) result tt (with_member owner (AssignmentEntry assignment) (bench self.old)) }
+    {
+        self.ast.append_continuous(owner, assignment)
+    }
+
+    /// A blank line, as the module's last member.
+    ///
+    /// # Errors
+    /// `AllocError` where a growth was refused; the file is unchanged.
+    pub fn add_member_blank_line(
+        &mut self,
+        owner: VastModule,
+        blank: BlankLine,
+    ) -> Result<(), AllocError>
+        requires owner { OwnsModule (bench self.old) owner }
+        requires blank { OwnsBlankLine (bench self.old) blank }
+        ensures { Builds (bench self.old) (bench self.new) result tt (with_member owner BlankEntry (bench self.old)) }
+    {
+        self.ast.append_blank_line(owner, blank)
+    }
+
+    /// The comment, as the module's last member.
+    ///
+    /// # Errors
+    /// `AllocError` where a growth was refused; the file is unchanged.
+    pub fn add_member_comment(
+        &mut self,
+        owner: VastModule,
+        comment: Comment,
+    ) -> Result<(), AllocError>
+        requires owner { OwnsModule (bench self.old) owner }
+        requires comment { OwnsComment (bench self.old) comment }
+        ensures { Builds (bench self.old) (bench self.new) result tt (with_member owner (CommentEntry comment) (bench self.old)) }
+    {
+        self.ast.append_comment(owner, comment)
+    }
+
+    /// The text, as the module's last member.
+    ///
+    /// # Errors
+    /// `AllocError` where a growth was refused; the file is unchanged.
+    pub fn add_member_inline_statement(
+        &mut self,
+        owner: VastModule,
+        statement: InlineVerilogStatement,
+    ) -> Result<(), AllocError>
+        requires owner { OwnsModule (bench self.old) owner }
+        requires statement { OwnsInline (bench self.old) statement }
+        ensures { Builds (bench self.old) (bench self.new) result tt (with_member owner (InlineEntry statement) (bench self.old)) }
+    {
+        self.ast.append_inline(owner, statement)
+    }
+
+    /// The use of a macro, as the module's last member.
+    ///
+    /// # Errors
+    /// `AllocError` where a growth was refused; the file is unchanged.
+    pub fn add_member_macro_statement(
+        &mut self,
+        owner: VastModule,
+        statement: MacroStatement,
+    ) -> Result<(), AllocError>
+        requires owner { OwnsModule (bench self.old) owner }
+        requires statement { OwnsMacroStatement (bench self.old) statement }
+        ensures { Builds (bench self.old) (bench self.new) result tt (with_member owner (MacroEntry statement) (bench self.old)) }
+    {
+        self.ast.append_macro_statement(owner, statement)
+    }
+}

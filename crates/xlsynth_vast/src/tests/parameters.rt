@@ -1,0 +1,80 @@
+//! Parameters, and selects of their names.
+
+use crate::tests::bench::Bench;
+use crate::{DataKind, IndexableExpr, VastFault, VastFileType};
+use std::process::Abort;
+use std::test::Fail;
+
+#[test]
+fn prints_local_parameters(rt: HostRuntime) -> Result<(), Fail> {
+    let mut bench = Bench::new(&rt, rt.alloc(), VastFileType::SystemVerilog);
+    let m = bench.file.add_module("m")?;
+    let four = bench.number(4)?;
+    bench.int_localparam(m, "N", four)?;
+    bench.localparam(m, "L", four)?;
+    bench.parameter(m, "P", four)?;
+    let text =
+        "module m;\n  localparam int N = 4;\n  localparam L = 4;\n  parameter P = 4;\nendmodule\n";
+    assert_eq!(rt; bench.file.emit()?.as_str(), text);
+    Ok(())
+}
+
+#[test]
+fn prints_defined_parameters(rt: HostRuntime) -> Result<(), Fail> {
+    let mut bench = Bench::new(&rt, rt.alloc(), VastFileType::SystemVerilog);
+    let m = bench.file.add_module("m")?;
+    let four = bench.number(4)?;
+    let byte = bench.file.make_bit_vector_type(8, false)?;
+    let logic = bench.definition("M", DataKind::Logic, byte)?;
+    let user = bench.definition("M", DataKind::User, byte)?;
+    bench.defined_localparam(m, logic, four)?;
+    bench.defined_localparam(m, user, four)?;
+    let text = "module m;\n  localparam logic [7:0] M = 4;\n  localparam [7:0] M = 4;\nendmodule\n";
+    assert_eq!(rt; bench.file.emit()?.as_str(), text);
+    Ok(())
+}
+
+#[test]
+fn selects_of_a_parameter(rt: HostRuntime) -> Result<(), Fail> {
+    let mut bench = Bench::new(&rt, rt.alloc(), VastFileType::SystemVerilog);
+    let m = bench.file.add_module("m")?;
+    let four = bench.number(4)?;
+    let p = bench.parameter(m, "P", four)?;
+    let bit = bench.index(p.to_indexable_expr(), 1)?;
+    assert_eq!(rt; bench.expression(bit)?.as_str(), "P[1]");
+    Ok(())
+}
+
+/// Of a scalar `P` bit 0 is `P`, and bit 1 is refused.
+fn is_a_scalar<R: Abort>(bench: &mut Bench<R>, rt: &R, p: IndexableExpr) -> Result<(), Fail> {
+    let first = bench.index(p, 0)?;
+    assert_eq!(rt; bench.expression(first)?.as_str(), "P");
+    let second = bench.index(p, 1)?;
+    let refusal = "a scalar signal can only be indexed with zero";
+    match bench.expression(second) {
+        Err(VastFault::Refused(error)) => assert_eq!(rt; error.0.as_str(), refusal),
+        _ => assert!(rt; false),
+    }
+    Ok(())
+}
+
+#[test]
+fn selects_of_a_defined_parameter(rt: HostRuntime) -> Result<(), Fail> {
+    let mut bench = Bench::new(&rt, rt.alloc(), VastFileType::SystemVerilog);
+    let m = bench.file.add_module("m")?;
+    let four = bench.number(4)?;
+    let bit = bench.file.make_scalar_type()?;
+    let d = bench.definition("P", DataKind::Logic, bit)?;
+    let p = bench.defined_parameter(m, d, four)?;
+    is_a_scalar(&mut bench, &rt, p.to_indexable_expr())
+}
+
+#[test]
+fn selects_of_a_parameter_port(rt: HostRuntime) -> Result<(), Fail> {
+    let mut bench = Bench::new(&rt, rt.alloc(), VastFileType::SystemVerilog);
+    let m = bench.file.add_module("m")?;
+    let four = bench.number(4)?;
+    let bit = bench.file.make_scalar_type()?;
+    let p = bench.typed_parameter_port(m, "P", bit, four)?;
+    is_a_scalar(&mut bench, &rt, p.to_indexable_expr())
+}
