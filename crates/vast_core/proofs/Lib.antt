@@ -1,5 +1,6 @@
 pub mod Lists
 pub mod NodeLaws
+pub mod WellFormed
 pub mod Names
 pub mod Products
 pub mod Arrays
