@@ -9,8 +9,8 @@ pub returns-in-Ok : goal.returns-in-Ok
 returns-in-Ok c =
     let text = string_bytes c.in-Ok.text in
     let made : IfOk c.format.result (λ s. string_bytes s ≡ codes "Width is not a literal: " ++ text) = search rules in
-    printed (expr_text (tree_of (bench c.args.ast.now) c.args.width)) text c.refusal.result c.in-Ok.ensures.0 c.in-Ok.ensures.1
+    printed (expr_text (tree_of (bench c.args.ast.now) c.args.width)) text c.refusal.result c.in-Ok.ensures.text.0 c.in-Ok.ensures.text.1
     (worded c.format.result (codes "Width is not a literal: " ++ text) c.refusal.result made c.refusal.ensures)
 
 pub returns-in-Err : goal.returns-in-Err
-returns-in-Err c = unprinted (expr_text (tree_of (bench c.args.ast.now) c.args.width)) c.in-Err.fault c.in-Err.ensures
+returns-in-Err c = unprinted (expr_text (tree_of (bench c.args.ast.now) c.args.width)) c.in-Err.fault c.in-Err.ensures.text
