@@ -1,1 +1,5 @@
 pub mod Selectors
+pub mod Taken
+pub mod Hoisted
+pub mod Connected
+pub mod Inspected
