@@ -1,5 +1,5 @@
 -- What a printed expression's text derives.
-use Rattle.std.proofs.Common.{◌≡◌, ℕ, List, Result, Ok, Err, IfOk, String, string_bytes, refl, sym, ◌∙◌, subst}
+use Rattle.std.proofs.Common.{◌≡◌, Result, Ok, Err, IfOk, String, string_bytes, subst}
 use Rattle.std.specs.declared.alloc.Global.{Global}
 use Rattle.vast_literal.specs.Tree.{ExprTree}
 use Rattle.vast_literal.specs.NormalExpr.{normal}

@@ -88,7 +88,8 @@ pub fn print_file(ast: &Ast) -> Result<String, VastFault>
     }
 }
 
-/// The text of one expression.
+/// The text of one expression. Where its printed names are plain and it has no edges, the grammar derives its normal form
+/// from the text, and no other tree.
 ///
 /// # Errors
 /// As [`print_file`].

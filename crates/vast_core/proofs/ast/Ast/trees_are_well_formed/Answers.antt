@@ -1,6 +1,3 @@
-use Rattle.vast_core.specs.Raw.{Raw}
-use Rattle.vast_core.specs.Bench.{AreWellFormed}
-use Rattle.vast_core.specs.View.{bench}
 use Rattle.vast_core.proofs.Growth.{trees-well_formed}
 use Rattle.vast_core.proofs.ast.Ast.trees_are_well_formed.Goals as goal
 
