@@ -5,6 +5,10 @@ use bench::Bench;
 use std::test::Fail;
 
 mod bench;
+mod deep;
+mod expressions;
+mod keywords;
+mod types;
 
 #[test]
 fn prints_empty_files_and_modules(rt: HostRuntime) -> Result<(), Fail> {
