@@ -9,6 +9,10 @@ mod files;
 mod members;
 mod parameters;
 mod ports;
+mod deep;
+mod expressions;
+mod keywords;
+mod types;
 
 #[test]
 fn prints_empty_files_and_modules(rt: HostRuntime) -> Result<(), Fail> {
