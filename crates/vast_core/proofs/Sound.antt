@@ -100,8 +100,8 @@ FormSound-kept b c g (DefinedForm d) h = index-kept b c d.id (length b.definitio
 pub continuous-kept : (b c : Bench) → Grows b c → (a : ContinuousAssignment) → OwnsContinuous b a → OwnsContinuous c a
 continuous-kept b c g a h =
     record {
-        of_file = h.of_file ∙ sym g.nodes.same_id;
-        of_kind = test-kept is_continuous b.assignments c.assignments a.id.index (slice_get b.assignments a.id.index) refl (g.assignments a.id.index) never h.of_kind
+      of_file = h.of_file ∙ sym g.nodes.same_id;
+      of_kind = test-kept is_continuous b.assignments c.assignments a.id.index (slice_get b.assignments a.id.index) refl (g.assignments a.id.index) never h.of_kind;
     }
 
 pub MemberSound-kept : (b c : Bench) → Grows b c → (m : MemberEntry) → MemberSound b m → MemberSound c m

@@ -7,20 +7,20 @@ use Rattle.vast_core.specs.Bench.{Bench}
 
 unfoldable pub bench : Raw → Bench
 bench a =
-  record {
-    file_type = a.file_type;
-    nodes = built (no_nodes a.id) a.terms;
-    nests = a.nests;
-    ports = map port_record a.ports;
-    assignments = a.assignments;
-    modules = map module_record a.modules;
-    functions = a.functions;
-    definitions = map definition_record a.definitions;
-    artifacts = map artifact_record a.artifacts;
-    instances = map instance_record a.instances;
-    always_blocks = a.always_blocks;
-    items = map file_entry a.items
-  }
+    record {
+      file_type = a.file_type;
+      nodes = built (no_nodes a.id) a.terms;
+      nests = a.nests;
+      ports = map port_record a.ports;
+      assignments = a.assignments;
+      modules = map module_record a.modules;
+      functions = a.functions;
+      definitions = map definition_record a.definitions;
+      artifacts = map artifact_record a.artifacts;
+      instances = map instance_record a.instances;
+      always_blocks = a.always_blocks;
+      items = map file_entry a.items;
+    }
 
 -- How many expressions and types can be made before memory is needed.
 unfoldable pub room : Raw → ℕ
