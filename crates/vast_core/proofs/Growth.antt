@@ -1,8 +1,7 @@
 -- What a file holds, and that it stays sound, after its arenas grew.
-use Rattle.std.proofs.Common.{◌≡◌, ℕ, suc, zero, ◌+◌, ◌<◌, ◌≤◌, Bool, true, false, IsTrue, List, [], ◌∷◌, ◌++◌, length, get_or, map, nat_lt, Option, Some, None, Result, Ok, Err, IsErr, slice_get, refl, sym, ap, ◌∙◌, arith, length-append, subst, string_bytes}
+use Rattle.std.proofs.Common.{◌≡◌, ℕ, ◌+◌, IsTrue, List, [], ◌∷◌, ◌++◌, length, map, nat_lt, Result, Ok, Err, IsErr, refl, sym, ap, arith, length-append, subst, string_bytes}
 use Rattle.std.specs.declared.alloc.AllocError.{AllocError}
 use Rattle.std.proofs.lemmas.List.{length-map, map-append}
-use Rattle.std.proofs.Math.ListN.{set}
 use Rattle.vast_literal.specs.Tree.{NameTree, Typed}
 use Rattle.vast_core.specs.declared.handle.VastModule.{VastModule}
 use Rattle.vast_core.specs.declared.handle.VastDataType.{VastDataType}
@@ -15,14 +14,14 @@ use Rattle.vast_core.specs.declared.node.FileItem.{FileItem}
 use Rattle.vast_core.specs.declared.node.Assignment.{Assignment}
 use Rattle.vast_core.specs.Raw.{Raw}
 use Rattle.vast_core.specs.Nodes.{Root, ExprRoot, no_nodes, built, TermsSound, ChildrenHold, RootFits, RootWellFormed, term_root}
-use Rattle.vast_core.specs.Records.{PortRecord, ParameterPortRecord, ModuleRecord, MemberEntry, FileEntry, ModuleEntry, port_record, module_record, file_entry, new_module, changed_at, with_port as with_listed_port, with_member as with_listed_member, with_named_member, with_parameter_port}
-use Rattle.vast_core.specs.Bench.{Bench, type_of, OwnsExpr, OwnsType, OwnsPort, OwnsModule, OwnsContinuous, AreWellFormed}
-use Rattle.vast_core.specs.View.{bench, room}
+use Rattle.vast_core.specs.Records.{PortRecord, ParameterPortRecord, ModuleRecord, MemberEntry, ModuleEntry, port_record, module_record, file_entry, new_module, changed_at, with_port as with_listed_port, with_member as with_listed_member, with_named_member, with_parameter_port}
+use Rattle.vast_core.specs.Bench.{Bench, type_of, OwnsExpr, OwnsType, OwnsPort, OwnsModule, AreWellFormed}
+use Rattle.vast_core.specs.View.{bench}
 use Rattle.vast_core.specs.Growth.{Builds, with_root, with_assignment, with_module, with_port, next_module, next_port, next_logic_ref}
 use Rattle.vast_core.specs.Sound.{Each, PortSound, AssignmentSound, MemberSound, ParameterPortSound, ModuleSound, EntrySound, RecordsSound, IsSound}
-use Rattle.vast_core.proofs.Lists.{slice_get-append, slice_get-seam, changed-map, unchanged-map, length-changed_at, Each-map, Each-push, Each-changed_at}
+use Rattle.vast_core.proofs.Lists.{slice_get-append, slice_get-seam, length-changed_at, Each-map, Each-push, Each-changed_at}
 use Rattle.vast_core.proofs.NodeLaws.{Extends-same, Extends-root, HasType-kept, built-push, built-id, TermsSound-push, built-length, built-well_formed, expr-well_formed, type-well_formed}
-use Rattle.vast_core.proofs.Sound.{Grows, Carried, carried, ModuleSound-kept}
+use Rattle.vast_core.proofs.Sound.{Grows, carried, ModuleSound-kept}
 
 -- A term more.
 

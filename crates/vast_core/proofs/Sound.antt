@@ -1,18 +1,17 @@
 -- What a file keeps stays true as it grows.
-use Rattle.std.proofs.Common.{◌≡◌, ◌≢◌, ℕ, suc, zero, ◌+◌, ◌<◌, ◌≤◌, Bool, true, false, IsTrue, List, [], ◌∷◌, ◌++◌, length, nat_lt, Option, Some, None, slice_get, refl, sym, ap, ◌∙◌, arith, length-append}
-use borrow.Author.Tests.{ltb-true}
+use Rattle.std.proofs.Common.{◌≡◌, ℕ, ◌<◌, ◌≤◌, Bool, false, IsTrue, List, length, nat_lt, Option, Some, None, slice_get, refl, sym, ◌∙◌, arith}
 use Rattle.vast_core.specs.declared.node.Assignment.{Assignment}
 use Rattle.vast_core.specs.declared.handle.Id.{Id}
 use Rattle.vast_core.specs.declared.handle.Expr.{Expr}
 use Rattle.vast_core.specs.declared.handle.VastDataType.{VastDataType}
 use Rattle.vast_core.specs.declared.handle.ModulePort.{ModulePort}
 use Rattle.vast_core.specs.declared.handle.ContinuousAssignment.{ContinuousAssignment}
-use Rattle.vast_core.specs.Nodes.{Nodes, IsOwned, HasExpr, HasType, OptionHolds, is_name, is_macro, is_root_of, with_root as with_node}
+use Rattle.vast_core.specs.Nodes.{IsOwned, OptionHolds, is_name, is_macro}
 use Rattle.vast_core.specs.Records.{PortRecord, ParameterPortRecord, ModuleRecord, FormEntry, PlainForm, IntForm, DefinedForm, MemberEntry, DeclarationEntry, AssignmentEntry, ParameterEntry, BlankEntry, CommentEntry, InlineEntry, MacroEntry, InstanceEntry, FileEntry, ModuleEntry, IncludeEntry, FileCommentEntry, FileBlankEntry, DefinitionRecord, ArtifactRecord, BlankLineRecord, CommentRecord, InlineRecord, MacroRecord, ConnectionRecord, InstanceRecord}
-use Rattle.vast_core.specs.Bench.{Bench, OwnsExpr, OwnsType, OwnsLogicRef, OwnsPort, OwnsContinuous, OwnsModule, is_continuous, is_comment, is_inline, is_macro_statement}
+use Rattle.vast_core.specs.Bench.{Bench, OwnsExpr, OwnsType, OwnsPort, OwnsContinuous, is_continuous, is_comment, is_inline, is_macro_statement}
 use Rattle.vast_core.specs.Sound.{Each, PortSound, AssignmentSound, DefinitionSound, ArtifactSound, ConnectionSound, InstanceSound, FormSound, MemberSound, ParameterPortSound, ModuleSound, EntrySound, RecordsSound}
-use Rattle.vast_core.proofs.Lists.{Each-map, Each-push, slice_get-append}
-use Rattle.vast_core.proofs.NodeLaws.{Extends, Extends-same, Extends-root, HasExpr-kept, HasType-kept, shape-kept}
+use Rattle.vast_core.proofs.Lists.{Each-map}
+use Rattle.vast_core.proofs.NodeLaws.{Extends, HasExpr-kept, HasType-kept, shape-kept}
 
 -- c has all the nodes that b has, in the same places.
 pub record Grows (b c : Bench) : Type 0 where

@@ -1,6 +1,6 @@
 -- What every file keeps: children are older, each expression and type fits, and each handle in its records and lists
 -- is its own.
-use Rattle.std.specs.Prelude.{ℕ, List, [], ◌∷◌}
+use Rattle.std.specs.Prelude.{List, [], ◌∷◌}
 use Rattle.vast_core.specs.declared.node.Assignment.{Assignment}
 use Rattle.vast_core.specs.Nodes.{no_nodes, TermsSound, OptionHolds}
 use Rattle.vast_core.specs.Records.{PortRecord, ParameterPortRecord, ModuleRecord, FormEntry, PlainForm, IntForm, DefinedForm, MemberEntry, DeclarationEntry, AssignmentEntry, ParameterEntry, BlankEntry, CommentEntry, InlineEntry, MacroEntry, InstanceEntry, FileEntry, ModuleEntry, IncludeEntry, FileCommentEntry, FileBlankEntry, DefinitionRecord, ArtifactRecord, BlankLineRecord, CommentRecord, InlineRecord, MacroRecord, ConnectionRecord, InstanceRecord}

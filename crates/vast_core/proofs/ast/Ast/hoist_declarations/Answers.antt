@@ -1,4 +1,4 @@
-use Rattle.std.proofs.Common.{◌≡◌, ◌<◌, ◌≤◌, length, map, rules, refl}
+use Rattle.std.proofs.Common.{◌<◌, length, rules, refl}
 use Rattle.vast_core.specs.Records.{module_record}
 use Rattle.vast_core.specs.Hoisting.{with_members_hoisted}
 use Rattle.vast_core.specs.View.{bench}

@@ -1,7 +1,7 @@
 use Rattle.std.proofs.Common.{◌≡◌, ◌++◌, rules, ap}
 use Rattle.std.proofs.lemmas.List.Sorted.{answers_always}
 use Rattle.std.proofs.lemmas.Result.{on_ok_weaker}
-use Rattle.vast_core.specs.Records.{ModuleRecord, MemberEntry, module_record}
+use Rattle.vast_core.specs.Records.{module_record}
 use Rattle.vast_core.proofs.Parting.{other}
 use Rattle.vast_core.proofs.Hoisting.{declares, hoist-sorted}
 use Rattle.vast_core.proofs.node.Module.hoist.Goals as goal
