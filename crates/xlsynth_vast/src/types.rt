@@ -215,7 +215,7 @@ impl VastFile {
         ensures { AnswersBy (flat_bits (type_of (bench self.now) data_type)) result }
     {
         match self.ast.flat_bit_count(data_type) {
-            Ok(bits) => Ok(bits),
+            Ok(count) => Ok(count),
             Err(BitCountFault::Overflow) => Err(count_exceeds(&self.ast)),
             Err(BitCountFault::Symbolic(width)) => Err(no_literal(&self.ast, width)),
             Err(BitCountFault::External(base)) => Err(no_known_width(&self.ast, base)),
