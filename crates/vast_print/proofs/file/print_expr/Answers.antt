@@ -1,4 +1,4 @@
-use Rattle.std.proofs.Common.{◌≡◌, Ok}
+use Rattle.std.proofs.Common.{Ok}
 use Rattle.vast_core.specs.Bench.{tree_of}
 use Rattle.vast_core.specs.View.{bench}
 use Rattle.vast_print.specs.Text.{expr_text}
