@@ -145,6 +145,15 @@ impl<'a, R: Abort> Bench<'a, R> {
         Ok(index.to_expr())
     }
 
+    /// The text of the expression, or that of its refusal.
+    pub(crate) fn text_or_refusal(&self, e: Expr) -> Result<String, AllocError> {
+        match self.expression(e) {
+            Ok(text) => Ok(text),
+            Err(VastFault::Refused(error)) => Ok(error.0),
+            Err(VastFault::Memory(error)) => Err(error),
+        }
+    }
+
     pub(crate) fn comment(&mut self, m: VastModule, comment: Comment) -> Result<(), AllocError> {
         assert!(self.rt; self.file.owns(&m));
         assert!(self.rt; self.file.owns(&comment));
