@@ -5,13 +5,13 @@ use bench::Bench;
 use std::test::Fail;
 
 mod bench;
+mod deep;
+mod expressions;
 mod files;
+mod keywords;
 mod members;
 mod parameters;
 mod ports;
-mod deep;
-mod expressions;
-mod keywords;
 mod types;
 
 #[test]

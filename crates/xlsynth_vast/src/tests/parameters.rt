@@ -39,7 +39,7 @@ fn selects_of_a_parameter(rt: HostRuntime) -> Result<(), Fail> {
     let m = bench.file.add_module("m")?;
     let four = bench.number(4)?;
     let p = bench.parameter(m, "P", four)?;
-    let bit = bench.index(p.to_indexable_expr(), 1)?;
+    let bit = bench.bit(p.to_indexable_expr(), 1)?;
     assert_eq!(rt; bench.expression(bit)?.as_str(), "P[1]");
     Ok(())
 }
@@ -59,7 +59,7 @@ fn selects_of_a_defined_parameter(rt: HostRuntime) -> Result<(), Fail> {
     let d = bench.definition("P", DataKind::Logic, bit)?;
     let p = bench.defined_parameter(m, d, four)?;
     for (n, text) in BITS {
-        let bit = bench.index(p.to_indexable_expr(), n)?;
+        let bit = bench.bit(p.to_indexable_expr(), n)?;
         assert_eq!(rt; bench.text_or_refusal(bit)?.as_str(), text);
     }
     Ok(())
@@ -73,7 +73,7 @@ fn selects_of_a_parameter_port(rt: HostRuntime) -> Result<(), Fail> {
     let bit = bench.file.make_scalar_type()?;
     let p = bench.typed_parameter_port(m, "P", bit, four)?;
     for (n, text) in BITS {
-        let bit = bench.index(p.to_indexable_expr(), n)?;
+        let bit = bench.bit(p.to_indexable_expr(), n)?;
         assert_eq!(rt; bench.text_or_refusal(bit)?.as_str(), text);
     }
     Ok(())

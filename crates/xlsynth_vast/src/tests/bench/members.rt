@@ -139,7 +139,7 @@ impl<'a, R: Abort> Bench<'a, R> {
     }
 
     /// The bit `subject[n]`.
-    pub(crate) fn index(&mut self, subject: IndexableExpr, n: u8) -> Result<Expr, AllocError> {
+    pub(crate) fn bit(&mut self, subject: IndexableExpr, n: u8) -> Result<Expr, AllocError> {
         assert!(self.rt; self.file.owns(&subject));
         let index = self.file.make_index(&subject, i64::from(n))?;
         Ok(index.to_expr())
