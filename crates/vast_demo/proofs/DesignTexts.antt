@@ -1,5 +1,5 @@
 -- The printed text of each design.
-use Rattle.std.proofs.Common.{◌≡◌, ℕ, pos, Bool, true, false, List, [], ◌∷◌, ◌++◌, refl, ◌∙◌, codes, Result, Ok, Err, IfOk, String, Global, string_bytes}
+use Rattle.std.proofs.Common.{◌≡◌, ℕ, pos, false, List, refl, ◌∙◌, codes, Result, Ok, Err, IfOk, String, Global, string_bytes}
 use Rattle.std.specs.Fmt.{digits}
 use Rattle.vast_literal.specs.declared.error.VastFault.{VastFault}
 use Rattle.vast_core.specs.declared.handle.VastModule.{VastModule}

@@ -1,10 +1,10 @@
 -- What an instantiation gives to parameters and ports.
-use Rattle.std.proofs.Common.{◌≡◌, ℕ, zero, suc, ◌+◌, ◌<◌, ◌≤◌, List, [], ◌∷◌, ◌++◌, length, map, All, Option, Some, None, refl, ap, arith, take, get_or, add-one, Bor, IfSome, option_copied}
+use Rattle.std.proofs.Common.{◌≡◌, ℕ, zero, suc, ◌+◌, ◌<◌, List, [], ◌∷◌, ◌++◌, length, map, All, Option, Some, None, refl, ap, arith, take, get_or, add-one, Bor, IfSome, option_copied}
 use Rattle.std.proofs.lemmas.List.{map-append}
 use Rattle.vast_core.specs.declared.node.Connection.{Connection}
 use Rattle.vast_core.specs.declared.handle.Expr.{Expr}
 use Rattle.vast_core.specs.Nodes.{OptionHolds}
-use Rattle.vast_core.specs.Records.{ConnectionRecord, connection_record}
+use Rattle.vast_core.specs.Records.{connection_record}
 use Rattle.vast_core.specs.Bench.{Bench, OwnsExpr}
 use Rattle.vast_core.specs.Sound.{Each, ConnectionSound}
 use Rattle.vast_core.proofs.Lists.{All-Each, All-head, All-tail}

@@ -1,9 +1,7 @@
 -- Hoisting again changes nothing.
 use Rattle.std.proofs.Common.{◌≡◌, ℕ, zero, suc, List, [], ◌∷◌, refl, ap}
-use Rattle.vast_core.specs.declared.handle.VastModule.{VastModule}
 use Rattle.vast_core.specs.Handles.{module_index}
 use Rattle.vast_core.specs.Records.{ModuleRecord, MemberEntry, changed_at}
-use Rattle.vast_core.specs.Bench.{Bench}
 use Rattle.vast_core.specs.Hoisting.{with_members_hoisted}
 use Rattle.vast_core.proofs.Hoisting.{hoisted-twice}
 use Rattle.xlsynth_vast.specs.Laws.{HoistingAgain}

@@ -1,4 +1,4 @@
-use Rattle.std.proofs.Common.{◌≡◌, ◌∙◌, pos, false, codes, rules}
+use Rattle.std.proofs.Common.{◌≡◌, pos, false, codes, rules}
 use Rattle.vast_core.specs.declared.kind.VastFileType.TheVariants.{SystemVerilog}
 use Rattle.vast_core.specs.declared.kind.ModulePortDirection.TheVariants.{Input, Output}
 use Rattle.vast_core.specs.declared.kind.DataKind.TheVariants.{Wire}

@@ -1,4 +1,4 @@
-use Rattle.std.proofs.Common.{◌≡◌, ℕ, List, Bor, option_copied, refl, arith}
+use Rattle.std.proofs.Common.{ℕ, List, Bor, option_copied, refl, arith}
 use Rattle.xlsynth_vast.proofs.Connected.{one_more}
 use Rattle.xlsynth_vast.proofs.instances.connections.Goals as goal
 

@@ -1,5 +1,4 @@
 use Rattle.std.proofs.Common.{◌≡◌, ℕ, List, map, take, length, Bor, option_copied}
-use Rattle.vast_core.specs.declared.handle.Expr.{Expr}
 use Rattle.vast_core.specs.Records.{connection_record}
 use Rattle.xlsynth_vast.specs.Instances.{connected}
 use Rattle.xlsynth_vast.proofs.instances.connections.Given as goal

@@ -1,4 +1,4 @@
-use Rattle.std.proofs.Common.{◌≡◌, ℕ, List, Some, Bor, refl, arith}
+use Rattle.std.proofs.Common.{ℕ, List, Some, Bor, refl, arith}
 use Rattle.vast_core.specs.declared.handle.Expr.{Expr}
 use Rattle.xlsynth_vast.proofs.Connected.{one_more}
 use Rattle.xlsynth_vast.proofs.instances.parameters.Goals as goal

@@ -1,4 +1,3 @@
-use Rattle.std.proofs.Common.{◌≡◌}
 use Rattle.vast_core.specs.View.{bench}
 use Rattle.xlsynth_vast.proofs.Inspected.{width_refused}
 use Rattle.xlsynth_vast.proofs.file.VastFile.port_width.Goals as goal

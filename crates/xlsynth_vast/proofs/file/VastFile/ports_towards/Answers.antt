@@ -1,4 +1,3 @@
-use Rattle.std.proofs.Common.{◌≡◌}
 use Rattle.vast_core.specs.Bench.{OwnsPort}
 use Rattle.vast_core.specs.View.{bench}
 use Rattle.xlsynth_vast.proofs.Inspected.{owned_part}

@@ -1,4 +1,4 @@
-use Rattle.std.proofs.Common.{◌≡◌, ◌∙◌, ap, sym, Err}
+use Rattle.std.proofs.Common.{◌∙◌, ap, sym, Err}
 use Rattle.vast_core.specs.Records.{module_record}
 use Rattle.vast_core.specs.View.{bench}
 use Rattle.xlsynth_vast.proofs.Taken.{allowed_there, refused_there, only_memory, not_both}
