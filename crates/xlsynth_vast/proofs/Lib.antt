@@ -4,3 +4,4 @@ pub mod Taken
 pub mod Hoisted
 pub mod Connected
 pub mod Inspected
+pub mod DeclaredNames
