@@ -3,6 +3,7 @@ pub mod NodeLaws
 pub mod Names
 pub mod Products
 pub mod Arrays
+pub mod Nests
 pub mod Sound
 pub mod Growth
 pub mod Arenas
@@ -12,3 +13,5 @@ pub mod Hoisting
 pub mod Laws
 pub mod Fixed
 pub mod RecordLaws
+pub mod Containers
+pub mod Enters

@@ -23,9 +23,10 @@ pub use handle::{
     MacroStatement, ModulePort, ParameterRef, Slice, VastAlwaysBase, VastDataType, VastFunction,
     VastModule, VastStatement, VastStatementBlock,
 };
-pub use kind::{AlwaysKind, DataKind, ModulePortDirection, VastFileType};
+pub use kind::{AlwaysKind, CaseKind, DataKind, ModulePortDirection, VastFileType};
 pub use node::{
-    Artifact, Assignment, Connection, Definition, ExprNode, FileItem, Instance, Member, Module,
-    ParameterForm, ParameterPort, Port, TypeNode,
+    AlwaysBlock, Artifact, Assignment, CaseArm, CaseNode, ConditionalNode, Connection, Definition,
+    ElseIf, ExprNode, FileItem, Function, FunctionVariable, Instance, LoopNode, Member, Module,
+    ParameterForm, ParameterPort, Port, Statement, TypeNode,
 };
 pub use operator::{BinaryOperator, UnaryOperator};
