@@ -15,3 +15,7 @@ pub mod Fixed
 pub mod RecordLaws
 pub mod Containers
 pub mod Enters
+pub mod EntersMembers
+pub mod NestReaders
+pub mod NestLaws
+pub mod Functions

@@ -223,3 +223,13 @@ has_else (Some (BlockRecord statements)) = false
 has_else (Some (BranchRecord c)) = is_there c.otherwise
 has_else (Some (SwitchRecord c)) = false
 has_else (Some (RepeatRecord l)) = false
+
+-- The case statement, `unique` or not.
+abbrev pub with_unique : Bool → NestRecord → NestRecord
+with_unique unique (BlockRecord statements) = BlockRecord statements
+with_unique unique (BranchRecord c) = BranchRecord c
+with_unique unique (SwitchRecord c) = SwitchRecord (record c { unique = unique })
+with_unique unique (RepeatRecord l) = RepeatRecord l
+
+abbrev pub with_case_unique : CaseStatement → Bool → Bench → Bench
+with_case_unique c unique b = record b { nests = changed_at (case_index c) (with_unique unique) b.nests }

@@ -16,3 +16,5 @@ pub mod FileTree
 pub mod Sound
 pub mod Containers
 pub mod Arrivals
+pub mod Loops
+pub mod Functions

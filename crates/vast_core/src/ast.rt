@@ -12,15 +12,18 @@ use crate::node::{
 use std::alloc::Global;
 use std::marker::Model;
 
+mod always;
 mod artifacts;
 mod assignments;
 mod bit_count;
 mod blocks;
 mod expressions;
+mod functions;
 mod growth;
 mod branches;
 mod hoisting;
 mod inspect;
+mod loops;
 mod members;
 mod modules;
 mod next;
@@ -32,6 +35,7 @@ mod terms;
 #[cfg(test)]
 mod tests;
 mod types;
+mod variables;
 
 /// The nodes of one file, in arenas. Handles name nodes by their index.
 ///

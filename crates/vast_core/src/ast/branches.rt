@@ -3,14 +3,14 @@
 ghost use Rattle.std.specs.Prelude.{◌≡◌, ◌<◌, ◌^◌, false, Some, slice_get};
 ghost use Rattle.vast_core.specs.Handles.{conditional_index, case_index};
 ghost use Rattle.vast_core.specs.Nodes.{OptionHolds};
-ghost use Rattle.vast_core.specs.Nests.{conditional_record, case_record, BranchRecord, SwitchRecord, ConditionalStatement, CasesStatement};
+ghost use Rattle.vast_core.specs.Nests.{nest_record, conditional_record, case_record, BranchRecord, SwitchRecord, ConditionalStatement, CasesStatement};
 ghost use Rattle.vast_core.specs.Bench.{OwnsBlock, OwnsExpr, OwnsConditional, OwnsCase, tree_of};
 ghost use Rattle.vast_core.specs.Sound.{ConditionalSound, CaseSound};
 ghost use Rattle.vast_core.specs.FileTree.{BranchFamily, SwitchFamily, families, block_tree, alternates_tree, case_arms_tree};
 ghost use Rattle.vast_core.specs.Kinds.{case_word};
 ghost use Rattle.vast_literal.specs.Tree.{CaseTree};
 ghost use Rattle.vast_core.specs.Growth.{Builds};
-ghost use Rattle.vast_core.specs.Containers.{InNest, GrowthSound, fresh_block, with_nest_entry, with_block, with_statement, next_conditional, with_conditional, next_case, with_case, next_block, with_else_if, with_else, with_case_arm, has_else};
+ghost use Rattle.vast_core.specs.Containers.{InNest, GrowthSound, fresh_block, with_nest_entry, with_block, with_statement, next_conditional, with_conditional, next_case, with_case, next_block, with_else_if, with_else, with_case_arm, has_else, with_unique, with_case_unique};
 ghost use Rattle.vast_core.specs.Arrivals.{entry_of};
 ghost use Rattle.vast_core.specs.View.{bench};
 
@@ -21,7 +21,26 @@ use crate::kind::CaseKind;
 use crate::node::{CaseArm, CaseNode, ConditionalNode, ElseIf, Nest, Statement};
 use std::alloc::AllocError;
 
+impl Nest {
+    fn set_unique(&mut self, unique: bool)
+        ensures { nest_record self.new ≡ with_unique unique (nest_record self.old) }
+    {
+        if let Nest::Case(node) = self {
+            node.unique = unique;
+        }
+    }
+}
+
 impl Ast {
+    /// Makes the case statement `unique`, or not. It takes no memory.
+    pub fn case_set_unique(&mut self, c: CaseStatement, unique: bool)
+        requires { OwnsCase (bench self.old) c }
+        ensures { bench self.new ≡ with_case_unique c unique (bench self.old) }
+    {
+        let target = &mut self.nests[c.id.index];
+        target.set_unique(unique);
+    }
+
     /// Appends a conditional to the block, with an empty block as its first arm.
     ///
     /// # Errors
