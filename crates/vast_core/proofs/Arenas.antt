@@ -1,5 +1,5 @@
 -- What a file holds, and that it stays sound, after a definition, an artifact, an instantiation or an item more.
-use Rattle.std.proofs.Common.{◌≡◌, ℕ, ◌+◌, ◌<◌, ◌≤◌, List, [], ◌∷◌, ◌++◌, length, map, Some, slice_get, refl, arith, length-append, subst}
+use Rattle.std.proofs.Common.{◌≡◌, List, [], ◌∷◌, ◌++◌, length, refl, arith, length-append, subst}
 use Rattle.std.proofs.lemmas.List.{length-map, map-append}
 use Rattle.vast_core.specs.declared.node.Definition.{Definition}
 use Rattle.vast_core.specs.declared.node.Artifact.{Artifact}

@@ -1,5 +1,5 @@
 -- What a file holds, and that it stays sound, after a list gained an entry with the nodes that it names.
-use Rattle.std.proofs.Common.{◌≡◌, ℕ, suc, zero, ◌+◌, ◌<◌, ◌≤◌, Bool, true, false, IsTrue, List, [], ◌∷◌, ◌++◌, length, map, Option, Some, None, slice_get, refl, sym, ap, ◌∙◌, arith, length-append, subst}
+use Rattle.std.proofs.Common.{◌≡◌, ℕ, ◌<◌, ◌≤◌, Bool, true, false, List, [], ◌∷◌, ◌++◌, length, map, Option, Some, None, slice_get, refl, sym, ap, ◌∙◌, arith, length-append, subst}
 use Rattle.std.proofs.lemmas.List.{length-map, map-append}
 use Rattle.vast_core.specs.declared.node.Term.{Term}
 use Rattle.vast_core.specs.declared.node.Assignment.{Assignment}
@@ -9,8 +9,8 @@ use Rattle.vast_core.specs.declared.node.Function.{Function}
 use Rattle.vast_core.specs.declared.node.AlwaysBlock.{AlwaysBlock}
 use Rattle.vast_core.specs.Raw.{Raw}
 use Rattle.vast_core.specs.Nodes.{Nodes, OptionHolds, ChildrenHold, RootFits, no_nodes, built, TermsSound, term_root}
-use Rattle.vast_core.specs.Records.{ModuleRecord, MemberEntry, module_record, changed_at}
-use Rattle.vast_core.specs.Nests.{NestRecord, BlockRecord, BranchRecord, SwitchRecord, RepeatRecord, FunctionRecord, AlwaysRecord, nest_kind, nest_record, function_record, always_record}
+use Rattle.vast_core.specs.Records.{ModuleRecord, MemberEntry, module_record}
+use Rattle.vast_core.specs.Nests.{NestRecord, BlockRecord, BranchRecord, SwitchRecord, RepeatRecord, nest_kind, nest_record, function_record, always_record}
 use Rattle.vast_core.specs.Bench.{Bench, OwnsExpr, OwnsType}
 use Rattle.vast_core.specs.View.{bench}
 use Rattle.vast_core.specs.Sound.{Each, AssignmentSound, MemberSound, ModuleSound, NestSound, NestsSound, FunctionSound, AlwaysSound, RecordsSound, IsSound}
@@ -19,7 +19,7 @@ use Rattle.vast_core.specs.Arrivals.{ListingThere, recorded, fresh_of}
 use Rattle.vast_core.specs.declared.ast.growth.Arrivals.{Arrivals}
 use Rattle.vast_core.proofs.Readers.{module-below, length-nests}
 use Rattle.vast_core.proofs.Lists.{slice_get-append, length-changed_at, Each-push, Each-changed_at}
-use Rattle.vast_core.proofs.NodeLaws.{Extends, Extends-same, Extends-root, built-push, TermsSound-push}
+use Rattle.vast_core.proofs.NodeLaws.{Extends, Extends-same, Extends-root, built-push}
 use Rattle.vast_core.proofs.Nests.{get-before, changed-before, kind-changed, nests-push, nests-changed}
 use Rattle.vast_core.proofs.Sound.{Grows, carried, MemberSound-kept, StatementSound-kept, ElseIfSound-kept, block-kept, CaseArmSound-kept, LoopMemberSound-kept}
 use Rattle.vast_core.proofs.Growth.{member-listed, named-listed, terms-term}
@@ -249,8 +249,17 @@ pub bench-grown :
     ≡ after_growth l f (bench a)
 unfolding bench
 bench-grown a b l f ts r xs ns ms fs us rx rn rf ru e h =
-    rw (h.terms, h.assignments, h.nests, h.modules, h.functions, h.always_blocks, ← e, built-added (no_nodes b.id) b.terms f.term,
-      swapped l (length b.modules) (map nest_record b.nests) f.container f.block (there-mapped (length b.modules) b.nests l h.there)) refl
+    rw (
+      h.terms,
+      h.assignments,
+      h.nests,
+      h.modules,
+      h.functions,
+      h.always_blocks,
+      ← e,
+      built-added (no_nodes b.id) b.terms f.term,
+      swapped l (length b.modules) (map nest_record b.nests) f.container f.block (there-mapped (length b.modules) b.nests l h.there),
+    ) refl
 
 pub sound-grown :
     (a b : Raw) (l : Listing) (f : Fresh) (ts : List Term) (r : ℕ) (xs : List Assignment) (ns : List Nest) (ms : List Module) (fs : List Function) (us : List AlwaysBlock) (rx rn rf ru : ℕ) → b ≡ a →

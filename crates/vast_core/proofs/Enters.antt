@@ -1,5 +1,5 @@
 -- What calls that grow a container know: what comes, and the entry that names it, are the file's.
-use Rattle.std.proofs.Common.{◌≡◌, ℕ, suc, zero, ◌+◌, ◌<◌, ◌≤◌, Bool, true, false, IsTrue, List, [], ◌∷◌, ◌++◌, length, nat_lt, Option, Some, None, slice_get, refl, sym, ap, ◌∙◌, arith, length-append}
+use Rattle.std.proofs.Common.{◌≡◌, suc, ◌<◌, true, false, List, [], ◌∷◌, ◌++◌, length, Option, Some, None, slice_get, refl, arith}
 use Rattle.vast_core.specs.declared.handle.Expr.{Expr}
 use Rattle.vast_core.specs.declared.handle.VastStatementBlock.{VastStatementBlock}
 use Rattle.vast_core.specs.declared.handle.Conditional.{Conditional}
@@ -9,16 +9,15 @@ use Rattle.vast_core.specs.declared.kind.CaseKind.{CaseKind}
 use Rattle.vast_core.specs.declared.node.Assignment.{Assignment}
 use Rattle.vast_core.specs.Handles.{block_index, conditional_index, case_index, loop_index}
 use Rattle.vast_core.specs.Nodes.{OptionHolds}
-use Rattle.vast_core.specs.Nests.{StatementEntry, AssignStatement, ContinuousStatement, ConditionalStatement, CasesStatement, NestRecord, BlockRecord, is_block_kind, is_conditional_kind, is_case_kind, is_loop_kind}
-use Rattle.vast_core.specs.Bench.{Bench, OwnsExpr, OwnsBlock, OwnsConditional, OwnsCase, OwnsLoop, OwnsStatement}
+use Rattle.vast_core.specs.Nests.{StatementEntry, AssignStatement, ContinuousStatement, ConditionalStatement, CasesStatement, BlockRecord, is_block_kind, is_conditional_kind, is_case_kind, is_loop_kind}
+use Rattle.vast_core.specs.Bench.{Bench, OwnsExpr, OwnsBlock, OwnsConditional, OwnsCase, OwnsLoop}
 use Rattle.vast_core.specs.Growth.{with_assignment, next_id}
 use Rattle.vast_core.specs.Artifacts.{next_statement}
 use Rattle.vast_core.specs.Sound.{AssignmentSound, StatementSound}
 use Rattle.vast_core.specs.Containers.{InNest, StatementEnters, ElseIfEnters, ElseEnters, CaseArmEnters, GrowthSound, FreshSound, no_fresh, fresh_assignment, fresh_block, fresh_container, next_block, next_conditional, next_case, new_conditional, new_case, with_block, with_conditional, with_case}
 use Rattle.vast_core.proofs.Lists.{slice_get-seam}
-use Rattle.vast_core.proofs.Nests.{kind-there, get-before}
+use Rattle.vast_core.proofs.Nests.{kind-there}
 use Rattle.vast_core.proofs.Sound.{never}
-use Rattle.vast_core.proofs.Growth.{last-test}
 use Rattle.vast_core.proofs.RecordLaws.{next_statement_owned}
 
 nothing-comes : (b c : Bench) → FreshSound b c no_fresh

@@ -1,6 +1,6 @@
 -- What calls that add always blocks, loops, conditionals and functions know: what comes, and the member that names it,
 -- are the file's.
-use Rattle.std.proofs.Common.{◌≡◌, ℕ, suc, zero, ◌+◌, ◌<◌, ◌≤◌, Bool, true, false, IsTrue, List, [], ◌∷◌, ◌++◌, length, nat_lt, Option, Some, None, slice_get, All, String, string_bytes, refl, sym, ap, ◌∙◌, arith, length-append}
+use Rattle.std.proofs.Common.{◌≡◌, ℕ, suc, true, List, [], ◌∷◌, length, Option, Some, None, All, String, string_bytes, refl, arith, length-append}
 use Rattle.std.specs.declared.alloc.Global.{Global}
 use Rattle.vast_literal.specs.Tree.{NameTree, MaybeType, Untyped, Typed}
 use Rattle.vast_core.specs.declared.handle.Expr.{Expr}
@@ -11,16 +11,15 @@ use Rattle.vast_core.specs.declared.handle.LogicRef.{LogicRef}
 use Rattle.vast_core.specs.declared.handle.VastFunction.{VastFunction}
 use Rattle.vast_core.specs.declared.handle.VastStatementBlock.{VastStatementBlock}
 use Rattle.vast_core.specs.declared.kind.AlwaysKind.{AlwaysKind}
-use Rattle.vast_core.specs.declared.node.Assignment.{Assignment}
 use Rattle.vast_core.specs.Handles.{loop_index}
 use Rattle.vast_core.specs.Nodes.{Root, ExprRoot, with_root as with_node}
 use Rattle.vast_core.specs.Records.{MemberEntry, AlwaysEntry, LoopEntry, ConditionalEntry, FunctionEntry}
-use Rattle.vast_core.specs.Nests.{BlockRecord, RepeatRecord, NestRecord, AlwaysRecord, FunctionRecord, VariableRecord}
+use Rattle.vast_core.specs.Nests.{BlockRecord, RepeatRecord, VariableRecord}
 use Rattle.vast_core.specs.Bench.{Bench, OwnsExpr, OwnsType, OwnsBlock, OwnsModule, OwnsLoop, OwnsAlways, OwnsFunction, OwnsLogicRef, type_of}
-use Rattle.vast_core.specs.Growth.{with_expr, next_logic_ref}
-use Rattle.vast_core.specs.Sound.{Each, EventSound, AlwaysNewer, MemberSound, MemberNewer}
-use Rattle.vast_core.specs.Containers.{InModule, InNest, with_fresh, MemberEnters, GrowthSound, FreshSound, no_fresh, fresh_container, next_block, next_conditional, new_conditional, with_conditional}
-use Rattle.vast_core.specs.Loops.{next_always, next_loop, next_function, new_always, with_always, fresh_always, new_loop, with_loop, fresh_loop, name_term, new_function, with_function, fresh_function}
+use Rattle.vast_core.specs.Growth.{next_logic_ref}
+use Rattle.vast_core.specs.Sound.{Each, EventSound, MemberSound, MemberNewer}
+use Rattle.vast_core.specs.Containers.{InModule, InNest, with_fresh, MemberEnters, GrowthSound, FreshSound, no_fresh, fresh_container, next_block, next_conditional, new_conditional}
+use Rattle.vast_core.specs.Loops.{next_always, next_loop, next_function, new_always, with_always, fresh_always, new_loop, fresh_loop, new_function, fresh_function}
 use Rattle.vast_core.proofs.Lists.{slice_get-seam}
 use Rattle.vast_core.proofs.NodeLaws.{Extends-root, HasExpr-kept, HasType-kept}
 use Rattle.vast_core.proofs.Growth.{last-test}

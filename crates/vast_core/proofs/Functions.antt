@@ -1,6 +1,5 @@
 -- A change of one function: what the file holds, and that it stays sound.
-use Rattle.std.proofs.Common.{◌≡◌, ℕ, ◌+◌, ◌<◌, ◌≤◌, Bool, true, false, List, [], ◌∷◌, ◌++◌, length, map, refl, arith, subst}
-use Rattle.std.proofs.lemmas.List.{length-map}
+use Rattle.std.proofs.Common.{◌≡◌, ℕ, Bool, true, false, List, map, refl, arith, subst}
 use Rattle.vast_core.specs.declared.node.Function.{Function}
 use Rattle.vast_core.specs.Raw.{Raw}
 use Rattle.vast_core.specs.Records.{changed_at}
@@ -9,7 +8,7 @@ use Rattle.vast_core.specs.Bench.{Bench}
 use Rattle.vast_core.specs.View.{bench}
 use Rattle.vast_core.specs.Functions.{with_listed_variable}
 use Rattle.vast_core.specs.Sound.{VariableSound, FunctionSound, RecordsSound, IsSound}
-use Rattle.vast_core.proofs.Lists.{length-changed_at, Each-map, Each-push, Each-changed_at}
+use Rattle.vast_core.proofs.Lists.{length-changed_at, Each-push, Each-changed_at}
 use Rattle.vast_core.proofs.NodeLaws.{Extends-same}
 use Rattle.vast_core.proofs.Sound.{Grows, carried}
 

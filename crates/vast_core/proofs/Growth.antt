@@ -1,8 +1,7 @@
 -- What a file holds, and that it stays sound, after its arenas grew.
-use Rattle.std.proofs.Common.{◌≡◌, ℕ, suc, zero, ◌+◌, ◌<◌, ◌≤◌, Bool, true, false, IsTrue, List, [], ◌∷◌, ◌++◌, length, get_or, map, nat_lt, Option, Some, None, Result, Ok, Err, IsErr, slice_get, refl, sym, ap, ◌∙◌, arith, length-append, subst, string_bytes}
+use Rattle.std.proofs.Common.{◌≡◌, ℕ, ◌+◌, IsTrue, List, [], ◌∷◌, ◌++◌, length, map, nat_lt, Result, Ok, Err, IsErr, refl, sym, ap, arith, length-append, subst, string_bytes}
 use Rattle.std.specs.declared.alloc.AllocError.{AllocError}
 use Rattle.std.proofs.lemmas.List.{length-map, map-append}
-use Rattle.std.proofs.Math.ListN.{set}
 use Rattle.vast_literal.specs.Tree.{NameTree, Typed}
 use Rattle.vast_core.specs.declared.handle.VastModule.{VastModule}
 use Rattle.vast_core.specs.declared.handle.VastDataType.{VastDataType}
@@ -14,15 +13,15 @@ use Rattle.vast_core.specs.declared.node.Module.{Module}
 use Rattle.vast_core.specs.declared.node.FileItem.{FileItem}
 use Rattle.vast_core.specs.declared.node.Assignment.{Assignment}
 use Rattle.vast_core.specs.Raw.{Raw}
-use Rattle.vast_core.specs.Nodes.{Root, ExprRoot, no_nodes, built, TermsSound, ChildrenHold, RootFits, term_root}
-use Rattle.vast_core.specs.Records.{PortRecord, ParameterPortRecord, ModuleRecord, MemberEntry, FileEntry, ModuleEntry, port_record, module_record, file_entry, new_module, changed_at, with_port as with_listed_port, with_member as with_listed_member, with_named_member, with_parameter_port}
-use Rattle.vast_core.specs.Bench.{Bench, type_of, OwnsExpr, OwnsType, OwnsPort, OwnsModule, OwnsContinuous}
-use Rattle.vast_core.specs.View.{bench, room}
+use Rattle.vast_core.specs.Nodes.{Root, ExprRoot, no_nodes, TermsSound, ChildrenHold, RootFits, term_root}
+use Rattle.vast_core.specs.Records.{PortRecord, ParameterPortRecord, ModuleRecord, MemberEntry, ModuleEntry, port_record, module_record, file_entry, new_module, changed_at, with_port as with_listed_port, with_member as with_listed_member, with_named_member, with_parameter_port}
+use Rattle.vast_core.specs.Bench.{Bench, type_of, OwnsExpr, OwnsType, OwnsPort, OwnsModule}
+use Rattle.vast_core.specs.View.{bench}
 use Rattle.vast_core.specs.Growth.{Builds, with_root, with_assignment, with_module, with_port, next_module, next_port, next_logic_ref}
-use Rattle.vast_core.specs.Sound.{Each, PortSound, AssignmentSound, MemberSound, ParameterPortSound, ModuleSound, EntrySound, RecordsSound, IsSound}
-use Rattle.vast_core.proofs.Lists.{slice_get-append, slice_get-seam, changed-map, unchanged-map, length-changed_at, Each-map, Each-push, Each-changed_at}
+use Rattle.vast_core.specs.Sound.{PortSound, AssignmentSound, MemberSound, ParameterPortSound, ModuleSound, EntrySound, RecordsSound, IsSound}
+use Rattle.vast_core.proofs.Lists.{slice_get-append, slice_get-seam, length-changed_at, Each-map, Each-push, Each-changed_at}
 use Rattle.vast_core.proofs.NodeLaws.{Extends-same, Extends-root, HasType-kept, built-push, built-id, TermsSound-push, built-length}
-use Rattle.vast_core.proofs.Sound.{Grows, Carried, carried, ModuleSound-kept}
+use Rattle.vast_core.proofs.Sound.{Grows, carried, ModuleSound-kept}
 
 -- A term more.
 
@@ -30,10 +29,10 @@ Grows-root : (b : Bench) (r : Root) → Grows b (with_root b r)
 Grows-root b r = record { nodes = Extends-root b.nodes r; ports = omega arith; assignments = λ i a h. h; modules = omega arith; definitions = omega arith; artifacts = λ i a h. h; instances = omega arith; nests = λ i below. refl; functions = omega arith; always_blocks = λ i a h. h }
 
 RecordsSound-root : (b : Bench) (r : Root) → RecordsSound b → RecordsSound (with_root b r)
-RecordsSound-root b r s = 
-  let c : Bench = with_root b r in
-  let k = carried b c (Grows-root b r) s in
-  record { ports = k.ports; assignments = k.assignments; modules = k.modules; definitions = k.definitions; artifacts = k.artifacts; instances = k.instances; items = k.items; nests = k.nests; functions = k.functions; always_blocks = k.always_blocks }
+RecordsSound-root b r s =
+    let c : Bench = with_root b r in
+    let k = carried b c (Grows-root b r) s in
+    record { ports = k.ports; assignments = k.assignments; modules = k.modules; definitions = k.definitions; artifacts = k.artifacts; instances = k.instances; items = k.items; nests = k.nests; functions = k.functions; always_blocks = k.always_blocks }
 
 bench-term : (a : Raw) (t : Term) (r : ℕ) → bench (record a { terms = a.terms ++ t ∷ []; term_room = r }) ≡ with_root (bench a) (term_root (bench a).nodes t)
 unfolding bench
@@ -73,10 +72,10 @@ pub Grows-assignment : (b : Bench) (x : Assignment) → Grows b (with_assignment
 Grows-assignment b x = record { nodes = Extends-same b.nodes; ports = omega arith; assignments = λ i a h. slice_get-append b.assignments (x ∷ []) i a h; modules = omega arith; definitions = omega arith; artifacts = λ i a h. h; instances = omega arith; nests = λ i below. refl; functions = omega arith; always_blocks = λ i a h. h }
 
 RecordsSound-assignment : (b : Bench) (x : Assignment) → RecordsSound b → AssignmentSound b x → RecordsSound (with_assignment x b)
-RecordsSound-assignment b x s h = 
-  let c : Bench = with_assignment x b in
-  let k = carried b c (Grows-assignment b x) s in
-  record { ports = k.ports; assignments = Each-push (AssignmentSound c) b.assignments x k.assignments h; modules = k.modules; definitions = k.definitions; artifacts = k.artifacts; instances = k.instances; items = k.items; nests = k.nests; functions = k.functions; always_blocks = k.always_blocks }
+RecordsSound-assignment b x s h =
+    let c : Bench = with_assignment x b in
+    let k = carried b c (Grows-assignment b x) s in
+    record { ports = k.ports; assignments = Each-push (AssignmentSound c) b.assignments x k.assignments h; modules = k.modules; definitions = k.definitions; artifacts = k.artifacts; instances = k.instances; items = k.items; nests = k.nests; functions = k.functions; always_blocks = k.always_blocks }
 
 bench-assigned : (a : Raw) (x : Assignment) (r : ℕ) → bench (record a { assignments = a.assignments ++ x ∷ []; assignment_room = r }) ≡ with_assignment x (bench a)
 unfolding bench
@@ -110,13 +109,13 @@ next_module-owned : (b : Bench) (name : List ℕ) → OwnsModule (with_module na
 next_module-owned b name = record { of_file = refl; of_kind = rw (length-append b.modules (new_module name ∷ [])) (last-test (length b.modules)) }
 
 RecordsSound-module : (b : Bench) (name : List ℕ) → RecordsSound b → RecordsSound (with_module name b)
-RecordsSound-module b name s = 
-  let c : Bench = with_module name b in
-  let k = carried b c (Grows-module b name) s in
-  record { ports = k.ports; assignments = k.assignments; modules = Each-push (ModuleSound c) b.modules (new_module name) k.modules (record { parameters = tt; ports = tt; members = tt }); definitions = k.definitions; artifacts = k.artifacts; instances = k.instances; items = Each-push (EntrySound c) b.items (ModuleEntry (next_module b)) k.items (next_module-owned b name); nests = k.nests; functions = k.functions; always_blocks = k.always_blocks }
+RecordsSound-module b name s =
+    let c : Bench = with_module name b in
+    let k = carried b c (Grows-module b name) s in
+    record { ports = k.ports; assignments = k.assignments; modules = Each-push (ModuleSound c) b.modules (new_module name) k.modules (record { parameters = tt; ports = tt; members = tt }); definitions = k.definitions; artifacts = k.artifacts; instances = k.instances; items = Each-push (EntrySound c) b.items (ModuleEntry (next_module b)) k.items (next_module-owned b name); nests = k.nests; functions = k.functions; always_blocks = k.always_blocks }
 
 pub module-fresh :
-  (m : Module) (name : List ℕ) → string_bytes m.name ≡ name → m.parameters.items ≡ [] → m.ports.items ≡ [] → m.members.items ≡ [] → m.names.keys ≡ [] → module_record m ≡ new_module name
+    (m : Module) (name : List ℕ) → string_bytes m.name ≡ name → m.parameters.items ≡ [] → m.ports.items ≡ [] → m.members.items ≡ [] → m.names.keys ≡ [] → module_record m ≡ new_module name
 module-fresh m name n o p q k = rw (o, p, q, k) (ap new_module n)
 
 pub bench-module :
@@ -157,39 +156,39 @@ pub Grows-changed : (b : Bench) (i : ℕ) (f : ModuleRecord → ModuleRecord) �
 Grows-changed b i f = record { nodes = Extends-same b.nodes; ports = omega arith; assignments = λ i a h. h; modules = omega (arith, length-changed_at f b.modules i); definitions = omega arith; artifacts = λ i a h. h; instances = omega arith; nests = λ i below. refl; functions = omega arith; always_blocks = λ i a h. h }
 
 pub RecordsSound-changed :
-  (b : Bench) (i : ℕ) (f : ModuleRecord → ModuleRecord) → ((m : ModuleRecord) → ModuleSound b m → ModuleSound b (f m)) → RecordsSound b →
-  RecordsSound (record b { modules = changed_at i f b.modules })
+    (b : Bench) (i : ℕ) (f : ModuleRecord → ModuleRecord) → ((m : ModuleRecord) → ModuleSound b m → ModuleSound b (f m)) → RecordsSound b →
+    RecordsSound (record b { modules = changed_at i f b.modules })
 RecordsSound-changed b i f q s =
-  let g = Grows-changed b i f in
-  let c : Bench = record b { modules = changed_at i f b.modules } in
-  let k = carried b c g s in
-  record {
-    ports = k.ports;
-    assignments = k.assignments;
-    modules = Each-map (ModuleSound-kept b c g) (changed_at i f b.modules) (Each-changed_at (ModuleSound b) f q b.modules i s.modules);
-    definitions = k.definitions;
-    artifacts = k.artifacts;
-    instances = k.instances;
-    items = k.items;
-    nests = k.nests;
-    functions = k.functions;
-    always_blocks = k.always_blocks;
-  }
+    let g = Grows-changed b i f in
+    let c : Bench = record b { modules = changed_at i f b.modules } in
+    let k = carried b c g s in
+    record {
+      ports = k.ports;
+      assignments = k.assignments;
+      modules = Each-map (ModuleSound-kept b c g) (changed_at i f b.modules) (Each-changed_at (ModuleSound b) f q b.modules i s.modules);
+      definitions = k.definitions;
+      artifacts = k.artifacts;
+      instances = k.instances;
+      items = k.items;
+      nests = k.nests;
+      functions = k.functions;
+      always_blocks = k.always_blocks;
+    }
 
 pub bench-changed :
-  (a b : Raw) (i : ℕ) (f : ModuleRecord → ModuleRecord) (ms : List Module) → b ≡ a →
-  map module_record ms ≡ changed_at i f (map module_record b.modules) →
-  bench (record b { modules = ms }) ≡ record (bench a) { modules = changed_at i f (bench a).modules }
+    (a b : Raw) (i : ℕ) (f : ModuleRecord → ModuleRecord) (ms : List Module) → b ≡ a →
+    map module_record ms ≡ changed_at i f (map module_record b.modules) →
+    bench (record b { modules = ms }) ≡ record (bench a) { modules = changed_at i f (bench a).modules }
 unfolding bench
 bench-changed a b i f ms e q = rw (q, ← e) refl
 
 pub sound-changed :
-  (a b : Raw) (i : ℕ) (f : ModuleRecord → ModuleRecord) (ms : List Module) → b ≡ a →
-  map module_record ms ≡ changed_at i f (map module_record b.modules) → IsSound b →
-  ((x : ModuleRecord) → ModuleSound (bench a) x → ModuleSound (bench a) (f x)) → IsSound (record b { modules = ms })
+    (a b : Raw) (i : ℕ) (f : ModuleRecord → ModuleRecord) (ms : List Module) → b ≡ a →
+    map module_record ms ≡ changed_at i f (map module_record b.modules) → IsSound b →
+    ((x : ModuleRecord) → ModuleSound (bench a) x → ModuleSound (bench a) (f x)) → IsSound (record b { modules = ms })
 sound-changed a b i f ms e q s h =
-  let P : Raw → Type 0 = λ y. RecordsSound (bench y) in
-  record { terms = s.terms; records = rw (bench-changed a b i f ms e q) (RecordsSound-changed (bench a) i f h (subst P e s.records)) }
+    let P : Raw → Type 0 = λ y. RecordsSound (bench y) in
+    record { terms = s.terms; records = rw (bench-changed a b i f ms e q) (RecordsSound-changed (bench a) i f h (subst P e s.records)) }
 
 -- A member more in a module, with a name or without; a parameter more in its header.
 
@@ -223,10 +222,10 @@ Grows-listed : (b : Bench) (p : PortRecord) → Grows b (record b { ports = b.po
 Grows-listed b p = record { nodes = Extends-same b.nodes; ports = omega (arith, length-append b.ports (p ∷ [])); assignments = λ i a h. h; modules = omega arith; definitions = omega arith; artifacts = λ i a h. h; instances = omega arith; nests = λ i below. refl; functions = omega arith; always_blocks = λ i a h. h }
 
 RecordsSound-listed : (b : Bench) (p : PortRecord) → RecordsSound b → PortSound b p → RecordsSound (record b { ports = b.ports ++ p ∷ [] })
-RecordsSound-listed b p s h = 
-  let c : Bench = record b { ports = b.ports ++ p ∷ [] } in
-  let k = carried b c (Grows-listed b p) s in
-  record { ports = Each-push (PortSound c) b.ports p k.ports h; assignments = k.assignments; modules = k.modules; definitions = k.definitions; artifacts = k.artifacts; instances = k.instances; items = k.items; nests = k.nests; functions = k.functions; always_blocks = k.always_blocks }
+RecordsSound-listed b p s h =
+    let c : Bench = record b { ports = b.ports ++ p ∷ [] } in
+    let k = carried b c (Grows-listed b p) s in
+    record { ports = Each-push (PortSound c) b.ports p k.ports h; assignments = k.assignments; modules = k.modules; definitions = k.definitions; artifacts = k.artifacts; instances = k.instances; items = k.items; nests = k.nests; functions = k.functions; always_blocks = k.always_blocks }
 
 abbrev name_root : Bench → List ℕ → VastDataType → Root
 name_root b n t = ExprRoot (NameTree n (Typed (type_of b t)))
@@ -246,10 +245,10 @@ RecordsSound-port :
     (b : Bench) (m : VastModule) (d : ModulePortDirection) (k : DataKind) (n : List ℕ) (t : VastDataType) → RecordsSound b → OwnsType b t →
     RecordsSound (with_port m d k n t b)
 RecordsSound-port b m d k n t s h =
-  let p : PortRecord = record { direction = d; kind = k; name = n; data_type = t; logic_ref = next_logic_ref b } in
-  let b1 : Bench = with_root b (name_root b n t) in
-  let b2 : Bench = record b1 { ports = b.ports ++ p ∷ [] } in
-  RecordsSound-changed b2 m.id.index (with_listed_port (next_port b) n)
+    let p : PortRecord = record { direction = d; kind = k; name = n; data_type = t; logic_ref = next_logic_ref b } in
+    let b1 : Bench = with_root b (name_root b n t) in
+    let b2 : Bench = record b1 { ports = b.ports ++ p ∷ [] } in
+    RecordsSound-changed b2 m.id.index (with_listed_port (next_port b) n)
     (λ x q. record { parameters = q.parameters; ports = Each-push (OwnsPort b2) x.ports (next_port b) q.ports (next_port-owned b1 p); members = q.members })
     (RecordsSound-listed b1 p (RecordsSound-root b (name_root b n t) s) (named-sound b n t d k h))
 

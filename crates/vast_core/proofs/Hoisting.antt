@@ -1,5 +1,5 @@
 -- Laws of hoisting.
-use Rattle.std.proofs.Common.{zero, suc, ◌≡◌, ℕ, ◌+◌, ◌<◌, ◌≤◌, Bool, true, false, not, List, [], ◌∷◌, ◌++◌, length, map, filter, take, drop, refl, sym, ap, ◌∙◌, arith, slice_get, Option, Some, None}
+use Rattle.std.proofs.Common.{zero, suc, ◌≡◌, ℕ, ◌≤◌, Bool, true, false, not, List, [], ◌∷◌, ◌++◌, length, map, filter, take, drop, refl, ap, Option, Some}
 use Rattle.std.proofs.lemmas.List.{length-map, map-append, take-map, drop-map}
 use Rattle.std.specs.Ordering.{bool_cmp}
 use Rattle.std.specs.List.Sorted.{IsSortedByKey, IsStableByKey}
@@ -18,16 +18,17 @@ hoisted-twice (suc n) (x ∷ members) = ap (λ r. x ∷ r) (hoisted-twice n memb
 
 -- The members of a module whose vector was hoisted.
 pub hoisted-map :
-  (start : ℕ) (xs : List Member) →
-  map member_entry (take start xs ++ parted (λ x. is_declaration (member_entry x)) (drop start xs)) ≡ hoisted start (map member_entry xs)
+    (start : ℕ) (xs : List Member) →
+    map member_entry (take start xs ++ parted (λ x. is_declaration (member_entry x)) (drop start xs)) ≡ hoisted start (map member_entry xs)
 hoisted-map start xs =
-  rw ( map-append member_entry (take start xs) (parted (λ x. is_declaration (member_entry x)) (drop start xs))
-     , map-append member_entry (filter (λ x. is_declaration (member_entry x)) (drop start xs)) (filter (λ x. not (is_declaration (member_entry x))) (drop start xs))
-     , filter-map member_entry is_declaration (drop start xs)
-     , filter-map member_entry (other is_declaration) (drop start xs)
-     , take-map member_entry start xs
-     , drop-map member_entry start xs
-     ) refl
+    rw (
+      map-append member_entry (take start xs) (parted (λ x. is_declaration (member_entry x)) (drop start xs)),
+      map-append member_entry (filter (λ x. is_declaration (member_entry x)) (drop start xs)) (filter (λ x. not (is_declaration (member_entry x))) (drop start xs)),
+      filter-map member_entry is_declaration (drop start xs),
+      filter-map member_entry (other is_declaration) (drop start xs),
+      take-map member_entry start xs,
+      drop-map member_entry start xs,
+    ) refl
 
 -- Facts of each member.
 
@@ -64,9 +65,9 @@ declares x = is_declaration (member_entry x)
 
 -- The vector after its suffix was sorted and put back.
 pub hoist-sorted :
-  (start : ℕ) (xs new head tail ys : List Member) → new ≡ head ++ ys → head ≡ take start xs → tail ≡ drop start xs →
-  IsSortedByKey (other declares) bool_cmp ys → IsStableByKey (other declares) bool_cmp tail ys →
-  map member_entry new ≡ hoisted start (map member_entry xs)
+    (start : ℕ) (xs new head tail ys : List Member) → new ≡ head ++ ys → head ≡ take start xs → tail ≡ drop start xs →
+    IsSortedByKey (other declares) bool_cmp ys → IsStableByKey (other declares) bool_cmp tail ys →
+    map member_entry new ≡ hoisted start (map member_entry xs)
 hoist-sorted start xs new head tail ys n h t sorted stable =
-  let parts : ys ≡ parted declares (drop start xs) = rw t at (sort-parts declares tail ys sorted stable) in
-  rw (n, h, parts) (hoisted-map start xs)
+    let parts : ys ≡ parted declares (drop start xs) = rw t at (sort-parts declares tail ys sorted stable) in
+    rw (n, h, parts) (hoisted-map start xs)

@@ -1,6 +1,5 @@
 -- Laws of lists: reading behind an append, changing one element, facts of each element.
-use Rattle.std.proofs.Common.{zero, suc, get_or, ◌≡◌, ◌≢◌, ℕ, ◌+◌, ◌<◌, ◌≤◌, List, [], ◌∷◌, ◌++◌, length, Option, Some, None, slice_get, All, refl, sym, ap, ◌∙◌, arith, map, IsTrue, nat_lt, length-append, Bool, true, false}
-use Rattle.std.proofs.lemmas.List.{length-map, map-append}
+use Rattle.std.proofs.Common.{zero, suc, get_or, ◌≡◌, ℕ, ◌<◌, ◌≤◌, List, [], ◌∷◌, ◌++◌, length, Some, None, slice_get, All, refl, sym, ap, arith, map}
 use Rattle.std.proofs.Math.ListN.{set}
 use Rattle.vast_core.specs.Records.{changed_at}
 use Rattle.vast_core.specs.Sound.{Each}

@@ -1,5 +1,5 @@
 -- What the readers of always blocks and functions cite, and a change of one container that keeps what it holds.
-use Rattle.std.proofs.Common.{◌≡◌, ℕ, ◌+◌, ◌<◌, Bool, IsTrue, List, length, get_or, map, nat_lt, Option, Some, None, slice_get, All, refl, ap, arith, subst}
+use Rattle.std.proofs.Common.{◌≡◌, ℕ, ◌<◌, Bool, IsTrue, List, length, get_or, map, nat_lt, Some, slice_get, All, refl, arith, subst}
 use Rattle.std.proofs.lemmas.List.{length-map}
 use Rattle.vast_core.specs.declared.handle.Expr.{Expr}
 use Rattle.vast_core.specs.declared.node.Nest.{Nest}
@@ -11,7 +11,7 @@ use Rattle.vast_core.specs.Nests.{NestRecord, BlockRecord, BranchRecord, SwitchR
 use Rattle.vast_core.specs.Bench.{Bench}
 use Rattle.vast_core.specs.View.{bench}
 use Rattle.vast_core.specs.Containers.{with_unique}
-use Rattle.vast_core.specs.Sound.{Each, EventSound, NestSound, NestsSound, FunctionSound, AlwaysSound, RecordsSound, IsSound}
+use Rattle.vast_core.specs.Sound.{Each, EventSound, NestSound, FunctionSound, AlwaysSound, RecordsSound, IsSound}
 use Rattle.vast_core.proofs.Lists.{slice_get-map, Each-at, All-own}
 use Rattle.vast_core.proofs.NodeLaws.{Extends-same}
 use Rattle.vast_core.proofs.Nests.{kind-changed, nests-changed}

@@ -1,5 +1,5 @@
 -- Laws of containers: their records, what they hold, and their trees.
-use Rattle.std.proofs.Common.{◌≡◌, ℕ, suc, zero, ◌+◌, ◌<◌, ◌≤◌, Bool, true, false, IsTrue, List, [], ◌∷◌, ◌++◌, length, Option, Some, None, slice_get, refl, sym, ap, ◌∙◌, arith}
+use Rattle.std.proofs.Common.{◌≡◌, ℕ, suc, zero, ◌+◌, ◌<◌, ◌≤◌, Bool, IsTrue, List, [], ◌∷◌, ◌++◌, length, Option, Some, None, slice_get, refl, sym, ap, ◌∙◌, arith}
 use Rattle.vast_core.specs.declared.handle.VastStatementBlock.{VastStatementBlock}
 use Rattle.vast_core.specs.declared.node.ElseIf.{ElseIf}
 use Rattle.vast_core.specs.declared.node.CaseArm.{CaseArm}
@@ -7,8 +7,8 @@ use Rattle.vast_core.specs.Handles.{block_index, conditional_index, case_index, 
 use Rattle.vast_core.specs.Nodes.{OptionHolds}
 use Rattle.vast_core.specs.Records.{MemberEntry, DeclarationEntry, AssignmentEntry, ParameterEntry, BlankEntry, CommentEntry, InlineEntry, MacroEntry, InstanceEntry, FunctionEntry, AlwaysEntry, ConditionalEntry, LoopEntry, changed_at}
 use Rattle.vast_core.specs.Nests.{StatementEntry, AssignStatement, ContinuousStatement, ConditionalStatement, CasesStatement, BlankStatement, CommentStatement, InlineStatement, NestRecord, BlockRecord, BranchRecord, SwitchRecord, RepeatRecord, AlwaysRecord, NestKind, NoKind, nest_kind}
-use Rattle.vast_core.specs.Bench.{Bench, tree_of, maybe_tree_of, trees_of, OwnsBlock}
-use Rattle.vast_core.specs.FileTree.{Family, NoFamily, BlockFamily, BranchFamily, SwitchFamily, RepeatFamily, block_in, branch_statement, switch_statement, branch_member, repeat_member, statement_in, statements_in, otherwise_in, alternates_in, arms_in, always_in, member_in, members_in, family, unfolded, families}
+use Rattle.vast_core.specs.Bench.{Bench, tree_of, maybe_tree_of, trees_of}
+use Rattle.vast_core.specs.FileTree.{Family, BlockFamily, BranchFamily, SwitchFamily, RepeatFamily, block_in, branch_statement, switch_statement, branch_member, repeat_member, statement_in, statements_in, otherwise_in, alternates_in, arms_in, always_in, member_in, members_in, family, unfolded, families}
 use Rattle.vast_literal.specs.Tree.{ElseIf as ElseIfTree, Else, CaseArm as CaseArmTree, MoreStatements, MoreMembers, CaseTree, LoopMember, AlwaysMember}
 use Rattle.vast_core.specs.Kinds.{always_word, case_word}
 use Rattle.vast_core.specs.Sound.{Each, HoldsBlock, StatementSound, ElseIfSound, CaseArmSound, AlwaysNewer, MemberNewer, LoopMemberSound, NestSound, NestsSound}

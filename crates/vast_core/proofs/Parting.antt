@@ -1,5 +1,5 @@
 -- What a stable sort by a test leaves: the elements that pass, in their order, and then the others.
-use Rattle.std.proofs.Common.{zero, suc, ◌≡◌, ℕ, ◌+◌, ◌<◌, ◌≤◌, Bool, true, false, not, ◌&&◌, List, [], ◌∷◌, ◌++◌, length, map, filter, slice_index_or, refl, sym, ap, ◌∙◌, arith}
+use Rattle.std.proofs.Common.{suc, ◌≡◌, ◌+◌, Bool, true, false, not, ◌&&◌, List, [], ◌∷◌, map, filter, refl, sym, ap, ◌∙◌, arith}
 use Rattle.std.specs.Ordering.{bool_cmp, is_lt}
 use Rattle.std.specs.List.Sorted.{IsSortedByKey, IsStableByKey, ties}
 use Rattle.std.proofs.lemmas.List.{append-nil}
@@ -45,14 +45,15 @@ not-not false = refl
 
 pub parted-twice : {A : Type 0} (test : A → Bool) (xs : List A) → parted test (parted test xs) ≡ parted test xs
 parted-twice test xs =
-  rw ( filter-append test (filter test xs) (filter (other test) xs)
-     , filter-append (other test) (filter test xs) (filter (other test) xs)
-     , filter-twice test xs
-     , filter-apart (other test) test (λ x. not-not (test x)) xs
-     , filter-apart test (other test) (λ x. refl) xs
-     , filter-twice (other test) xs
-     , append-nil (filter test xs)
-     ) refl
+    rw (
+      filter-append test (filter test xs) (filter (other test) xs),
+      filter-append (other test) (filter test xs) (filter (other test) xs),
+      filter-twice test xs,
+      filter-apart (other test) test (λ x. not-not (test x)) xs,
+      filter-apart test (other test) (λ x. refl) xs,
+      filter-twice (other test) xs,
+      append-nil (filter test xs),
+    ) refl
 
 -- A list in order of the test stands parted.
 
@@ -66,8 +67,8 @@ keys-rise a false h e = refl
 
 sorted-tail : {A : Type 0} (test : A → Bool) (x : A) (xs : List A) → IsSortedByKey (other test) bool_cmp (x ∷ xs) → IsSortedByKey (other test) bool_cmp xs
 sorted-tail test x xs s = λ k d low high.
-  let e : suc k + 1 ≡ suc (k + 1) = omega arith in
-  rw e at (s (suc k) d (omega arith) (omega arith))
+    let e : suc k + 1 ≡ suc (k + 1) = omega arith in
+    rw e at (s (suc k) d (omega arith) (omega arith))
 
 sorted-next : {A : Type 0} (test : A → Bool) (x y : A) (xs : List A) → IsSortedByKey (other test) bool_cmp (x ∷ y ∷ xs) → test x ≡ false → test y ≡ false
 sorted-next test x y xs s e = keys-rise (test x) (test y) (s 0 x (omega arith) (omega arith)) e
@@ -75,14 +76,14 @@ sorted-next test x y xs s e = keys-rise (test x) (test y) (s 0 x (omega arith) (
 none-after : {A : Type 0} (test : A → Bool) (x : A) (xs : List A) → IsSortedByKey (other test) bool_cmp (x ∷ xs) → test x ≡ false → filter test xs ≡ []
 none-after test x [] s e = refl
 none-after test x (y ∷ xs) s e =
-  let f : test y ≡ false = sorted-next test x y xs s e in
-  rw f (none-after test y xs (sorted-tail test x (y ∷ xs) s) f)
+    let f : test y ≡ false = sorted-next test x y xs s e in
+    rw f (none-after test y xs (sorted-tail test x (y ∷ xs) s) f)
 
 all-after : {A : Type 0} (test : A → Bool) (x : A) (xs : List A) → IsSortedByKey (other test) bool_cmp (x ∷ xs) → test x ≡ false → filter (other test) xs ≡ xs
 all-after test x [] s e = refl
 all-after test x (y ∷ xs) s e =
-  let f : test y ≡ false = sorted-next test x y xs s e in
-  rw f (ap (λ r. y ∷ r) (all-after test y xs (sorted-tail test x (y ∷ xs) s) f))
+    let f : test y ≡ false = sorted-next test x y xs s e in
+    rw f (ap (λ r. y ∷ r) (all-after test y xs (sorted-tail test x (y ∷ xs) s) f))
 
 sorted-case : {A : Type 0} (test : A → Bool) (x : A) (xs : List A) (b : Bool) → test x ≡ b → IsSortedByKey (other test) bool_cmp (x ∷ xs) → parted test xs ≡ xs → parted test (x ∷ xs) ≡ x ∷ xs
 sorted-case test x xs true e s h = rw e (ap (λ r. x ∷ r) h)
@@ -124,16 +125,16 @@ same-other true b h = absurd (clash (sym h))
 
 passing-kept : {A : Type 0} (test : A → Bool) (xs ys : List A) → IsStableByKey (other test) bool_cmp xs ys → filter test ys ≡ filter test xs
 passing-kept test xs ys s =
-  kept-case test xs ys
+    kept-case test xs ys
     (λ x e. let same = filter-same (ties (λ a b. is_lt (bool_cmp (other test a) (other test b))) x) test (λ y. same-key (test x) (test y) e) in sym (same ys) ∙ (s x ∙ same xs))
     (found test xs) (found test ys)
 
 other-kept : {A : Type 0} (test : A → Bool) (xs ys : List A) → IsStableByKey (other test) bool_cmp xs ys → filter (other test) ys ≡ filter (other test) xs
 other-kept test xs ys s =
-  kept-case (other test) xs ys
+    kept-case (other test) xs ys
     (λ x e. let same = filter-same (ties (λ a b. is_lt (bool_cmp (other test a) (other test b))) x) (other test) (λ y. same-other (test x) (test y) e) in sym (same ys) ∙ (s x ∙ same xs))
     (found (other test) xs) (found (other test) ys)
 
 pub sort-parts : {A : Type 0} (test : A → Bool) (xs ys : List A) → IsSortedByKey (other test) bool_cmp ys → IsStableByKey (other test) bool_cmp xs ys → ys ≡ parted test xs
 sort-parts test xs ys sorted stable =
-  sym (sorted-parted test ys sorted) ∙ rw (passing-kept test xs ys stable, other-kept test xs ys stable) refl
+    sym (sorted-parted test ys sorted) ∙ rw (passing-kept test xs ys stable, other-kept test xs ys stable) refl

@@ -1,17 +1,16 @@
 -- What the readers of records cite.
-use Rattle.std.proofs.Common.{◌≡◌, ℕ, ◌+◌, ◌<◌, ◌≤◌, Bool, IsTrue, List, [], ◌∷◌, length, get_or, map, nat_lt, Option, Some, None, slice_get, All, refl, sym, ap, ◌∙◌, arith, subst}
+use Rattle.std.proofs.Common.{◌≡◌, ℕ, ◌<◌, ◌≤◌, IsTrue, List, [], ◌∷◌, length, get_or, map, nat_lt, Option, Some, None, slice_get, All, refl, ap, ◌∙◌, arith, subst}
 use Rattle.vast_core.specs.declared.node.Port.{Port}
 use Rattle.vast_core.specs.declared.node.Module.{Module}
-use Rattle.vast_core.specs.declared.node.FileItem.{FileItem}
 use Rattle.vast_core.specs.declared.node.Assignment.{Assignment}
 use Rattle.vast_core.specs.declared.node.Definition.{Definition}
 use Rattle.vast_core.specs.declared.node.Artifact.{Artifact}
 use Rattle.vast_core.specs.declared.node.Instance.{Instance}
 use Rattle.vast_core.specs.Raw.{Raw}
 use Rattle.vast_core.specs.Records.{port_record, module_record, definition_record, artifact_record, instance_record, file_entry}
-use Rattle.vast_core.specs.Bench.{Bench, is_continuous}
+use Rattle.vast_core.specs.Bench.{is_continuous}
 use Rattle.vast_core.specs.View.{bench}
-use Rattle.vast_core.specs.Sound.{Each, PortSound, AssignmentSound, ModuleSound, DefinitionSound, ArtifactSound, InstanceSound, EntrySound, IsSound}
+use Rattle.vast_core.specs.Sound.{PortSound, AssignmentSound, ModuleSound, DefinitionSound, ArtifactSound, InstanceSound, EntrySound, IsSound}
 use Rattle.vast_core.specs.declared.node.Nest.{Nest}
 use Rattle.vast_core.specs.Nests.{nest_record}
 use Rattle.vast_core.specs.FileTree.{family, families}

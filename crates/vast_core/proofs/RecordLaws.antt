@@ -1,9 +1,8 @@
 -- What callers cite after a call that makes a record: the new handle is the file's, and the older ones stay so.
-use Rattle.std.proofs.Common.{◌≡◌, ℕ, ◌+◌, ◌<◌, ◌≤◌, Bool, IsTrue, List, [], ◌∷◌, ◌++◌, length, nat_lt, refl, arith, length-append}
+use Rattle.std.proofs.Common.{ℕ, Bool, List, [], ◌∷◌, length, refl, length-append}
 use Rattle.vast_literal.specs.Tree.{NameTree, MaybeType}
 use Rattle.vast_core.specs.declared.node.Assignment.{Assignment}
 use Rattle.vast_core.specs.declared.handle.VastModule.{VastModule}
-use Rattle.vast_core.specs.declared.handle.ModulePort.{ModulePort}
 use Rattle.vast_core.specs.declared.handle.MacroRef.{MacroRef}
 use Rattle.vast_core.specs.declared.handle.Def.{Def}
 use Rattle.vast_core.specs.declared.handle.BlankLine.{BlankLine}
@@ -11,16 +10,15 @@ use Rattle.vast_core.specs.declared.handle.Comment.{Comment}
 use Rattle.vast_core.specs.declared.handle.InlineVerilogStatement.{InlineVerilogStatement}
 use Rattle.vast_core.specs.declared.handle.MacroStatement.{MacroStatement}
 use Rattle.vast_core.specs.declared.handle.Instantiation.{Instantiation}
-use Rattle.vast_core.specs.declared.handle.VastStatement.{VastStatement}
 use Rattle.vast_core.specs.declared.handle.ContinuousAssignment.{ContinuousAssignment}
 use Rattle.vast_core.specs.Nodes.{ExprRoot}
-use Rattle.vast_core.specs.Records.{MemberEntry, ModuleRecord, DefinitionRecord, ArtifactRecord, BlankLineRecord, CommentRecord, InlineRecord, MacroRecord, InstanceRecord, new_module, changed_at}
+use Rattle.vast_core.specs.Records.{ModuleRecord, DefinitionRecord, ArtifactRecord, BlankLineRecord, CommentRecord, InlineRecord, MacroRecord, InstanceRecord, new_module, changed_at}
 use Rattle.vast_core.specs.Bench.{Bench, OwnsModule, OwnsDef, OwnsBlankLine, OwnsComment, OwnsInline, OwnsMacroStatement, OwnsInstantiation, OwnsStatement, OwnsContinuous, OwnsParameterRef, OwnsLocalparamRef, is_blank_line, is_comment, is_inline, is_macro_statement}
-use Rattle.vast_core.specs.Growth.{with_expr, with_module, with_member, with_named_member, with_assignment, next_module, next_continuous}
+use Rattle.vast_core.specs.Growth.{with_expr, with_module, with_assignment, next_module}
 use Rattle.vast_core.specs.Artifacts.{next_def, with_definition, next_blank_line, next_comment, next_inline, next_macro_statement, with_artifact, next_instantiation, with_instance, next_statement}
 use Rattle.vast_core.specs.Parameters.{next_parameter_ref, next_localparam_ref}
 use Rattle.vast_core.proofs.Lists.{slice_get-seam}
-use Rattle.vast_core.proofs.Sound.{Grows, index-kept, artifact-kept, never, continuous-kept}
+use Rattle.vast_core.proofs.Sound.{index-kept, artifact-kept, never, continuous-kept}
 use Rattle.vast_core.proofs.Growth.{last-test, Grows-module, Grows-changed, Grows-assignment}
 use Rattle.vast_core.proofs.Arenas.{Grows-definition, Grows-artifact, Grows-instance}
 

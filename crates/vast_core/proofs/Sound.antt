@@ -1,23 +1,22 @@
 -- What a file keeps stays true as it grows.
-use Rattle.std.proofs.Common.{◌≡◌, ◌≢◌, ℕ, suc, zero, ◌+◌, ◌<◌, ◌≤◌, Bool, true, false, IsTrue, List, [], ◌∷◌, ◌++◌, length, nat_lt, Option, Some, None, slice_get, refl, sym, ap, ◌∙◌, arith, length-append}
-use borrow.Author.Tests.{ltb-true}
+use Rattle.std.proofs.Common.{◌≡◌, ℕ, suc, zero, ◌<◌, ◌≤◌, Bool, false, IsTrue, List, [], ◌∷◌, length, nat_lt, Option, Some, None, slice_get, refl, sym, ◌∙◌, arith}
 use Rattle.vast_core.specs.declared.node.Assignment.{Assignment}
 use Rattle.vast_core.specs.declared.handle.Id.{Id}
 use Rattle.vast_core.specs.declared.handle.Expr.{Expr}
 use Rattle.vast_core.specs.declared.handle.VastDataType.{VastDataType}
 use Rattle.vast_core.specs.declared.handle.ModulePort.{ModulePort}
 use Rattle.vast_core.specs.declared.handle.ContinuousAssignment.{ContinuousAssignment}
-use Rattle.vast_core.specs.Nodes.{Nodes, IsOwned, HasExpr, HasType, OptionHolds, is_name, is_macro, is_root_of, with_root as with_node}
+use Rattle.vast_core.specs.Nodes.{IsOwned, OptionHolds, is_name, is_macro}
 use Rattle.vast_core.specs.Records.{PortRecord, ParameterPortRecord, ModuleRecord, FormEntry, PlainForm, IntForm, DefinedForm, MemberEntry, DeclarationEntry, AssignmentEntry, ParameterEntry, BlankEntry, CommentEntry, InlineEntry, MacroEntry, InstanceEntry, FunctionEntry, AlwaysEntry, ConditionalEntry, LoopEntry, FileEntry, ModuleEntry, IncludeEntry, FileCommentEntry, FileBlankEntry, DefinitionRecord, ArtifactRecord, BlankLineRecord, CommentRecord, InlineRecord, MacroRecord, ConnectionRecord, InstanceRecord}
 use Rattle.vast_core.specs.declared.handle.LogicRef.{LogicRef}
 use Rattle.vast_core.specs.declared.handle.VastStatementBlock.{VastStatementBlock}
 use Rattle.vast_core.specs.declared.node.ElseIf.{ElseIf}
 use Rattle.vast_core.specs.declared.node.CaseArm.{CaseArm}
 use Rattle.vast_core.specs.Nests.{StatementEntry, AssignStatement, ContinuousStatement, ConditionalStatement, CasesStatement, BlankStatement, CommentStatement, InlineStatement, NestRecord, BlockRecord, BranchRecord, SwitchRecord, RepeatRecord, VariableRecord, FunctionRecord, AlwaysRecord, NestKind, NoKind, nest_kind, is_block_kind, is_conditional_kind, is_case_kind, is_loop_kind}
-use Rattle.vast_core.specs.Bench.{Bench, OwnsExpr, OwnsType, OwnsLogicRef, OwnsPort, OwnsContinuous, OwnsModule, is_continuous, is_comment, is_inline, is_macro_statement}
+use Rattle.vast_core.specs.Bench.{Bench, OwnsExpr, OwnsType, OwnsLogicRef, OwnsPort, OwnsContinuous, is_continuous, is_comment, is_inline, is_macro_statement}
 use Rattle.vast_core.specs.Sound.{Each, PortSound, AssignmentSound, DefinitionSound, ArtifactSound, ConnectionSound, InstanceSound, FormSound, MemberSound, ParameterPortSound, ModuleSound, EntrySound, RecordsSound, HoldsBlock, StatementSound, ElseIfSound, CaseArmSound, AlwaysNewer, MemberNewer, LoopMemberSound, NestSound, NestsSound, VariableSound, FunctionSound, EventSound, AlwaysSound}
-use Rattle.vast_core.proofs.Lists.{Each-map, Each-push, slice_get-append}
-use Rattle.vast_core.proofs.NodeLaws.{Extends, Extends-same, Extends-root, HasExpr-kept, HasType-kept, shape-kept, expr_in-kept}
+use Rattle.vast_core.proofs.Lists.{Each-map}
+use Rattle.vast_core.proofs.NodeLaws.{Extends, HasExpr-kept, HasType-kept, shape-kept, expr_in-kept}
 use Rattle.vast_core.proofs.Nests.{kind-there}
 use Rattle.std.proofs.lemmas.Option.{slice_get_within}
 
@@ -132,8 +131,8 @@ FormSound-kept b c g (DefinedForm d) h = index-kept b c d.id (length b.definitio
 pub continuous-kept : (b c : Bench) → Grows b c → (a : ContinuousAssignment) → OwnsContinuous b a → OwnsContinuous c a
 continuous-kept b c g a h =
     record {
-        of_file = h.of_file ∙ sym g.nodes.same_id;
-        of_kind = test-kept is_continuous b.assignments c.assignments a.id.index (slice_get b.assignments a.id.index) refl (g.assignments a.id.index) never h.of_kind
+      of_file = h.of_file ∙ sym g.nodes.same_id;
+      of_kind = test-kept is_continuous b.assignments c.assignments a.id.index (slice_get b.assignments a.id.index) refl (g.assignments a.id.index) never h.of_kind;
     }
 
 pub MemberSound-kept : (b c : Bench) → Grows b c → (m : MemberEntry) → MemberSound b m → MemberSound c m

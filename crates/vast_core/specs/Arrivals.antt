@@ -1,9 +1,6 @@
 -- What the code hands over where a list gains an entry, as contracts speak of it.
 use Rattle.std.specs.Prelude.{ℕ, ◌<◌, Option, Some, None, List, String, string_bytes}
 use Rattle.std.specs.declared.alloc.Global.{Global}
-use Rattle.vast_core.specs.declared.node.Nest.{Nest}
-use Rattle.vast_core.specs.declared.node.Function.{Function}
-use Rattle.vast_core.specs.declared.node.AlwaysBlock.{AlwaysBlock}
 use Rattle.vast_core.specs.declared.ast.growth.Entry.{Entry}
 use Rattle.vast_core.specs.declared.ast.growth.Entry.TheVariants.{Statement as StatementOf, ElseIf as ElseIfOf, Else as ElseOf, CaseArm as CaseArmOf, Member as MemberOf}
 use Rattle.vast_core.specs.declared.ast.growth.Place.{Place}
@@ -11,7 +8,7 @@ use Rattle.vast_core.specs.declared.ast.growth.Place.TheVariants.{Module as Modu
 use Rattle.vast_core.specs.declared.ast.growth.Arrivals.{Arrivals}
 use Rattle.vast_core.specs.Handles.{module_index}
 use Rattle.vast_core.specs.Records.{member_entry}
-use Rattle.vast_core.specs.Nests.{NestRecord, FunctionRecord, AlwaysRecord, statement_entry, nest_record, function_record, always_record}
+use Rattle.vast_core.specs.Nests.{statement_entry, nest_record, function_record, always_record}
 use Rattle.vast_core.specs.Containers.{NestedEntry, StatementEnters, ElseIfEnters, ElseEnters, CaseArmEnters, MemberEnters, Listing, InModule, InNest, Fresh}
 
 abbrev pub entry_of : Entry → NestedEntry

@@ -1,5 +1,5 @@
 -- What a file holds after a call that makes an artifact, a definition or an instantiation, and the handle of it.
-use Rattle.std.specs.Prelude.{ℕ, [], ◌∷◌, ◌++◌, length}
+use Rattle.std.specs.Prelude.{[], ◌∷◌, ◌++◌, length}
 use Rattle.vast_core.specs.declared.handle.Id.{Id}
 use Rattle.vast_core.specs.declared.handle.Def.{Def}
 use Rattle.vast_core.specs.declared.handle.BlankLine.{BlankLine}

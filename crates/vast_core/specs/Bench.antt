@@ -1,7 +1,6 @@
 -- What a file holds, for its users: the trees of its expressions and types, its records and its lists.
-use Rattle.std.specs.Prelude.{◌≡◌, ℕ, ◌<◌, Bool, true, false, List, [], ◌∷◌, ◌++◌, length, map, nat_lt, Option, Some, None, Result, Ok, Err, slice_get}
-use Rattle.std.specs.declared.alloc.AllocError.{AllocError}
-use Rattle.vast_literal.specs.Tree.{ExprTree, TypeTree, MaybeType, MaybeExpr, Exprs}
+use Rattle.std.specs.Prelude.{ℕ, Bool, true, false, List, [], length, nat_lt, Option, Some, None, slice_get}
+use Rattle.vast_literal.specs.Tree.{ExprTree, TypeTree, MaybeExpr, Exprs}
 use Rattle.vast_core.specs.declared.handle.Expr.{Expr}
 use Rattle.vast_core.specs.declared.handle.IndexableExpr.{IndexableExpr}
 use Rattle.vast_core.specs.declared.handle.Index.{Index}
@@ -30,7 +29,7 @@ use Rattle.vast_core.specs.declared.handle.GenerateLoop.{GenerateLoop}
 use Rattle.vast_core.specs.declared.kind.VastFileType.{VastFileType}
 use Rattle.vast_core.specs.declared.node.Assignment.{Assignment}
 use Rattle.vast_core.specs.Handles.{module_index}
-use Rattle.vast_core.specs.Nodes.{Nodes, no_nodes, with_root, ExprRoot, TypeRoot, IsOwned, is_expr_root, is_type_root, is_root_of, is_name, is_index, is_slice, is_macro, expr_in, type_in, maybe_type_in, maybe_expr_in, exprs_in, OptionHolds}
+use Rattle.vast_core.specs.Nodes.{Nodes, no_nodes, IsOwned, is_expr_root, is_type_root, is_root_of, is_name, is_index, is_slice, is_macro, expr_in, type_in, maybe_expr_in, exprs_in}
 use Rattle.vast_core.specs.Records.{PortRecord, ModuleRecord, DefinitionRecord, ArtifactRecord, BlankLineRecord, CommentRecord, InlineRecord, MacroRecord, InstanceRecord, FileEntry, IsFree}
 use Rattle.vast_core.specs.Nests.{NestRecord, FunctionRecord, AlwaysRecord, nest_kind, is_block_kind, is_conditional_kind, is_case_kind, is_loop_kind}
 

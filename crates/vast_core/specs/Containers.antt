@@ -1,22 +1,19 @@
 -- What a file holds after a call that adds to a container, or to a module what holds containers.
-use Rattle.std.specs.Prelude.{◌≡◌, ℕ, suc, ◌+◌, ◌<◌, ◌≤◌, Bool, true, false, List, [], ◌∷◌, ◌++◌, length, map, Option, Some, None, slice_get}
-use Rattle.vast_literal.specs.Tree.{NameTree, Untyped, Typed}
-use Rattle.vast_core.specs.declared.handle.Id.{Id}
+use Rattle.std.specs.Prelude.{ℕ, suc, ◌+◌, ◌<◌, ◌≤◌, Bool, true, false, List, [], ◌∷◌, ◌++◌, length, Option, Some, None}
 use Rattle.vast_core.specs.declared.handle.Expr.{Expr}
 use Rattle.vast_core.specs.declared.handle.VastModule.{VastModule}
 use Rattle.vast_core.specs.declared.handle.VastStatementBlock.{VastStatementBlock}
 use Rattle.vast_core.specs.declared.handle.Conditional.{Conditional}
 use Rattle.vast_core.specs.declared.handle.CaseStatement.{CaseStatement}
-use Rattle.vast_core.specs.declared.handle.GenerateLoop.{GenerateLoop}
 use Rattle.vast_core.specs.declared.kind.CaseKind.{CaseKind}
 use Rattle.vast_core.specs.declared.node.Assignment.{Assignment}
 use Rattle.vast_core.specs.declared.node.ElseIf.{ElseIf}
 use Rattle.vast_core.specs.declared.node.CaseArm.{CaseArm}
 use Rattle.vast_core.specs.declared.node.Term.{Term}
-use Rattle.vast_core.specs.Handles.{module_index, block_index, conditional_index, case_index, loop_index}
+use Rattle.vast_core.specs.Handles.{module_index, block_index, conditional_index, case_index}
 use Rattle.vast_core.specs.Nodes.{Nodes, OptionHolds, ChildrenHold, RootFits, term_root, with_root as with_node}
 use Rattle.vast_core.specs.Records.{ModuleRecord, MemberEntry, with_member, with_named_member, changed_at}
-use Rattle.vast_core.specs.Nests.{StatementEntry, ConditionalRecord, CaseRecord, LoopRecord, NestRecord, BlockRecord, BranchRecord, SwitchRecord, RepeatRecord, FunctionRecord, AlwaysRecord}
+use Rattle.vast_core.specs.Nests.{StatementEntry, NestRecord, BlockRecord, BranchRecord, SwitchRecord, RepeatRecord, FunctionRecord, AlwaysRecord}
 use Rattle.vast_core.specs.Raw.{Raw}
 use Rattle.vast_core.specs.Bench.{Bench, OwnsModule, OwnsExpr, OwnsType}
 use Rattle.vast_core.specs.Growth.{next_id}

@@ -1,9 +1,9 @@
 -- What a file holds after a call that adds an input or a local to a function.
-use Rattle.std.specs.Prelude.{ℕ, Bool, true, false, List, [], ◌∷◌, ◌++◌, Option, Some, None, slice_get}
+use Rattle.std.specs.Prelude.{Bool, true, false, [], ◌∷◌, ◌++◌}
 use Rattle.vast_literal.specs.Tree.{NameTree, Typed}
 use Rattle.vast_core.specs.declared.handle.VastFunction.{VastFunction}
 use Rattle.vast_core.specs.Handles.{function_index}
-use Rattle.vast_core.specs.Records.{IsFree, with_name, changed_at}
+use Rattle.vast_core.specs.Records.{with_name, changed_at}
 use Rattle.vast_core.specs.Nests.{VariableRecord, FunctionRecord}
 use Rattle.vast_core.specs.Bench.{Bench, type_of}
 use Rattle.vast_core.specs.Growth.{with_expr}

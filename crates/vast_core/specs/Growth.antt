@@ -1,5 +1,5 @@
 -- What a file holds after a call, and the handle of what the call made.
-use Rattle.std.specs.Prelude.{◌≡◌, ℕ, ℤ, Bool, List, [], ◌∷◌, ◌++◌, length, Option, Some, Result, Ok, Err}
+use Rattle.std.specs.Prelude.{◌≡◌, ℕ, ℤ, Bool, List, [], ◌∷◌, ◌++◌, length, Some, Result, Ok, Err}
 use Rattle.std.specs.Fmt.{signed_decimal}
 use Rattle.std.specs.declared.alloc.AllocError.{AllocError}
 use Rattle.vast_literal.specs.Tree.{ExprTree, NameTree, LiteralTree, IndexTree, SliceTree, ConcatTree, SomeExpr, TypeTree, VectorTree, Typed}
@@ -19,7 +19,7 @@ use Rattle.vast_core.specs.declared.kind.DataKind.{DataKind}
 use Rattle.vast_core.specs.declared.node.Assignment.{Assignment}
 use Rattle.vast_core.specs.Handles.{module_index, indexable_expr_to_expr}
 use Rattle.vast_core.specs.Nodes.{Root, ExprRoot, TypeRoot, with_root as with_node}
-use Rattle.vast_core.specs.Records.{PortRecord, FileEntry, ModuleEntry, MemberEntry, DeclarationEntry, new_module, with_port as with_listed_port, with_member as with_listed_member, with_named_member as with_listed_name, changed_at}
+use Rattle.vast_core.specs.Records.{FileEntry, ModuleEntry, MemberEntry, DeclarationEntry, new_module, with_port as with_listed_port, with_member as with_listed_member, with_named_member as with_listed_name, changed_at}
 use Rattle.vast_core.specs.Bench.{Bench, tree_of, trees_of, type_of}
 
 -- The call answers this and leaves this, or memory was refused and nothing changed.

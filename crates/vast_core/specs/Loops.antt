@@ -1,5 +1,5 @@
 -- What a file holds after a call that adds an always block, a loop, a conditional or a function, or a loop's member.
-use Rattle.std.specs.Prelude.{ℕ, Bool, true, false, List, [], ◌∷◌, ◌++◌, length, Option, Some, None, String}
+use Rattle.std.specs.Prelude.{ℕ, true, false, List, [], ◌∷◌, ◌++◌, length, Option, Some, None, String}
 use Rattle.std.specs.declared.alloc.Global.{Global}
 use Rattle.vast_literal.specs.Tree.{NameTree, Untyped, Typed}
 use Rattle.vast_core.specs.declared.handle.Expr.{Expr}
@@ -13,7 +13,7 @@ use Rattle.vast_core.specs.declared.node.Term.{Term}
 use Rattle.vast_core.specs.declared.node.Term.TheVariants.{Expression}
 use Rattle.vast_core.specs.Handles.{loop_index}
 use Rattle.vast_core.specs.Records.{MemberEntry, with_name}
-use Rattle.vast_core.specs.Nests.{LoopRecord, NestRecord, RepeatRecord, AlwaysRecord, FunctionRecord}
+use Rattle.vast_core.specs.Nests.{NestRecord, RepeatRecord, AlwaysRecord, FunctionRecord}
 use Rattle.vast_core.specs.Bench.{Bench, type_of}
 use Rattle.vast_core.specs.Growth.{next_id, next_logic_ref, with_expr}
 use Rattle.vast_core.specs.Containers.{MemberEnters, Fresh, next_block, with_nest, with_block, with_nest_entry}

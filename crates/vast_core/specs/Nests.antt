@@ -1,5 +1,5 @@
 -- The records of containers, functions and always blocks: nodes with the bytes of their texts.
-use Rattle.std.specs.Prelude.{ℕ, Bool, true, false, List, [], ◌∷◌, ◌++◌, map, Option, Some, None, string_bytes, String}
+use Rattle.std.specs.Prelude.{ℕ, Bool, true, false, List, map, Option, Some, None, string_bytes, String}
 use Rattle.std.specs.declared.alloc.Global.{Global}
 use Rattle.vast_core.specs.declared.handle.Expr.{Expr}
 use Rattle.vast_core.specs.declared.handle.LogicRef.{LogicRef}
@@ -23,7 +23,7 @@ use Rattle.vast_core.specs.declared.node.Nest.TheVariants.{Block as BlockNode, C
 use Rattle.vast_core.specs.declared.node.FunctionVariable.{FunctionVariable}
 use Rattle.vast_core.specs.declared.node.Function.{Function}
 use Rattle.vast_core.specs.declared.node.AlwaysBlock.{AlwaysBlock}
-use Rattle.vast_core.specs.Records.{MemberEntry, member_entry, with_name}
+use Rattle.vast_core.specs.Records.{MemberEntry, member_entry}
 
 -- A statement of a block. An assignment or a container stays where it is, and its statement names it.
 pub data StatementEntry : Type 0 where

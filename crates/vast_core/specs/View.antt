@@ -8,20 +8,20 @@ use Rattle.vast_core.specs.Bench.{Bench}
 
 unfoldable pub bench : Raw → Bench
 bench a =
-  record {
-    file_type = a.file_type;
-    nodes = built (no_nodes a.id) a.terms;
-    nests = map nest_record a.nests;
-    ports = map port_record a.ports;
-    assignments = a.assignments;
-    modules = map module_record a.modules;
-    functions = map function_record a.functions;
-    definitions = map definition_record a.definitions;
-    artifacts = map artifact_record a.artifacts;
-    instances = map instance_record a.instances;
-    always_blocks = map always_record a.always_blocks;
-    items = map file_entry a.items
-  }
+    record {
+      file_type = a.file_type;
+      nodes = built (no_nodes a.id) a.terms;
+      nests = map nest_record a.nests;
+      ports = map port_record a.ports;
+      assignments = a.assignments;
+      modules = map module_record a.modules;
+      functions = map function_record a.functions;
+      definitions = map definition_record a.definitions;
+      artifacts = map artifact_record a.artifacts;
+      instances = map instance_record a.instances;
+      always_blocks = map always_record a.always_blocks;
+      items = map file_entry a.items;
+    }
 
 -- How many expressions and types can be made before memory is needed.
 unfoldable pub room : Raw → ℕ

@@ -105,7 +105,10 @@ impl Ast {
             id: self.next_assignment(),
         };
         self.grow(
-            Place::Nest(owner.id.index, Entry::Statement(Statement::Assignment(statement))),
+            Place::Nest(
+                owner.id.index,
+                Entry::Statement(Statement::Assignment(statement)),
+            ),
             Arrivals {
                 term: None,
                 assignment: Some(Assignment {
@@ -142,7 +145,10 @@ impl Ast {
             id: self.next_assignment(),
         };
         self.grow(
-            Place::Nest(owner.id.index, Entry::Statement(Statement::Continuous(statement))),
+            Place::Nest(
+                owner.id.index,
+                Entry::Statement(Statement::Continuous(statement)),
+            ),
             Arrivals {
                 term: None,
                 assignment: Some(Assignment {

@@ -68,7 +68,10 @@ impl Ast {
             otherwise: None,
         };
         self.grow(
-            Place::Nest(owner.id.index, Entry::Statement(Statement::Conditional(conditional))),
+            Place::Nest(
+                owner.id.index,
+                Entry::Statement(Statement::Conditional(conditional)),
+            ),
             Arrivals {
                 term: None,
                 assignment: None,

@@ -90,7 +90,10 @@ impl Ast {
             otherwise: None,
         };
         self.grow(
-            Place::Nest(owner.id.index, Entry::Member(Member::Conditional(conditional))),
+            Place::Nest(
+                owner.id.index,
+                Entry::Member(Member::Conditional(conditional)),
+            ),
             Arrivals {
                 term: None,
                 assignment: None,
@@ -250,11 +253,7 @@ impl Ast {
     ///
     /// # Errors
     /// `AllocError` where a growth was refused; nothing changed.
-    pub fn append_loop_comment(
-        &mut self,
-        owner: GenerateLoop,
-        a: Comment,
-    ) -> Result<(), AllocError>
+    pub fn append_loop_comment(&mut self, owner: GenerateLoop, a: Comment) -> Result<(), AllocError>
         requires owner { OwnsLoop (bench self.old) owner }
         requires comment { OwnsComment (bench self.old) a }
         ensures { Builds (bench self.old) (bench self.new) result tt (with_loop_member owner (CommentEntry a) (bench self.old)) }

@@ -94,7 +94,9 @@ fn hoists_declarations(rt: HostRuntime) -> Result<(), Fail> {
     let scalar = ast.push_scalar(false)?;
     assert!(rt; module.belongs_to(&ast));
     assert!(rt; scalar.belongs_to(&ast));
-    let wire = ast.push_declaration(module, DataKind::Wire, "a", scalar)?.to_expr();
+    let wire = ast
+        .push_declaration(module, DataKind::Wire, "a", scalar)?
+        .to_expr();
     assert!(rt; wire.belongs_to(&ast));
     let assignment = ast.push_continuous(wire, wire)?;
     assert!(rt; module.belongs_to(&ast));

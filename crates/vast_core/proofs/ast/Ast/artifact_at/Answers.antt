@@ -1,4 +1,4 @@
-use Rattle.std.proofs.Common.{◌≡◌, ◌<◌, ◌≤◌, length, rules}
+use Rattle.std.proofs.Common.{◌<◌, ◌≤◌, length, rules}
 use Rattle.vast_core.proofs.Readers.{artifact-there, artifact-past, artifact-sound}
 use Rattle.vast_core.proofs.ast.Ast.artifact_at.Goals as goal
 

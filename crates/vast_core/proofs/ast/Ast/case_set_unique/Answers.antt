@@ -1,5 +1,5 @@
 -- proofs/ast/Ast/case_set_unique/Answers.antt
-use Rattle.std.proofs.Common.{◌≡◌, ◌<◌, length, rules}
+use Rattle.std.proofs.Common.{◌<◌, length, rules}
 use Rattle.vast_core.specs.Nests.{nest_record}
 use Rattle.vast_core.specs.Containers.{with_unique}
 use Rattle.vast_core.specs.View.{bench}

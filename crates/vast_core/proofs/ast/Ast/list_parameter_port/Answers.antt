@@ -1,4 +1,4 @@
-use Rattle.std.proofs.Common.{◌≡◌, ◌<◌, length, map, rules, refl}
+use Rattle.std.proofs.Common.{◌<◌, length, rules, refl}
 use Rattle.vast_core.specs.Records.{module_record, parameter_port_record, with_parameter_port}
 use Rattle.vast_core.specs.View.{bench, room}
 use Rattle.vast_core.proofs.Lists.{changed-map, unchanged-map}

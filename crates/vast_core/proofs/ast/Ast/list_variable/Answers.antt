@@ -1,8 +1,8 @@
 -- proofs/ast/Ast/list_variable/Answers.antt
-use Rattle.std.proofs.Common.{◌≡◌, ◌<◌, length, map, rules, refl}
+use Rattle.std.proofs.Common.{◌<◌, length, rules, refl}
 use Rattle.vast_core.specs.Nests.{function_record, variable_record}
 use Rattle.vast_core.specs.Functions.{with_listed_variable}
-use Rattle.vast_core.specs.View.{bench, room}
+use Rattle.vast_core.specs.View.{room}
 use Rattle.vast_core.proofs.Lists.{changed-map, unchanged-map}
 use Rattle.vast_core.proofs.NestReaders.{function-below}
 use Rattle.vast_core.proofs.Growth.{refused}

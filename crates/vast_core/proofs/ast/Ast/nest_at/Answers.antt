@@ -1,5 +1,5 @@
 -- proofs/ast/Ast/nest_at/Answers.antt
-use Rattle.std.proofs.Common.{◌≡◌, ◌<◌, ◌≤◌, length, rules}
+use Rattle.std.proofs.Common.{◌<◌, ◌≤◌, length, rules}
 use Rattle.vast_core.proofs.Readers.{nest-there, nest-past, nest-sound, nest-unfolded}
 use Rattle.vast_core.proofs.ast.Ast.nest_at.Goals as goal
 

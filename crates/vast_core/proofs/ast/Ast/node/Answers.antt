@@ -1,4 +1,4 @@
-use Rattle.std.proofs.Common.{◌≡◌, ◌<◌, ◌≤◌, length, rules, arith}
+use Rattle.std.proofs.Common.{◌<◌, ◌≤◌, length, rules}
 use Rattle.vast_core.specs.View.{bench}
 use Rattle.vast_core.proofs.NodeLaws.{at_some, at_none}
 use Rattle.vast_core.proofs.ast.Ast.node.Goals as goal

@@ -1,4 +1,4 @@
-use Rattle.std.proofs.Common.{◌≡◌, ◌++◌, ◌∷◌, [], rules, ap, refl, ◌∙◌, string_bytes}
+use Rattle.std.proofs.Common.{rules}
 use Rattle.vast_core.proofs.Growth.{id-of}
 use Rattle.vast_core.proofs.Arenas.{bench-artifact, sound-artifact, length-artifacts}
 use Rattle.vast_core.proofs.ast.Ast.push_artifact.Goals as goal

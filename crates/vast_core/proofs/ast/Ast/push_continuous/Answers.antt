@@ -1,4 +1,4 @@
-use Rattle.std.proofs.Common.{◌≡◌, ◌++◌, ◌∷◌, [], rules, false}
+use Rattle.std.proofs.Common.{rules, false}
 use Rattle.vast_core.proofs.Growth.{bench-assignment, sound-assignment, length-assignments, id-of, refused}
 use Rattle.vast_core.proofs.Containers.{bench-roomier, sound-roomier}
 use Rattle.vast_core.proofs.ast.Ast.push_continuous.Goals as goal

@@ -1,8 +1,7 @@
-use Rattle.std.proofs.Common.{◌≡◌, ◌++◌, ◌∷◌, [], rules, ap, refl, ◌∙◌, string_bytes}
+use Rattle.std.proofs.Common.{◌≡◌, rules, ap, ◌∙◌, string_bytes}
 use Rattle.vast_core.proofs.Growth.{id-of}
 use Rattle.vast_core.proofs.Arenas.{bench-definition, sound-definition, length-definitions}
 use Rattle.vast_core.specs.declared.node.Definition.{Definition}
-use Rattle.vast_core.specs.Records.{DefinitionRecord}
 use Rattle.vast_core.specs.Artifacts.{with_definition}
 use Rattle.vast_core.specs.View.{bench}
 use Rattle.vast_core.proofs.ast.Ast.push_def.Goals as goal

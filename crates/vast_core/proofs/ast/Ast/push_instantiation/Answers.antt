@@ -1,11 +1,9 @@
-use Rattle.std.proofs.Common.{◌≡◌, ◌++◌, ◌∷◌, [], rules, ap, refl, ◌∙◌, string_bytes}
+use Rattle.std.proofs.Common.{◌≡◌, rules, refl, ◌∙◌, string_bytes}
 use Rattle.vast_core.proofs.Growth.{id-of}
 use Rattle.vast_core.proofs.Arenas.{bench-instance, sound-instance, length-instances}
-use Rattle.std.proofs.Common.{map}
 use Rattle.vast_core.specs.declared.node.Instance.{Instance}
 use Rattle.vast_core.specs.Records.{connection_record}
-use Rattle.vast_core.specs.Sound.{ConnectionSound, InstanceSound}
-use Rattle.vast_core.specs.Artifacts.{with_instance}
+use Rattle.vast_core.specs.Sound.{ConnectionSound}
 use Rattle.vast_core.specs.View.{bench}
 use Rattle.vast_core.proofs.Lists.{Each-All}
 use Rattle.vast_core.proofs.ast.Ast.push_instantiation.Goals as goal

@@ -1,11 +1,11 @@
-use Rattle.std.proofs.Common.{◌≡◌, ◌<◌, ◌++◌, ◌∷◌, [], length, map, rules, refl, ap, ◌∙◌, Some, string_bytes}
+use Rattle.std.proofs.Common.{◌≡◌, ◌<◌, ◌++◌, ◌∷◌, [], length, rules, refl, ap, ◌∙◌, Some, string_bytes}
 use Rattle.vast_core.specs.declared.handle.LogicRef.{LogicRef}
 use Rattle.vast_core.specs.declared.handle.ModulePort.{ModulePort}
 use Rattle.vast_core.specs.declared.node.Term.{Term}
 use Rattle.vast_core.specs.declared.node.Term.TheVariants.{Expression}
 use Rattle.vast_core.specs.declared.node.ExprNode.TheVariants.{Name}
 use Rattle.vast_core.specs.declared.node.Port.{Port}
-use Rattle.vast_core.specs.Records.{module_record, port_record, changed_at, with_port}
+use Rattle.vast_core.specs.Records.{module_record, with_port}
 use Rattle.vast_core.specs.Growth.{next_logic_ref, next_port}
 use Rattle.vast_core.specs.View.{bench}
 use Rattle.vast_core.proofs.Lists.{changed-map, unchanged-map}

@@ -1,7 +1,6 @@
-use Rattle.std.proofs.Common.{◌≡◌, ◌++◌, ◌∷◌, [], rules, refl, ◌∙◌, ap, map, string_bytes}
+use Rattle.std.proofs.Common.{◌≡◌, ◌++◌, ◌∷◌, [], rules, refl, ap, map, string_bytes}
 use Rattle.std.proofs.lemmas.List.{map-append}
 use Rattle.vast_core.specs.Records.{with_name}
-use Rattle.vast_core.specs.Nests.{variable_record}
 use Rattle.vast_core.proofs.Names.{map-insert_key}
 use Rattle.vast_core.proofs.node.Function.enter_input.Goals as goal
 

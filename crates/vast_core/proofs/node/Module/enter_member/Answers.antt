@@ -1,6 +1,6 @@
-use Rattle.std.proofs.Common.{◌≡◌, ◌++◌, ◌∷◌, [], rules, refl, ◌∙◌, map, string_bytes}
+use Rattle.std.proofs.Common.{◌≡◌, ◌++◌, ◌∷◌, [], rules, refl, map, string_bytes}
 use Rattle.std.proofs.lemmas.List.{map-append}
-use Rattle.vast_core.specs.Records.{with_name, member_entry}
+use Rattle.vast_core.specs.Records.{with_name}
 use Rattle.vast_core.proofs.Names.{map-insert_key}
 use Rattle.vast_core.proofs.node.Module.enter_member.Goals as goal
 

@@ -1,4 +1,4 @@
-use Rattle.std.proofs.Common.{◌≡◌, ◌++◌, ◌∷◌, [], rules, refl, ◌∙◌, map, string_bytes}
+use Rattle.std.proofs.Common.{◌≡◌, ◌++◌, ◌∷◌, [], rules, refl, map, string_bytes}
 use Rattle.vast_core.specs.Records.{with_name}
 use Rattle.vast_core.proofs.Names.{map-insert_key}
 use Rattle.vast_core.proofs.node.Module.enter_port.Goals as goal
