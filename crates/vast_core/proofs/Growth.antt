@@ -13,14 +13,14 @@ use Rattle.vast_core.specs.declared.node.Module.{Module}
 use Rattle.vast_core.specs.declared.node.FileItem.{FileItem}
 use Rattle.vast_core.specs.declared.node.Assignment.{Assignment}
 use Rattle.vast_core.specs.Raw.{Raw}
-use Rattle.vast_core.specs.Nodes.{Root, ExprRoot, no_nodes, TermsSound, ChildrenHold, RootFits, term_root}
+use Rattle.vast_core.specs.Nodes.{Root, ExprRoot, no_nodes, TermsSound, ChildrenHold, RootFits, term_root, built, RootWellFormed}
 use Rattle.vast_core.specs.Records.{PortRecord, ParameterPortRecord, ModuleRecord, MemberEntry, ModuleEntry, port_record, module_record, file_entry, new_module, changed_at, with_port as with_listed_port, with_member as with_listed_member, with_named_member, with_parameter_port}
-use Rattle.vast_core.specs.Bench.{Bench, type_of, OwnsExpr, OwnsType, OwnsPort, OwnsModule}
+use Rattle.vast_core.specs.Bench.{Bench, type_of, OwnsExpr, OwnsType, OwnsPort, OwnsModule, AreWellFormed}
 use Rattle.vast_core.specs.View.{bench}
 use Rattle.vast_core.specs.Growth.{Builds, with_root, with_assignment, with_module, with_port, next_module, next_port, next_logic_ref}
-use Rattle.vast_core.specs.Sound.{PortSound, AssignmentSound, MemberSound, ParameterPortSound, ModuleSound, EntrySound, RecordsSound, IsSound}
+use Rattle.vast_core.specs.Sound.{PortSound, AssignmentSound, MemberSound, ParameterPortSound, ModuleSound, EntrySound, RecordsSound, IsSound, Each}
 use Rattle.vast_core.proofs.Lists.{slice_get-append, slice_get-seam, length-changed_at, Each-map, Each-push, Each-changed_at}
-use Rattle.vast_core.proofs.NodeLaws.{Extends-same, Extends-root, HasType-kept, built-push, built-id, TermsSound-push, built-length}
+use Rattle.vast_core.proofs.NodeLaws.{Extends-same, Extends-root, HasType-kept, built-push, built-id, TermsSound-push, built-length, built-well_formed, expr-well_formed, type-well_formed}
 use Rattle.vast_core.proofs.Sound.{Grows, carried, ModuleSound-kept}
 
 -- A term more.
@@ -65,6 +65,17 @@ sound-plant a b t ts r e q s h f =
 pub length-plant : (a b : Raw) → b ≡ a → length (bench a).nodes.roots ≡ length b.terms
 unfolding bench
 length-plant a b e = rw (← e) (omega (arith, built-length (no_nodes b.id) b.terms))
+
+-- The trees of a sound file are well formed.
+
+sound-well_formed : (a : Raw) → IsSound a → AreWellFormed (bench a)
+unfolding bench
+sound-well_formed a s =
+    let w : Each RootWellFormed (built (no_nodes a.id) a.terms).roots = built-well_formed (no_nodes a.id) a.terms tt s.terms in
+    record { exprs = expr-well_formed (built (no_nodes a.id) a.terms) w; types = type-well_formed (built (no_nodes a.id) a.terms) w }
+
+pub trees-well_formed : (a b : Raw) → b ≡ a → IsSound b → AreWellFormed (bench a)
+trees-well_formed a b e s = let P : Raw → Type 0 = λ r. AreWellFormed (bench r) in subst P e (sound-well_formed b s)
 
 -- An assignment more.
 

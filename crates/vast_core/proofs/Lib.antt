@@ -1,5 +1,6 @@
 pub mod Lists
 pub mod NodeLaws
+pub mod WellFormed
 pub mod Names
 pub mod Products
 pub mod Arrays
@@ -19,3 +20,4 @@ pub mod EntersMembers
 pub mod NestReaders
 pub mod NestLaws
 pub mod Functions
+pub mod KeywordTable

@@ -231,13 +231,13 @@ term_root-kept b c x (DataType n) h = ap TypeRoot (type_tree-kept b c x n h)
 
 -- Each node that fits is well formed, since those that it is made of are.
 
-expr-well_formed : (b : Nodes) → Each RootWellFormed b.roots → (e : Expr) → HasExpr b e → ExprWellFormed (expr_in b e)
+pub expr-well_formed : (b : Nodes) → Each RootWellFormed b.roots → (e : Expr) → HasExpr b e → ExprWellFormed (expr_in b e)
 unfolding expr_in
 expr-well_formed b w e h =
     let r = has_expr (slice_get b.roots e.id.index) h.of_kind
     in rw r.1 (Each-get RootWellFormed b.roots e.id.index (ExprRoot r.0) w r.1)
 
-type-well_formed : (b : Nodes) → Each RootWellFormed b.roots → (t : VastDataType) → HasType b t → TypeWellFormed (type_in b t)
+pub type-well_formed : (b : Nodes) → Each RootWellFormed b.roots → (t : VastDataType) → HasType b t → TypeWellFormed (type_in b t)
 unfolding type_in
 type-well_formed b w t h =
     let r = has_type (slice_get b.roots t.id.index) h.of_kind
@@ -259,8 +259,8 @@ exprs-well_formed b (e ∷ es) h =
 
 expr_node-well_formed : (b : Nodes) (n : ExprNode) → ExprChildrenHold (λ e. ExprWellFormed (expr_in b e)) (λ t. TypeWellFormed (type_in b t)) n → ExprFits (expr_tree b n) → ExprWellFormed (expr_tree b n)
 expr_node-well_formed b (Name name type) h f = maybe_type-well_formed b type h
-expr_node-well_formed b (Literal text value) h f = tt
-expr_node-well_formed b (StringText text) h f = tt
+expr_node-well_formed b (Literal text value) h f = f
+expr_node-well_formed b (StringText text) h f = f
 expr_node-well_formed b (Unary operator operand) h f = h
 expr_node-well_formed b (Binary operator left right) h f = h
 expr_node-well_formed b (Ternary condition consequent alternate) h f = h
@@ -290,6 +290,11 @@ type_node-well_formed b (Unpacked element dimensions) h f = (f, h)
 node-well_formed : (b : Nodes) (t : Term) → Each RootWellFormed b.roots → ChildrenHold (HasExpr b) (HasType b) t → RootFits (term_root b t) → RootWellFormed (term_root b t)
 node-well_formed b (Expression n) w h f = expr_node-well_formed b n (expr_children-map (expr-well_formed b w) (type-well_formed b w) n h) f
 node-well_formed b (DataType n) w h f = type_node-well_formed b n (type_children-map (expr-well_formed b w) (type-well_formed b w) n h) f
+
+pub built-well_formed : (b : Nodes) (ts : List Term) → Each RootWellFormed b.roots → TermsSound b ts → Each RootWellFormed (built b ts).roots
+unfolding built TermsSound
+built-well_formed b [] w s = w
+built-well_formed b (t ∷ ts) w s = built-well_formed (with_root b (term_root b t)) ts (Each-push RootWellFormed b.roots (term_root b t) w (node-well_formed b t w s.0 s.1)) s.2
 
 -- A node of the arena.
 

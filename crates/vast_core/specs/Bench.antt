@@ -30,6 +30,7 @@ use Rattle.vast_core.specs.declared.kind.VastFileType.{VastFileType}
 use Rattle.vast_core.specs.declared.node.Assignment.{Assignment}
 use Rattle.vast_core.specs.Handles.{module_index}
 use Rattle.vast_core.specs.Nodes.{Nodes, no_nodes, IsOwned, is_expr_root, is_type_root, is_root_of, is_name, is_index, is_slice, is_macro, expr_in, type_in, maybe_expr_in, exprs_in}
+use Rattle.vast_core.specs.Types.{ExprWellFormed, TypeWellFormed}
 use Rattle.vast_core.specs.Records.{PortRecord, ModuleRecord, DefinitionRecord, ArtifactRecord, BlankLineRecord, CommentRecord, InlineRecord, MacroRecord, InstanceRecord, FileEntry, IsFree}
 use Rattle.vast_core.specs.Nests.{NestRecord, FunctionRecord, AlwaysRecord, nest_kind, is_block_kind, is_conditional_kind, is_case_kind, is_loop_kind}
 
@@ -79,6 +80,11 @@ OwnsIndexable b e = IsOwned b.nodes.id e.id (is_expr_root (slice_get b.nodes.roo
 
 abbrev pub OwnsType : Bench → VastDataType → Type 0
 OwnsType b t = IsOwned b.nodes.id t.id (is_type_root (slice_get b.nodes.roots t.id.index))
+
+-- Each expression and each type of the file is well formed.
+pub record AreWellFormed (b : Bench) : Type 0 where
+  pub exprs : (e : Expr) → OwnsExpr b e → ExprWellFormed (tree_of b e)
+  pub types : (t : VastDataType) → OwnsType b t → TypeWellFormed (type_of b t)
 
 abbrev pub OwnsLogicRef : Bench → LogicRef → Type 0
 OwnsLogicRef b r = IsOwned b.nodes.id r.id (has_root is_name b r.id.index)

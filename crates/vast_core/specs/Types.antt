@@ -1,5 +1,6 @@
 -- What types and widths are, read off their trees, and what is kept of every tree.
 use Rattle.std.specs.Prelude.{◌≡◌, ℤ, ◌<◌, ◌≤ℤ◌, pos, Bool, true, false, IsTrue, List, length, Option, None, IfSome, All}
+use Rattle.vast_literal.specs.LiteralToken.{is_literal_text, is_string_text}
 use Rattle.vast_literal.specs.Tree.{ExprTree, NameTree, LiteralTree, StringTree, UnaryTree, BinaryTree, TernaryTree, IndexTree, SliceTree, PartSelectTree, ConcatTree, PatternTree, WidthCastTree, TypeCastTree, PosEdgeTree, NegEdgeTree, MacroTree, CallTree, MissingExpr, TypeTree, ScalarTree, VectorTree, IntegerTree, IntTree, ExternalTree, PackageTree, PackedTree, UnpackedTree, MissingType, MaybeType, Untyped, Typed, MaybeExpr, NoExpr, SomeExpr, Exprs, NoExprs, MoreExprs, MaybeExprs, NoArguments, SomeArguments}
 
 -- A literal's value, where that is known.
@@ -61,8 +62,11 @@ base_is_signed _ = false
 abbrev pub is_signed : TypeTree → Bool
 is_signed t = base_is_signed (base_of t)
 
--- What an expression keeps of itself: a part select has a bit at least, and a cast is to no array.
+-- What an expression keeps of itself: the text of a literal is one literal token, perhaps behind a minus, and that of a
+-- string one string token; a part select has a bit at least, and a cast is to no array.
 abbrev pub ExprFits : ExprTree → Type 0
+ExprFits (LiteralTree text value) = IsTrue (is_literal_text text)
+ExprFits (StringTree text) = IsTrue (is_string_text text)
 ExprFits (PartSelectTree subject start width) = pos 1 ≤ℤ width
 ExprFits (TypeCastTree type operand) = IsTrue (is_castable type)
 ExprFits _ = Unit {0}
@@ -75,12 +79,12 @@ TypeFits (PackedTree element dimensions) = IsTrue (is_packable element) × AreDi
 TypeFits (UnpackedTree element dimensions) = AreDimensions dimensions
 TypeFits _ = Unit {0}
 
--- Each expression and each type in the tree fits.
+-- Each expression and each type in the tree is there and fits.
 abbrev mutual
   pub ExprWellFormed : ExprTree → Type 0
   ExprWellFormed (NameTree name type) = MaybeTypeWellFormed type
-  ExprWellFormed (LiteralTree text value) = Unit {0}
-  ExprWellFormed (StringTree text) = Unit {0}
+  ExprWellFormed (LiteralTree text value) = IsTrue (is_literal_text text)
+  ExprWellFormed (StringTree text) = IsTrue (is_string_text text)
   ExprWellFormed (UnaryTree operator operand) = ExprWellFormed operand
   ExprWellFormed (BinaryTree operator left right) = ExprWellFormed left × ExprWellFormed right
   ExprWellFormed (TernaryTree condition consequent alternate) = ExprWellFormed condition × ExprWellFormed consequent × ExprWellFormed alternate
@@ -95,7 +99,7 @@ abbrev mutual
   ExprWellFormed (NegEdgeTree operand) = ExprWellFormed operand
   ExprWellFormed (MacroTree name arguments) = MaybeExprsWellFormed arguments
   ExprWellFormed (CallTree name arguments) = ExprsWellFormed arguments
-  ExprWellFormed MissingExpr = Unit {0}
+  ExprWellFormed MissingExpr = ⊥
 
   pub TypeWellFormed : TypeTree → Type 0
   TypeWellFormed (ScalarTree signed) = Unit {0}
@@ -106,7 +110,7 @@ abbrev mutual
   TypeWellFormed (PackageTree package_name name) = Unit {0}
   TypeWellFormed (PackedTree element dimensions) = (IsTrue (is_packable element) × AreDimensions dimensions) × TypeWellFormed element
   TypeWellFormed (UnpackedTree element dimensions) = AreDimensions dimensions × TypeWellFormed element
-  TypeWellFormed MissingType = Unit {0}
+  TypeWellFormed MissingType = ⊥
 
   pub MaybeTypeWellFormed : MaybeType → Type 0
   MaybeTypeWellFormed Untyped = Unit {0}

@@ -8,6 +8,7 @@ mod ast;
 mod bits;
 mod file_ids;
 mod handle;
+mod keyword;
 mod kind;
 mod node;
 mod operator;
@@ -23,6 +24,7 @@ pub use handle::{
     MacroStatement, ModulePort, ParameterRef, Slice, VastAlwaysBase, VastDataType, VastFunction,
     VastModule, VastStatement, VastStatementBlock,
 };
+pub use keyword::is_system_verilog_keyword;
 pub use kind::{AlwaysKind, CaseKind, DataKind, ModulePortDirection, VastFileType};
 pub use node::{
     AlwaysBlock, Artifact, Assignment, CaseArm, CaseNode, ConditionalNode, Connection, Definition,

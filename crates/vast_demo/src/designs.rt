@@ -1,10 +1,18 @@
 //! The designs that the program prints.
 
+ghost use Rattle.std.specs.Prelude.{◌≡◌, IfOk, string_bytes};
+ghost use Rattle.vast_demo.specs.DesignTexts.{passthrough_text};
+
 use std::alloc::Global;
 use xlsynth_vast::{FileIds, VastFault, VastFile, VastFileType};
 
 /// A module whose output is its input.
-pub(crate) fn passthrough(alloc: Global) -> Result<String, VastFault> {
+///
+/// # Errors
+/// Want of memory.
+pub(crate) fn passthrough(alloc: Global) -> Result<String, VastFault>
+    ensures { IfOk result (λ text. string_bytes text ≡ passthrough_text) }
+{
     let mut ids = FileIds::new();
     let mut file = VastFile::new(alloc, VastFileType::SystemVerilog, &mut ids).unwrap();
     let module = file.add_module("passthrough")?;

@@ -2,6 +2,7 @@
 
 ghost use Rattle.std.specs.Prelude.{◌≡◌, ◌≤◌, true, false, MatchResult, string_bytes};
 ghost use Rattle.std.specs.Io.KnownBytes.{Appends};
+ghost use Rattle.vast_demo.specs.DesignTexts.{passthrough_text};
 ghost use Rattle.vast_demo.specs.Words.{names_design};
 
 use crate::designs::passthrough;
@@ -24,6 +25,7 @@ pub fn run<R: Read, W: Write, E: Write>(
 ) -> u8
     ensures unknown { names_design words.now ≡ false → result ≡ 2 }
     ensures known { names_design words.now ≡ true → result ≤ 1 }
+    ensures printed { names_design words.now ≡ true → result ≡ 0 → Appends (W.contents out.old) (W.contents out.new) passthrough_text }
 {
     match words {
         [word] => {

@@ -4,7 +4,7 @@ use Rattle.std.proofs.lemmas.List.{drop_all}
 use Rattle.std.proofs.Common.{Err, subst}
 use Rattle.vast_literal.specs.declared.error.VastFault.{VastFault}
 use Rattle.vast_literal.specs.declared.error.VastFault.TheVariants.{Refused as RefusedBy, Memory as NoMemory}
-use Rattle.vast_literal.specs.Tree.{Dialect, Members, NoMembers, MoreMembers, PortTree, ParameterPortTree, Connection as ConnectionTree}
+use Rattle.vast_literal.specs.Tree.{Dialect, PortTree, ParameterPortTree, Connection as ConnectionTree}
 use Rattle.vast_core.specs.declared.node.Member.{Member}
 use Rattle.vast_core.specs.declared.node.ParameterPort.{ParameterPort}
 use Rattle.vast_core.specs.declared.node.Connection.{Connection}

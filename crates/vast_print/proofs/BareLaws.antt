@@ -1,5 +1,5 @@
 -- Which expressions stand bare before the apostrophe of a cast.
-use Rattle.std.proofs.Common.{◌≡◌, ℕ, Bool, true, false, not, ◌&&◌, ◌||◌, List, [], ◌∷◌, ◌++◌, refl, sym, ◌∙◌, ap, codes}
+use Rattle.std.proofs.Common.{◌≡◌, ℕ, Bool, true, false, not, ◌&&◌, ◌||◌, List, [], ◌∷◌, ◌++◌, refl, ◌∙◌, ap, codes}
 use Rattle.std.specs.Prelude.{if◌then◌else◌, ◌==◌}
 use Rattle.std.specs.Char.{is_ascii_digit, is_ascii_uppercase, is_ascii_lowercase}
 use Rattle.std.specs.List.{list_all}
@@ -11,9 +11,9 @@ use Rattle.vast_literal.specs.Tree.{TypeTree, ScalarTree, VectorTree, IntegerTre
 use Rattle.vast_print.specs.declared.refusal.Refusal.{Refusal}
 use Rattle.vast_print.specs.declared.refusal.Refusal.TheVariants.{ScalarIndex, ScalarSlice}
 use Rattle.vast_print.specs.Printed.{Printed, plain_text, refused, ◌⊕◌, wrapped}
-use Rattle.vast_print.specs.Levels.{unary_sign_text, binary_sign_text, is_scalar_name, is_zero, select_wraps}
+use Rattle.vast_print.specs.Levels.{unary_sign_text, binary_sign_text, is_scalar_name, is_zero}
 use Rattle.vast_print.specs.Bare.{is_number, begins_word, continues_word, is_word, is_bare, is_bare_head}
-use Rattle.vast_print.specs.Text.{elided, cast_to, width_cast, expr_text, arguments_text, replicated, list_text, more_text, type_cast}
+use Rattle.vast_print.specs.Text.{elided, cast_to, width_cast, expr_text, type_cast}
 
 -- a text with a byte that no word has isn't bare
 

@@ -1,14 +1,14 @@
 -- Laws of writing declarations.
-use Rattle.std.proofs.Common.{◌≡◌, ℕ, ℤ, pos, Bool, true, false, List, [], ◌∷◌, ◌++◌, Option, Some, None, refl, sym, ◌∙◌, ap, codes, append-nil}
+use Rattle.std.proofs.Common.{◌≡◌, ℕ, ℤ, pos, Bool, true, false, List, [], ◌∷◌, ◌++◌, Option, Some, None, refl, sym, ◌∙◌, ap, codes}
 use Rattle.std.specs.Prelude.{◌-ℤ◌}
 use Rattle.std.specs.Fmt.{signed_decimal}
-use Rattle.vast_literal.specs.Tree.{Dialect, VerilogDialect, SystemVerilogDialect, ExprTree, TypeTree, ScalarTree, VectorTree, IntegerTree, IntTree, ExternalTree, PackageTree, PackedTree, UnpackedTree, Kind, RegKind, WireKind, LogicKind, IntegerKind, IntKind, UserKind, UntypedEnumKind, GenvarKind, Declaration, PortTree, PortDirection, InputDirection, OutputDirection, InOutDirection, MaybeType, Untyped, Typed, ParameterPortTree}
-use Rattle.vast_print.specs.Printed.{Printed, first_fault, plain_text, ◌⊕◌, gapped, spaced, wrapped}
+use Rattle.vast_literal.specs.Tree.{Dialect, ExprTree, TypeTree, ScalarTree, VectorTree, IntegerTree, IntTree, ExternalTree, PackageTree, Kind, RegKind, WireKind, LogicKind, IntegerKind, IntKind, UserKind, UntypedEnumKind, GenvarKind, PortTree, PortDirection, InputDirection, OutputDirection, InOutDirection, Untyped, Typed}
+use Rattle.vast_print.specs.Printed.{Printed, plain_text, ◌⊕◌, gapped, spaced, wrapped}
 use Rattle.vast_print.specs.Page.{written, written_lines, beside_lines}
 use Rattle.vast_print.specs.Ink.{Ink, word, pour, pour_lines, hang_lines, stop}
 use Rattle.vast_print.specs.Levels.{limit_wraps}
 use Rattle.vast_print.specs.Text.{expr_text, package_text}
-use Rattle.vast_print.specs.Declaration.{base_of, packed_ranges, packed_text, unpacked_ranges, unpacked_text, limit_text, signed_word, unsigned_word, joined, based_text, type_text, name_text, kind_word, declaration_text, port_declaration_text, port_kind, base_kind}
+use Rattle.vast_print.specs.Declaration.{base_of, packed_text, unpacked_text, limit_text, signed_word, unsigned_word, joined, based_text, type_text, name_text, kind_word, declaration_text, port_declaration_text, base_kind}
 use Rattle.vast_print.specs.Layout.{port_text, parameter_port_text, direction_word}
 use Rattle.vast_print.specs.Words.{has_text, kind_opening, signed_opening, unsigned_opening, parameter_opening}
 use Rattle.vast_print.proofs.InkLaws.{pour-then, pour-empty, pour-word}

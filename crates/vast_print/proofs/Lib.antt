@@ -32,3 +32,4 @@ pub mod FunctionReads
 pub mod LoopReads
 pub mod MemberReads
 pub mod FileReads
+pub mod Derivations

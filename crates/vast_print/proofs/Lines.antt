@@ -4,7 +4,7 @@ use Rattle.std.proofs.lemmas.Str.Pattern.{IsSplitOnceResult, split_parts}
 use Rattle.vast_print.specs.declared.refusal.Refusal.{Refusal}
 use Rattle.vast_print.specs.Printed.{first_fault}
 use Rattle.vast_print.specs.Page.{Line, print_lines, indent, one_line, inner_lines, lead_lines, beside_lines, written_lines, note, commented_lines}
-use Rattle.vast_print.specs.Draft.{Draft, whole, unwritten}
+use Rattle.vast_print.specs.Draft.{Draft, whole}
 use Rattle.vast_print.specs.Ink.{Ink, Wet, Stopped, margin, word, next, stop, hang_lines, pour_lines}
 
 pub word-word : (k : Ink) (a b : List ℕ) → word (word k a) b ≡ word k (a ++ b)

@@ -1,20 +1,19 @@
 -- Laws of writing lists of parts in a loop: what the next part leaves, and where the list ends.
-use Rattle.std.proofs.Common.{◌≡◌, ◌<◌, ◌≤◌, ℕ, zero, suc, ◌+◌, Bool, true, false, ltb, List, [], ◌∷◌, length, get_or, map, drop, refl, sym, ◌∙◌, ap, codes, arith, add-one}
+use Rattle.std.proofs.Common.{◌≡◌, ◌<◌, ◌≤◌, ℕ, zero, suc, ◌+◌, true, ltb, List, [], ◌∷◌, length, get_or, map, drop, sym, ◌∙◌, ap, codes, arith, add-one}
 use Rattle.std.proofs.lemmas.List.{drop_all}
 use Rattle.std.proofs.lemmas.Bool.{lt-ltb}
 use Rattle.std.proofs.lemmas.Bool.Decides.{nat_tests}
-use Rattle.vast_literal.specs.Tree.{Dialect, Declaration, ExprTree, Exprs, NoExprs, MoreExprs, StatementTree, Statements, NoStatements, MoreStatements, Alternates, ElseIf, CaseWord, MaybeExpr, CaseArms, NoCaseArms, CaseArm, MemberTree, Members, NoMembers, MoreMembers, FileItemTree}
+use Rattle.vast_literal.specs.Tree.{Dialect, Declaration, ExprTree, StatementTree, Statements, NoStatements, MoreStatements, Alternates, ElseIf, CaseWord, MaybeExpr, CaseArms, NoCaseArms, CaseArm, MemberTree, Members, NoMembers, MoreMembers}
 use Rattle.vast_print.specs.Printed.{Printed, plain_text, ◌⊕◌}
-use Rattle.vast_print.specs.Page.{Page, no_lines, lead, above, beside, written}
+use Rattle.vast_print.specs.Page.{lead, written}
 use Rattle.vast_print.specs.Ink.{Ink, word, next, hang, pour}
-use Rattle.vast_print.specs.Text.{expr_text, list_text, more_text}
+use Rattle.vast_print.specs.Text.{expr_text}
 use Rattle.vast_print.specs.Statements.{statement_page, statements_page, block_page, alternates_page, arms_page, arm_page}
-use Rattle.vast_print.specs.Members.{entries_page, member_page, members_page, input_text, inputs_text, more_inputs_text, events_text, more_events_text, local_page, locals_page}
-use Rattle.vast_print.specs.Layout.{item_page, items_page}
-use Rattle.vast_print.specs.Words.{comma, separator, else_if_opening}
+use Rattle.vast_print.specs.Members.{entries_page, member_page, members_page, local_page, locals_page}
+use Rattle.vast_print.specs.Words.{comma, else_if_opening}
 use Rattle.vast_print.proofs.Lines.{word-nothing}
-use Rattle.vast_print.proofs.InkLaws.{hang-none, hang-above, hang-lead, pour-none, pour-beside, pour-then, pour-empty}
-use Rattle.vast_print.proofs.WordLaws.{words, pour-comma}
+use Rattle.vast_print.proofs.InkLaws.{hang-none, hang-above, hang-lead, pour-then}
+use Rattle.vast_print.proofs.WordLaws.{pour-comma}
 use Rattle.vast_print.proofs.StatementLaws.{hang-arms-none, hang-arms, pour-else-if-arm}
 
 -- the entries of a list of parts

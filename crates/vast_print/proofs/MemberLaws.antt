@@ -1,9 +1,9 @@
 -- Laws of writing the members of modules and loops, one for each case.
-use Rattle.std.proofs.Common.{◌≡◌, ◌<◌, ◌≤◌, ℕ, zero, suc, ◌+◌, Bool, true, false, List, [], ◌∷◌, length, get_or, map, drop, refl, sym, ◌∙◌, ap, codes, arith, add-one, Option, Some, None}
-use Rattle.vast_literal.specs.Tree.{Dialect, ExprTree, MaybeExpr, NoExpr, SomeExpr, Exprs, Declaration, Kind, TypeTree, LtOp, Statements, Alternates, ConditionalTree, AlwaysFFWord, AlwaysAtWord, AlwaysCombWord, ParameterName, PlainParameter, IntParameter, DefinedParameter, Connection, InstanceTree, FunctionTree}
+use Rattle.std.proofs.Common.{◌≡◌, ◌<◌, ℕ, ◌+◌, Bool, true, false, List, [], ◌∷◌, length, map, refl, ◌∙◌, codes, arith, Option, Some, None}
+use Rattle.vast_literal.specs.Tree.{Dialect, ExprTree, NoExpr, SomeExpr, Exprs, Declaration, LtOp, Statements, Alternates, ConditionalTree, AlwaysFFWord, AlwaysAtWord, AlwaysCombWord, ParameterName, PlainParameter, IntParameter, Connection, InstanceTree, FunctionTree}
 use Rattle.vast_literal.specs.Tree.{MemberTree, DeclarationMember, AssignMember, ParameterMember, CommentMember, BlankMember, InlineMember, MacroMember, InstanceMember, AlwaysMember, ConditionalMember, FunctionMember, LoopMember, Members, NoMembers, MoreMembers}
-use Rattle.vast_print.specs.Printed.{Printed, plain_text, ◌⊕◌, wrapped}
-use Rattle.vast_print.specs.Page.{Page, line, inner, above, beside, written, commented}
+use Rattle.vast_print.specs.Printed.{plain_text, wrapped}
+use Rattle.vast_print.specs.Page.{written, commented}
 use Rattle.vast_print.specs.Ink.{Ink, word, next, hang, pour}
 use Rattle.vast_print.specs.Levels.{right_child_wraps}
 use Rattle.vast_print.specs.Text.{expr_text}

@@ -1,19 +1,16 @@
 -- Laws of writing files and modules.
-use Rattle.std.proofs.Common.{◌≡◌, ◌<◌, ◌≤◌, ℕ, zero, suc, ◌+◌, Bool, true, false, ltb, List, [], ◌∷◌, length, get_or, map, drop, refl, sym, ◌∙◌, ap, codes, arith, add-one}
+use Rattle.std.proofs.Common.{◌≡◌, ◌<◌, ◌≤◌, ℕ, zero, suc, ◌+◌, ltb, List, [], ◌∷◌, length, get_or, map, drop, refl, ◌∙◌, ap, codes, arith, add-one}
 use Rattle.std.proofs.lemmas.List.{drop_all}
-use Rattle.std.proofs.lemmas.Bool.{lt-ltb}
-use Rattle.std.proofs.lemmas.Bool.Decides.{nat_tests}
-use Rattle.vast_literal.specs.Tree.{Dialect, Members, NoMembers, MoreMembers, MemberTree, PortTree, ParameterPortTree, ModuleTree, FileItemTree, ModuleItem, IncludeItem, CommentItem, BlankItem, FileTree}
-use Rattle.vast_print.specs.Printed.{Printed, plain_text, ◌⊕◌}
-use Rattle.vast_print.specs.Page.{Page, no_lines, line, inner, lead, above, written, commented}
-use Rattle.vast_print.specs.Ink.{Ink, word, next, hang, pour, hang_lines, pour_lines, stop}
+use Rattle.vast_literal.specs.Tree.{Dialect, Members, NoMembers, MoreMembers, MemberTree, PortTree, ParameterPortTree, ModuleTree, FileItemTree, ModuleItem, IncludeItem, CommentItem, BlankItem}
+use Rattle.vast_print.specs.Printed.{plain_text}
+use Rattle.vast_print.specs.Page.{written, commented}
+use Rattle.vast_print.specs.Ink.{Ink, word, next, hang, pour}
 use Rattle.vast_print.specs.Words.{comma, endmodule_word, include_opening}
-use Rattle.vast_print.specs.Members.{entries_page, members_page}
-use Rattle.vast_print.specs.Layout.{port_text, parameter_port_text, ports_page, parameter_ports_page, opening_page, header_page, body_page, module_page, item_page, items_page, layout}
+use Rattle.vast_print.specs.Members.{members_page}
+use Rattle.vast_print.specs.Layout.{port_text, parameter_port_text, ports_page, parameter_ports_page, opening_page, header_page, body_page, module_page, item_page, items_page}
 use Rattle.vast_print.proofs.ListLaws.{entries-end, entries-step}
-use Rattle.vast_print.proofs.InkLaws.{hang-line, pour-line, hang-none, hang-blank, hang-above, hang-inner, hang-written, hang-lead, pour-then, pour-empty}
-use Rattle.vast_print.proofs.Lines.{word-nothing}
-use Rattle.vast_print.proofs.WordLaws.{words, pour-comma}
+use Rattle.vast_print.proofs.InkLaws.{hang-line, hang-none, hang-blank, hang-above, hang-inner, hang-written, pour-then}
+use Rattle.vast_print.proofs.WordLaws.{words}
 
 -- items of a file and members, one below the other
 

@@ -1,17 +1,17 @@
 -- Worked declarations, members and files.
-use Rattle.std.proofs.Common.{◌≡◌, ℕ, ℤ, pos, Bool, true, false, List, [], ◌∷◌, ◌++◌, Option, Some, None, refl, codes}
+use Rattle.std.proofs.Common.{◌≡◌, ℕ, pos, Bool, true, false, List, [], ◌∷◌, Some, None, refl, codes}
 use Rattle.std.specs.Fmt.{digits}
-use Rattle.vast_literal.specs.Tree.{Dialect, VerilogDialect, SystemVerilogDialect, AddOp, LogicalOrOp, ExprTree, NameTree, LiteralTree, BinaryTree, CallTree}
-use Rattle.vast_literal.specs.Tree.{TypeTree, ScalarTree, VectorTree, IntegerTree, ExternalTree, PackedTree, UnpackedTree, Untyped, Typed, Kind, WireKind, RegKind, LogicKind, UserKind, Declaration}
-use Rattle.vast_literal.specs.Tree.{Blocking, Nonblocking, CaseZ, StatementTree, AssignTree, CommentTree, ConditionalTree, CaseTree, Statements, NoStatements, MoreStatements, NoElse, ElseIf, Else, NoCaseArms, CaseArm, NoExpr, SomeExpr}
-use Rattle.vast_literal.specs.Tree.{MemberTree, AssignMember, DeclarationMember, CommentMember, BlankMember, InstanceMember, AlwaysMember, FunctionMember, LoopMember, AlwaysCombWord, NoExprs, MoreExprs, Members, NoMembers, MoreMembers, InputDirection, OutputDirection, PortTree, ParameterPortTree, ModuleTree, FileItemTree, ModuleItem, IncludeItem, BlankItem, CommentItem, FileTree}
-use Rattle.vast_print.specs.Printed.{Printed, plain_text, ◌⊕◌, wrapped, spaced}
-use Rattle.vast_print.specs.Text.{expr_text, list_text, more_text}
+use Rattle.vast_literal.specs.Tree.{VerilogDialect, SystemVerilogDialect, LogicalOrOp, ExprTree, NameTree, LiteralTree, BinaryTree}
+use Rattle.vast_literal.specs.Tree.{TypeTree, ScalarTree, VectorTree, PackedTree, UnpackedTree, Untyped, WireKind, RegKind}
+use Rattle.vast_literal.specs.Tree.{Blocking, CaseZ, AssignTree, CommentTree, ConditionalTree, CaseTree, Statements, NoStatements, MoreStatements, ElseIf, Else, NoCaseArms, CaseArm, NoExpr, SomeExpr}
+use Rattle.vast_literal.specs.Tree.{AssignMember, DeclarationMember, BlankMember, InstanceMember, AlwaysMember, FunctionMember, LoopMember, AlwaysCombWord, NoExprs, Members, NoMembers, MoreMembers, InputDirection, OutputDirection, PortTree, ModuleItem, IncludeItem, BlankItem, CommentItem, FileTree}
+use Rattle.vast_print.specs.Printed.{plain_text, ◌⊕◌, wrapped, spaced}
+use Rattle.vast_print.specs.Text.{expr_text}
 use Rattle.vast_print.specs.Declaration.{base_of, is_external, packed_ranges, packed_text, unpacked_ranges, unpacked_text, limit_text, joined, based_text, type_text, name_text, declaration_text}
 use Rattle.vast_print.specs.Page.{print_lines, print, no_lines, line, inner_lines, inner, lead_lines, lead, above, beside_lines, beside, written_lines, written, commented_lines, commented}
 use Rattle.vast_print.specs.Statements.{begin_end, statement_page, statements_page, block_page, alternates_page, arms_page}
-use Rattle.vast_print.specs.Members.{entries_page, connection_text, connections_page, instance_head_page, instance_page, always_text, input_text, inputs_text, more_inputs_text, local_page, locals_page, function_body_page, function_page, loop_text, member_page, members_page}
-use Rattle.vast_print.specs.Layout.{port_text, parameter_port_text, ports_page, parameter_ports_page, opening_page, header_page, body_page, module_page, item_page, items_page, layout}
+use Rattle.vast_print.specs.Members.{entries_page, connection_text, connections_page, instance_head_page, instance_page, always_text, input_text, inputs_text, more_inputs_text, locals_page, function_body_page, function_page, loop_text, member_page, members_page}
+use Rattle.vast_print.specs.Layout.{port_text, ports_page, opening_page, header_page, body_page, module_page, item_page, items_page, layout}
 
 abbrev name : List ℕ → ExprTree
 name w = NameTree w Untyped

@@ -1,14 +1,12 @@
 -- Worked texts and pages.
-use Rattle.std.proofs.Common.{◌≡◌, ℕ, ℤ, pos, negsuc, Bool, true, false, List, [], ◌∷◌, Option, Some, None, refl, codes}
+use Rattle.std.proofs.Common.{◌≡◌, ℕ, ℤ, pos, negsuc, false, List, [], Some, None, refl, codes}
 use Rattle.std.specs.Fmt.{digits}
-use Rattle.vast_literal.specs.Tree.{Dialect, VerilogDialect, SystemVerilogDialect, NegateOp, AndReduceOp, OrReduceOp, SubOp, PowerOp, LogicalOrOp, ExprTree, NameTree, LiteralTree, UnaryTree, BinaryTree, TernaryTree, IndexTree, SliceTree, PartSelectTree, WidthCastTree, TypeCastTree}
-use Rattle.vast_literal.specs.Tree.{TypeTree, ScalarTree, VectorTree, IntegerTree, ExternalTree, PackedTree, UnpackedTree, Untyped, Typed, Kind, WireKind, RegKind, LogicKind, Declaration}
-use Rattle.vast_literal.specs.Tree.{Blocking, Nonblocking, CaseZ, StatementTree, AssignTree, CommentTree, ConditionalTree, CaseTree, Statements, NoStatements, MoreStatements, NoElse, ElseIf, Else, NoCaseArms, CaseArm, NoExpr, SomeExpr}
-use Rattle.vast_literal.specs.Tree.{AssignMember, DeclarationMember, CommentMember, InstanceMember, AlwaysMember, FunctionMember, LoopMember, AlwaysCombWord, NoExprs, MoreExprs, NoMembers, MoreMembers, InputDirection, OutputDirection, PortTree, ModuleTree, ModuleItem, IncludeItem, BlankItem, CommentItem, FileTree}
+use Rattle.vast_literal.specs.Tree.{NegateOp, AndReduceOp, OrReduceOp, SubOp, PowerOp, LogicalOrOp, ExprTree, NameTree, LiteralTree, UnaryTree, BinaryTree, TernaryTree, IndexTree, SliceTree, PartSelectTree, WidthCastTree, TypeCastTree}
+use Rattle.vast_literal.specs.Tree.{ScalarTree, VectorTree, Untyped, Typed}
 use Rattle.vast_print.specs.declared.refusal.Refusal.TheVariants.{ScalarIndex, ScalarSlice}
-use Rattle.vast_print.specs.Printed.{plain_text, refused, ◌⊕◌, wrapped, spaced}
+use Rattle.vast_print.specs.Printed.{plain_text, refused, ◌⊕◌, wrapped}
 use Rattle.vast_print.specs.Bare.{is_bare}
-use Rattle.vast_print.specs.Text.{elided, cast_to, width_cast, expr_text, list_text, more_text, type_cast}
+use Rattle.vast_print.specs.Text.{elided, cast_to, width_cast, expr_text, type_cast}
 
 -- names and numbers
 abbrev name : List ℕ → ExprTree

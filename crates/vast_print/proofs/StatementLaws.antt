@@ -1,13 +1,13 @@
 -- Laws of writing statements, one for each case.
-use Rattle.std.proofs.Common.{◌≡◌, ℕ, ◌+◌, Bool, true, false, List, [], ◌∷◌, refl, sym, ◌∙◌, ap, codes}
+use Rattle.std.proofs.Common.{◌≡◌, ℕ, ◌+◌, Bool, true, false, List, [], refl, sym, ◌∙◌, codes}
 use Rattle.vast_literal.specs.Tree.{ExprTree, MaybeExpr, NoExpr, SomeExpr, AssignForm, Blocking, Nonblocking, Continuous, CaseWord, CaseExact, CaseZ, CaseX}
 use Rattle.vast_literal.specs.Tree.{StatementTree, AssignTree, CommentTree, BlankTree, InlineTree, ConditionalTree, CaseTree, Statements, NoStatements, MoreStatements, Alternates, NoElse, ElseIf, Else, CaseArms, NoCaseArms, CaseArm}
-use Rattle.vast_print.specs.Printed.{Printed, plain_text, ◌⊕◌}
-use Rattle.vast_print.specs.Page.{Page, no_lines, line, inner, above, beside, written, commented}
+use Rattle.vast_print.specs.Printed.{plain_text}
+use Rattle.vast_print.specs.Page.{line, inner, above, written, commented}
 use Rattle.vast_print.specs.Ink.{Ink, word, next, hang, pour}
 use Rattle.vast_print.specs.Text.{expr_text}
 use Rattle.vast_print.specs.Words.{else_if_opening, begin_end_word}
-use Rattle.vast_print.specs.Statements.{assign_opening, assign_sign, assign_text, case_word, unique_word, label_text, is_bare_arm, begin_end, statement_page, statements_page, block_page, alternates_page, arms_page, arm_body_page, arm_page}
+use Rattle.vast_print.specs.Statements.{assign_opening, assign_sign, case_word, unique_word, is_bare_arm, begin_end, statement_page, statements_page, block_page, alternates_page, arms_page, arm_body_page, arm_page}
 use Rattle.vast_print.proofs.InkLaws.{hang-line, pour-line, hang-none, pour-none, hang-blank, hang-above, pour-above, pour-above-none, pour-beside, hang-beside, hang-line-above, hang-inner, hang-written, pour-then, pour-empty, pour-word}
 use Rattle.vast_print.proofs.Lines.{word-word}
 use Rattle.vast_print.proofs.WordLaws.{words}

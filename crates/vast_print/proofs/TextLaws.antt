@@ -1,20 +1,19 @@
 -- Laws of writing expressions, one for each case.
-use Rattle.std.proofs.Common.{◌≡◌, ℕ, ℤ, Bool, true, false, not, List, [], ◌∷◌, ◌++◌, refl, sym, ◌∙◌, ap, codes, Option, Some}
+use Rattle.std.proofs.Common.{◌≡◌, ℕ, ℤ, Bool, true, false, not, List, refl, ◌∙◌, ap, codes, Option}
 use Rattle.std.specs.Prelude.{◌&&◌}
 use Rattle.std.specs.Fmt.{signed_decimal}
 use Rattle.vast_literal.specs.Tree.{UnaryOp, NegateOp, BitwiseNotOp, LogicalNotOp, AndReduceOp, OrReduceOp, XorReduceOp}
 use Rattle.vast_literal.specs.Tree.{BinaryOp, AddOp, SubOp, MulOp, DivOp, ModOp, PowerOp, BitwiseAndOp, BitwiseOrOp, BitwiseXorOp, ShllOp, ShraOp, ShrlOp, NeOp, CaseNeOp, EqOp, CaseEqOp, GeOp, GtOp, LeOp, LtOp, LogicalAndOp, LogicalOrOp, NeXOp, EqXOp}
 use Rattle.vast_literal.specs.Tree.{ExprTree, NameTree, LiteralTree, StringTree, UnaryTree, BinaryTree, TernaryTree, IndexTree, SliceTree, PartSelectTree, ConcatTree, PatternTree, WidthCastTree, TypeCastTree, PosEdgeTree, NegEdgeTree, MacroTree, CallTree, MissingExpr}
-use Rattle.vast_literal.specs.Tree.{TypeTree, ScalarTree, VectorTree, IntegerTree, IntTree, ExternalTree, PackageTree, MaybeType, MaybeExpr, NoExpr, SomeExpr, Exprs, NoExprs, MoreExprs, MaybeExprs, NoArguments, SomeArguments}
-use Rattle.vast_print.specs.declared.refusal.Refusal.{Refusal}
+use Rattle.vast_literal.specs.Tree.{TypeTree, ScalarTree, VectorTree, IntegerTree, IntTree, ExternalTree, PackageTree, MaybeType, MaybeExpr, NoExpr, SomeExpr, Exprs, MaybeExprs, NoArguments, SomeArguments}
 use Rattle.vast_print.specs.declared.refusal.Refusal.TheVariants.{ScalarIndex, ScalarSlice}
-use Rattle.vast_print.specs.Printed.{Printed, plain_text, refused, ◌⊕◌, wrapped}
+use Rattle.vast_print.specs.Printed.{Printed, plain_text, wrapped}
 use Rattle.vast_print.specs.Page.{written}
 use Rattle.vast_print.specs.Draft.{Draft}
 use Rattle.vast_print.specs.Ink.{Ink, Wet, Stopped, word, pour}
 use Rattle.vast_print.specs.Levels.{unary_sign_text, binary_sign_text, is_scalar_name, is_zero, unary_wraps, left_child_wraps, right_child_wraps, ternary_wraps, select_wraps}
 use Rattle.vast_print.specs.Bare.{is_bare, is_bare_head}
-use Rattle.vast_print.specs.Text.{elided, cast_to, width_cast, sign_cast, scalar_cast, number_cast, package_text, expr_text, arguments_text, replicated, list_text, more_text, type_cast}
+use Rattle.vast_print.specs.Text.{elided, cast_to, width_cast, package_text, expr_text, arguments_text, replicated, list_text, type_cast}
 use Rattle.vast_print.specs.Words.{cast_sign_word, scalar_cast_opening, scalar_cast_closing, number_cast_opening, number_cast_closing}
 use Rattle.vast_print.proofs.InkLaws.{pour-then, pour-empty, pour-word, pour-refused}
 use Rattle.vast_print.proofs.Lines.{word-word}

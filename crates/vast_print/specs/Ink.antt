@@ -1,5 +1,5 @@
 -- What is written so far, and what becomes of it where a page is written behind it.
-use Rattle.std.specs.Prelude.{◌≡◌, ℕ, ◌+◌, ◌*◌, List, [], ◌∷◌, ◌++◌, Bool, true, false, cond, replicate, Option, Some, None, Result, Ok, Err}
+use Rattle.std.specs.Prelude.{◌≡◌, ℕ, ◌+◌, ◌*◌, List, [], ◌∷◌, ◌++◌, true, false, cond, replicate, Option, Some, None, Result, Ok, Err}
 use Rattle.vast_print.specs.declared.refusal.Refusal.{Refusal}
 use Rattle.vast_print.specs.declared.refusal.PrintFault.{PrintFault}
 use Rattle.vast_print.specs.declared.refusal.PrintFault.TheVariants.{Refused, Memory}

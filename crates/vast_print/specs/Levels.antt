@@ -1,8 +1,8 @@
 -- Signs, levels and the places where parentheses stand.
-use Rattle.std.specs.Prelude.{ℕ, ℤ, pos, Bool, true, false, ◌&&◌, ◌||◌, ◌==◌, not, List, [], ◌∷◌, Option, Some, None, codes, nat_lt, nat_le}
+use Rattle.std.specs.Prelude.{ℕ, ℤ, pos, Bool, true, false, ◌||◌, ◌==◌, List, [], ◌∷◌, Option, Some, None, codes, nat_lt, nat_le}
 use Rattle.vast_literal.specs.Tree.{UnaryOp, NegateOp, BitwiseNotOp, LogicalNotOp, AndReduceOp, OrReduceOp, XorReduceOp}
 use Rattle.vast_literal.specs.Tree.{BinaryOp, AddOp, SubOp, MulOp, DivOp, ModOp, PowerOp, BitwiseAndOp, BitwiseOrOp, BitwiseXorOp, ShllOp, ShraOp, ShrlOp, NeOp, CaseNeOp, EqOp, CaseEqOp, GeOp, GtOp, LeOp, LtOp, LogicalAndOp, LogicalOrOp, NeXOp, EqXOp}
-use Rattle.vast_literal.specs.Tree.{ExprTree, NameTree, LiteralTree, StringTree, UnaryTree, BinaryTree, TernaryTree, IndexTree, SliceTree, PartSelectTree, ConcatTree, PatternTree, WidthCastTree, TypeCastTree, PosEdgeTree, NegEdgeTree, MacroTree, CallTree, MissingExpr}
+use Rattle.vast_literal.specs.Tree.{ExprTree, NameTree, LiteralTree, UnaryTree, BinaryTree, TernaryTree, WidthCastTree}
 use Rattle.vast_literal.specs.Tree.{TypeTree, ScalarTree, MaybeType, Untyped, Typed}
 
 abbrev pub unary_sign_text : UnaryOp → List ℕ

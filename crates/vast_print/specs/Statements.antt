@@ -1,6 +1,6 @@
 -- The pages of statements.
 use Rattle.std.specs.Prelude.{ℕ, Bool, true, false, List, [], codes, cond}
-use Rattle.vast_literal.specs.Tree.{ExprTree, MaybeExpr, NoExpr, SomeExpr}
+use Rattle.vast_literal.specs.Tree.{MaybeExpr, NoExpr, SomeExpr}
 use Rattle.vast_literal.specs.Tree.{AssignForm, Blocking, Nonblocking, Continuous, CaseWord, CaseExact, CaseZ, CaseX}
 use Rattle.vast_literal.specs.Tree.{StatementTree, AssignTree, CommentTree, BlankTree, InlineTree, ConditionalTree, CaseTree, Statements, NoStatements, MoreStatements, Alternates, NoElse, ElseIf, Else, CaseArms, NoCaseArms, CaseArm}
 use Rattle.vast_print.specs.Printed.{Printed, plain_text, ◌⊕◌}

@@ -1,6 +1,6 @@
 -- The words that the writer writes between the parts of a tree.
 use Rattle.std.specs.Prelude.{ℕ, zero, suc, Bool, true, false, List, [], ◌∷◌, ◌++◌, codes}
-use Rattle.vast_literal.specs.Tree.{Kind, RegKind, WireKind, LogicKind, IntegerKind, IntKind, UserKind, UntypedEnumKind, GenvarKind, CaseWord, CaseExact, CaseZ, CaseX, AlwaysWord, AlwaysFFWord, AlwaysAtWord, AlwaysCombWord}
+use Rattle.vast_literal.specs.Tree.{Kind, RegKind, WireKind, LogicKind, IntegerKind, IntKind, UserKind, UntypedEnumKind, GenvarKind}
 
 -- whether a text isn't empty
 abbrev pub has_text : List ℕ → Bool

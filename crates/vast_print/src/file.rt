@@ -1,6 +1,6 @@
 //! Whole files, and single expressions.
 
-ghost use Rattle.std.specs.Prelude.{◌≡◌, map};
+ghost use Rattle.std.specs.Prelude.{◌≡◌, map, IfOk, string_bytes};
 ghost use Rattle.vast_core.specs.Kinds.{dialect_of};
 ghost use Rattle.vast_core.specs.Records.{file_entry};
 ghost use Rattle.vast_core.specs.Bench.{OwnsExpr, tree_of};
@@ -8,6 +8,7 @@ ghost use Rattle.vast_core.specs.Sound.{EntrySound};
 ghost use Rattle.vast_core.specs.FileTree.{tree, item_tree};
 ghost use Rattle.vast_core.specs.View.{bench};
 ghost use Rattle.vast_literal.specs.Tree.{IncludeItem};
+ghost use Rattle.vast_print.specs.Derived.{DerivesIfPlain};
 ghost use Rattle.vast_print.specs.Emits.{Emits, EmitsText, Faults};
 ghost use Rattle.vast_print.specs.Ink.{Writes, Wet, hang, pour, next};
 ghost use Rattle.vast_print.specs.Page.{written};
@@ -87,14 +88,17 @@ pub fn print_file(ast: &Ast) -> Result<String, VastFault>
     }
 }
 
-/// The text of one expression.
+/// The text of one expression. Where its printed names are plain and it has no edges, the grammar derives its normal form
+/// from the text, and no other tree.
 ///
 /// # Errors
 /// As [`print_file`].
 pub fn print_expr(ast: &Ast, e: Expr) -> Result<String, VastFault>
     requires { OwnsExpr (bench ast.now) e }
-    ensures { EmitsText (expr_text (tree_of (bench ast.now) e)) result }
+    ensures text { EmitsText (expr_text (tree_of (bench ast.now) e)) result }
+    ensures derived { IfOk result (λ text. DerivesIfPlain (string_bytes text) (tree_of (bench ast.now) e)) }
 {
+    ast.trees_are_well_formed();
     let alloc = ast.allocator();
     let mut out = Writer::new(alloc);
     match print_line(ast, e, &mut out) {

@@ -2,7 +2,7 @@
 //! over all token lists, over the grammar alone.
 
 ghost use Rattle.vast_literal.specs.Grammar.{OneExpression};
-ghost use Rattle.vast_print.specs.Derived.{PrintedExpressions, PrintedFiles};
+ghost use Rattle.vast_print.specs.Derived.{PrintedExpressions, EqualTexts, PrintedFiles};
 ghost use Rattle.vast_literal.specs.FileGrammar.{OneDeclaration, OneStatement, OneMember, OneFile};
 
 /// A token list spells at most one expression.
@@ -33,6 +33,11 @@ pub fn one_file()
 /// The text of a plain expression derives its normal form, and no other.
 pub fn printed_expressions()
     ensures { PrintedExpressions }
+{}
+
+/// Plain expressions of equal text have equal normal forms.
+pub fn equal_texts()
+    ensures { EqualTexts }
 {}
 
 /// The printed layout of a plain file derives its normal form, and no other.

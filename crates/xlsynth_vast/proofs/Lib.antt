@@ -1,1 +1,6 @@
 pub mod Selectors
+pub mod Widths
+pub mod Taken
+pub mod Hoisted
+pub mod Connected
+pub mod Inspected

@@ -1,5 +1,5 @@
 -- The text `bits[64]:n` is a literal of n.
-use Rattle.std.proofs.Common.{◌≡◌, ℕ, ◌+◌, ◌-◌, ◌^◌, ◌<◌, ◌≤◌, List, [], ◌∷◌, ◌++◌, length, Bool, true, false, Option, Some, None, Result, Ok, Err, codes, refl, ap, ◌∙◌, arith, lit≤, eqb, ltb}
+use Rattle.std.proofs.Common.{◌≡◌, ℕ, ◌^◌, ◌<◌, ◌≤◌, List, [], ◌∷◌, ◌++◌, Bool, true, false, Some, None, Result, Ok, codes, refl, ap, arith, lit≤, eqb, ltb}
 use Rattle.std.specs.Prelude.{if◌then◌else◌}
 use Rattle.std.specs.Fmt.{decimal}
 use Rattle.std.specs.Int.{IsInRange}
@@ -13,7 +13,6 @@ use Rattle.vast_literal.specs.declared.error.VastFault.TheVariants.{Refused, Mem
 use Rattle.vast_literal.specs.declared.literal.LiteralFormat.TheVariants.{Hex}
 use Rattle.vast_literal.specs.Fault.{OnlyRefusedBy}
 use Rattle.vast_literal.specs.LiteralText.{spelled}
-use Rattle.vast_literal.specs.Digits.{is_numeral, number_in}
 use Rattle.vast_literal.proofs.Decimals.{written-decimal}
 
 parts : (ds : List ℕ) → typed_parts (codes "bits[64]:" ++ ds) ≡ Some (codes "64", ds)

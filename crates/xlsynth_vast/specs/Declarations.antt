@@ -15,10 +15,10 @@ abbrev pub listed_names : List (List ℕ) → List ℕ
 listed_names names = join_by (λ name. name) (codes ", ") names
 
 -- The words that refuse a declaration of this kind, and name all that the module has.
-abbrev pub already_declared : (kind name : List ℕ) (names : List (List ℕ)) → List ℕ
+unfoldable pub already_declared : (kind name : List ℕ) (names : List (List ℕ)) → List ℕ
 already_declared kind name names =
-    codes "FAILED_PRECONDITION: Attempted to declare " ++ kind ++ codes " with name '" ++ name ++
-    codes "' multiple times in the same module. Already defined: [" ++ listed_names names ++ codes "]"
+    codes "FAILED_PRECONDITION: Attempted to declare " ++ (kind ++ (codes " with name '" ++ (name ++
+    (codes "' multiple times in the same module. Already defined: [" ++ (listed_names names ++ codes "]")))))
 
 -- A name may be declared unless it is one of those taken.
 abbrev pub unless_taken : (kind name : List ℕ) (names : List (List ℕ)) → Result (Unit {0}) (List ℕ)

@@ -1,6 +1,6 @@
 -- What inspections read off a file.
 use Rattle.std.specs.Prelude.{ℕ, ℤ, pos, ◌^◌, int_lt, Bool, true, false, List, [], filter, Option, Some, None, option_map, slice_get, if◌then◌else◌}
-use Rattle.vast_literal.specs.Tree.{ExprTree, NameTree, TypeTree}
+use Rattle.vast_literal.specs.Tree.{ExprTree, NameTree}
 use Rattle.vast_core.specs.declared.handle.VastModule.{VastModule}
 use Rattle.vast_core.specs.declared.handle.ModulePort.{ModulePort}
 use Rattle.vast_core.specs.declared.handle.VastDataType.{VastDataType}

@@ -7,3 +7,4 @@ pub mod Declarations
 pub mod Inspections
 pub mod Instances
 pub mod Laws
+pub mod Widths

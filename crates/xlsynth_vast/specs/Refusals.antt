@@ -1,7 +1,7 @@
 -- Calls that may be refused by name.
 use Rattle.std.specs.Prelude.{◌≡◌, ℕ, List, Result, Ok, Err, IsOkAnd}
 use Rattle.vast_literal.specs.declared.error.VastFault.{VastFault}
-use Rattle.vast_literal.specs.Fault.{RefusedBy}
+use Rattle.vast_literal.specs.Fault.{RefusedBy, OnlyRefusedBy}
 use Rattle.vast_core.specs.Bench.{Bench}
 
 -- The rule allows the call, which answers this and leaves this; or it is refused, exactly as the rule says; or memory
@@ -9,3 +9,8 @@ use Rattle.vast_core.specs.Bench.{Bench}
 abbrev pub MayBuild : {A B : Type 0} → (old new : Bench) → Result A VastFault → Result B (List ℕ) → A → (B → Bench) → Type 0
 MayBuild old new (Ok x) rule answer after = IsOkAnd rule (λ made. (x ≡ answer) × (new ≡ after made))
 MayBuild old new (Err fault) rule answer after = RefusedBy rule fault × (new ≡ old)
+
+-- A call that changes nothing answers what the rule answers; or its refusal, for whose words alone memory was wanted.
+abbrev pub AnswersBy : {A : Type 0} → Result A (List ℕ) → Result A VastFault → Type 0
+AnswersBy rule (Ok x) = rule ≡ Ok x
+AnswersBy rule (Err fault) = OnlyRefusedBy rule fault

@@ -2,19 +2,27 @@
 //!
 //! A module's ports, wires, variables and functions share one set of names; no name is declared twice.
 
-ghost use Rattle.std.specs.Prelude.{◌≡◌, Ok, IfOk, IfErr, codes, map, string_bytes};
+ghost use Rattle.std.specs.Prelude.{◌≡◌, Ok, IfOk, MatchResult, codes, map, string_bytes};
 ghost use Rattle.vast_literal.specs.Fault.{OnlyRefusedBy};
 ghost use Rattle.vast_core.specs.Bench.{OwnsModule, OwnsType, NameIsFree};
 ghost use Rattle.vast_core.specs.Growth.{Builds, next_logic_ref, with_declaration};
 ghost use Rattle.vast_core.specs.View.{bench};
 ghost use Rattle.xlsynth_vast.specs.Refusals.{MayBuild};
-ghost use Rattle.xlsynth_vast.specs.Declarations.{names_in, already_declared, unless_taken};
+ghost use Rattle.xlsynth_vast.specs.Declarations.{names_in, listed_names, already_declared, unless_taken};
 
 use crate::file::VastFile;
 use std::alloc::{AllocError, Global};
 use std::collections::BTreeSet;
 use vast_core::{DataKind, LogicRef, VastDataType, VastModule};
 use vast_literal::{VastError, VastFault};
+
+/// The names, with a comma and a space between each two.
+fn listed_names(alloc: Global, names: &BTreeSet<String>) -> Result<String, AllocError>
+    ensures { IfOk result (λ list. string_bytes list ≡ listed_names (map string_bytes names.now.keys)) }
+{
+    let taken: Vec<&str> = names.iter().map(|name| name.as_str()).collect(alloc)?;
+    taken.join(alloc, ", ")
+}
 
 /// The words that refuse a name which the module has already: they list all its names in the order of their bytes.
 fn already_declared(
@@ -25,8 +33,7 @@ fn already_declared(
 ) -> Result<String, AllocError>
     ensures { IfOk result (λ text. string_bytes text ≡ already_declared kind.now name.now (map string_bytes names.now.keys)) }
 {
-    let taken: Vec<&str> = names.iter().map(|taken| taken.as_str()).collect(alloc)?;
-    let list = taken.join(alloc, ", ")?;
+    let list = listed_names(alloc, names)?;
     format!(in alloc;
         "FAILED_PRECONDITION: Attempted to declare {kind} with name '{name}' multiple times in the same module. Already defined: [{list}]"
     )
@@ -36,8 +43,7 @@ impl VastFile {
     /// Refuses a name that the module has already, with the word for what was to be declared.
     fn refuse_taken(&self, owner: VastModule, kind: &str, name: &str) -> Result<(), VastFault>
         requires { OwnsModule (bench self.now) owner }
-        ensures free { IfOk result (λ _. unless_taken kind.now name.now (names_in (bench self.now) owner) ≡ Ok tt) }
-        ensures refused { IfErr result (λ fault. OnlyRefusedBy (unless_taken kind.now name.now (names_in (bench self.now) owner)) fault) }
+        ensures { MatchResult result (λ _. unless_taken kind.now name.now (names_in (bench self.now) owner) ≡ Ok tt) (OnlyRefusedBy (unless_taken kind.now name.now (names_in (bench self.now) owner))) }
     {
         let module = self.ast.module(owner);
         if module.name_is_free(name) {

@@ -1,9 +1,10 @@
 //! The file itself: its making, its dialect, its handles, its text.
 
-ghost use Rattle.std.specs.Prelude.{◌≡◌, ◌+◌, ◌↔◌, IsTrue, IsErr, IfOk, OnOk, OnErr};
+ghost use Rattle.std.specs.Prelude.{◌≡◌, ◌+◌, ◌↔◌, IsTrue, IsErr, IfOk, OnOk, OnErr, string_bytes};
 ghost use Rattle.vast_core.specs.Bench.{start, tree_of, OwnsExpr};
 ghost use Rattle.vast_core.specs.FileTree.{tree};
 ghost use Rattle.vast_core.specs.View.{bench};
+ghost use Rattle.vast_print.specs.Derived.{DerivesIfPlain};
 ghost use Rattle.vast_print.specs.Emits.{Emits, EmitsText};
 ghost use Rattle.vast_print.specs.Text.{expr_text};
 ghost use Rattle.vast_print.specs.Layout.{layout};
@@ -71,13 +72,15 @@ impl VastFile {
         handle.belongs_to(&self.ast)
     }
 
-    /// The text of one expression.
+    /// The text of one expression. Where its printed names are plain and it has no edges, the grammar derives its normal
+    /// form from the text, and no other tree.
     ///
     /// # Errors
     /// As [`VastFile::emit`].
     pub fn emit_expression(&self, e: &Expr) -> Result<String, VastFault>
         requires { OwnsExpr (bench self.now) e.now }
-        ensures { EmitsText (expr_text (tree_of (bench self.now) e.now)) result }
+        ensures text { EmitsText (expr_text (tree_of (bench self.now) e.now)) result }
+        ensures derived { IfOk result (λ text. DerivesIfPlain (string_bytes text) (tree_of (bench self.now) e.now)) }
     {
         print_expr(&self.ast, *e)
     }

@@ -108,7 +108,10 @@ impl VastFile {
         ensures { width_at (bench self.now) port ≡ Some result }
     {
         let data_type = self.port_data_type(port);
-        self.ast.flat_bit_count(data_type).unwrap_or(0)
+        match self.ast.flat_bit_count(data_type) {
+            Ok(bits) => bits,
+            Err(_) => 0,
+        }
     }
 
     /// The port's name as an expression, which is the file's.

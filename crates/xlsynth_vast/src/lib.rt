@@ -17,6 +17,7 @@ mod members;
 mod modules;
 mod parameters;
 mod ports;
+mod refusals;
 #[cfg(test)]
 mod tests;
 mod types;
@@ -27,6 +28,6 @@ pub use vast_core::{
     Def, Expr, FileIds, GenerateLoop, IdsSpent, Index, IndexableExpr, InlineVerilogStatement,
     Instantiation, LocalparamRef, LogicRef, MacroRef, MacroStatement, ModulePort,
     ModulePortDirection, ParameterRef, Slice, VastAlwaysBase, VastDataType, VastFileType,
-    VastFunction, VastModule, VastStatement, VastStatementBlock,
+    VastFunction, VastModule, VastStatement, VastStatementBlock, is_system_verilog_keyword,
 };
 pub use vast_literal::{LiteralFormat, VastError, VastFault};

@@ -5,10 +5,14 @@ use bench::Bench;
 use std::test::Fail;
 
 mod bench;
+mod deep;
+mod expressions;
 mod files;
+mod keywords;
 mod members;
 mod parameters;
 mod ports;
+mod types;
 
 #[test]
 fn prints_empty_files_and_modules(rt: HostRuntime) -> Result<(), Fail> {

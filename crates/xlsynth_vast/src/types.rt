@@ -8,11 +8,15 @@ ghost use Rattle.vast_core.specs.Bench.{OwnsExpr, OwnsType, tree_of, maybe_tree_
 ghost use Rattle.vast_core.specs.Growth.{Builds, next_type, with_type};
 ghost use Rattle.vast_core.specs.View.{bench};
 ghost use Rattle.xlsynth_vast.specs.Equations.{next_bit_vector, with_bit_vector};
+ghost use Rattle.xlsynth_vast.specs.Refusals.{AnswersBy};
 ghost use Rattle.xlsynth_vast.specs.Types.{with_vector_expr, with_packed, with_unpacked};
+ghost use Rattle.xlsynth_vast.specs.Widths.{declared_width, flat_bits};
 
 use crate::file::VastFile;
+use crate::refusals::{count_exceeds, no_declared_width, no_known_width, no_literal};
 use std::alloc::AllocError;
-use vast_core::{Expr, VastDataType};
+use vast_core::{BitCountFault, Expr, VastDataType, WidthFault};
+use vast_literal::VastFault;
 
 impl VastFile {
     /// The type of one bit.
@@ -177,5 +181,44 @@ impl VastFile {
         ensures { result ≡ is_signed (type_of (bench self.now) data_type) }
     {
         self.ast.type_is_signed(data_type)
+    }
+
+    /// The width that the type within the arrays declares: 1 for a scalar, and a vector's where that is a literal with
+    /// a value. A number takes no memory.
+    ///
+    /// # Errors
+    /// `Refused` where there is no such width. Any other vector is refused by `Width is not a literal: {text}` with
+    /// the text of its width, or by the refusal of that text ([`VastFile::emit_expression`]); `integer`, `int` and a
+    /// type that is declared elsewhere by `data type does not have a declared bit-vector width`. `Memory` where memory
+    /// for the words was refused.
+    pub fn type_width_as_int64(&self, data_type: VastDataType) -> Result<i64, VastFault>
+        requires { OwnsType (bench self.now) data_type }
+        ensures { AnswersBy (declared_width (type_of (bench self.now) data_type)) result }
+    {
+        match self.ast.width_value(data_type) {
+            Ok(bits) => Ok(bits),
+            Err(WidthFault::Symbolic(width)) => Err(no_literal(&self.ast, width)),
+            Err(WidthFault::Undeclared) => Err(no_declared_width(&self.ast)),
+        }
+    }
+
+    /// The bits of the type: those of the type within the arrays, times all dimensions. A scalar has 1, `integer` and
+    /// `int` have 32, a vector has its width where that is a literal with a value. A number takes no memory.
+    ///
+    /// # Errors
+    /// `Refused` where there is no such number. First come the refusals of the type within: any other vector as in
+    /// [`VastFile::type_width_as_int64`], and a type that is declared elsewhere by ``external type `{name}` has no
+    /// known bit width``, its package and `::` before the name; then `array bit count exceeds i64`. `Memory` where
+    /// memory for the words was refused.
+    pub fn type_flat_bit_count_as_int64(&self, data_type: VastDataType) -> Result<i64, VastFault>
+        requires { OwnsType (bench self.now) data_type }
+        ensures { AnswersBy (flat_bits (type_of (bench self.now) data_type)) result }
+    {
+        match self.ast.flat_bit_count(data_type) {
+            Ok(count) => Ok(count),
+            Err(BitCountFault::Overflow) => Err(count_exceeds(&self.ast)),
+            Err(BitCountFault::Symbolic(width)) => Err(no_literal(&self.ast, width)),
+            Err(BitCountFault::External(base)) => Err(no_known_width(&self.ast, base)),
+        }
     }
 }

@@ -8,6 +8,7 @@ ghost use Rattle.vast_core.specs.Types.{is_castable, ExprFits};
 ghost use Rattle.vast_core.specs.Bench.{OwnsExpr, OwnsIndexable, OwnsType, tree_of, type_of, maybe_tree_of, trees_of};
 ghost use Rattle.vast_core.specs.Growth.{Builds, with_expr, with_fixed_index, with_fixed_slice, with_fixed_replication, next_expr, next_index, next_fixed_index, next_slice, next_fixed_slice, next_fixed_replication, next_macro_ref, decimal_literal};
 ghost use Rattle.vast_core.specs.View.{bench};
+ghost use Rattle.vast_literal.specs.LiteralToken.{is_literal_text, is_string_text};
 ghost use Rattle.vast_literal.specs.Tree.{LiteralTree, StringTree, UnaryTree, BinaryTree, TernaryTree, IndexTree, SliceTree, PartSelectTree, ConcatTree, PatternTree, WidthCastTree, TypeCastTree, PosEdgeTree, NegEdgeTree, MacroTree, CallTree, NoArguments, SomeArguments};
 
 use crate::ast::Ast;
@@ -33,11 +34,13 @@ impl Ast {
         Ok(self.plant_expr(node))
     }
 
-    /// Adds a literal of this text, with its value where that is known.
+    /// Adds a literal of this text, with its value where that is known. The text is one literal token, perhaps behind
+    /// a minus.
     ///
     /// # Errors
     /// `AllocError` where a growth was refused; nothing changed.
     pub fn push_literal(&mut self, text: &str, value: Option<i64>) -> Result<Expr, AllocError>
+        requires token { IsTrue (is_literal_text text.now) }
         ensures { Builds (bench self.old) (bench self.new) result (next_expr (bench self.old)) (with_expr (bench self.old) (LiteralTree text.now value)) }
     {
         let text = String::from_str(self.alloc, text)?;
@@ -48,6 +51,7 @@ impl Ast {
     ///
     /// # Errors
     /// `AllocError` where a growth was refused; nothing changed.
+    #[tactic(auto, using(vast_literal::proofs::NumberLaws::signed_text))]
     pub fn push_decimal(&mut self, value: i64) -> Result<Expr, AllocError>
         ensures { Builds (bench self.old) (bench self.new) result (next_expr (bench self.old)) (with_expr (bench self.old) (decimal_literal value)) }
     {
@@ -55,11 +59,12 @@ impl Ast {
         self.push_expr(ExprNode::Literal(text, Some(value)))
     }
 
-    /// Adds a string of this text, which has its quotes.
+    /// Adds a string of this text, which has its quotes and is one string token.
     ///
     /// # Errors
     /// `AllocError` where a growth was refused; nothing changed.
     pub fn push_string(&mut self, quoted: &str) -> Result<Expr, AllocError>
+        requires token { IsTrue (is_string_text quoted.now) }
         ensures { Builds (bench self.old) (bench self.new) result (next_expr (bench self.old)) (with_expr (bench self.old) (StringTree quoted.now)) }
     {
         let text = String::from_str(self.alloc, quoted)?;
@@ -136,7 +141,8 @@ impl Ast {
         text: &str,
         index: i64,
     ) -> Result<Index, AllocError>
-        requires { OwnsIndexable (bench self.old) subject }
+        requires subject { OwnsIndexable (bench self.old) subject }
+        requires token { IsTrue (is_literal_text text.now) }
         ensures { Builds (bench self.old) (bench self.new) result (next_fixed_index text.now index (bench self.old)) (with_fixed_index subject text.now index (bench self.old)) }
     {
         let text = String::from_str(self.alloc, text)?;
@@ -179,7 +185,9 @@ impl Ast {
         low_text: &str,
         low: i64,
     ) -> Result<Slice, AllocError>
-        requires { OwnsIndexable (bench self.old) subject }
+        requires subject { OwnsIndexable (bench self.old) subject }
+        requires high { IsTrue (is_literal_text high_text.now) }
+        requires low { IsTrue (is_literal_text low_text.now) }
         ensures { Builds (bench self.old) (bench self.new) result (next_fixed_slice high_text.now high low_text.now low (bench self.old)) (with_fixed_slice subject high_text.now high low_text.now low (bench self.old)) }
     {
         let high_text = String::from_str(self.alloc, high_text)?;
@@ -226,7 +234,7 @@ impl Ast {
     ///
     /// # Errors
     /// `AllocError` where a growth was refused; nothing changed.
-    #[tactic(auto, using(crate::proofs::Laws::terms, crate::proofs::Laws::older_terms))]
+    #[tactic(auto, using(crate::proofs::Laws::terms, crate::proofs::Laws::older_terms, vast_literal::proofs::NumberLaws::signed_text))]
     pub fn push_replication_fixed(&mut self, count: i64, parts: &[Expr]) -> Result<Expr, AllocError>
         requires { All (OwnsExpr (bench self.old)) parts.now }
         ensures { Builds (bench self.old) (bench self.new) result (next_fixed_replication count (bench self.old)) (with_fixed_replication count parts.now (bench self.old)) }

@@ -37,7 +37,7 @@ impl Ast {
     ///
     /// # Errors
     /// `AllocError` where a growth was refused; nothing changed.
-    #[tactic(auto, using(crate::proofs::Laws::terms))]
+    #[tactic(auto, using(crate::proofs::Laws::terms, vast_literal::proofs::NumberLaws::signed_text))]
     pub fn push_vector(&mut self, bits: i64, signed: bool) -> Result<VastDataType, AllocError>
         requires { pos 1 ≤ℤ bits }
         ensures { Builds (bench self.old) (bench self.new) result (next_vector bits (bench self.old)) (with_vector bits signed (bench self.old)) }

@@ -1,7 +1,8 @@
 //! Selects: single bits and ranges of an expression.
 
-ghost use Rattle.std.specs.Prelude.{◌≡◌, ◌≤ℤ◌, pos, IfOk, string_bytes};
+ghost use Rattle.std.specs.Prelude.{◌≡◌, ◌≤ℤ◌, pos, IfOk, IsTrue, string_bytes};
 ghost use Rattle.vast_literal.specs.LiteralText.{spelled};
+ghost use Rattle.vast_literal.specs.LiteralToken.{is_literal_text};
 ghost use Rattle.vast_core.specs.Handles.{expr_to_indexable_expr};
 ghost use Rattle.vast_core.specs.Bench.{OwnsExpr, OwnsIndexable};
 ghost use Rattle.vast_core.specs.Growth.{Builds, next_expr, next_index, next_fixed_index, with_fixed_index, next_slice, next_fixed_slice, with_fixed_slice};
@@ -115,9 +116,11 @@ impl VastFile {
 
 /// The text of a number that selects: in decimal up to `i32::MAX`, which every tool reads, and above that in base 16
 /// with a width of 64 bits.
+#[tactic(auto, using(vast_literal::proofs::NumberLaws::signed_text))]
 fn selector_text(alloc: Global, index: i64) -> Result<String, AllocError>
     requires { pos 0 ≤ℤ index }
-    ensures { IfOk result (λ text. string_bytes text ≡ selector_text index) }
+    ensures text { IfOk result (λ text. string_bytes text ≡ selector_text index) }
+    ensures token { IfOk result (λ text. IsTrue (is_literal_text (string_bytes text))) }
 {
     if index <= i64::from(i32::MAX) {
         format!(in alloc; "{index}")
@@ -128,7 +131,8 @@ fn selector_text(alloc: Global, index: i64) -> Result<String, AllocError>
 
 /// The number in base 16 with a width of 64 bits.
 fn wide_text(alloc: Global, number: u64) -> Result<String, AllocError>
-    ensures { IfOk result (λ text. string_bytes text ≡ spelled LiteralFormat.Hex 64 number) }
+    ensures text { IfOk result (λ text. string_bytes text ≡ spelled LiteralFormat.Hex 64 number) }
+    ensures token { IfOk result (λ text. IsTrue (is_literal_text (string_bytes text))) }
 {
     let text = format!(in alloc; "bits[64]:{number}")?;
     let Ok(literal) = Literal::parse(alloc, &text) else {

@@ -1,5 +1,7 @@
 //! A file whose calls are made after their conditions were tested.
 
+mod nodes;
+
 use crate::{Expr, FileIds, LogicRef, VastDataType, VastFault, VastFile, VastFileType, VastModule};
 use std::alloc::{AllocError, Global};
 use std::process::Abort;
@@ -79,5 +81,13 @@ impl<'a, R: Abort> Bench<'a, R> {
         assert!(self.rt; self.file.owns(&m));
         assert!(self.rt; self.file.owns(&assignment));
         self.file.add_member_continuous_assignment(m, assignment)
+    }
+}
+
+/// Whether the call was refused by these words.
+pub(crate) fn is_refused<T>(answer: &Result<T, VastFault>, words: &str) -> bool {
+    match answer {
+        Err(VastFault::Refused(error)) => error.0.as_str() == words,
+        _ => false,
     }
 }

@@ -1,8 +1,7 @@
 //! Parameters, and selects of their names.
 
 use crate::tests::bench::Bench;
-use crate::{DataKind, IndexableExpr, VastFault, VastFileType};
-use std::process::Abort;
+use crate::{DataKind, VastFileType};
 use std::test::Fail;
 
 #[test]
@@ -40,23 +39,16 @@ fn selects_of_a_parameter(rt: HostRuntime) -> Result<(), Fail> {
     let m = bench.file.add_module("m")?;
     let four = bench.number(4)?;
     let p = bench.parameter(m, "P", four)?;
-    let bit = bench.index(p.to_indexable_expr(), 1)?;
+    let bit = bench.bit(p.to_indexable_expr(), 1)?;
     assert_eq!(rt; bench.expression(bit)?.as_str(), "P[1]");
     Ok(())
 }
 
-/// Of a scalar `P` bit 0 is `P`, and bit 1 is refused.
-fn is_a_scalar<R: Abort>(bench: &mut Bench<R>, rt: &R, p: IndexableExpr) -> Result<(), Fail> {
-    let first = bench.index(p, 0)?;
-    assert_eq!(rt; bench.expression(first)?.as_str(), "P");
-    let second = bench.index(p, 1)?;
-    let refusal = "a scalar signal can only be indexed with zero";
-    match bench.expression(second) {
-        Err(VastFault::Refused(error)) => assert_eq!(rt; error.0.as_str(), refusal),
-        _ => assert!(rt; false),
-    }
-    Ok(())
-}
+/// The bits of a scalar `P`: bit 0 is `P`, and bit 1 is refused.
+const BITS: [(u8, &str); 2] = [
+    (0, "P"),
+    (1, "a scalar signal can only be indexed with zero"),
+];
 
 #[test]
 fn selects_of_a_defined_parameter(rt: HostRuntime) -> Result<(), Fail> {
@@ -66,7 +58,11 @@ fn selects_of_a_defined_parameter(rt: HostRuntime) -> Result<(), Fail> {
     let bit = bench.file.make_scalar_type()?;
     let d = bench.definition("P", DataKind::Logic, bit)?;
     let p = bench.defined_parameter(m, d, four)?;
-    is_a_scalar(&mut bench, &rt, p.to_indexable_expr())
+    for (n, text) in BITS {
+        let bit = bench.bit(p.to_indexable_expr(), n)?;
+        assert_eq!(rt; bench.text_or_refusal(bit)?.as_str(), text);
+    }
+    Ok(())
 }
 
 #[test]
@@ -76,5 +72,9 @@ fn selects_of_a_parameter_port(rt: HostRuntime) -> Result<(), Fail> {
     let four = bench.number(4)?;
     let bit = bench.file.make_scalar_type()?;
     let p = bench.typed_parameter_port(m, "P", bit, four)?;
-    is_a_scalar(&mut bench, &rt, p.to_indexable_expr())
+    for (n, text) in BITS {
+        let bit = bench.bit(p.to_indexable_expr(), n)?;
+        assert_eq!(rt; bench.text_or_refusal(bit)?.as_str(), text);
+    }
+    Ok(())
 }

@@ -1,4 +1,4 @@
-use Rattle.std.proofs.Common.{◌≡◌, ◌<◌, length, get_or, arith, ap}
+use Rattle.std.proofs.Common.{arith, ap}
 use Rattle.vast_literal.specs.Tree.{FileItemTree}
 use Rattle.vast_core.specs.declared.node.FileItem.{FileItem}
 use Rattle.vast_core.specs.Kinds.{dialect_of}

@@ -1,4 +1,4 @@
-use Rattle.std.proofs.Common.{◌≡◌, ◌<◌, length, get_or, arith, rules}
+use Rattle.std.proofs.Common.{arith}
 use Rattle.vast_core.specs.declared.node.Connection.{Connection}
 use Rattle.vast_core.specs.View.{bench}
 use Rattle.vast_print.specs.Ink.{Wet}

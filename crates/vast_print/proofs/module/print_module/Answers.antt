@@ -1,5 +1,3 @@
-use Rattle.vast_core.specs.Records.{module_record}
-use Rattle.vast_core.specs.FileTree.{module_tree}
 use Rattle.vast_print.specs.Layout.{item_page}
 use Rattle.vast_print.proofs.module.print_module.Goals as goal
 

@@ -139,10 +139,19 @@ impl<'a, R: Abort> Bench<'a, R> {
     }
 
     /// The bit `subject[n]`.
-    pub(crate) fn index(&mut self, subject: IndexableExpr, n: u8) -> Result<Expr, AllocError> {
+    pub(crate) fn bit(&mut self, subject: IndexableExpr, n: u8) -> Result<Expr, AllocError> {
         assert!(self.rt; self.file.owns(&subject));
         let index = self.file.make_index(&subject, i64::from(n))?;
         Ok(index.to_expr())
+    }
+
+    /// The text of the expression, or that of its refusal.
+    pub(crate) fn text_or_refusal(&self, e: Expr) -> Result<String, AllocError> {
+        match self.expression(e) {
+            Ok(text) => Ok(text),
+            Err(VastFault::Refused(error)) => Ok(error.0),
+            Err(VastFault::Memory(error)) => Err(error),
+        }
     }
 
     pub(crate) fn comment(&mut self, m: VastModule, comment: Comment) -> Result<(), AllocError> {

@@ -6,5 +6,5 @@ pub returns : goal.returns
 returns c =
     let text : string_bytes c.in_ok-text.text ≡ c.args.text.now = search rules in
     let index : to_z w64 (of_z w64 c.args.index) ≡ c.args.index = search rules in
-    fixed-index _ _ _ _ c.args.subject c.args.text.now _ c.args.index _ _ _ _ c.requires c.reserve_terms.ensures.unchanged text index
+    fixed-index _ _ _ _ c.args.subject c.args.text.now _ c.args.index _ _ _ _ c.requires.subject c.reserve_terms.ensures.unchanged text index
     c.plant_expr-index.ensures.handle c.plant_expr-index.ensures.after c.to_expr.ensures c.plant_expr-select.ensures.handle c.plant_expr-select.ensures.after

@@ -1,8 +1,6 @@
-use Rattle.std.proofs.Common.{◌≡◌, ◌++◌, ◌∙◌, ap, sym, w64, string_bytes}
+use Rattle.std.proofs.Common.{◌++◌, ◌∙◌, ap, w64, string_bytes}
 use Rattle.std.specs.Fmt.{signed_decimal}
 use Rattle.std.proofs.lemmas.Int.{to_z-of_z}
-use Rattle.vast_print.specs.Draft.{Draft}
-use Rattle.vast_print.specs.Ink.{Wet, onto, word}
 use Rattle.vast_print.proofs.NumberLaws.{onto-number}
 use Rattle.vast_print.proofs.writer.Writer.number.Goals as goal
 

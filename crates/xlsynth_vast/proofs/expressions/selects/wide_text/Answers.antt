@@ -9,7 +9,7 @@ unreachable-requires c =
     let text : c.deref.result.now ≡ codes "bits[64]:" ++ decimal c.args.number = c.deref.ensures ∙ c.in_ok-text.ensures.ok in
     never_refused (literal_of c.deref.result.now) _ c.in_default.field-0 (ap literal_of text ∙ wide_literal c.args.number c.ranges.number.fits) c.in_default.ensures.answer
 
-pub returns : goal.returns
-returns c =
+pub returns-clause-text : goal.returns-clause-text
+returns-clause-text c =
     let text : c.deref.result.now ≡ codes "bits[64]:" ++ decimal c.args.number = c.deref.ensures ∙ c.in_ok-text.ensures.ok in
     rw (← spelled_by (literal_of c.deref.result.now) _ _ c.in-Ok.ensures.answer (ap literal_of text ∙ wide_literal c.args.number c.ranges.number.fits)) c.format-2.ensures.exact

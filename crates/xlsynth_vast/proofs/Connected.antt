@@ -1,0 +1,48 @@
+-- What an instantiation gives to parameters and ports.
+use Rattle.std.proofs.Common.{◌≡◌, ℕ, zero, suc, ◌+◌, ◌<◌, List, [], ◌∷◌, ◌++◌, length, map, All, Option, Some, None, refl, ap, arith, take, get_or, add-one, Bor, IfSome, option_copied}
+use Rattle.std.proofs.lemmas.List.{map-append}
+use Rattle.vast_core.specs.declared.node.Connection.{Connection}
+use Rattle.vast_core.specs.declared.handle.Expr.{Expr}
+use Rattle.vast_core.specs.Nodes.{OptionHolds}
+use Rattle.vast_core.specs.Records.{connection_record}
+use Rattle.vast_core.specs.Bench.{Bench, OwnsExpr}
+use Rattle.vast_core.specs.Sound.{Each, ConnectionSound}
+use Rattle.vast_core.proofs.Lists.{All-Each, All-head, All-tail}
+use Rattle.xlsynth_vast.specs.Instances.{connected}
+
+-- One name and one expression more.
+connected-more :
+    {A B : Type 0} (f : A → List ℕ) (g : B → Option Expr) (ns : List A) (vs : List B) (i : ℕ) (n d : A) (v e : B) →
+    i < length ns → i < length vs → n ≡ get_or ns i d → v ≡ get_or vs i e →
+    connected (map f (take (suc i) ns)) (map g (take (suc i) vs)) ≡ connected (map f (take i ns)) (map g (take i vs)) ++ record { name = f n; value = g v } ∷ []
+connected-more f g [] vs i n d v e below under is at = absurd (omega arith)
+connected-more f g (m ∷ ns) [] i n d v e below under is at = absurd (omega arith)
+connected-more f g (m ∷ ns) (w ∷ vs) zero n d v e below under is at = rw (is, at) refl
+connected-more f g (m ∷ ns) (w ∷ vs) (suc i) n d v e below under is at = ap (λ r. record { name = f m; value = g w } ∷ r) (connected-more f g ns vs i n d v e (omega arith) (omega arith) is at)
+
+pub one_more :
+    {A B : Type 0} (f : A → List ℕ) (g : B → Option Expr) (ns : List A) (vs : List B) (i : ℕ) (n d : A) (v e : B) (made : List Connection) (c : Connection) →
+    i < length ns → i < length vs → n ≡ get_or ns i d → v ≡ get_or vs i e →
+    map connection_record made ≡ connected (map f (take i ns)) (map g (take i vs)) →
+    connection_record c ≡ record { name = f n; value = g v } →
+    map connection_record (made ++ c ∷ []) ≡ connected (map f (take (i + 1) ns)) (map g (take (i + 1) vs))
+one_more f g ns vs i n d v e made c below under is at so_far given =
+    rw (add-one, connected-more f g ns vs i n d v e below under is at, map-append connection_record made (c ∷ []), so_far, given) refl
+
+-- What it gives is the file's, where its expressions are.
+
+each-connected : (b : Bench) (names : List (List ℕ)) (values : List (Option Expr)) → Each (OptionHolds (OwnsExpr b)) values → Each (ConnectionSound b) (connected names values)
+each-connected b [] values h = tt
+each-connected b (name ∷ names) [] h = tt
+each-connected b (name ∷ names) (value ∷ values) h = (h.0, each-connected b names values h.1)
+
+pub connected-sound : (b : Bench) (names : List (List ℕ)) (values : List (Option Expr)) (made : List Connection) → map connection_record made ≡ connected names values → Each (OptionHolds (OwnsExpr b)) values → All (λ c. ConnectionSound b (connection_record c)) made
+connected-sound b names values made e h = All-Each connection_record (ConnectionSound b) made (rw e (each-connected b names values h))
+
+some-owned : (b : Bench) (e : Option (Bor Expr)) → IfSome e (λ x. OwnsExpr b x.now) → OptionHolds (OwnsExpr b) (option_copied e)
+some-owned b None h = tt
+some-owned b (Some x) h = h
+
+pub each-copied : (b : Bench) (es : List (Option (Bor Expr))) → All (λ e. IfSome e (λ x. OwnsExpr b x.now)) es → Each (OptionHolds (OwnsExpr b)) (map option_copied es)
+each-copied b [] h = tt
+each-copied b (e ∷ es) h = (some-owned b e (All-head (λ e. IfSome e (λ x. OwnsExpr b x.now)) e es h), each-copied b es (All-tail (λ e. IfSome e (λ x. OwnsExpr b x.now)) e es h))

@@ -1,0 +1,87 @@
+-- Laws of what inspections answer.
+use Rattle.std.proofs.Common.{◌≡◌, ℕ, zero, suc, ℤ, pos, negsuc, Bool, true, IsTrue, Option, Some, None, List, [], ◌∷◌, take, filter, All, refl, ap, arith, String}
+use Rattle.std.proofs.lemmas.Int.{ints}
+use Rattle.std.specs.declared.alloc.Global.{Global}
+use Rattle.std.proofs.lemmas.Bool.Decides.{nat_tests}
+use Rattle.std.proofs.lemmas.List.Elements.{All-filter}
+use Rattle.vast_literal.specs.Tree.{TypeTree, ScalarTree, VectorTree, IntegerTree, IntTree, ExternalTree, PackageTree, PackedTree, UnpackedTree, MissingType}
+use Rattle.vast_core.specs.declared.handle.Expr.{Expr}
+use Rattle.vast_core.specs.declared.handle.VastDataType.{VastDataType}
+use Rattle.vast_core.specs.declared.handle.ModulePort.{ModulePort}
+use Rattle.vast_core.specs.declared.node.ExprNode.{ExprNode}
+use Rattle.vast_core.specs.declared.node.ExprNode.TheVariants.{Name, Literal, StringText, Unary, Binary, Ternary, Index, Slice, PartSelect, Concat, Pattern, WidthCast, TypeCast, PosEdge, NegEdge, Macro, Call}
+use Rattle.vast_core.specs.declared.bits.BitCountFault.{BitCountFault}
+use Rattle.vast_core.specs.declared.bits.BitCountFault.TheVariants.{Overflow, Symbolic, External}
+use Rattle.vast_core.specs.Nodes.{Nodes, Root, ExprRoot, TypeRoot, is_name, is_root_of, expr_of_root, expr_tree, expr_in}
+use Rattle.vast_core.specs.BitCount.{bit_count, base_bits, is_external, multiple, Exceeds, CountRefused, product, dimensions_of}
+use Rattle.vast_core.specs.Types.{base_of}
+use Rattle.vast_core.specs.Bench.{Bench, has_root, tree_of, type_of}
+use Rattle.vast_core.proofs.Lists.{All-cons, All-head, All-tail}
+use Rattle.xlsynth_vast.specs.Inspections.{known_bits, type_at, width_at}
+
+-- A root that is a name is no other node.
+
+root-named : (o : Option Root) → IsTrue (is_root_of is_name o) → is_name (expr_of_root o) ≡ true
+root-named None h = cc
+root-named (Some (ExprRoot e)) h = h
+root-named (Some (TypeRoot t)) h = cc
+
+pub tree-named : (b : Bench) (e : Expr) → IsTrue (has_root is_name b e.id.index) → is_name (tree_of b e) ≡ true
+unfolding expr_in
+tree-named b e h = root-named _ h
+
+pub no_other_node : (b : Nodes) (node : ExprNode) → is_name (expr_tree b node) ≡ true → ((name : String Global) (type : Option VastDataType) → node ≡ Name name type → ⊥) → ⊥
+no_other_node b (Name name type) h other = other name type refl
+no_other_node b (Literal text value) h other = cc
+no_other_node b (StringText text) h other = cc
+no_other_node b (Unary operator operand) h other = cc
+no_other_node b (Binary operator left right) h other = cc
+no_other_node b (Ternary condition consequent alternate) h other = cc
+no_other_node b (Index subject index) h other = cc
+no_other_node b (Slice subject high low) h other = cc
+no_other_node b (PartSelect subject start width) h other = cc
+no_other_node b (Concat count parts) h other = cc
+no_other_node b (Pattern parts) h other = cc
+no_other_node b (WidthCast width operand) h other = cc
+no_other_node b (TypeCast type operand) h other = cc
+no_other_node b (PosEdge operand) h other = cc
+no_other_node b (NegEdge operand) h other = cc
+no_other_node b (Macro name given) h other = cc
+no_other_node b (Call name given) h other = cc
+
+-- Bits that aren't known.
+
+bits-exceeding : (o : Option ℤ) → Exceeds o → known_bits o ≡ pos 0
+bits-exceeding None h = absurd h
+bits-exceeding (Some (pos n)) h = grind (arith, nat_tests)
+bits-exceeding (Some (negsuc n)) h = absurd (omega (arith, ints))
+
+unknown-external : (t : TypeTree) → IsTrue (is_external t) → base_bits t ≡ None
+unknown-external (ExternalTree name) h = refl
+unknown-external (PackageTree package_name name) h = refl
+unknown-external (ScalarTree signed) h = cc
+unknown-external (VectorTree width value signed) h = cc
+unknown-external (IntegerTree signed) h = cc
+unknown-external (IntTree signed) h = cc
+unknown-external (PackedTree element dimensions) h = cc
+unknown-external (UnpackedTree element dimensions) h = cc
+unknown-external MissingType h = cc
+
+pub bits-refused : (b : Bench) (t : TypeTree) (fault : BitCountFault) → CountRefused b t fault → known_bits (bit_count t) ≡ pos 0
+unfolding bit_count
+bits-refused b t Overflow h = bits-exceeding (multiple (product (dimensions_of t)) (base_bits (base_of t))) h
+bits-refused b t (Symbolic e) h = rw h.2 refl
+bits-refused b t (External u) h = rw (unknown-external (base_of t) h.2) refl
+
+pub width_refused : (b : Bench) (p : ModulePort) (t : VastDataType) (fault : BitCountFault) → type_at b p ≡ Some t → CountRefused b (type_of b t) fault → width_at b p ≡ Some (pos 0)
+width_refused b p t fault e h = rw e (ap Some (bits-refused b (type_of b t) fault h))
+
+-- A part of a list of ports.
+
+All-take : {A : Type 0} (P : A → Type 0) (i : ℕ) (xs : List A) → All P xs → All P (take i xs)
+All-take P zero xs h = λ k d below. absurd (omega arith)
+All-take P (suc i) [] h = h
+All-take P (suc i) (x ∷ xs) h = All-cons P x (take i xs) (All-head P x xs h) (All-take P i xs (All-tail P x xs h))
+
+pub owned_part : {A : Type 0} (P : A → Type 0) (test : A → Bool) (i : ℕ) (xs ys zs : List A) → ys ≡ filter test (take i xs) → xs ≡ zs → All P zs → All P ys
+owned_part P test i xs ys zs e same h = rw (e, same) (All-filter test P (take i zs) (All-take P i zs h))

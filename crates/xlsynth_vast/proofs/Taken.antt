@@ -1,0 +1,80 @@
+-- Laws of taken names, and of their list.
+use Rattle.std.proofs.Common.{◌≡◌, ◌≢◌, ℕ, List, [], ◌∷◌, ◌++◌, Bool, true, false, ◌||◌, IsTrue, map, Some, slice_get, Result, Ok, Err, refl, sym, ap, ◌∙◌, arith}
+use Rattle.std.specs.Prelude.{IsErrAnd, MatchResult, alloc_error}
+use Rattle.std.specs.List.{join_by, flat_map}
+use Rattle.std.specs.Str.{bytes_eq}
+use Rattle.std.proofs.lemmas.Slice.Eq.{bytes_eq-Decides}
+use Rattle.vast_literal.specs.Keyword.{is_among}
+use Rattle.vast_literal.specs.declared.error.VastFault.{VastFault}
+use Rattle.vast_literal.specs.declared.error.VastFault.TheVariants.{Memory}
+use Rattle.vast_literal.specs.Fault.{OnlyRefusedBy}
+use Rattle.vast_core.specs.declared.handle.VastModule.{VastModule}
+use Rattle.vast_core.specs.Handles.{module_index}
+use Rattle.vast_core.specs.Bench.{Bench}
+use Rattle.vast_core.specs.Records.{ModuleRecord, IsFree}
+use Rattle.vast_core.proofs.Lists.{All-cons, All-head, All-tail}
+use Rattle.xlsynth_vast.specs.Declarations.{names_in, already_declared, unless_taken}
+
+-- The names that are written are those that stand behind references.
+
+flat-of : {X : Type 0} (f : X → List ℕ) (sep : List ℕ) (xs : List X) → flat_map (λ x. sep ++ f x) xs ≡ flat_map (λ name. sep ++ name) (map f xs)
+flat-of f sep [] = refl
+flat-of f sep (x ∷ xs) = ap (λ r. (sep ++ f x) ++ r) (flat-of f sep xs)
+
+pub join_by-map : {X : Type 0} (f : X → List ℕ) (sep : List ℕ) (xs : List X) → join_by f sep xs ≡ join_by (λ name. name) sep (map f xs)
+join_by-map f sep [] = refl
+join_by-map f sep (x ∷ xs) = ap (λ r. f x ++ r) (flat-of f sep xs)
+
+-- A name is free exactly where it isn't among those taken.
+
+unequal-case : (a b : List ℕ) (t : Bool) → bytes_eq a b ≡ t → a ≢ b → bytes_eq a b ≡ false
+unequal-case a b true e h = absurd (h ((bytes_eq-Decides a b).0 e))
+unequal-case a b false e h = e
+
+not-among : (name : List ℕ) (names : List (List ℕ)) → IsFree name names → is_among names name ≡ false
+not-among name [] h = refl
+not-among name (x ∷ xs) h = rw (unequal-case x name (bytes_eq x name) refl (All-head (λ taken. taken ≢ name) x xs h)) (not-among name xs (All-tail (λ taken. taken ≢ name) x xs h))
+
+true-not-false : true ≡ false → ⊥
+true-not-false h = cc
+
+left-false : (a b : Bool) → a || b ≡ false → a ≡ false
+left-false true b h = h
+left-false false b h = refl
+
+right-false : (a b : Bool) → a || b ≡ false → b ≡ false
+right-false true b h = absurd (true-not-false h)
+right-false false b h = h
+
+among-none : (name : List ℕ) (names : List (List ℕ)) → is_among names name ≡ false → IsFree name names
+among-none name [] h = λ k d below. absurd (omega arith)
+among-none name (x ∷ xs) h =
+    let other : (x ≡ name) → ⊥ = λ e. true-not-false (sym ((bytes_eq-Decides x name).1 e) ∙ left-false (bytes_eq x name) (is_among xs name) h)
+    in All-cons (λ taken. taken ≢ name) x xs other (among-none name xs (right-false (bytes_eq x name) (is_among xs name) h))
+
+pub free-allowed : (kind name : List ℕ) (names : List (List ℕ)) → IsFree name names → unless_taken kind name names ≡ Ok tt
+free-allowed kind name names h = rw (not-among name names h) refl
+
+taken-case : (kind name : List ℕ) (names : List (List ℕ)) (t : Bool) → is_among names name ≡ t → (IsFree name names → ⊥) → unless_taken kind name names ≡ Err (already_declared kind name names)
+taken-case kind name names true e h = rw e refl
+taken-case kind name names false e h = absurd (h (among-none name names e))
+
+pub taken-refused : (kind name : List ℕ) (names : List (List ℕ)) → (IsFree name names → ⊥) → unless_taken kind name names ≡ Err (already_declared kind name names)
+taken-refused kind name names h = taken-case kind name names (is_among names name) refl h
+
+-- The same of the record that a module has.
+
+pub allowed_there : (kind name : List ℕ) (b : Bench) (m : VastModule) (r : ModuleRecord) → slice_get b.modules (module_index m) ≡ Some r → IsFree name r.names → unless_taken kind name (names_in b m) ≡ Ok tt
+allowed_there kind name b m r e h = rw e (free-allowed kind name r.names h)
+
+pub refused_there : (kind name : List ℕ) (b : Bench) (m : VastModule) (r : ModuleRecord) → slice_get b.modules (module_index m) ≡ Some r → (IsFree name r.names → ⊥) → unless_taken kind name (names_in b m) ≡ Err (already_declared kind name r.names)
+refused_there kind name b m r e h = rw e (taken-refused kind name r.names h)
+
+-- Where the words of a refusal could not be made, there was a refusal.
+pub only_memory : {A : Type 0} (r : Result A VastFault) (good : A → Type 0) (rule : Result (Unit {0}) (List ℕ)) (words : List ℕ) → rule ≡ Err words → IsErrAnd r (λ fault. fault ≡ Memory alloc_error) → MatchResult r good (OnlyRefusedBy rule)
+only_memory (Ok x) good rule words e h = absurd h
+only_memory (Err fault) good rule words e h = rw (h, e) refl
+
+-- One of two that exclude each other.
+pub not_both : (t : Bool) → IsTrue t → t ≡ false → ⊥
+not_both t h k = cc
