@@ -2,12 +2,12 @@
 use Rattle.std.proofs.Common.{◌≡◌, ℕ, ◌+◌, Bool, true, false, List, [], refl, sym, ◌∙◌, codes}
 use Rattle.vast_literal.specs.Tree.{ExprTree, MaybeExpr, NoExpr, SomeExpr, AssignForm, Blocking, Nonblocking, Continuous, CaseWord, CaseExact, CaseZ, CaseX}
 use Rattle.vast_literal.specs.Tree.{StatementTree, AssignTree, CommentTree, BlankTree, InlineTree, ConditionalTree, CaseTree, Statements, NoStatements, MoreStatements, Alternates, NoElse, ElseIf, Else, CaseArms, NoCaseArms, CaseArm}
-use Rattle.vast_print.specs.Printed.{plain_text}
+use Rattle.vast_print.specs.Printed.{plain_text, ◌⊕◌}
 use Rattle.vast_print.specs.Page.{line, inner, above, written, commented}
 use Rattle.vast_print.specs.Ink.{Ink, word, next, hang, pour}
 use Rattle.vast_print.specs.Text.{expr_text}
 use Rattle.vast_print.specs.Words.{else_if_opening, begin_end_word}
-use Rattle.vast_print.specs.Statements.{assign_opening, assign_sign, case_word, unique_word, is_bare_arm, begin_end, statement_page, statements_page, block_page, alternates_page, arms_page, arm_body_page, arm_page}
+use Rattle.vast_print.specs.Statements.{assign_opening, assign_sign, case_word, unique_word, label_text, is_bare_arm, begin_end, statement_page, statements_page, block_page, alternates_page, arms_page, arm_body_page, arm_page}
 use Rattle.vast_print.proofs.InkLaws.{hang-line, pour-line, hang-none, pour-none, hang-blank, hang-above, pour-above, pour-above-none, pour-beside, hang-beside, hang-line-above, hang-inner, hang-written, pour-then, pour-empty, pour-word}
 use Rattle.vast_print.proofs.Lines.{word-word}
 use Rattle.vast_print.proofs.WordLaws.{words}
@@ -27,6 +27,12 @@ pub hang-assign : (d : ℕ) (k : Ink) (form : AssignForm) (l r : ExprTree) →
     ≡ word (pour d (word (pour d (word (next d k) (assign_opening form)) (written (expr_text l))) (assign_sign form)) (written (expr_text r))) (codes ";")
 unfolding statement_page
 hang-assign d k form l r = hang-written d k _ ∙ simp (pour-then, pour-opening, pour-sign, words)
+
+pub pour-assign : (d : ℕ) (k : Ink) (form : AssignForm) (l r : ExprTree) →
+    pour d k (statement_page (AssignTree form l r))
+    ≡ word (pour d (word (pour d (word k (assign_opening form)) (written (expr_text l))) (assign_sign form)) (written (expr_text r))) (codes ";")
+unfolding statement_page
+pour-assign d k form l r = simp (pour-then, pour-opening, pour-sign, words)
 
 pub hang-comment : (d : ℕ) (k : Ink) (text : List ℕ) → hang d k (statement_page (CommentTree text)) ≡ hang d k (commented (written (plain_text text)))
 unfolding statement_page
@@ -104,6 +110,11 @@ pub hang-arms : (d : ℕ) (k : Ink) (w : CaseWord) (label : MaybeExpr) (b : Stat
     hang d k (arms_page w (CaseArm label b arms)) ≡ hang d (hang d k (arm_page w label b)) (arms_page w arms)
 unfolding arms_page arm_page arm_body_page statements_page block_page
 hang-arms d k w label b arms = hang-above d k (arm_page w label b) (arms_page w arms)
+
+pub hang-arm : (d : ℕ) (k : Ink) (w : CaseWord) (label : MaybeExpr) (b : Statements) →
+    hang d k (arm_page w label b) ≡ pour d (pour d (next d k) (written (label_text label ⊕ plain_text (codes ": ")))) (arm_body_page w b)
+unfolding arm_page
+hang-arm d k w label b = hang-beside d k (label_text label ⊕ plain_text (codes ": ")) (arm_body_page w b)
 
 pub hang-default : (d : ℕ) (k : Ink) (w : CaseWord) (b : Statements) →
     hang d k (arm_page w NoExpr b) ≡ pour d (word (next d k) (codes "default: ")) (arm_body_page w b)

@@ -1,0 +1,106 @@
+-- How much is still to print: less for newer containers, so that printing ends; and depths stay in range.
+use Rattle.std.proofs.Common.{ℕ, ◌+◌, ◌-◌, ◌*◌, ◌^◌, ◌<◌, ◌≤◌, Option, Some, None, slice_get, arith}
+use Rattle.vast_core.specs.Handles.{conditional_index, case_index, loop_index, always_index}
+use Rattle.vast_core.specs.Records.{MemberEntry, DeclarationEntry, AssignmentEntry, ParameterEntry, BlankEntry, CommentEntry, InlineEntry, MacroEntry, InstanceEntry, FunctionEntry, AlwaysEntry, ConditionalEntry, LoopEntry}
+use Rattle.vast_core.specs.Nests.{StatementEntry, AssignStatement, ContinuousStatement, ConditionalStatement, CasesStatement, BlankStatement, CommentStatement, InlineStatement, AlwaysRecord}
+use Rattle.vast_core.specs.Bench.{Bench}
+use Rattle.vast_core.specs.Sound.{StatementSound, AlwaysNewer, MemberNewer}
+use Rattle.vast_print.specs.Fits.{StatementFits, AlwaysFits, MemberFits}
+
+abbrev pub height : ℕ → ℕ
+height i = 8 * (2 ^ 64 - i)
+
+-- of a statement, by the container that it is
+abbrev pub statement_height : StatementEntry → ℕ
+statement_height (AssignStatement s) = 0
+statement_height (ContinuousStatement s) = 0
+statement_height (ConditionalStatement c) = height (conditional_index c) + 5
+statement_height (CasesStatement c) = height (case_index c) + 5
+statement_height BlankStatement = 0
+statement_height (CommentStatement text) = 0
+statement_height (InlineStatement text) = 0
+
+pub statement-lower : (b : Bench) (i : ℕ) (e : StatementEntry) → StatementSound b i e → i < 2 ^ 63 → statement_height e < height i + 1
+statement-lower b i (AssignStatement s) h small = omega arith
+statement-lower b i (ContinuousStatement s) h small = omega arith
+statement-lower b i (ConditionalStatement c) h small = omega (arith, h.1)
+statement-lower b i (CasesStatement c) h small = omega (arith, h.1)
+statement-lower b i BlankStatement h small = omega arith
+statement-lower b i (CommentStatement text) h small = omega arith
+statement-lower b i (InlineStatement text) h small = omega arith
+
+pub statement-fits : (b : Bench) (i d : ℕ) (e : StatementEntry) → StatementSound b i e → d ≤ 2 ^ 62 + (i + 1) → StatementFits b d e
+statement-fits b i d (AssignStatement s) h room = h
+statement-fits b i d (ContinuousStatement s) h room = h
+statement-fits b i d (ConditionalStatement c) h room = (h.0, omega (arith, h.1))
+statement-fits b i d (CasesStatement c) h room = (h.0, omega (arith, h.1))
+statement-fits b i d BlankStatement h room = tt
+statement-fits b i d (CommentStatement text) h room = tt
+statement-fits b i d (InlineStatement text) h room = tt
+
+-- of a member, by the loop that it is
+abbrev pub member_height : MemberEntry → ℕ
+member_height (DeclarationEntry kind name data_type) = 0
+member_height (AssignmentEntry a) = 0
+member_height (ParameterEntry local form value) = 0
+member_height BlankEntry = 0
+member_height (CommentEntry a) = 0
+member_height (InlineEntry a) = 0
+member_height (MacroEntry a) = 0
+member_height (InstanceEntry x) = 0
+member_height (FunctionEntry f) = 0
+member_height (AlwaysEntry a) = 0
+member_height (ConditionalEntry c) = 0
+member_height (LoopEntry l) = height (loop_index l) + 1
+
+pub member-lower : (b : Bench) (i : ℕ) (e : MemberEntry) → MemberNewer b i e → i < 2 ^ 63 → member_height e < height i
+member-lower b i (DeclarationEntry kind name data_type) h small = omega arith
+member-lower b i (AssignmentEntry a) h small = omega arith
+member-lower b i (ParameterEntry local form value) h small = omega arith
+member-lower b i BlankEntry h small = omega arith
+member-lower b i (CommentEntry a) h small = omega arith
+member-lower b i (InlineEntry a) h small = omega arith
+member-lower b i (MacroEntry a) h small = omega arith
+member-lower b i (InstanceEntry x) h small = omega arith
+member-lower b i (FunctionEntry f) h small = absurd h
+member-lower b i (AlwaysEntry a) h small = omega arith
+member-lower b i (ConditionalEntry c) h small = omega arith
+member-lower b i (LoopEntry l) h small = omega (arith, h)
+
+always-fits : (d : ℕ) (o : Option AlwaysRecord) → d < 2 ^ 62 → AlwaysFits d o
+always-fits d None room = tt
+always-fits d (Some a) room = omega arith
+
+-- a member of a module
+pub member-fits : (b : Bench) (d : ℕ) (e : MemberEntry) → d < 2 ^ 62 → MemberFits b d e
+member-fits b d (DeclarationEntry kind name data_type) room = tt
+member-fits b d (AssignmentEntry a) room = tt
+member-fits b d (ParameterEntry local form value) room = tt
+member-fits b d BlankEntry room = tt
+member-fits b d (CommentEntry a) room = tt
+member-fits b d (InlineEntry a) room = tt
+member-fits b d (MacroEntry a) room = tt
+member-fits b d (InstanceEntry x) room = omega arith
+member-fits b d (FunctionEntry f) room = room
+member-fits b d (AlwaysEntry a) room = always-fits d (slice_get b.always_blocks (always_index a)) room
+member-fits b d (ConditionalEntry c) room = omega arith
+member-fits b d (LoopEntry l) room = omega arith
+
+newer-always-fits : (i d : ℕ) (o : Option AlwaysRecord) → AlwaysNewer i o → d ≤ 2 ^ 62 + (i + 1) → AlwaysFits d o
+newer-always-fits i d None h room = tt
+newer-always-fits i d (Some a) h room = omega (arith, h)
+
+-- a member of loop i
+pub newer-member-fits : (b : Bench) (i d : ℕ) (e : MemberEntry) → MemberNewer b i e → d ≤ 2 ^ 62 + (i + 1) → i < 2 ^ 63 → MemberFits b d e
+newer-member-fits b i d (DeclarationEntry kind name data_type) h room small = tt
+newer-member-fits b i d (AssignmentEntry a) h room small = tt
+newer-member-fits b i d (ParameterEntry local form value) h room small = tt
+newer-member-fits b i d BlankEntry h room small = tt
+newer-member-fits b i d (CommentEntry a) h room small = tt
+newer-member-fits b i d (InlineEntry a) h room small = tt
+newer-member-fits b i d (MacroEntry a) h room small = tt
+newer-member-fits b i d (InstanceEntry x) h room small = omega arith
+newer-member-fits b i d (FunctionEntry f) h room small = absurd h
+newer-member-fits b i d (AlwaysEntry a) h room small = newer-always-fits i d (slice_get b.always_blocks (always_index a)) h room
+newer-member-fits b i d (ConditionalEntry c) h room small = omega (arith, h)
+newer-member-fits b i d (LoopEntry l) h room small = omega (arith, h)
