@@ -1,6 +1,6 @@
 -- What calls that add always blocks, loops, conditionals and functions know: what comes, and the member that names it,
 -- are the file's.
-use Rattle.std.proofs.Common.{◌≡◌, ℕ, suc, true, List, [], ◌∷◌, length, Option, Some, None, All, String, string_bytes, refl, arith, length-append}
+use Rattle.std.proofs.Common.{◌≡◌, ℕ, suc, true, false, List, [], ◌∷◌, length, Option, Some, None, All, String, string_bytes, refl, arith, length-append}
 use Rattle.std.specs.declared.alloc.Global.{Global}
 use Rattle.vast_literal.specs.Tree.{NameTree, MaybeType, Untyped, Typed}
 use Rattle.vast_core.specs.declared.handle.Expr.{Expr}
@@ -12,16 +12,18 @@ use Rattle.vast_core.specs.declared.handle.VastFunction.{VastFunction}
 use Rattle.vast_core.specs.declared.handle.VastStatementBlock.{VastStatementBlock}
 use Rattle.vast_core.specs.declared.kind.AlwaysKind.{AlwaysKind}
 use Rattle.vast_core.specs.Handles.{loop_index}
-use Rattle.vast_core.specs.Nodes.{Root, ExprRoot, with_root as with_node}
-use Rattle.vast_core.specs.Records.{MemberEntry, AlwaysEntry, LoopEntry, ConditionalEntry, FunctionEntry}
+use Rattle.vast_core.specs.Nodes.{Root, ExprRoot, OptionHolds, with_root as with_node}
+use Rattle.vast_core.specs.Records.{FormEntry, MemberEntry, AssignmentEntry, ParameterEntry, AlwaysEntry, LoopEntry, ConditionalEntry, FunctionEntry}
 use Rattle.vast_core.specs.Nests.{BlockRecord, RepeatRecord, VariableRecord}
-use Rattle.vast_core.specs.Bench.{Bench, OwnsExpr, OwnsType, OwnsBlock, OwnsModule, OwnsLoop, OwnsAlways, OwnsFunction, OwnsLogicRef, type_of}
-use Rattle.vast_core.specs.Growth.{next_logic_ref}
-use Rattle.vast_core.specs.Sound.{Each, EventSound, MemberSound, MemberNewer}
-use Rattle.vast_core.specs.Containers.{InModule, InNest, with_fresh, MemberEnters, GrowthSound, FreshSound, no_fresh, fresh_container, next_block, next_conditional, new_conditional}
-use Rattle.vast_core.specs.Loops.{next_always, next_loop, next_function, new_always, with_always, fresh_always, new_loop, fresh_loop, new_function, fresh_function}
+use Rattle.vast_core.specs.Bench.{Bench, OwnsExpr, OwnsType, OwnsBlock, OwnsModule, OwnsLoop, OwnsAlways, OwnsFunction, OwnsLogicRef, OwnsContinuous, type_of}
+use Rattle.vast_core.specs.Growth.{next_logic_ref, next_continuous, with_assignment}
+use Rattle.vast_core.specs.Sound.{Each, FormSound, EventSound, MemberSound, MemberNewer}
+use Rattle.vast_core.specs.Containers.{InModule, InNest, with_fresh, MemberEnters, GrowthSound, FreshSound, no_fresh, fresh_assignment, fresh_container, next_block, next_conditional, new_conditional}
+use Rattle.vast_core.specs.Loops.{next_always, next_loop, next_function, new_always, with_always, fresh_always, new_loop, fresh_name, fresh_loop, new_function, fresh_function}
 use Rattle.vast_core.proofs.Lists.{slice_get-seam}
 use Rattle.vast_core.proofs.NodeLaws.{Extends-root, HasExpr-kept, HasType-kept}
+use Rattle.vast_core.proofs.Sound.{MemberSound-kept}
+use Rattle.vast_core.proofs.Containers.{Grows-fresh}
 use Rattle.vast_core.proofs.Growth.{last-test}
 use Rattle.vast_core.proofs.Enters.{loop-place, conditional-comes, next_conditional_owned}
 
@@ -133,6 +135,33 @@ pub member-enters :
 member-enters b owner m h k n =
     record { fresh = record { term = tt; assignment = tt; container = tt; function = tt; always_block = tt }; listing = (loop-place b owner h, (k, n)) }
 
+-- Local parameters and assignments.
+
+parameter-comes : (b : Bench) (name : String Global) (type : Option VastDataType) → OptionHolds (OwnsType b) type → FreshSound b (with_fresh (fresh_name name type) b) (fresh_name name type)
+parameter-comes b name type h = record { term = (h, tt); assignment = tt; container = tt; function = tt; always_block = tt }
+
+pub parameter-enters :
+    (b : Bench) (owner : GenerateLoop) (form : FormEntry) (value : Expr) (name : String Global) (type : Option VastDataType) →
+    OwnsLoop b owner → FormSound b form → OwnsExpr b value → OptionHolds (OwnsType b) type →
+    GrowthSound b (InNest (loop_index owner) (MemberEnters (ParameterEntry true form value))) (fresh_name name type)
+parameter-enters b owner form value name type h f k m =
+    record {
+      fresh = parameter-comes b name type m;
+      listing = (loop-place b owner h, (MemberSound-kept b (with_fresh (fresh_name name type) b) (Grows-fresh b (fresh_name name type)) (ParameterEntry true form value) (f, k), tt));
+    }
+
+next_continuous_owned : (b : Bench) (lhs rhs : Expr) → OwnsContinuous (with_assignment (record { lhs = lhs; rhs = rhs; nonblocking = false }) b) (next_continuous b)
+next_continuous_owned b lhs rhs = record { of_file = refl; of_kind = rw (slice_get-seam b.assignments (record { lhs = lhs; rhs = rhs; nonblocking = false })) refl }
+
+pub loop_continuous-enters :
+    (b : Bench) (owner : GenerateLoop) (lhs rhs : Expr) → OwnsLoop b owner → OwnsExpr b lhs → OwnsExpr b rhs →
+    GrowthSound b (InNest (loop_index owner) (MemberEnters (AssignmentEntry (next_continuous b)))) (fresh_assignment (record { lhs = lhs; rhs = rhs; nonblocking = false }))
+loop_continuous-enters b owner lhs rhs h k m =
+    record {
+      fresh = record { term = tt; assignment = (k, m); container = tt; function = tt; always_block = tt };
+      listing = (loop-place b owner h, (next_continuous_owned b lhs rhs, tt));
+    }
+
 -- Functions.
 
 abbrev grown_function : Bench → String Global → List ℕ → VastDataType → Bench
@@ -160,29 +189,19 @@ function-enters b owner variable name type taken h k =
           inputs = tt;
           locals = tt;
           body = body_owned b variable name type;
+          distinct = (λ k d below. absurd (omega arith), tt);
+          taken = λ other. (λ h. h, λ h. h);
         };
         always_block = tt;
       };
       listing = (h, function_owned b variable name type);
     }
 
--- The same, of a node that is known to be this; its names are whatever the code makes them.
+-- The same, of a node that is known to be this.
 pub function-enters-as :
     (b : Bench) (owner : VastModule) (h : VastFunction) (variable : String Global) (taken name : List ℕ) (type : VastDataType) (g : LogicRef) (inputs locals : List VariableRecord) (body : VastStatementBlock) (names : List (List ℕ)) →
-    h ≡ next_function b → g ≡ next_logic_ref b → inputs ≡ [] → locals ≡ [] → body ≡ next_block b → OwnsModule b owner → OwnsType b type →
+    h ≡ next_function b → g ≡ next_logic_ref b → inputs ≡ [] → locals ≡ [] → body ≡ next_block b → names ≡ name ∷ [] → OwnsModule b owner → OwnsType b type →
     GrowthSound b (InModule owner (FunctionEntry h) (Some taken)) (fresh_function variable type (record { name = name; result_type = type; result_name = g; inputs = inputs; locals = locals; body = body; names = names }))
-function-enters-as b owner h variable taken name type g inputs locals body names e f i l x o k =
-    let q = function-enters b owner variable name type taken o k in
-    rw (e, f, i, l, x)
-    (record {
-      fresh = record {
-        term = q.fresh.term;
-        assignment = tt;
-        container = tt;
-        function = record { result_type = q.fresh.function.result_type; result_name = q.fresh.function.result_name; inputs = tt; locals = tt; body = q.fresh.function.body };
-        always_block = tt;
-      };
-      listing = (o, record { of_file = refl; of_kind = rw (length-append b.functions (record { name = name; result_type = type; result_name = next_logic_ref b; inputs = []; locals = []; body = next_block b; names = names } ∷ [])) (last-test (length b.functions)) });
-    })
+function-enters-as b owner h variable taken name type g inputs locals body names e f i l x n o k = rw (e, f, i, l, x, n) (function-enters b owner variable name type taken o k)
 
-pub ruleset enters_members = (always-enters, loop_always-enters, conditional_member-enters, loop_conditional-enters, loop-enters, loop_loop-enters, member-enters, function-enters)
+pub ruleset enters_members = (always-enters, loop_always-enters, conditional_member-enters, loop_conditional-enters, loop-enters, loop_loop-enters, member-enters, parameter-enters, loop_continuous-enters, function-enters)

@@ -19,5 +19,6 @@ pub mod Enters
 pub mod EntersMembers
 pub mod NestReaders
 pub mod NestLaws
+pub mod FreeNames
 pub mod Functions
 pub mod KeywordTable

@@ -246,6 +246,8 @@ FunctionSound-kept b c g f h =
       inputs = Each-map (VariableSound-kept b c g) f.inputs h.inputs;
       locals = Each-map (VariableSound-kept b c g) f.locals h.locals;
       body = nest-kept is_block_kind b c f.body.id g never h.body;
+      distinct = h.distinct;
+      taken = h.taken;
     }
 
 EventSound-kept : (b c : Bench) → Grows b c → (e : Expr) → EventSound b e → EventSound c e

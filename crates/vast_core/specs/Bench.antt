@@ -28,7 +28,7 @@ use Rattle.vast_core.specs.declared.handle.CaseStatement.{CaseStatement}
 use Rattle.vast_core.specs.declared.handle.GenerateLoop.{GenerateLoop}
 use Rattle.vast_core.specs.declared.kind.VastFileType.{VastFileType}
 use Rattle.vast_core.specs.declared.node.Assignment.{Assignment}
-use Rattle.vast_core.specs.Handles.{module_index}
+use Rattle.vast_core.specs.Handles.{module_index, function_index}
 use Rattle.vast_core.specs.Nodes.{Nodes, no_nodes, IsOwned, is_expr_root, is_type_root, is_root_of, is_name, is_index, is_slice, is_macro, expr_in, type_in, maybe_expr_in, exprs_in}
 use Rattle.vast_core.specs.Types.{ExprWellFormed, TypeWellFormed}
 use Rattle.vast_core.specs.Records.{PortRecord, ModuleRecord, DefinitionRecord, ArtifactRecord, BlankLineRecord, CommentRecord, InlineRecord, MacroRecord, InstanceRecord, FileEntry, IsFree}
@@ -199,3 +199,11 @@ names_of (Some m) = m.names
 
 abbrev pub NameIsFree : Bench → VastModule → List ℕ → Type 0
 NameIsFree b m name = IsFree name (names_of (slice_get b.modules (module_index m)))
+
+-- The names that a function's result, inputs and locals have taken.
+abbrev pub function_names : Option FunctionRecord → List (List ℕ)
+function_names None = []
+function_names (Some f) = f.names
+
+abbrev pub IsFreeInFunction : Bench → VastFunction → List ℕ → Type 0
+IsFreeInFunction b f name = IsFree name (function_names (slice_get b.functions (function_index f)))

@@ -18,3 +18,4 @@ pub mod Containers
 pub mod Arrivals
 pub mod Loops
 pub mod Functions
+pub mod Events

@@ -1,5 +1,5 @@
 -- The records of containers, functions and always blocks: nodes with the bytes of their texts.
-use Rattle.std.specs.Prelude.{ℕ, Bool, true, false, List, map, Option, Some, None, string_bytes, String}
+use Rattle.std.specs.Prelude.{ℕ, Bool, true, false, List, ◌∷◌, ◌++◌, map, Option, Some, None, string_bytes, String}
 use Rattle.std.specs.declared.alloc.Global.{Global}
 use Rattle.vast_core.specs.declared.handle.Expr.{Expr}
 use Rattle.vast_core.specs.declared.handle.LogicRef.{LogicRef}
@@ -80,6 +80,13 @@ pub record FunctionRecord : Type 0 where
   pub locals : List VariableRecord
   pub body : VastStatementBlock
   pub names : List (List ℕ)
+
+abbrev pub variable_names : List VariableRecord → List (List ℕ)
+variable_names variables = map (λ v. v.name) variables
+
+-- The names of the function's result, inputs and locals.
+abbrev pub declared_names : FunctionRecord → List (List ℕ)
+declared_names f = f.name ∷ (variable_names f.inputs ++ variable_names f.locals)
 
 pub record AlwaysRecord : Type 0 where
   pub kind : AlwaysKind

@@ -1,16 +1,16 @@
 -- What every file keeps: children are older, each expression and type fits, and each handle in its records and lists
 -- is its own.
-use Rattle.std.specs.Prelude.{ℕ, suc, ◌<◌, Bool, true, false, IsTrue, List, [], ◌∷◌, Option, Some, None, slice_get}
+use Rattle.std.specs.Prelude.{◌↔◌, ℕ, suc, ◌<◌, Bool, true, false, IsTrue, List, [], ◌∷◌, Option, Some, None, slice_get}
 use Rattle.vast_literal.specs.Tree.{ExprTree, NameTree, PosEdgeTree, NegEdgeTree}
 use Rattle.vast_core.specs.declared.handle.Expr.{Expr}
 use Rattle.vast_core.specs.declared.handle.VastStatementBlock.{VastStatementBlock}
 use Rattle.vast_core.specs.declared.node.ElseIf.{ElseIf}
 use Rattle.vast_core.specs.declared.node.CaseArm.{CaseArm}
 use Rattle.vast_core.specs.Handles.{block_index, conditional_index, case_index, loop_index, always_index}
-use Rattle.vast_core.specs.Nests.{StatementEntry, AssignStatement, ContinuousStatement, ConditionalStatement, CasesStatement, BlankStatement, CommentStatement, InlineStatement, ConditionalRecord, CaseRecord, LoopRecord, NestRecord, BlockRecord, BranchRecord, SwitchRecord, RepeatRecord, VariableRecord, FunctionRecord, AlwaysRecord}
+use Rattle.vast_core.specs.Nests.{StatementEntry, AssignStatement, ContinuousStatement, ConditionalStatement, CasesStatement, BlankStatement, CommentStatement, InlineStatement, ConditionalRecord, CaseRecord, LoopRecord, NestRecord, BlockRecord, BranchRecord, SwitchRecord, RepeatRecord, VariableRecord, FunctionRecord, AlwaysRecord, declared_names}
 use Rattle.vast_core.specs.declared.node.Assignment.{Assignment}
 use Rattle.vast_core.specs.Nodes.{no_nodes, TermsSound, OptionHolds}
-use Rattle.vast_core.specs.Records.{PortRecord, ParameterPortRecord, ModuleRecord, FormEntry, PlainForm, IntForm, DefinedForm, MemberEntry, DeclarationEntry, AssignmentEntry, ParameterEntry, BlankEntry, CommentEntry, InlineEntry, MacroEntry, InstanceEntry, FunctionEntry, AlwaysEntry, ConditionalEntry, LoopEntry, FileEntry, ModuleEntry, IncludeEntry, FileCommentEntry, FileBlankEntry, DefinitionRecord, ArtifactRecord, BlankLineRecord, CommentRecord, InlineRecord, MacroRecord, ConnectionRecord, InstanceRecord}
+use Rattle.vast_core.specs.Records.{PortRecord, ParameterPortRecord, ModuleRecord, FormEntry, PlainForm, IntForm, DefinedForm, MemberEntry, DeclarationEntry, AssignmentEntry, ParameterEntry, BlankEntry, CommentEntry, InlineEntry, MacroEntry, InstanceEntry, FunctionEntry, AlwaysEntry, ConditionalEntry, LoopEntry, FileEntry, ModuleEntry, IncludeEntry, FileCommentEntry, FileBlankEntry, DefinitionRecord, ArtifactRecord, BlankLineRecord, CommentRecord, InlineRecord, MacroRecord, ConnectionRecord, InstanceRecord, IsFree}
 use Rattle.vast_core.specs.Raw.{Raw}
 use Rattle.vast_core.specs.Bench.{Bench, OwnsExpr, OwnsType, OwnsLogicRef, OwnsPort, OwnsContinuous, OwnsModule, OwnsDef, OwnsMacroRef, OwnsComment, OwnsInline, OwnsMacroStatement, OwnsInstantiation, OwnsFunction, OwnsAlways, OwnsStatement, OwnsBlock, OwnsConditional, OwnsCase, OwnsLoop, tree_of}
 use Rattle.vast_core.specs.View.{bench}
@@ -133,12 +133,21 @@ NestsSound b i (n ∷ ns) = NestSound b i n × NestsSound b (suc i) ns
 abbrev pub VariableSound : Bench → VariableRecord → Type 0
 VariableSound b v = OwnsType b v.data_type
 
+-- No name stands twice.
+abbrev pub AreDistinct : List (List ℕ) → Type 0
+AreDistinct [] = Unit {0}
+AreDistinct (name ∷ names) = IsFree name names × AreDistinct names
+
+-- What a function names is the file's. Its result, inputs and locals have distinct names, and the names that are taken
+-- are those.
 pub record FunctionSound (b : Bench) (f : FunctionRecord) : Type 0 where
   pub result_type : OwnsType b f.result_type
   pub result_name : OwnsLogicRef b f.result_name
   pub inputs : Each (VariableSound b) f.inputs
   pub locals : Each (VariableSound b) f.locals
   pub body : OwnsBlock b f.body
+  pub distinct : AreDistinct (declared_names f)
+  pub taken : (name : List ℕ) → IsFree name f.names ↔ IsFree name (declared_names f)
 
 -- An edge or a name.
 abbrev pub is_event : ExprTree → Bool

@@ -1,6 +1,6 @@
 //! Generate loops, and conditionals among members.
 
-ghost use Rattle.std.specs.Prelude.{◌≡◌, ◌<◌, ◌^◌, All, None, Some, slice_get, map, string_bytes};
+ghost use Rattle.std.specs.Prelude.{◌≡◌, ◌<◌, ◌^◌, false, All, None, Some, slice_get, map, string_bytes};
 ghost use Rattle.vast_core.specs.Handles.{loop_index};
 ghost use Rattle.vast_core.specs.Records.{member_entry, BlankEntry, CommentEntry, InlineEntry, MacroEntry, InstanceEntry, AssignmentEntry, ConditionalEntry, LoopEntry};
 ghost use Rattle.vast_core.specs.Nests.{label_bytes, loop_record, RepeatRecord};
@@ -8,7 +8,8 @@ ghost use Rattle.vast_core.specs.Bench.{OwnsModule, OwnsLoop, OwnsExpr, OwnsLogi
 ghost use Rattle.vast_core.specs.Sound.{LoopMemberSound, MemberSound, MemberNewer};
 ghost use Rattle.vast_core.specs.FileTree.{RepeatFamily, families, members_tree};
 ghost use Rattle.vast_literal.specs.Tree.{LoopMember};
-ghost use Rattle.vast_core.specs.Growth.{Builds, with_member};
+ghost use Rattle.vast_core.specs.Growth.{Builds, with_member, with_assignment, next_continuous};
+ghost use Rattle.vast_core.specs.Artifacts.{next_statement};
 ghost use Rattle.vast_core.specs.Containers.{next_conditional, with_conditional};
 ghost use Rattle.vast_core.specs.Loops.{next_loop, with_loop, with_loop_member};
 ghost use Rattle.vast_core.specs.View.{bench};
@@ -17,9 +18,9 @@ use crate::ast::Ast;
 use crate::ast::growth::{Arrivals, Entry, Place};
 use crate::handle::{
     Comment, Conditional, ContinuousAssignment, Expr, GenerateLoop, InlineVerilogStatement,
-    Instantiation, LogicRef, MacroStatement, VastModule, VastStatementBlock,
+    Instantiation, LogicRef, MacroStatement, VastModule, VastStatement, VastStatementBlock,
 };
-use crate::node::{ConditionalNode, ExprNode, LoopNode, Member, Nest, Term};
+use crate::node::{Assignment, ConditionalNode, ExprNode, LoopNode, Member, Nest, Term};
 use std::alloc::AllocError;
 
 impl Ast {
@@ -236,6 +237,46 @@ impl Ast {
         ensures { Builds (bench self.old) (bench self.new) result tt (with_loop_member owner (AssignmentEntry a) (bench self.old)) }
     {
         self.append_loop_member(owner, Member::ContinuousAssignment(a))
+    }
+
+    /// Appends the assignment `assign lhs = rhs` to the loop's members.
+    ///
+    /// # Errors
+    /// `AllocError` where a growth was refused; nothing changed.
+    #[tactic(auto, using(crate::proofs::EntersMembers::enters_members))]
+    pub fn append_loop_assignment(
+        &mut self,
+        owner: GenerateLoop,
+        lhs: Expr,
+        rhs: Expr,
+    ) -> Result<VastStatement, AllocError>
+        requires owner { OwnsLoop (bench self.old) owner }
+        requires lhs { OwnsExpr (bench self.old) lhs }
+        requires rhs { OwnsExpr (bench self.old) rhs }
+        ensures { Builds (bench self.old) (bench self.new) result (next_statement (bench self.old)) (with_loop_member owner (AssignmentEntry (next_continuous (bench self.old))) (with_assignment (record { lhs = lhs; rhs = rhs; nonblocking = false }) (bench self.old))) }
+    {
+        let assignment = ContinuousAssignment {
+            id: self.next_assignment(),
+        };
+        self.grow(
+            Place::Nest(
+                owner.id.index,
+                Entry::Member(Member::ContinuousAssignment(assignment)),
+            ),
+            Arrivals {
+                term: None,
+                assignment: Some(Assignment {
+                    lhs,
+                    rhs,
+                    nonblocking: false,
+                }),
+                container: None,
+                block: false,
+                function: None,
+                always_block: None,
+            },
+        )?;
+        Ok(VastStatement { id: assignment.id })
     }
 
     /// Appends a blank line to the loop's members.

@@ -3,7 +3,7 @@
 ghost use Rattle.std.specs.Prelude.{◌≡◌, ◌↔◌, IsTrue, OnOk, OnErr, false, true, string_bytes};
 ghost use Rattle.vast_core.specs.Records.{IsFree};
 ghost use Rattle.vast_core.specs.Nests.{function_record, variable_record};
-ghost use Rattle.vast_core.specs.Bench.{OwnsFunction, OwnsType};
+ghost use Rattle.vast_core.specs.Bench.{OwnsFunction, OwnsType, IsFreeInFunction};
 ghost use Rattle.vast_core.specs.Growth.{Builds, next_logic_ref};
 ghost use Rattle.vast_core.specs.Functions.{with_listed_variable, with_listed_in, with_variable};
 ghost use Rattle.vast_core.specs.View.{bench, room};
@@ -74,6 +74,7 @@ impl Ast {
         requires owner { OwnsFunction (bench self.old) owner }
         requires data_type { OwnsType (bench self.old) variable.data_type }
         requires name { string_bytes name ≡ string_bytes variable.name }
+        requires free { IsFreeInFunction (bench self.old) owner (string_bytes variable.name) }
         ensures built { Builds (bench self.old) (bench self.new) result tt (with_listed_in owner local (variable_record variable) (bench self.old)) }
         ensures room { room self.new ≡ room self.old }
     {
@@ -82,8 +83,8 @@ impl Ast {
         Ok(())
     }
 
-    /// Adds an input, or a local, at the end of the function's, and answers its name as an expression. The function's
-    /// name set gains the name; whether it was free is the caller's to know ([`Function::name_is_free`]).
+    /// Adds an input, or a local, at the end of the function's, and answers its name as an expression. The name is free
+    /// ([`Function::name_is_free`]), and is taken from then on.
     ///
     /// # Errors
     /// `AllocError` where a growth was refused; nothing changed.
@@ -97,6 +98,7 @@ impl Ast {
     ) -> Result<LogicRef, AllocError>
         requires owner { OwnsFunction (bench self.old) owner }
         requires data_type { OwnsType (bench self.old) data_type }
+        requires free { IsFreeInFunction (bench self.old) owner name.now }
         ensures { Builds (bench self.old) (bench self.new) result (next_logic_ref (bench self.old)) (with_variable owner local (record { kind = kind; name = name.now; data_type = data_type }) (bench self.old)) }
     {
         let node_name = String::from_str(self.alloc, name)?;

@@ -37,7 +37,7 @@ invariant_of-self-2 c =
     let below : c.args.owner.id.index < length c.self.inside.functions.items = function-below c.args.self.now _ c.args.owner.id.index c.self.view_is c.requires.owner.of_kind in
     sound-variable c.args.self.now _ c.args.owner.id.index c.args.local (variable_record c.args.variable) _ _ c.self.view_is
     (changed-map function_record (with_listed_variable c.args.local (variable_record c.args.variable)) c.self.inside.functions.items c.args.owner.id.index c.index_mut-target.result.now c.enter_variable.new.self below c.index_mut-target.ensures.value c.in_ok-enter_variable.ensures.ok)
-    c.requires.data_type c.self.invariant
+    c.requires.data_type c.requires.free c.self.invariant
 
 pub returns-clause-built : goal.returns-clause-built
 returns-clause-built c =
