@@ -23,7 +23,7 @@ use vast_core::{Ast, BinaryOperator, GenerateLoop, LoopNode};
 
 /// Writes a generate loop on lines of its own.
 #[cycle(members)]
-#[tactic(auto, using(crate::proofs::ContainerLaws::loops))]
+#[tactic(auto, using(crate::proofs::ArenaLaws::stops))]
 pub(crate) fn print_loop(
     ast: &Ast,
     l: GenerateLoop,
