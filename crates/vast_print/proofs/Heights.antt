@@ -1,10 +1,16 @@
 -- How much is still to print: less for newer containers, so that printing ends; and depths stay in range.
-use Rattle.std.proofs.Common.{ℕ, ◌+◌, ◌-◌, ◌*◌, ◌^◌, ◌<◌, ◌≤◌, Option, Some, None, slice_get, arith}
+use Rattle.std.proofs.Common.{◌≡◌, ℕ, ◌+◌, ◌-◌, ◌*◌, ◌^◌, ◌<◌, ◌≤◌, List, length, get_or, Option, Some, None, slice_get, All, sym, subst, arith}
+use Rattle.vast_core.specs.declared.node.Statement.{Statement}
+use Rattle.vast_core.specs.declared.node.Member.{Member}
+use Rattle.vast_core.specs.declared.node.CaseArm.{CaseArm}
+use Rattle.vast_core.specs.declared.node.ElseIf.{ElseIf}
+use Rattle.vast_core.specs.declared.node.Function.{Function}
 use Rattle.vast_core.specs.Handles.{conditional_index, case_index, loop_index, always_index}
-use Rattle.vast_core.specs.Records.{MemberEntry, DeclarationEntry, AssignmentEntry, ParameterEntry, BlankEntry, CommentEntry, InlineEntry, MacroEntry, InstanceEntry, FunctionEntry, AlwaysEntry, ConditionalEntry, LoopEntry}
-use Rattle.vast_core.specs.Nests.{StatementEntry, AssignStatement, ContinuousStatement, ConditionalStatement, CasesStatement, BlankStatement, CommentStatement, InlineStatement, AlwaysRecord}
+use Rattle.vast_core.specs.Records.{MemberEntry, DeclarationEntry, AssignmentEntry, ParameterEntry, BlankEntry, CommentEntry, InlineEntry, MacroEntry, InstanceEntry, FunctionEntry, AlwaysEntry, ConditionalEntry, LoopEntry, member_entry}
+use Rattle.vast_core.specs.Nests.{StatementEntry, AssignStatement, ContinuousStatement, ConditionalStatement, CasesStatement, BlankStatement, CommentStatement, InlineStatement, AlwaysRecord, statement_entry, variable_record, function_record}
 use Rattle.vast_core.specs.Bench.{Bench}
-use Rattle.vast_core.specs.Sound.{StatementSound, AlwaysNewer, MemberNewer}
+use Rattle.vast_core.specs.Sound.{Each, StatementSound, CaseArmSound, ElseIfSound, AlwaysNewer, MemberNewer, LoopMemberSound, VariableSound, FunctionSound}
+use Rattle.vast_core.proofs.Lists.{All-own, All-Each}
 use Rattle.vast_print.specs.Fits.{StatementFits, AlwaysFits, MemberFits}
 
 abbrev pub height : ℕ → ℕ
@@ -104,3 +110,28 @@ newer-member-fits b i d (FunctionEntry f) h room small = absurd h
 newer-member-fits b i d (AlwaysEntry a) h room small = newer-always-fits i d (slice_get b.always_blocks (always_index a)) h room
 newer-member-fits b i d (ConditionalEntry c) h room small = omega (arith, h)
 newer-member-fits b i d (LoopEntry l) h room small = omega (arith, h)
+
+-- what a list holds, at one of its places
+
+pub held-statement : (b : Bench) (i : ℕ) (xs : List Statement) (j : ℕ) (x : Statement) → All (λ y. StatementSound b i (statement_entry y)) xs → j < length xs → x ≡ get_or xs j x → StatementSound b i (statement_entry x)
+held-statement b i xs j x h below is = let P : Statement → Type 0 = λ y. StatementSound b i (statement_entry y) in subst P (sym is) (h j x below)
+
+pub held-member : (b : Bench) (i : ℕ) (xs : List Member) (j : ℕ) (x : Member) → All (λ y. LoopMemberSound b i (member_entry y)) xs → j < length xs → x ≡ get_or xs j x → LoopMemberSound b i (member_entry x)
+held-member b i xs j x h below is = let P : Member → Type 0 = λ y. LoopMemberSound b i (member_entry y) in subst P (sym is) (h j x below)
+
+pub held-arm : (b : Bench) (i : ℕ) (xs : List CaseArm) (j : ℕ) (x : CaseArm) → Each (CaseArmSound b i) xs → j < length xs → x ≡ get_or xs j x → CaseArmSound b i x
+held-arm b i xs j x h below is = let P : CaseArm → Type 0 = λ y. CaseArmSound b i y in subst P (sym is) (All-own P xs h j x below)
+
+pub held-else-if : (b : Bench) (i : ℕ) (xs : List ElseIf) (j : ℕ) (x : ElseIf) → Each (ElseIfSound b i) xs → j < length xs → x ≡ get_or xs j x → ElseIfSound b i x
+held-else-if b i xs j x h below is = let P : ElseIf → Type 0 = λ y. ElseIfSound b i y in subst P (sym is) (All-own P xs h j x below)
+
+-- the inputs and the locals of a function
+pub inputs-own : (b : Bench) (f : Function) → FunctionSound b (function_record f) → All (λ v. VariableSound b (variable_record v)) f.inputs.items
+inputs-own b f h = All-Each variable_record (VariableSound b) f.inputs.items h.inputs
+
+pub locals-own : (b : Bench) (f : Function) → FunctionSound b (function_record f) → All (λ v. VariableSound b (variable_record v)) f.locals.items
+locals-own b f h = All-Each variable_record (VariableSound b) f.locals.items h.locals
+
+pub ruleset fits = (member-fits)
+
+pub ruleset variables = (inputs-own, locals-own)

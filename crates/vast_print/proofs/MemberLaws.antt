@@ -1,6 +1,6 @@
 -- Laws of writing the members of modules and loops, one for each case.
 use Rattle.std.proofs.Common.{◌≡◌, ◌<◌, ℕ, ◌+◌, Bool, true, false, List, [], ◌∷◌, length, map, refl, ◌∙◌, codes, arith, Option, Some, None}
-use Rattle.vast_literal.specs.Tree.{Dialect, ExprTree, NoExpr, SomeExpr, Exprs, Declaration, LtOp, Statements, AlwaysFFWord, AlwaysAtWord, AlwaysCombWord, ParameterName, PlainParameter, IntParameter, Connection, InstanceTree, FunctionTree}
+use Rattle.vast_literal.specs.Tree.{Dialect, ExprTree, NoExpr, SomeExpr, Exprs, Declaration, LtOp, Statements, AlwaysWord, AlwaysFFWord, AlwaysAtWord, AlwaysCombWord, ParameterName, PlainParameter, IntParameter, Connection, InstanceTree, FunctionTree}
 use Rattle.vast_literal.specs.Tree.{MemberTree, DeclarationMember, ParameterMember, CommentMember, BlankMember, InlineMember, MacroMember, InstanceMember, AlwaysMember, FunctionMember, LoopMember, Members, NoMembers, MoreMembers}
 use Rattle.vast_print.specs.Printed.{plain_text, wrapped}
 use Rattle.vast_print.specs.Page.{written, commented}

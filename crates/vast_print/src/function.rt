@@ -174,7 +174,7 @@ fn print_result(
 }
 
 /// Writes a function on lines of its own.
-#[tactic(auto, using(crate::proofs::ContainerLaws::functions))]
+#[tactic(auto, using(crate::proofs::ContainerLaws::functions, crate::proofs::Heights::variables))]
 pub(crate) fn print_function(
     ast: &Ast,
     f: VastFunction,

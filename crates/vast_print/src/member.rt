@@ -100,7 +100,7 @@ pub(crate) fn print_member(
 }
 
 /// Writes the members of a module below each other.
-#[tactic(auto, using(crate::proofs::ArenaLaws::modules))]
+#[tactic(auto, using(crate::proofs::ArenaLaws::modules, crate::proofs::Heights::fits))]
 pub(crate) fn print_members(
     ast: &Ast,
     members: &[Member],

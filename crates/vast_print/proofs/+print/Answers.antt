@@ -28,3 +28,28 @@ statement::print_statements-returns-in_err-print_statement t c =
 pub statement::print_statements-returns : goal.statement::print_statements-returns
 statement::print_statements-returns t c =
     grind (arith, block-end (bench c.args.ast.now) c.args.depth (Wet c.loop-statement.out) c.block-statement-items.result.now c.loop-statement.statement-index c.loop-statement-test.false)
+
+pub case::print_case-returns-in_err-print_selector : goal.case::print_case-returns-in_err-print_selector
+case::print_case-returns-in_err-print_selector t c =
+    let n = c.case-node.result.now in
+    grind (arith, stops, hang-switch (bench c.args.ast.now) c.args.depth (Wet c.args.out.now) (case_index c.args.c) n.unique (case_word n.kind) (tree_of (bench c.args.ast.now) n.selector) (case_arms_tree (bench c.args.ast.now) n.arms.items) c.case-node.ensures.tree)
+
+pub case::print_case-loop-arm-init : goal.case::print_case-loop-arm-init
+case::print_case-loop-arm-init t c =
+    let n = c.case-node.result.now in
+    grind (arith, hang-switch (bench c.args.ast.now) c.args.depth (Wet c.args.out.now) (case_index c.args.c) n.unique (case_word n.kind) (tree_of (bench c.args.ast.now) n.selector) (case_arms_tree (bench c.args.ast.now) n.arms.items) c.case-node.ensures.tree)
+
+pub conditional::print_conditional-returns-in_err-print_condition : goal.conditional::print_conditional-returns-in_err-print_condition
+conditional::print_conditional-returns-in_err-print_condition t c =
+    let n = c.conditional-node.result.now in
+    grind (arith, stops, hang-branch (bench c.args.ast.now) c.args.depth (Wet c.args.out.now) (conditional_index c.args.c) (tree_of (bench c.args.ast.now) n.condition) (block_tree (bench c.args.ast.now) n.consequent) (alternates_tree (bench c.args.ast.now) n.else_ifs.items n.otherwise) c.conditional-node.ensures.tree)
+
+pub conditional::print_conditional-returns-in_err-print_block : goal.conditional::print_conditional-returns-in_err-print_block
+conditional::print_conditional-returns-in_err-print_block t c =
+    let n = c.conditional-node.result.now in
+    grind (arith, stops, hang-branch (bench c.args.ast.now) c.args.depth (Wet c.args.out.now) (conditional_index c.args.c) (tree_of (bench c.args.ast.now) n.condition) (block_tree (bench c.args.ast.now) n.consequent) (alternates_tree (bench c.args.ast.now) n.else_ifs.items n.otherwise) c.conditional-node.ensures.tree)
+
+pub conditional::print_conditional-loop-arm-init : goal.conditional::print_conditional-loop-arm-init
+conditional::print_conditional-loop-arm-init t c =
+    let n = c.conditional-node.result.now in
+    grind (arith, hang-branch (bench c.args.ast.now) c.args.depth (Wet c.args.out.now) (conditional_index c.args.c) (tree_of (bench c.args.ast.now) n.condition) (block_tree (bench c.args.ast.now) n.consequent) (alternates_tree (bench c.args.ast.now) n.else_ifs.items n.otherwise) c.conditional-node.ensures.tree)

@@ -1,17 +1,18 @@
+use Rattle.std.proofs.Common.{arith}
 use Rattle.vast_print.proofs.ContainerLaws.{functions}
 use Rattle.vast_print.proofs.function.print_function.Goals as goal
 
 pub returns : goal.returns
-returns c = rw c.function-function.ensures.there (grind (functions))
+returns c = rw c.function-function.ensures.there (grind (arith, functions))
 
 pub returns-in_err-print_result : goal.returns-in_err-print_result
-returns-in_err-print_result c = rw c.function-function.ensures.there (grind (functions))
+returns-in_err-print_result c = rw c.function-function.ensures.there (grind (arith, functions))
 
 pub returns-in_err-print_inputs : goal.returns-in_err-print_inputs
-returns-in_err-print_inputs c = rw c.function-function.ensures.there (grind (functions))
+returns-in_err-print_inputs c = rw c.function-function.ensures.there (grind (arith, functions))
 
 pub returns-in_err-print_locals : goal.returns-in_err-print_locals
-returns-in_err-print_locals c = rw c.function-function.ensures.there (grind (functions))
+returns-in_err-print_locals c = rw c.function-function.ensures.there (grind (arith, functions))
 
 pub returns-in_err-print_body : goal.returns-in_err-print_body
-returns-in_err-print_body c = rw c.function-function.ensures.there (grind (functions))
+returns-in_err-print_body c = rw c.function-function.ensures.there (grind (arith, functions))
