@@ -1,4 +1,6 @@
 use Rattle.std.proofs.Common.{arith}
+use Rattle.vast_core.specs.View.{bench}
+use Rattle.vast_print.proofs.Heights.{inputs-own}
 use Rattle.vast_print.proofs.ContainerLaws.{functions}
 use Rattle.vast_print.proofs.function.print_function.Goals as goal
 
@@ -16,3 +18,6 @@ returns-in_err-print_locals c = rw c.function-function.ensures.there (grind (ari
 
 pub returns-in_err-print_body : goal.returns-in_err-print_body
 returns-in_err-print_body c = rw c.function-function.ensures.there (grind (arith, functions))
+
+pub print_inputs-requires : goal.print_inputs-requires
+print_inputs-requires c = rw c.deref-2.ensures.value (inputs-own (bench c.args.ast.now) c.function-function.result.now c.function-function.ensures.sound)
