@@ -1,6 +1,6 @@
 use Rattle.std.proofs.Common.{arith}
 use Rattle.vast_core.specs.View.{bench}
-use Rattle.vast_print.proofs.Heights.{inputs-own}
+use Rattle.vast_print.proofs.Heights.{inputs-own, locals-own}
 use Rattle.vast_print.proofs.ContainerLaws.{functions}
 use Rattle.vast_print.proofs.function.print_function.Goals as goal
 
@@ -21,3 +21,6 @@ returns-in_err-print_body c = rw c.function-function.ensures.there (grind (arith
 
 pub print_inputs-requires : goal.print_inputs-requires
 print_inputs-requires c = rw c.deref-2.ensures.value (inputs-own (bench c.args.ast.now) c.function-function.result.now c.function-function.ensures.sound)
+
+pub print_locals-requires : goal.print_locals-requires
+print_locals-requires c = rw c.deref-3.ensures.value (locals-own (bench c.args.ast.now) c.function-function.result.now c.function-function.ensures.sound)
