@@ -19,14 +19,14 @@ use Rattle.vast_core.proofs.Sound.{Grows, carried, InstanceSound-kept}
 -- A definition more.
 
 pub Grows-definition : (b : Bench) (x : DefinitionRecord) → Grows b (with_definition x b)
-Grows-definition b x = record { nodes = Extends-same b.nodes; ports = omega arith; assignments = λ i a h. h; modules = omega arith; definitions = omega (arith, length-append b.definitions (x ∷ [])); artifacts = λ i a h. h; instances = omega arith }
+Grows-definition b x = record { nodes = Extends-same b.nodes; ports = omega arith; assignments = λ i a h. h; modules = omega arith; definitions = omega (arith, length-append b.definitions (x ∷ [])); artifacts = λ i a h. h; instances = omega arith; nests = λ i below. refl; functions = omega arith; always_blocks = λ i a h. h }
 
 RecordsSound-definition : (b : Bench) (x : DefinitionRecord) → RecordsSound b → DefinitionSound b x → RecordsSound (with_definition x b)
 RecordsSound-definition b x s h =
     let g = Grows-definition b x in
     let c : Bench = with_definition x b in
     let k = carried b c g s in
-    record { ports = k.ports; assignments = k.assignments; modules = k.modules; definitions = Each-push (DefinitionSound c) b.definitions x k.definitions h; artifacts = k.artifacts; instances = k.instances; items = k.items }
+    record { ports = k.ports; assignments = k.assignments; modules = k.modules; definitions = Each-push (DefinitionSound c) b.definitions x k.definitions h; artifacts = k.artifacts; instances = k.instances; items = k.items; nests = k.nests; functions = k.functions; always_blocks = k.always_blocks }
 
 pub bench-definition : (a b : Raw) (x : Definition) (xs : List Definition) → b ≡ a → xs ≡ b.definitions ++ x ∷ [] → bench (record b { definitions = xs }) ≡ with_definition (definition_record x) (bench a)
 unfolding bench
@@ -46,14 +46,14 @@ length-definitions a b e = rw (← e) (simp length-map)
 -- An artifact more.
 
 pub Grows-artifact : (b : Bench) (x : ArtifactRecord) → Grows b (with_artifact x b)
-Grows-artifact b x = record { nodes = Extends-same b.nodes; ports = omega arith; assignments = λ i a h. h; modules = omega arith; definitions = omega arith; artifacts = λ i a h. slice_get-append b.artifacts (x ∷ []) i a h; instances = omega arith }
+Grows-artifact b x = record { nodes = Extends-same b.nodes; ports = omega arith; assignments = λ i a h. h; modules = omega arith; definitions = omega arith; artifacts = λ i a h. slice_get-append b.artifacts (x ∷ []) i a h; instances = omega arith; nests = λ i below. refl; functions = omega arith; always_blocks = λ i a h. h }
 
 RecordsSound-artifact : (b : Bench) (x : ArtifactRecord) → RecordsSound b → ArtifactSound b x → RecordsSound (with_artifact x b)
 RecordsSound-artifact b x s h =
     let g = Grows-artifact b x in
     let c : Bench = with_artifact x b in
     let k = carried b c g s in
-    record { ports = k.ports; assignments = k.assignments; modules = k.modules; definitions = k.definitions; artifacts = Each-push (ArtifactSound c) b.artifacts x k.artifacts h; instances = k.instances; items = k.items }
+    record { ports = k.ports; assignments = k.assignments; modules = k.modules; definitions = k.definitions; artifacts = Each-push (ArtifactSound c) b.artifacts x k.artifacts h; instances = k.instances; items = k.items; nests = k.nests; functions = k.functions; always_blocks = k.always_blocks }
 
 pub bench-artifact : (a b : Raw) (x : Artifact) (xs : List Artifact) → b ≡ a → xs ≡ b.artifacts ++ x ∷ [] → bench (record b { artifacts = xs }) ≡ with_artifact (artifact_record x) (bench a)
 unfolding bench
@@ -73,14 +73,14 @@ length-artifacts a b e = rw (← e) (simp length-map)
 -- An instantiation more.
 
 pub Grows-instance : (b : Bench) (x : InstanceRecord) → Grows b (with_instance x b)
-Grows-instance b x = record { nodes = Extends-same b.nodes; ports = omega arith; assignments = λ i a h. h; modules = omega arith; definitions = omega arith; artifacts = λ i a h. h; instances = omega (arith, length-append b.instances (x ∷ [])) }
+Grows-instance b x = record { nodes = Extends-same b.nodes; ports = omega arith; assignments = λ i a h. h; modules = omega arith; definitions = omega arith; artifacts = λ i a h. h; instances = omega (arith, length-append b.instances (x ∷ [])); nests = λ i below. refl; functions = omega arith; always_blocks = λ i a h. h }
 
 RecordsSound-instance : (b : Bench) (x : InstanceRecord) → RecordsSound b → InstanceSound b x → RecordsSound (with_instance x b)
 RecordsSound-instance b x s h =
     let g = Grows-instance b x in
     let c : Bench = with_instance x b in
     let k = carried b c g s in
-    record { ports = k.ports; assignments = k.assignments; modules = k.modules; definitions = k.definitions; artifacts = k.artifacts; instances = Each-push (InstanceSound c) b.instances x k.instances (InstanceSound-kept b c g x h); items = k.items }
+    record { ports = k.ports; assignments = k.assignments; modules = k.modules; definitions = k.definitions; artifacts = k.artifacts; instances = Each-push (InstanceSound c) b.instances x k.instances (InstanceSound-kept b c g x h); items = k.items; nests = k.nests; functions = k.functions; always_blocks = k.always_blocks }
 
 pub bench-instance : (a b : Raw) (x : Instance) (xs : List Instance) → b ≡ a → xs ≡ b.instances ++ x ∷ [] → bench (record b { instances = xs }) ≡ with_instance (instance_record x) (bench a)
 unfolding bench
@@ -100,14 +100,14 @@ length-instances a b e = rw (← e) (simp length-map)
 -- An item more.
 
 Grows-item : (b : Bench) (x : FileEntry) → Grows b (with_item x b)
-Grows-item b x = record { nodes = Extends-same b.nodes; ports = omega arith; assignments = λ i a h. h; modules = omega arith; definitions = omega arith; artifacts = λ i a h. h; instances = omega arith }
+Grows-item b x = record { nodes = Extends-same b.nodes; ports = omega arith; assignments = λ i a h. h; modules = omega arith; definitions = omega arith; artifacts = λ i a h. h; instances = omega arith; nests = λ i below. refl; functions = omega arith; always_blocks = λ i a h. h }
 
 RecordsSound-item : (b : Bench) (x : FileEntry) → RecordsSound b → EntrySound b x → RecordsSound (with_item x b)
 RecordsSound-item b x s h =
     let g = Grows-item b x in
     let c : Bench = with_item x b in
     let k = carried b c g s in
-    record { ports = k.ports; assignments = k.assignments; modules = k.modules; definitions = k.definitions; artifacts = k.artifacts; instances = k.instances; items = Each-push (EntrySound c) b.items x k.items h }
+    record { ports = k.ports; assignments = k.assignments; modules = k.modules; definitions = k.definitions; artifacts = k.artifacts; instances = k.instances; items = Each-push (EntrySound c) b.items x k.items h; nests = k.nests; functions = k.functions; always_blocks = k.always_blocks }
 
 pub bench-item : (a b : Raw) (x : FileItem) (xs : List FileItem) → b ≡ a → xs ≡ b.items ++ x ∷ [] → bench (record b { items = xs }) ≡ with_item (file_entry x) (bench a)
 unfolding bench

@@ -13,12 +13,12 @@ use Rattle.vast_core.specs.declared.node.Module.{Module}
 use Rattle.vast_core.specs.declared.node.FileItem.{FileItem}
 use Rattle.vast_core.specs.declared.node.Assignment.{Assignment}
 use Rattle.vast_core.specs.Raw.{Raw}
-use Rattle.vast_core.specs.Nodes.{Root, ExprRoot, no_nodes, built, TermsSound, ChildrenHold, RootFits, RootWellFormed, term_root}
+use Rattle.vast_core.specs.Nodes.{Root, ExprRoot, no_nodes, TermsSound, ChildrenHold, RootFits, term_root, built, RootWellFormed}
 use Rattle.vast_core.specs.Records.{PortRecord, ParameterPortRecord, ModuleRecord, MemberEntry, ModuleEntry, port_record, module_record, file_entry, new_module, changed_at, with_port as with_listed_port, with_member as with_listed_member, with_named_member, with_parameter_port}
 use Rattle.vast_core.specs.Bench.{Bench, type_of, OwnsExpr, OwnsType, OwnsPort, OwnsModule, AreWellFormed}
 use Rattle.vast_core.specs.View.{bench}
 use Rattle.vast_core.specs.Growth.{Builds, with_root, with_assignment, with_module, with_port, next_module, next_port, next_logic_ref}
-use Rattle.vast_core.specs.Sound.{Each, PortSound, AssignmentSound, MemberSound, ParameterPortSound, ModuleSound, EntrySound, RecordsSound, IsSound}
+use Rattle.vast_core.specs.Sound.{PortSound, AssignmentSound, MemberSound, ParameterPortSound, ModuleSound, EntrySound, RecordsSound, IsSound, Each}
 use Rattle.vast_core.proofs.Lists.{slice_get-append, slice_get-seam, length-changed_at, Each-map, Each-push, Each-changed_at}
 use Rattle.vast_core.proofs.NodeLaws.{Extends-same, Extends-root, HasType-kept, built-push, built-id, TermsSound-push, built-length, built-well_formed, expr-well_formed, type-well_formed}
 use Rattle.vast_core.proofs.Sound.{Grows, carried, ModuleSound-kept}
@@ -26,19 +26,19 @@ use Rattle.vast_core.proofs.Sound.{Grows, carried, ModuleSound-kept}
 -- A term more.
 
 Grows-root : (b : Bench) (r : Root) → Grows b (with_root b r)
-Grows-root b r = record { nodes = Extends-root b.nodes r; ports = omega arith; assignments = λ i a h. h; modules = omega arith; definitions = omega arith; artifacts = λ i a h. h; instances = omega arith }
+Grows-root b r = record { nodes = Extends-root b.nodes r; ports = omega arith; assignments = λ i a h. h; modules = omega arith; definitions = omega arith; artifacts = λ i a h. h; instances = omega arith; nests = λ i below. refl; functions = omega arith; always_blocks = λ i a h. h }
 
 RecordsSound-root : (b : Bench) (r : Root) → RecordsSound b → RecordsSound (with_root b r)
 RecordsSound-root b r s =
     let c : Bench = with_root b r in
     let k = carried b c (Grows-root b r) s in
-    record { ports = k.ports; assignments = k.assignments; modules = k.modules; definitions = k.definitions; artifacts = k.artifacts; instances = k.instances; items = k.items }
+    record { ports = k.ports; assignments = k.assignments; modules = k.modules; definitions = k.definitions; artifacts = k.artifacts; instances = k.instances; items = k.items; nests = k.nests; functions = k.functions; always_blocks = k.always_blocks }
 
 bench-term : (a : Raw) (t : Term) (r : ℕ) → bench (record a { terms = a.terms ++ t ∷ []; term_room = r }) ≡ with_root (bench a) (term_root (bench a).nodes t)
 unfolding bench
 bench-term a t r = rw (built-push (no_nodes a.id) a.terms t) refl
 
-terms-term : (a : Raw) (t : Term) → TermsSound (no_nodes a.id) a.terms → ChildrenHold (OwnsExpr (bench a)) (OwnsType (bench a)) t → RootFits (term_root (bench a).nodes t) → TermsSound (no_nodes a.id) (a.terms ++ t ∷ [])
+pub terms-term : (a : Raw) (t : Term) → TermsSound (no_nodes a.id) a.terms → ChildrenHold (OwnsExpr (bench a)) (OwnsType (bench a)) t → RootFits (term_root (bench a).nodes t) → TermsSound (no_nodes a.id) (a.terms ++ t ∷ [])
 unfolding bench
 terms-term a t s h f = TermsSound-push (no_nodes a.id) a.terms t s h f
 
@@ -80,36 +80,38 @@ trees-well_formed a b e s = let P : Raw → Type 0 = λ r. AreWellFormed (bench 
 -- An assignment more.
 
 pub Grows-assignment : (b : Bench) (x : Assignment) → Grows b (with_assignment x b)
-Grows-assignment b x = record { nodes = Extends-same b.nodes; ports = omega arith; assignments = λ i a h. slice_get-append b.assignments (x ∷ []) i a h; modules = omega arith; definitions = omega arith; artifacts = λ i a h. h; instances = omega arith }
+Grows-assignment b x = record { nodes = Extends-same b.nodes; ports = omega arith; assignments = λ i a h. slice_get-append b.assignments (x ∷ []) i a h; modules = omega arith; definitions = omega arith; artifacts = λ i a h. h; instances = omega arith; nests = λ i below. refl; functions = omega arith; always_blocks = λ i a h. h }
 
 RecordsSound-assignment : (b : Bench) (x : Assignment) → RecordsSound b → AssignmentSound b x → RecordsSound (with_assignment x b)
 RecordsSound-assignment b x s h =
     let c : Bench = with_assignment x b in
     let k = carried b c (Grows-assignment b x) s in
-    record { ports = k.ports; assignments = Each-push (AssignmentSound c) b.assignments x k.assignments h; modules = k.modules; definitions = k.definitions; artifacts = k.artifacts; instances = k.instances; items = k.items }
+    record { ports = k.ports; assignments = Each-push (AssignmentSound c) b.assignments x k.assignments h; modules = k.modules; definitions = k.definitions; artifacts = k.artifacts; instances = k.instances; items = k.items; nests = k.nests; functions = k.functions; always_blocks = k.always_blocks }
 
-bench-assigned : (a : Raw) (x : Assignment) → bench (record a { assignments = a.assignments ++ x ∷ [] }) ≡ with_assignment x (bench a)
+bench-assigned : (a : Raw) (x : Assignment) (r : ℕ) → bench (record a { assignments = a.assignments ++ x ∷ []; assignment_room = r }) ≡ with_assignment x (bench a)
 unfolding bench
-bench-assigned a x = refl
+bench-assigned a x r = refl
 
-pub bench-assignment : (a b : Raw) (x : Assignment) (xs : List Assignment) → b ≡ a → xs ≡ b.assignments ++ x ∷ [] → bench (record b { assignments = xs }) ≡ with_assignment x (bench a)
-bench-assignment a b x xs e q = rw (q, e) (bench-assigned a x)
+pub bench-assignment :
+    (a b : Raw) (x : Assignment) (xs : List Assignment) (r : ℕ) → b ≡ a → xs ≡ b.assignments ++ x ∷ [] →
+    bench (record b { assignments = xs; assignment_room = r }) ≡ with_assignment x (bench a)
+bench-assignment a b x xs r e q = rw (q, e) (bench-assigned a x r)
 
 terms-same : (a : Raw) → IsSound a → TermsSound (no_nodes a.id) a.terms
 terms-same a s = s.terms
 
 pub sound-assignment :
-    (a b : Raw) (x : Assignment) (xs : List Assignment) → b ≡ a → xs ≡ b.assignments ++ x ∷ [] → IsSound b → AssignmentSound (bench a) x →
-    IsSound (record b { assignments = xs })
-sound-assignment a b x xs e q s h =
+    (a b : Raw) (x : Assignment) (xs : List Assignment) (r : ℕ) → b ≡ a → xs ≡ b.assignments ++ x ∷ [] → IsSound b → AssignmentSound (bench a) x →
+    IsSound (record b { assignments = xs; assignment_room = r })
+sound-assignment a b x xs r e q s h =
     let P : Raw → Type 0 = λ y. AssignmentSound (bench y) x in
     let k : AssignmentSound (bench b) x = subst P (sym e) h in
-    rw q (record { terms = s.terms; records = rw (bench-assigned b x) (RecordsSound-assignment (bench b) x s.records k) })
+    rw q (record { terms = s.terms; records = rw (bench-assigned b x r) (RecordsSound-assignment (bench b) x s.records k) })
 
 -- A module more.
 
 pub Grows-module : (b : Bench) (name : List ℕ) → Grows b (with_module name b)
-Grows-module b name = record { nodes = Extends-same b.nodes; ports = omega arith; assignments = λ i a h. h; modules = omega (arith, length-append b.modules (new_module name ∷ [])); definitions = omega arith; artifacts = λ i a h. h; instances = omega arith }
+Grows-module b name = record { nodes = Extends-same b.nodes; ports = omega arith; assignments = λ i a h. h; modules = omega (arith, length-append b.modules (new_module name ∷ [])); definitions = omega arith; artifacts = λ i a h. h; instances = omega arith; nests = λ i below. refl; functions = omega arith; always_blocks = λ i a h. h }
 
 pub last-test : (n : ℕ) → IsTrue (nat_lt n (n + 1))
 last-test n = grind arith
@@ -121,7 +123,7 @@ RecordsSound-module : (b : Bench) (name : List ℕ) → RecordsSound b → Recor
 RecordsSound-module b name s =
     let c : Bench = with_module name b in
     let k = carried b c (Grows-module b name) s in
-    record { ports = k.ports; assignments = k.assignments; modules = Each-push (ModuleSound c) b.modules (new_module name) k.modules (record { parameters = tt; ports = tt; members = tt }); definitions = k.definitions; artifacts = k.artifacts; instances = k.instances; items = Each-push (EntrySound c) b.items (ModuleEntry (next_module b)) k.items (next_module-owned b name) }
+    record { ports = k.ports; assignments = k.assignments; modules = Each-push (ModuleSound c) b.modules (new_module name) k.modules (record { parameters = tt; ports = tt; members = tt }); definitions = k.definitions; artifacts = k.artifacts; instances = k.instances; items = Each-push (EntrySound c) b.items (ModuleEntry (next_module b)) k.items (next_module-owned b name); nests = k.nests; functions = k.functions; always_blocks = k.always_blocks }
 
 pub module-fresh :
     (m : Module) (name : List ℕ) → string_bytes m.name ≡ name → m.parameters.items ≡ [] → m.ports.items ≡ [] → m.members.items ≡ [] → m.names.keys ≡ [] → module_record m ≡ new_module name
@@ -162,7 +164,7 @@ id-of a b e = rw (← e) (built-id (no_nodes b.id) b.terms)
 -- A change of one module.
 
 pub Grows-changed : (b : Bench) (i : ℕ) (f : ModuleRecord → ModuleRecord) → Grows b (record b { modules = changed_at i f b.modules })
-Grows-changed b i f = record { nodes = Extends-same b.nodes; ports = omega arith; assignments = λ i a h. h; modules = omega (arith, length-changed_at f b.modules i); definitions = omega arith; artifacts = λ i a h. h; instances = omega arith }
+Grows-changed b i f = record { nodes = Extends-same b.nodes; ports = omega arith; assignments = λ i a h. h; modules = omega (arith, length-changed_at f b.modules i); definitions = omega arith; artifacts = λ i a h. h; instances = omega arith; nests = λ i below. refl; functions = omega arith; always_blocks = λ i a h. h }
 
 pub RecordsSound-changed :
     (b : Bench) (i : ℕ) (f : ModuleRecord → ModuleRecord) → ((m : ModuleRecord) → ModuleSound b m → ModuleSound b (f m)) → RecordsSound b →
@@ -179,6 +181,9 @@ RecordsSound-changed b i f q s =
       artifacts = k.artifacts;
       instances = k.instances;
       items = k.items;
+      nests = k.nests;
+      functions = k.functions;
+      always_blocks = k.always_blocks;
     }
 
 pub bench-changed :
@@ -225,13 +230,13 @@ sound-same a b ts r ps ms e t p m s =
 -- A port more: its name, its record, and its place in its module.
 
 Grows-listed : (b : Bench) (p : PortRecord) → Grows b (record b { ports = b.ports ++ p ∷ [] })
-Grows-listed b p = record { nodes = Extends-same b.nodes; ports = omega (arith, length-append b.ports (p ∷ [])); assignments = λ i a h. h; modules = omega arith; definitions = omega arith; artifacts = λ i a h. h; instances = omega arith }
+Grows-listed b p = record { nodes = Extends-same b.nodes; ports = omega (arith, length-append b.ports (p ∷ [])); assignments = λ i a h. h; modules = omega arith; definitions = omega arith; artifacts = λ i a h. h; instances = omega arith; nests = λ i below. refl; functions = omega arith; always_blocks = λ i a h. h }
 
 RecordsSound-listed : (b : Bench) (p : PortRecord) → RecordsSound b → PortSound b p → RecordsSound (record b { ports = b.ports ++ p ∷ [] })
 RecordsSound-listed b p s h =
     let c : Bench = record b { ports = b.ports ++ p ∷ [] } in
     let k = carried b c (Grows-listed b p) s in
-    record { ports = Each-push (PortSound c) b.ports p k.ports h; assignments = k.assignments; modules = k.modules; definitions = k.definitions; artifacts = k.artifacts; instances = k.instances; items = k.items }
+    record { ports = Each-push (PortSound c) b.ports p k.ports h; assignments = k.assignments; modules = k.modules; definitions = k.definitions; artifacts = k.artifacts; instances = k.instances; items = k.items; nests = k.nests; functions = k.functions; always_blocks = k.always_blocks }
 
 abbrev name_root : Bench → List ℕ → VastDataType → Root
 name_root b n t = ExprRoot (NameTree n (Typed (type_of b t)))

@@ -4,6 +4,7 @@ pub mod WellFormed
 pub mod Names
 pub mod Products
 pub mod Arrays
+pub mod Nests
 pub mod Sound
 pub mod Growth
 pub mod Arenas
@@ -13,4 +14,11 @@ pub mod Hoisting
 pub mod Laws
 pub mod Fixed
 pub mod RecordLaws
+pub mod Containers
+pub mod Enters
+pub mod EntersMembers
+pub mod NestReaders
+pub mod NestLaws
+pub mod FreeNames
+pub mod Functions
 pub mod KeywordTable

@@ -71,6 +71,12 @@ Each-changed_at P f k [] i h = tt
 Each-changed_at P f k (x ∷ xs) zero h = (k x h.0, h.1)
 Each-changed_at P f k (x ∷ xs) (suc i) h = (h.0, Each-changed_at P f k xs i h.1)
 
+-- The same, where the element that is changed is known.
+pub Each-changed_there : {A : Type 0} (P : A → Type 0) (f : A → A) (xs : List A) (i : ℕ) → ((x : A) → slice_get xs i ≡ Some x → P x → P (f x)) → Each P xs → Each P (changed_at i f xs)
+Each-changed_there P f [] i k h = tt
+Each-changed_there P f (x ∷ xs) zero k h = (k x refl h.0, h.1)
+Each-changed_there P f (x ∷ xs) (suc i) k h = (h.0, Each-changed_there P f xs i k h.1)
+
 pub Each-at : {A B : Type 0} (v : A → B) (P : B → Type 0) (xs : List A) (i : ℕ) (x : A) → Each P (map v xs) → i < length xs → x ≡ get_or xs i x → P (v x)
 Each-at v P [] i x h below is = absurd (omega arith)
 Each-at v P (y ∷ xs) zero x h below is = rw is h.0

@@ -36,7 +36,7 @@ map-insert_key (x ∷ xs) name = insert-case x name xs (slice_cmp nat_cmp (strin
 abbrev pub is_taken : List ℕ → List (String Global) → Bool
 is_taken bytes names = list_any (is_at (λ k. slice_cmp nat_cmp bytes (string_bytes k))) names
 
-test-equal : (a b : List ℕ) → is_eq (slice_cmp nat_cmp a b) ≡ true → b ≡ a
+pub test-equal : (a b : List ℕ) → is_eq (slice_cmp nat_cmp a b) ≡ true → b ≡ a
 test-equal a b h = sym ((bytes_eq-Decides a b).0 (sym (is_eq-slice_cmp a b) ∙ h))
 
 test-same : (a b : List ℕ) → b ≡ a → is_eq (slice_cmp nat_cmp a b) ≡ true

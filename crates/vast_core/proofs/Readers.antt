@@ -11,6 +11,12 @@ use Rattle.vast_core.specs.Records.{port_record, module_record, definition_recor
 use Rattle.vast_core.specs.Bench.{is_continuous}
 use Rattle.vast_core.specs.View.{bench}
 use Rattle.vast_core.specs.Sound.{PortSound, AssignmentSound, ModuleSound, DefinitionSound, ArtifactSound, InstanceSound, EntrySound, IsSound}
+use Rattle.vast_core.specs.declared.node.Nest.{Nest}
+use Rattle.vast_core.specs.Nests.{nest_record}
+use Rattle.vast_core.specs.FileTree.{family, families}
+use Rattle.vast_core.specs.Sound.{NestSound, NestsSound}
+use Rattle.std.proofs.lemmas.List.{length-map}
+use Rattle.vast_core.proofs.Nests.{nest-at, family-at}
 use Rattle.vast_core.proofs.Lists.{slice_get-map, slice_get-at, slice_get-past, Each-at, All-Each}
 use Rattle.std.proofs.lemmas.Option.{slice_get_within}
 use Rattle.vast_core.proofs.Growth.{length-modules, length-ports, length-assignments}
@@ -128,3 +134,28 @@ instance-sound a b i x e s below is = let P : Raw → Type 0 = λ r. InstanceSou
 -- An assignment, of whatever kind.
 pub statement-below : (a b : Raw) (i : ℕ) → b ≡ a → IsTrue (nat_lt i (length (bench a).assignments)) → i < length b.assignments
 statement-below a b i e h = let k : i < length (bench a).assignments = below-of i (length (bench a).assignments) h in rw (length-assignments a b e) at k
+
+-- A container.
+
+pub length-nests : (a b : Raw) → b ≡ a → length (bench a).nests ≡ length b.nests
+unfolding bench
+length-nests a b e = rw (← e) (simp length-map)
+
+pub nest-past : (a b : Raw) (i : ℕ) → b ≡ a → length b.nests ≤ i → slice_get (bench a).nests i ≡ None
+nest-past a b i e past = slice_get-past (bench a).nests i (rw (length-nests a b e) past)
+
+pub nest-there : (a b : Raw) (i : ℕ) (x : Nest) → b ≡ a → i < length b.nests → x ≡ get_or b.nests i x → slice_get (bench a).nests i ≡ Some (nest_record x)
+unfolding bench
+nest-there a b i x e below is = rw (← e) (slice_get-map nest_record b.nests i x below is)
+
+nests-of : (a b : Raw) → b ≡ a → IsSound b → NestsSound (bench a) 0 (bench a).nests
+nests-of a b e s = let P : Raw → Type 0 = λ r. NestsSound (bench r) 0 (bench r).nests in subst P e s.records.nests
+
+pub nest-sound : (a b : Raw) (i : ℕ) (x : Nest) → b ≡ a → IsSound b → i < length b.nests → x ≡ get_or b.nests i x → NestSound (bench a) i (nest_record x)
+nest-sound a b i x e s below is = nest-at (bench a) 0 (bench a).nests i i (nest_record x) (nests-of a b e s) (nest-there a b i x e below is) (omega arith)
+
+pub nest-unfolded :
+    (a b : Raw) (i : ℕ) (x : Nest) → b ≡ a → IsSound b → i < length b.nests → x ≡ get_or b.nests i x →
+    families (bench a) i ≡ family (bench a) (families (bench a)) (Some (nest_record x))
+nest-unfolded a b i x e s below is =
+    family-at (bench a) i (nests-of a b e s) ∙ ap (λ o. family (bench a) (families (bench a)) o) (nest-there a b i x e below is)

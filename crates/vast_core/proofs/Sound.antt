@@ -1,5 +1,5 @@
 -- What a file keeps stays true as it grows.
-use Rattle.std.proofs.Common.{◌≡◌, ℕ, ◌<◌, ◌≤◌, Bool, false, IsTrue, List, length, nat_lt, Option, Some, None, slice_get, refl, sym, ◌∙◌, arith}
+use Rattle.std.proofs.Common.{◌≡◌, ℕ, suc, zero, ◌<◌, ◌≤◌, Bool, false, IsTrue, List, [], ◌∷◌, length, nat_lt, Option, Some, None, slice_get, refl, sym, ◌∙◌, arith}
 use Rattle.vast_core.specs.declared.node.Assignment.{Assignment}
 use Rattle.vast_core.specs.declared.handle.Id.{Id}
 use Rattle.vast_core.specs.declared.handle.Expr.{Expr}
@@ -7,11 +7,18 @@ use Rattle.vast_core.specs.declared.handle.VastDataType.{VastDataType}
 use Rattle.vast_core.specs.declared.handle.ModulePort.{ModulePort}
 use Rattle.vast_core.specs.declared.handle.ContinuousAssignment.{ContinuousAssignment}
 use Rattle.vast_core.specs.Nodes.{IsOwned, OptionHolds, is_name, is_macro}
-use Rattle.vast_core.specs.Records.{PortRecord, ParameterPortRecord, ModuleRecord, FormEntry, PlainForm, IntForm, DefinedForm, MemberEntry, DeclarationEntry, AssignmentEntry, ParameterEntry, BlankEntry, CommentEntry, InlineEntry, MacroEntry, InstanceEntry, FileEntry, ModuleEntry, IncludeEntry, FileCommentEntry, FileBlankEntry, DefinitionRecord, ArtifactRecord, BlankLineRecord, CommentRecord, InlineRecord, MacroRecord, ConnectionRecord, InstanceRecord}
-use Rattle.vast_core.specs.Bench.{Bench, OwnsExpr, OwnsType, OwnsPort, OwnsContinuous, is_continuous, is_comment, is_inline, is_macro_statement}
-use Rattle.vast_core.specs.Sound.{Each, PortSound, AssignmentSound, DefinitionSound, ArtifactSound, ConnectionSound, InstanceSound, FormSound, MemberSound, ParameterPortSound, ModuleSound, EntrySound, RecordsSound}
+use Rattle.vast_core.specs.Records.{PortRecord, ParameterPortRecord, ModuleRecord, FormEntry, PlainForm, IntForm, DefinedForm, MemberEntry, DeclarationEntry, AssignmentEntry, ParameterEntry, BlankEntry, CommentEntry, InlineEntry, MacroEntry, InstanceEntry, FunctionEntry, AlwaysEntry, ConditionalEntry, LoopEntry, FileEntry, ModuleEntry, IncludeEntry, FileCommentEntry, FileBlankEntry, DefinitionRecord, ArtifactRecord, BlankLineRecord, CommentRecord, InlineRecord, MacroRecord, ConnectionRecord, InstanceRecord}
+use Rattle.vast_core.specs.declared.handle.LogicRef.{LogicRef}
+use Rattle.vast_core.specs.declared.handle.VastStatementBlock.{VastStatementBlock}
+use Rattle.vast_core.specs.declared.node.ElseIf.{ElseIf}
+use Rattle.vast_core.specs.declared.node.CaseArm.{CaseArm}
+use Rattle.vast_core.specs.Nests.{StatementEntry, AssignStatement, ContinuousStatement, ConditionalStatement, CasesStatement, BlankStatement, CommentStatement, InlineStatement, NestRecord, BlockRecord, BranchRecord, SwitchRecord, RepeatRecord, VariableRecord, FunctionRecord, AlwaysRecord, NestKind, NoKind, nest_kind, is_block_kind, is_conditional_kind, is_case_kind, is_loop_kind}
+use Rattle.vast_core.specs.Bench.{Bench, OwnsExpr, OwnsType, OwnsLogicRef, OwnsPort, OwnsContinuous, is_continuous, is_comment, is_inline, is_macro_statement}
+use Rattle.vast_core.specs.Sound.{Each, PortSound, AssignmentSound, DefinitionSound, ArtifactSound, ConnectionSound, InstanceSound, FormSound, MemberSound, ParameterPortSound, ModuleSound, EntrySound, RecordsSound, HoldsBlock, StatementSound, ElseIfSound, CaseArmSound, AlwaysNewer, MemberNewer, LoopMemberSound, NestSound, NestsSound, VariableSound, FunctionSound, EventSound, AlwaysSound}
 use Rattle.vast_core.proofs.Lists.{Each-map}
-use Rattle.vast_core.proofs.NodeLaws.{Extends, HasExpr-kept, HasType-kept, shape-kept}
+use Rattle.vast_core.proofs.NodeLaws.{Extends, HasExpr-kept, HasType-kept, shape-kept, expr_in-kept}
+use Rattle.vast_core.proofs.Nests.{kind-there}
+use Rattle.std.proofs.lemmas.Option.{slice_get_within}
 
 -- c has all the nodes that b has, in the same places.
 pub record Grows (b c : Bench) : Type 0 where
@@ -22,6 +29,9 @@ pub record Grows (b c : Bench) : Type 0 where
   pub definitions : length b.definitions ≤ length c.definitions
   pub artifacts : (i : ℕ) (a : ArtifactRecord) → slice_get b.artifacts i ≡ Some a → slice_get c.artifacts i ≡ Some a
   pub instances : length b.instances ≤ length c.instances
+  pub nests : (i : ℕ) → i < length b.nests → nest_kind (slice_get c.nests i) ≡ nest_kind (slice_get b.nests i)
+  pub functions : length b.functions ≤ length c.functions
+  pub always_blocks : (i : ℕ) (a : AlwaysRecord) → slice_get b.always_blocks i ≡ Some a → slice_get c.always_blocks i ≡ Some a
 
 lt-test : (a b : ℕ) → a < b → IsTrue (nat_lt a b)
 lt-test a b h = grind arith
@@ -47,6 +57,28 @@ pub artifact-kept :
     IsOwned b.nodes.id id (test (slice_get b.artifacts id.index)) → IsOwned c.nodes.id id (test (slice_get c.artifacts id.index))
 artifact-kept test b c id g n h =
     record { of_file = h.of_file ∙ sym g.nodes.same_id; of_kind = test-kept test b.artifacts c.artifacts id.index (slice_get b.artifacts id.index) refl (g.artifacts id.index) n h.of_kind }
+
+pub nest-kept :
+    (test : NestKind → Bool) (b c : Bench) (id : Id) → Grows b c → (IsTrue (test NoKind) → ⊥) →
+    IsOwned b.nodes.id id (test (nest_kind (slice_get b.nests id.index))) → IsOwned c.nodes.id id (test (nest_kind (slice_get c.nests id.index)))
+nest-kept test b c id g n h =
+    record { of_file = h.of_file ∙ sym g.nodes.same_id; of_kind = rw (g.nests id.index (kind-there test b.nests id.index n h.of_kind)) h.of_kind }
+
+-- What was found in a list is found in a list that has the same elements there.
+none-past : {A : Type 0} (xs : List A) (i : ℕ) → slice_get xs i ≡ None → length xs ≤ i
+none-past [] i e = omega arith
+none-past (x ∷ xs) zero e = cc
+none-past (x ∷ xs) (suc i) e = omega (arith, none-past xs i e)
+
+found : {A : Type 0} (xs ys : List A) (i : ℕ) (o : Option A) → slice_get xs i ≡ o → ((x : A) → slice_get xs i ≡ Some x → slice_get ys i ≡ Some x) → i < length xs → i < length ys
+found xs ys i None e k h = absurd (omega (arith, none-past xs i e))
+found xs ys i (Some x) e k h = slice_get_within ys i x (k x e)
+
+found-kept :
+    {A : Type 0} (b c : Bench) (id : Id) (xs ys : List A) → Grows b c → ((i : ℕ) (x : A) → slice_get xs i ≡ Some x → slice_get ys i ≡ Some x) →
+    IsOwned b.nodes.id id (nat_lt id.index (length xs)) → IsOwned c.nodes.id id (nat_lt id.index (length ys))
+found-kept b c id xs ys g k h =
+    record { of_file = h.of_file ∙ sym g.nodes.same_id; of_kind = lt-test id.index (length ys) (found xs ys id.index (slice_get xs id.index) refl (k id.index) (lt-of id.index (length xs) h.of_kind)) }
 
 pub never : IsTrue false → ⊥
 never h = cc
@@ -112,6 +144,10 @@ MemberSound-kept b c g (CommentEntry a) h = artifact-kept is_comment b c a.id g 
 MemberSound-kept b c g (InlineEntry a) h = artifact-kept is_inline b c a.id g never h
 MemberSound-kept b c g (MacroEntry a) h = artifact-kept is_macro_statement b c a.id g never h
 MemberSound-kept b c g (InstanceEntry i) h = index-kept b c i.id (length b.instances) (length c.instances) g g.instances h
+MemberSound-kept b c g (FunctionEntry f) h = index-kept b c f.id (length b.functions) (length c.functions) g g.functions h
+MemberSound-kept b c g (AlwaysEntry a) h = found-kept b c a.id b.always_blocks c.always_blocks g g.always_blocks h
+MemberSound-kept b c g (ConditionalEntry x) h = nest-kept is_conditional_kind b c x.id g never h
+MemberSound-kept b c g (LoopEntry l) h = nest-kept is_loop_kind b c l.id g never h
 
 ParameterPortSound-kept : (b c : Bench) → Grows b c → (p : ParameterPortRecord) → ParameterPortSound b p → ParameterPortSound c p
 ParameterPortSound-kept b c g p h = (maybe-type-kept b c g p.data_type h.0, HasExpr-kept b.nodes c.nodes g.nodes p.value h.1)
@@ -123,6 +159,102 @@ ModuleSound-kept b c g m h =
       ports = Each-map (OwnsPort-kept b c g) m.ports h.ports;
       members = Each-map (MemberSound-kept b c g) m.members h.members;
     }
+
+-- Containers.
+
+pub block-kept : (b c : Bench) → Grows b c → (i : ℕ) (x : VastStatementBlock) → HoldsBlock b i x → HoldsBlock c i x
+block-kept b c g i x h = (nest-kept is_block_kind b c x.id g never h.0, h.1)
+
+pub StatementSound-kept : (b c : Bench) → Grows b c → (i : ℕ) (s : StatementEntry) → StatementSound b i s → StatementSound c i s
+StatementSound-kept b c g i (AssignStatement s) h = found-kept b c s.id b.assignments c.assignments g g.assignments h
+StatementSound-kept b c g i (ContinuousStatement s) h = found-kept b c s.id b.assignments c.assignments g g.assignments h
+StatementSound-kept b c g i (ConditionalStatement x) h = (nest-kept is_conditional_kind b c x.id g never h.0, h.1)
+StatementSound-kept b c g i (CasesStatement x) h = (nest-kept is_case_kind b c x.id g never h.0, h.1)
+StatementSound-kept b c g i BlankStatement h = tt
+StatementSound-kept b c g i (CommentStatement text) h = tt
+StatementSound-kept b c g i (InlineStatement text) h = tt
+
+pub ElseIfSound-kept : (b c : Bench) → Grows b c → (i : ℕ) (a : ElseIf) → ElseIfSound b i a → ElseIfSound c i a
+ElseIfSound-kept b c g i a h = (HasExpr-kept b.nodes c.nodes g.nodes a.condition h.0, block-kept b c g i a.block h.1)
+
+pub CaseArmSound-kept : (b c : Bench) → Grows b c → (i : ℕ) (a : CaseArm) → CaseArmSound b i a → CaseArmSound c i a
+CaseArmSound-kept b c g i a h = (maybe-expr-kept b c g a.label h.0, block-kept b c g i a.block h.1)
+
+otherwise-kept : (b c : Bench) → Grows b c → (i : ℕ) (o : Option VastStatementBlock) → OptionHolds (HoldsBlock b i) o → OptionHolds (HoldsBlock c i) o
+otherwise-kept b c g i None h = tt
+otherwise-kept b c g i (Some x) h = block-kept b c g i x h
+
+newer-kept : (i : ℕ) (o p : Option AlwaysRecord) → ((a : AlwaysRecord) → o ≡ Some a → p ≡ Some a) → (o ≡ None → ⊥) → AlwaysNewer i o → AlwaysNewer i p
+newer-kept i None p k n h = absurd (n refl)
+newer-kept i (Some a) p k n h = rw (k a refl) h
+
+always-there : (xs : List AlwaysRecord) (i : ℕ) → IsTrue (nat_lt i (length xs)) → slice_get xs i ≡ None → ⊥
+always-there xs i h e = let below : i < length xs = lt-of i (length xs) h in absurd (omega (arith, none-past xs i e))
+
+MemberNewer-kept : (b c : Bench) → Grows b c → (i : ℕ) (m : MemberEntry) → MemberSound b m → MemberNewer b i m → MemberNewer c i m
+MemberNewer-kept b c g i (DeclarationEntry kind name t) s h = tt
+MemberNewer-kept b c g i (AssignmentEntry a) s h = tt
+MemberNewer-kept b c g i (ParameterEntry local form value) s h = tt
+MemberNewer-kept b c g i BlankEntry s h = tt
+MemberNewer-kept b c g i (CommentEntry a) s h = tt
+MemberNewer-kept b c g i (InlineEntry a) s h = tt
+MemberNewer-kept b c g i (MacroEntry a) s h = tt
+MemberNewer-kept b c g i (InstanceEntry x) s h = tt
+MemberNewer-kept b c g i (FunctionEntry f) s h = h
+MemberNewer-kept b c g i (AlwaysEntry a) s h =
+    newer-kept i (slice_get b.always_blocks a.id.index) (slice_get c.always_blocks a.id.index) (g.always_blocks a.id.index) (always-there b.always_blocks a.id.index s.of_kind) h
+MemberNewer-kept b c g i (ConditionalEntry x) s h = h
+MemberNewer-kept b c g i (LoopEntry l) s h = h
+
+pub LoopMemberSound-kept : (b c : Bench) → Grows b c → (i : ℕ) (m : MemberEntry) → LoopMemberSound b i m → LoopMemberSound c i m
+LoopMemberSound-kept b c g i m h = (MemberSound-kept b c g m h.0, MemberNewer-kept b c g i m h.0 h.1)
+
+logic_ref-kept : (b c : Bench) → Grows b c → (r : LogicRef) → OwnsLogicRef b r → OwnsLogicRef c r
+logic_ref-kept b c g r h = record { of_file = h.of_file ∙ sym g.nodes.same_id; of_kind = shape-kept is_name b.nodes c.nodes g.nodes r.id.index h.of_kind }
+
+pub NestSound-kept : (b c : Bench) → Grows b c → (i : ℕ) (n : NestRecord) → NestSound b i n → NestSound c i n
+NestSound-kept b c g i (BlockRecord ss) h = Each-map (StatementSound-kept b c g i) ss h
+NestSound-kept b c g i (BranchRecord x) h =
+    record {
+      condition = HasExpr-kept b.nodes c.nodes g.nodes x.condition h.condition;
+      consequent = block-kept b c g i x.consequent h.consequent;
+      else_ifs = Each-map (ElseIfSound-kept b c g i) x.else_ifs h.else_ifs;
+      otherwise = otherwise-kept b c g i x.otherwise h.otherwise;
+    }
+NestSound-kept b c g i (SwitchRecord x) h =
+    record { selector = HasExpr-kept b.nodes c.nodes g.nodes x.selector h.selector; arms = Each-map (CaseArmSound-kept b c g i) x.arms h.arms }
+NestSound-kept b c g i (RepeatRecord l) h =
+    record {
+      genvar = logic_ref-kept b c g l.genvar h.genvar;
+      start = HasExpr-kept b.nodes c.nodes g.nodes l.start h.start;
+      limit = HasExpr-kept b.nodes c.nodes g.nodes l.limit h.limit;
+      members = Each-map (LoopMemberSound-kept b c g i) l.members h.members;
+    }
+
+NestsSound-kept : (b c : Bench) → Grows b c → (i : ℕ) (ns : List NestRecord) → NestsSound b i ns → NestsSound c i ns
+NestsSound-kept b c g i [] h = tt
+NestsSound-kept b c g i (n ∷ ns) h = (NestSound-kept b c g i n h.0, NestsSound-kept b c g (suc i) ns h.1)
+
+VariableSound-kept : (b c : Bench) → Grows b c → (v : VariableRecord) → VariableSound b v → VariableSound c v
+VariableSound-kept b c g v h = HasType-kept b.nodes c.nodes g.nodes v.data_type h
+
+pub FunctionSound-kept : (b c : Bench) → Grows b c → (f : FunctionRecord) → FunctionSound b f → FunctionSound c f
+FunctionSound-kept b c g f h =
+    record {
+      result_type = HasType-kept b.nodes c.nodes g.nodes f.result_type h.result_type;
+      result_name = logic_ref-kept b c g f.result_name h.result_name;
+      inputs = Each-map (VariableSound-kept b c g) f.inputs h.inputs;
+      locals = Each-map (VariableSound-kept b c g) f.locals h.locals;
+      body = nest-kept is_block_kind b c f.body.id g never h.body;
+      distinct = h.distinct;
+      taken = h.taken;
+    }
+
+EventSound-kept : (b c : Bench) → Grows b c → (e : Expr) → EventSound b e → EventSound c e
+EventSound-kept b c g e h = (HasExpr-kept b.nodes c.nodes g.nodes e h.0, rw (expr_in-kept b.nodes c.nodes g.nodes e h.0) h.1)
+
+pub AlwaysSound-kept : (b c : Bench) → Grows b c → (a : AlwaysRecord) → AlwaysSound b a → AlwaysSound c a
+AlwaysSound-kept b c g a h = record { events = Each-map (EventSound-kept b c g) a.events h.events; block = nest-kept is_block_kind b c a.block.id g never h.block }
 
 EntrySound-kept : (b c : Bench) → Grows b c → (e : FileEntry) → EntrySound b e → EntrySound c e
 EntrySound-kept b c g (ModuleEntry m) h = index-kept b c m.id (length b.modules) (length c.modules) g g.modules h
@@ -139,6 +271,9 @@ pub record Carried (b c : Bench) : Type 0 where
   pub artifacts : Each (ArtifactSound c) b.artifacts
   pub instances : Each (InstanceSound c) b.instances
   pub items : Each (EntrySound c) b.items
+  pub nests : NestsSound c 0 b.nests
+  pub functions : Each (FunctionSound c) b.functions
+  pub always_blocks : Each (AlwaysSound c) b.always_blocks
 
 pub carried : (b c : Bench) → Grows b c → RecordsSound b → Carried b c
 carried b c g s =
@@ -150,4 +285,7 @@ carried b c g s =
       artifacts = Each-map (ArtifactSound-kept b c g) b.artifacts s.artifacts;
       instances = Each-map (InstanceSound-kept b c g) b.instances s.instances;
       items = Each-map (EntrySound-kept b c g) b.items s.items;
+      nests = NestsSound-kept b c g 0 b.nests s.nests;
+      functions = Each-map (FunctionSound-kept b c g) b.functions s.functions;
+      always_blocks = Each-map (AlwaysSound-kept b c g) b.always_blocks s.always_blocks;
     }

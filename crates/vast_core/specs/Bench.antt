@@ -28,27 +28,24 @@ use Rattle.vast_core.specs.declared.handle.CaseStatement.{CaseStatement}
 use Rattle.vast_core.specs.declared.handle.GenerateLoop.{GenerateLoop}
 use Rattle.vast_core.specs.declared.kind.VastFileType.{VastFileType}
 use Rattle.vast_core.specs.declared.node.Assignment.{Assignment}
-use Rattle.vast_core.specs.declared.node.Function.{Function}
-use Rattle.vast_core.specs.declared.node.AlwaysBlock.{AlwaysBlock}
-use Rattle.vast_core.specs.declared.node.Nest.{Nest}
-use Rattle.vast_core.specs.declared.node.Nest.TheVariants.{Block as BlockOf, Conditional as ConditionalOf, Case as CaseOf, Loop as LoopOf}
-use Rattle.vast_core.specs.Handles.{module_index}
+use Rattle.vast_core.specs.Handles.{module_index, function_index}
 use Rattle.vast_core.specs.Nodes.{Nodes, no_nodes, IsOwned, is_expr_root, is_type_root, is_root_of, is_name, is_index, is_slice, is_macro, expr_in, type_in, maybe_expr_in, exprs_in}
 use Rattle.vast_core.specs.Types.{ExprWellFormed, TypeWellFormed}
 use Rattle.vast_core.specs.Records.{PortRecord, ModuleRecord, DefinitionRecord, ArtifactRecord, BlankLineRecord, CommentRecord, InlineRecord, MacroRecord, InstanceRecord, FileEntry, IsFree}
+use Rattle.vast_core.specs.Nests.{NestRecord, FunctionRecord, AlwaysRecord, nest_kind, is_block_kind, is_conditional_kind, is_case_kind, is_loop_kind}
 
 pub record Bench : Type 0 where
   pub file_type : VastFileType
   pub nodes : Nodes
-  pub nests : List Nest
+  pub nests : List NestRecord
   pub ports : List PortRecord
   pub assignments : List Assignment
   pub modules : List ModuleRecord
-  pub functions : List Function
+  pub functions : List FunctionRecord
   pub definitions : List DefinitionRecord
   pub artifacts : List ArtifactRecord
   pub instances : List InstanceRecord
-  pub always_blocks : List AlwaysBlock
+  pub always_blocks : List AlwaysRecord
   pub items : List FileEntry
 
 -- A file that holds nothing.
@@ -171,21 +168,17 @@ abbrev pub OwnsMacroStatement : Bench → MacroStatement → Type 0
 OwnsMacroStatement b a = IsOwned b.nodes.id a.id (is_macro_statement (slice_get b.artifacts a.id.index))
 
 -- Containers of a kind.
-abbrev pub is_block : Option Nest → Bool
-is_block (Some (BlockOf statements)) = true
-is_block _ = false
+abbrev pub is_block : Option NestRecord → Bool
+is_block n = is_block_kind (nest_kind n)
 
-abbrev pub is_conditional : Option Nest → Bool
-is_conditional (Some (ConditionalOf condition consequent arms)) = true
-is_conditional _ = false
+abbrev pub is_conditional : Option NestRecord → Bool
+is_conditional n = is_conditional_kind (nest_kind n)
 
-abbrev pub is_case : Option Nest → Bool
-is_case (Some (CaseOf selector arms)) = true
-is_case _ = false
+abbrev pub is_case : Option NestRecord → Bool
+is_case n = is_case_kind (nest_kind n)
 
-abbrev pub is_loop : Option Nest → Bool
-is_loop (Some (LoopOf genvar members)) = true
-is_loop _ = false
+abbrev pub is_loop : Option NestRecord → Bool
+is_loop n = is_loop_kind (nest_kind n)
 
 abbrev pub OwnsBlock : Bench → VastStatementBlock → Type 0
 OwnsBlock b c = IsOwned b.nodes.id c.id (is_block (slice_get b.nests c.id.index))
@@ -206,3 +199,11 @@ names_of (Some m) = m.names
 
 abbrev pub NameIsFree : Bench → VastModule → List ℕ → Type 0
 NameIsFree b m name = IsFree name (names_of (slice_get b.modules (module_index m)))
+
+-- The names that a function's result, inputs and locals have taken.
+abbrev pub function_names : Option FunctionRecord → List (List ℕ)
+function_names None = []
+function_names (Some f) = f.names
+
+abbrev pub IsFreeInFunction : Bench → VastFunction → List ℕ → Type 0
+IsFreeInFunction b f name = IsFree name (function_names (slice_get b.functions (function_index f)))

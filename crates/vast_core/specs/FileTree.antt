@@ -1,15 +1,19 @@
 -- The tree of a file, without handles.
-use Rattle.std.specs.Prelude.{ℕ, List, [], ◌∷◌, map, Option, Some, None, slice_get}
-use Rattle.vast_literal.specs.Tree.{MemberTree, DeclarationMember, AssignMember, ParameterMember, CommentMember, BlankMember, InlineMember, MacroMember, InstanceMember, Members, NoMembers, MoreMembers, MissingType, Declaration, WireKind, ParameterName, PlainParameter, IntParameter, DefinedParameter, Connection, PortTree, InputDirection, ParameterPortTree, ModuleTree, FileItemTree, ModuleItem, IncludeItem, CommentItem, BlankItem, FileTree}
+use Rattle.std.specs.Prelude.{ℕ, zero, suc, Bool, true, false, List, [], ◌∷◌, map, length, Option, Some, None, slice_get}
+use Rattle.vast_literal.specs.Tree.{ExprTree, AssignForm, Blocking, Nonblocking, Continuous, StatementTree, AssignTree, CommentTree, BlankTree, InlineTree, ConditionalTree, CaseTree, Statements, NoStatements, MoreStatements, Alternates, NoElse, ElseIf, Else, CaseArms, NoCaseArms, CaseArm, MemberTree, DeclarationMember, AssignMember, ParameterMember, CommentMember, BlankMember, InlineMember, MacroMember, InstanceMember, AlwaysMember, ConditionalMember, FunctionMember, LoopMember, Members, NoMembers, MoreMembers, MissingType, Declaration, WireKind, ParameterName, PlainParameter, IntParameter, DefinedParameter, Connection, PortTree, InputDirection, ParameterPortTree, ModuleTree, FileItemTree, ModuleItem, IncludeItem, CommentItem, BlankItem, FileTree}
 use Rattle.vast_core.specs.declared.handle.VastDataType.{VastDataType}
 use Rattle.vast_core.specs.declared.handle.ModulePort.{ModulePort}
+use Rattle.vast_core.specs.declared.handle.VastStatementBlock.{VastStatementBlock}
 use Rattle.vast_core.specs.declared.kind.DataKind.{DataKind}
+use Rattle.vast_core.specs.declared.node.ElseIf.{ElseIf as ElseIfNode}
+use Rattle.vast_core.specs.declared.node.CaseArm.{CaseArm as CaseArmNode}
 use Rattle.vast_core.specs.declared.node.Assignment.{Assignment}
-use Rattle.vast_core.specs.Kinds.{dialect_of, direction_of, kind_of}
-use Rattle.vast_core.specs.Handles.{module_index, port_index, continuous_index, definition_index, comment_index, inline_index, macro_statement_index, instantiation_index, macro_ref_to_expr}
+use Rattle.vast_core.specs.Kinds.{dialect_of, direction_of, kind_of, always_word, case_word}
+use Rattle.vast_core.specs.Handles.{module_index, port_index, continuous_index, definition_index, comment_index, inline_index, macro_statement_index, instantiation_index, function_index, always_index, statement_index, block_index, conditional_index, case_index, loop_index, macro_ref_to_expr}
 use Rattle.vast_core.specs.Nodes.{maybe_type_in, maybe_expr_in}
-use Rattle.vast_core.specs.Records.{PortRecord, ParameterPortRecord, ModuleRecord, FormEntry, PlainForm, IntForm, DefinedForm, MemberEntry, DeclarationEntry, AssignmentEntry, ParameterEntry, BlankEntry, CommentEntry, InlineEntry, MacroEntry, InstanceEntry, FileEntry, ModuleEntry, IncludeEntry, FileCommentEntry, FileBlankEntry, DefinitionRecord, ArtifactRecord, BlankLineRecord, CommentRecord, InlineRecord, MacroRecord, ConnectionRecord, InstanceRecord}
-use Rattle.vast_core.specs.Bench.{Bench, tree_of, type_of}
+use Rattle.vast_core.specs.Records.{PortRecord, ParameterPortRecord, ModuleRecord, FormEntry, PlainForm, IntForm, DefinedForm, MemberEntry, DeclarationEntry, AssignmentEntry, ParameterEntry, BlankEntry, CommentEntry, InlineEntry, MacroEntry, InstanceEntry, FunctionEntry, AlwaysEntry, ConditionalEntry, LoopEntry, FileEntry, ModuleEntry, IncludeEntry, FileCommentEntry, FileBlankEntry, DefinitionRecord, ArtifactRecord, BlankLineRecord, CommentRecord, InlineRecord, MacroRecord, ConnectionRecord, InstanceRecord}
+use Rattle.vast_core.specs.Nests.{StatementEntry, AssignStatement, ContinuousStatement, ConditionalStatement, CasesStatement, BlankStatement, CommentStatement, InlineStatement, NestRecord, BlockRecord, BranchRecord, SwitchRecord, RepeatRecord, VariableRecord, FunctionRecord, AlwaysRecord}
+use Rattle.vast_core.specs.Bench.{Bench, tree_of, type_of, maybe_tree_of, trees_of}
 
 abbrev pub declared : Bench → DataKind → List ℕ → VastDataType → Declaration
 declared b kind name data_type = record { kind = kind_of kind; type = type_of b data_type; name = name }
@@ -45,20 +49,151 @@ abbrev pub instance_member : Bench → Option InstanceRecord → MemberTree
 instance_member b None = BlankMember
 instance_member b (Some i) = InstanceMember (record { module_name = i.module_name; instance_name = i.instance_name; parameters = map (connection_tree b) i.parameters; connections = map (connection_tree b) i.connections })
 
+-- Statements, containers and members are made of older parts and of newer containers; f has the trees of the containers.
+
+-- The tree of a container: a block, the parts of a conditional, a case statement, or a loop.
+pub data Family : Type 0 where
+  BlockFamily : Statements → Family
+  BranchFamily : (condition : ExprTree) (consequent : Statements) (alternates : Alternates) → Family
+  SwitchFamily : StatementTree → Family
+  RepeatFamily : MemberTree → Family
+  NoFamily : Family
+
+abbrev pub block_in : Family → Statements
+block_in (BlockFamily held) = held
+block_in (BranchFamily condition consequent alternates) = NoStatements
+block_in (SwitchFamily s) = NoStatements
+block_in (RepeatFamily m) = NoStatements
+block_in NoFamily = NoStatements
+
+abbrev pub branch_statement : Family → StatementTree
+branch_statement (BranchFamily condition consequent alternates) = ConditionalTree condition consequent alternates
+branch_statement (BlockFamily held) = BlankTree
+branch_statement (SwitchFamily s) = BlankTree
+branch_statement (RepeatFamily m) = BlankTree
+branch_statement NoFamily = BlankTree
+
+abbrev pub switch_statement : Family → StatementTree
+switch_statement (SwitchFamily s) = s
+switch_statement (BlockFamily held) = BlankTree
+switch_statement (BranchFamily condition consequent alternates) = BlankTree
+switch_statement (RepeatFamily m) = BlankTree
+switch_statement NoFamily = BlankTree
+
+abbrev pub branch_member : Family → MemberTree
+branch_member (BranchFamily condition consequent alternates) = ConditionalMember condition consequent alternates
+branch_member (BlockFamily held) = BlankMember
+branch_member (SwitchFamily s) = BlankMember
+branch_member (RepeatFamily m) = BlankMember
+branch_member NoFamily = BlankMember
+
+abbrev pub repeat_member : Family → MemberTree
+repeat_member (RepeatFamily m) = m
+repeat_member (BlockFamily held) = BlankMember
+repeat_member (BranchFamily condition consequent alternates) = BlankMember
+repeat_member (SwitchFamily s) = BlankMember
+repeat_member NoFamily = BlankMember
+
+abbrev pub form_of : Bool → AssignForm
+form_of true = Nonblocking
+form_of false = Blocking
+
+abbrev pub assigned_tree : Bench → Option Assignment → StatementTree
+assigned_tree b None = BlankTree
+assigned_tree b (Some a) = AssignTree (form_of a.nonblocking) (tree_of b a.lhs) (tree_of b a.rhs)
+
+abbrev pub continuous_tree : Bench → Option Assignment → StatementTree
+continuous_tree b None = BlankTree
+continuous_tree b (Some a) = AssignTree Continuous (tree_of b a.lhs) (tree_of b a.rhs)
+
+abbrev pub statement_in : Bench → (ℕ → Family) → StatementEntry → StatementTree
+statement_in b f (AssignStatement s) = assigned_tree b (slice_get b.assignments (statement_index s))
+statement_in b f (ContinuousStatement s) = continuous_tree b (slice_get b.assignments (statement_index s))
+statement_in b f (ConditionalStatement c) = branch_statement (f (conditional_index c))
+statement_in b f (CasesStatement c) = switch_statement (f (case_index c))
+statement_in b f BlankStatement = BlankTree
+statement_in b f (CommentStatement text) = CommentTree text
+statement_in b f (InlineStatement text) = InlineTree text
+
+abbrev pub statements_in : Bench → (ℕ → Family) → List StatementEntry → Statements
+statements_in b f [] = NoStatements
+statements_in b f (s ∷ ss) = MoreStatements (statement_in b f s) (statements_in b f ss)
+
+abbrev pub otherwise_in : (ℕ → Family) → Option VastStatementBlock → Alternates
+otherwise_in f None = NoElse
+otherwise_in f (Some c) = Else (block_in (f (block_index c)))
+
+abbrev pub alternates_in : Bench → (ℕ → Family) → List ElseIfNode → Option VastStatementBlock → Alternates
+alternates_in b f [] otherwise = otherwise_in f otherwise
+alternates_in b f (a ∷ arms) otherwise = ElseIf (tree_of b a.condition) (block_in (f (block_index a.block))) (alternates_in b f arms otherwise)
+
+abbrev pub arms_in : Bench → (ℕ → Family) → List CaseArmNode → CaseArms
+arms_in b f [] = NoCaseArms
+arms_in b f (a ∷ arms) = CaseArm (maybe_tree_of b a.label) (block_in (f (block_index a.block))) (arms_in b f arms)
+
+abbrev pub always_in : Bench → (ℕ → Family) → Option AlwaysRecord → MemberTree
+always_in b f None = BlankMember
+always_in b f (Some a) = AlwaysMember (always_word a.kind) (trees_of b a.events) (block_in (f (block_index a.block)))
+
+abbrev pub variable_tree : Bench → VariableRecord → Declaration
+variable_tree b v = declared b v.kind v.name v.data_type
+
+abbrev pub function_in : Bench → (ℕ → Family) → Option FunctionRecord → MemberTree
+function_in b f None = BlankMember
+function_in b f (Some x) = FunctionMember (record { name = x.name; result = type_of b x.result_type; inputs = map (variable_tree b) x.inputs; locals = map (variable_tree b) x.locals; body = block_in (f (block_index x.body)) })
+
 -- The tree of a member; what a member names is read where it stands.
+abbrev pub member_in : Bench → (ℕ → Family) → MemberEntry → MemberTree
+member_in b f (DeclarationEntry kind name data_type) = DeclarationMember (declared b kind name data_type)
+member_in b f (AssignmentEntry a) = assignment_member b (slice_get b.assignments (continuous_index a))
+member_in b f (ParameterEntry local form value) = ParameterMember local (form_tree b form) (tree_of b value)
+member_in b f BlankEntry = BlankMember
+member_in b f (CommentEntry a) = artifact_member b (slice_get b.artifacts (comment_index a))
+member_in b f (InlineEntry a) = artifact_member b (slice_get b.artifacts (inline_index a))
+member_in b f (MacroEntry a) = artifact_member b (slice_get b.artifacts (macro_statement_index a))
+member_in b f (InstanceEntry i) = instance_member b (slice_get b.instances (instantiation_index i))
+member_in b f (FunctionEntry x) = function_in b f (slice_get b.functions (function_index x))
+member_in b f (AlwaysEntry a) = always_in b f (slice_get b.always_blocks (always_index a))
+member_in b f (ConditionalEntry c) = branch_member (f (conditional_index c))
+member_in b f (LoopEntry l) = repeat_member (f (loop_index l))
+
+abbrev pub members_in : Bench → (ℕ → Family) → List MemberEntry → Members
+members_in b f [] = NoMembers
+members_in b f (entry ∷ entries) = MoreMembers (member_in b f entry) (members_in b f entries)
+
+abbrev pub family : Bench → (ℕ → Family) → Option NestRecord → Family
+family b f None = NoFamily
+family b f (Some (BlockRecord statements)) = BlockFamily (statements_in b f statements)
+family b f (Some (BranchRecord c)) = BranchFamily (tree_of b c.condition) (block_in (f (block_index c.consequent))) (alternates_in b f c.else_ifs c.otherwise)
+family b f (Some (SwitchRecord c)) = SwitchFamily (CaseTree c.unique (case_word c.kind) (tree_of b c.selector) (arms_in b f c.arms))
+family b f (Some (RepeatRecord l)) = RepeatFamily (LoopMember l.name (tree_of b l.start) (tree_of b l.limit) l.label (members_in b f l.members))
+
+-- The tree of container i, this many levels deep.
+abbrev pub unfolded : Bench → ℕ → ℕ → Family
+unfolded b zero i = NoFamily
+unfolded b (suc n) i = family b (unfolded b n) (slice_get b.nests i)
+
+-- The trees of the containers; they nest no deeper than there are containers.
+unfoldable pub families : Bench → ℕ → Family
+families b i = unfolded b (length b.nests) i
+
+abbrev pub block_tree : Bench → VastStatementBlock → Statements
+block_tree b c = block_in (families b (block_index c))
+
+abbrev pub statements_tree : Bench → List StatementEntry → Statements
+statements_tree b statements = statements_in b (families b) statements
+
+abbrev pub alternates_tree : Bench → List ElseIfNode → Option VastStatementBlock → Alternates
+alternates_tree b arms otherwise = alternates_in b (families b) arms otherwise
+
+abbrev pub case_arms_tree : Bench → List CaseArmNode → CaseArms
+case_arms_tree b arms = arms_in b (families b) arms
+
 abbrev pub member_tree : Bench → MemberEntry → MemberTree
-member_tree b (DeclarationEntry kind name data_type) = DeclarationMember (declared b kind name data_type)
-member_tree b (AssignmentEntry a) = assignment_member b (slice_get b.assignments (continuous_index a))
-member_tree b (ParameterEntry local form value) = ParameterMember local (form_tree b form) (tree_of b value)
-member_tree b BlankEntry = BlankMember
-member_tree b (CommentEntry a) = artifact_member b (slice_get b.artifacts (comment_index a))
-member_tree b (InlineEntry a) = artifact_member b (slice_get b.artifacts (inline_index a))
-member_tree b (MacroEntry a) = artifact_member b (slice_get b.artifacts (macro_statement_index a))
-member_tree b (InstanceEntry i) = instance_member b (slice_get b.instances (instantiation_index i))
+member_tree b entry = member_in b (families b) entry
 
 abbrev pub members_tree : Bench → List MemberEntry → Members
-members_tree b [] = NoMembers
-members_tree b (entry ∷ entries) = MoreMembers (member_tree b entry) (members_tree b entries)
+members_tree b entries = members_in b (families b) entries
 
 abbrev pub declared_port : Bench → PortRecord → PortTree
 declared_port b p = record { direction = direction_of p.direction; declaration = declared b p.kind p.name p.data_type }

@@ -18,6 +18,12 @@ use Rattle.vast_core.specs.declared.handle.Index.{Index}
 use Rattle.vast_core.specs.declared.handle.ParameterRef.{ParameterRef}
 use Rattle.vast_core.specs.declared.handle.LocalparamRef.{LocalparamRef}
 use Rattle.vast_core.specs.declared.handle.MacroRef.{MacroRef}
+use Rattle.vast_core.specs.declared.handle.VastFunction.{VastFunction}
+use Rattle.vast_core.specs.declared.handle.VastAlwaysBase.{VastAlwaysBase}
+use Rattle.vast_core.specs.declared.handle.VastStatementBlock.{VastStatementBlock}
+use Rattle.vast_core.specs.declared.handle.Conditional.{Conditional}
+use Rattle.vast_core.specs.declared.handle.CaseStatement.{CaseStatement}
+use Rattle.vast_core.specs.declared.handle.GenerateLoop.{GenerateLoop}
 
 -- A number that is larger than those of a node's children: its place in the arena of expressions and types.
 abbrev pub rank : Expr → ℕ
@@ -58,6 +64,26 @@ macro_statement_index a = a.id.index
 -- An instantiation's place among the file's instantiations.
 abbrev pub instantiation_index : Instantiation → ℕ
 instantiation_index i = i.id.index
+
+-- A function's place among the file's functions, and an always block's among its always blocks.
+abbrev pub function_index : VastFunction → ℕ
+function_index f = f.id.index
+
+abbrev pub always_index : VastAlwaysBase → ℕ
+always_index a = a.id.index
+
+-- A container's place among the file's containers: it is lower than those of what the container holds.
+abbrev pub block_index : VastStatementBlock → ℕ
+block_index c = c.id.index
+
+abbrev pub conditional_index : Conditional → ℕ
+conditional_index c = c.id.index
+
+abbrev pub case_index : CaseStatement → ℕ
+case_index c = c.id.index
+
+abbrev pub loop_index : GenerateLoop → ℕ
+loop_index c = c.id.index
 
 -- The same node, as an expression.
 abbrev pub logic_ref_to_expr : LogicRef → Expr

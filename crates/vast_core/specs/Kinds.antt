@@ -1,11 +1,15 @@
 -- The enums of the code, as the kinds that trees speak of.
-use Rattle.vast_literal.specs.Tree.{Dialect, VerilogDialect, SystemVerilogDialect, PortDirection, InputDirection, OutputDirection, InOutDirection, Kind, RegKind, WireKind, LogicKind, IntegerKind, IntKind, UserKind, UntypedEnumKind, GenvarKind, UnaryOp, NegateOp, BitwiseNotOp, LogicalNotOp, AndReduceOp, OrReduceOp, XorReduceOp, BinaryOp, AddOp, SubOp, MulOp, DivOp, ModOp, PowerOp, BitwiseAndOp, BitwiseOrOp, BitwiseXorOp, ShllOp, ShraOp, ShrlOp, NeOp, CaseNeOp, EqOp, CaseEqOp, GeOp, GtOp, LeOp, LtOp, LogicalAndOp, LogicalOrOp, NeXOp, EqXOp}
+use Rattle.vast_literal.specs.Tree.{Dialect, VerilogDialect, SystemVerilogDialect, PortDirection, InputDirection, OutputDirection, InOutDirection, Kind, RegKind, WireKind, LogicKind, IntegerKind, IntKind, UserKind, UntypedEnumKind, GenvarKind, AlwaysWord, AlwaysFFWord, AlwaysAtWord, AlwaysCombWord, CaseWord, CaseExact, CaseZ as CaseZWord, CaseX as CaseXWord, UnaryOp, NegateOp, BitwiseNotOp, LogicalNotOp, AndReduceOp, OrReduceOp, XorReduceOp, BinaryOp, AddOp, SubOp, MulOp, DivOp, ModOp, PowerOp, BitwiseAndOp, BitwiseOrOp, BitwiseXorOp, ShllOp, ShraOp, ShrlOp, NeOp, CaseNeOp, EqOp, CaseEqOp, GeOp, GtOp, LeOp, LtOp, LogicalAndOp, LogicalOrOp, NeXOp, EqXOp}
 use Rattle.vast_core.specs.declared.kind.VastFileType.{VastFileType}
 use Rattle.vast_core.specs.declared.kind.VastFileType.TheVariants.{Verilog, SystemVerilog}
 use Rattle.vast_core.specs.declared.kind.ModulePortDirection.{ModulePortDirection}
 use Rattle.vast_core.specs.declared.kind.ModulePortDirection.TheVariants.{Input, Output, InOut}
 use Rattle.vast_core.specs.declared.kind.DataKind.{DataKind}
 use Rattle.vast_core.specs.declared.kind.DataKind.TheVariants.{Reg, Wire, Logic, Integer, Int, User, UntypedEnum, Genvar}
+use Rattle.vast_core.specs.declared.kind.AlwaysKind.{AlwaysKind}
+use Rattle.vast_core.specs.declared.kind.AlwaysKind.TheVariants.{AlwaysFF, AlwaysAt, AlwaysComb}
+use Rattle.vast_core.specs.declared.kind.CaseKind.{CaseKind}
+use Rattle.vast_core.specs.declared.kind.CaseKind.TheVariants.{Case, CaseZ, CaseX}
 use Rattle.vast_core.specs.declared.operator.UnaryOperator.{UnaryOperator}
 use Rattle.vast_core.specs.declared.operator.UnaryOperator.TheVariants.{Negate, BitwiseNot, LogicalNot, AndReduce, OrReduce, XorReduce}
 use Rattle.vast_core.specs.declared.operator.BinaryOperator.{BinaryOperator}
@@ -29,6 +33,16 @@ kind_of Int = IntKind
 kind_of User = UserKind
 kind_of UntypedEnum = UntypedEnumKind
 kind_of Genvar = GenvarKind
+
+abbrev pub always_word : AlwaysKind → AlwaysWord
+always_word AlwaysFF = AlwaysFFWord
+always_word AlwaysAt = AlwaysAtWord
+always_word AlwaysComb = AlwaysCombWord
+
+abbrev pub case_word : CaseKind → CaseWord
+case_word Case = CaseExact
+case_word CaseZ = CaseZWord
+case_word CaseX = CaseXWord
 
 abbrev pub unary_of : UnaryOperator → UnaryOp
 unary_of Negate = NegateOp

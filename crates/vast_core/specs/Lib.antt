@@ -3,6 +3,7 @@ pub mod Handles
 pub mod Types
 pub mod Nodes
 pub mod Records
+pub mod Nests
 pub mod Raw
 pub mod Bench
 pub mod BitCount
@@ -11,5 +12,10 @@ pub mod Growth
 pub mod Artifacts
 pub mod Parameters
 pub mod Hoisting
-pub mod Sound
 pub mod FileTree
+pub mod Sound
+pub mod Containers
+pub mod Arrivals
+pub mod Loops
+pub mod Functions
+pub mod Events

@@ -1,4 +1,4 @@
--- What an Ast holds, node by node, and how many expressions and types fit before their arena has to grow.
+-- What an Ast holds, node by node, and how many nodes fit before an arena has to grow.
 use Rattle.std.specs.Prelude.{ℕ, List}
 use Rattle.vast_core.specs.declared.kind.VastFileType.{VastFileType}
 use Rattle.vast_core.specs.declared.node.Term.{Term}
@@ -28,3 +28,7 @@ pub record Raw : Type 0 where
   pub instances : List Instance
   pub always_blocks : List AlwaysBlock
   pub items : List FileItem
+  pub assignment_room : ℕ
+  pub nest_room : ℕ
+  pub function_room : ℕ
+  pub always_block_room : ℕ

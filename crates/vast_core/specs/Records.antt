@@ -14,6 +14,10 @@ use Rattle.vast_core.specs.declared.handle.Comment.{Comment}
 use Rattle.vast_core.specs.declared.handle.InlineVerilogStatement.{InlineVerilogStatement}
 use Rattle.vast_core.specs.declared.handle.MacroStatement.{MacroStatement}
 use Rattle.vast_core.specs.declared.handle.Instantiation.{Instantiation}
+use Rattle.vast_core.specs.declared.handle.VastFunction.{VastFunction}
+use Rattle.vast_core.specs.declared.handle.VastAlwaysBase.{VastAlwaysBase}
+use Rattle.vast_core.specs.declared.handle.Conditional.{Conditional}
+use Rattle.vast_core.specs.declared.handle.GenerateLoop.{GenerateLoop}
 use Rattle.vast_core.specs.declared.handle.ModulePort.{ModulePort}
 use Rattle.vast_core.specs.declared.handle.ContinuousAssignment.{ContinuousAssignment}
 use Rattle.vast_core.specs.declared.kind.ModulePortDirection.{ModulePortDirection}
@@ -24,7 +28,7 @@ use Rattle.vast_core.specs.declared.node.ParameterPort.{ParameterPort}
 use Rattle.vast_core.specs.declared.node.ParameterForm.{ParameterForm}
 use Rattle.vast_core.specs.declared.node.ParameterForm.TheVariants.{Plain, Int, Defined}
 use Rattle.vast_core.specs.declared.node.Member.{Member}
-use Rattle.vast_core.specs.declared.node.Member.TheVariants.{Declaration as DeclarationOf, ContinuousAssignment as AssignmentOf, Parameter as ParameterOf, BlankLine as BlankOf, Comment as CommentOf, Inline as InlineOf, Macro as MacroOf, Instantiation as InstanceOf}
+use Rattle.vast_core.specs.declared.node.Member.TheVariants.{Declaration as DeclarationOf, ContinuousAssignment as AssignmentOf, Parameter as ParameterOf, BlankLine as BlankOf, Comment as CommentOf, Inline as InlineOf, Macro as MacroOf, Instantiation as InstanceOf, Function as FunctionOf, Always as AlwaysOf, Conditional as ConditionalOf, Loop as LoopOf}
 use Rattle.vast_core.specs.declared.node.FileItem.{FileItem}
 use Rattle.vast_core.specs.declared.node.FileItem.TheVariants.{Module as ModuleItemOf, Include as IncludeItemOf, Comment as CommentItemOf, BlankLine as BlankItemOf}
 use Rattle.vast_core.specs.declared.node.Definition.{Definition}
@@ -52,7 +56,7 @@ pub data FormEntry : Type 0 where
   IntForm : (name : List ℕ) → FormEntry
   DefinedForm : Def → FormEntry
 
--- A member of a module. An artifact or an instantiation stays where it is, and its member names it.
+-- A member of a module or of a generate loop. What is no declaration stays where it is, and its member names it.
 pub data MemberEntry : Type 0 where
   DeclarationEntry : (kind : DataKind) (name : List ℕ) (data_type : VastDataType) → MemberEntry
   AssignmentEntry : ContinuousAssignment → MemberEntry
@@ -62,6 +66,10 @@ pub data MemberEntry : Type 0 where
   InlineEntry : InlineVerilogStatement → MemberEntry
   MacroEntry : MacroStatement → MemberEntry
   InstanceEntry : Instantiation → MemberEntry
+  FunctionEntry : VastFunction → MemberEntry
+  AlwaysEntry : VastAlwaysBase → MemberEntry
+  ConditionalEntry : Conditional → MemberEntry
+  LoopEntry : GenerateLoop → MemberEntry
 
 -- A module; its names are in byte order, each once.
 pub record ModuleRecord : Type 0 where
@@ -122,6 +130,10 @@ member_entry (CommentOf a) = CommentEntry a
 member_entry (InlineOf a) = InlineEntry a
 member_entry (MacroOf a) = MacroEntry a
 member_entry (InstanceOf i) = InstanceEntry i
+member_entry (FunctionOf f) = FunctionEntry f
+member_entry (AlwaysOf a) = AlwaysEntry a
+member_entry (ConditionalOf c) = ConditionalEntry c
+member_entry (LoopOf l) = LoopEntry l
 
 abbrev pub module_record : Module → ModuleRecord
 module_record m = record { name = string_bytes m.name; parameters = map parameter_port_record m.parameters.items; ports = m.ports.items; members = map member_entry m.members.items; names = map string_bytes m.names.keys }

@@ -1,11 +1,18 @@
 -- What every file keeps: children are older, each expression and type fits, and each handle in its records and lists
 -- is its own.
-use Rattle.std.specs.Prelude.{List, [], ◌∷◌}
+use Rattle.std.specs.Prelude.{◌↔◌, ℕ, suc, ◌<◌, Bool, true, false, IsTrue, List, [], ◌∷◌, Option, Some, None, slice_get}
+use Rattle.vast_literal.specs.Tree.{ExprTree, NameTree, PosEdgeTree, NegEdgeTree}
+use Rattle.vast_core.specs.declared.handle.Expr.{Expr}
+use Rattle.vast_core.specs.declared.handle.VastStatementBlock.{VastStatementBlock}
+use Rattle.vast_core.specs.declared.node.ElseIf.{ElseIf}
+use Rattle.vast_core.specs.declared.node.CaseArm.{CaseArm}
+use Rattle.vast_core.specs.Handles.{block_index, conditional_index, case_index, loop_index, always_index}
+use Rattle.vast_core.specs.Nests.{StatementEntry, AssignStatement, ContinuousStatement, ConditionalStatement, CasesStatement, BlankStatement, CommentStatement, InlineStatement, ConditionalRecord, CaseRecord, LoopRecord, NestRecord, BlockRecord, BranchRecord, SwitchRecord, RepeatRecord, VariableRecord, FunctionRecord, AlwaysRecord, declared_names}
 use Rattle.vast_core.specs.declared.node.Assignment.{Assignment}
 use Rattle.vast_core.specs.Nodes.{no_nodes, TermsSound, OptionHolds}
-use Rattle.vast_core.specs.Records.{PortRecord, ParameterPortRecord, ModuleRecord, FormEntry, PlainForm, IntForm, DefinedForm, MemberEntry, DeclarationEntry, AssignmentEntry, ParameterEntry, BlankEntry, CommentEntry, InlineEntry, MacroEntry, InstanceEntry, FileEntry, ModuleEntry, IncludeEntry, FileCommentEntry, FileBlankEntry, DefinitionRecord, ArtifactRecord, BlankLineRecord, CommentRecord, InlineRecord, MacroRecord, ConnectionRecord, InstanceRecord}
+use Rattle.vast_core.specs.Records.{PortRecord, ParameterPortRecord, ModuleRecord, FormEntry, PlainForm, IntForm, DefinedForm, MemberEntry, DeclarationEntry, AssignmentEntry, ParameterEntry, BlankEntry, CommentEntry, InlineEntry, MacroEntry, InstanceEntry, FunctionEntry, AlwaysEntry, ConditionalEntry, LoopEntry, FileEntry, ModuleEntry, IncludeEntry, FileCommentEntry, FileBlankEntry, DefinitionRecord, ArtifactRecord, BlankLineRecord, CommentRecord, InlineRecord, MacroRecord, ConnectionRecord, InstanceRecord, IsFree}
 use Rattle.vast_core.specs.Raw.{Raw}
-use Rattle.vast_core.specs.Bench.{Bench, OwnsExpr, OwnsType, OwnsLogicRef, OwnsPort, OwnsContinuous, OwnsModule, OwnsDef, OwnsMacroRef, OwnsComment, OwnsInline, OwnsMacroStatement, OwnsInstantiation}
+use Rattle.vast_core.specs.Bench.{Bench, OwnsExpr, OwnsType, OwnsLogicRef, OwnsPort, OwnsContinuous, OwnsModule, OwnsDef, OwnsMacroRef, OwnsComment, OwnsInline, OwnsMacroStatement, OwnsInstantiation, OwnsFunction, OwnsAlways, OwnsStatement, OwnsBlock, OwnsConditional, OwnsCase, OwnsLoop, tree_of}
 use Rattle.vast_core.specs.View.{bench}
 
 abbrev pub Each : {A : Type 0} (P : A → Type 0) → List A → Type 0
@@ -48,6 +55,113 @@ MemberSound b (CommentEntry a) = OwnsComment b a
 MemberSound b (InlineEntry a) = OwnsInline b a
 MemberSound b (MacroEntry a) = OwnsMacroStatement b a
 MemberSound b (InstanceEntry i) = OwnsInstantiation b i
+MemberSound b (FunctionEntry f) = OwnsFunction b f
+MemberSound b (AlwaysEntry a) = OwnsAlways b a
+MemberSound b (ConditionalEntry c) = OwnsConditional b c
+MemberSound b (LoopEntry l) = OwnsLoop b l
+
+-- The container is the file's, and newer than container i, which holds it.
+abbrev pub HoldsBlock : Bench → ℕ → VastStatementBlock → Type 0
+HoldsBlock b i c = OwnsBlock b c × i < block_index c
+
+abbrev pub StatementSound : Bench → ℕ → StatementEntry → Type 0
+StatementSound b i (AssignStatement s) = OwnsStatement b s
+StatementSound b i (ContinuousStatement s) = OwnsStatement b s
+StatementSound b i (ConditionalStatement c) = OwnsConditional b c × i < conditional_index c
+StatementSound b i (CasesStatement c) = OwnsCase b c × i < case_index c
+StatementSound b i BlankStatement = Unit {0}
+StatementSound b i (CommentStatement text) = Unit {0}
+StatementSound b i (InlineStatement text) = Unit {0}
+
+abbrev pub ElseIfSound : Bench → ℕ → ElseIf → Type 0
+ElseIfSound b i a = OwnsExpr b a.condition × HoldsBlock b i a.block
+
+abbrev pub CaseArmSound : Bench → ℕ → CaseArm → Type 0
+CaseArmSound b i a = OptionHolds (OwnsExpr b) a.label × HoldsBlock b i a.block
+
+pub record ConditionalSound (b : Bench) (i : ℕ) (c : ConditionalRecord) : Type 0 where
+  pub condition : OwnsExpr b c.condition
+  pub consequent : HoldsBlock b i c.consequent
+  pub else_ifs : Each (ElseIfSound b i) c.else_ifs
+  pub otherwise : OptionHolds (HoldsBlock b i) c.otherwise
+
+pub record CaseSound (b : Bench) (i : ℕ) (c : CaseRecord) : Type 0 where
+  pub selector : OwnsExpr b c.selector
+  pub arms : Each (CaseArmSound b i) c.arms
+
+-- The block of an always block, if there is one, is newer than container i.
+abbrev pub AlwaysNewer : ℕ → Option AlwaysRecord → Type 0
+AlwaysNewer i None = Unit {0}
+AlwaysNewer i (Some a) = i < block_index a.block
+
+-- What a member of loop i holds is newer than the loop. Loops hold no functions.
+abbrev pub MemberNewer : Bench → ℕ → MemberEntry → Type 0
+MemberNewer b i (DeclarationEntry kind name data_type) = Unit {0}
+MemberNewer b i (AssignmentEntry a) = Unit {0}
+MemberNewer b i (ParameterEntry local form value) = Unit {0}
+MemberNewer b i BlankEntry = Unit {0}
+MemberNewer b i (CommentEntry a) = Unit {0}
+MemberNewer b i (InlineEntry a) = Unit {0}
+MemberNewer b i (MacroEntry a) = Unit {0}
+MemberNewer b i (InstanceEntry x) = Unit {0}
+MemberNewer b i (FunctionEntry f) = ⊥
+MemberNewer b i (AlwaysEntry a) = AlwaysNewer i (slice_get b.always_blocks (always_index a))
+MemberNewer b i (ConditionalEntry c) = i < conditional_index c
+MemberNewer b i (LoopEntry l) = i < loop_index l
+
+abbrev pub LoopMemberSound : Bench → ℕ → MemberEntry → Type 0
+LoopMemberSound b i entry = MemberSound b entry × MemberNewer b i entry
+
+pub record LoopSound (b : Bench) (i : ℕ) (l : LoopRecord) : Type 0 where
+  pub genvar : OwnsLogicRef b l.genvar
+  pub start : OwnsExpr b l.start
+  pub limit : OwnsExpr b l.limit
+  pub members : Each (LoopMemberSound b i) l.members
+
+-- What container i holds is the file's, and newer than it.
+abbrev pub NestSound : Bench → ℕ → NestRecord → Type 0
+NestSound b i (BlockRecord statements) = Each (StatementSound b i) statements
+NestSound b i (BranchRecord c) = ConditionalSound b i c
+NestSound b i (SwitchRecord c) = CaseSound b i c
+NestSound b i (RepeatRecord l) = LoopSound b i l
+
+-- The containers from the place i on.
+abbrev pub NestsSound : Bench → ℕ → List NestRecord → Type 0
+NestsSound b i [] = Unit {0}
+NestsSound b i (n ∷ ns) = NestSound b i n × NestsSound b (suc i) ns
+
+abbrev pub VariableSound : Bench → VariableRecord → Type 0
+VariableSound b v = OwnsType b v.data_type
+
+-- No name stands twice.
+abbrev pub AreDistinct : List (List ℕ) → Type 0
+AreDistinct [] = Unit {0}
+AreDistinct (name ∷ names) = IsFree name names × AreDistinct names
+
+-- What a function names is the file's. Its result, inputs and locals have distinct names, and the names that are taken
+-- are those.
+pub record FunctionSound (b : Bench) (f : FunctionRecord) : Type 0 where
+  pub result_type : OwnsType b f.result_type
+  pub result_name : OwnsLogicRef b f.result_name
+  pub inputs : Each (VariableSound b) f.inputs
+  pub locals : Each (VariableSound b) f.locals
+  pub body : OwnsBlock b f.body
+  pub distinct : AreDistinct (declared_names f)
+  pub taken : (name : List ℕ) → IsFree name f.names ↔ IsFree name (declared_names f)
+
+-- An edge or a name.
+abbrev pub is_event : ExprTree → Bool
+is_event (NameTree name type) = true
+is_event (PosEdgeTree operand) = true
+is_event (NegEdgeTree operand) = true
+is_event _ = false
+
+abbrev pub EventSound : Bench → Expr → Type 0
+EventSound b e = OwnsExpr b e × IsTrue (is_event (tree_of b e))
+
+pub record AlwaysSound (b : Bench) (a : AlwaysRecord) : Type 0 where
+  pub events : Each (EventSound b) a.events
+  pub block : OwnsBlock b a.block
 
 abbrev pub ParameterPortSound : Bench → ParameterPortRecord → Type 0
 ParameterPortSound b p = OptionHolds (OwnsType b) p.data_type × OwnsExpr b p.value
@@ -71,6 +185,9 @@ pub record RecordsSound (b : Bench) : Type 0 where
   pub artifacts : Each (ArtifactSound b) b.artifacts
   pub instances : Each (InstanceSound b) b.instances
   pub items : Each (EntrySound b) b.items
+  pub nests : NestsSound b 0 b.nests
+  pub functions : Each (FunctionSound b) b.functions
+  pub always_blocks : Each (AlwaysSound b) b.always_blocks
 
 pub record IsSound (a : Raw) : Type 0 where
   pub terms : TermsSound (no_nodes a.id) a.terms

@@ -3,6 +3,7 @@ use Rattle.std.specs.Prelude.{ℕ, map}
 use Rattle.vast_core.specs.Raw.{Raw}
 use Rattle.vast_core.specs.Nodes.{no_nodes, built}
 use Rattle.vast_core.specs.Records.{port_record, module_record, definition_record, artifact_record, instance_record, file_entry}
+use Rattle.vast_core.specs.Nests.{nest_record, function_record, always_record}
 use Rattle.vast_core.specs.Bench.{Bench}
 
 unfoldable pub bench : Raw → Bench
@@ -10,15 +11,15 @@ bench a =
     record {
       file_type = a.file_type;
       nodes = built (no_nodes a.id) a.terms;
-      nests = a.nests;
+      nests = map nest_record a.nests;
       ports = map port_record a.ports;
       assignments = a.assignments;
       modules = map module_record a.modules;
-      functions = a.functions;
+      functions = map function_record a.functions;
       definitions = map definition_record a.definitions;
       artifacts = map artifact_record a.artifacts;
       instances = map instance_record a.instances;
-      always_blocks = a.always_blocks;
+      always_blocks = map always_record a.always_blocks;
       items = map file_entry a.items;
     }
 

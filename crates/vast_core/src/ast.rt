@@ -12,14 +12,23 @@ use crate::node::{
 use std::alloc::Global;
 use std::marker::Model;
 
+mod always;
 mod artifacts;
 mod assignments;
 mod bit_count;
+mod blocks;
+mod branches;
+mod events;
 mod expressions;
+mod functions;
+mod growth;
 mod hoisting;
 mod inspect;
+mod localparams;
+mod loops;
 mod members;
 mod modules;
+mod next;
 pub(crate) mod owns;
 mod parameters;
 mod places;
@@ -28,6 +37,7 @@ mod terms;
 #[cfg(test)]
 mod tests;
 mod types;
+mod variables;
 
 /// The nodes of one file, in arenas. Handles name nodes by their index.
 ///
@@ -60,9 +70,9 @@ impl Model for Ast {
     ghost use Rattle.std.specs.Prelude.{◌-◌, vec_capacity, vec_len};
     ghost use Rattle.vast_core.specs.Sound.{IsSound};
 
-    ghost view = { λ a. record { file_type = a.file_type; id = a.id; terms = a.terms.items; term_room = vec_capacity a.terms - vec_len a.terms; nests = a.nests.items; ports = a.ports.items; assignments = a.assignments.items; modules = a.modules.items; functions = a.functions.items; definitions = a.definitions.items; artifacts = a.artifacts.items; instances = a.instances.items; always_blocks = a.always_blocks.items; items = a.items.items } };
+    ghost view = { λ a. record { file_type = a.file_type; id = a.id; terms = a.terms.items; term_room = vec_capacity a.terms - vec_len a.terms; nests = a.nests.items; ports = a.ports.items; assignments = a.assignments.items; modules = a.modules.items; functions = a.functions.items; definitions = a.definitions.items; artifacts = a.artifacts.items; instances = a.instances.items; always_blocks = a.always_blocks.items; items = a.items.items; assignment_room = vec_capacity a.assignments - vec_len a.assignments; nest_room = vec_capacity a.nests - vec_len a.nests; function_room = vec_capacity a.functions - vec_len a.functions; always_block_room = vec_capacity a.always_blocks - vec_len a.always_blocks } };
 
-    ghost invariant = { λ a. IsSound record { file_type = a.file_type; id = a.id; terms = a.terms.items; term_room = vec_capacity a.terms - vec_len a.terms; nests = a.nests.items; ports = a.ports.items; assignments = a.assignments.items; modules = a.modules.items; functions = a.functions.items; definitions = a.definitions.items; artifacts = a.artifacts.items; instances = a.instances.items; always_blocks = a.always_blocks.items; items = a.items.items } };
+    ghost invariant = { λ a. IsSound record { file_type = a.file_type; id = a.id; terms = a.terms.items; term_room = vec_capacity a.terms - vec_len a.terms; nests = a.nests.items; ports = a.ports.items; assignments = a.assignments.items; modules = a.modules.items; functions = a.functions.items; definitions = a.definitions.items; artifacts = a.artifacts.items; instances = a.instances.items; always_blocks = a.always_blocks.items; items = a.items.items; assignment_room = vec_capacity a.assignments - vec_len a.assignments; nest_room = vec_capacity a.nests - vec_len a.nests; function_room = vec_capacity a.functions - vec_len a.functions; always_block_room = vec_capacity a.always_blocks - vec_len a.always_blocks } };
 }
 
 impl Ast {

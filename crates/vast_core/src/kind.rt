@@ -35,3 +35,11 @@ pub enum AlwaysKind {
     AlwaysAt,
     AlwaysComb,
 }
+
+/// The words that begin a case statement.
+#[derive(Clone, Copy, Debug, PartialEq, Eq, Hash)]
+pub enum CaseKind {
+    Case,
+    CaseZ,
+    CaseX,
+}

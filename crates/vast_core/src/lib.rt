@@ -25,9 +25,10 @@ pub use handle::{
     VastModule, VastStatement, VastStatementBlock,
 };
 pub use keyword::is_system_verilog_keyword;
-pub use kind::{AlwaysKind, DataKind, ModulePortDirection, VastFileType};
+pub use kind::{AlwaysKind, CaseKind, DataKind, ModulePortDirection, VastFileType};
 pub use node::{
-    Artifact, Assignment, Connection, Definition, ExprNode, FileItem, Instance, Member, Module,
-    ParameterForm, ParameterPort, Port, TypeNode,
+    AlwaysBlock, Artifact, Assignment, CaseArm, CaseNode, ConditionalNode, Connection, Definition,
+    ElseIf, ExprNode, FileItem, Function, FunctionVariable, Instance, LoopNode, Member, Module,
+    ParameterForm, ParameterPort, Port, Statement, TypeNode,
 };
 pub use operator::{BinaryOperator, UnaryOperator};

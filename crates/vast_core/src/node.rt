@@ -1,11 +1,11 @@
 //! Nodes: what the arenas of a file hold, with handles in the place of children.
 
 use crate::handle::{
-    CaseStatement, Comment, Conditional, ContinuousAssignment, Def, Expr, InlineVerilogStatement,
-    Instantiation, LogicRef, MacroRef, MacroStatement, ModulePort, VastDataType, VastModule,
-    VastStatement, VastStatementBlock,
+    CaseStatement, Comment, Conditional, ContinuousAssignment, Def, Expr, GenerateLoop,
+    InlineVerilogStatement, Instantiation, LogicRef, MacroRef, MacroStatement, ModulePort,
+    VastAlwaysBase, VastDataType, VastFunction, VastModule, VastStatement, VastStatementBlock,
 };
-use crate::kind::{AlwaysKind, DataKind, ModulePortDirection};
+use crate::kind::{AlwaysKind, CaseKind, DataKind, ModulePortDirection};
 use crate::operator::{BinaryOperator, UnaryOperator};
 use std::collections::BTreeSet;
 
@@ -103,7 +103,7 @@ pub enum ParameterForm {
     Defined(Def),
 }
 
-/// A member of a module.
+/// A member of a module or of a generate loop.
 #[derive(Drop)]
 pub enum Member {
     /// The kind, the name and the type of a wire, reg or logic.
@@ -116,6 +116,10 @@ pub enum Member {
     Inline(InlineVerilogStatement),
     Macro(MacroStatement),
     Instantiation(Instantiation),
+    Function(VastFunction),
+    Always(VastAlwaysBase),
+    Conditional(Conditional),
+    Loop(GenerateLoop),
 }
 
 /// A parameter of a module's header.
@@ -211,24 +215,66 @@ pub struct AlwaysBlock {
 /// A procedural statement.
 #[derive(Drop)]
 pub enum Statement {
+    /// `l = r`, or `l <= r` where the assignment is nonblocking.
     Assignment(VastStatement),
+    /// `assign l = r`.
+    Continuous(VastStatement),
     Conditional(Conditional),
     Case(CaseStatement),
-    Artifact(Artifact),
+    BlankLine,
+    Comment(String),
+    Inline(String),
 }
 
-/// An arm `else if` of a conditional, or a labelled arm of a case; an `else` and a default have no expression.
+/// An arm `else if` of a conditional.
 #[derive(Clone, Copy, Debug, PartialEq, Eq)]
-pub struct Arm {
-    pub expr: Option<Expr>,
+pub struct ElseIf {
+    pub condition: Expr,
     pub block: VastStatementBlock,
+}
+
+/// An arm of a case statement; a default has no label.
+#[derive(Clone, Copy, Debug, PartialEq, Eq)]
+pub struct CaseArm {
+    pub label: Option<Expr>,
+    pub block: VastStatementBlock,
+}
+
+/// A conditional: its first arm, its arms `else if`, and its `else` where it has one.
+#[derive(Drop)]
+pub struct ConditionalNode {
+    pub condition: Expr,
+    pub consequent: VastStatementBlock,
+    pub else_ifs: Vec<ElseIf>,
+    pub otherwise: Option<VastStatementBlock>,
+}
+
+/// A case statement, `unique` or not.
+#[derive(Drop)]
+pub struct CaseNode {
+    pub kind: CaseKind,
+    pub unique: bool,
+    pub selector: Expr,
+    pub arms: Vec<CaseArm>,
+}
+
+/// A generate loop: its variable runs from `start` on while it is below `limit`.
+#[derive(Drop)]
+pub struct LoopNode {
+    /// The variable as an expression.
+    pub genvar: LogicRef,
+    pub name: String,
+    pub start: Expr,
+    pub limit: Expr,
+    pub label: Option<String>,
+    pub members: Vec<Member>,
 }
 
 /// The containers that nest in one another, in one arena: what a container holds is newer than it.
 #[derive(Drop)]
 pub(crate) enum Nest {
     Block(Vec<Statement>),
-    Conditional(Expr, VastStatementBlock, Vec<Arm>),
-    Case(Expr, Vec<Arm>),
-    Loop(LogicRef, Vec<Member>),
+    Conditional(ConditionalNode),
+    Case(CaseNode),
+    Loop(LoopNode),
 }

@@ -29,7 +29,7 @@ use Rattle.vast_print.proofs.InkLaws.{pour-then, hang-stopped, pour-stopped, who
 use Rattle.vast_print.proofs.Lines.{word-stopped, next-stopped}
 use Rattle.vast_print.proofs.DeclarationLaws.{pour-declaration, pour-port, pour-untyped-parameter, pour-typed-parameter}
 use Rattle.vast_print.proofs.ListLaws.{entries-end, entries-step}
-use Rattle.vast_print.proofs.MemberLaws.{hang-members-none, hang-members, hang-declaration, hang-assign-member, hang-comment-member, hang-blank-member, hang-inline-member, hang-macro, hang-parameter, pour-plain-parameter, pour-int-parameter, hang-instance, hang-instance-head, hang-instance-parameters, hang-no-connections, hang-connections, pour-connection, pour-open-connection}
+use Rattle.vast_print.proofs.MemberLaws.{hang-members-none, hang-members, hang-declaration, hang-macro, hang-parameter, pour-plain-parameter, pour-int-parameter, hang-instance, hang-instance-head, hang-instance-parameters, hang-no-connections, hang-connections, pour-connection, pour-open-connection}
 use Rattle.vast_print.proofs.ModuleLaws.{hang-body-none, hang-body, hang-header-bare, hang-header-ports, hang-header-parameters, hang-header-both, hang-module, parameters-end, parameters-step, hang-include, hang-comment-item, hang-blank-item}
 
 -- a refusal stays
@@ -98,13 +98,13 @@ length-records f (x ∷ xs) = ap suc (length-records f xs)
 
 pub ruleset modules = (hang-body-some, hang-body-empty, length-records, hang-header-of-none, hang-header-of-ports, hang-header-of-parameters, hang-header-of-both, hang-module, stops)
 
-pub ruleset members = (hang-declaration, hang-assign-member, hang-comment-member, hang-blank-member, hang-inline-member, hang-macro, stops)
+pub ruleset members = (hang-declaration, hang-macro, stops)
 
 pub ruleset parameters = (hang-parameter, pour-plain-parameter, pour-int-parameter, pour-then, pour-int-name, stops)
 
 -- a list of records, each read from a node
 
-map-map : {A B C : Type 0} (f : A → B) (g : B → C) (xs : List A) → map g (map f xs) ≡ map (λ x. g (f x)) xs
+pub map-map : {A B C : Type 0} (f : A → B) (g : B → C) (xs : List A) → map g (map f xs) ≡ map (λ x. g (f x)) xs
 map-map f g [] = refl
 map-map f g (x ∷ xs) = ap (λ r. g (f x) ∷ r) (map-map f g xs)
 
@@ -170,7 +170,8 @@ pub ruleset items = (hang-include, hang-comment-item, hang-blank-item, stops)
 
 pub layout-items : (b : Bench) (items : List FileItem) → b.items ≡ map file_entry items → layout (tree b) ≡ items_page (dialect_of b.file_type) (map (λ x. item_tree b (file_entry x)) items)
 unfolding layout tree
-layout-items b items e = rw e (ap (items_page (dialect_of b.file_type)) (map-map file_entry (item_tree b) items))
+layout-items b items e =
+    ap (λ xs. items_page (dialect_of b.file_type) (map (item_tree b) xs)) e ∙ ap (items_page (dialect_of b.file_type)) (map-map file_entry (item_tree b) items)
 
 -- what a call answers that prints
 

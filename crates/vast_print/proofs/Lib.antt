@@ -14,6 +14,8 @@ pub mod PrintLaws
 pub mod BareLaws
 pub mod ModuleLaws
 pub mod ArenaLaws
+pub mod Heights
+pub mod ContainerLaws
 mod Pins
 mod PagePins
 pub mod TestLaws

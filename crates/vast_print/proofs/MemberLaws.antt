@@ -1,14 +1,14 @@
 -- Laws of writing the members of modules and loops, one for each case.
 use Rattle.std.proofs.Common.{◌≡◌, ◌<◌, ℕ, ◌+◌, Bool, true, false, List, [], ◌∷◌, length, map, refl, ◌∙◌, codes, arith, Option, Some, None}
-use Rattle.vast_literal.specs.Tree.{Dialect, ExprTree, NoExpr, SomeExpr, Exprs, Declaration, LtOp, Statements, Alternates, ConditionalTree, AlwaysFFWord, AlwaysAtWord, AlwaysCombWord, ParameterName, PlainParameter, IntParameter, Connection, InstanceTree, FunctionTree}
-use Rattle.vast_literal.specs.Tree.{MemberTree, DeclarationMember, AssignMember, ParameterMember, CommentMember, BlankMember, InlineMember, MacroMember, InstanceMember, AlwaysMember, ConditionalMember, FunctionMember, LoopMember, Members, NoMembers, MoreMembers}
+use Rattle.vast_literal.specs.Tree.{Dialect, ExprTree, NoExpr, SomeExpr, Exprs, Declaration, LtOp, Statements, AlwaysWord, AlwaysFFWord, AlwaysAtWord, AlwaysCombWord, ParameterName, PlainParameter, IntParameter, Connection, InstanceTree, FunctionTree}
+use Rattle.vast_literal.specs.Tree.{MemberTree, DeclarationMember, ParameterMember, CommentMember, BlankMember, InlineMember, MacroMember, InstanceMember, AlwaysMember, FunctionMember, LoopMember, Members, NoMembers, MoreMembers}
 use Rattle.vast_print.specs.Printed.{plain_text, wrapped}
 use Rattle.vast_print.specs.Page.{written, commented}
 use Rattle.vast_print.specs.Ink.{Ink, word, next, hang, pour}
 use Rattle.vast_print.specs.Levels.{right_child_wraps}
 use Rattle.vast_print.specs.Text.{expr_text}
 use Rattle.vast_print.specs.Declaration.{declaration_text, port_declaration_text, result_kind}
-use Rattle.vast_print.specs.Statements.{statement_page, statements_page, block_page}
+use Rattle.vast_print.specs.Statements.{statements_page, block_page}
 use Rattle.vast_print.specs.Members.{entries_page, parameter_word, parameter_text, semicolon_text, connection_text, connections_page, instance_head_page, instance_page, events_text, always_text, input_text, inputs_text, local_page, locals_page, is_one_casez, function_body_page, function_page, loop_label_text, loop_text, member_page, members_page}
 use Rattle.vast_print.specs.Words.{always_ff_opening, always_at_opening, always_comb_opening, function_opening, endfunction_word, for_opening, step_word}
 use Rattle.vast_print.proofs.Lines.{word-word}
@@ -35,12 +35,6 @@ pub hang-declaration : (d : ℕ) (k : Ink) (dialect : Dialect) (declared : Decla
 unfolding member_page
 hang-declaration d k dialect declared = hang-written d k _ ∙ simp (pour-then, words)
 
-pub hang-assign-member : (d : ℕ) (k : Ink) (dialect : Dialect) (l r : ExprTree) →
-    hang d k (member_page dialect (AssignMember l r))
-    ≡ word (pour d (word (pour d (word (next d k) (codes "assign ")) (written (expr_text l))) (codes " = ")) (written (expr_text r))) (codes ";")
-unfolding member_page
-hang-assign-member d k dialect l r = hang-written d k _ ∙ simp (pour-then, words)
-
 pub hang-comment-member : (d : ℕ) (k : Ink) (dialect : Dialect) (text : List ℕ) → hang d k (member_page dialect (CommentMember text)) ≡ hang d k (commented (written (plain_text text)))
 unfolding member_page
 hang-comment-member d k dialect text = refl
@@ -52,11 +46,6 @@ hang-blank-member d k dialect = hang-blank d k
 pub hang-inline-member : (d : ℕ) (k : Ink) (dialect : Dialect) (text : List ℕ) → hang d k (member_page dialect (InlineMember text)) ≡ pour d (next d k) (written (plain_text text))
 unfolding member_page
 hang-inline-member d k dialect text = hang-written d k (plain_text text)
-
-pub hang-conditional-member : (d : ℕ) (k : Ink) (dialect : Dialect) (c : ExprTree) (b : Statements) (rest : Alternates) →
-    hang d k (member_page dialect (ConditionalMember c b rest)) ≡ hang d k (statement_page (ConditionalTree c b rest))
-unfolding member_page
-hang-conditional-member d k dialect c b rest = refl
 
 -- parameters
 
@@ -131,22 +120,22 @@ pour-open-connection d k name = simp (pour-then, pour-empty, words, word-word)
 
 -- always blocks
 
-pub hang-always-ff : (d : ℕ) (k : Ink) (dialect : Dialect) (events : Exprs) (b : Statements) →
-    hang d k (member_page dialect (AlwaysMember AlwaysFFWord events b))
-    ≡ pour d (word (pour d (word (next d k) always_ff_opening) (written (events_text events))) (codes ") ")) (block_page b)
-unfolding member_page always_text
-hang-always-ff d k dialect events b = hang-beside d k _ _ ∙ simp (pour-then, words)
+pub hang-always : (d : ℕ) (k : Ink) (dialect : Dialect) (w : AlwaysWord) (events : Exprs) (s : Statements) →
+    hang d k (member_page dialect (AlwaysMember w events s)) ≡ pour d (pour d (next d k) (written (always_text w events))) (block_page s)
+unfolding member_page
+hang-always d k dialect w events s = hang-beside d k (always_text w events) (block_page s)
 
-pub hang-always-at : (d : ℕ) (k : Ink) (dialect : Dialect) (events : Exprs) (b : Statements) →
-    hang d k (member_page dialect (AlwaysMember AlwaysAtWord events b))
-    ≡ pour d (word (pour d (word (next d k) always_at_opening) (written (events_text events))) (codes ") ")) (block_page b)
-unfolding member_page always_text
-hang-always-at d k dialect events b = hang-beside d k _ _ ∙ simp (pour-then, words)
+pub pour-always-ff : (d : ℕ) (k : Ink) (events : Exprs) → pour d k (written (always_text AlwaysFFWord events)) ≡ word (pour d (word k always_ff_opening) (written (events_text events))) (codes ") ")
+unfolding always_text
+pour-always-ff d k events = simp (pour-then, words)
 
-pub hang-always-comb : (d : ℕ) (k : Ink) (dialect : Dialect) (events : Exprs) (b : Statements) →
-    hang d k (member_page dialect (AlwaysMember AlwaysCombWord events b)) ≡ pour d (word (next d k) always_comb_opening) (block_page b)
-unfolding member_page always_text
-hang-always-comb d k dialect events b = hang-beside d k _ _ ∙ simp words
+pub pour-always-at : (d : ℕ) (k : Ink) (events : Exprs) → pour d k (written (always_text AlwaysAtWord events)) ≡ word (pour d (word k always_at_opening) (written (events_text events))) (codes ") ")
+unfolding always_text
+pour-always-at d k events = simp (pour-then, words)
+
+pub pour-always-comb : (d : ℕ) (k : Ink) (events : Exprs) → pour d k (written (always_text AlwaysCombWord events)) ≡ word k always_comb_opening
+unfolding always_text
+pour-always-comb d k events = simp words
 
 -- functions
 
@@ -200,11 +189,3 @@ pour-label-text d k label = simp (pour-then, words)
 
 pub pour-no-label : (d : ℕ) (k : Ink) → pour d k (written (loop_label_text None)) ≡ k
 pour-no-label d k = pour-empty d k
-
-pub ruleset members = (hang-members-none, hang-declaration, hang-assign-member, hang-comment-member, hang-blank-member, hang-inline-member, hang-conditional-member, hang-parameter, pour-plain-parameter, pour-int-parameter, hang-macro, hang-always-ff, hang-always-at, hang-always-comb, hang-function-member, hang-loop, pour-label-text, pour-no-label)
-
-pub ruleset instances = (hang-instance, hang-instance-head, hang-instance-parameters, hang-no-connections, hang-connections, pour-connection, pour-open-connection)
-
-pub ruleset functions = (hang-function, hang-local, hang-body-block, hang-body-casez, pour-input-text)
-
-pub ruleset loops = (pour-loop, pour-label-text, pour-no-label)

@@ -1,15 +1,14 @@
 -- Laws of writing statements, one for each case.
 use Rattle.std.proofs.Common.{◌≡◌, ℕ, ◌+◌, Bool, true, false, List, [], refl, sym, ◌∙◌, codes}
-use Rattle.vast_literal.specs.Tree.{ExprTree, MaybeExpr, NoExpr, SomeExpr, AssignForm, Blocking, Nonblocking, Continuous, CaseWord, CaseExact, CaseZ, CaseX}
+use Rattle.vast_literal.specs.Tree.{ExprTree, MaybeExpr, AssignForm, Blocking, Nonblocking, Continuous, CaseWord, CaseExact, CaseZ, CaseX}
 use Rattle.vast_literal.specs.Tree.{StatementTree, AssignTree, CommentTree, BlankTree, InlineTree, ConditionalTree, CaseTree, Statements, NoStatements, MoreStatements, Alternates, NoElse, ElseIf, Else, CaseArms, NoCaseArms, CaseArm}
-use Rattle.vast_print.specs.Printed.{plain_text}
+use Rattle.vast_print.specs.Printed.{plain_text, ◌⊕◌}
 use Rattle.vast_print.specs.Page.{line, inner, above, written, commented}
 use Rattle.vast_print.specs.Ink.{Ink, word, next, hang, pour}
 use Rattle.vast_print.specs.Text.{expr_text}
 use Rattle.vast_print.specs.Words.{else_if_opening, begin_end_word}
-use Rattle.vast_print.specs.Statements.{assign_opening, assign_sign, case_word, unique_word, is_bare_arm, begin_end, statement_page, statements_page, block_page, alternates_page, arms_page, arm_body_page, arm_page}
-use Rattle.vast_print.proofs.InkLaws.{hang-line, pour-line, hang-none, pour-none, hang-blank, hang-above, pour-above, pour-above-none, pour-beside, hang-beside, hang-line-above, hang-inner, hang-written, pour-then, pour-empty, pour-word}
-use Rattle.vast_print.proofs.Lines.{word-word}
+use Rattle.vast_print.specs.Statements.{assign_opening, assign_sign, case_word, unique_word, label_text, is_bare_arm, begin_end, statement_page, statements_page, block_page, alternates_page, arms_page, arm_body_page, arm_page}
+use Rattle.vast_print.proofs.InkLaws.{hang-line, pour-line, hang-none, pour-none, hang-blank, hang-above, pour-above, pour-beside, hang-beside, hang-line-above, hang-inner, hang-written, pour-then, pour-word}
 use Rattle.vast_print.proofs.WordLaws.{words}
 
 pour-opening : (d : ℕ) (k : Ink) (form : AssignForm) → pour d k (written (plain_text (assign_opening form))) ≡ word k (assign_opening form)
@@ -27,6 +26,12 @@ pub hang-assign : (d : ℕ) (k : Ink) (form : AssignForm) (l r : ExprTree) →
     ≡ word (pour d (word (pour d (word (next d k) (assign_opening form)) (written (expr_text l))) (assign_sign form)) (written (expr_text r))) (codes ";")
 unfolding statement_page
 hang-assign d k form l r = hang-written d k _ ∙ simp (pour-then, pour-opening, pour-sign, words)
+
+pub pour-assign : (d : ℕ) (k : Ink) (form : AssignForm) (l r : ExprTree) →
+    pour d k (statement_page (AssignTree form l r))
+    ≡ word (pour d (word (pour d (word k (assign_opening form)) (written (expr_text l))) (assign_sign form)) (written (expr_text r))) (codes ";")
+unfolding statement_page
+pour-assign d k form l r = simp (pour-then, pour-opening, pour-sign, words)
 
 pub hang-comment : (d : ℕ) (k : Ink) (text : List ℕ) → hang d k (statement_page (CommentTree text)) ≡ hang d k (commented (written (plain_text text)))
 unfolding statement_page
@@ -105,30 +110,11 @@ pub hang-arms : (d : ℕ) (k : Ink) (w : CaseWord) (label : MaybeExpr) (b : Stat
 unfolding arms_page arm_page arm_body_page statements_page block_page
 hang-arms d k w label b arms = hang-above d k (arm_page w label b) (arms_page w arms)
 
-pub hang-default : (d : ℕ) (k : Ink) (w : CaseWord) (b : Statements) →
-    hang d k (arm_page w NoExpr b) ≡ pour d (word (next d k) (codes "default: ")) (arm_body_page w b)
+pub hang-arm : (d : ℕ) (k : Ink) (w : CaseWord) (label : MaybeExpr) (b : Statements) →
+    hang d k (arm_page w label b) ≡ pour d (pour d (next d k) (written (label_text label ⊕ plain_text (codes ": ")))) (arm_body_page w b)
 unfolding arm_page
-hang-default d k w b = hang-beside d k _ _ ∙ simp (pour-then, words, word-word)
-
-pub hang-label : (d : ℕ) (k : Ink) (w : CaseWord) (e : ExprTree) (b : Statements) →
-    hang d k (arm_page w (SomeExpr e) b) ≡ pour d (word (pour d (next d k) (written (expr_text e))) (codes ": ")) (arm_body_page w b)
-unfolding arm_page
-hang-label d k w e b = hang-beside d k _ _ ∙ simp (pour-then, words)
+hang-arm d k w label b = hang-beside d k (label_text label ⊕ plain_text (codes ": ")) (arm_body_page w b)
 
 pub pour-arm-block : (d : ℕ) (k : Ink) (w : CaseWord) (b : Statements) → is_bare_arm w b ≡ false → pour d k (arm_body_page w b) ≡ pour d k (block_page b)
 unfolding arm_body_page
 pour-arm-block d k w b h = rw h refl
-
-pub pour-bare-blocking : (d : ℕ) (k : Ink) (l r : ExprTree) →
-    pour d k (arm_body_page CaseZ (MoreStatements (AssignTree Blocking l r) NoStatements))
-    ≡ word (pour d (word (pour d k (written (expr_text l))) (codes " = ")) (written (expr_text r))) (codes ";")
-unfolding arm_body_page statements_page statement_page
-pour-bare-blocking d k l r = pour-above-none d k _ ∙ simp (pour-then, pour-empty, words)
-
-pub pour-bare-nonblocking : (d : ℕ) (k : Ink) (l r : ExprTree) →
-    pour d k (arm_body_page CaseZ (MoreStatements (AssignTree Nonblocking l r) NoStatements))
-    ≡ word (pour d (word (pour d k (written (expr_text l))) (codes " <= ")) (written (expr_text r))) (codes ";")
-unfolding arm_body_page statements_page statement_page
-pour-bare-nonblocking d k l r = pour-above-none d k _ ∙ simp (pour-then, pour-empty, words)
-
-pub ruleset statements = (hang-assign, hang-comment, hang-blank-statement, hang-inline, hang-conditional, pour-no-else, pour-else-if-arm, pour-else, pour-block-none, pour-block, hang-block, hang-case, hang-arms-none, hang-default, hang-label, pour-arm-block, pour-bare-blocking, pour-bare-nonblocking)

@@ -12,4 +12,6 @@ pub mod Layout
 pub mod Words
 pub mod Emits
 pub mod Pieces
+pub mod Fits
+pub mod Bodies
 pub mod Derived

@@ -1,6 +1,6 @@
 //! Instantiations of modules.
 
-ghost use Rattle.std.specs.Prelude.{◌≡◌, ◌<◌, ◌^◌, All, map};
+ghost use Rattle.std.specs.Prelude.{◌≡◌, ◌<◌, ◌+◌, ◌^◌, All, map};
 ghost use Rattle.vast_literal.specs.Tree.{InstanceMember};
 ghost use Rattle.vast_core.specs.Kinds.{dialect_of};
 ghost use Rattle.vast_core.specs.Records.{connection_record, instance_record};
@@ -51,7 +51,7 @@ fn print_entries(
     out: &mut Writer,
 ) -> Result<(), PrintFault>
     requires owned { All (λ c. ConnectionSound (bench ast.now) (connection_record c)) connections.now }
-    requires room { depth < 2 ^ 63 }
+    requires room { depth + 1 < 2 ^ 64 }
     ensures { Writes (hang depth (Wet out.old) (entries_page (map connection_text (map (connection_tree (bench ast.now)) (map connection_record connections.now))))) out.new result }
 {
     for (i, connection) in connections.iter().enumerate() {
@@ -71,7 +71,7 @@ fn print_head(
     out: &mut Writer,
 ) -> Result<(), PrintFault>
     requires owned { All (λ c. ConnectionSound (bench ast.now) (connection_record c)) instance.now.parameters.items }
-    requires room { depth < 2 ^ 63 }
+    requires room { depth + 1 < 2 ^ 64 }
     ensures { Writes (hang depth (Wet out.old) (instance_head_page (instance_record instance.now).module_name (map (connection_tree (bench ast.now)) (map connection_record instance.now.parameters.items)) (instance_record instance.now).instance_name)) out.new result }
 {
     out.next(depth)?;
@@ -98,7 +98,7 @@ fn print_connections(
     out: &mut Writer,
 ) -> Result<(), PrintFault>
     requires owned { All (λ c. ConnectionSound (bench ast.now) (connection_record c)) connections.now }
-    requires room { depth < 2 ^ 63 }
+    requires room { depth + 1 < 2 ^ 64 }
     ensures { Writes (hang depth (Wet out.old) (connections_page (map (connection_tree (bench ast.now)) (map connection_record connections.now)))) out.new result }
 {
     if connections.is_empty() {
@@ -118,7 +118,7 @@ pub(crate) fn print_instance(
     out: &mut Writer,
 ) -> Result<(), PrintFault>
     requires owned { OwnsInstantiation (bench ast.now) i }
-    requires room { depth < 2 ^ 63 }
+    requires room { depth + 1 < 2 ^ 64 }
     ensures { Writes (hang depth (Wet out.old) (member_page (dialect_of (bench ast.now).file_type) (member_tree (bench ast.now) (InstanceEntry i)))) out.new result }
 {
     let instance = ast.instance(i);

@@ -1,11 +1,17 @@
 //! Prints Verilog syntax trees: a file, or one expression, as one growing text.
 #![tactic(auto)]
 
+mod always;
+mod assignment;
 mod bare;
+mod case;
 mod casts;
+mod conditional;
 mod declaration;
 mod expression;
 mod file;
+mod function;
+mod generate_loop;
 mod instance;
 pub mod laws;
 mod levels;
@@ -17,6 +23,7 @@ mod parameter;
 mod pieces;
 mod refusal;
 mod selects;
+mod statement;
 #[cfg(test)]
 mod tests;
 mod types;

@@ -1,25 +1,32 @@
-//! Members of modules.
+//! Members of modules and loops.
 
 ghost use Rattle.std.specs.Prelude.{◌≡◌, ◌<◌, ◌^◌, All, map};
 ghost use Rattle.vast_core.specs.Kinds.{dialect_of};
-ghost use Rattle.vast_core.specs.Bench.{OwnsExpr, OwnsType, OwnsMacroRef, tree_of};
+ghost use Rattle.vast_core.specs.Bench.{OwnsType, OwnsMacroRef, tree_of};
 ghost use Rattle.vast_core.specs.Handles.{macro_ref_to_expr};
 ghost use Rattle.vast_core.specs.Records.{member_entry};
 ghost use Rattle.vast_core.specs.Sound.{MemberSound};
 ghost use Rattle.vast_core.specs.FileTree.{declared, member_tree, members_tree};
 ghost use Rattle.vast_core.specs.View.{bench};
+ghost use Rattle.vast_print.specs.Fits.{MemberFits};
 ghost use Rattle.vast_print.specs.Ink.{Writes, Wet, hang};
 ghost use Rattle.vast_print.specs.Members.{member_page, members_page};
-ghost use Rattle.vast_literal.specs.Tree.{AssignMember, DeclarationMember, InlineMember, MacroMember, BlankMember, CommentMember};
+ghost use Rattle.vast_literal.specs.Tree.{DeclarationMember, MacroMember};
 
+use crate::always::print_always;
+use crate::assignment::print_continuous;
+use crate::conditional::print_conditional;
 use crate::declaration::print_declaration;
 use crate::expression::print_expression;
+use crate::function::print_function;
+use crate::generate_loop::print_loop;
 use crate::instance::print_instance;
 use crate::parameter::print_parameter;
 use crate::refusal::PrintFault;
+use crate::statement::print_inline;
 use crate::words;
 use crate::writer::Writer;
-use vast_core::{Ast, DataKind, Expr, MacroRef, Member, VastDataType};
+use vast_core::{Ast, DataKind, MacroRef, Member, VastDataType};
 
 /// Writes a wire, reg or logic on a line of its own.
 #[tactic(auto, using(crate::proofs::ArenaLaws::members))]
@@ -36,28 +43,6 @@ fn print_variable(
 {
     out.next(depth)?;
     print_declaration(ast, kind, t, name, depth, out)?;
-    out.word(";")?;
-    Ok(())
-}
-
-/// Writes `assign lhs = rhs;` on a line of its own.
-#[tactic(auto, using(crate::proofs::ArenaLaws::members))]
-fn print_assign(
-    ast: &Ast,
-    lhs: Expr,
-    rhs: Expr,
-    depth: usize,
-    out: &mut Writer,
-) -> Result<(), PrintFault>
-    requires lhs { OwnsExpr (bench ast.now) lhs }
-    requires rhs { OwnsExpr (bench ast.now) rhs }
-    ensures { Writes (hang depth (Wet out.old) (member_page (dialect_of (bench ast.now).file_type) (AssignMember (tree_of (bench ast.now) lhs) (tree_of (bench ast.now) rhs)))) out.new result }
-{
-    out.next(depth)?;
-    out.word("assign ")?;
-    print_expression(ast, lhs, depth, out)?;
-    out.word(" = ")?;
-    print_expression(ast, rhs, depth, out)?;
     out.word(";")?;
     Ok(())
 }
@@ -80,50 +65,42 @@ fn print_macro(
     Ok(())
 }
 
-/// Writes a text as it is, from a line of its own on.
-#[tactic(auto, using(crate::proofs::ArenaLaws::members))]
-fn print_inline(ast: &Ast, text: &str, depth: usize, out: &mut Writer) -> Result<(), PrintFault>
-    ensures { Writes (hang depth (Wet out.old) (member_page (dialect_of (bench ast.now).file_type) (InlineMember text.now))) out.new result }
-{
-    out.next(depth)?;
-    out.written(depth, text)?;
-    Ok(())
-}
-
 /// Writes a member on lines of its own.
-#[tactic(auto, using(crate::proofs::ArenaLaws::members))]
-fn print_member(
+#[cycle(members)]
+#[tactic(auto, using(crate::proofs::ContainerLaws::members))]
+pub(crate) fn print_member(
     ast: &Ast,
     member: &Member,
     depth: usize,
     out: &mut Writer,
 ) -> Result<(), PrintFault>
     requires owned { MemberSound (bench ast.now) (member_entry member.now) }
-    requires room { depth < 2 ^ 63 }
+    requires room { MemberFits (bench ast.now) depth (member_entry member.now) }
     ensures { Writes (hang depth (Wet out.old) (member_page (dialect_of (bench ast.now).file_type) (member_tree (bench ast.now) (member_entry member.now)))) out.new result }
 {
     match member {
         Member::Declaration(kind, name, t) => print_variable(ast, *kind, name, *t, depth, out),
-        Member::ContinuousAssignment(a) => {
-            let assignment = ast.continuous(*a);
-            print_assign(ast, assignment.lhs, assignment.rhs, depth, out)
-        }
+        Member::ContinuousAssignment(a) => print_continuous(ast, ast.continuous(*a), depth, out),
         Member::Parameter(local, form, value) => {
             print_parameter(ast, *local, form, *value, depth, out)
         }
         Member::BlankLine => Ok(out.next(depth)?),
         Member::Comment(a) => Ok(out.comment(depth, ast.comment_text(*a))?),
-        Member::Inline(a) => print_inline(ast, ast.inline_text(*a), depth, out),
+        Member::Inline(a) => print_inline(ast.inline_text(*a), depth, out),
         Member::Macro(a) => {
             let (call, semicolon) = ast.macro_statement(*a);
             print_macro(ast, call, semicolon, depth, out)
         }
         Member::Instantiation(i) => print_instance(ast, *i, depth, out),
+        Member::Function(f) => print_function(ast, *f, depth, out),
+        Member::Always(a) => print_always(ast, *a, depth, out),
+        Member::Conditional(c) => print_conditional(ast, *c, depth, out),
+        Member::Loop(l) => print_loop(ast, *l, depth, out),
     }
 }
 
-/// Writes members below each other.
-#[tactic(auto, using(crate::proofs::ArenaLaws::modules))]
+/// Writes the members of a module below each other.
+#[tactic(auto, using(crate::proofs::ArenaLaws::modules, crate::proofs::Heights::fits))]
 pub(crate) fn print_members(
     ast: &Ast,
     members: &[Member],
@@ -131,7 +108,7 @@ pub(crate) fn print_members(
     out: &mut Writer,
 ) -> Result<(), PrintFault>
     requires owned { All (λ m. MemberSound (bench ast.now) (member_entry m)) members.now }
-    requires room { depth < 2 ^ 63 }
+    requires room { depth < 2 ^ 62 }
     ensures { Writes (hang depth (Wet out.old) (members_page (dialect_of (bench ast.now).file_type) (members_tree (bench ast.now) (map member_entry members.now)))) out.new result }
 {
     for member in members {

@@ -3,7 +3,11 @@
 ghost use Rattle.std.specs.Prelude.{◌≡◌, codes};
 ghost use Rattle.vast_print.specs.Words.{signed_opening, unsigned_opening, scalar_cast_opening, scalar_cast_closing, cast_sign_word, number_cast_opening, number_cast_closing, comma, separator, endmodule_word, parameter_opening, include_opening, else_if_opening, endfunction_word, function_opening, begin_end_word, for_opening, step_word, always_ff_opening, always_at_opening, always_comb_opening};
 ghost use Rattle.vast_print.specs.Members.{parameter_word, semicolon_text};
-ghost use Rattle.vast_print.specs.Statements.{unique_word};
+ghost use Rattle.vast_print.specs.Statements.{assign_sign, case_word, unique_word};
+ghost use Rattle.vast_core.specs.FileTree.{form_of};
+ghost use Rattle.vast_core.specs.Kinds.{case_word as case_kind};
+
+use vast_core::CaseKind;
 
 /// Before a signed scalar or vector.
 pub(crate) fn signed(signed: bool) -> &'static str
@@ -84,6 +88,24 @@ pub(crate) fn semicolon(stands: bool) -> &'static str
     ensures { result.now ≡ semicolon_text stands }
 {
     if stands { ";" } else { "" }
+}
+
+/// Between the sides of an assignment of a block.
+pub(crate) fn assign_sign(nonblocking: bool) -> &'static str
+    ensures { result.now ≡ assign_sign (form_of nonblocking) }
+{
+    if nonblocking { " <= " } else { " = " }
+}
+
+/// Before the selector of a case.
+pub(crate) fn case(kind: CaseKind) -> &'static str
+    ensures { result.now ≡ case_word (case_kind kind) }
+{
+    match kind {
+        CaseKind::Case => "case (",
+        CaseKind::CaseZ => "casez (",
+        CaseKind::CaseX => "casex (",
+    }
 }
 
 /// Before the word of a case.

@@ -26,7 +26,11 @@ impl Member {
             | Member::Comment(_)
             | Member::Inline(_)
             | Member::Macro(_)
-            | Member::Instantiation(_) => false,
+            | Member::Instantiation(_)
+            | Member::Function(_)
+            | Member::Always(_)
+            | Member::Conditional(_)
+            | Member::Loop(_) => false,
         }
     }
 }

@@ -20,7 +20,7 @@ use std::alloc::AllocError;
 mod tests;
 
 impl Module {
-    fn push_member(&mut self, member: Member) -> Result<(), AllocError>
+    pub(crate) fn push_member(&mut self, member: Member) -> Result<(), AllocError>
         ensures ok { OnOk result (module_record self.new ≡ with_listed_member (member_entry member) (module_record self.old)) }
         ensures err { OnErr result (module_record self.new ≡ module_record self.old) }
     {
@@ -29,7 +29,7 @@ impl Module {
     }
 
     /// Appends the member and takes the name, or changes nothing.
-    fn enter_member(&mut self, member: Member, name: String) -> Result<(), AllocError>
+    pub(crate) fn enter_member(&mut self, member: Member, name: String) -> Result<(), AllocError>
         ensures ok { OnOk result (module_record self.new ≡ with_listed_name (member_entry member) (string_bytes name) (module_record self.old)) }
         ensures err { OnErr result (module_record self.new ≡ module_record self.old) }
     {

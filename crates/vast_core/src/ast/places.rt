@@ -1,11 +1,13 @@
 //! What kind of node an index names.
 
-ghost use Rattle.std.specs.Prelude.{◌≡◌, ◌↔◌, IsTrue, IfNone, IfSome, None, Some, length, nat_lt, slice_get};
+ghost use Rattle.std.specs.Prelude.{◌≡◌, ◌<◌, ◌^◌, ◌↔◌, IsTrue, IfNone, IfSome, None, Some, length, nat_lt, slice_get};
 ghost use Rattle.std.specs.Option.{option_copied};
 ghost use Rattle.vast_core.specs.Nodes.{is_expr_root, is_type_root, is_name, is_index, is_slice, is_macro};
 ghost use Rattle.vast_core.specs.Bench.{has_root, is_continuous, is_blank_line, is_comment, is_inline, is_macro_statement, is_block, is_conditional, is_case, is_loop};
 ghost use Rattle.vast_core.specs.Records.{artifact_record};
-ghost use Rattle.vast_core.specs.Sound.{ArtifactSound};
+ghost use Rattle.vast_core.specs.Nests.{nest_record};
+ghost use Rattle.vast_core.specs.Sound.{ArtifactSound, NestSound};
+ghost use Rattle.vast_core.specs.FileTree.{family, families};
 ghost use Rattle.vast_core.specs.View.{bench};
 
 use crate::ast::Ast;
@@ -190,11 +192,19 @@ impl Ast {
         }
     }
 
-    #[tactic(auto, unfolding(crate::specs::View::bench))]
-    fn nest_at(&self, index: usize) -> Option<&Nest>
-        ensures { slice_get (bench self.now).nests index ≡ option_copied result }
+    /// The container of this index. What it holds is the file's, and newer.
+    pub(crate) fn nest_at(&self, index: usize) -> Option<&Nest>
+        ensures none { IfNone result (slice_get (bench self.now).nests index ≡ None) }
+        ensures some { IfSome result (λ n. slice_get (bench self.now).nests index ≡ Some (nest_record n.now)) }
+        ensures owned { IfSome result (λ n. NestSound (bench self.now) index (nest_record n.now)) }
+        ensures unfolded { IfSome result (λ n. families (bench self.now) index ≡ family (bench self.now) (families (bench self.now)) (Some (nest_record n.now))) }
+        ensures small { IfSome result (λ n. index < 2 ^ 63) }
     {
-        self.nests.get(index)
+        if index < self.nests.len() {
+            Some(&self.nests[index])
+        } else {
+            None
+        }
     }
 
     pub(crate) fn is_block_at(&self, index: usize) -> bool
@@ -202,9 +212,9 @@ impl Ast {
     {
         match self.nest_at(index) {
             Some(Nest::Block(_)) => true,
-            Some(Nest::Conditional(_, _, _)) => false,
-            Some(Nest::Case(_, _)) => false,
-            Some(Nest::Loop(_, _)) => false,
+            Some(Nest::Conditional(_)) => false,
+            Some(Nest::Case(_)) => false,
+            Some(Nest::Loop(_)) => false,
             None => false,
         }
     }
@@ -214,9 +224,9 @@ impl Ast {
     {
         match self.nest_at(index) {
             Some(Nest::Block(_)) => false,
-            Some(Nest::Conditional(_, _, _)) => true,
-            Some(Nest::Case(_, _)) => false,
-            Some(Nest::Loop(_, _)) => false,
+            Some(Nest::Conditional(_)) => true,
+            Some(Nest::Case(_)) => false,
+            Some(Nest::Loop(_)) => false,
             None => false,
         }
     }
@@ -226,9 +236,9 @@ impl Ast {
     {
         match self.nest_at(index) {
             Some(Nest::Block(_)) => false,
-            Some(Nest::Conditional(_, _, _)) => false,
-            Some(Nest::Case(_, _)) => true,
-            Some(Nest::Loop(_, _)) => false,
+            Some(Nest::Conditional(_)) => false,
+            Some(Nest::Case(_)) => true,
+            Some(Nest::Loop(_)) => false,
             None => false,
         }
     }
@@ -238,9 +248,9 @@ impl Ast {
     {
         match self.nest_at(index) {
             Some(Nest::Block(_)) => false,
-            Some(Nest::Conditional(_, _, _)) => false,
-            Some(Nest::Case(_, _)) => false,
-            Some(Nest::Loop(_, _)) => true,
+            Some(Nest::Conditional(_)) => false,
+            Some(Nest::Case(_)) => false,
+            Some(Nest::Loop(_)) => true,
             None => false,
         }
     }

@@ -1,0 +1,122 @@
+-- What calls that grow a container know: what comes, and the entry that names it, are the file's.
+use Rattle.std.proofs.Common.{◌≡◌, suc, ◌<◌, true, false, List, [], ◌∷◌, ◌++◌, length, Option, Some, None, slice_get, refl, arith}
+use Rattle.vast_core.specs.declared.handle.Expr.{Expr}
+use Rattle.vast_core.specs.declared.handle.VastStatementBlock.{VastStatementBlock}
+use Rattle.vast_core.specs.declared.handle.Conditional.{Conditional}
+use Rattle.vast_core.specs.declared.handle.CaseStatement.{CaseStatement}
+use Rattle.vast_core.specs.declared.handle.GenerateLoop.{GenerateLoop}
+use Rattle.vast_core.specs.declared.kind.CaseKind.{CaseKind}
+use Rattle.vast_core.specs.declared.node.Assignment.{Assignment}
+use Rattle.vast_core.specs.Handles.{block_index, conditional_index, case_index, loop_index}
+use Rattle.vast_core.specs.Nodes.{OptionHolds}
+use Rattle.vast_core.specs.Nests.{StatementEntry, AssignStatement, ContinuousStatement, ConditionalStatement, CasesStatement, BlockRecord, is_block_kind, is_conditional_kind, is_case_kind, is_loop_kind}
+use Rattle.vast_core.specs.Bench.{Bench, OwnsExpr, OwnsBlock, OwnsConditional, OwnsCase, OwnsLoop}
+use Rattle.vast_core.specs.Growth.{with_assignment, next_id}
+use Rattle.vast_core.specs.Artifacts.{next_statement}
+use Rattle.vast_core.specs.Sound.{AssignmentSound, StatementSound}
+use Rattle.vast_core.specs.Containers.{InNest, StatementEnters, ElseIfEnters, ElseEnters, CaseArmEnters, GrowthSound, FreshSound, no_fresh, fresh_assignment, fresh_block, fresh_container, next_block, next_conditional, next_case, new_conditional, new_case, with_block, with_conditional, with_case}
+use Rattle.vast_core.proofs.Lists.{slice_get-seam}
+use Rattle.vast_core.proofs.Nests.{kind-there}
+use Rattle.vast_core.proofs.Sound.{never}
+use Rattle.vast_core.proofs.RecordLaws.{next_statement_owned}
+
+nothing-comes : (b c : Bench) → FreshSound b c no_fresh
+nothing-comes b c = record { term = tt; assignment = tt; container = tt; function = tt; always_block = tt }
+
+a-block-comes : (b c : Bench) → FreshSound b c fresh_block
+a-block-comes b c = record { term = tt; assignment = tt; container = tt; function = tt; always_block = tt }
+
+pub block-place : (b : Bench) (x : VastStatementBlock) → OwnsBlock b x → block_index x < length b.nests
+block-place b x h = kind-there is_block_kind b.nests x.id.index never h.of_kind
+
+pub conditional-place : (b : Bench) (x : Conditional) → OwnsConditional b x → conditional_index x < length b.nests
+conditional-place b x h = kind-there is_conditional_kind b.nests x.id.index never h.of_kind
+
+pub case-place : (b : Bench) (x : CaseStatement) → OwnsCase b x → case_index x < length b.nests
+case-place b x h = kind-there is_case_kind b.nests x.id.index never h.of_kind
+
+pub loop-place : (b : Bench) (x : GenerateLoop) → OwnsLoop b x → loop_index x < length b.nests
+loop-place b x h = kind-there is_loop_kind b.nests x.id.index never h.of_kind
+
+-- The element behind the last one but one.
+second-seam : {A : Type 0} (xs : List A) (x y : A) → slice_get ((xs ++ x ∷ []) ++ y ∷ []) (suc (length xs)) ≡ Some y
+second-seam [] x y = refl
+second-seam (z ∷ xs) x y = second-seam xs x y
+
+first-seam : {A : Type 0} (xs : List A) (x y : A) → slice_get ((xs ++ x ∷ []) ++ y ∷ []) (length xs) ≡ Some x
+first-seam [] x y = refl
+first-seam (z ∷ xs) x y = first-seam xs x y
+
+pub next_block_owned : (b : Bench) → OwnsBlock (with_block b) (next_block b)
+next_block_owned b = record { of_file = refl; of_kind = rw (slice_get-seam b.nests (BlockRecord [])) refl }
+
+pub next_conditional_owned : (b : Bench) (condition : Expr) → OwnsConditional (with_conditional condition b) (next_conditional b)
+next_conditional_owned b condition = record { of_file = refl; of_kind = rw (first-seam b.nests (new_conditional b condition) (BlockRecord [])) refl }
+
+pub next_case_owned : (b : Bench) (kind : CaseKind) (selector : Expr) → OwnsCase (with_case kind selector b) (next_case b)
+next_case_owned b kind selector = record { of_file = refl; of_kind = rw (slice_get-seam b.nests (new_case kind selector)) refl }
+
+consequent_owned : (b : Bench) (condition : Expr) → OwnsBlock (with_conditional condition b) (record { id = next_id b (suc (length b.nests)) })
+consequent_owned b condition = record { of_file = refl; of_kind = rw (second-seam b.nests (new_conditional b condition) (BlockRecord [])) refl }
+
+pub conditional-comes : (b : Bench) (condition : Expr) → OwnsExpr b condition → FreshSound b (with_conditional condition b) (fresh_container (new_conditional b condition) true)
+conditional-comes b condition h =
+    record {
+      term = tt;
+      assignment = tt;
+      container = record { condition = h; consequent = (consequent_owned b condition, omega arith); else_ifs = tt; otherwise = tt };
+      function = tt;
+      always_block = tt;
+    }
+
+case-comes : (b : Bench) (kind : CaseKind) (selector : Expr) → OwnsExpr b selector → FreshSound b (with_case kind selector b) (fresh_container (new_case kind selector) false)
+case-comes b kind selector h = record { term = tt; assignment = tt; container = record { selector = h; arms = tt }; function = tt; always_block = tt }
+
+-- Statements of blocks.
+
+pub statement-enters : (b : Bench) (owner : VastStatementBlock) (s : StatementEntry) → OwnsBlock b owner → StatementSound b (block_index owner) s → GrowthSound b (InNest (block_index owner) (StatementEnters s)) no_fresh
+statement-enters b owner s h k = record { fresh = nothing-comes b b; listing = (block-place b owner h, k) }
+
+assignment-comes : (b : Bench) (a : Assignment) → AssignmentSound b a → FreshSound b (with_assignment a b) (fresh_assignment a)
+assignment-comes b a h = record { term = tt; assignment = h; container = tt; function = tt; always_block = tt }
+
+pub assignment-enters :
+    (b : Bench) (owner : VastStatementBlock) (a : Assignment) → OwnsBlock b owner → AssignmentSound b a →
+    GrowthSound b (InNest (block_index owner) (StatementEnters (AssignStatement (next_statement b)))) (fresh_assignment a)
+assignment-enters b owner a h k = record { fresh = assignment-comes b a k; listing = (block-place b owner h, next_statement_owned b a) }
+
+pub continuous-enters :
+    (b : Bench) (owner : VastStatementBlock) (a : Assignment) → OwnsBlock b owner → AssignmentSound b a →
+    GrowthSound b (InNest (block_index owner) (StatementEnters (ContinuousStatement (next_statement b)))) (fresh_assignment a)
+continuous-enters b owner a h k = record { fresh = assignment-comes b a k; listing = (block-place b owner h, next_statement_owned b a) }
+
+pub conditional-enters :
+    (b : Bench) (owner : VastStatementBlock) (condition : Expr) → OwnsBlock b owner → OwnsExpr b condition →
+    GrowthSound b (InNest (block_index owner) (StatementEnters (ConditionalStatement (next_conditional b)))) (fresh_container (new_conditional b condition) true)
+conditional-enters b owner condition h k = record { fresh = conditional-comes b condition k; listing = (block-place b owner h, (next_conditional_owned b condition, block-place b owner h)) }
+
+pub case-enters :
+    (b : Bench) (owner : VastStatementBlock) (kind : CaseKind) (selector : Expr) → OwnsBlock b owner → OwnsExpr b selector →
+    GrowthSound b (InNest (block_index owner) (StatementEnters (CasesStatement (next_case b)))) (fresh_container (new_case kind selector) false)
+case-enters b owner kind selector h k = record { fresh = case-comes b kind selector k; listing = (block-place b owner h, (next_case_owned b kind selector, block-place b owner h)) }
+
+-- Arms.
+
+pub else_if-enters :
+    (b : Bench) (owner : Conditional) (condition : Expr) → OwnsConditional b owner → OwnsExpr b condition →
+    GrowthSound b (InNest (conditional_index owner) (ElseIfEnters (record { condition = condition; block = next_block b }))) fresh_block
+else_if-enters b owner condition h k = record { fresh = a-block-comes b (with_block b); listing = (conditional-place b owner h, (k, (next_block_owned b, conditional-place b owner h))) }
+
+pub else-enters : (b : Bench) (owner : Conditional) → OwnsConditional b owner → GrowthSound b (InNest (conditional_index owner) (ElseEnters (next_block b))) fresh_block
+else-enters b owner h = record { fresh = a-block-comes b (with_block b); listing = (conditional-place b owner h, (next_block_owned b, conditional-place b owner h)) }
+
+maybe-same : (b : Bench) (label : Option Expr) → OptionHolds (OwnsExpr b) label → OptionHolds (OwnsExpr (with_block b)) label
+maybe-same b None h = tt
+maybe-same b (Some e) h = h
+
+pub case_arm-enters :
+    (b : Bench) (owner : CaseStatement) (label : Option Expr) → OwnsCase b owner → OptionHolds (OwnsExpr b) label →
+    GrowthSound b (InNest (case_index owner) (CaseArmEnters (record { label = label; block = next_block b }))) fresh_block
+case_arm-enters b owner label h k = record { fresh = a-block-comes b (with_block b); listing = (case-place b owner h, (maybe-same b label k, (next_block_owned b, case-place b owner h))) }
+
+pub ruleset enters = (statement-enters, assignment-enters, continuous-enters, conditional-enters, case-enters, else_if-enters, else-enters, case_arm-enters)

@@ -1,0 +1,107 @@
+-- A name more in a set, and a name more among those that a function declares.
+use Rattle.std.proofs.Common.{◌≡◌, ◌≢◌, ◌↔◌, ℕ, Bool, true, false, List, [], ◌∷◌, ◌++◌, All, refl, sym, ◌∙◌, arith, append_assoc}
+use Rattle.std.specs.declared.cmp.Ordering.{Ordering}
+use Rattle.std.specs.declared.cmp.Ordering.TheVariants.{Less, Equal, Greater}
+use Rattle.std.specs.Ordering.{nat_cmp}
+use Rattle.std.specs.Cmp.Lexicographic.{slice_cmp}
+use Rattle.std.proofs.lemmas.List.{map-append, append-nil}
+use Rattle.std.proofs.lemmas.Map.Views.{All-insert_key}
+use Rattle.vast_core.specs.Records.{IsFree, with_name}
+use Rattle.vast_core.specs.Nests.{VariableRecord, FunctionRecord, variable_names, declared_names}
+use Rattle.vast_core.specs.Functions.{with_listed_variable}
+use Rattle.vast_core.specs.Sound.{AreDistinct}
+use Rattle.vast_core.proofs.Lists.{All-cons, All-head, All-tail}
+use Rattle.vast_core.proofs.Names.{test-equal}
+
+-- A set with a name more.
+
+without-case :
+    (name new x : List ℕ) (xs : List (List ℕ)) (o : Ordering) → slice_cmp nat_cmp new x ≡ o → (IsFree name (with_name new xs) → (new ≢ name) × IsFree name xs) → IsFree name (with_name new (x ∷ xs)) →
+    (new ≢ name) × IsFree name (x ∷ xs)
+without-case name new x xs Less e h =
+    let P : List ℕ → Type 0 = λ taken. taken ≢ name in
+    rw e (λ k. (All-head P new (x ∷ xs) k, All-tail P new (x ∷ xs) k))
+without-case name new x xs Equal e h =
+    let P : List ℕ → Type 0 = λ taken. taken ≢ name in
+    let same : x ≡ new = test-equal new x (rw e refl) in
+    rw e (λ k. ((λ is. All-head P x xs k (same ∙ is)), k))
+without-case name new x xs Greater e h =
+    let P : List ℕ → Type 0 = λ taken. taken ≢ name in
+    rw e (λ k. ((h (All-tail P x (with_name new xs) k)).0, All-cons P x xs (All-head P x (with_name new xs) k) (h (All-tail P x (with_name new xs) k)).1))
+
+free-without : (name new : List ℕ) (names : List (List ℕ)) → IsFree name (with_name new names) → (new ≢ name) × IsFree name names
+free-without name new [] h = (All-head (λ taken. taken ≢ name) new [] h, λ k d below. absurd (omega arith))
+free-without name new (x ∷ xs) h = without-case name new x xs (slice_cmp nat_cmp new x) refl (free-without name new xs) h
+
+free-with_name : (name new : List ℕ) (names : List (List ℕ)) → IsFree name (with_name new names) ↔ (new ≢ name) × IsFree name names
+free-with_name name new names = (free-without name new names, λ h. All-insert_key (slice_cmp nat_cmp) new (λ taken. taken ≢ name) names h.1 h.0)
+
+-- A list with an element more.
+
+All-between : {A : Type 0} (P : A → Type 0) (x : A) (xs ys : List A) → P x → All P (xs ++ ys) → All P (xs ++ x ∷ ys)
+All-between P x [] ys p h = All-cons P x ys p h
+All-between P x (y ∷ xs) ys p h = All-cons P y (xs ++ x ∷ ys) (All-head P y (xs ++ ys) h) (All-between P x xs ys p (All-tail P y (xs ++ ys) h))
+
+All-within : {A : Type 0} (P : A → Type 0) (x : A) (xs ys : List A) → All P (xs ++ x ∷ ys) → P x × All P (xs ++ ys)
+All-within P x [] ys h = (All-head P x ys h, All-tail P x ys h)
+All-within P x (y ∷ xs) ys h =
+    let k : P x × All P (xs ++ ys) = All-within P x xs ys (All-tail P y (xs ++ x ∷ ys) h)
+    in (k.0, All-cons P y (xs ++ ys) (All-head P y (xs ++ x ∷ ys) h) k.1)
+
+distinct-between : (name : List ℕ) (xs ys : List (List ℕ)) → IsFree name (xs ++ ys) → AreDistinct (xs ++ ys) → AreDistinct (xs ++ name ∷ ys)
+distinct-between name [] ys h d = (h, d)
+distinct-between name (x ∷ xs) ys h d =
+    let other : name ≢ x = λ is. All-head (λ taken. taken ≢ name) x (xs ++ ys) h (sym is) in (
+      All-between (λ taken. taken ≢ x) name xs ys other d.0,
+      distinct-between name xs ys (All-tail (λ taken. taken ≢ name) x (xs ++ ys) h) d.1,
+    )
+
+-- The names ys are the names xs and this one.
+pub record Gains (name : List ℕ) (xs ys : List (List ℕ)) : Type 0 where
+  pub distinct : IsFree name xs → AreDistinct xs → AreDistinct ys
+  pub free : (other : List ℕ) → IsFree other ys ↔ (name ≢ other) × IsFree other xs
+
+gains-between : (name : List ℕ) (xs ys : List (List ℕ)) → Gains name (xs ++ ys) (xs ++ name ∷ ys)
+gains-between name xs ys =
+    record {
+      distinct = distinct-between name xs ys;
+      free = λ other. (
+        All-within (λ taken. taken ≢ other) name xs ys,
+        λ h. All-between (λ taken. taken ≢ other) name xs ys h.0 h.1,
+      );
+    }
+
+gains-last : (name : List ℕ) (xs : List (List ℕ)) → Gains name xs (xs ++ name ∷ [])
+gains-last name xs = rw append-nil at (gains-between name xs [])
+
+-- A variable more.
+
+names-more : (xs : List VariableRecord) (v : VariableRecord) → variable_names (xs ++ v ∷ []) ≡ variable_names xs ++ v.name ∷ []
+names-more xs v = map-append (λ (x : VariableRecord). x.name) xs (v ∷ [])
+
+gains-input : (f : FunctionRecord) (v : VariableRecord) → Gains v.name (declared_names f) (declared_names (with_listed_variable false v f))
+gains-input f v =
+    let xs : List (List ℕ) = variable_names f.inputs in
+    let ys : List (List ℕ) = variable_names f.locals in
+    let more : variable_names (f.inputs ++ v ∷ []) ++ ys ≡ xs ++ v.name ∷ ys = rw (names-more f.inputs v) (append_assoc xs (v.name ∷ []) ys) in
+    rw more (gains-between v.name (f.name ∷ xs) ys)
+
+gains-local : (f : FunctionRecord) (v : VariableRecord) → Gains v.name (declared_names f) (declared_names (with_listed_variable true v f))
+gains-local f v =
+    let xs : List (List ℕ) = variable_names f.inputs in
+    let ys : List (List ℕ) = variable_names f.locals in
+    let more : xs ++ variable_names (f.locals ++ v ∷ []) ≡ (xs ++ ys) ++ v.name ∷ [] = rw (names-more f.locals v) (sym (append_assoc xs ys (v.name ∷ []))) in
+    rw more (gains-last v.name (f.name ∷ (xs ++ ys)))
+
+pub gains-variable : (local : Bool) (f : FunctionRecord) (v : VariableRecord) → Gains v.name (declared_names f) (declared_names (with_listed_variable local v f))
+gains-variable false f v = gains-input f v
+gains-variable true f v = gains-local f v
+
+pub taken-after :
+    (name : List ℕ) (names xs ys : List (List ℕ)) → Gains name xs ys → ((other : List ℕ) → IsFree other names ↔ IsFree other xs) → (other : List ℕ) →
+    IsFree other (with_name name names) ↔ IsFree other ys
+taken-after name names xs ys g k other =
+    let e : IsFree other (with_name name names) ↔ (name ≢ other) × IsFree other names = free-with_name other name names in (
+      λ h. (g.free other).1 ((e.0 h).0, (k other).0 (e.0 h).1),
+      λ h. e.1 (((g.free other).0 h).0, (k other).1 ((g.free other).0 h).1),
+    )

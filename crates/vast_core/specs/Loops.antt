@@ -1,0 +1,82 @@
+-- What a file holds after a call that adds an always block, a loop, a conditional or a function, or a loop's member.
+use Rattle.std.specs.Prelude.{ℕ, true, false, List, [], ◌∷◌, ◌++◌, length, Option, Some, None, slice_get, String}
+use Rattle.std.specs.declared.alloc.Global.{Global}
+use Rattle.vast_literal.specs.Tree.{ExprTree, NameTree, Untyped, Typed}
+use Rattle.vast_core.specs.declared.handle.Expr.{Expr}
+use Rattle.vast_core.specs.declared.handle.Def.{Def}
+use Rattle.vast_core.specs.declared.handle.VastDataType.{VastDataType}
+use Rattle.vast_core.specs.declared.handle.VastAlwaysBase.{VastAlwaysBase}
+use Rattle.vast_core.specs.declared.handle.VastFunction.{VastFunction}
+use Rattle.vast_core.specs.declared.handle.GenerateLoop.{GenerateLoop}
+use Rattle.vast_core.specs.declared.kind.AlwaysKind.{AlwaysKind}
+use Rattle.vast_core.specs.declared.node.ExprNode.TheVariants.{Name}
+use Rattle.vast_core.specs.declared.node.Term.{Term}
+use Rattle.vast_core.specs.declared.node.Term.TheVariants.{Expression}
+use Rattle.vast_core.specs.Handles.{loop_index, definition_index}
+use Rattle.vast_core.specs.Records.{FormEntry, PlainForm, DefinedForm, MemberEntry, ParameterEntry, with_name}
+use Rattle.vast_core.specs.Nests.{NestRecord, RepeatRecord, AlwaysRecord, FunctionRecord}
+use Rattle.vast_core.specs.Bench.{Bench, type_of}
+use Rattle.vast_core.specs.Growth.{next_id, next_logic_ref, with_expr}
+use Rattle.vast_core.specs.Parameters.{defined_name}
+use Rattle.vast_core.specs.Containers.{MemberEnters, Fresh, next_block, with_nest, with_block, with_nest_entry}
+
+abbrev pub next_always : Bench → VastAlwaysBase
+next_always b = record { id = next_id b (length b.always_blocks) }
+
+abbrev pub next_loop : Bench → GenerateLoop
+next_loop b = record { id = next_id b (length b.nests) }
+
+abbrev pub next_function : Bench → VastFunction
+next_function b = record { id = next_id b (length b.functions) }
+
+-- A loop with a member more at its end.
+abbrev pub with_loop_member : GenerateLoop → MemberEntry → Bench → Bench
+with_loop_member owner entry b = with_nest_entry (loop_index owner) (MemberEnters entry) b
+
+-- A local parameter more among the loop's members, and this name as an expression.
+abbrev pub with_loop_parameter : GenerateLoop → FormEntry → Expr → ExprTree → Bench → Bench
+with_loop_parameter owner form value name b = with_expr (with_loop_member owner (ParameterEntry true form value) b) name
+
+-- One that declares its name alone, and one that declares what the definition does.
+abbrev pub with_plain_loop_parameter : GenerateLoop → List ℕ → Expr → Bench → Bench
+with_plain_loop_parameter owner name value b = with_loop_parameter owner (PlainForm name) value (NameTree name Untyped) b
+
+abbrev pub with_defined_loop_parameter : GenerateLoop → Def → Expr → Bench → Bench
+with_defined_loop_parameter owner d value b = with_loop_parameter owner (DefinedForm d) value (defined_name b (slice_get b.definitions (definition_index d))) b
+
+-- An always block and its block, which is empty.
+abbrev pub new_always : Bench → AlwaysKind → List Expr → AlwaysRecord
+new_always b kind events = record { kind = kind; events = events; block = next_block b }
+
+abbrev pub with_always : AlwaysKind → List Expr → Bench → Bench
+with_always kind events b = record (with_block b) { always_blocks = b.always_blocks ++ new_always b kind events ∷ [] }
+
+abbrev pub fresh_always : AlwaysRecord → Fresh
+fresh_always a = record { term = None; assignment = None; container = None; block = true; function = None; always_block = Some a }
+
+-- A loop without members, and its variable's name as an expression.
+abbrev pub new_loop : Bench → List ℕ → Expr → Expr → Option (List ℕ) → NestRecord
+new_loop b name start limit label = RepeatRecord (record { genvar = next_logic_ref b; name = name; start = start; limit = limit; label = label; members = [] })
+
+abbrev pub with_loop : List ℕ → Expr → Expr → Option (List ℕ) → Bench → Bench
+with_loop name start limit label b = with_expr (with_nest (new_loop b name start limit label) b) (NameTree name Untyped)
+
+abbrev pub name_term : String Global → Option VastDataType → Term
+name_term name type = Expression (Name name type)
+
+abbrev pub fresh_name : String Global → Option VastDataType → Fresh
+fresh_name name type = record { term = Some (name_term name type); assignment = None; container = None; block = false; function = None; always_block = None }
+
+abbrev pub fresh_loop : String Global → NestRecord → Fresh
+fresh_loop variable n = record { term = Some (name_term variable None); assignment = None; container = Some n; block = false; function = None; always_block = None }
+
+-- A function without inputs and locals, its empty body, and its result's name as an expression.
+abbrev pub new_function : Bench → List ℕ → VastDataType → FunctionRecord
+new_function b name result_type = record { name = name; result_type = result_type; result_name = next_logic_ref b; inputs = []; locals = []; body = next_block b; names = with_name name [] }
+
+abbrev pub with_function : List ℕ → VastDataType → Bench → Bench
+with_function name result_type b =
+    with_expr (record (with_block b) { functions = b.functions ++ new_function b name result_type ∷ [] }) (NameTree name (Typed (type_of b result_type)))
+
+abbrev pub fresh_function : String Global → VastDataType → FunctionRecord → Fresh
+fresh_function name result_type f = record { term = Some (name_term name (Some result_type)); assignment = None; container = None; block = true; function = Some f; always_block = None }

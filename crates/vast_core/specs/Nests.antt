@@ -1,0 +1,176 @@
+-- The records of containers, functions and always blocks: nodes with the bytes of their texts.
+use Rattle.std.specs.Prelude.{ℕ, Bool, true, false, List, ◌∷◌, ◌++◌, map, Option, Some, None, string_bytes, String}
+use Rattle.std.specs.declared.alloc.Global.{Global}
+use Rattle.vast_core.specs.declared.handle.Expr.{Expr}
+use Rattle.vast_core.specs.declared.handle.LogicRef.{LogicRef}
+use Rattle.vast_core.specs.declared.handle.VastDataType.{VastDataType}
+use Rattle.vast_core.specs.declared.handle.VastStatement.{VastStatement}
+use Rattle.vast_core.specs.declared.handle.VastStatementBlock.{VastStatementBlock}
+use Rattle.vast_core.specs.declared.handle.Conditional.{Conditional}
+use Rattle.vast_core.specs.declared.handle.CaseStatement.{CaseStatement}
+use Rattle.vast_core.specs.declared.kind.DataKind.{DataKind}
+use Rattle.vast_core.specs.declared.kind.AlwaysKind.{AlwaysKind}
+use Rattle.vast_core.specs.declared.kind.CaseKind.{CaseKind}
+use Rattle.vast_core.specs.declared.node.Statement.{Statement}
+use Rattle.vast_core.specs.declared.node.Statement.TheVariants.{Assignment as AssignmentOf, Continuous as ContinuousOf, Conditional as ConditionalOf, Case as CaseOf, BlankLine as BlankOf, Comment as CommentOf, Inline as InlineOf}
+use Rattle.vast_core.specs.declared.node.ElseIf.{ElseIf}
+use Rattle.vast_core.specs.declared.node.CaseArm.{CaseArm}
+use Rattle.vast_core.specs.declared.node.ConditionalNode.{ConditionalNode}
+use Rattle.vast_core.specs.declared.node.CaseNode.{CaseNode}
+use Rattle.vast_core.specs.declared.node.LoopNode.{LoopNode}
+use Rattle.vast_core.specs.declared.node.Nest.{Nest}
+use Rattle.vast_core.specs.declared.node.Nest.TheVariants.{Block as BlockNode, Conditional as ConditionalNest, Case as CaseNest, Loop as LoopNest}
+use Rattle.vast_core.specs.declared.node.FunctionVariable.{FunctionVariable}
+use Rattle.vast_core.specs.declared.node.Function.{Function}
+use Rattle.vast_core.specs.declared.node.AlwaysBlock.{AlwaysBlock}
+use Rattle.vast_core.specs.Records.{MemberEntry, member_entry}
+
+-- A statement of a block. An assignment or a container stays where it is, and its statement names it.
+pub data StatementEntry : Type 0 where
+  AssignStatement : VastStatement → StatementEntry
+  ContinuousStatement : VastStatement → StatementEntry
+  ConditionalStatement : Conditional → StatementEntry
+  CasesStatement : CaseStatement → StatementEntry
+  BlankStatement : StatementEntry
+  CommentStatement : (text : List ℕ) → StatementEntry
+  InlineStatement : (text : List ℕ) → StatementEntry
+
+-- A conditional: its first arm, its arms `else if`, and its `else` where it has one.
+pub record ConditionalRecord : Type 0 where
+  pub condition : Expr
+  pub consequent : VastStatementBlock
+  pub else_ifs : List ElseIf
+  pub otherwise : Option VastStatementBlock
+
+-- A case statement: its word, whether it is unique, and its arms.
+pub record CaseRecord : Type 0 where
+  pub kind : CaseKind
+  pub unique : Bool
+  pub selector : Expr
+  pub arms : List CaseArm
+
+-- A generate loop; its variable runs from a start on while it is below a limit.
+pub record LoopRecord : Type 0 where
+  pub genvar : LogicRef
+  pub name : List ℕ
+  pub start : Expr
+  pub limit : Expr
+  pub label : Option (List ℕ)
+  pub members : List MemberEntry
+
+-- A container.
+pub data NestRecord : Type 0 where
+  BlockRecord : List StatementEntry → NestRecord
+  BranchRecord : ConditionalRecord → NestRecord
+  SwitchRecord : CaseRecord → NestRecord
+  RepeatRecord : LoopRecord → NestRecord
+
+-- A name that a function declares.
+pub record VariableRecord : Type 0 where
+  pub kind : DataKind
+  pub name : List ℕ
+  pub data_type : VastDataType
+
+-- A function; the names of its result, inputs and locals are in byte order, each once.
+pub record FunctionRecord : Type 0 where
+  pub name : List ℕ
+  pub result_type : VastDataType
+  pub result_name : LogicRef
+  pub inputs : List VariableRecord
+  pub locals : List VariableRecord
+  pub body : VastStatementBlock
+  pub names : List (List ℕ)
+
+abbrev pub variable_names : List VariableRecord → List (List ℕ)
+variable_names variables = map (λ v. v.name) variables
+
+-- The names of the function's result, inputs and locals.
+abbrev pub declared_names : FunctionRecord → List (List ℕ)
+declared_names f = f.name ∷ (variable_names f.inputs ++ variable_names f.locals)
+
+pub record AlwaysRecord : Type 0 where
+  pub kind : AlwaysKind
+  pub events : List Expr
+  pub block : VastStatementBlock
+
+-- The records of nodes.
+
+abbrev pub statement_entry : Statement → StatementEntry
+statement_entry (AssignmentOf s) = AssignStatement s
+statement_entry (ContinuousOf s) = ContinuousStatement s
+statement_entry (ConditionalOf c) = ConditionalStatement c
+statement_entry (CaseOf c) = CasesStatement c
+statement_entry BlankOf = BlankStatement
+statement_entry (CommentOf text) = CommentStatement (string_bytes text)
+statement_entry (InlineOf text) = InlineStatement (string_bytes text)
+
+abbrev pub conditional_record : ConditionalNode → ConditionalRecord
+conditional_record c = record { condition = c.condition; consequent = c.consequent; else_ifs = c.else_ifs.items; otherwise = c.otherwise }
+
+abbrev pub case_record : CaseNode → CaseRecord
+case_record c = record { kind = c.kind; unique = c.unique; selector = c.selector; arms = c.arms.items }
+
+abbrev pub label_bytes : Option (String Global) → Option (List ℕ)
+label_bytes None = None
+label_bytes (Some text) = Some (string_bytes text)
+
+abbrev pub loop_record : LoopNode → LoopRecord
+loop_record l = record { genvar = l.genvar; name = string_bytes l.name; start = l.start; limit = l.limit; label = label_bytes l.label; members = map member_entry l.members.items }
+
+abbrev pub nest_record : Nest → NestRecord
+nest_record (BlockNode statements) = BlockRecord (map statement_entry statements.items)
+nest_record (ConditionalNest c) = BranchRecord (conditional_record c)
+nest_record (CaseNest c) = SwitchRecord (case_record c)
+nest_record (LoopNest l) = RepeatRecord (loop_record l)
+
+abbrev pub variable_record : FunctionVariable → VariableRecord
+variable_record v = record { kind = v.kind; name = string_bytes v.name; data_type = v.data_type }
+
+abbrev pub function_record : Function → FunctionRecord
+function_record f = record { name = string_bytes f.name; result_type = f.result_type; result_name = f.result; inputs = map variable_record f.inputs.items; locals = map variable_record f.locals.items; body = f.body; names = map string_bytes f.names.keys }
+
+abbrev pub always_record : AlwaysBlock → AlwaysRecord
+always_record a = record { kind = a.kind; events = a.events.items; block = a.block }
+
+-- Which kind of container a record is.
+pub data NestKind : Type 0 where
+  BlockKind : NestKind
+  ConditionalKind : NestKind
+  CaseStatementKind : NestKind
+  LoopKind : NestKind
+  NoKind : NestKind
+
+abbrev pub nest_kind : Option NestRecord → NestKind
+nest_kind None = NoKind
+nest_kind (Some (BlockRecord statements)) = BlockKind
+nest_kind (Some (BranchRecord c)) = ConditionalKind
+nest_kind (Some (SwitchRecord c)) = CaseStatementKind
+nest_kind (Some (RepeatRecord l)) = LoopKind
+
+abbrev pub is_block_kind : NestKind → Bool
+is_block_kind BlockKind = true
+is_block_kind ConditionalKind = false
+is_block_kind CaseStatementKind = false
+is_block_kind LoopKind = false
+is_block_kind NoKind = false
+
+abbrev pub is_conditional_kind : NestKind → Bool
+is_conditional_kind BlockKind = false
+is_conditional_kind ConditionalKind = true
+is_conditional_kind CaseStatementKind = false
+is_conditional_kind LoopKind = false
+is_conditional_kind NoKind = false
+
+abbrev pub is_case_kind : NestKind → Bool
+is_case_kind BlockKind = false
+is_case_kind ConditionalKind = false
+is_case_kind CaseStatementKind = true
+is_case_kind LoopKind = false
+is_case_kind NoKind = false
+
+abbrev pub is_loop_kind : NestKind → Bool
+is_loop_kind BlockKind = false
+is_loop_kind ConditionalKind = false
+is_loop_kind CaseStatementKind = false
+is_loop_kind LoopKind = true
+is_loop_kind NoKind = false

@@ -1,0 +1,184 @@
+//! Blocks: their statements, and calls that append to them.
+
+ghost use Rattle.std.specs.Prelude.{◌≡◌, ◌<◌, ◌^◌, false, All, Some, map, slice_get};
+ghost use Rattle.vast_core.specs.Handles.{block_index};
+ghost use Rattle.vast_core.specs.Nests.{statement_entry, BlockRecord, AssignStatement, ContinuousStatement, BlankStatement, CommentStatement, InlineStatement};
+ghost use Rattle.vast_core.specs.Bench.{OwnsBlock, OwnsExpr};
+ghost use Rattle.vast_core.specs.Sound.{StatementSound};
+ghost use Rattle.vast_core.specs.FileTree.{block_tree, statements_tree};
+ghost use Rattle.vast_core.specs.Growth.{Builds, with_assignment};
+ghost use Rattle.vast_core.specs.Artifacts.{next_statement};
+ghost use Rattle.vast_core.specs.Containers.{with_statement};
+ghost use Rattle.vast_core.specs.View.{bench};
+
+use crate::ast::Ast;
+use crate::ast::growth::{Arrivals, Entry, Place};
+use crate::handle::{Expr, VastStatement, VastStatementBlock};
+use crate::node::{Assignment, Nest, Statement};
+use std::alloc::AllocError;
+
+impl Ast {
+    #[tactic(auto, using(crate::proofs::Enters::enters))]
+    fn append_statement(
+        &mut self,
+        owner: VastStatementBlock,
+        statement: Statement,
+    ) -> Result<(), AllocError>
+        requires owner { OwnsBlock (bench self.old) owner }
+        requires statement { StatementSound (bench self.old) (block_index owner) (statement_entry statement) }
+        ensures { Builds (bench self.old) (bench self.new) result tt (with_statement owner (statement_entry statement) (bench self.old)) }
+    {
+        self.grow(
+            Place::Nest(owner.id.index, Entry::Statement(statement)),
+            Arrivals {
+                term: None,
+                assignment: None,
+                container: None,
+                block: false,
+                function: None,
+                always_block: None,
+            },
+        )
+    }
+
+    /// Appends a comment to the block.
+    ///
+    /// # Errors
+    /// `AllocError` where a growth was refused; nothing changed.
+    pub fn append_block_comment(
+        &mut self,
+        owner: VastStatementBlock,
+        text: &str,
+    ) -> Result<(), AllocError>
+        requires { OwnsBlock (bench self.old) owner }
+        ensures { Builds (bench self.old) (bench self.new) result tt (with_statement owner (CommentStatement text.now) (bench self.old)) }
+    {
+        let text = String::from_str(self.alloc, text)?;
+        self.append_statement(owner, Statement::Comment(text))
+    }
+
+    /// Appends a text that is written as it is to the block.
+    ///
+    /// # Errors
+    /// `AllocError` where a growth was refused; nothing changed.
+    pub fn append_block_inline(
+        &mut self,
+        owner: VastStatementBlock,
+        text: &str,
+    ) -> Result<(), AllocError>
+        requires { OwnsBlock (bench self.old) owner }
+        ensures { Builds (bench self.old) (bench self.new) result tt (with_statement owner (InlineStatement text.now) (bench self.old)) }
+    {
+        let text = String::from_str(self.alloc, text)?;
+        self.append_statement(owner, Statement::Inline(text))
+    }
+
+    /// Appends a blank line to the block.
+    ///
+    /// # Errors
+    /// `AllocError` where a growth was refused; nothing changed.
+    pub fn append_block_blank_line(&mut self, owner: VastStatementBlock) -> Result<(), AllocError>
+        requires { OwnsBlock (bench self.old) owner }
+        ensures { Builds (bench self.old) (bench self.new) result tt (with_statement owner BlankStatement (bench self.old)) }
+    {
+        self.append_statement(owner, Statement::BlankLine)
+    }
+
+    /// Appends an assignment to the block, `lhs <= rhs` where it is nonblocking.
+    ///
+    /// # Errors
+    /// `AllocError` where a growth was refused; nothing changed.
+    #[tactic(auto, using(crate::proofs::Enters::enters))]
+    pub fn append_block_assignment(
+        &mut self,
+        owner: VastStatementBlock,
+        lhs: Expr,
+        rhs: Expr,
+        nonblocking: bool,
+    ) -> Result<VastStatement, AllocError>
+        requires owner { OwnsBlock (bench self.old) owner }
+        requires lhs { OwnsExpr (bench self.old) lhs }
+        requires rhs { OwnsExpr (bench self.old) rhs }
+        ensures { Builds (bench self.old) (bench self.new) result (next_statement (bench self.old)) (with_statement owner (AssignStatement (next_statement (bench self.old))) (with_assignment (record { lhs = lhs; rhs = rhs; nonblocking = nonblocking }) (bench self.old))) }
+    {
+        let statement = VastStatement {
+            id: self.next_assignment(),
+        };
+        self.grow(
+            Place::Nest(
+                owner.id.index,
+                Entry::Statement(Statement::Assignment(statement)),
+            ),
+            Arrivals {
+                term: None,
+                assignment: Some(Assignment {
+                    lhs,
+                    rhs,
+                    nonblocking,
+                }),
+                container: None,
+                block: false,
+                function: None,
+                always_block: None,
+            },
+        )?;
+        Ok(statement)
+    }
+
+    /// Appends the assignment `assign lhs = rhs` to the block.
+    ///
+    /// # Errors
+    /// `AllocError` where a growth was refused; nothing changed.
+    #[tactic(auto, using(crate::proofs::Enters::enters))]
+    pub fn append_block_continuous(
+        &mut self,
+        owner: VastStatementBlock,
+        lhs: Expr,
+        rhs: Expr,
+    ) -> Result<VastStatement, AllocError>
+        requires owner { OwnsBlock (bench self.old) owner }
+        requires lhs { OwnsExpr (bench self.old) lhs }
+        requires rhs { OwnsExpr (bench self.old) rhs }
+        ensures { Builds (bench self.old) (bench self.new) result (next_statement (bench self.old)) (with_statement owner (ContinuousStatement (next_statement (bench self.old))) (with_assignment (record { lhs = lhs; rhs = rhs; nonblocking = false }) (bench self.old))) }
+    {
+        let statement = VastStatement {
+            id: self.next_assignment(),
+        };
+        self.grow(
+            Place::Nest(
+                owner.id.index,
+                Entry::Statement(Statement::Continuous(statement)),
+            ),
+            Arrivals {
+                term: None,
+                assignment: Some(Assignment {
+                    lhs,
+                    rhs,
+                    nonblocking: false,
+                }),
+                container: None,
+                block: false,
+                function: None,
+                always_block: None,
+            },
+        )?;
+        Ok(statement)
+    }
+
+    /// The statements of a block, in order. What they are made of is the file's, and newer than the block.
+    pub fn block(&self, b: VastStatementBlock) -> &[Statement]
+        requires { OwnsBlock (bench self.now) b }
+        ensures there { slice_get (bench self.now).nests (block_index b) ≡ Some (BlockRecord (map statement_entry result.now)) }
+        ensures tree { block_tree (bench self.now) b ≡ statements_tree (bench self.now) (map statement_entry result.now) }
+        ensures sound { All (λ s. StatementSound (bench self.now) (block_index b) (statement_entry s)) result.now }
+        ensures small { block_index b < 2 ^ 63 }
+    {
+        match self.nest_at(b.id.index) {
+            Some(Nest::Block(statements)) => statements,
+            Some(Nest::Conditional(_)) => unreachable!(),
+            Some(Nest::Case(_)) => unreachable!(),
+            Some(Nest::Loop(_)) => unreachable!(),
+            None => unreachable!(),
+        }
+    }
+}

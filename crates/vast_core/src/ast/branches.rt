@@ -1,0 +1,252 @@
+//! Conditionals and case statements.
+
+ghost use Rattle.std.specs.Prelude.{◌≡◌, ◌<◌, ◌^◌, false, Some, slice_get};
+ghost use Rattle.vast_core.specs.Handles.{conditional_index, case_index};
+ghost use Rattle.vast_core.specs.Nodes.{OptionHolds};
+ghost use Rattle.vast_core.specs.Nests.{nest_record, conditional_record, case_record, BranchRecord, SwitchRecord, ConditionalStatement, CasesStatement};
+ghost use Rattle.vast_core.specs.Bench.{OwnsBlock, OwnsExpr, OwnsConditional, OwnsCase, tree_of};
+ghost use Rattle.vast_core.specs.Sound.{ConditionalSound, CaseSound};
+ghost use Rattle.vast_core.specs.FileTree.{BranchFamily, SwitchFamily, families, block_tree, alternates_tree, case_arms_tree};
+ghost use Rattle.vast_core.specs.Kinds.{case_word};
+ghost use Rattle.vast_literal.specs.Tree.{CaseTree};
+ghost use Rattle.vast_core.specs.Growth.{Builds};
+ghost use Rattle.vast_core.specs.Containers.{InNest, GrowthSound, fresh_block, with_nest_entry, with_block, with_statement, next_conditional, with_conditional, next_case, with_case, next_block, with_else_if, with_else, with_case_arm, has_else, with_unique, with_case_unique};
+ghost use Rattle.vast_core.specs.Arrivals.{entry_of};
+ghost use Rattle.vast_core.specs.View.{bench};
+
+use crate::ast::Ast;
+use crate::ast::growth::{Arrivals, Entry, Place};
+use crate::handle::{CaseStatement, Conditional, Expr, VastStatementBlock};
+use crate::kind::CaseKind;
+use crate::node::{CaseArm, CaseNode, ConditionalNode, ElseIf, Nest, Statement};
+use std::alloc::AllocError;
+
+#[cfg(test)]
+mod tests;
+
+impl Nest {
+    fn set_unique(&mut self, unique: bool)
+        ensures { nest_record self.new ≡ with_unique unique (nest_record self.old) }
+    {
+        if let Nest::Case(node) = self {
+            node.unique = unique;
+        }
+    }
+}
+
+impl Ast {
+    /// Makes the case statement `unique`, or not. It takes no memory.
+    pub fn case_set_unique(&mut self, c: CaseStatement, unique: bool)
+        requires { OwnsCase (bench self.old) c }
+        ensures { bench self.new ≡ with_case_unique c unique (bench self.old) }
+    {
+        let target = &mut self.nests[c.id.index];
+        target.set_unique(unique);
+    }
+
+    /// Appends a conditional to the block, with an empty block as its first arm.
+    ///
+    /// # Errors
+    /// `AllocError` where a growth was refused; nothing changed.
+    #[tactic(auto, using(crate::proofs::Enters::enters))]
+    pub fn append_block_conditional(
+        &mut self,
+        owner: VastStatementBlock,
+        condition: Expr,
+    ) -> Result<Conditional, AllocError>
+        requires owner { OwnsBlock (bench self.old) owner }
+        requires condition { OwnsExpr (bench self.old) condition }
+        ensures { Builds (bench self.old) (bench self.new) result (next_conditional (bench self.old)) (with_statement owner (ConditionalStatement (next_conditional (bench self.old))) (with_conditional condition (bench self.old))) }
+    {
+        let conditional = Conditional {
+            id: self.next_nest(),
+        };
+        let consequent = VastStatementBlock {
+            id: self.second_nest(),
+        };
+        let node = ConditionalNode {
+            condition,
+            consequent,
+            else_ifs: Vec::new(self.alloc),
+            otherwise: None,
+        };
+        self.grow(
+            Place::Nest(
+                owner.id.index,
+                Entry::Statement(Statement::Conditional(conditional)),
+            ),
+            Arrivals {
+                term: None,
+                assignment: None,
+                container: Some(Nest::Conditional(node)),
+                block: true,
+                function: None,
+                always_block: None,
+            },
+        )?;
+        Ok(conditional)
+    }
+
+    /// Appends a case statement without arms to the block.
+    ///
+    /// # Errors
+    /// `AllocError` where a growth was refused; nothing changed.
+    #[tactic(auto, using(crate::proofs::Enters::enters))]
+    pub fn append_block_case(
+        &mut self,
+        owner: VastStatementBlock,
+        kind: CaseKind,
+        selector: Expr,
+    ) -> Result<CaseStatement, AllocError>
+        requires owner { OwnsBlock (bench self.old) owner }
+        requires selector { OwnsExpr (bench self.old) selector }
+        ensures { Builds (bench self.old) (bench self.new) result (next_case (bench self.old)) (with_statement owner (CasesStatement (next_case (bench self.old))) (with_case kind selector (bench self.old))) }
+    {
+        let case = CaseStatement {
+            id: self.next_nest(),
+        };
+        let node = CaseNode {
+            kind,
+            unique: false,
+            selector,
+            arms: Vec::new(self.alloc),
+        };
+        self.grow(
+            Place::Nest(owner.id.index, Entry::Statement(Statement::Case(case))),
+            Arrivals {
+                term: None,
+                assignment: None,
+                container: Some(Nest::Case(node)),
+                block: false,
+                function: None,
+                always_block: None,
+            },
+        )?;
+        Ok(case)
+    }
+
+    /// Adds an entry that names the next block, and that block, which is empty.
+    fn grow_with_block(&mut self, place: usize, entry: Entry) -> Result<(), AllocError>
+        requires { GrowthSound (bench self.old) (InNest place (entry_of entry)) fresh_block }
+        ensures { Builds (bench self.old) (bench self.new) result tt (with_nest_entry place (entry_of entry) (with_block (bench self.old))) }
+    {
+        self.grow(
+            Place::Nest(place, entry),
+            Arrivals {
+                term: None,
+                assignment: None,
+                container: None,
+                block: true,
+                function: None,
+                always_block: None,
+            },
+        )
+    }
+
+    /// Adds an arm `else if` to the conditional, and answers its block, which is empty. The conditional has no `else`
+    /// yet ([`Ast::conditional_has_else`]).
+    ///
+    /// # Errors
+    /// `AllocError` where a growth was refused; nothing changed.
+    #[tactic(auto, using(crate::proofs::Enters::enters))]
+    pub fn conditional_add_else_if(
+        &mut self,
+        owner: Conditional,
+        condition: Expr,
+    ) -> Result<VastStatementBlock, AllocError>
+        requires owner { OwnsConditional (bench self.old) owner }
+        requires condition { OwnsExpr (bench self.old) condition }
+        requires no_else { has_else (slice_get (bench self.old).nests (conditional_index owner)) ≡ false }
+        ensures { Builds (bench self.old) (bench self.new) result (next_block (bench self.old)) (with_else_if owner condition (bench self.old)) }
+    {
+        let block = VastStatementBlock {
+            id: self.next_nest(),
+        };
+        self.grow_with_block(owner.id.index, Entry::ElseIf(ElseIf { condition, block }))?;
+        Ok(block)
+    }
+
+    /// Adds the `else` to the conditional, and answers its block, which is empty. The conditional has none yet
+    /// ([`Ast::conditional_has_else`]).
+    ///
+    /// # Errors
+    /// `AllocError` where a growth was refused; nothing changed.
+    #[tactic(auto, using(crate::proofs::Enters::enters))]
+    pub fn conditional_add_else(
+        &mut self,
+        owner: Conditional,
+    ) -> Result<VastStatementBlock, AllocError>
+        requires owner { OwnsConditional (bench self.old) owner }
+        requires no_else { has_else (slice_get (bench self.old).nests (conditional_index owner)) ≡ false }
+        ensures { Builds (bench self.old) (bench self.new) result (next_block (bench self.old)) (with_else owner (bench self.old)) }
+    {
+        let block = VastStatementBlock {
+            id: self.next_nest(),
+        };
+        self.grow_with_block(owner.id.index, Entry::Else(block))?;
+        Ok(block)
+    }
+
+    /// Adds an arm to the case statement, a default where it has no label, and answers its block, which is empty.
+    ///
+    /// # Errors
+    /// `AllocError` where a growth was refused; nothing changed.
+    #[tactic(auto, using(crate::proofs::Enters::enters))]
+    pub fn case_add_arm(
+        &mut self,
+        owner: CaseStatement,
+        label: Option<Expr>,
+    ) -> Result<VastStatementBlock, AllocError>
+        requires owner { OwnsCase (bench self.old) owner }
+        requires label { OptionHolds (OwnsExpr (bench self.old)) label }
+        ensures { Builds (bench self.old) (bench self.new) result (next_block (bench self.old)) (with_case_arm owner label (bench self.old)) }
+    {
+        let block = VastStatementBlock {
+            id: self.next_nest(),
+        };
+        self.grow_with_block(owner.id.index, Entry::CaseArm(CaseArm { label, block }))?;
+        Ok(block)
+    }
+
+    /// The parts of a conditional. They are the file's, and its blocks are newer than it.
+    pub fn conditional(&self, c: Conditional) -> &ConditionalNode
+        requires { OwnsConditional (bench self.now) c }
+        ensures there { slice_get (bench self.now).nests (conditional_index c) ≡ Some (BranchRecord (conditional_record result.now)) }
+        ensures tree { families (bench self.now) (conditional_index c) ≡ BranchFamily (tree_of (bench self.now) result.now.condition) (block_tree (bench self.now) result.now.consequent) (alternates_tree (bench self.now) result.now.else_ifs.items result.now.otherwise) }
+        ensures sound { ConditionalSound (bench self.now) (conditional_index c) (conditional_record result.now) }
+        ensures small { conditional_index c < 2 ^ 63 }
+    {
+        match self.nest_at(c.id.index) {
+            Some(Nest::Conditional(node)) => node,
+            Some(Nest::Block(_)) => unreachable!(),
+            Some(Nest::Case(_)) => unreachable!(),
+            Some(Nest::Loop(_)) => unreachable!(),
+            None => unreachable!(),
+        }
+    }
+
+    /// Whether the conditional has an `else`.
+    pub fn conditional_has_else(&self, c: Conditional) -> bool
+        requires { OwnsConditional (bench self.now) c }
+        ensures { result ≡ has_else (slice_get (bench self.now).nests (conditional_index c)) }
+    {
+        self.conditional(c).otherwise.is_some()
+    }
+
+    /// The parts of a case statement. They are the file's, and its blocks are newer than it.
+    pub fn case(&self, c: CaseStatement) -> &CaseNode
+        requires { OwnsCase (bench self.now) c }
+        ensures there { slice_get (bench self.now).nests (case_index c) ≡ Some (SwitchRecord (case_record result.now)) }
+        ensures tree { families (bench self.now) (case_index c) ≡ SwitchFamily (CaseTree result.now.unique (case_word result.now.kind) (tree_of (bench self.now) result.now.selector) (case_arms_tree (bench self.now) result.now.arms.items)) }
+        ensures sound { CaseSound (bench self.now) (case_index c) (case_record result.now) }
+        ensures small { case_index c < 2 ^ 63 }
+    {
+        match self.nest_at(c.id.index) {
+            Some(Nest::Case(node)) => node,
+            Some(Nest::Block(_)) => unreachable!(),
+            Some(Nest::Conditional(_)) => unreachable!(),
+            Some(Nest::Loop(_)) => unreachable!(),
+            None => unreachable!(),
+        }
+    }
+}

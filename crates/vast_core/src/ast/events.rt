@@ -1,0 +1,54 @@
+//! What event lists are made of.
+
+ghost use Rattle.std.specs.Prelude.{◌≡◌, All, IfNone, IfSome};
+ghost use Rattle.vast_core.specs.Bench.{OwnsExpr, tree_of};
+ghost use Rattle.vast_core.specs.Sound.{is_event, EventSound};
+ghost use Rattle.vast_core.specs.Events.{IsFirstWrongEvent};
+ghost use Rattle.vast_core.specs.View.{bench};
+
+use crate::ast::Ast;
+use crate::handle::Expr;
+use crate::node::ExprNode;
+
+#[cfg(test)]
+mod tests;
+
+impl Ast {
+    /// Whether the expression may stand in an event list: it is an edge or a name.
+    pub fn is_event(&self, e: Expr) -> bool
+        requires { OwnsExpr (bench self.now) e }
+        ensures { result ≡ is_event (tree_of (bench self.now) e) }
+    {
+        match self.expr(e) {
+            ExprNode::Name(_, _) | ExprNode::PosEdge(_) | ExprNode::NegEdge(_) => true,
+            ExprNode::Literal(_, _)
+            | ExprNode::StringText(_)
+            | ExprNode::Unary(_, _)
+            | ExprNode::Binary(_, _, _)
+            | ExprNode::Ternary(_, _, _)
+            | ExprNode::Index(_, _)
+            | ExprNode::Slice(_, _, _)
+            | ExprNode::PartSelect(_, _, _)
+            | ExprNode::Concat(_, _)
+            | ExprNode::Pattern(_)
+            | ExprNode::WidthCast(_, _)
+            | ExprNode::TypeCast(_, _)
+            | ExprNode::Macro(_, _)
+            | ExprNode::Call(_, _) => false,
+        }
+    }
+
+    /// The index of the first of the expressions that may not stand in an event list, if one may not.
+    pub fn first_wrong_event(&self, events: &[Expr]) -> Option<usize>
+        requires { All (OwnsExpr (bench self.now)) events.now }
+        ensures none { IfNone result (All (EventSound (bench self.now)) events.now) }
+        ensures some { IfSome result (λ i. IsFirstWrongEvent (bench self.now) events.now i) }
+    {
+        for (index, event) in events.iter().enumerate() {
+            if !self.is_event(*event) {
+                return Some(index);
+            }
+        }
+        None
+    }
+}

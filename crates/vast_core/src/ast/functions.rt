@@ -1,0 +1,81 @@
+//! Functions of modules.
+
+ghost use Rattle.std.specs.Prelude.{◌≡◌, Some, slice_get};
+ghost use Rattle.vast_core.specs.Handles.{function_index};
+ghost use Rattle.vast_core.specs.Records.{FunctionEntry};
+ghost use Rattle.vast_core.specs.Nests.{function_record};
+ghost use Rattle.vast_core.specs.Bench.{OwnsModule, OwnsType, OwnsFunction};
+ghost use Rattle.vast_core.specs.Sound.{FunctionSound};
+ghost use Rattle.vast_core.specs.Growth.{Builds, with_named_member};
+ghost use Rattle.vast_core.specs.Loops.{next_function, with_function};
+ghost use Rattle.vast_core.specs.View.{bench};
+
+use crate::ast::Ast;
+use crate::ast::growth::{Arrivals, Place};
+use crate::handle::{LogicRef, VastDataType, VastFunction, VastModule, VastStatementBlock};
+use crate::node::{ExprNode, Function, Member, Term};
+use std::alloc::AllocError;
+use std::collections::BTreeSet;
+
+impl Ast {
+    /// Adds a function without inputs and locals as the module's last member, with an empty body. The module's name
+    /// set gains its name; whether it was free is the caller's to know ([`crate::Module::name_is_free`]).
+    ///
+    /// # Errors
+    /// `AllocError` where a growth was refused; nothing changed.
+    #[tactic(auto, using(crate::proofs::EntersMembers::enters_members))]
+    pub fn push_function(
+        &mut self,
+        owner: VastModule,
+        name: &str,
+        result_type: VastDataType,
+    ) -> Result<VastFunction, AllocError>
+        requires owner { OwnsModule (bench self.old) owner }
+        requires result_type { OwnsType (bench self.old) result_type }
+        ensures { Builds (bench self.old) (bench self.new) result (next_function (bench self.old)) (with_named_member owner (FunctionEntry (next_function (bench self.old))) name.now (with_function name.now result_type (bench self.old))) }
+    {
+        let taken = String::from_str(self.alloc, name)?;
+        let variable = String::from_str(self.alloc, name)?;
+        let own_name = String::from_str(self.alloc, name)?;
+        let result_name = String::from_str(self.alloc, name)?;
+        let mut names = BTreeSet::new(self.alloc);
+        names.insert(result_name)?;
+        let function = VastFunction {
+            id: self.next_function(),
+        };
+        let node = Function {
+            name: own_name,
+            result_type,
+            result: LogicRef {
+                id: self.next_term(),
+            },
+            inputs: Vec::new(self.alloc),
+            locals: Vec::new(self.alloc),
+            body: VastStatementBlock {
+                id: self.next_nest(),
+            },
+            names,
+        };
+        self.grow(
+            Place::Module(owner, Member::Function(function), Some(taken)),
+            Arrivals {
+                term: Some(Term::Expression(ExprNode::Name(variable, Some(result_type)))),
+                assignment: None,
+                container: None,
+                block: true,
+                function: Some(node),
+                always_block: None,
+            },
+        )?;
+        Ok(function)
+    }
+
+    /// A function. Its types, its result's name and its body are the file's.
+    pub fn function(&self, f: VastFunction) -> &Function
+        requires { OwnsFunction (bench self.now) f }
+        ensures there { slice_get (bench self.now).functions (function_index f) ≡ Some (function_record result.now) }
+        ensures sound { FunctionSound (bench self.now) (function_record result.now) }
+    {
+        &self.functions[f.id.index]
+    }
+}

@@ -1,0 +1,93 @@
+//! The ids of the nodes that come next.
+
+ghost use Rattle.std.specs.Prelude.{◌≡◌, ◌<◌, ◌^◌, length, suc};
+ghost use Rattle.vast_core.specs.Growth.{next_id};
+ghost use Rattle.vast_core.specs.View.{bench};
+
+use crate::ast::Ast;
+use crate::handle::Id;
+
+impl Ast {
+    fn id_at(&self, index: usize) -> Id
+        ensures { result ≡ next_id (bench self.now) index }
+    {
+        Id {
+            file_id: self.id(),
+            index,
+        }
+    }
+
+    #[tactic(auto, using(crate::proofs::Containers::lengths), unfolding(crate::specs::View::bench))]
+    fn nest_count(&self) -> usize
+        ensures count { result ≡ length (bench self.now).nests }
+        ensures small { result < 2 ^ 63 }
+    {
+        self.nests.len()
+    }
+
+    #[tactic(auto, using(crate::proofs::Containers::lengths), unfolding(crate::specs::View::bench))]
+    fn assignment_count(&self) -> usize
+        ensures { result ≡ length (bench self.now).assignments }
+    {
+        self.assignments.len()
+    }
+
+    #[tactic(auto, using(crate::proofs::Containers::lengths), unfolding(crate::specs::View::bench))]
+    fn function_count(&self) -> usize
+        ensures { result ≡ length (bench self.now).functions }
+    {
+        self.functions.len()
+    }
+
+    #[tactic(auto, using(crate::proofs::Containers::lengths), unfolding(crate::specs::View::bench))]
+    fn always_block_count(&self) -> usize
+        ensures { result ≡ length (bench self.now).always_blocks }
+    {
+        self.always_blocks.len()
+    }
+
+    fn term_count(&self) -> usize
+        ensures { result ≡ length (bench self.now).nodes.roots }
+    {
+        self.terms.len()
+    }
+
+    /// The id of the next container.
+    pub(crate) fn next_nest(&self) -> Id
+        ensures id { result ≡ next_id (bench self.now) (length (bench self.now).nests) }
+        ensures small { length (bench self.now).nests < 2 ^ 63 }
+    {
+        self.id_at(self.nest_count())
+    }
+
+    /// The id of the container behind the next one.
+    pub(crate) fn second_nest(&self) -> Id
+        ensures { result ≡ next_id (bench self.now) (suc (length (bench self.now).nests)) }
+    {
+        self.id_at(self.nest_count() + 1)
+    }
+
+    pub(crate) fn next_assignment(&self) -> Id
+        ensures { result ≡ next_id (bench self.now) (length (bench self.now).assignments) }
+    {
+        self.id_at(self.assignment_count())
+    }
+
+    pub(crate) fn next_function(&self) -> Id
+        ensures { result ≡ next_id (bench self.now) (length (bench self.now).functions) }
+    {
+        self.id_at(self.function_count())
+    }
+
+    pub(crate) fn next_always_block(&self) -> Id
+        ensures { result ≡ next_id (bench self.now) (length (bench self.now).always_blocks) }
+    {
+        self.id_at(self.always_block_count())
+    }
+
+    pub(crate) fn next_term(&self) -> Id
+        ensures { result ≡ next_id (bench self.now) (length (bench self.now).nodes.roots) }
+    {
+        self.id_at(self.term_count())
+    }
+}

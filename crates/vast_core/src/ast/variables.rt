@@ -1,0 +1,120 @@
+//! Inputs and locals of functions.
+
+ghost use Rattle.std.specs.Prelude.{◌≡◌, ◌↔◌, IsTrue, OnOk, OnErr, false, true, string_bytes};
+ghost use Rattle.vast_core.specs.Records.{IsFree};
+ghost use Rattle.vast_core.specs.Nests.{function_record, variable_record};
+ghost use Rattle.vast_core.specs.Bench.{OwnsFunction, OwnsType, IsFreeInFunction};
+ghost use Rattle.vast_core.specs.Growth.{Builds, next_logic_ref};
+ghost use Rattle.vast_core.specs.Functions.{with_listed_variable, with_listed_in, with_variable};
+ghost use Rattle.vast_core.specs.View.{bench, room};
+
+use crate::ast::Ast;
+use crate::handle::{LogicRef, VastDataType, VastFunction};
+use crate::kind::DataKind;
+use crate::node::{ExprNode, Function, FunctionVariable};
+use std::alloc::AllocError;
+
+#[cfg(test)]
+mod tests;
+
+impl Function {
+    /// Whether the function's result, inputs and locals have other names.
+    pub fn name_is_free(&self, name: &str) -> bool
+        ensures { IsTrue result ↔ IsFree name.now (function_record self.now).names }
+    {
+        !self.names.contains(name)
+    }
+
+    fn enter_input(&mut self, variable: FunctionVariable, name: String) -> Result<(), AllocError>
+        requires { string_bytes name ≡ string_bytes variable.name }
+        ensures ok { OnOk result (function_record self.new ≡ with_listed_variable false (variable_record variable) (function_record self.old)) }
+        ensures err { OnErr result (function_record self.new ≡ function_record self.old) }
+    {
+        self.inputs.reserve(1)?;
+        self.names.insert(name)?;
+        self.inputs.push(variable).unwrap();
+        Ok(())
+    }
+
+    fn enter_local(&mut self, variable: FunctionVariable, name: String) -> Result<(), AllocError>
+        requires { string_bytes name ≡ string_bytes variable.name }
+        ensures ok { OnOk result (function_record self.new ≡ with_listed_variable true (variable_record variable) (function_record self.old)) }
+        ensures err { OnErr result (function_record self.new ≡ function_record self.old) }
+    {
+        self.locals.reserve(1)?;
+        self.names.insert(name)?;
+        self.locals.push(variable).unwrap();
+        Ok(())
+    }
+
+    /// Lists the variable and takes its name, or changes nothing.
+    fn enter_variable(
+        &mut self,
+        local: bool,
+        variable: FunctionVariable,
+        name: String,
+    ) -> Result<(), AllocError>
+        requires { string_bytes name ≡ string_bytes variable.name }
+        ensures ok { OnOk result (function_record self.new ≡ with_listed_variable local (variable_record variable) (function_record self.old)) }
+        ensures err { OnErr result (function_record self.new ≡ function_record self.old) }
+    {
+        if local {
+            self.enter_local(variable, name)
+        } else {
+            self.enter_input(variable, name)
+        }
+    }
+}
+
+impl Ast {
+    fn list_variable(
+        &mut self,
+        owner: VastFunction,
+        local: bool,
+        variable: FunctionVariable,
+        name: String,
+    ) -> Result<(), AllocError>
+        requires owner { OwnsFunction (bench self.old) owner }
+        requires data_type { OwnsType (bench self.old) variable.data_type }
+        requires name { string_bytes name ≡ string_bytes variable.name }
+        requires free { IsFreeInFunction (bench self.old) owner (string_bytes variable.name) }
+        ensures built { Builds (bench self.old) (bench self.new) result tt (with_listed_in owner local (variable_record variable) (bench self.old)) }
+        ensures room { room self.new ≡ room self.old }
+    {
+        let target = &mut self.functions[owner.id.index];
+        target.enter_variable(local, variable, name)?;
+        Ok(())
+    }
+
+    /// Adds an input, or a local, at the end of the function's, and answers its name as an expression. The name is free
+    /// ([`Function::name_is_free`]), and is taken from then on.
+    ///
+    /// # Errors
+    /// `AllocError` where a growth was refused; nothing changed.
+    pub fn function_add_variable(
+        &mut self,
+        owner: VastFunction,
+        local: bool,
+        kind: DataKind,
+        name: &str,
+        data_type: VastDataType,
+    ) -> Result<LogicRef, AllocError>
+        requires owner { OwnsFunction (bench self.old) owner }
+        requires data_type { OwnsType (bench self.old) data_type }
+        requires free { IsFreeInFunction (bench self.old) owner name.now }
+        ensures { Builds (bench self.old) (bench self.new) result (next_logic_ref (bench self.old)) (with_variable owner local (record { kind = kind; name = name.now; data_type = data_type }) (bench self.old)) }
+    {
+        let node_name = String::from_str(self.alloc, name)?;
+        let own_name = String::from_str(self.alloc, name)?;
+        let taken_name = String::from_str(self.alloc, name)?;
+        self.reserve_terms(1)?;
+        let variable = FunctionVariable {
+            kind,
+            name: own_name,
+            data_type,
+        };
+        self.list_variable(owner, local, variable, taken_name)?;
+        let expr = self.plant_expr(ExprNode::Name(node_name, Some(data_type)));
+        Ok(LogicRef { id: expr.id })
+    }
+}

@@ -1,0 +1,21 @@
+use Rattle.std.proofs.Common.{◌≡◌, ◌+◌, drop, map, codes}
+use Rattle.vast_core.specs.Handles.{loop_index}
+use Rattle.vast_core.specs.Kinds.{dialect_of}
+use Rattle.vast_core.specs.Records.{member_entry}
+use Rattle.vast_core.specs.FileTree.{families, repeat_member, members_tree}
+use Rattle.vast_core.specs.View.{bench}
+use Rattle.vast_print.specs.Ink.{Wet, word, next, hang}
+use Rattle.vast_print.specs.Members.{member_page, members_page}
+use Rattle.vast_print.proofs.Heights.{height, member_height}
+use Rattle.vast_print.proofs.+members.Given as goal
+
+abbrev pub decreases-member::print_member : goal.decreases-member::print_member
+decreases-member::print_member l = member_height (member_entry l.member.now)
+
+abbrev pub decreases-generate_loop::print_loop : goal.decreases-generate_loop::print_loop
+decreases-generate_loop::print_loop l = height (loop_index l.l)
+
+abbrev pub invariant-generate_loop::print_loop-loop-member : goal.invariant-generate_loop::print_loop-loop-member
+invariant-generate_loop::print_loop-loop-member l =
+    hang l.depth (Wet l.fn.out) (member_page (dialect_of (bench l.ast).file_type) (repeat_member (families (bench l.ast) (loop_index l.fn.l))))
+    ≡ word (next l.depth (hang (l.depth + 1) (Wet l.out) (members_page (dialect_of (bench l.ast).file_type) (members_tree (bench l.ast) (map member_entry (drop l.member-index l.member-items)))))) (codes "end")

@@ -1,0 +1,43 @@
+use Rattle.std.proofs.Common.{◌≡◌, ◌+◌, drop, map, codes}
+use Rattle.vast_core.specs.Handles.{block_index, conditional_index, case_index}
+use Rattle.vast_core.specs.Kinds.{case_word}
+use Rattle.vast_core.specs.Nests.{statement_entry}
+use Rattle.vast_core.specs.FileTree.{families, branch_statement, switch_statement, block_tree, statements_tree, alternates_tree, case_arms_tree}
+use Rattle.vast_core.specs.View.{bench}
+use Rattle.vast_print.specs.Ink.{Wet, word, next, hang, pour}
+use Rattle.vast_print.specs.Statements.{statement_page, statements_page, alternates_page, arms_page}
+use Rattle.vast_print.proofs.Heights.{height, statement_height}
+use Rattle.vast_print.proofs.+print.Given as goal
+
+abbrev pub decreases-statement::print_block : goal.decreases-statement::print_block
+decreases-statement::print_block l = height (block_index l.b) + 2
+
+abbrev pub decreases-statement::print_statements : goal.decreases-statement::print_statements
+decreases-statement::print_statements l = height (block_index l.b) + 1
+
+abbrev pub decreases-statement::print_statement : goal.decreases-statement::print_statement
+decreases-statement::print_statement l = statement_height (statement_entry l.statement.now)
+
+abbrev pub decreases-conditional::print_conditional : goal.decreases-conditional::print_conditional
+decreases-conditional::print_conditional l = height (conditional_index l.c) + 4
+
+abbrev pub decreases-case::print_case : goal.decreases-case::print_case
+decreases-case::print_case l = height (case_index l.c) + 4
+
+abbrev pub decreases-case::print_arm : goal.decreases-case::print_arm
+decreases-case::print_arm l = height (block_index l.arm.block) + 3
+
+abbrev pub invariant-statement::print_statements-loop-statement : goal.invariant-statement::print_statements-loop-statement
+invariant-statement::print_statements-loop-statement l =
+    hang l.depth (Wet l.fn.out) (statements_page (block_tree (bench l.ast) l.fn.b))
+    ≡ hang l.depth (Wet l.out) (statements_page (statements_tree (bench l.ast) (map statement_entry (drop l.statement-index l.statement-items))))
+
+abbrev pub invariant-conditional::print_conditional-loop-arm : goal.invariant-conditional::print_conditional-loop-arm
+invariant-conditional::print_conditional-loop-arm l =
+    hang l.depth (Wet l.fn.out) (statement_page (branch_statement (families (bench l.ast) (conditional_index l.fn.c))))
+    ≡ pour l.depth (Wet l.out) (alternates_page (alternates_tree (bench l.ast) (drop l.arm-index l.arm-items) l.node.otherwise))
+
+abbrev pub invariant-case::print_case-loop-arm : goal.invariant-case::print_case-loop-arm
+invariant-case::print_case-loop-arm l =
+    hang l.depth (Wet l.fn.out) (statement_page (switch_statement (families (bench l.ast) (case_index l.fn.c))))
+    ≡ word (next l.depth (hang (l.depth + 1) (Wet l.out) (arms_page (case_word l.node.kind) (case_arms_tree (bench l.ast) (drop l.arm-index l.arm-items))))) (codes "endcase")

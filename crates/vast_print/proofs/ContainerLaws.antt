@@ -1,0 +1,330 @@
+-- Laws of writing the containers, functions and always blocks of the arena, and what they hold.
+use Rattle.std.proofs.Common.{◌≡◌, ◌<◌, ◌≤◌, ℕ, zero, suc, ◌+◌, Bool, true, false, List, [], ◌∷◌, length, get_or, map, drop, refl, sym, ◌∙◌, codes, arith, Option, Some, None, slice_get, All}
+use Rattle.vast_literal.specs.Tree.{Dialect, ExprTree, NoExpr, SomeExpr, Blocking, Nonblocking, Continuous, CaseWord, CaseExact, CaseZ, CaseX, Statements, NoStatements, MoreStatements, StatementTree, AssignTree, CommentTree, BlankTree, InlineTree, ConditionalTree, CaseTree, Alternates, CaseArms, Members, AssignMember, LoopMember}
+use Rattle.vast_core.specs.declared.handle.Expr.{Expr}
+use Rattle.vast_core.specs.declared.handle.VastStatement.{VastStatement}
+use Rattle.vast_core.specs.declared.handle.VastStatementBlock.{VastStatementBlock}
+use Rattle.vast_core.specs.declared.node.Assignment.{Assignment}
+use Rattle.vast_core.specs.declared.node.Statement.{Statement}
+use Rattle.vast_core.specs.declared.node.ElseIf.{ElseIf}
+use Rattle.vast_core.specs.declared.node.CaseArm.{CaseArm}
+use Rattle.vast_core.specs.declared.node.FunctionVariable.{FunctionVariable}
+use Rattle.vast_core.specs.Handles.{statement_index, conditional_index, case_index}
+use Rattle.vast_core.specs.Sound.{StatementSound}
+use Rattle.vast_core.proofs.Readers.{below-of}
+use Rattle.vast_core.specs.Bench.{Bench, OwnsStatement, tree_of, maybe_tree_of, trees_of}
+use Rattle.vast_core.specs.Nests.{StatementEntry, AssignStatement, ContinuousStatement, ConditionalStatement, CasesStatement, BlankStatement, CommentStatement, InlineStatement, NestRecord, BlockRecord, BranchRecord, SwitchRecord, RepeatRecord, statement_entry, variable_record}
+use Rattle.vast_core.specs.FileTree.{Family, BlockFamily, BranchFamily, SwitchFamily, RepeatFamily, NoFamily, family, unfolded, families, branch_statement, switch_statement, branch_member, repeat_member, form_of, assigned_tree, continuous_tree, statement_in, statements_tree, block_tree, alternates_tree, case_arms_tree, variable_tree}
+use Rattle.vast_print.specs.Bodies.{assignment_of, bare_assignment}
+use Rattle.vast_print.specs.Printed.{plain_text, ◌⊕◌}
+use Rattle.vast_print.specs.Page.{written}
+use Rattle.vast_print.specs.Ink.{Ink, word, next, hang, pour}
+use Rattle.vast_print.specs.Text.{expr_text}
+use Rattle.vast_print.specs.Words.{else_if_opening, begin_end_word, separator}
+use Rattle.vast_print.specs.Statements.{assign_sign, unique_word, case_word, label_text, is_one_assignment, is_bare_arm, statement_page, statements_page, block_page, alternates_page, arms_page, arm_page, arm_body_page}
+use Rattle.vast_print.specs.Members.{input_text, local_page, locals_page, is_casez, is_one_casez, loop_text, member_page, members_page}
+use Rattle.vast_print.proofs.Lines.{word-nothing, word-word}
+use Rattle.vast_print.proofs.InkLaws.{hang-blank, hang-written, pour-line, pour-then, pour-above-none}
+use Rattle.vast_print.proofs.WordLaws.{words}
+use Rattle.vast_print.proofs.StatementLaws.{hang-assign, pour-assign, hang-arm, hang-comment, hang-blank-statement, hang-inline, hang-conditional, hang-case, pour-no-else, pour-else, pour-block-none, pour-block, pour-arm-block}
+use Rattle.vast_print.proofs.ListLaws.{statements-end, statements-step, locals-end, locals-step, alternates-end, alternates-step, arms-end, arms-step}
+use Rattle.vast_print.proofs.SeparatedLaws.{rest_events, events-end, events-step, rest_inputs, inputs-end, inputs-step}
+use Rattle.vast_print.proofs.MemberLaws.{hang-always, pour-always-ff, pour-always-at, pour-always-comb, hang-declaration, hang-comment-member, hang-blank-member, hang-inline-member, hang-macro, hang-local, hang-function, hang-function-member, hang-body-block, hang-body-casez, hang-loop, pour-loop, pour-label-text, pour-no-label, pour-input-text}
+use Rattle.vast_print.proofs.ArenaLaws.{stops, declarations, map-map}
+
+-- assignments
+
+pub pour-assigned : (d : ℕ) (k : Ink) (nonblocking : Bool) (l r : ExprTree) →
+    pour d k (statement_page (AssignTree (form_of nonblocking) l r))
+    ≡ word (pour d (word (pour d k (written (expr_text l))) (assign_sign (form_of nonblocking))) (written (expr_text r))) (codes ";")
+pour-assigned d k true l r = rw (word-nothing k) at (pour-assign d k Nonblocking l r)
+pour-assigned d k false l r = rw (word-nothing k) at (pour-assign d k Blocking l r)
+
+pub hang-assigned : (b : Bench) (d : ℕ) (k : Ink) (o : Option Assignment) → hang d k (statement_page (assigned_tree b o)) ≡ pour d (next d k) (statement_page (assigned_tree b o))
+unfolding statement_page
+hang-assigned b d k None = hang-blank d k ∙ sym (pour-line d (next d k) [] ∙ word-nothing (next d k))
+hang-assigned b d k (Some a) = hang-written d k _
+
+-- an assignment of a module is one of a block
+pub hang-assign-same : (d : ℕ) (k : Ink) (dialect : Dialect) (l r : ExprTree) → hang d k (member_page dialect (AssignMember l r)) ≡ hang d k (statement_page (AssignTree Continuous l r))
+unfolding member_page statement_page
+hang-assign-same d k dialect l r = refl
+
+pub ruleset assignments = (hang-assign, stops)
+
+-- blocks
+
+pub pour-block-empty : (b : Bench) (d : ℕ) (k : Ink) (xs : List Statement) → length xs ≡ 0 → pour d k (block_page (statements_tree b (map statement_entry xs))) ≡ word k begin_end_word
+pour-block-empty b d k [] h = pour-block-none d k
+pour-block-empty b d k (x ∷ xs) h = absurd (omega arith)
+
+pub pour-block-full : (b : Bench) (d : ℕ) (k : Ink) (xs : List Statement) → 0 < length xs →
+    pour d k (block_page (statements_tree b (map statement_entry xs))) ≡ word (next d (hang (d + 1) (word k (codes "begin")) (statements_page (statements_tree b (map statement_entry xs))))) (codes "end")
+pour-block-full b d k [] h = absurd (omega arith)
+pour-block-full b d k (x ∷ xs) h = pour-block d k (statement_in b (families b) (statement_entry x)) (statements_tree b (map statement_entry xs))
+
+pub ruleset blocks = (pour-block-empty, pour-block-full, stops)
+
+pub ruleset statements = (hang-assigned, hang-comment, hang-blank-statement, hang-inline, stops)
+
+-- what is left of a block
+pub block-step : (b : Bench) (d : ℕ) (k : Ink) (xs : List Statement) (i : ℕ) (x : Statement) → i < length xs → x ≡ get_or xs i x →
+    hang d k (statements_page (statements_tree b (map statement_entry (drop i xs))))
+    ≡ hang d (hang d k (statement_page (statement_in b (families b) (statement_entry x)))) (statements_page (statements_tree b (map statement_entry (drop (i + 1) xs))))
+block-step b d k xs i x h e = statements-step (λ ys. statements_tree b (map statement_entry ys)) (λ y. statement_in b (families b) (statement_entry y)) (λ y ys. refl) d k xs i x h e
+
+pub block-end : (b : Bench) (d : ℕ) (k : Ink) (xs : List Statement) (i : ℕ) → length xs ≤ i → hang d k (statements_page (statements_tree b (map statement_entry (drop i xs)))) ≡ k
+block-end b d k xs i h = statements-end (λ ys. statements_tree b (map statement_entry ys)) refl d k xs i h
+
+-- conditionals
+
+pub else-ifs-step : (b : Bench) (otherwise : Option VastStatementBlock) (d : ℕ) (k : Ink) (xs : List ElseIf) (i : ℕ) (x : ElseIf) → i < length xs → x ≡ get_or xs i x →
+    pour d k (alternates_page (alternates_tree b (drop i xs) otherwise))
+    ≡ pour d (pour d (word (pour d (word k else_if_opening) (written (expr_text (tree_of b x.condition)))) (codes ") ")) (block_page (block_tree b x.block))) (alternates_page (alternates_tree b (drop (i + 1) xs) otherwise))
+else-ifs-step b otherwise d k xs i x h e =
+    alternates-step (λ ys. alternates_tree b ys otherwise) (λ y. tree_of b y.condition) (λ y. block_tree b y.block) (λ y ys. refl) d k xs i x h e
+
+pub else-ifs-end : (b : Bench) (otherwise : Option VastStatementBlock) (d : ℕ) (k : Ink) (xs : List ElseIf) (i : ℕ) → length xs ≤ i →
+    pour d k (alternates_page (alternates_tree b (drop i xs) otherwise)) ≡ pour d k (alternates_page (alternates_tree b [] otherwise))
+else-ifs-end b otherwise d k xs i h = alternates-end (λ ys. alternates_tree b ys otherwise) d k xs i h
+
+pub hang-branch : (b : Bench) (d : ℕ) (k : Ink) (i : ℕ) (c : ExprTree) (s : Statements) (rest : Alternates) → families b i ≡ BranchFamily c s rest →
+    hang d k (statement_page (branch_statement (families b i)))
+    ≡ pour d (pour d (word (pour d (word (next d k) (codes "if (")) (written (expr_text c))) (codes ") ")) (block_page s)) (alternates_page rest)
+hang-branch b d k i c s rest e = rw e (hang-conditional d k c s rest)
+
+pub ruleset conditionals = (pour-no-else, pour-else, stops)
+
+-- cases
+
+pub arms-left : (b : Bench) (w : CaseWord) (d : ℕ) (k : Ink) (xs : List CaseArm) (i : ℕ) (x : CaseArm) → i < length xs → x ≡ get_or xs i x →
+    hang d k (arms_page w (case_arms_tree b (drop i xs)))
+    ≡ hang d (hang d k (arm_page w (maybe_tree_of b x.label) (block_tree b x.block))) (arms_page w (case_arms_tree b (drop (i + 1) xs)))
+arms-left b w d k xs i x h e = arms-step w (λ ys. case_arms_tree b ys) (λ y. maybe_tree_of b y.label) (λ y. block_tree b y.block) (λ y ys. refl) d k xs i x h e
+
+pub no-arms-left : (b : Bench) (w : CaseWord) (d : ℕ) (k : Ink) (xs : List CaseArm) (i : ℕ) → length xs ≤ i → hang d k (arms_page w (case_arms_tree b (drop i xs))) ≡ k
+no-arms-left b w d k xs i h = arms-end w (λ ys. case_arms_tree b ys) refl d k xs i h
+
+pub pour-label : (d : ℕ) (k : Ink) (e : ExprTree) → pour d k (written (label_text (SomeExpr e) ⊕ plain_text (codes ": "))) ≡ word (pour d k (written (expr_text e))) (codes ": ")
+pour-label d k e = simp (pour-then, words)
+
+pub pour-default : (d : ℕ) (k : Ink) → pour d k (written (label_text NoExpr ⊕ plain_text (codes ": "))) ≡ word k (codes "default: ")
+pour-default d k = simp (pour-then, words, word-word)
+
+pub ruleset labels = (pour-label, pour-default, stops)
+
+pub hang-switch : (b : Bench) (d : ℕ) (k : Ink) (i : ℕ) (unique : Bool) (w : CaseWord) (e : ExprTree) (arms : CaseArms) → families b i ≡ SwitchFamily (CaseTree unique w e arms) →
+    hang d k (statement_page (switch_statement (families b i)))
+    ≡ word (next d (hang (d + 1) (word (pour d (word (word (next d k) (unique_word unique)) (case_word w)) (written (expr_text e))) (codes ")")) (arms_page w arms))) (codes "endcase")
+hang-switch b d k i unique w e arms h = rw h (hang-case d k unique w e arms)
+
+-- arms of one assignment
+
+there-at : {A : Type 0} (xs : List A) (i : ℕ) → i < length xs → (x : A) × (slice_get xs i ≡ Some x)
+there-at [] i h = absurd (omega arith)
+there-at (y ∷ xs) zero h = (y, refl)
+there-at (y ∷ xs) (suc i) h = there-at xs i (omega arith)
+
+assigned-there : (b : Bench) (s : VastStatement) → OwnsStatement b s → (a : Assignment) × (slice_get b.assignments (statement_index s) ≡ Some a)
+assigned-there b s h = there-at b.assignments (statement_index s) (below-of (statement_index s) (length b.assignments) h.of_kind)
+
+pour-bare : (d : ℕ) (k : Ink) (nonblocking : Bool) (l r : ExprTree) →
+    pour d k (arm_body_page CaseZ (MoreStatements (AssignTree (form_of nonblocking) l r) NoStatements)) ≡ pour d k (statement_page (AssignTree (form_of nonblocking) l r))
+unfolding arm_body_page statements_page statement_page
+pour-bare d k true l r = pour-above-none d k _
+pour-bare d k false l r = pour-above-none d k _
+
+pour-bare-assigned : (b : Bench) (d : ℕ) (k : Ink) (s : VastStatement) → OwnsStatement b s →
+    pour d k (arm_body_page CaseZ (MoreStatements (assigned_tree b (slice_get b.assignments (statement_index s))) NoStatements))
+    ≡ pour d k (statement_page (assigned_tree b (slice_get b.assignments (statement_index s))))
+pour-bare-assigned b d k s h =
+    let t = assigned-there b s h in rw t.1 (pour-bare d k t.0.nonblocking (tree_of b t.0.lhs) (tree_of b t.0.rhs))
+
+pour-bare-entry : (b : Bench) (i d : ℕ) (k : Ink) (e : StatementEntry) (s : VastStatement) → Some s ≡ assignment_of e → StatementSound b i e →
+    pour d k (arm_body_page CaseZ (MoreStatements (statement_in b (families b) e) NoStatements))
+    ≡ pour d k (statement_page (assigned_tree b (slice_get b.assignments (statement_index s))))
+pour-bare-entry b i d k (AssignStatement t) s h own = let same : s ≡ t = cc in rw same (pour-bare-assigned b d k t own)
+pour-bare-entry b i d k (ContinuousStatement t) s h own = cc
+pour-bare-entry b i d k (ConditionalStatement c) s h own = cc
+pour-bare-entry b i d k (CasesStatement c) s h own = cc
+pour-bare-entry b i d k BlankStatement s h own = cc
+pour-bare-entry b i d k (CommentStatement text) s h own = cc
+pour-bare-entry b i d k (InlineStatement text) s h own = cc
+
+pub pour-arm-bare : (b : Bench) (i d : ℕ) (k : Ink) (w : CaseWord) (xs : List Statement) (s : VastStatement) → Some s ≡ bare_assignment w (map statement_entry xs) → All (λ x. StatementSound b i (statement_entry x)) xs →
+    pour d k (arm_body_page w (statements_tree b (map statement_entry xs))) ≡ pour d k (statement_page (assigned_tree b (slice_get b.assignments (statement_index s))))
+pour-arm-bare b i d k CaseExact xs s h sound = cc
+pour-arm-bare b i d k CaseZ [] s h sound = cc
+pour-arm-bare b i d k CaseZ (x ∷ []) s h sound = pour-bare-entry b i d k (statement_entry x) s h (sound 0 x (omega arith))
+pour-arm-bare b i d k CaseZ (x ∷ y ∷ xs) s h sound = cc
+pour-arm-bare b i d k CaseX xs s h sound = cc
+
+pub bare-owned : (b : Bench) (i : ℕ) (w : CaseWord) (xs : List Statement) (s : VastStatement) → Some s ≡ bare_assignment w (map statement_entry xs) → All (λ x. StatementSound b i (statement_entry x)) xs → OwnsStatement b s
+bare-owned b i CaseExact xs s h sound = absurd cc
+bare-owned b i CaseZ [] s h sound = absurd cc
+bare-owned b i CaseZ (x ∷ []) s h sound = go (statement_entry x) h (sound 0 x (omega arith))
+  where
+    go : (e : StatementEntry) → Some s ≡ assignment_of e → StatementSound b i e → OwnsStatement b s
+    go (AssignStatement t) g own = let same : s ≡ t = cc in rw same own
+    go (ContinuousStatement t) g own = absurd cc
+    go (ConditionalStatement c) g own = absurd cc
+    go (CasesStatement c) g own = absurd cc
+    go BlankStatement g own = absurd cc
+    go (CommentStatement text) g own = absurd cc
+    go (InlineStatement text) g own = absurd cc
+bare-owned b i CaseZ (x ∷ y ∷ xs) s h sound = absurd cc
+bare-owned b i CaseX xs s h sound = absurd cc
+
+-- a statement that is no assignment
+abbrev IsOther : StatementTree → Type 0
+IsOther t = is_one_assignment (MoreStatements t NoStatements) ≡ false
+
+other-continuous : (b : Bench) (o : Option Assignment) → IsOther (continuous_tree b o)
+other-continuous b None = refl
+other-continuous b (Some a) = refl
+
+other-branch : (f : Family) → IsOther (branch_statement f)
+other-branch (BlockFamily held) = refl
+other-branch (BranchFamily c s rest) = refl
+other-branch (SwitchFamily s) = refl
+other-branch (RepeatFamily m) = refl
+other-branch NoFamily = refl
+
+other-switch-record : (b : Bench) (f : ℕ → Family) (o : Option NestRecord) → IsOther (switch_statement (family b f o))
+other-switch-record b f None = refl
+other-switch-record b f (Some (BlockRecord statements)) = refl
+other-switch-record b f (Some (BranchRecord c)) = refl
+other-switch-record b f (Some (SwitchRecord c)) = refl
+other-switch-record b f (Some (RepeatRecord l)) = refl
+
+other-unfolded : (b : Bench) (n i : ℕ) → IsOther (switch_statement (unfolded b n i))
+other-unfolded b zero i = refl
+other-unfolded b (suc n) i = other-switch-record b (unfolded b n) (slice_get b.nests i)
+
+other-switch : (b : Bench) (i : ℕ) → IsOther (switch_statement (families b i))
+unfolding families
+other-switch b i = other-unfolded b (length b.nests) i
+
+not-bare-entry : (b : Bench) (e : StatementEntry) → None ≡ assignment_of e → IsOther (statement_in b (families b) e)
+not-bare-entry b (AssignStatement t) h = cc
+not-bare-entry b (ContinuousStatement t) h = other-continuous b (slice_get b.assignments (statement_index t))
+not-bare-entry b (ConditionalStatement c) h = other-branch (families b (conditional_index c))
+not-bare-entry b (CasesStatement c) h = other-switch b (case_index c)
+not-bare-entry b BlankStatement h = refl
+not-bare-entry b (CommentStatement text) h = refl
+not-bare-entry b (InlineStatement text) h = refl
+
+not-bare : (b : Bench) (w : CaseWord) (es : List StatementEntry) → None ≡ bare_assignment w es → is_bare_arm w (statements_tree b es) ≡ false
+not-bare b CaseExact es h = refl
+not-bare b CaseZ [] h = refl
+not-bare b CaseZ (e ∷ []) h = not-bare-entry b e h
+not-bare b CaseZ (e ∷ g ∷ es) h = more (statement_in b (families b) e)
+  where
+    more : (t : StatementTree) → is_one_assignment (MoreStatements t (MoreStatements (statement_in b (families b) g) (statements_tree b es))) ≡ false
+    more (AssignTree Blocking l r) = refl
+    more (AssignTree Nonblocking l r) = refl
+    more (AssignTree Continuous l r) = refl
+    more (CommentTree text) = refl
+    more BlankTree = refl
+    more (InlineTree text) = refl
+    more (ConditionalTree c s rest) = refl
+    more (CaseTree unique u x arms) = refl
+not-bare b CaseX es h = refl
+
+pub pour-arm-full : (b : Bench) (d : ℕ) (k : Ink) (w : CaseWord) (xs : List Statement) → None ≡ bare_assignment w (map statement_entry xs) →
+    pour d k (arm_body_page w (statements_tree b (map statement_entry xs))) ≡ pour d k (block_page (statements_tree b (map statement_entry xs)))
+pour-arm-full b d k w xs h = pour-arm-block d k w (statements_tree b (map statement_entry xs)) (not-bare b w (map statement_entry xs) h)
+
+pub ruleset cases = (hang-arm, stops)
+
+-- always blocks
+
+pub events-left : (b : Bench) (d : ℕ) (k : Ink) (xs : List Expr) (i : ℕ) (x : Expr) → i < length xs → x ≡ get_or xs i x →
+    pour d k (written (rest_events i (trees_of b (drop i xs)))) ≡ pour d (pour d (word k (separator i (codes " or "))) (written (expr_text (tree_of b x)))) (written (rest_events (i + 1) (trees_of b (drop (i + 1) xs))))
+events-left b d k xs i x h e = events-step (trees_of b) (tree_of b) (λ y ys. refl) d k xs i x h e
+
+pub no-events-left : (b : Bench) (d : ℕ) (k : Ink) (xs : List Expr) (i : ℕ) → length xs ≤ i → pour d k (written (rest_events i (trees_of b (drop i xs)))) ≡ k
+no-events-left b d k xs i h = events-end (trees_of b) refl d k xs i h
+
+pub ruleset always = (hang-always, pour-always-ff, pour-always-at, pour-always-comb, stops)
+
+-- functions
+
+variables-map : (b : Bench) (xs : List FunctionVariable) → map (variable_tree b) (map variable_record xs) ≡ map (λ x. variable_tree b (variable_record x)) xs
+variables-map b xs = map-map variable_record (variable_tree b) xs
+
+pub variables-step :
+    (dialect : Dialect) (b : Bench) (d : ℕ) (k : Ink) (xs : List FunctionVariable) (i : ℕ) (x : FunctionVariable) → i < length xs → x ≡ get_or xs i x →
+    pour d k (written (rest_inputs i dialect (map (variable_tree b) (map variable_record (drop i xs)))))
+    ≡ pour d (pour d (word k (separator i (codes ", "))) (written (input_text dialect (variable_tree b (variable_record x))))) (written (rest_inputs (i + 1) dialect (map (variable_tree b) (map variable_record (drop (i + 1) xs)))))
+variables-step dialect b d k xs i x h e =
+    rw (variables-map b (drop i xs), variables-map b (drop (i + 1) xs)) (inputs-step dialect (λ y. variable_tree b (variable_record y)) d k xs i x h e)
+
+pub variables-end :
+    (dialect : Dialect) (b : Bench) (d : ℕ) (k : Ink) (xs : List FunctionVariable) (i : ℕ) → length xs ≤ i →
+    pour d k (written (rest_inputs i dialect (map (variable_tree b) (map variable_record (drop i xs))))) ≡ k
+variables-end dialect b d k xs i h = rw (variables-map b (drop i xs)) (inputs-end dialect (λ y. variable_tree b (variable_record y)) d k xs i h)
+
+pub locals-left :
+    (dialect : Dialect) (b : Bench) (d : ℕ) (k : Ink) (xs : List FunctionVariable) (i : ℕ) (x : FunctionVariable) → i < length xs → x ≡ get_or xs i x →
+    hang d k (locals_page dialect (map (variable_tree b) (map variable_record (drop i xs))))
+    ≡ hang d (hang d k (local_page dialect (variable_tree b (variable_record x)))) (locals_page dialect (map (variable_tree b) (map variable_record (drop (i + 1) xs))))
+locals-left dialect b d k xs i x h e =
+    rw (variables-map b (drop i xs), variables-map b (drop (i + 1) xs)) (locals-step dialect (λ y. variable_tree b (variable_record y)) d k xs i x h e)
+
+pub no-locals-left :
+    (dialect : Dialect) (b : Bench) (d : ℕ) (k : Ink) (xs : List FunctionVariable) (i : ℕ) → length xs ≤ i →
+    hang d k (locals_page dialect (map (variable_tree b) (map variable_record (drop i xs)))) ≡ k
+no-locals-left dialect b d k xs i h = rw (variables-map b (drop i xs)) (locals-end dialect (λ y. variable_tree b (variable_record y)) d k xs i h)
+
+-- blocks that are one casez
+
+pub casez-alone : (b : Bench) (xs : List Statement) (x : Statement) → length xs ≡ 1 → x ≡ get_or xs 0 x →
+    is_one_casez (statements_tree b (map statement_entry xs)) ≡ is_casez (statement_in b (families b) (statement_entry x))
+casez-alone b [] x h e = absurd (omega arith)
+casez-alone b (y ∷ []) x h e = rw e refl
+casez-alone b (y ∷ z ∷ xs) x h e = absurd (omega arith)
+
+pub casez-among : (b : Bench) (xs : List Statement) → (length xs ≡ 1 → ⊥) → is_one_casez (statements_tree b (map statement_entry xs)) ≡ false
+casez-among b [] h = refl
+casez-among b (y ∷ []) h = absurd (h refl)
+casez-among b (y ∷ z ∷ xs) h = refl
+
+pub no-casez-assigned : (b : Bench) (o : Option Assignment) → is_casez (assigned_tree b o) ≡ false
+no-casez-assigned b None = refl
+no-casez-assigned b (Some a) = refl
+
+pub no-casez-continuous : (b : Bench) (o : Option Assignment) → is_casez (continuous_tree b o) ≡ false
+no-casez-continuous b None = refl
+no-casez-continuous b (Some a) = refl
+
+pub no-casez-branch : (f : Family) → is_casez (branch_statement f) ≡ false
+no-casez-branch (BlockFamily held) = refl
+no-casez-branch (BranchFamily c s rest) = refl
+no-casez-branch (SwitchFamily s) = refl
+no-casez-branch (RepeatFamily m) = refl
+no-casez-branch NoFamily = refl
+
+pub ruleset functions = (hang-function-member, hang-function, hang-local, hang-body-block, hang-body-casez, pour-input-text, declarations)
+
+-- loops
+
+pub ruleset headers = (pour-loop, pour-label-text, pour-no-label, stops)
+
+pub hang-repeat : (b : Bench) (d : ℕ) (k : Ink) (dialect : Dialect) (i : ℕ) (genvar : List ℕ) (start end : ExprTree) (label : Option (List ℕ)) (ms : Members) → families b i ≡ RepeatFamily (LoopMember genvar start end label ms) →
+    hang d k (member_page dialect (repeat_member (families b i)))
+    ≡ word (next d (hang (d + 1) (pour d (next d k) (written (loop_text genvar start end label))) (members_page dialect ms))) (codes "end")
+hang-repeat b d k dialect i genvar start end label ms e = rw e (hang-loop d k dialect genvar start end label ms)
+
+-- members
+
+-- a conditional of a module is one of a block
+pub hang-branch-same : (d : ℕ) (k : Ink) (dialect : Dialect) (f : Family) → hang d k (member_page dialect (branch_member f)) ≡ hang d k (statement_page (branch_statement f))
+unfolding member_page statement_page
+hang-branch-same d k dialect (BlockFamily held) = refl
+hang-branch-same d k dialect (BranchFamily c s rest) = refl
+hang-branch-same d k dialect (SwitchFamily s) = refl
+hang-branch-same d k dialect (RepeatFamily m) = refl
+hang-branch-same d k dialect NoFamily = refl
+
+pub ruleset members = (hang-declaration, hang-assign-same, hang-comment-member, hang-blank-member, hang-inline-member, hang-macro, hang-branch-same, stops)

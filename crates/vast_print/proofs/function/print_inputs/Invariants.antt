@@ -1,0 +1,15 @@
+use Rattle.std.proofs.Common.{◌≡◌, drop, map}
+use Rattle.vast_core.specs.Kinds.{dialect_of}
+use Rattle.vast_core.specs.Nests.{variable_record}
+use Rattle.vast_core.specs.FileTree.{variable_tree}
+use Rattle.vast_core.specs.View.{bench}
+use Rattle.vast_print.specs.Ink.{Wet, pour}
+use Rattle.vast_print.specs.Page.{written}
+use Rattle.vast_print.specs.Members.{inputs_text}
+use Rattle.vast_print.proofs.SeparatedLaws.{rest_inputs}
+use Rattle.vast_print.proofs.function.print_inputs.Given as goal
+
+abbrev pub invariant-loop-i : goal.invariant-loop-i
+invariant-loop-i l =
+    pour l.depth (Wet l.fn.out) (written (inputs_text (dialect_of (bench l.ast).file_type) (map (variable_tree (bench l.ast)) (map variable_record l.inputs))))
+    ≡ pour l.depth (Wet l.out) (written (rest_inputs l.i (dialect_of (bench l.ast).file_type) (map (variable_tree (bench l.ast)) (map variable_record (drop l.i l.inputs)))))

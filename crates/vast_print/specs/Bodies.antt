@@ -1,0 +1,26 @@
+-- Blocks that stand without begin and end, by the statements that they hold.
+use Rattle.std.specs.Prelude.{List, [], ◌∷◌, Option, Some, None}
+use Rattle.vast_literal.specs.Tree.{CaseWord, CaseExact, CaseZ, CaseX}
+use Rattle.vast_core.specs.declared.handle.VastStatement.{VastStatement}
+use Rattle.vast_core.specs.Nests.{StatementEntry, AssignStatement, ContinuousStatement, ConditionalStatement, CasesStatement, BlankStatement, CommentStatement, InlineStatement}
+
+abbrev pub assignment_of : StatementEntry → Option VastStatement
+assignment_of (AssignStatement s) = Some s
+assignment_of (ContinuousStatement s) = None
+assignment_of (ConditionalStatement c) = None
+assignment_of (CasesStatement c) = None
+assignment_of BlankStatement = None
+assignment_of (CommentStatement text) = None
+assignment_of (InlineStatement text) = None
+
+-- the assignment that is all that a block holds
+abbrev pub sole_assignment : List StatementEntry → Option VastStatement
+sole_assignment [] = None
+sole_assignment (s ∷ []) = assignment_of s
+sole_assignment (s ∷ t ∷ ss) = None
+
+-- the assignment as which an arm's block stands without begin and end
+abbrev pub bare_assignment : CaseWord → List StatementEntry → Option VastStatement
+bare_assignment CaseExact statements = None
+bare_assignment CaseZ statements = sole_assignment statements
+bare_assignment CaseX statements = None

@@ -1,0 +1,82 @@
+//! Always blocks.
+
+ghost use Rattle.std.specs.Prelude.{◌≡◌, All, slice_get};
+ghost use Rattle.vast_core.specs.Kinds.{dialect_of, always_word};
+ghost use Rattle.vast_core.specs.Bench.{OwnsAlways, trees_of};
+ghost use Rattle.vast_core.specs.Handles.{always_index};
+ghost use Rattle.vast_core.specs.Sound.{EventSound};
+ghost use Rattle.vast_core.specs.FileTree.{families, always_in};
+ghost use Rattle.vast_core.specs.View.{bench};
+ghost use Rattle.vast_print.specs.Fits.{AlwaysFits};
+ghost use Rattle.vast_print.specs.Ink.{Writes, Wet, hang, pour};
+ghost use Rattle.vast_print.specs.Page.{written};
+ghost use Rattle.vast_print.specs.Members.{events_text, always_text, member_page};
+
+use crate::expression::print_expression;
+use crate::refusal::PrintFault;
+use crate::statement::print_block;
+use crate::words;
+use crate::writer::Writer;
+use vast_core::{AlwaysBlock, AlwaysKind, Ast, Expr, VastAlwaysBase};
+
+/// Writes events behind the last line.
+fn print_events(
+    ast: &Ast,
+    events: &[Expr],
+    depth: usize,
+    out: &mut Writer,
+) -> Result<(), PrintFault>
+    requires { All (EventSound (bench ast.now)) events.now }
+    ensures { Writes (pour depth (Wet out.old) (written (events_text (trees_of (bench ast.now) events.now)))) out.new result }
+{
+    for (i, event) in events.iter().enumerate() {
+        out.word(words::or_before(i))?;
+        print_expression(ast, *event, depth, out)?;
+    }
+    Ok(())
+}
+
+/// Writes the words before an always block's block behind the last line.
+#[tactic(auto, using(crate::proofs::ContainerLaws::always))]
+fn print_opening(
+    ast: &Ast,
+    node: &AlwaysBlock,
+    depth: usize,
+    out: &mut Writer,
+) -> Result<(), PrintFault>
+    requires { All (EventSound (bench ast.now)) node.now.events.items }
+    ensures { Writes (pour depth (Wet out.old) (written (always_text (always_word node.now.kind) (trees_of (bench ast.now) node.now.events.items)))) out.new result }
+{
+    match node.kind {
+        AlwaysKind::AlwaysFF => {
+            out.word(words::always_ff())?;
+            print_events(ast, &node.events, depth, out)?;
+            out.word(") ")?;
+        }
+        AlwaysKind::AlwaysAt => {
+            out.word(words::always_at())?;
+            print_events(ast, &node.events, depth, out)?;
+            out.word(") ")?;
+        }
+        AlwaysKind::AlwaysComb => out.word(words::always_comb())?,
+    }
+    Ok(())
+}
+
+/// Writes an always block on lines of its own.
+#[tactic(auto, using(crate::proofs::ContainerLaws::always))]
+pub(crate) fn print_always(
+    ast: &Ast,
+    a: VastAlwaysBase,
+    depth: usize,
+    out: &mut Writer,
+) -> Result<(), PrintFault>
+    requires owned { OwnsAlways (bench ast.now) a }
+    requires room { AlwaysFits depth (slice_get (bench ast.now).always_blocks (always_index a)) }
+    ensures { Writes (hang depth (Wet out.old) (member_page (dialect_of (bench ast.now).file_type) (always_in (bench ast.now) (families (bench ast.now)) (slice_get (bench ast.now).always_blocks (always_index a))))) out.new result }
+{
+    let node = ast.always_block(a);
+    out.next(depth)?;
+    print_opening(ast, node, depth, out)?;
+    print_block(ast, node.block, depth, out)
+}

@@ -1,0 +1,76 @@
+//! Assignments.
+
+ghost use Rattle.std.specs.Prelude.{◌≡◌, codes, slice_get};
+ghost use Rattle.vast_literal.specs.Tree.{AssignTree, Continuous};
+ghost use Rattle.vast_core.specs.Bench.{OwnsExpr, OwnsStatement, tree_of};
+ghost use Rattle.vast_core.specs.Handles.{statement_index};
+ghost use Rattle.vast_core.specs.FileTree.{assigned_tree};
+ghost use Rattle.vast_core.specs.View.{bench};
+ghost use Rattle.vast_print.specs.Ink.{Writes, Wet, word, hang, pour};
+ghost use Rattle.vast_print.specs.Page.{written};
+ghost use Rattle.vast_print.specs.Text.{expr_text};
+ghost use Rattle.vast_print.specs.Statements.{statement_page};
+
+use crate::expression::print_expression;
+use crate::refusal::PrintFault;
+use crate::words;
+use crate::writer::Writer;
+use vast_core::{Assignment, Ast, VastStatement};
+
+/// Writes both sides of an assignment behind the last line, with this sign between them.
+#[tactic(auto, using(crate::proofs::ArenaLaws::stops))]
+fn print_sides(
+    ast: &Ast,
+    assignment: &Assignment,
+    sign: &str,
+    depth: usize,
+    out: &mut Writer,
+) -> Result<(), PrintFault>
+    requires lhs { OwnsExpr (bench ast.now) assignment.now.lhs }
+    requires rhs { OwnsExpr (bench ast.now) assignment.now.rhs }
+    ensures { Writes (word (pour depth (word (pour depth (Wet out.old) (written (expr_text (tree_of (bench ast.now) assignment.now.lhs)))) sign.now) (written (expr_text (tree_of (bench ast.now) assignment.now.rhs)))) (codes ";")) out.new result }
+{
+    print_expression(ast, assignment.lhs, depth, out)?;
+    out.word(sign)?;
+    print_expression(ast, assignment.rhs, depth, out)?;
+    out.word(";")?;
+    Ok(())
+}
+
+/// Writes `assign lhs = rhs;` on a line of its own.
+#[tactic(auto, using(crate::proofs::ContainerLaws::assignments))]
+pub(crate) fn print_continuous(
+    ast: &Ast,
+    assignment: &Assignment,
+    depth: usize,
+    out: &mut Writer,
+) -> Result<(), PrintFault>
+    requires lhs { OwnsExpr (bench ast.now) assignment.now.lhs }
+    requires rhs { OwnsExpr (bench ast.now) assignment.now.rhs }
+    ensures { Writes (hang depth (Wet out.old) (statement_page (AssignTree Continuous (tree_of (bench ast.now) assignment.now.lhs) (tree_of (bench ast.now) assignment.now.rhs)))) out.new result }
+{
+    out.next(depth)?;
+    out.word("assign ")?;
+    print_sides(ast, assignment, " = ", depth, out)
+}
+
+/// Writes an assignment of a block behind the last line.
+#[tactic(auto, using(crate::proofs::ContainerLaws::assignments))]
+pub(crate) fn print_assigned(
+    ast: &Ast,
+    s: VastStatement,
+    depth: usize,
+    out: &mut Writer,
+) -> Result<(), PrintFault>
+    requires { OwnsStatement (bench ast.now) s }
+    ensures { Writes (pour depth (Wet out.old) (statement_page (assigned_tree (bench ast.now) (slice_get (bench ast.now).assignments (statement_index s))))) out.new result }
+{
+    let assignment = ast.assignment(s);
+    print_sides(
+        ast,
+        assignment,
+        words::assign_sign(assignment.nonblocking),
+        depth,
+        out,
+    )
+}

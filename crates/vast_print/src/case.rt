@@ -1,0 +1,138 @@
+//! Case statements.
+
+ghost use Rattle.std.specs.Prelude.{◌≡◌, codes, map};
+ghost use Rattle.vast_core.specs.Nodes.{OptionHolds};
+ghost use Rattle.vast_core.specs.Bench.{OwnsExpr, OwnsBlock, OwnsCase, tree_of, maybe_tree_of};
+ghost use Rattle.vast_core.specs.Handles.{block_index, case_index};
+ghost use Rattle.vast_core.specs.Kinds.{case_word as case_kind};
+ghost use Rattle.vast_core.specs.Nests.{statement_entry};
+ghost use Rattle.vast_core.specs.FileTree.{families, switch_statement, block_tree};
+ghost use Rattle.vast_core.specs.View.{bench};
+ghost use Rattle.vast_print.specs.Fits.{HasRoom};
+ghost use Rattle.vast_print.specs.Bodies.{assignment_of, bare_assignment};
+ghost use Rattle.vast_print.specs.Ink.{Writes, Wet, word, next, hang, pour};
+ghost use Rattle.vast_print.specs.Printed.{plain_text, ◌⊕◌};
+ghost use Rattle.vast_print.specs.Page.{written};
+ghost use Rattle.vast_print.specs.Text.{expr_text};
+ghost use Rattle.vast_print.specs.Statements.{unique_word, case_word, label_text, statement_page, arm_page};
+
+use crate::assignment::print_assigned;
+use crate::expression::print_expression;
+use crate::refusal::PrintFault;
+use crate::statement::print_block;
+use crate::words;
+use crate::writer::Writer;
+use vast_core::{Ast, CaseArm, CaseKind, CaseNode, CaseStatement, Expr, Statement, VastStatement};
+
+/// Writes a case statement on lines of its own.
+#[cycle(print)]
+#[tactic(auto, using(crate::proofs::ContainerLaws::cases))]
+pub(crate) fn print_case(
+    ast: &Ast,
+    c: CaseStatement,
+    depth: usize,
+    out: &mut Writer,
+) -> Result<(), PrintFault>
+    requires owned { OwnsCase (bench ast.now) c }
+    requires room { HasRoom depth (case_index c) }
+    ensures { Writes (hang depth (Wet out.old) (statement_page (switch_statement (families (bench ast.now) (case_index c))))) out.new result }
+{
+    let node = ast.case(c);
+    print_selector(ast, node, depth, out)?;
+    for arm in &node.arms {
+        print_arm(ast, node.kind, *arm, depth + 1, out)?;
+    }
+    out.next(depth)?;
+    out.word("endcase")?;
+    Ok(())
+}
+
+/// Writes an arm of a case on lines of its own; in a casez, a single assignment stands without begin and end.
+#[cycle(print)]
+#[tactic(auto, using(crate::proofs::ContainerLaws::cases))]
+fn print_arm(
+    ast: &Ast,
+    kind: CaseKind,
+    arm: CaseArm,
+    depth: usize,
+    out: &mut Writer,
+) -> Result<(), PrintFault>
+    requires label { OptionHolds (OwnsExpr (bench ast.now)) arm.label }
+    requires block { OwnsBlock (bench ast.now) arm.block }
+    requires room { HasRoom depth (block_index arm.block) }
+    ensures { Writes (hang depth (Wet out.old) (arm_page (case_kind kind) (maybe_tree_of (bench ast.now) arm.label) (block_tree (bench ast.now) arm.block))) out.new result }
+{
+    print_label(ast, arm.label, depth, out)?;
+    match bare_assignment(kind, ast.block(arm.block)) {
+        Some(s) => print_assigned(ast, s, depth, out),
+        None => print_block(ast, arm.block, depth, out),
+    }
+}
+
+/// Writes the words before a case's arms on a line of their own.
+#[tactic(auto, using(crate::proofs::ArenaLaws::stops))]
+fn print_selector(
+    ast: &Ast,
+    node: &CaseNode,
+    depth: usize,
+    out: &mut Writer,
+) -> Result<(), PrintFault>
+    requires { OwnsExpr (bench ast.now) node.now.selector }
+    ensures { Writes (word (pour depth (word (word (next depth (Wet out.old)) (unique_word node.now.unique)) (case_word (case_kind node.now.kind))) (written (expr_text (tree_of (bench ast.now) node.now.selector)))) (codes ")")) out.new result }
+{
+    out.next(depth)?;
+    out.word(words::unique(node.unique))?;
+    out.word(words::case(node.kind))?;
+    print_expression(ast, node.selector, depth, out)?;
+    out.word(")")?;
+    Ok(())
+}
+
+/// Writes the label of an arm on a line of its own.
+#[tactic(auto, using(crate::proofs::ContainerLaws::labels))]
+fn print_label(
+    ast: &Ast,
+    label: Option<Expr>,
+    depth: usize,
+    out: &mut Writer,
+) -> Result<(), PrintFault>
+    requires { OptionHolds (OwnsExpr (bench ast.now)) label }
+    ensures { Writes (pour depth (next depth (Wet out.old)) (written (label_text (maybe_tree_of (bench ast.now) label) ⊕ plain_text (codes ": ")))) out.new result }
+{
+    out.next(depth)?;
+    match label {
+        Some(e) => {
+            print_expression(ast, e, depth, out)?;
+            out.word(": ")?;
+        }
+        None => out.word("default: ")?,
+    }
+    Ok(())
+}
+
+/// The assignment that stands without begin and end in an arm that holds these statements.
+fn bare_assignment(kind: CaseKind, statements: &[Statement]) -> Option<VastStatement>
+    ensures { result ≡ bare_assignment (case_kind kind) (map statement_entry statements.now) }
+{
+    if statements.len() != 1 {
+        return None;
+    }
+    match kind {
+        CaseKind::CaseZ => assignment_of(&statements[0]),
+        CaseKind::Case | CaseKind::CaseX => None,
+    }
+}
+
+fn assignment_of(statement: &Statement) -> Option<VastStatement>
+    ensures { result ≡ assignment_of (statement_entry statement.now) }
+{
+    match statement {
+        Statement::Assignment(s) => Some(*s),
+        Statement::Continuous(_) => None,
+        Statement::Conditional(_) => None,
+        Statement::Case(_) => None,
+        Statement::BlankLine => None,
+        Statement::Comment(_) => None,
+        Statement::Inline(_) => None,
+    }
+}

@@ -1,0 +1,90 @@
+//! Generate loops.
+
+ghost use Rattle.std.specs.Prelude.{◌≡◌, codes, string_bytes};
+ghost use Rattle.vast_literal.specs.Tree.{LtOp};
+ghost use Rattle.vast_core.specs.Kinds.{dialect_of};
+ghost use Rattle.vast_core.specs.Bench.{OwnsExpr, OwnsLoop, tree_of};
+ghost use Rattle.vast_core.specs.Handles.{loop_index};
+ghost use Rattle.vast_core.specs.Nests.{label_bytes};
+ghost use Rattle.vast_core.specs.FileTree.{families, repeat_member};
+ghost use Rattle.vast_core.specs.View.{bench};
+ghost use Rattle.vast_print.specs.Fits.{HasRoom};
+ghost use Rattle.vast_print.specs.Ink.{Writes, Wet, next, hang, pour};
+ghost use Rattle.vast_print.specs.Page.{written};
+ghost use Rattle.vast_print.specs.Members.{loop_label_text, loop_text, member_page};
+
+use crate::expression::{print_expression, print_wrapped};
+use crate::levels::right_wraps;
+use crate::member::print_member;
+use crate::refusal::PrintFault;
+use crate::words;
+use crate::writer::Writer;
+use vast_core::{Ast, BinaryOperator, GenerateLoop, LoopNode};
+
+/// Writes a generate loop on lines of its own.
+#[cycle(members)]
+#[tactic(auto, using(crate::proofs::ArenaLaws::stops))]
+pub(crate) fn print_loop(
+    ast: &Ast,
+    l: GenerateLoop,
+    depth: usize,
+    out: &mut Writer,
+) -> Result<(), PrintFault>
+    requires owned { OwnsLoop (bench ast.now) l }
+    requires room { HasRoom depth (loop_index l) }
+    ensures { Writes (hang depth (Wet out.old) (member_page (dialect_of (bench ast.now).file_type) (repeat_member (families (bench ast.now) (loop_index l))))) out.new result }
+{
+    let node = ast.generate_loop(l);
+    out.next(depth)?;
+    print_header(ast, node, depth, out)?;
+    for member in &node.members {
+        print_member(ast, member, depth + 1, out)?;
+    }
+    out.next(depth)?;
+    out.word("end")?;
+    Ok(())
+}
+
+/// Writes the words before a loop's members behind the last line. The limit stands as the right child of the comparison.
+#[tactic(auto, using(crate::proofs::ContainerLaws::headers))]
+fn print_header(
+    ast: &Ast,
+    node: &LoopNode,
+    depth: usize,
+    out: &mut Writer,
+) -> Result<(), PrintFault>
+    requires start { OwnsExpr (bench ast.now) node.now.start }
+    requires limit { OwnsExpr (bench ast.now) node.now.limit }
+    ensures { Writes (pour depth (Wet out.old) (written (loop_text (string_bytes node.now.name) (tree_of (bench ast.now) node.now.start) (tree_of (bench ast.now) node.now.limit) (label_bytes node.now.label)))) out.new result }
+{
+    let wraps = right_wraps(ast, BinaryOperator::Lt, node.limit);
+    out.word(words::for_genvar())?;
+    out.written(depth, &node.name)?;
+    out.word(" = ")?;
+    print_expression(ast, node.start, depth, out)?;
+    out.word("; ")?;
+    out.written(depth, &node.name)?;
+    out.word(" < ")?;
+    print_wrapped(ast, node.limit, wraps, depth, out)?;
+    out.word("; ")?;
+    out.written(depth, &node.name)?;
+    out.word(" = ")?;
+    out.written(depth, &node.name)?;
+    out.word(words::step())?;
+    print_label(&node.label, depth, out)
+}
+
+/// Writes a loop's label behind the last line.
+#[tactic(auto, using(crate::proofs::ContainerLaws::headers))]
+fn print_label(label: &Option<String>, depth: usize, out: &mut Writer) -> Result<(), PrintFault>
+    ensures { Writes (pour depth (Wet out.old) (written (loop_label_text (label_bytes label.now)))) out.new result }
+{
+    match label {
+        Some(label) => {
+            out.word(" : ")?;
+            out.written(depth, label)?;
+            Ok(())
+        }
+        None => Ok(()),
+    }
+}
