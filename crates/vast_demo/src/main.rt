@@ -3,6 +3,8 @@
 
 mod designs;
 mod program;
+#[cfg(test)]
+mod tests;
 
 use program::run;
 use std::alloc::{AllocError, Global};

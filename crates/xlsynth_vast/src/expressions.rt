@@ -6,6 +6,4 @@ mod comparisons;
 mod lists;
 mod literals;
 mod selects;
-#[cfg(test)]
-mod tests;
 mod unary;

@@ -18,8 +18,6 @@ mod modules;
 mod parameters;
 mod ports;
 mod refusals;
-#[cfg(test)]
-mod tests;
 mod types;
 
 pub use file::VastFile;

@@ -1,6 +1,6 @@
 //! Keywords, and other words.
 
-use crate::is_system_verilog_keyword;
+use xlsynth_vast::is_system_verilog_keyword;
 
 #[test]
 fn tells_keywords_from_other_words(rt: HostRuntime) {
