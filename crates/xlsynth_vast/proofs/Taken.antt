@@ -58,7 +58,10 @@ among-none name (x ∷ xs) h =
 pub free-allowed : (kind name : List ℕ) (names : List (List ℕ)) → IsFree name names → unless_taken kind name names ≡ Ok tt
 free-allowed kind name names h = rw (not-among name names h) refl
 
-taken-case : (words name : List ℕ) (names : List (List ℕ)) (t : Bool) → is_among names name ≡ t → (IsFree name names → ⊥) → (if is_among names name then Err words else Ok tt) ≡ Err words
+abbrev unless_among : (words name : List ℕ) (names : List (List ℕ)) → Result (Unit {0}) (List ℕ)
+unless_among words name names = if is_among names name then Err words else Ok tt
+
+taken-case : (words name : List ℕ) (names : List (List ℕ)) (t : Bool) → is_among names name ≡ t → (IsFree name names → ⊥) → unless_among words name names ≡ Err words
 taken-case words name names true e h = rw e refl
 taken-case words name names false e h = absurd (h (among-none name names e))
 

@@ -10,6 +10,10 @@ abbrev pub MayBuild : {A B : Type 0} → (old new : Bench) → Result A VastFaul
 MayBuild old new (Ok x) rule answer after = IsOkAnd rule (λ made. (x ≡ answer) × (new ≡ after made))
 MayBuild old new (Err fault) rule answer after = RefusedBy rule fault × (new ≡ old)
 
+-- The rule of a call that is never refused by name.
+abbrev pub no_refusal : Result (Unit {0}) (List ℕ)
+no_refusal = Ok tt
+
 -- A call that changes nothing answers what the rule answers; or its refusal, for whose words alone memory was wanted.
 abbrev pub AnswersBy : {A : Type 0} → Result A (List ℕ) → Result A VastFault → Type 0
 AnswersBy rule (Ok x) = rule ≡ Ok x

@@ -7,7 +7,7 @@ ghost use Rattle.vast_core.specs.Bench.{OwnsModule, OwnsLoop, OwnsExpr, OwnsBloc
 ghost use Rattle.vast_core.specs.Sound.{EventSound};
 ghost use Rattle.vast_core.specs.Loops.{next_always};
 ghost use Rattle.vast_core.specs.View.{bench};
-ghost use Rattle.xlsynth_vast.specs.Refusals.{MayBuild};
+ghost use Rattle.xlsynth_vast.specs.Refusals.{MayBuild, no_refusal};
 ghost use Rattle.xlsynth_vast.specs.AlwaysBlocks.{wrong_event, unless_wrong_event, with_always_member, with_loop_always};
 ghost use Rattle.xlsynth_vast.specs.Inspections.{block_at};
 
@@ -84,7 +84,7 @@ impl VastFile {
     /// `Memory` where a growth was refused; the file is unchanged. It is never `Refused`.
     pub fn add_always_comb(&mut self, owner: VastModule) -> Result<VastAlwaysBase, VastFault>
         requires { OwnsModule (bench self.old) owner }
-        ensures { MayBuild (bench self.old) (bench self.new) result (Ok tt) (next_always (bench self.old)) (λ _. with_always_member owner AlwaysKind.AlwaysComb [] (bench self.old)) }
+        ensures { MayBuild (bench self.old) (bench self.new) result no_refusal (next_always (bench self.old)) (λ _. with_always_member owner AlwaysKind.AlwaysComb [] (bench self.old)) }
     {
         let events = Vec::new(self.ast.allocator());
         Ok(self.ast.push_always(owner, AlwaysKind::AlwaysComb, events)?)
@@ -148,7 +148,7 @@ impl VastFile {
         generate: GenerateLoop,
     ) -> Result<VastAlwaysBase, VastFault>
         requires { OwnsLoop (bench self.old) generate }
-        ensures { MayBuild (bench self.old) (bench self.new) result (Ok tt) (next_always (bench self.old)) (λ _. with_loop_always generate AlwaysKind.AlwaysComb [] (bench self.old)) }
+        ensures { MayBuild (bench self.old) (bench self.new) result no_refusal (next_always (bench self.old)) (λ _. with_loop_always generate AlwaysKind.AlwaysComb [] (bench self.old)) }
     {
         let events = Vec::new(self.ast.allocator());
         Ok(
