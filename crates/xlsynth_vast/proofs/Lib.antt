@@ -5,4 +5,5 @@ pub mod WrongEvents
 pub mod Hoisted
 pub mod Connected
 pub mod Inspected
+pub mod MemberNames
 pub mod DeclaredNames
