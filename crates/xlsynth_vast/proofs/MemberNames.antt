@@ -1,31 +1,16 @@
 -- What is read off the members of modules: names of variables, functions and their names.
-use Rattle.std.proofs.Common.{◌≡◌, ◌≢◌, ℕ, zero, suc, ◌<◌, Bool, true, false, not, IsTrue, nat_lt, List, [], ◌∷◌, ◌++◌, length, map, flat_map, take, drop, filter, Some, slice_get, refl, sym, ap, ◌∙◌, subst, arith}
-use Rattle.std.proofs.lemmas.List.{map-append}
+use Rattle.std.proofs.Common.{◌≡◌, ℕ, zero, suc, ◌<◌, Bool, true, false, not, IsTrue, nat_lt, List, [], ◌∷◌, ◌++◌, length, map, flat_map, take, drop, filter, slice_get, refl, sym, ap, ◌∙◌, arith}
 use Rattle.std.proofs.lemmas.Grind.{flat_map-append}
-use Rattle.std.specs.declared.cmp.Ordering.{Ordering}
-use Rattle.std.specs.declared.cmp.Ordering.TheVariants.{Less, Equal, Greater}
-use Rattle.std.specs.Ordering.{nat_cmp, is_eq}
-use Rattle.std.specs.Cmp.Lexicographic.{slice_cmp}
-use Rattle.std.proofs.lemmas.Map.Text.{is_eq-slice_cmp}
-use Rattle.std.proofs.lemmas.Slice.Eq.{bytes_eq-Decides}
 use Rattle.vast_core.specs.declared.handle.ModulePort.{ModulePort}
-use Rattle.vast_core.specs.declared.handle.VastModule.{VastModule}
 use Rattle.vast_core.specs.declared.handle.VastFunction.{VastFunction}
-use Rattle.vast_core.specs.declared.handle.VastDataType.{VastDataType}
-use Rattle.vast_core.specs.declared.kind.DataKind.{DataKind}
-use Rattle.vast_core.specs.declared.kind.ModulePortDirection.{ModulePortDirection}
-use Rattle.vast_core.specs.Handles.{module_index, port_index, function_index}
-use Rattle.vast_core.specs.Records.{PortRecord, ModuleRecord, MemberEntry, DeclarationEntry, AssignmentEntry, ParameterEntry, BlankEntry, CommentEntry, InlineEntry, MacroEntry, InstanceEntry, FunctionEntry, AlwaysEntry, ConditionalEntry, LoopEntry, IsFree, with_name, new_module, changed_at, with_port as with_listed_port, with_member as with_listed_member, with_named_member as with_listed_name, with_parameter_port as with_listed_parameter}
-use Rattle.vast_core.specs.Nests.{VariableRecord, FunctionRecord}
-use Rattle.vast_core.specs.Bench.{Bench, OwnsPort, NameIsFree, names_of}
-use Rattle.vast_core.specs.Sound.{Each, MemberSound, ModuleSound, RecordsSound}
-use Rattle.vast_core.specs.Functions.{with_listed_variable, with_variable}
-use Rattle.vast_core.specs.Loops.{next_function, new_function}
-use Rattle.vast_core.specs.Growth.{with_module, with_port, with_declaration, next_port, next_logic_ref}
-use Rattle.vast_core.specs.Hoisting.{is_declaration, hoisted, with_members_hoisted}
-use Rattle.vast_core.proofs.Lists.{All-cons, All-head, All-tail, Each-map, Each-push, slice_get-seam}
-use Rattle.xlsynth_vast.specs.Functions.{function_name, with_function_member}
-use Rattle.xlsynth_vast.specs.Laws.{port_name, function_name_in, variable_name, function_of, declares, declared_names, AreDistinct, DeclaresDistinctly, NamesAreDistinct, NamesStayDistinct}
+use Rattle.vast_core.specs.Handles.{port_index, function_index}
+use Rattle.vast_core.specs.Records.{PortRecord, MemberEntry, DeclarationEntry, AssignmentEntry, ParameterEntry, BlankEntry, CommentEntry, InlineEntry, MacroEntry, InstanceEntry, FunctionEntry, AlwaysEntry, ConditionalEntry, LoopEntry, changed_at}
+use Rattle.vast_core.specs.Nests.{FunctionRecord}
+use Rattle.vast_core.specs.Bench.{Bench, OwnsPort}
+use Rattle.vast_core.specs.Sound.{Each, MemberSound}
+use Rattle.vast_core.specs.Hoisting.{is_declaration, hoisted}
+use Rattle.xlsynth_vast.specs.Functions.{function_name}
+use Rattle.xlsynth_vast.specs.Laws.{port_name, function_name_in, variable_name, function_of, declares}
 
 -- What is read off each member, over lists of members.
 
