@@ -1,25 +1,31 @@
 -- The names that modules declare stay distinct.
-use Rattle.std.proofs.Common.{◌≡◌, ◌≢◌, ℕ, zero, suc, ◌<◌, false, not, IsTrue, nat_lt, List, [], ◌∷◌, ◌++◌, length, map, take, drop, filter, Some, slice_get, refl, sym, ap, ◌∙◌, subst, arith}
+use Rattle.std.proofs.Common.{◌≡◌, ◌≢◌, ℕ, zero, suc, Bool, true, false, List, [], ◌∷◌, ◌++◌, map, flat_map, Some, slice_get, refl, sym, ap, ◌∙◌, subst, arith}
 use Rattle.std.proofs.lemmas.List.{map-append}
+use Rattle.std.proofs.lemmas.Grind.{flat_map-append}
 use Rattle.std.specs.declared.cmp.Ordering.{Ordering}
 use Rattle.std.specs.declared.cmp.Ordering.TheVariants.{Less, Equal, Greater}
 use Rattle.std.specs.Ordering.{nat_cmp, is_eq}
 use Rattle.std.specs.Cmp.Lexicographic.{slice_cmp}
 use Rattle.std.proofs.lemmas.Map.Text.{is_eq-slice_cmp}
 use Rattle.std.proofs.lemmas.Slice.Eq.{bytes_eq-Decides}
-use Rattle.vast_core.specs.declared.handle.ModulePort.{ModulePort}
 use Rattle.vast_core.specs.declared.handle.VastModule.{VastModule}
+use Rattle.vast_core.specs.declared.handle.VastFunction.{VastFunction}
 use Rattle.vast_core.specs.declared.handle.VastDataType.{VastDataType}
 use Rattle.vast_core.specs.declared.kind.DataKind.{DataKind}
 use Rattle.vast_core.specs.declared.kind.ModulePortDirection.{ModulePortDirection}
-use Rattle.vast_core.specs.Handles.{module_index, port_index}
-use Rattle.vast_core.specs.Records.{PortRecord, ModuleRecord, MemberEntry, DeclarationEntry, AssignmentEntry, ParameterEntry, BlankEntry, CommentEntry, InlineEntry, MacroEntry, InstanceEntry, IsFree, with_name, new_module, changed_at, with_port as with_listed_port, with_member as with_listed_member, with_named_member as with_listed_name, with_parameter_port as with_listed_parameter}
+use Rattle.vast_core.specs.Handles.{module_index, function_index}
+use Rattle.vast_core.specs.Records.{PortRecord, ModuleRecord, MemberEntry, DeclarationEntry, FunctionEntry, IsFree, with_name, new_module, changed_at, with_port as with_listed_port, with_member as with_listed_member, with_named_member as with_listed_name, with_parameter_port as with_listed_parameter}
+use Rattle.vast_core.specs.Nests.{VariableRecord, FunctionRecord}
 use Rattle.vast_core.specs.Bench.{Bench, OwnsPort, NameIsFree, names_of}
-use Rattle.vast_core.specs.Sound.{Each, ModuleSound, RecordsSound}
+use Rattle.vast_core.specs.Sound.{Each, MemberSound, ModuleSound, RecordsSound}
+use Rattle.vast_core.specs.Functions.{with_listed_variable, with_variable}
+use Rattle.vast_core.specs.Loops.{next_function, new_function}
 use Rattle.vast_core.specs.Growth.{with_module, with_port, with_declaration, next_port, next_logic_ref}
-use Rattle.vast_core.specs.Hoisting.{is_declaration, hoisted, with_members_hoisted}
+use Rattle.vast_core.specs.Hoisting.{hoisted, with_members_hoisted}
 use Rattle.vast_core.proofs.Lists.{All-cons, All-head, All-tail, Each-map, Each-push, slice_get-seam}
-use Rattle.xlsynth_vast.specs.Laws.{port_name, variable_names, declared_names, AreDistinct, DeclaresDistinctly, NamesAreDistinct, NamesStayDistinct}
+use Rattle.xlsynth_vast.specs.Functions.{with_function_member}
+use Rattle.xlsynth_vast.specs.Laws.{port_name, function_name_in, variable_name, function_of, declares, declared_names, AreDistinct, DeclaresDistinctly, NamesAreDistinct, NamesStayDistinct}
+use Rattle.xlsynth_vast.proofs.MemberNames.{nothing-behind, nothing-declared, hoisted-variables, hoisted-functions, port-names-kept, functions-owned, function-names-kept, names-changed}
 
 -- What holds of each element, over lists that are put together.
 
@@ -83,9 +89,10 @@ apart name names h other k e = k (subst (λ n. IsFree n names) (sym e) h)
 -- A module that declares one name more, between its ports' names and its variables', or behind them.
 
 declared-more :
-    (ports more : List PortRecord) (m n : ModuleRecord) (name : List ℕ) (xs ys : List (List ℕ)) → declared_names ports m ≡ xs ++ ys → declared_names more n ≡ (xs ++ name ∷ []) ++ ys →
-    n.names ≡ with_name name m.names → IsFree name m.names → DeclaresDistinctly ports m → DeclaresDistinctly more n
-declared-more ports more m n name xs ys e f g free h =
+    (ports more : List PortRecord) (functions others : List FunctionRecord) (m n : ModuleRecord) (name : List ℕ) (xs ys : List (List ℕ)) →
+    declared_names ports functions m ≡ xs ++ ys → declared_names more others n ≡ (xs ++ name ∷ []) ++ ys →
+    n.names ≡ with_name name m.names → IsFree name m.names → DeclaresDistinctly ports functions m → DeclaresDistinctly more others n
+declared-more ports more functions more_functions m n name xs ys e f g free h =
     let P : List ℕ → Type 0 = λ d. IsFree d m.names → ⊥ in
     let Q : List ℕ → Type 0 = λ d. IsFree d (with_name name m.names) → ⊥ in
     let distinct : AreDistinct (xs ++ ys) = subst AreDistinct e h.distinct in
@@ -100,89 +107,9 @@ declared-more ports more m n name xs ys e f g free h =
 -- A module that declares the same.
 
 declared-same :
-    (ports more : List PortRecord) (m n : ModuleRecord) → declared_names more n ≡ declared_names ports m → n.names ≡ m.names → DeclaresDistinctly ports m → DeclaresDistinctly more n
-declared-same ports more m n f g h = record { distinct = rw f h.distinct; taken = rw (f, g) h.taken }
-
--- The names of variables.
-
-variables-append : (xs ys : List MemberEntry) → variable_names (xs ++ ys) ≡ variable_names xs ++ variable_names ys
-variables-append [] ys = refl
-variables-append (DeclarationEntry kind name data_type ∷ xs) ys = ap (λ r. name ∷ r) (variables-append xs ys)
-variables-append (AssignmentEntry a ∷ xs) ys = variables-append xs ys
-variables-append (ParameterEntry local form value ∷ xs) ys = variables-append xs ys
-variables-append (BlankEntry ∷ xs) ys = variables-append xs ys
-variables-append (CommentEntry a ∷ xs) ys = variables-append xs ys
-variables-append (InlineEntry a ∷ xs) ys = variables-append xs ys
-variables-append (MacroEntry a ∷ xs) ys = variables-append xs ys
-variables-append (InstanceEntry i ∷ xs) ys = variables-append xs ys
-
-no-variable : (entry : MemberEntry) → is_declaration entry ≡ false → variable_names (entry ∷ []) ≡ []
-no-variable (DeclarationEntry kind name data_type) h = cc
-no-variable (AssignmentEntry a) h = refl
-no-variable (ParameterEntry local form value) h = refl
-no-variable BlankEntry h = refl
-no-variable (CommentEntry a) h = refl
-no-variable (InlineEntry a) h = refl
-no-variable (MacroEntry a) h = refl
-no-variable (InstanceEntry i) h = refl
-
--- Declarations alone have the names of all, and the others none.
-
-first-variables : (xs : List MemberEntry) → variable_names (filter is_declaration xs) ≡ variable_names xs
-first-variables [] = refl
-first-variables (DeclarationEntry kind name data_type ∷ xs) = ap (λ r. name ∷ r) (first-variables xs)
-first-variables (AssignmentEntry a ∷ xs) = first-variables xs
-first-variables (ParameterEntry local form value ∷ xs) = first-variables xs
-first-variables (BlankEntry ∷ xs) = first-variables xs
-first-variables (CommentEntry a ∷ xs) = first-variables xs
-first-variables (InlineEntry a ∷ xs) = first-variables xs
-first-variables (MacroEntry a ∷ xs) = first-variables xs
-first-variables (InstanceEntry i ∷ xs) = first-variables xs
-
-other-variables : (xs : List MemberEntry) → variable_names (filter (λ x. not (is_declaration x)) xs) ≡ []
-other-variables [] = refl
-other-variables (DeclarationEntry kind name data_type ∷ xs) = other-variables xs
-other-variables (AssignmentEntry a ∷ xs) = other-variables xs
-other-variables (ParameterEntry local form value ∷ xs) = other-variables xs
-other-variables (BlankEntry ∷ xs) = other-variables xs
-other-variables (CommentEntry a ∷ xs) = other-variables xs
-other-variables (InlineEntry a ∷ xs) = other-variables xs
-other-variables (MacroEntry a ∷ xs) = other-variables xs
-other-variables (InstanceEntry i ∷ xs) = other-variables xs
-
-nothing-behind : {A : Type 0} (xs : List A) → xs ++ [] ≡ xs
-nothing-behind [] = refl
-nothing-behind (x ∷ xs) = ap (λ r. x ∷ r) (nothing-behind xs)
-
-parted-again : {A : Type 0} (n : ℕ) (xs : List A) → take n xs ++ drop n xs ≡ xs
-parted-again zero xs = refl
-parted-again (suc n) [] = refl
-parted-again (suc n) (x ∷ xs) = ap (λ r. x ∷ r) (parted-again n xs)
-
-hoisted-variables : (n : ℕ) (xs : List MemberEntry) → variable_names (hoisted n xs) ≡ variable_names xs
-hoisted-variables n xs =
-    let ds : List MemberEntry = drop n xs in
-    variables-append (take n xs) (filter is_declaration ds ++ filter (λ x. not (is_declaration x)) ds)
-    ∙ (ap (λ r. variable_names (take n xs) ++ r)
-    (variables-append (filter is_declaration ds) (filter (λ x. not (is_declaration x)) ds)
-    ∙ (ap (λ r. variable_names (filter is_declaration ds) ++ r) (other-variables ds)
-    ∙ (nothing-behind (variable_names (filter is_declaration ds)) ∙ first-variables ds)))
-    ∙ (sym (variables-append (take n xs) ds) ∙ ap variable_names (parted-again n xs)))
-
--- The names of ports.
-
-below-append : {A : Type 0} (xs ys : List A) (i : ℕ) → i < length xs → slice_get (xs ++ ys) i ≡ slice_get xs i
-below-append [] ys i h = absurd (omega arith)
-below-append (x ∷ xs) ys zero h = refl
-below-append (x ∷ xs) ys (suc i) h = below-append xs ys i (omega arith)
-
-lt-of : (a b : ℕ) → IsTrue (nat_lt a b) → a < b
-lt-of a b h = grind arith
-
-port-names-kept : (b : Bench) (r : PortRecord) (ps : List ModulePort) → Each (OwnsPort b) ps → map (port_name (b.ports ++ r ∷ [])) ps ≡ map (port_name b.ports) ps
-port-names-kept b r [] h = refl
-port-names-kept b r (p ∷ ps) h =
-    rw (below-append b.ports (r ∷ []) (port_index p) (lt-of (port_index p) (length b.ports) h.0.of_kind)) (ap (λ x. port_name b.ports p ∷ x) (port-names-kept b r ps h.1))
+    (ports more : List PortRecord) (functions others : List FunctionRecord) (m n : ModuleRecord) → declared_names more others n ≡ declared_names ports functions m → n.names ≡ m.names →
+    DeclaresDistinctly ports functions m → DeclaresDistinctly more others n
+declared-same ports more functions others m n f g h = record { distinct = rw f h.distinct; taken = rw (f, g) h.taken }
 
 -- Modules, of which one has changed.
 
@@ -200,26 +127,31 @@ free-there : (b : Bench) (owner : VastModule) (name : List ℕ) (x : ModuleRecor
 free-there b owner name x e h = subst (λ o. IsFree name (names_of o)) e h
 
 changed-same :
-    (ports : List PortRecord) (modules : List ModuleRecord) (i : ℕ) (f : ModuleRecord → ModuleRecord) → ((x : ModuleRecord) → declared_names ports (f x) ≡ declared_names ports x) →
-    ((x : ModuleRecord) → (f x).names ≡ x.names) → Each (DeclaresDistinctly ports) modules → Each (DeclaresDistinctly ports) (changed_at i f modules)
-changed-same ports modules i f k l h =
-    Each-changed (DeclaresDistinctly ports) (DeclaresDistinctly ports) f modules i (λ x d. d) (λ x e d. declared-same ports ports x (f x) (k x) (l x) d) h
+    (ports : List PortRecord) (functions : List FunctionRecord) (modules : List ModuleRecord) (i : ℕ) (f : ModuleRecord → ModuleRecord) →
+    ((x : ModuleRecord) → declared_names ports functions (f x) ≡ declared_names ports functions x) → ((x : ModuleRecord) → (f x).names ≡ x.names) →
+    Each (DeclaresDistinctly ports functions) modules → Each (DeclaresDistinctly ports functions) (changed_at i f modules)
+changed-same ports functions modules i f k l h =
+    Each-changed (DeclaresDistinctly ports functions) (DeclaresDistinctly ports functions) f modules i (λ x d. d) (λ x e d. declared-same ports ports functions functions x (f x) (k x) (l x) d) h
 
 -- The growths.
 
 with-module : (b : Bench) (name : List ℕ) → NamesAreDistinct b → NamesAreDistinct (with_module name b)
-with-module b name h = Each-push (DeclaresDistinctly b.ports) b.modules (new_module name) h (record { distinct = tt; taken = tt })
+with-module b name h = Each-push (DeclaresDistinctly b.ports b.functions) b.modules (new_module name) h (record { distinct = tt; taken = tt })
 
 abbrev grown : Bench → ModulePortDirection → DataKind → List ℕ → VastDataType → PortRecord
 grown b direction kind name data_type = record { direction = direction; kind = kind; name = name; data_type = data_type; logic_ref = next_logic_ref b }
 
+-- The names of what a module's members declare.
+abbrev inner_names : List FunctionRecord → List MemberEntry → List (List ℕ)
+inner_names functions ms = flat_map variable_name ms ++ map (function_name_in functions) (flat_map function_of ms)
+
 port-declared :
     (b : Bench) (r : PortRecord) (x : ModuleRecord) → Each (OwnsPort b) x.ports →
-    declared_names (b.ports ++ r ∷ []) (with_listed_port (next_port b) r.name x) ≡ (map (port_name b.ports) x.ports ++ r.name ∷ []) ++ variable_names x.members
+    declared_names (b.ports ++ r ∷ []) b.functions (with_listed_port (next_port b) r.name x) ≡ (map (port_name b.ports) x.ports ++ r.name ∷ []) ++ inner_names b.functions x.members
 port-declared b r x h =
     let ports : List PortRecord = b.ports ++ r ∷ [] in
     let last : port_name ports (next_port b) ≡ r.name = rw (slice_get-seam b.ports r) refl in
-    ap (λ (names : List (List ℕ)). names ++ variable_names x.members)
+    ap (λ (names : List (List ℕ)). names ++ inner_names b.functions x.members)
     (map-append (port_name ports) x.ports (next_port b ∷ [])
     ∙ (ap (λ (names : List (List ℕ)). names ++ port_name ports (next_port b) ∷ []) (port-names-kept b r x.ports h)
     ∙ ap (λ (n : List ℕ). map (port_name b.ports) x.ports ++ n ∷ []) last))
@@ -230,42 +162,120 @@ with-port :
 with-port b owner direction kind name data_type s free h =
     let r : PortRecord = grown b direction kind name data_type in
     let ports : List PortRecord = b.ports ++ r ∷ [] in
-    let P : ModuleRecord → Type 0 = λ x. DeclaresDistinctly b.ports x × ModuleSound b x in
-    Each-changed P (DeclaresDistinctly ports) (with_listed_port (next_port b) name) b.modules (module_index owner)
-    (λ x d. declared-same b.ports ports x x (ap (λ (names : List (List ℕ)). names ++ variable_names x.members) (port-names-kept b r x.ports d.1.ports)) refl d.0)
-    (λ x e d. declared-more b.ports ports x (with_listed_port (next_port b) name x) name (map (port_name b.ports) x.ports) (variable_names x.members) refl (port-declared b r x d.1.ports) refl (free-there b owner name x e free) d.0)
-    (Each-both (DeclaresDistinctly b.ports) (ModuleSound b) b.modules h s.modules)
+    let P : ModuleRecord → Type 0 = λ x. DeclaresDistinctly b.ports b.functions x × ModuleSound b x in
+    Each-changed P (DeclaresDistinctly ports b.functions) (with_listed_port (next_port b) name) b.modules (module_index owner)
+    (λ x d. declared-same b.ports ports b.functions b.functions x x (ap (λ (names : List (List ℕ)). names ++ inner_names b.functions x.members) (port-names-kept b r x.ports d.1.ports)) refl d.0)
+    (λ x e d. declared-more b.ports ports b.functions b.functions x (with_listed_port (next_port b) name x) name (map (port_name b.ports) x.ports) (inner_names b.functions x.members) refl (port-declared b r x d.1.ports) refl (free-there b owner name x e free) d.0)
+    (Each-both (DeclaresDistinctly b.ports b.functions) (ModuleSound b) b.modules h s.modules)
 
-append-one : {A : Type 0} (xs ys : List A) (y : A) → xs ++ (ys ++ y ∷ []) ≡ ((xs ++ ys) ++ y ∷ []) ++ []
-append-one [] ys y = sym (nothing-behind (ys ++ y ∷ []))
-append-one (x ∷ xs) ys y = ap (λ r. x ∷ r) (append-one xs ys y)
+-- A name behind those in the middle, and a name behind all.
+
+between : {A : Type 0} (xs ys zs : List A) (y : A) → xs ++ ((ys ++ y ∷ []) ++ zs) ≡ ((xs ++ ys) ++ y ∷ []) ++ zs
+between [] ys zs y = refl
+between (x ∷ xs) ys zs y = ap (λ r. x ∷ r) (between xs ys zs y)
+
+regrouped : {A : Type 0} (xs ys zs : List A) → xs ++ (ys ++ zs) ≡ (xs ++ ys) ++ zs
+regrouped [] ys zs = refl
+regrouped (x ∷ xs) ys zs = ap (λ r. x ∷ r) (regrouped xs ys zs)
+
+append-one : {A : Type 0} (xs ys zs : List A) (y : A) → xs ++ (ys ++ (zs ++ y ∷ [])) ≡ ((xs ++ (ys ++ zs)) ++ y ∷ []) ++ []
+append-one [] [] zs y = sym (nothing-behind (zs ++ y ∷ []))
+append-one [] (x ∷ ys) zs y = ap (λ r. x ∷ r) (append-one [] ys zs y)
+append-one (x ∷ xs) ys zs y = ap (λ r. x ∷ r) (append-one xs ys zs y)
 
 variable-declared :
-    (ports : List PortRecord) (kind : DataKind) (name : List ℕ) (data_type : VastDataType) (x : ModuleRecord) →
-    declared_names ports (with_listed_name (DeclarationEntry kind name data_type) name x) ≡ ((map (port_name ports) x.ports ++ variable_names x.members) ++ name ∷ []) ++ []
-variable-declared ports kind name data_type x =
-    ap (λ (names : List (List ℕ)). map (port_name ports) x.ports ++ names) (variables-append x.members (DeclarationEntry kind name data_type ∷ []))
-    ∙ append-one (map (port_name ports) x.ports) (variable_names x.members) name
+    (ports : List PortRecord) (functions : List FunctionRecord) (kind : DataKind) (name : List ℕ) (data_type : VastDataType) (x : ModuleRecord) →
+    declared_names ports functions (with_listed_name (DeclarationEntry kind name data_type) name x)
+    ≡ ((map (port_name ports) x.ports ++ flat_map variable_name x.members) ++ name ∷ []) ++ map (function_name_in functions) (flat_map function_of x.members)
+variable-declared ports functions kind name data_type x =
+    let entry : MemberEntry = DeclarationEntry kind name data_type in
+    let variables : flat_map variable_name (x.members ++ entry ∷ []) ≡ flat_map variable_name x.members ++ name ∷ [] = flat_map-append variable_name x.members (entry ∷ []) in
+    let same : flat_map function_of (x.members ++ entry ∷ []) ≡ flat_map function_of x.members = flat_map-append function_of x.members (entry ∷ []) ∙ nothing-behind (flat_map function_of x.members) in
+    ap (λ (names : List (List ℕ)). map (port_name ports) x.ports ++ (names ++ map (function_name_in functions) (flat_map function_of (x.members ++ entry ∷ [])))) variables
+    ∙ (ap (λ (fs : List VastFunction). map (port_name ports) x.ports ++ ((flat_map variable_name x.members ++ name ∷ []) ++ map (function_name_in functions) fs)) same
+    ∙ between (map (port_name ports) x.ports) (flat_map variable_name x.members) (map (function_name_in functions) (flat_map function_of x.members)) name)
 
 with-declaration :
     (b : Bench) (owner : VastModule) (kind : DataKind) (name : List ℕ) (data_type : VastDataType) →
     NameIsFree b owner name → NamesAreDistinct b → NamesAreDistinct (with_declaration owner kind name data_type b)
 with-declaration b owner kind name data_type free h =
     let f : ModuleRecord → ModuleRecord = with_listed_name (DeclarationEntry kind name data_type) name in
-    Each-changed (DeclaresDistinctly b.ports) (DeclaresDistinctly b.ports) f b.modules (module_index owner) (λ x d. d)
-    (λ x e d. declared-more b.ports b.ports x (f x) name (declared_names b.ports x) [] (sym (nothing-behind (declared_names b.ports x))) (variable-declared b.ports kind name data_type x) refl (free-there b owner name x e free) d)
+    let first : ModuleRecord → List (List ℕ) = λ x. map (port_name b.ports) x.ports ++ flat_map variable_name x.members in
+    let last : ModuleRecord → List (List ℕ) = λ x. map (function_name_in b.functions) (flat_map function_of x.members) in
+    Each-changed (DeclaresDistinctly b.ports b.functions) (DeclaresDistinctly b.ports b.functions) f b.modules (module_index owner) (λ x d. d)
+    (λ x e d. declared-more b.ports b.ports b.functions b.functions x (f x) name (first x) (last x) (regrouped (map (port_name b.ports) x.ports) (flat_map variable_name x.members) (last x)) (variable-declared b.ports b.functions kind name data_type x) refl (free-there b owner name x e free) d)
     h
 
-member-declared : (ports : List PortRecord) (entry : MemberEntry) (x : ModuleRecord) → is_declaration entry ≡ false → declared_names ports (with_listed_member entry x) ≡ declared_names ports x
-member-declared ports entry x h =
-    ap (λ (names : List (List ℕ)). map (port_name ports) x.ports ++ names)
-    (variables-append x.members (entry ∷ []) ∙ (ap (λ (names : List (List ℕ)). variable_names x.members ++ names) (no-variable entry h) ∙ nothing-behind (variable_names x.members)))
+function-declared :
+    (b : Bench) (r : FunctionRecord) (x : ModuleRecord) → Each (MemberSound b) x.members →
+    declared_names b.ports (b.functions ++ r ∷ []) (with_listed_name (FunctionEntry (next_function b)) r.name x) ≡ (declared_names b.ports b.functions x ++ r.name ∷ []) ++ []
+function-declared b r x h =
+    let entry : MemberEntry = FunctionEntry (next_function b) in
+    let functions : List FunctionRecord = b.functions ++ r ∷ [] in
+    let fs : List VastFunction = flat_map function_of x.members in
+    let variables : flat_map variable_name (x.members ++ entry ∷ []) ≡ flat_map variable_name x.members = flat_map-append variable_name x.members (entry ∷ []) ∙ nothing-behind (flat_map variable_name x.members) in
+    let more : flat_map function_of (x.members ++ entry ∷ []) ≡ fs ++ next_function b ∷ [] = flat_map-append function_of x.members (entry ∷ []) in
+    let last : function_name_in functions (next_function b) ≡ r.name = rw (slice_get-seam b.functions r) refl in
+    let names : map (function_name_in functions) (flat_map function_of (x.members ++ entry ∷ [])) ≡ map (function_name_in b.functions) fs ++ r.name ∷ [] =
+    ap (map (function_name_in functions)) more
+    ∙ (map-append (function_name_in functions) fs (next_function b ∷ [])
+    ∙ (ap (λ (ns : List (List ℕ)). ns ++ function_name_in functions (next_function b) ∷ []) (function-names-kept b r fs (functions-owned b x.members h))
+    ∙ ap (λ (n : List ℕ). map (function_name_in b.functions) fs ++ n ∷ []) last)) in
+    ap (λ (ns : List (List ℕ)). map (port_name b.ports) x.ports ++ (ns ++ map (function_name_in functions) (flat_map function_of (x.members ++ entry ∷ [])))) variables
+    ∙ (ap (λ (ns : List (List ℕ)). map (port_name b.ports) x.ports ++ (flat_map variable_name x.members ++ ns)) names
+    ∙ append-one (map (port_name b.ports) x.ports) (flat_map variable_name x.members) (map (function_name_in b.functions) fs) r.name)
 
-hoisted-declared : (ports : List PortRecord) (start : ℕ) (x : ModuleRecord) → declared_names ports (with_members_hoisted start x) ≡ declared_names ports x
-hoisted-declared ports start x = ap (λ (names : List (List ℕ)). map (port_name ports) x.ports ++ names) (hoisted-variables start x.members)
+function-elsewhere : (b : Bench) (r : FunctionRecord) (x : ModuleRecord) → Each (MemberSound b) x.members → declared_names b.ports (b.functions ++ r ∷ []) x ≡ declared_names b.ports b.functions x
+function-elsewhere b r x h =
+    ap (λ (ns : List (List ℕ)). map (port_name b.ports) x.ports ++ (flat_map variable_name x.members ++ ns)) (function-names-kept b r (flat_map function_of x.members) (functions-owned b x.members h))
 
-otherwise-same : (b c : Bench) → c.modules ≡ b.modules → c.ports ≡ b.ports → NamesAreDistinct b → NamesAreDistinct c
-otherwise-same b c e f h = rw (e, f) h
+with-function :
+    (b : Bench) (owner : VastModule) (name : List ℕ) (result_type : VastDataType) →
+    RecordsSound b → NameIsFree b owner name → NamesAreDistinct b → NamesAreDistinct (with_function_member owner name result_type b)
+with-function b owner name result_type s free h =
+    let r : FunctionRecord = new_function b name result_type in
+    let functions : List FunctionRecord = b.functions ++ r ∷ [] in
+    let f : ModuleRecord → ModuleRecord = with_listed_name (FunctionEntry (next_function b)) name in
+    let P : ModuleRecord → Type 0 = λ x. DeclaresDistinctly b.ports b.functions x × ModuleSound b x in
+    Each-changed P (DeclaresDistinctly b.ports functions) f b.modules (module_index owner)
+    (λ x d. declared-same b.ports b.ports b.functions functions x x (function-elsewhere b r x d.1.members) refl d.0)
+    (λ x e d. declared-more b.ports b.ports b.functions functions x (f x) name (declared_names b.ports b.functions x) [] (sym (nothing-behind (declared_names b.ports b.functions x))) (function-declared b r x d.1.members) refl (free-there b owner name x e free) d.0)
+    (Each-both (DeclaresDistinctly b.ports b.functions) (ModuleSound b) b.modules h s.modules)
+
+listed-name : (local : Bool) (v : VariableRecord) (r : FunctionRecord) → (with_listed_variable local v r).name ≡ r.name
+listed-name false v r = refl
+listed-name true v r = refl
+
+with-function-variable : (b : Bench) (f : VastFunction) (local : Bool) (v : VariableRecord) → NamesAreDistinct b → NamesAreDistinct (with_variable f local v b)
+with-function-variable b f local v h =
+    let functions : List FunctionRecord = changed_at (function_index f) (with_listed_variable local v) b.functions in
+    let same : (x : ModuleRecord) → declared_names b.ports functions x ≡ declared_names b.ports b.functions x =
+    λ x. ap (λ (ns : List (List ℕ)). map (port_name b.ports) x.ports ++ (flat_map variable_name x.members ++ ns)) (names-changed (with_listed_variable local v) (listed-name local v) b.functions (function_index f) (flat_map function_of x.members)) in
+    Each-map (λ x d. declared-same b.ports b.ports b.functions functions x x (same x) refl d) b.modules h
+
+-- The same variables and the same functions are the same names.
+read-same :
+    (ports : List PortRecord) (functions : List FunctionRecord) (x : ModuleRecord) (ms : List MemberEntry) → flat_map variable_name ms ≡ flat_map variable_name x.members →
+    flat_map function_of ms ≡ flat_map function_of x.members → map (port_name ports) x.ports ++ inner_names functions ms ≡ declared_names ports functions x
+read-same ports functions x ms e f =
+    ap (λ (ns : List (List ℕ)). map (port_name ports) x.ports ++ (ns ++ map (function_name_in functions) (flat_map function_of ms))) e
+    ∙ ap (λ (fs : List VastFunction). map (port_name ports) x.ports ++ (flat_map variable_name x.members ++ map (function_name_in functions) fs)) f
+
+member-declared :
+    (ports : List PortRecord) (functions : List FunctionRecord) (entry : MemberEntry) (x : ModuleRecord) → declares entry ≡ false → declared_names ports functions (with_listed_member entry x) ≡ declared_names ports functions x
+member-declared ports functions entry x h =
+    let none = nothing-declared entry h in
+    let variables : flat_map variable_name (x.members ++ entry ∷ []) ≡ flat_map variable_name x.members =
+    flat_map-append variable_name x.members (entry ∷ []) ∙ (ap (λ (ns : List (List ℕ)). flat_map variable_name x.members ++ (ns ++ [])) none.0 ∙ nothing-behind (flat_map variable_name x.members)) in
+    let fs : flat_map function_of (x.members ++ entry ∷ []) ≡ flat_map function_of x.members =
+    flat_map-append function_of x.members (entry ∷ []) ∙ (ap (λ (ns : List VastFunction). flat_map function_of x.members ++ (ns ++ [])) none.1 ∙ nothing-behind (flat_map function_of x.members)) in
+    read-same ports functions x (x.members ++ entry ∷ []) variables fs
+
+hoisted-declared : (ports : List PortRecord) (functions : List FunctionRecord) (start : ℕ) (x : ModuleRecord) → declared_names ports functions (with_members_hoisted start x) ≡ declared_names ports functions x
+hoisted-declared ports functions start x = read-same ports functions x (hoisted start x.members) (hoisted-variables start x.members) (hoisted-functions start x.members)
+
+otherwise-same : (b c : Bench) → c.modules ≡ b.modules → c.ports ≡ b.ports → c.functions ≡ b.functions → NamesAreDistinct b → NamesAreDistinct c
+otherwise-same b c e f g h = rw (e, f, g) h
 
 pub names-stay-distinct : NamesStayDistinct
 names-stay-distinct = record {
@@ -273,8 +283,10 @@ names-stay-distinct = record {
   with_a_module = with-module;
   with_a_port = with-port;
   with_a_declaration = with-declaration;
-  with_another_member = λ b owner entry e h. changed-same b.ports b.modules (module_index owner) (with_listed_member entry) (λ x. member-declared b.ports entry x e) (λ x. refl) h;
-  with_a_header_parameter = λ b owner p h. changed-same b.ports b.modules (module_index owner) (with_listed_parameter p) (λ x. refl) (λ x. refl) h;
-  with_declarations_hoisted = λ b owner start h. changed-same b.ports b.modules (module_index owner) (with_members_hoisted start) (λ x. hoisted-declared b.ports start x) (λ x. refl) h;
+  with_a_function = with-function;
+  with_a_variable_of_a_function = with-function-variable;
+  with_another_member = λ b owner entry e h. changed-same b.ports b.functions b.modules (module_index owner) (with_listed_member entry) (λ x. member-declared b.ports b.functions entry x e) (λ x. refl) h;
+  with_a_header_parameter = λ b owner p h. changed-same b.ports b.functions b.modules (module_index owner) (with_listed_parameter p) (λ x. refl) (λ x. refl) h;
+  with_declarations_hoisted = λ b owner start h. changed-same b.ports b.functions b.modules (module_index owner) (with_members_hoisted start) (λ x. hoisted-declared b.ports b.functions start x) (λ x. refl) h;
   otherwise = otherwise-same;
 }

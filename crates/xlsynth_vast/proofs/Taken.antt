@@ -1,5 +1,5 @@
 -- Laws of taken names, and of their list.
-use Rattle.std.proofs.Common.{◌≡◌, ◌≢◌, ℕ, List, [], ◌∷◌, ◌++◌, Bool, true, false, ◌||◌, IsTrue, map, Some, slice_get, Result, Ok, Err, refl, sym, ap, ◌∙◌, arith}
+use Rattle.std.proofs.Common.{◌≡◌, ◌≢◌, ℕ, List, [], ◌∷◌, ◌++◌, Bool, true, false, ◌||◌, IsTrue, map, Some, slice_get, Result, Ok, Err, refl, sym, ap, ◌∙◌, arith, if◌then◌else◌}
 use Rattle.std.specs.Prelude.{IsErrAnd, MatchResult, alloc_error}
 use Rattle.std.specs.List.{join_by, flat_map}
 use Rattle.std.specs.Str.{bytes_eq}
@@ -9,11 +9,14 @@ use Rattle.vast_literal.specs.declared.error.VastFault.{VastFault}
 use Rattle.vast_literal.specs.declared.error.VastFault.TheVariants.{Memory}
 use Rattle.vast_literal.specs.Fault.{OnlyRefusedBy}
 use Rattle.vast_core.specs.declared.handle.VastModule.{VastModule}
-use Rattle.vast_core.specs.Handles.{module_index}
-use Rattle.vast_core.specs.Bench.{Bench}
+use Rattle.vast_core.specs.declared.handle.VastFunction.{VastFunction}
+use Rattle.vast_core.specs.Handles.{module_index, function_index}
+use Rattle.vast_core.specs.Bench.{Bench, IsFreeInFunction}
 use Rattle.vast_core.specs.Records.{ModuleRecord, IsFree}
+use Rattle.vast_core.specs.Nests.{FunctionRecord}
 use Rattle.vast_core.proofs.Lists.{All-cons, All-head, All-tail}
 use Rattle.xlsynth_vast.specs.Declarations.{names_in, already_declared, unless_taken}
+use Rattle.xlsynth_vast.specs.Functions.{declared_in_function, unless_taken_in_function}
 
 -- The names that are written are those that stand behind references.
 
@@ -55,12 +58,15 @@ among-none name (x ∷ xs) h =
 pub free-allowed : (kind name : List ℕ) (names : List (List ℕ)) → IsFree name names → unless_taken kind name names ≡ Ok tt
 free-allowed kind name names h = rw (not-among name names h) refl
 
-taken-case : (kind name : List ℕ) (names : List (List ℕ)) (t : Bool) → is_among names name ≡ t → (IsFree name names → ⊥) → unless_taken kind name names ≡ Err (already_declared kind name names)
-taken-case kind name names true e h = rw e refl
-taken-case kind name names false e h = absurd (h (among-none name names e))
+abbrev unless_among : (words name : List ℕ) (names : List (List ℕ)) → Result (Unit {0}) (List ℕ)
+unless_among words name names = if is_among names name then Err words else Ok tt
+
+taken-case : (words name : List ℕ) (names : List (List ℕ)) (t : Bool) → is_among names name ≡ t → (IsFree name names → ⊥) → unless_among words name names ≡ Err words
+taken-case words name names true e h = rw e refl
+taken-case words name names false e h = absurd (h (among-none name names e))
 
 pub taken-refused : (kind name : List ℕ) (names : List (List ℕ)) → (IsFree name names → ⊥) → unless_taken kind name names ≡ Err (already_declared kind name names)
-taken-refused kind name names h = taken-case kind name names (is_among names name) refl h
+taken-refused kind name names h = taken-case (already_declared kind name names) name names (is_among names name) refl h
 
 -- The same of the record that a module has.
 
@@ -69,6 +75,19 @@ allowed_there kind name b m r e h = rw e (free-allowed kind name r.names h)
 
 pub refused_there : (kind name : List ℕ) (b : Bench) (m : VastModule) (r : ModuleRecord) → slice_get b.modules (module_index m) ≡ Some r → (IsFree name r.names → ⊥) → unless_taken kind name (names_in b m) ≡ Err (already_declared kind name r.names)
 refused_there kind name b m r e h = rw e (taken-refused kind name r.names h)
+
+-- The same of the record that a function has.
+
+pub allowed_in_function : (kind name : List ℕ) (b : Bench) (f : VastFunction) (r : FunctionRecord) → slice_get b.functions (function_index f) ≡ Some r → IsFree name r.names → unless_taken_in_function kind name b f ≡ Ok tt
+allowed_in_function kind name b f r e h = rw e (rw (not-among name r.names h) refl)
+
+pub refused_in_function :
+    (kind name : List ℕ) (b : Bench) (f : VastFunction) (r : FunctionRecord) → slice_get b.functions (function_index f) ≡ Some r → (IsFree name r.names → ⊥) →
+    unless_taken_in_function kind name b f ≡ Err (declared_in_function kind name r.name r.names)
+refused_in_function kind name b f r e h = rw e (taken-case (declared_in_function kind name r.name r.names) name r.names (is_among r.names name) refl h)
+
+pub free_in_function : (name : List ℕ) (b : Bench) (f : VastFunction) (r : FunctionRecord) → slice_get b.functions (function_index f) ≡ Some r → IsFree name r.names → IsFreeInFunction b f name
+free_in_function name b f r e h = rw e h
 
 -- Where the words of a refusal could not be made, there was a refusal.
 pub only_memory : {A : Type 0} (r : Result A VastFault) (good : A → Type 0) (rule : Result (Unit {0}) (List ℕ)) (words : List ℕ) → rule ≡ Err words → IsErrAnd r (λ fault. fault ≡ Memory alloc_error) → MatchResult r good (OnlyRefusedBy rule)

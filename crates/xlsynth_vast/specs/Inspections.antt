@@ -5,10 +5,16 @@ use Rattle.vast_core.specs.declared.handle.VastModule.{VastModule}
 use Rattle.vast_core.specs.declared.handle.ModulePort.{ModulePort}
 use Rattle.vast_core.specs.declared.handle.VastDataType.{VastDataType}
 use Rattle.vast_core.specs.declared.handle.LogicRef.{LogicRef}
+use Rattle.vast_core.specs.declared.handle.VastFunction.{VastFunction}
+use Rattle.vast_core.specs.declared.handle.VastAlwaysBase.{VastAlwaysBase}
+use Rattle.vast_core.specs.declared.handle.VastStatementBlock.{VastStatementBlock}
+use Rattle.vast_core.specs.declared.handle.Conditional.{Conditional}
+use Rattle.vast_core.specs.declared.handle.GenerateLoop.{GenerateLoop}
 use Rattle.vast_core.specs.declared.kind.ModulePortDirection.{ModulePortDirection}
 use Rattle.vast_core.specs.declared.kind.ModulePortDirection.TheVariants.{Input, Output, InOut}
-use Rattle.vast_core.specs.Handles.{module_index, port_index, logic_ref_to_expr}
+use Rattle.vast_core.specs.Handles.{module_index, port_index, function_index, always_index, conditional_index, loop_index, logic_ref_to_expr}
 use Rattle.vast_core.specs.Records.{PortRecord, ModuleRecord, MemberEntry}
+use Rattle.vast_core.specs.Nests.{NestRecord, BlockRecord, BranchRecord, SwitchRecord, RepeatRecord, FunctionRecord, AlwaysRecord}
 use Rattle.vast_core.specs.BitCount.{bit_count}
 use Rattle.vast_core.specs.Hoisting.{members_of}
 use Rattle.vast_core.specs.Bench.{Bench, tree_of, type_of}
@@ -67,3 +73,39 @@ named _ = None
 
 abbrev pub name_of_ref : Bench → LogicRef → Option (List ℕ)
 name_of_ref b r = named (tree_of b (logic_ref_to_expr r))
+
+-- The body of a function, and its result's name as an expression.
+abbrev pub function_at : Bench → VastFunction → Option FunctionRecord
+function_at b f = slice_get b.functions (function_index f)
+
+abbrev pub body_at : Bench → VastFunction → Option VastStatementBlock
+body_at b f = option_map (λ (r : FunctionRecord). r.body) (function_at b f)
+
+abbrev pub result_at : Bench → VastFunction → Option LogicRef
+result_at b f = option_map (λ (r : FunctionRecord). r.result_name) (function_at b f)
+
+-- The block of an always block.
+abbrev pub block_at : Bench → VastAlwaysBase → Option VastStatementBlock
+block_at b a = option_map (λ (r : AlwaysRecord). r.block) (slice_get b.always_blocks (always_index a))
+
+-- The block of a conditional's first arm.
+abbrev pub first_block : Option NestRecord → Option VastStatementBlock
+first_block None = None
+first_block (Some (BlockRecord statements)) = None
+first_block (Some (BranchRecord c)) = Some c.consequent
+first_block (Some (SwitchRecord c)) = None
+first_block (Some (RepeatRecord l)) = None
+
+abbrev pub then_block_at : Bench → Conditional → Option VastStatementBlock
+then_block_at b c = first_block (slice_get b.nests (conditional_index c))
+
+-- The variable of a loop, as an expression.
+abbrev pub variable_of : Option NestRecord → Option LogicRef
+variable_of None = None
+variable_of (Some (BlockRecord statements)) = None
+variable_of (Some (BranchRecord c)) = None
+variable_of (Some (SwitchRecord c)) = None
+variable_of (Some (RepeatRecord l)) = Some l.genvar
+
+abbrev pub genvar_at : Bench → GenerateLoop → Option LogicRef
+genvar_at b l = variable_of (slice_get b.nests (loop_index l))

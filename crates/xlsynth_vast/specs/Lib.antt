@@ -4,6 +4,9 @@ pub mod Types
 pub mod Refusals
 pub mod Literals
 pub mod Declarations
+pub mod Functions
+pub mod AlwaysBlocks
+pub mod Cases
 pub mod Inspections
 pub mod Instances
 pub mod Laws

@@ -10,7 +10,17 @@ abbrev pub MayBuild : {A B : Type 0} → (old new : Bench) → Result A VastFaul
 MayBuild old new (Ok x) rule answer after = IsOkAnd rule (λ made. (x ≡ answer) × (new ≡ after made))
 MayBuild old new (Err fault) rule answer after = RefusedBy rule fault × (new ≡ old)
 
+-- The rule of a call that is never refused by name.
+abbrev pub no_refusal : Result (Unit {0}) (List ℕ)
+no_refusal = Ok tt
+
 -- A call that changes nothing answers what the rule answers; or its refusal, for whose words alone memory was wanted.
 abbrev pub AnswersBy : {A : Type 0} → Result A (List ℕ) → Result A VastFault → Type 0
 AnswersBy rule (Ok x) = rule ≡ Ok x
 AnswersBy rule (Err fault) = OnlyRefusedBy rule fault
+
+-- The rule allows the call, which leaves this; or it is refused, exactly as the rule says, and nothing changed. Memory is
+-- wanted for the words of a refusal alone.
+abbrev pub MayChange : (old new : Bench) → Result (Unit {0}) VastFault → Result (Unit {0}) (List ℕ) → Bench → Type 0
+MayChange old new (Ok x) rule after = (rule ≡ Ok x) × (new ≡ after)
+MayChange old new (Err fault) rule after = OnlyRefusedBy rule fault × (new ≡ old)

@@ -17,7 +17,7 @@ use vast_core::{DataKind, LogicRef, VastDataType, VastModule};
 use vast_literal::{VastError, VastFault};
 
 /// The names, with a comma and a space between each two.
-fn listed_names(alloc: Global, names: &BTreeSet<String>) -> Result<String, AllocError>
+pub(crate) fn listed_names(alloc: Global, names: &BTreeSet<String>) -> Result<String, AllocError>
     ensures { IfOk result (λ list. string_bytes list ≡ listed_names (map string_bytes names.now.keys)) }
 {
     let taken: Vec<&str> = names.iter().map(|name| name.as_str()).collect(alloc)?;
@@ -41,7 +41,12 @@ fn already_declared(
 
 impl VastFile {
     /// Refuses a name that the module has already, with the word for what was to be declared.
-    fn refuse_taken(&self, owner: VastModule, kind: &str, name: &str) -> Result<(), VastFault>
+    pub(crate) fn refuse_taken(
+        &self,
+        owner: VastModule,
+        kind: &str,
+        name: &str,
+    ) -> Result<(), VastFault>
         requires { OwnsModule (bench self.now) owner }
         ensures { MatchResult result (λ _. unless_taken kind.now name.now (names_in (bench self.now) owner) ≡ Ok tt) (OnlyRefusedBy (unless_taken kind.now name.now (names_in (bench self.now) owner))) }
     {

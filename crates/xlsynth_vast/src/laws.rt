@@ -1,14 +1,28 @@
 //! Laws of the calls. The functions compute nothing; each contract is a law over all files.
 
-ghost use Rattle.xlsynth_vast.specs.Laws.{HoistingAgain, NamesStayDistinct};
+ghost use Rattle.vast_core.specs.Bench.{OwnsFunction};
+ghost use Rattle.vast_core.specs.View.{bench};
+ghost use Rattle.xlsynth_vast.specs.Laws.{HoistingAgain, NamesStayDistinct, FunctionNamesAreDistinct};
+
+use crate::file::VastFile;
+use vast_core::VastFunction;
 
 /// Hoisting a module's declarations again, from the same member, changes nothing.
 pub fn hoisting_again()
     ensures { HoistingAgain }
 {}
 
-/// The names that a module declares, of its ports, wires, regs and logics, are pairwise distinct, whatever calls are
-/// made.
+/// The names that a module declares, of its ports, wires, regs, logics and functions, are pairwise distinct, whatever
+/// calls are made.
 pub fn names_stay_distinct()
     ensures { NamesStayDistinct }
 {}
+
+/// The names that a function declares, of its result, inputs and locals, are pairwise distinct in every file, and they
+/// are the names that are taken in it.
+pub fn function_names_are_distinct(file: &VastFile, function: VastFunction)
+    requires { OwnsFunction (bench file.now) function }
+    ensures { FunctionNamesAreDistinct (bench file.now) function }
+{
+    let _declared = file.ast.function(function);
+}

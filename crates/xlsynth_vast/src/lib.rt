@@ -4,10 +4,16 @@
 //! file; the text is the written layout of the tree that the calls built, byte for byte.
 #![tactic(auto)]
 
+mod always;
 mod artifacts;
+mod blocks;
+mod cases;
+mod conditionals;
 mod declarations;
 mod expressions;
 mod file;
+mod functions;
+mod generate_loops;
 mod hoisting;
 mod inspect;
 mod instances;

@@ -12,7 +12,7 @@ use vast_core::{Expr, MacroRef};
 
 impl VastFile {
     /// The handles behind the references, which are the file's own as those are.
-    fn handles(&self, parts: &[&Expr]) -> Result<Vec<Expr>, AllocError>
+    pub(crate) fn handles(&self, parts: &[&Expr]) -> Result<Vec<Expr>, AllocError>
         requires { All (λ e. OwnsExpr (bench self.now) e.now) parts.now }
         ensures items { IfOk result (λ handles. handles.items ≡ map (λ e. e.now) parts.now) }
         ensures owned { IfOk result (λ handles. All (OwnsExpr (bench self.now)) handles.items) }

@@ -1,0 +1,159 @@
+//! Always blocks (IEEE 1800-2017, 9.2.2), among the members of modules and of generate loops, as in the crate
+//! `xlsynth-vast`.
+
+ghost use Rattle.std.specs.Prelude.{◌≡◌, Ok, All, [], IfOk, IfErr, Some, map, string_bytes, codes};
+ghost use Rattle.vast_literal.specs.Fault.{RefusedBy};
+ghost use Rattle.vast_core.specs.Bench.{OwnsModule, OwnsLoop, OwnsExpr, OwnsBlock, OwnsAlways};
+ghost use Rattle.vast_core.specs.Sound.{EventSound};
+ghost use Rattle.vast_core.specs.Loops.{next_always};
+ghost use Rattle.vast_core.specs.View.{bench};
+ghost use Rattle.xlsynth_vast.specs.Refusals.{MayBuild, no_refusal};
+ghost use Rattle.xlsynth_vast.specs.AlwaysBlocks.{wrong_event, unless_wrong_event, with_always_member, with_loop_always};
+ghost use Rattle.xlsynth_vast.specs.Inspections.{block_at};
+
+use crate::file::VastFile;
+use std::alloc::{AllocError, Global};
+use vast_core::{AlwaysKind, Expr, GenerateLoop, VastAlwaysBase, VastModule, VastStatementBlock};
+use vast_literal::{VastError, VastFault};
+
+/// The words that refuse the event at this place of a list, for an always block that begins with the word.
+fn wrong_event(alloc: Global, word: &str, index: usize) -> Result<String, AllocError>
+    ensures { IfOk result (λ text. string_bytes text ≡ wrong_event word.now index) }
+{
+    format!(in alloc;
+        "Unsupported expression type passed to sensitivity list for {word} at index {index}. Only posedge, negedge, or logic-reference expressions are supported."
+    )
+}
+
+impl VastFile {
+    /// The events behind the references, or the refusal of the first that is no edge and no name.
+    fn events(&self, word: &str, expressions: &[&Expr]) -> Result<Vec<Expr>, VastFault>
+        requires { All (λ e. OwnsExpr (bench self.now) e.now) expressions.now }
+        ensures items { IfOk result (λ events. events.items ≡ map (λ e. e.now) expressions.now) }
+        ensures sound { IfOk result (λ events. All (EventSound (bench self.now)) events.items) }
+        ensures allowed { IfOk result (λ events. unless_wrong_event word.now (bench self.now) (map (λ e. e.now) expressions.now) ≡ Ok tt) }
+        ensures refused { IfErr result (λ fault. RefusedBy (unless_wrong_event word.now (bench self.now) (map (λ e. e.now) expressions.now)) fault) }
+    {
+        let events = self.handles(expressions)?;
+        if let Some(index) = self.ast.first_wrong_event(&events) {
+            let text = wrong_event(self.ast.allocator(), word, index)?;
+            return Err(VastFault::Refused(VastError(text)));
+        }
+        Ok(events)
+    }
+
+    /// An `always_ff` with these events and an empty block, as the module's last member.
+    ///
+    /// # Errors
+    /// `Refused` at the first event that is no edge and no name: `Unsupported expression type passed to sensitivity
+    /// list for always_ff at index {index}. Only posedge, negedge, or logic-reference expressions are supported.`
+    /// `Memory` where a growth was refused. The file is unchanged.
+    pub fn add_always_ff(
+        &mut self,
+        owner: VastModule,
+        sensitivity_list: &[&Expr],
+    ) -> Result<VastAlwaysBase, VastFault>
+        requires owner { OwnsModule (bench self.old) owner }
+        requires events { All (λ e. OwnsExpr (bench self.old) e.now) sensitivity_list.now }
+        ensures { MayBuild (bench self.old) (bench self.new) result (unless_wrong_event (codes "always_ff") (bench self.old) (map (λ e. e.now) sensitivity_list.now)) (next_always (bench self.old)) (λ _. with_always_member owner AlwaysKind.AlwaysFF (map (λ e. e.now) sensitivity_list.now) (bench self.old)) }
+    {
+        let events = self.events("always_ff", sensitivity_list)?;
+        Ok(self.ast.push_always(owner, AlwaysKind::AlwaysFF, events)?)
+    }
+
+    /// An `always @` with these events and an empty block, as the module's last member; there may be no events.
+    ///
+    /// # Errors
+    /// As [`VastFile::add_always_ff`], with `always @` in the place of `always_ff`.
+    pub fn add_always_at(
+        &mut self,
+        owner: VastModule,
+        sensitivity_list: &[&Expr],
+    ) -> Result<VastAlwaysBase, VastFault>
+        requires owner { OwnsModule (bench self.old) owner }
+        requires events { All (λ e. OwnsExpr (bench self.old) e.now) sensitivity_list.now }
+        ensures { MayBuild (bench self.old) (bench self.new) result (unless_wrong_event (codes "always @") (bench self.old) (map (λ e. e.now) sensitivity_list.now)) (next_always (bench self.old)) (λ _. with_always_member owner AlwaysKind.AlwaysAt (map (λ e. e.now) sensitivity_list.now) (bench self.old)) }
+    {
+        let events = self.events("always @", sensitivity_list)?;
+        Ok(self.ast.push_always(owner, AlwaysKind::AlwaysAt, events)?)
+    }
+
+    /// An `always_comb` with an empty block, as the module's last member.
+    ///
+    /// # Errors
+    /// `Memory` where a growth was refused; the file is unchanged. It is never `Refused`.
+    pub fn add_always_comb(&mut self, owner: VastModule) -> Result<VastAlwaysBase, VastFault>
+        requires { OwnsModule (bench self.old) owner }
+        ensures { MayBuild (bench self.old) (bench self.new) result no_refusal (next_always (bench self.old)) (λ _. with_always_member owner AlwaysKind.AlwaysComb [] (bench self.old)) }
+    {
+        let events = Vec::new(self.ast.allocator());
+        Ok(self.ast.push_always(owner, AlwaysKind::AlwaysComb, events)?)
+    }
+
+    /// The block of the always block, which is the file's.
+    pub fn statement_block(&self, always: VastAlwaysBase) -> VastStatementBlock
+        requires { OwnsAlways (bench self.now) always }
+        ensures block { block_at (bench self.now) always ≡ Some result }
+        ensures owned { OwnsBlock (bench self.now) result }
+    {
+        self.ast.always_block(always).block
+    }
+
+    /// An `always_ff` with these events and an empty block, as the loop's last member.
+    ///
+    /// # Errors
+    /// As [`VastFile::add_always_ff`].
+    pub fn generate_add_always_ff(
+        &mut self,
+        generate: GenerateLoop,
+        sensitivity_list: &[&Expr],
+    ) -> Result<VastAlwaysBase, VastFault>
+        requires generate { OwnsLoop (bench self.old) generate }
+        requires events { All (λ e. OwnsExpr (bench self.old) e.now) sensitivity_list.now }
+        ensures { MayBuild (bench self.old) (bench self.new) result (unless_wrong_event (codes "always_ff") (bench self.old) (map (λ e. e.now) sensitivity_list.now)) (next_always (bench self.old)) (λ _. with_loop_always generate AlwaysKind.AlwaysFF (map (λ e. e.now) sensitivity_list.now) (bench self.old)) }
+    {
+        let events = self.events("always_ff", sensitivity_list)?;
+        Ok(
+            self.ast
+                .append_loop_always(generate, AlwaysKind::AlwaysFF, events)?,
+        )
+    }
+
+    /// An `always @` with these events and an empty block, as the loop's last member; there may be no events.
+    ///
+    /// # Errors
+    /// As [`VastFile::add_always_at`].
+    pub fn generate_add_always_at(
+        &mut self,
+        generate: GenerateLoop,
+        sensitivity_list: &[&Expr],
+    ) -> Result<VastAlwaysBase, VastFault>
+        requires generate { OwnsLoop (bench self.old) generate }
+        requires events { All (λ e. OwnsExpr (bench self.old) e.now) sensitivity_list.now }
+        ensures { MayBuild (bench self.old) (bench self.new) result (unless_wrong_event (codes "always @") (bench self.old) (map (λ e. e.now) sensitivity_list.now)) (next_always (bench self.old)) (λ _. with_loop_always generate AlwaysKind.AlwaysAt (map (λ e. e.now) sensitivity_list.now) (bench self.old)) }
+    {
+        let events = self.events("always @", sensitivity_list)?;
+        Ok(
+            self.ast
+                .append_loop_always(generate, AlwaysKind::AlwaysAt, events)?,
+        )
+    }
+
+    /// An `always_comb` with an empty block, as the loop's last member.
+    ///
+    /// # Errors
+    /// As [`VastFile::add_always_comb`].
+    pub fn generate_add_always_comb(
+        &mut self,
+        generate: GenerateLoop,
+    ) -> Result<VastAlwaysBase, VastFault>
+        requires { OwnsLoop (bench self.old) generate }
+        ensures { MayBuild (bench self.old) (bench self.new) result no_refusal (next_always (bench self.old)) (λ _. with_loop_always generate AlwaysKind.AlwaysComb [] (bench self.old)) }
+    {
+        let events = Vec::new(self.ast.allocator());
+        Ok(
+            self.ast
+                .append_loop_always(generate, AlwaysKind::AlwaysComb, events)?,
+        )
+    }
+}

@@ -1,0 +1,111 @@
+//! Statements of blocks: assignments, comments, texts and blank lines (IEEE 1800-2017, 10.4), as in the crate
+//! `xlsynth-vast`.
+
+ghost use Rattle.std.specs.Prelude.{◌≡◌, true, false};
+ghost use Rattle.vast_core.specs.Bench.{OwnsBlock, OwnsExpr};
+ghost use Rattle.vast_core.specs.Nests.{AssignStatement, ContinuousStatement, BlankStatement, CommentStatement, InlineStatement};
+ghost use Rattle.vast_core.specs.Growth.{Builds, with_assignment};
+ghost use Rattle.vast_core.specs.Artifacts.{next_statement};
+ghost use Rattle.vast_core.specs.Containers.{with_statement};
+ghost use Rattle.vast_core.specs.View.{bench};
+
+use crate::file::VastFile;
+use std::alloc::AllocError;
+use vast_core::{Expr, VastStatement, VastStatementBlock};
+
+impl VastFile {
+    /// The assignment `lhs = rhs`, as the block's last statement.
+    ///
+    /// # Errors
+    /// `AllocError` where a growth was refused; the file is unchanged.
+    pub fn block_add_blocking_assignment(
+        &mut self,
+        block: VastStatementBlock,
+        lhs: &Expr,
+        rhs: &Expr,
+    ) -> Result<VastStatement, AllocError>
+        requires block { OwnsBlock (bench self.old) block }
+        requires lhs { OwnsExpr (bench self.old) lhs.now }
+        requires rhs { OwnsExpr (bench self.old) rhs.now }
+        ensures { Builds (bench self.old) (bench self.new) result (next_statement (bench self.old)) (with_statement block (AssignStatement (next_statement (bench self.old))) (with_assignment (record { lhs = lhs.now; rhs = rhs.now; nonblocking = false }) (bench self.old))) }
+    {
+        self.ast.append_block_assignment(block, *lhs, *rhs, false)
+    }
+
+    /// The assignment `lhs <= rhs`, as the block's last statement.
+    ///
+    /// # Errors
+    /// `AllocError` where a growth was refused; the file is unchanged.
+    pub fn block_add_nonblocking_assignment(
+        &mut self,
+        block: VastStatementBlock,
+        lhs: &Expr,
+        rhs: &Expr,
+    ) -> Result<VastStatement, AllocError>
+        requires block { OwnsBlock (bench self.old) block }
+        requires lhs { OwnsExpr (bench self.old) lhs.now }
+        requires rhs { OwnsExpr (bench self.old) rhs.now }
+        ensures { Builds (bench self.old) (bench self.new) result (next_statement (bench self.old)) (with_statement block (AssignStatement (next_statement (bench self.old))) (with_assignment (record { lhs = lhs.now; rhs = rhs.now; nonblocking = true }) (bench self.old))) }
+    {
+        self.ast.append_block_assignment(block, *lhs, *rhs, true)
+    }
+
+    /// The assignment `assign lhs = rhs`, as the block's last statement.
+    ///
+    /// # Errors
+    /// `AllocError` where a growth was refused; the file is unchanged.
+    pub fn block_add_continuous_assignment(
+        &mut self,
+        block: VastStatementBlock,
+        lhs: &Expr,
+        rhs: &Expr,
+    ) -> Result<VastStatement, AllocError>
+        requires block { OwnsBlock (bench self.old) block }
+        requires lhs { OwnsExpr (bench self.old) lhs.now }
+        requires rhs { OwnsExpr (bench self.old) rhs.now }
+        ensures { Builds (bench self.old) (bench self.new) result (next_statement (bench self.old)) (with_statement block (ContinuousStatement (next_statement (bench self.old))) (with_assignment (record { lhs = lhs.now; rhs = rhs.now; nonblocking = false }) (bench self.old))) }
+    {
+        self.ast.append_block_continuous(block, *lhs, *rhs)
+    }
+
+    /// A comment, as the block's last statement; each line of the text becomes a line of its own.
+    ///
+    /// # Errors
+    /// `AllocError` where a growth was refused; the file is unchanged.
+    pub fn block_add_comment_text(
+        &mut self,
+        block: VastStatementBlock,
+        text: &str,
+    ) -> Result<(), AllocError>
+        requires { OwnsBlock (bench self.old) block }
+        ensures { Builds (bench self.old) (bench self.new) result tt (with_statement block (CommentStatement text.now) (bench self.old)) }
+    {
+        self.ast.append_block_comment(block, text)
+    }
+
+    /// A text that is written as it is, as the block's last statement.
+    ///
+    /// # Errors
+    /// `AllocError` where a growth was refused; the file is unchanged.
+    pub fn block_add_inline_text(
+        &mut self,
+        block: VastStatementBlock,
+        text: &str,
+    ) -> Result<(), AllocError>
+        requires { OwnsBlock (bench self.old) block }
+        ensures { Builds (bench self.old) (bench self.new) result tt (with_statement block (InlineStatement text.now) (bench self.old)) }
+    {
+        self.ast.append_block_inline(block, text)
+    }
+
+    /// A blank line, as the block's last statement.
+    ///
+    /// # Errors
+    /// `AllocError` where a growth was refused; the file is unchanged.
+    pub fn block_add_blank_line(&mut self, block: VastStatementBlock) -> Result<(), AllocError>
+        requires { OwnsBlock (bench self.old) block }
+        ensures { Builds (bench self.old) (bench self.new) result tt (with_statement block BlankStatement (bench self.old)) }
+    {
+        self.ast.append_block_blank_line(block)
+    }
+}

@@ -1,0 +1,115 @@
+//! Case statements (IEEE 1800-2017, 12.5), as in the crate `xlsynth-vast`, and `casex`, which that crate has not.
+
+ghost use Rattle.std.specs.Prelude.{◌≡◌, None, Some};
+ghost use Rattle.vast_core.specs.Bench.{OwnsBlock, OwnsExpr, OwnsCase};
+ghost use Rattle.vast_core.specs.Nests.{CasesStatement};
+ghost use Rattle.vast_core.specs.Growth.{Builds};
+ghost use Rattle.vast_core.specs.Containers.{next_block, next_case, with_case, with_statement, with_case_arm, with_case_unique};
+ghost use Rattle.vast_core.specs.View.{bench};
+ghost use Rattle.xlsynth_vast.specs.Refusals.{MayChange};
+ghost use Rattle.xlsynth_vast.specs.Cases.{may_be_unique};
+
+use crate::file::VastFile;
+use std::alloc::AllocError;
+use vast_core::{CaseKind, CaseStatement, Expr, VastFileType, VastStatementBlock};
+use vast_literal::{VastError, VastFault};
+
+impl VastFile {
+    /// A `case` statement without arms, as the block's last statement.
+    ///
+    /// # Errors
+    /// `AllocError` where a growth was refused; the file is unchanged.
+    pub fn block_add_case(
+        &mut self,
+        block: VastStatementBlock,
+        selector: &Expr,
+    ) -> Result<CaseStatement, AllocError>
+        requires block { OwnsBlock (bench self.old) block }
+        requires selector { OwnsExpr (bench self.old) selector.now }
+        ensures { Builds (bench self.old) (bench self.new) result (next_case (bench self.old)) (with_statement block (CasesStatement (next_case (bench self.old))) (with_case CaseKind.Case selector.now (bench self.old))) }
+    {
+        self.ast.append_block_case(block, CaseKind::Case, *selector)
+    }
+
+    /// A `casez` statement without arms, as the block's last statement.
+    ///
+    /// # Errors
+    /// `AllocError` where a growth was refused; the file is unchanged.
+    pub fn block_add_casez(
+        &mut self,
+        block: VastStatementBlock,
+        selector: &Expr,
+    ) -> Result<CaseStatement, AllocError>
+        requires block { OwnsBlock (bench self.old) block }
+        requires selector { OwnsExpr (bench self.old) selector.now }
+        ensures { Builds (bench self.old) (bench self.new) result (next_case (bench self.old)) (with_statement block (CasesStatement (next_case (bench self.old))) (with_case CaseKind.CaseZ selector.now (bench self.old))) }
+    {
+        self.ast
+            .append_block_case(block, CaseKind::CaseZ, *selector)
+    }
+
+    /// A `casex` statement without arms, as the block's last statement.
+    ///
+    /// # Errors
+    /// `AllocError` where a growth was refused; the file is unchanged.
+    pub fn block_add_casex(
+        &mut self,
+        block: VastStatementBlock,
+        selector: &Expr,
+    ) -> Result<CaseStatement, AllocError>
+        requires block { OwnsBlock (bench self.old) block }
+        requires selector { OwnsExpr (bench self.old) selector.now }
+        ensures { Builds (bench self.old) (bench self.new) result (next_case (bench self.old)) (with_statement block (CasesStatement (next_case (bench self.old))) (with_case CaseKind.CaseX selector.now (bench self.old))) }
+    {
+        self.ast
+            .append_block_case(block, CaseKind::CaseX, *selector)
+    }
+
+    /// An arm with this label and an empty block, as the case statement's last; answers the block.
+    ///
+    /// # Errors
+    /// `AllocError` where a growth was refused; the file is unchanged.
+    pub fn case_add_item(
+        &mut self,
+        case: CaseStatement,
+        pattern: &Expr,
+    ) -> Result<VastStatementBlock, AllocError>
+        requires case { OwnsCase (bench self.old) case }
+        requires pattern { OwnsExpr (bench self.old) pattern.now }
+        ensures { Builds (bench self.old) (bench self.new) result (next_block (bench self.old)) (with_case_arm case (Some pattern.now) (bench self.old)) }
+    {
+        self.ast.case_add_arm(case, Some(*pattern))
+    }
+
+    /// A `default` arm with an empty block, as the case statement's last; answers the block. There may be more than one.
+    ///
+    /// # Errors
+    /// `AllocError` where a growth was refused; the file is unchanged.
+    pub fn case_add_default(
+        &mut self,
+        case: CaseStatement,
+    ) -> Result<VastStatementBlock, AllocError>
+        requires case { OwnsCase (bench self.old) case }
+        ensures { Builds (bench self.old) (bench self.new) result (next_block (bench self.old)) (with_case_arm case None (bench self.old)) }
+    {
+        self.ast.case_add_arm(case, None)
+    }
+
+    /// Makes the case statement `unique`, or not. It takes no memory.
+    ///
+    /// # Errors
+    /// `Refused` where it is to be `unique` in a file of Verilog: `unique case requires SystemVerilog`. `Memory` where
+    /// memory for these words was refused. The file is unchanged.
+    pub fn case_set_unique(&mut self, case: CaseStatement, unique: bool) -> Result<(), VastFault>
+        requires { OwnsCase (bench self.old) case }
+        ensures { MayChange (bench self.old) (bench self.new) result (may_be_unique (bench self.old).file_type unique) (with_case_unique case unique (bench self.old)) }
+    {
+        if unique && self.ast.file_type() == VastFileType::Verilog {
+            let words = "unique case requires SystemVerilog";
+            let text = String::from_str(self.ast.allocator(), words)?;
+            return Err(VastFault::Refused(VastError(text)));
+        }
+        self.ast.case_set_unique(case, unique);
+        Ok(())
+    }
+}

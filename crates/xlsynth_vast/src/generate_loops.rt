@@ -1,0 +1,231 @@
+//! Generate loops and their members (IEEE 1800-2017, 27.4), as in the crate `xlsynth-vast`. Their always blocks stand
+//! with those of modules.
+
+ghost use Rattle.std.specs.Prelude.{◌≡◌, false, Some, IfOk, option_copied};
+ghost use Rattle.vast_core.specs.Bench.{OwnsModule, OwnsLoop, OwnsExpr, OwnsLogicRef, OwnsDef, OwnsComment, OwnsInline, OwnsMacroStatement, OwnsInstantiation};
+ghost use Rattle.vast_core.specs.Records.{AssignmentEntry, BlankEntry, CommentEntry, InlineEntry, MacroEntry, InstanceEntry, ConditionalEntry, LoopEntry};
+ghost use Rattle.vast_core.specs.Nests.{label_bytes};
+ghost use Rattle.vast_core.specs.Growth.{Builds, with_member, with_assignment, next_continuous};
+ghost use Rattle.vast_core.specs.Artifacts.{next_statement};
+ghost use Rattle.vast_core.specs.Containers.{next_conditional, with_conditional};
+ghost use Rattle.vast_core.specs.Parameters.{next_localparam_ref};
+ghost use Rattle.vast_core.specs.Loops.{next_loop, with_loop, with_loop_member, with_plain_loop_parameter, with_defined_loop_parameter};
+ghost use Rattle.vast_core.specs.View.{bench};
+ghost use Rattle.xlsynth_vast.specs.Inspections.{genvar_at};
+
+use crate::file::VastFile;
+use std::alloc::{AllocError, Global};
+use vast_core::{
+    Comment, Conditional, Def, Expr, GenerateLoop, InlineVerilogStatement, Instantiation,
+    LocalparamRef, LogicRef, MacroStatement, VastModule, VastStatement,
+};
+
+/// The label as a text of its own, if there is one.
+fn own_label(alloc: Global, label: Option<&str>) -> Result<Option<String>, AllocError>
+    ensures { IfOk result (λ own. label_bytes own ≡ option_copied label.entry) }
+{
+    match label {
+        Some(text) => Ok(Some(String::from_str(alloc, text)?)),
+        None => Ok(None),
+    }
+}
+
+impl VastFile {
+    /// A generate loop without members, as the module's last member: its variable runs from `start` on while it is
+    /// below `end`. The variable's name is an expression without a type ([`VastFile::generate_genvar`]).
+    ///
+    /// # Errors
+    /// `AllocError` where a growth was refused; the file is unchanged.
+    pub fn add_generate_loop(
+        &mut self,
+        owner: VastModule,
+        name: &str,
+        start: &Expr,
+        end: &Expr,
+        label: Option<&str>,
+    ) -> Result<GenerateLoop, AllocError>
+        requires owner { OwnsModule (bench self.old) owner }
+        requires start { OwnsExpr (bench self.old) start.now }
+        requires end { OwnsExpr (bench self.old) end.now }
+        ensures { Builds (bench self.old) (bench self.new) result (next_loop (bench self.old)) (with_member owner (LoopEntry (next_loop (bench self.old))) (with_loop name.now start.now end.now (option_copied label.entry) (bench self.old))) }
+    {
+        let label = own_label(self.ast.allocator(), label)?;
+        self.ast.push_loop(owner, name, *start, *end, label)
+    }
+
+    /// A generate loop without members, as the last member of the loop `parent`; otherwise as
+    /// [`VastFile::add_generate_loop`].
+    ///
+    /// # Errors
+    /// `AllocError` where a growth was refused; the file is unchanged.
+    pub fn generate_add_generate_loop(
+        &mut self,
+        parent: GenerateLoop,
+        name: &str,
+        start: &Expr,
+        end: &Expr,
+        label: Option<&str>,
+    ) -> Result<GenerateLoop, AllocError>
+        requires parent { OwnsLoop (bench self.old) parent }
+        requires start { OwnsExpr (bench self.old) start.now }
+        requires end { OwnsExpr (bench self.old) end.now }
+        ensures { Builds (bench self.old) (bench self.new) result (next_loop (bench self.old)) (with_loop_member parent (LoopEntry (next_loop (bench self.old))) (with_loop name.now start.now end.now (option_copied label.entry) (bench self.old))) }
+    {
+        let label = own_label(self.ast.allocator(), label)?;
+        self.ast.append_loop_loop(parent, name, *start, *end, label)
+    }
+
+    /// The loop's variable as an expression, which is the file's.
+    pub fn generate_genvar(&self, generate: GenerateLoop) -> LogicRef
+        requires { OwnsLoop (bench self.now) generate }
+        ensures genvar { genvar_at (bench self.now) generate ≡ Some result }
+        ensures owned { OwnsLogicRef (bench self.now) result }
+    {
+        self.ast.generate_loop(generate).genvar
+    }
+
+    /// `localparam NAME = VALUE`, as the loop's last member; answers its name.
+    ///
+    /// # Errors
+    /// `AllocError` where a growth was refused; the file is unchanged.
+    pub fn generate_add_localparam(
+        &mut self,
+        generate: GenerateLoop,
+        name: &str,
+        rhs: &Expr,
+    ) -> Result<LocalparamRef, AllocError>
+        requires generate { OwnsLoop (bench self.old) generate }
+        requires rhs { OwnsExpr (bench self.old) rhs.now }
+        ensures { Builds (bench self.old) (bench self.new) result (next_localparam_ref (bench self.old)) (with_plain_loop_parameter generate name.now rhs.now (bench self.old)) }
+    {
+        self.ast.append_loop_localparam(generate, name, *rhs)
+    }
+
+    /// A local parameter with the definition's kind, type and name, as the loop's last member; answers its name.
+    ///
+    /// # Errors
+    /// `AllocError` where a growth was refused; the file is unchanged.
+    pub fn generate_add_typed_localparam(
+        &mut self,
+        generate: GenerateLoop,
+        definition: &Def,
+        rhs: &Expr,
+    ) -> Result<LocalparamRef, AllocError>
+        requires generate { OwnsLoop (bench self.old) generate }
+        requires definition { OwnsDef (bench self.old) definition.now }
+        requires rhs { OwnsExpr (bench self.old) rhs.now }
+        ensures { Builds (bench self.old) (bench self.new) result (next_localparam_ref (bench self.old)) (with_defined_loop_parameter generate definition.now rhs.now (bench self.old)) }
+    {
+        self.ast
+            .append_loop_localparam_with_def(generate, *definition, *rhs)
+    }
+
+    /// The assignment `assign lhs = rhs`, as the loop's last member.
+    ///
+    /// # Errors
+    /// `AllocError` where a growth was refused; the file is unchanged.
+    pub fn generate_add_continuous_assignment(
+        &mut self,
+        generate: GenerateLoop,
+        lhs: &Expr,
+        rhs: &Expr,
+    ) -> Result<VastStatement, AllocError>
+        requires generate { OwnsLoop (bench self.old) generate }
+        requires lhs { OwnsExpr (bench self.old) lhs.now }
+        requires rhs { OwnsExpr (bench self.old) rhs.now }
+        ensures { Builds (bench self.old) (bench self.new) result (next_statement (bench self.old)) (with_loop_member generate (AssignmentEntry (next_continuous (bench self.old))) (with_assignment (record { lhs = lhs.now; rhs = rhs.now; nonblocking = false }) (bench self.old))) }
+    {
+        self.ast.append_loop_assignment(generate, *lhs, *rhs)
+    }
+
+    /// A conditional with an empty block, as the loop's last member.
+    ///
+    /// # Errors
+    /// `AllocError` where a growth was refused; the file is unchanged.
+    pub fn generate_add_conditional(
+        &mut self,
+        generate: GenerateLoop,
+        condition: &Expr,
+    ) -> Result<Conditional, AllocError>
+        requires generate { OwnsLoop (bench self.old) generate }
+        requires condition { OwnsExpr (bench self.old) condition.now }
+        ensures { Builds (bench self.old) (bench self.new) result (next_conditional (bench self.old)) (with_loop_member generate (ConditionalEntry (next_conditional (bench self.old))) (with_conditional condition.now (bench self.old))) }
+    {
+        self.ast.append_loop_conditional(generate, *condition)
+    }
+
+    /// A blank line, as the loop's last member.
+    ///
+    /// # Errors
+    /// `AllocError` where a growth was refused; the file is unchanged.
+    pub fn generate_add_blank_line(&mut self, generate: GenerateLoop) -> Result<(), AllocError>
+        requires { OwnsLoop (bench self.old) generate }
+        ensures { Builds (bench self.old) (bench self.new) result tt (with_loop_member generate BlankEntry (bench self.old)) }
+    {
+        self.ast.append_loop_blank_line(generate)
+    }
+
+    /// The comment, as the loop's last member.
+    ///
+    /// # Errors
+    /// `AllocError` where a growth was refused; the file is unchanged.
+    pub fn generate_add_comment(
+        &mut self,
+        generate: GenerateLoop,
+        comment: &Comment,
+    ) -> Result<(), AllocError>
+        requires generate { OwnsLoop (bench self.old) generate }
+        requires comment { OwnsComment (bench self.old) comment.now }
+        ensures { Builds (bench self.old) (bench self.new) result tt (with_loop_member generate (CommentEntry comment.now) (bench self.old)) }
+    {
+        self.ast.append_loop_comment(generate, *comment)
+    }
+
+    /// The instantiation, as the loop's last member.
+    ///
+    /// # Errors
+    /// `AllocError` where a growth was refused; the file is unchanged.
+    pub fn generate_add_instantiation(
+        &mut self,
+        generate: GenerateLoop,
+        instantiation: &Instantiation,
+    ) -> Result<(), AllocError>
+        requires generate { OwnsLoop (bench self.old) generate }
+        requires instantiation { OwnsInstantiation (bench self.old) instantiation.now }
+        ensures { Builds (bench self.old) (bench self.new) result tt (with_loop_member generate (InstanceEntry instantiation.now) (bench self.old)) }
+    {
+        self.ast.append_loop_instantiation(generate, *instantiation)
+    }
+
+    /// The text, as the loop's last member.
+    ///
+    /// # Errors
+    /// `AllocError` where a growth was refused; the file is unchanged.
+    pub fn generate_add_inline_statement(
+        &mut self,
+        generate: GenerateLoop,
+        statement: &InlineVerilogStatement,
+    ) -> Result<(), AllocError>
+        requires generate { OwnsLoop (bench self.old) generate }
+        requires statement { OwnsInline (bench self.old) statement.now }
+        ensures { Builds (bench self.old) (bench self.new) result tt (with_loop_member generate (InlineEntry statement.now) (bench self.old)) }
+    {
+        self.ast.append_loop_inline(generate, *statement)
+    }
+
+    /// The use of a macro, as the loop's last member.
+    ///
+    /// # Errors
+    /// `AllocError` where a growth was refused; the file is unchanged.
+    pub fn generate_add_macro_statement(
+        &mut self,
+        generate: GenerateLoop,
+        statement: &MacroStatement,
+    ) -> Result<(), AllocError>
+        requires generate { OwnsLoop (bench self.old) generate }
+        requires statement { OwnsMacroStatement (bench self.old) statement.now }
+        ensures { Builds (bench self.old) (bench self.new) result tt (with_loop_member generate (MacroEntry statement.now) (bench self.old)) }
+    {
+        self.ast.append_loop_macro_statement(generate, *statement)
+    }
+}
