@@ -9,10 +9,13 @@ use xlsynth_vast::{
 mod artifacts;
 mod declarations;
 mod inspections;
+mod loops;
 mod operands;
 mod operators;
+mod procedures;
 mod program;
 mod selects;
+mod statements;
 mod types;
 
 /// A file, and the runtime that ends a test where a condition is not met.

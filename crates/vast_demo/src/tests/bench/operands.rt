@@ -108,4 +108,16 @@ impl<'a, R: Abort> Bench<'a, R> {
             _ => self.file.make_replicated_concat(&first, &[&second]),
         }
     }
+
+    pub(crate) fn call_of_two(
+        &mut self,
+        name: &str,
+        first: Expr,
+        second: Expr,
+    ) -> Result<Expr, AllocError> {
+        assert!(self.rt; self.file.owns(&first));
+        assert!(self.rt; self.file.owns(&second));
+        assert!(self.rt; !name.is_empty());
+        self.file.make_function_call(name, &[&first, &second])
+    }
 }
