@@ -34,8 +34,6 @@ mod parameters;
 mod places;
 mod ports;
 mod terms;
-#[cfg(test)]
-mod tests;
 mod types;
 mod variables;
 

@@ -67,20 +67,3 @@ impl FileIds {
         Ok(self.last)
     }
 }
-
-#[cfg(test)]
-mod tests {
-    use super::{FileIds, IdsSpent};
-
-    #[test]
-    fn counts_to_the_end(rt: HostRuntime) {
-        let mut ids = FileIds::new();
-        assert_eq!(rt; ids.take(), Ok(1));
-        assert_eq!(rt; ids.take(), Ok(2));
-        let mut late = FileIds::after(u64::MAX - 1);
-        assert!(rt; !late.is_spent());
-        assert_eq!(rt; late.take(), Ok(u64::MAX));
-        assert!(rt; late.is_spent());
-        assert_eq!(rt; late.take(), Err(IdsSpent));
-    }
-}

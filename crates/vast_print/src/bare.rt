@@ -54,14 +54,3 @@ fn continues_word(byte: u8) -> bool
 {
     byte.is_ascii_alphanumeric() || byte == b'_' || byte == b'$'
 }
-
-#[test]
-fn numbers_and_words_are_bare(rt: HostRuntime) {
-    assert!(rt; is_bare("8"));
-    assert!(rt; is_bare("W"));
-    assert!(rt; is_bare("_a$1"));
-    assert!(rt; !is_bare(""));
-    assert!(rt; !is_bare("1a"));
-    assert!(rt; !is_bare("$a"));
-    assert!(rt; !is_bare("8'h08"));
-}

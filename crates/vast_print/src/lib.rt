@@ -24,8 +24,6 @@ mod pieces;
 mod refusal;
 mod selects;
 mod statement;
-#[cfg(test)]
-mod tests;
 mod types;
 mod words;
 mod writer;

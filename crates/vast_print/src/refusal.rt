@@ -44,9 +44,3 @@ impl From<AllocError> for PrintFault {
         PrintFault::Memory
     }
 }
-
-#[test]
-fn refusals_have_words(rt: HostRuntime) {
-    assert!(rt; Refusal::ScalarIndex.text() == "a scalar signal can only be indexed with zero");
-    assert!(rt; Refusal::ScalarSlice.text() == "a scalar signal can only be sliced at [0:0]");
-}

@@ -179,35 +179,3 @@ fn push_number(number: i64, text: &mut String) -> Result<(), AllocError>
     write!(text, "{number}")?;
     Ok(())
 }
-
-#[test]
-fn writes_lines_with_depths(rt: HostRuntime) {
-    let mut out = Writer::new(rt.alloc());
-    out.next(1).expect(&rt, "memory");
-    out.word("a = ").expect(&rt, "memory");
-    out.number(i64::MIN).expect(&rt, "memory");
-    out.next(2).expect(&rt, "memory");
-    out.next(1).expect(&rt, "memory");
-    out.written(2, "p\n\nq").expect(&rt, "memory");
-    out.word(";").expect(&rt, "memory");
-    out.comment(1, "one\n\ntwo").expect(&rt, "memory");
-    let text = out.finish().expect(&rt, "memory");
-    assert!(rt;
-        text.as_str() == "  a = -9223372036854775808\n\n  p\n\n    q;\n  // one\n  //\n  // two\n"
-    );
-}
-
-#[test]
-fn writes_one_line(rt: HostRuntime) {
-    let mut out = Writer::new(rt.alloc());
-    out.next(0).expect(&rt, "memory");
-    out.written(0, "a\nb").expect(&rt, "memory");
-    let text = out.finish_line();
-    assert!(rt; text.as_str() == "a\nb");
-}
-
-#[test]
-fn nothing_written_is_the_empty_text(rt: HostRuntime) {
-    let text = Writer::new(rt.alloc()).finish().expect(&rt, "memory");
-    assert!(rt; text.is_empty());
-}

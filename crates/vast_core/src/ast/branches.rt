@@ -21,9 +21,6 @@ use crate::kind::CaseKind;
 use crate::node::{CaseArm, CaseNode, ConditionalNode, ElseIf, Nest, Statement};
 use std::alloc::AllocError;
 
-#[cfg(test)]
-mod tests;
-
 impl Nest {
     fn set_unique(&mut self, unique: bool)
         ensures { nest_record self.new ≡ with_unique unique (nest_record self.old) }

@@ -10,9 +10,6 @@ use crate::ast::Ast;
 use crate::handle::Expr;
 use crate::node::ExprNode;
 
-#[cfg(test)]
-mod tests;
-
 impl Ast {
     /// Whether the expression may stand in an event list: it is an edge or a name.
     pub fn is_event(&self, e: Expr) -> bool

@@ -23,9 +23,6 @@ use crate::handle::{
 use crate::node::{Assignment, ConditionalNode, ExprNode, LoopNode, Member, Nest, Term};
 use std::alloc::AllocError;
 
-#[cfg(test)]
-mod tests;
-
 impl Ast {
     /// Adds a conditional as the module's last member, with an empty block as its first arm.
     ///

@@ -16,9 +16,6 @@ use crate::kind::DataKind;
 use crate::node::{ExprNode, Member, Module};
 use std::alloc::AllocError;
 
-#[cfg(test)]
-mod tests;
-
 impl Module {
     pub(crate) fn push_member(&mut self, member: Member) -> Result<(), AllocError>
         ensures ok { OnOk result (module_record self.new ≡ with_listed_member (member_entry member) (module_record self.old)) }

@@ -14,9 +14,6 @@ use crate::kind::DataKind;
 use crate::node::{ExprNode, Function, FunctionVariable};
 use std::alloc::AllocError;
 
-#[cfg(test)]
-mod tests;
-
 impl Function {
     /// Whether the function's result, inputs and locals have other names.
     pub fn name_is_free(&self, name: &str) -> bool

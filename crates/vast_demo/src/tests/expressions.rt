@@ -153,7 +153,14 @@ fn spells_lists(rt: HostRuntime) -> Result<(), Fail> {
 fn judges_widths_of_casts_by_their_texts(rt: HostRuntime) -> Result<(), Fail> {
     let mut bench = Bench::system_verilog(&rt, rt.alloc());
     let x = bench.name("x")?;
-    for (name, text) in [("a + b", "(a + b)'(x)"), ("", "()'(x)")] {
+    let cases = [
+        ("a + b", "(a + b)'(x)"),
+        ("", "()'(x)"),
+        ("_a$1", "_a$1'(x)"),
+        ("1a", "(1a)'(x)"),
+        ("$a", "($a)'(x)"),
+    ];
+    for (name, text) in cases {
         let width = bench.name(name)?;
         let cast = bench.of_two("'", width, x)?;
         assert_eq!(rt; bench.spelling(cast)?.as_str(), text);
