@@ -81,7 +81,8 @@ impl VastFile {
         self.ast.case_add_arm(case, Some(*pattern))
     }
 
-    /// A `default` arm with an empty block, as the case statement's last; answers the block. There may be more than one.
+    /// A `default` arm with an empty block, as the case statement's last; answers the block. There may be more than
+    /// one.
     ///
     /// # Errors
     /// `AllocError` where a growth was refused; the file is unchanged.

@@ -4,7 +4,7 @@
 //! among those of its module, too.
 
 ghost use Rattle.std.specs.Prelude.{◌≡◌, Ok, true, false, Some, IfOk, MatchResult, OnOk, codes, map, string_bytes};
-ghost use Rattle.vast_literal.specs.Fault.{OnlyRefusedBy, RefusedBy};
+ghost use Rattle.vast_literal.specs.Fault.{OnlyRefusedBy};
 ghost use Rattle.vast_core.specs.Bench.{OwnsModule, OwnsType, OwnsFunction, OwnsBlock, OwnsLogicRef, IsFreeInFunction, type_of};
 ghost use Rattle.vast_core.specs.Growth.{next_logic_ref};
 ghost use Rattle.vast_core.specs.Functions.{with_variable};
@@ -12,7 +12,7 @@ ghost use Rattle.vast_core.specs.Loops.{next_function};
 ghost use Rattle.vast_core.specs.View.{bench};
 ghost use Rattle.xlsynth_vast.specs.Refusals.{MayBuild};
 ghost use Rattle.xlsynth_vast.specs.Declarations.{names_in};
-ghost use Rattle.xlsynth_vast.specs.Functions.{is_unpacked, unless_unpacked, may_be_function, with_function_member, declared_in_function, own_name_of, names_of_function, unless_taken_in_function};
+ghost use Rattle.xlsynth_vast.specs.Functions.{is_unpacked, unless_unpacked, may_be_function, with_function_member, declared_in_function, unless_taken_in_function};
 ghost use Rattle.xlsynth_vast.specs.Inspections.{body_at, result_at};
 
 use crate::declarations::listed_names;
