@@ -7,3 +7,6 @@ pub mod Connected
 pub mod Inspected
 pub mod MemberNames
 pub mod DeclaredNames
+pub mod Places
+pub mod Placed
+pub mod Parents

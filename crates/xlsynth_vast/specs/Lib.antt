@@ -10,4 +10,5 @@ pub mod Cases
 pub mod Inspections
 pub mod Instances
 pub mod Laws
+pub mod Parents
 pub mod Widths

@@ -3,6 +3,7 @@
 ghost use Rattle.vast_core.specs.Bench.{OwnsFunction};
 ghost use Rattle.vast_core.specs.View.{bench};
 ghost use Rattle.xlsynth_vast.specs.Laws.{HoistingAgain, NamesStayDistinct, FunctionNamesAreDistinct};
+ghost use Rattle.xlsynth_vast.specs.Parents.{ContainersHaveOneParent};
 
 use crate::file::VastFile;
 use vast_core::VastFunction;
@@ -16,6 +17,12 @@ pub fn hoisting_again()
 /// calls are made.
 pub fn names_stay_distinct()
     ensures { NamesStayDistinct }
+{}
+
+/// Each block, conditional, case statement and loop stands in at most one place, whatever calls are made: a container has
+/// one parent. So does each function and each always block.
+pub fn containers_have_one_parent()
+    ensures { ContainersHaveOneParent }
 {}
 
 /// The names that a function declares, of its result, inputs and locals, are pairwise distinct in every file, and they
