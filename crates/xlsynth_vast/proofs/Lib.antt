@@ -5,3 +5,4 @@ pub mod Hoisted
 pub mod Connected
 pub mod Inspected
 pub mod DeclaredNames
+pub mod Reduced

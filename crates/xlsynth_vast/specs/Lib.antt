@@ -8,3 +8,4 @@ pub mod Inspections
 pub mod Instances
 pub mod Laws
 pub mod Widths
+pub mod Reductions

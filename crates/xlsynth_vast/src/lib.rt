@@ -8,6 +8,7 @@ mod artifacts;
 mod declarations;
 mod expressions;
 mod file;
+pub mod helpers;
 mod hoisting;
 mod inspect;
 mod instances;
