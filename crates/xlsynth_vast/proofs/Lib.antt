@@ -6,3 +6,4 @@ pub mod Connected
 pub mod Inspected
 pub mod DeclaredNames
 pub mod Reduced
+pub mod ArrayReduced

@@ -9,3 +9,4 @@ pub mod Instances
 pub mod Laws
 pub mod Widths
 pub mod Reductions
+pub mod ArrayReduction

@@ -1,9 +1,11 @@
 -- Many expressions joined by one sign, and what a helper leaves that makes them.
-use Rattle.std.specs.Prelude.{◌≡◌, ℕ, pos, Bool, true, false, List, [], ◌∷◌, ◌++◌, Option, Some, None, Result, Ok, Err, IsOkAnd, not, codes, string_bytes}
+use Rattle.std.specs.Prelude.{◌≡◌, All, Vec, map, ℕ, pos, Bool, true, false, List, [], ◌∷◌, ◌++◌, Option, Some, None, Result, Ok, Err, IsOkAnd, not, codes, string_bytes}
 use Rattle.std.specs.List.{fold}
 use Rattle.std.specs.declared.alloc.AllocError.{AllocError}
+use Rattle.std.specs.declared.alloc.Global.{Global}
 use Rattle.vast_literal.specs.declared.error.VastFault.{VastFault}
 use Rattle.vast_literal.specs.declared.error.VastFault.TheVariants.{Refused, Memory}
+use Rattle.vast_literal.specs.Fault.{RefusedBy}
 use Rattle.vast_literal.specs.Tree.{BinaryOp, BitwiseOrOp, LogicalNotOp, ExprTree, LiteralTree, UnaryTree, BinaryTree}
 use Rattle.vast_core.specs.declared.handle.Expr.{Expr}
 use Rattle.vast_core.specs.Nodes.{Root}
@@ -58,3 +60,17 @@ IsJoined b (Some e) sign (t ∷ ts) = IsTree b e (joined sign t ts)
 abbrev pub MakesJoined : (old new : Bench) → Result (Option Expr) AllocError → BinaryOp → List ExprTree → Type 0
 MakesJoined old new (Ok e) sign trees = IsJoined new e sign trees × HasMoreNodes old new
 MakesJoined old new (Err e) sign trees = HasMoreNodes old new
+
+-- A helper's steps: a list with expressions of these trees more, and a list of expressions of these trees.
+abbrev pub AddsTrees : (old new : Bench) → Result (Unit {0}) AllocError → (before after : List Expr) → List ExprTree → Type 0
+AddsTrees old new (Ok _) before after added = All (OwnsExpr new) after × (map (tree_of new) after ≡ map (tree_of old) before ++ added) × HasMoreNodes old new
+AddsTrees old new (Err e) before after added = HasMoreNodes old new
+
+abbrev pub MakesTrees : (old new : Bench) → Result (Vec Expr Global) AllocError → List ExprTree → Type 0
+MakesTrees old new (Ok made) trees = All (OwnsExpr new) made.items × (map (tree_of new) made.items ≡ trees) × HasMoreNodes old new
+MakesTrees old new (Err e) trees = HasMoreNodes old new
+
+-- A check passes what its rule passes, and refuses only what its rule refuses.
+abbrev pub ChecksBy : {A : Type 0} → Result (Unit {0}) (List ℕ) → Result A VastFault → Type 0
+ChecksBy rule (Ok _) = rule ≡ Ok tt
+ChecksBy rule (Err fault) = RefusedBy rule fault
