@@ -5,11 +5,11 @@ use Rattle.vast_core.specs.declared.handle.Expr.{Expr}
 use Rattle.vast_core.specs.Nodes.{Root, ExprRoot}
 use Rattle.vast_core.specs.Bench.{Bench, OwnsExpr, tree_of}
 use Rattle.vast_core.specs.Growth.{Builds, with_root, with_expr, next_expr}
-use Rattle.vast_core.proofs.Lists.{slice_get-append, All-head, All-tail}
+use Rattle.vast_core.proofs.Lists.{slice_get-append, All-head, All-tail, All-implies}
 use Rattle.vast_core.proofs.NodeLaws.{Extends, HasExpr-kept, expr_in-kept}
 use Rattle.vast_core.proofs.Laws.{next_owned, next_tree}
 use Rattle.xlsynth_vast.specs.Expressions.{with_unary, with_binary}
-use Rattle.xlsynth_vast.specs.Reductions.{joined, bit_literal, logical_reduction, bitwise_reduction, HasMoreNodes, IsTree, MakesTree, MakesJoined}
+use Rattle.xlsynth_vast.specs.Reductions.{joined, with_nodes, bit_literal, logical_reduction, bitwise_reduction, HasMoreNodes, IsTree, MakesTree, MakesJoined}
 
 -- Nodes more.
 
@@ -36,6 +36,21 @@ more_owned b c h e k = HasExpr-kept b.nodes c.nodes (Extends-more b c h) e k
 pub more_tree : (b c : Bench) → HasMoreNodes b c → (e : Expr) → OwnsExpr b e → tree_of c e ≡ tree_of b e
 more_tree b c h e k = expr_in-kept b.nodes c.nodes (Extends-more b c h) e k
 
+pub more_trees : (b c : Bench) → HasMoreNodes b c → (es : List Expr) → All (OwnsExpr b) es → map (tree_of c) es ≡ map (tree_of b) es
+more_trees b c h [] k = refl
+more_trees b c h (e ∷ es) k =
+    rw (more_tree b c h e (All-head (OwnsExpr b) e es k), more_trees b c h es (All-tail (OwnsExpr b) e es k)) refl
+
+pub all-more : (b c : Bench) → HasMoreNodes b c → (es : List Expr) → All (OwnsExpr b) es → All (OwnsExpr c) es
+all-more b c h es k = All-implies (more_owned b c h) es k
+
+pub more-more : (b c d : Bench) → HasMoreNodes b c → HasMoreNodes c d → HasMoreNodes b d
+more-more b c d h k =
+    record {
+      more = h.more ++ k.more;
+      after = k.after ∙ (ap (λ (x : Bench). with_nodes k.more x) h.after ∙ ap (λ (roots : List Root). record b { nodes = record { id = b.nodes.id; roots = roots } }) (append_assoc b.nodes.roots h.more k.more));
+    }
+
 -- Joining what is left to what there is makes what is asked.
 pub record Joining (sign : BinaryOp) (start now : Bench) (first whole : Expr) (rest left : List Expr) : Type 0 where
   pub owned : OwnsExpr now whole
@@ -47,7 +62,7 @@ drop-next [] i x below is = absurd (omega arith)
 drop-next (y ∷ xs) zero x below is = ap (λ z. z ∷ xs) (sym is)
 drop-next (y ∷ xs) (suc i) x below is = drop-next xs i x (omega arith) is
 
-All-at : {A : Type 0} (P : A → Type 0) (xs : List A) (i : ℕ) (x : A) → All P xs → i < length xs → x ≡ get_or xs i x → P x
+pub All-at : {A : Type 0} (P : A → Type 0) (xs : List A) (i : ℕ) (x : A) → All P xs → i < length xs → x ≡ get_or xs i x → P x
 All-at P [] i x h below is = absurd (omega arith)
 All-at P (y ∷ xs) zero x h below is = rw is (All-head P y xs h)
 All-at P (y ∷ xs) (suc i) x h below is = All-at P xs i x (All-tail P y xs h) (omega arith) is
@@ -138,3 +153,5 @@ none_bitwise old mid new [] answer j built = of-none old mid new (LiteralTree (c
 none_bitwise old mid new (t ∷ ts) answer j built = absurd j.0
 
 pub ruleset reductions = (joined_plain, joined_bitwise)
+
+pub ruleset growing = (more-none, more-more)

@@ -1,6 +1,6 @@
 //! All elements of an array joined by `|`.
 
-ghost use Rattle.std.specs.Prelude.{◌≡◌, All, ℤ, ◌≤ℤ◌, pos};
+ghost use Rattle.std.specs.Prelude.{All, map};
 ghost use Rattle.std.specs.List.{flat_map};
 ghost use Rattle.vast_core.specs.Bench.{OwnsExpr, OwnsIndexable, tree_of};
 ghost use Rattle.vast_core.specs.View.{bench};
@@ -35,6 +35,7 @@ fn push_slots(
 }
 
 /// Adds to a list what arrays of this dimension hold, in order.
+#[tactic(auto, using(crate::proofs::Reduced::growing))]
 fn push_all_slots(
     arrays: &[Expr],
     dimension: i64,
@@ -52,6 +53,7 @@ fn push_all_slots(
 }
 
 /// All elements of an array of these dimensions.
+#[tactic(auto, using(crate::proofs::Reduced::growing))]
 fn elements_within(
     array: Expr,
     dimensions: &[i64],
@@ -72,6 +74,7 @@ fn elements_within(
 }
 
 /// The same, where they are known to be `count`: the memory of their list is asked for before any is made.
+#[tactic(auto, using(crate::proofs::Reduced::growing))]
 fn counted_elements(
     array: Expr,
     dimensions: &[i64],
