@@ -208,7 +208,7 @@ leveled-step start now after dimension arrays i array before made longer s h bel
     let before-trees : List ExprTree = map (tree_of start) before in
     let passed : List Expr = take i arrays in
     let split : flat_map f (map (tree_of start) (passed ++ array ∷ [])) ≡ flat_map f (map (tree_of start) passed) ++ f (tree_of start array) =
-        rw (map-append (tree_of start) passed (array ∷ []), flat_map-append f (map (tree_of start) passed) (tree_of start array ∷ []), append-nil (f (tree_of start array))) refl in
+    rw (map-append (tree_of start) passed (array ∷ []), flat_map-append f (map (tree_of start) passed) (tree_of start array ∷ []), append-nil (f (tree_of start array))) refl in
     let taken : take (suc i) arrays ≡ passed ++ array ∷ [] = rw (← is) at (take-suc arrays i array below) in
     record {
       owned = added.0;
@@ -260,3 +260,11 @@ adds_none old new (Err _) before after added e h = h
 pub makes_none : (old new : Bench) (r : Result (Vec Expr Global) AllocError) (trees : List ExprTree) → IsErr r → HasMoreNodes old new → MakesTrees old new r trees
 makes_none old new (Ok _) trees e h = absurd cc
 makes_none old new (Err _) trees e h = h
+
+-- Without dimensions the array itself is its one element.
+pub undivided :
+    (start : Bench) (array : Expr) (dimensions : List ℤ) (made : List Expr) → length dimensions ≡ 0 → OwnsExpr start array → made ≡ array ∷ [] →
+    All (OwnsExpr start) made × (map (tree_of start) made ≡ elements dimensions (tree_of start array)) × HasMoreNodes start start
+unfolding elements
+undivided start array [] made none h is = rw is (All-cons (OwnsExpr start) array [] h (λ k d past. absurd (omega arith)), refl, more-none start)
+undivided start array (d ∷ ds) made none h is = absurd (omega (arith, none))

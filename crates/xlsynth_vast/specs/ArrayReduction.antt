@@ -1,5 +1,5 @@
 -- The reduction of an array: the checks that refuse it, and its elements in order.
-use Rattle.std.specs.Prelude.{ℕ, ℤ, pos, ◌^◌, int_lt, Bool, List, [], ◌∷◌, ◌++◌, map, drop, codes, Option, Some, None, option_map, Result, Ok, Err, if◌then◌else◌}
+use Rattle.std.specs.Prelude.{ℕ, ℤ, pos, ◌^◌, int_lt, List, [], ◌∷◌, ◌++◌, map, drop, codes, Option, Some, None, option_map, Result, Ok, Err, if◌then◌else◌}
 use Rattle.std.specs.List.{flat_map, join_by, list_all, range_with_len}
 use Rattle.std.specs.Int.{is_positive}
 use Rattle.std.specs.Ordering.{int_eq}

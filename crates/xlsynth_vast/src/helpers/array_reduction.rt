@@ -85,13 +85,12 @@ fn counted_elements(
     ensures { MakesTrees (bench file.old) (bench file.new) result (elements dimensions.now (tree_of (bench file.old) array)) }
 {
     let mut made = Vec::with_capacity(file.allocator(), count)?;
-    match dimensions.split_last() {
-        Some((last, outer)) => {
-            let arrays = elements_within(array, outer, file)?;
-            push_all_slots(&arrays, *last, &mut made, file)?;
-        }
-        None => made.push(array)?,
-    }
+    let Some((last, outer)) = dimensions.split_last() else {
+        made.push(array)?;
+        return Ok(made);
+    };
+    let arrays = elements_within(array, outer, file)?;
+    push_all_slots(&arrays, *last, &mut made, file)?;
     Ok(made)
 }
 

@@ -1,4 +1,3 @@
-use Rattle.std.proofs.Common.{rules}
 use Rattle.std.specs.Fmt.{signed_decimal}
 use Rattle.std.proofs.Debugs.{debug_list-Some}
 use Rattle.xlsynth_vast.specs.ArrayReduction.{mismatch}

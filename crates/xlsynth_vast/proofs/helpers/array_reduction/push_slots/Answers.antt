@@ -1,6 +1,4 @@
-use Rattle.std.proofs.Common.{rules, ◌≡◌, ℤ, ◌+ℤ◌, ◌<ℤ◌, ◌≤ℤ◌, pos, to_z, of_z, w64, ap, ◌∙◌}
-use Rattle.vast_core.specs.View.{bench}
-use Rattle.vast_core.specs.Handles.{index_to_expr}
+use Rattle.std.proofs.Common.{rules, ◌≡◌, ◌+ℤ◌, ◌<ℤ◌, ◌≤ℤ◌, pos, to_z, of_z, w64}
 use Rattle.xlsynth_vast.proofs.ArrayReduced.{slotted-start, slot-subject, slotted-step, slotted-end}
 use Rattle.xlsynth_vast.proofs.helpers.array_reduction.push_slots.Goals as goal
 
