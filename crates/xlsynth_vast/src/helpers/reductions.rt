@@ -60,8 +60,8 @@ pub fn logical_or_reduce(
     ensures { MakesTree (bench file.old) (bench file.new) result (Ok (logical_reduction LogicalOrOp false invert (map (tree_of (bench file.old)) values.now))) }
 {
     match joined(values, VastFile::make_logical_or, file)? {
-        Some(whole) if invert => Ok(file.make_logical_not(&whole)?),
-        Some(whole) => Ok(whole),
+        Some(any) if invert => Ok(file.make_logical_not(&any)?),
+        Some(any) => Ok(any),
         None => Ok(make_bit(invert, file)?),
     }
 }
@@ -81,8 +81,8 @@ pub fn logical_and_reduce(
     ensures { MakesTree (bench file.old) (bench file.new) result (Ok (logical_reduction LogicalAndOp true invert (map (tree_of (bench file.old)) values.now))) }
 {
     match joined(values, VastFile::make_logical_and, file)? {
-        Some(whole) if invert => Ok(file.make_logical_not(&whole)?),
-        Some(whole) => Ok(whole),
+        Some(all) if invert => Ok(file.make_logical_not(&all)?),
+        Some(all) => Ok(all),
         None => Ok(make_bit(!invert, file)?),
     }
 }
