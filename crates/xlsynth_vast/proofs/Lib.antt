@@ -10,3 +10,5 @@ pub mod DeclaredNames
 pub mod Places
 pub mod Placed
 pub mod Parents
+pub mod Reduced
+pub mod ArrayReduced

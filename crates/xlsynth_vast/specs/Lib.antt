@@ -12,3 +12,5 @@ pub mod Instances
 pub mod Laws
 pub mod Parents
 pub mod Widths
+pub mod Reductions
+pub mod ArrayReduction

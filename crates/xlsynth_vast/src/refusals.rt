@@ -14,7 +14,7 @@ use vast_literal::{VastError, VastFault};
 use vast_print::print_expr;
 
 /// The refusal of this text, or want of memory where the text could not be made.
-fn refusal(text: Result<String, AllocError>) -> VastFault
+pub(crate) fn refusal(text: Result<String, AllocError>) -> VastFault
     ensures { MatchResult text (λ t. HasText result (string_bytes t)) (λ error. result ≡ VastFault.Memory error) }
 {
     match text {

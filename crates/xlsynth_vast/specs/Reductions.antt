@@ -1,0 +1,76 @@
+-- Many expressions joined by one sign, and what a helper leaves that makes them.
+use Rattle.std.specs.Prelude.{◌≡◌, All, Vec, map, ℕ, pos, Bool, true, false, List, [], ◌∷◌, ◌++◌, Option, Some, None, Result, Ok, Err, IsOkAnd, not, codes, string_bytes}
+use Rattle.std.specs.List.{fold}
+use Rattle.std.specs.declared.alloc.AllocError.{AllocError}
+use Rattle.std.specs.declared.alloc.Global.{Global}
+use Rattle.vast_literal.specs.declared.error.VastFault.{VastFault}
+use Rattle.vast_literal.specs.declared.error.VastFault.TheVariants.{Refused, Memory}
+use Rattle.vast_literal.specs.Fault.{RefusedBy}
+use Rattle.vast_literal.specs.Tree.{BinaryOp, BitwiseOrOp, LogicalNotOp, ExprTree, LiteralTree, UnaryTree, BinaryTree}
+use Rattle.vast_core.specs.declared.handle.Expr.{Expr}
+use Rattle.vast_core.specs.Nodes.{Root}
+use Rattle.vast_core.specs.Bench.{Bench, OwnsExpr, tree_of}
+
+-- A first tree and others, joined from the left: `((a | b) | c) | d`.
+abbrev pub joined : BinaryOp → ExprTree → List ExprTree → ExprTree
+joined sign first others = fold (λ whole next. BinaryTree sign whole next) first others
+
+-- The literal of one bit.
+abbrev pub bit_literal : Bool → ExprTree
+bit_literal false = LiteralTree (codes "1'h0") (Some (pos 0))
+bit_literal true = LiteralTree (codes "1'h1") (Some (pos 1))
+
+-- No trees stand for a bit. To invert is one `!` over the whole, and of no trees the other bit.
+abbrev pub logical_reduction : (sign : BinaryOp) (of_none invert : Bool) → List ExprTree → ExprTree
+logical_reduction sign of_none false [] = bit_literal of_none
+logical_reduction sign of_none true [] = bit_literal (not of_none)
+logical_reduction sign of_none false (t ∷ ts) = joined sign t ts
+logical_reduction sign of_none true (t ∷ ts) = UnaryTree LogicalNotOp (joined sign t ts)
+
+-- No trees stand for a zero of any width.
+abbrev pub bitwise_reduction : List ExprTree → ExprTree
+bitwise_reduction [] = LiteralTree (codes "'0") (Some (pos 0))
+bitwise_reduction (t ∷ ts) = joined BitwiseOrOp t ts
+
+-- The file has these nodes more, and all else is as it was.
+abbrev pub with_nodes : List Root → Bench → Bench
+with_nodes roots b = record b { nodes = record { id = b.nodes.id; roots = b.nodes.roots ++ roots } }
+
+pub record HasMoreNodes (old new : Bench) : Type 0 where
+  pub more : List Root
+  pub after : new ≡ with_nodes more old
+
+-- The handle is that of an expression of this tree.
+abbrev pub IsTree : Bench → Expr → ExprTree → Type 0
+IsTree b e t = OwnsExpr b e × (tree_of b e ≡ t)
+
+-- What a helper leaves that makes an expression: its tree is the rule's, or the rule refuses it and nothing changed, or
+-- memory was refused. But for nodes that nothing else uses, the file is as it was.
+abbrev pub MakesTree : (old new : Bench) → Result Expr VastFault → Result ExprTree (List ℕ) → Type 0
+MakesTree old new (Ok e) rule = IsOkAnd rule (IsTree new e) × HasMoreNodes old new
+MakesTree old new (Err (Refused e)) rule = (rule ≡ Err (string_bytes e.0)) × (new ≡ old)
+MakesTree old new (Err (Memory e)) rule = HasMoreNodes old new
+
+-- The same of trees that are joined, if there are any.
+abbrev pub IsJoined : Bench → Option Expr → BinaryOp → List ExprTree → Type 0
+IsJoined b e sign [] = e ≡ None
+IsJoined b None sign (t ∷ ts) = ⊥
+IsJoined b (Some e) sign (t ∷ ts) = IsTree b e (joined sign t ts)
+
+abbrev pub MakesJoined : (old new : Bench) → Result (Option Expr) AllocError → BinaryOp → List ExprTree → Type 0
+MakesJoined old new (Ok e) sign trees = IsJoined new e sign trees × HasMoreNodes old new
+MakesJoined old new (Err e) sign trees = HasMoreNodes old new
+
+-- A helper's steps: a list with expressions of these trees more, and a list of expressions of these trees.
+abbrev pub AddsTrees : (old new : Bench) → Result (Unit {0}) AllocError → (before after : List Expr) → List ExprTree → Type 0
+AddsTrees old new (Ok _) before after added = All (OwnsExpr new) after × (map (tree_of new) after ≡ map (tree_of old) before ++ added) × HasMoreNodes old new
+AddsTrees old new (Err e) before after added = HasMoreNodes old new
+
+abbrev pub MakesTrees : (old new : Bench) → Result (Vec Expr Global) AllocError → List ExprTree → Type 0
+MakesTrees old new (Ok made) trees = All (OwnsExpr new) made.items × (map (tree_of new) made.items ≡ trees) × HasMoreNodes old new
+MakesTrees old new (Err e) trees = HasMoreNodes old new
+
+-- A check passes what its rule passes, and refuses only what its rule refuses.
+abbrev pub ChecksBy : {A : Type 0} → Result (Unit {0}) (List ℕ) → Result A VastFault → Type 0
+ChecksBy rule (Ok _) = rule ≡ Ok tt
+ChecksBy rule (Err fault) = RefusedBy rule fault

@@ -1,0 +1,118 @@
+//! All elements of an array joined by `|`.
+
+ghost use Rattle.std.specs.Prelude.{All, map};
+ghost use Rattle.std.specs.List.{flat_map};
+ghost use Rattle.vast_core.specs.Bench.{OwnsExpr, OwnsIndexable, tree_of};
+ghost use Rattle.vast_core.specs.View.{bench};
+ghost use Rattle.xlsynth_vast.specs.Expressions.{subject_of};
+ghost use Rattle.xlsynth_vast.specs.Reductions.{MakesTree, MakesTrees, AddsTrees};
+ghost use Rattle.xlsynth_vast.specs.ArrayReduction.{slots, elements, array_reduction};
+
+use crate::file::VastFile;
+use crate::helpers::array_checks::checked_count;
+use crate::helpers::reductions::bitwise_or_reduce;
+use std::alloc::AllocError;
+use vast_core::{Expr, IndexableExpr};
+use vast_literal::VastFault;
+
+/// Adds to a list what an array of this dimension holds, in order.
+fn push_slots(
+    array: Expr,
+    dimension: i64,
+    made: &mut Vec<Expr>,
+    file: &mut VastFile,
+) -> Result<(), AllocError>
+    requires array { OwnsExpr (bench file.old) array }
+    requires made { All (OwnsExpr (bench file.old)) made.old.items }
+    ensures { AddsTrees (bench file.old) (bench file.new) result made.old.items made.new.items (slots dimension (tree_of (bench file.old) array)) }
+{
+    let array = file.make_indexable_expression(&array);
+    for index in 0..dimension {
+        let slot = file.make_index(&array, index)?;
+        made.push(slot.to_expr())?;
+    }
+    Ok(())
+}
+
+/// Adds to a list what arrays of this dimension hold, in order.
+#[tactic(auto, using(crate::proofs::Reduced::growing))]
+fn push_all_slots(
+    arrays: &[Expr],
+    dimension: i64,
+    made: &mut Vec<Expr>,
+    file: &mut VastFile,
+) -> Result<(), AllocError>
+    requires arrays { All (OwnsExpr (bench file.old)) arrays.now }
+    requires made { All (OwnsExpr (bench file.old)) made.old.items }
+    ensures { AddsTrees (bench file.old) (bench file.new) result made.old.items made.new.items (flat_map (slots dimension) (map (tree_of (bench file.old)) arrays.now)) }
+{
+    for array in arrays {
+        push_slots(*array, dimension, made, file)?;
+    }
+    Ok(())
+}
+
+/// All elements of an array of these dimensions.
+#[tactic(auto, using(crate::proofs::Reduced::growing))]
+fn elements_within(
+    array: Expr,
+    dimensions: &[i64],
+    file: &mut VastFile,
+) -> Result<Vec<Expr>, AllocError>
+    requires { OwnsExpr (bench file.old) array }
+    ensures { MakesTrees (bench file.old) (bench file.new) result (elements dimensions.now (tree_of (bench file.old) array)) }
+{
+    let alloc = file.allocator();
+    let mut arrays = Vec::new(alloc);
+    arrays.push(array)?;
+    for dimension in dimensions {
+        let mut made = Vec::new(alloc);
+        push_all_slots(&arrays, *dimension, &mut made, file)?;
+        arrays = made;
+    }
+    Ok(arrays)
+}
+
+/// The same, where they are known to be `count`: the memory of their list is asked for before any is made.
+#[tactic(auto, using(crate::proofs::Reduced::growing))]
+fn counted_elements(
+    array: Expr,
+    dimensions: &[i64],
+    count: usize,
+    file: &mut VastFile,
+) -> Result<Vec<Expr>, AllocError>
+    requires { OwnsExpr (bench file.old) array }
+    ensures { MakesTrees (bench file.old) (bench file.new) result (elements dimensions.now (tree_of (bench file.old) array)) }
+{
+    let mut made = Vec::with_capacity(file.allocator(), count)?;
+    let Some((last, outer)) = dimensions.split_last() else {
+        made.push(array)?;
+        return Ok(made);
+    };
+    let arrays = elements_within(array, outer, file)?;
+    push_all_slots(&arrays, *last, &mut made, file)?;
+    Ok(made)
+}
+
+/// All elements of a packed array of these dimensions joined by `|`, those of its first slot first, as
+/// `a[0][0] | a[0][1] | a[1][0] | a[1][1]`.
+///
+/// # Errors
+/// `Refused`, and then the file is unchanged, by the first of these: `packed-array reduction requires at least one
+/// dimension`; `packed-array dimensions must be greater than zero`; `packed-array dimensions do not match expression
+/// type: expected [2, 3], got [2, 4]`, where the array is a name or a cast with its type, or an element of one;
+/// `packed-array element count exceeds usize`, for a product of 2^64 or more. `Memory` as
+/// [`logical_or_reduce`](crate::helpers::logical_or_reduce).
+pub fn bitwise_or_reduce_array_elements(
+    value: &IndexableExpr,
+    dimensions: &[i64],
+    file: &mut VastFile,
+) -> Result<Expr, VastFault>
+    requires { OwnsIndexable (bench file.old) value.now }
+    ensures { MakesTree (bench file.old) (bench file.new) result (array_reduction dimensions.now (subject_of (bench file.old) value.now)) }
+{
+    let array = value.to_expr();
+    let count = checked_count(&file.ast, array, dimensions)?;
+    let elements = counted_elements(array, dimensions, count, file)?;
+    bitwise_or_reduce(&elements, file)
+}

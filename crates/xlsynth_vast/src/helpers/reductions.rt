@@ -1,0 +1,103 @@
+//! Many expressions joined by one sign.
+
+ghost use Rattle.std.specs.Prelude.{◌≡◌, All, Ok, map, false, true};
+ghost use Rattle.vast_literal.specs.Tree.{BinaryOp, BitwiseOrOp, LogicalAndOp, LogicalOrOp};
+ghost use Rattle.vast_core.specs.Bench.{OwnsExpr, tree_of};
+ghost use Rattle.vast_core.specs.Growth.{Builds, next_expr, with_expr};
+ghost use Rattle.vast_core.specs.View.{bench};
+ghost use Rattle.xlsynth_vast.specs.Expressions.{with_binary};
+ghost use Rattle.xlsynth_vast.specs.Reductions.{MakesTree, MakesJoined, bit_literal, logical_reduction, bitwise_reduction};
+
+use crate::file::VastFile;
+use std::alloc::AllocError;
+use vast_core::Expr;
+use vast_literal::VastFault;
+
+/// The values joined from the left by a call that makes an expression of two; `None` where there are no values.
+fn joined<F>(values: &[Expr], mut join: F, file: &mut VastFile) -> Result<Option<Expr>, AllocError>
+where
+    F: FnMut(&mut VastFile, &Expr, &Expr) -> Result<Expr, AllocError>,
+    ghost sign: { BinaryOp }
+    requires callable { (state : F) (f : _) (a : _) (b : _) → OwnsExpr (bench f.now) a.now → OwnsExpr (bench f.now) b.now → F.pre state f a b }
+    requires joins { (state : F) (f : _) (a : _) (b : _) (r : _) (g : _) (next : F) → F.step state f a b r g next → Builds (bench f.now) (bench g.now) r (next_expr (bench f.now)) (with_binary sign a.now b.now (bench f.now)) }
+    requires owned { All (OwnsExpr (bench file.old)) values.now }
+    ensures { MakesJoined (bench file.old) (bench file.new) result sign (map (tree_of (bench file.old)) values.now) }
+{
+    let Some((first, rest)) = values.split_first() else {
+        return Ok(None);
+    };
+    let mut whole = *first;
+    for value in rest {
+        whole = join(file, &whole, value)?;
+    }
+    Ok(Some(whole))
+}
+
+/// The literal of one bit.
+fn make_bit(set: bool, file: &mut VastFile) -> Result<Expr, AllocError>
+    ensures { Builds (bench file.old) (bench file.new) result (next_expr (bench file.old)) (with_expr (bench file.old) (bit_literal set)) }
+{
+    if set {
+        file.ast.push_literal("1'h1", Some(1))
+    } else {
+        file.ast.push_literal("1'h0", Some(0))
+    }
+}
+
+/// The values joined by `||`, as `a || b || c`, and `1'h0` where there are none. To invert is one `!` over the whole,
+/// and of no values `1'h1`.
+///
+/// # Errors
+/// `Memory` where a growth was refused. The file then may have expressions more that nothing uses; all else of it is
+/// as it was.
+#[tactic(auto, using(crate::proofs::Reduced::reductions))]
+pub fn logical_or_reduce(
+    values: &[Expr],
+    invert: bool,
+    file: &mut VastFile,
+) -> Result<Expr, VastFault>
+    requires { All (OwnsExpr (bench file.old)) values.now }
+    ensures { MakesTree (bench file.old) (bench file.new) result (Ok (logical_reduction LogicalOrOp false invert (map (tree_of (bench file.old)) values.now))) }
+{
+    match joined(values, VastFile::make_logical_or, file)? {
+        Some(any) if invert => Ok(file.make_logical_not(&any)?),
+        Some(any) => Ok(any),
+        None => Ok(make_bit(invert, file)?),
+    }
+}
+
+/// The values joined by `&&`, as `a && b && c`, and `1'h1` where there are none. To invert is one `!` over the whole,
+/// and of no values `1'h0`.
+///
+/// # Errors
+/// As [`logical_or_reduce`].
+#[tactic(auto, using(crate::proofs::Reduced::reductions))]
+pub fn logical_and_reduce(
+    values: &[Expr],
+    invert: bool,
+    file: &mut VastFile,
+) -> Result<Expr, VastFault>
+    requires { All (OwnsExpr (bench file.old)) values.now }
+    ensures { MakesTree (bench file.old) (bench file.new) result (Ok (logical_reduction LogicalAndOp true invert (map (tree_of (bench file.old)) values.now))) }
+{
+    match joined(values, VastFile::make_logical_and, file)? {
+        Some(all) if invert => Ok(file.make_logical_not(&all)?),
+        Some(all) => Ok(all),
+        None => Ok(make_bit(!invert, file)?),
+    }
+}
+
+/// The values joined by `|`, as `a | b | c`, and `'0` where there are none.
+///
+/// # Errors
+/// As [`logical_or_reduce`].
+#[tactic(auto, using(crate::proofs::Reduced::reductions))]
+pub fn bitwise_or_reduce(values: &[Expr], file: &mut VastFile) -> Result<Expr, VastFault>
+    requires { All (OwnsExpr (bench file.old)) values.now }
+    ensures { MakesTree (bench file.old) (bench file.new) result (Ok (bitwise_reduction (map (tree_of (bench file.old)) values.now))) }
+{
+    match joined(values, VastFile::make_bitwise_or, file)? {
+        Some(whole) => Ok(whole),
+        None => Ok(file.make_unsized_zero_literal()?),
+    }
+}
