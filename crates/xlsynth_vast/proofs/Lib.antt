@@ -8,5 +8,5 @@ pub mod Inspected
 pub mod MemberNames
 pub mod DeclaredNames
 pub mod Places
-pub mod Placed
+pub mod PlacedOnce
 pub mod Parents
