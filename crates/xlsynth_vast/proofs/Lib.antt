@@ -8,7 +8,7 @@ pub mod Inspected
 pub mod MemberNames
 pub mod DeclaredNames
 pub mod Places
-pub mod Placed
+pub mod PlacedOnce
 pub mod Parents
 pub mod Reduced
 pub mod ArrayReduced

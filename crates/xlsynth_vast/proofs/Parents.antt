@@ -25,14 +25,14 @@ use Rattle.xlsynth_vast.specs.Functions.{with_function_member}
 use Rattle.xlsynth_vast.specs.AlwaysBlocks.{with_always_member, with_loop_always}
 use Rattle.xlsynth_vast.specs.Parents.{Part, held_by_member, held_by_container, held_by_function, held_by_module, held, places, HasOneParent, ContainersHaveOneParent}
 use Rattle.xlsynth_vast.proofs.Places.{over-push, over-changed, over-hoisted}
-use Rattle.xlsynth_vast.proofs.Placed.{held_by_entry, container_after, Larger, larger, to-come-before, file-places, grown, placed-container, placed-containers, placed-function, placed-always}
+use Rattle.xlsynth_vast.proofs.PlacedOnce.{held_by_entry, container_after, Larger, nodes-more, to-come-before, file-places, grown, placed-container, placed-containers, placed-function, placed-always}
 
 -- Files that hold no more than before.
 
 kept : (b c : Bench) → Larger b c 0 0 0 → ((p : Part) → places p (held c) ≤ places p (held b)) → HasOneParent b → HasOneParent c
-kept b c larger less h = record {
+kept b c more less h = record {
   once = λ p. let old = h.once p in let e = less p in omega (arith, old, e);
-  nowhere = λ p k. let old = h.nowhere p (to-come-before b c 0 0 0 larger p k) in let e = less p in omega (arith, old, e);
+  nowhere = λ p k. let old = h.nowhere p (to-come-before b c 0 0 0 more p k) in let e = less p in omega (arith, old, e);
 }
 
 equal : (b c : Bench) → c.nests ≡ b.nests → c.functions ≡ b.functions → c.always_blocks ≡ b.always_blocks → Larger b c 0 0 0
@@ -117,25 +117,25 @@ with-function : (b : Bench) (owner : VastModule) (name : List ℕ) (result_type 
 with-function b owner name result_type h =
     let l : Listing = InModule owner (FunctionEntry (next_function b)) (Some name) in
     let f : Fresh = record { term = None; assignment = None; container = None; block = true; function = Some (new_function b name result_type); always_block = None } in
-    unchanged (after_growth l f b) (with_function_member owner name result_type b) refl refl refl refl (grown l f b (placed-function b (after_growth l f b) (larger l f b)) h)
+    unchanged (after_growth l f b) (with_function_member owner name result_type b) refl refl refl refl (grown l f b (placed-function b (after_growth l f b) (nodes-more l f b)) h)
 
 with-always : (b : Bench) (owner : VastModule) (kind : AlwaysKind) (events : List Expr) → HasOneParent b → HasOneParent (with_always_member owner kind events b)
 with-always b owner kind events h =
     let l : Listing = InModule owner (AlwaysEntry (next_always b)) None in
     let f : Fresh = fresh_always (new_always b kind events) in
-    grown l f b (placed-always b (after_growth l f b) (larger l f b)) h
+    grown l f b (placed-always b (after_growth l f b) (nodes-more l f b)) h
 
 with-always-inside : (b : Bench) (owner : GenerateLoop) (kind : AlwaysKind) (events : List Expr) → HasOneParent b → HasOneParent (with_loop_always owner kind events b)
 with-always-inside b owner kind events h =
     let l : Listing = InNest (loop_index owner) (MemberEnters (AlwaysEntry (next_always b))) in
     let f : Fresh = fresh_always (new_always b kind events) in
-    grown l f b (placed-always b (after_growth l f b) (larger l f b)) h
+    grown l f b (placed-always b (after_growth l f b) (nodes-more l f b)) h
 
 with-conditional : (b : Bench) (owner : VastModule) (condition : Expr) → HasOneParent b → HasOneParent (with_member owner (ConditionalEntry (next_conditional b)) (with_conditional condition b))
 with-conditional b owner condition h =
     let l : Listing = InModule owner (ConditionalEntry (next_conditional b)) None in
     let f : Fresh = fresh_container (new_conditional b condition) true in
-    grown l f b (placed-containers b (after_growth l f b) (larger l f b)) h
+    grown l f b (placed-containers b (after_growth l f b) (nodes-more l f b)) h
 
 -- The conditional enters a container.
 with-conditional-inside :
@@ -143,17 +143,17 @@ with-conditional-inside :
 with-conditional-inside b place entry condition e h =
     let l : Listing = InNest place entry in
     let f : Fresh = fresh_container (new_conditional b condition) true in
-    grown l f b (λ p. rw e (placed-containers b (after_growth l f b) (larger l f b) p)) h
+    grown l f b (λ p. rw e (placed-containers b (after_growth l f b) (nodes-more l f b) p)) h
 
 with-case : (b : Bench) (owner : VastStatementBlock) (kind : CaseKind) (selector : Expr) → HasOneParent b → HasOneParent (with_statement owner (CasesStatement (next_case b)) (with_case kind selector b))
 with-case b owner kind selector h =
     let l : Listing = InNest (block_index owner) (StatementEnters (CasesStatement (next_case b))) in
     let f : Fresh = fresh_container (new_case kind selector) false in
-    grown l f b (placed-container b (after_growth l f b) (larger l f b)) h
+    grown l f b (placed-container b (after_growth l f b) (nodes-more l f b)) h
 
 -- An entry with an empty block.
 with-block-inside : (b : Bench) (place : ℕ) (entry : NestedEntry) → held_by_entry entry ≡ container_after b ∷ [] → HasOneParent b → HasOneParent (with_nest_entry place entry (with_block b))
-with-block-inside b place entry e h = let l : Listing = InNest place entry in grown l fresh_block b (λ p. rw e (placed-container b (after_growth l fresh_block b) (larger l fresh_block b) p)) h
+with-block-inside b place entry e h = let l : Listing = InNest place entry in grown l fresh_block b (λ p. rw e (placed-container b (after_growth l fresh_block b) (nodes-more l fresh_block b) p)) h
 
 with-loop :
     (b : Bench) (owner : VastModule) (name : List ℕ) (first limit : Expr) (label : Option (List ℕ)) →
@@ -161,7 +161,7 @@ with-loop :
 with-loop b owner name first limit label h =
     let l : Listing = InModule owner (LoopEntry (next_loop b)) None in
     let f : Fresh = fresh_container (new_loop b name first limit label) false in
-    unchanged (after_growth l f b) (with_member owner (LoopEntry (next_loop b)) (with_loop name first limit label b)) refl refl refl refl (grown l f b (placed-container b (after_growth l f b) (larger l f b)) h)
+    unchanged (after_growth l f b) (with_member owner (LoopEntry (next_loop b)) (with_loop name first limit label b)) refl refl refl refl (grown l f b (placed-container b (after_growth l f b) (nodes-more l f b)) h)
 
 with-loop-inside :
     (b : Bench) (owner : GenerateLoop) (name : List ℕ) (first limit : Expr) (label : Option (List ℕ)) →
@@ -169,7 +169,7 @@ with-loop-inside :
 with-loop-inside b owner name first limit label h =
     let l : Listing = InNest (loop_index owner) (MemberEnters (LoopEntry (next_loop b))) in
     let f : Fresh = fresh_container (new_loop b name first limit label) false in
-    unchanged (after_growth l f b) (with_loop_member owner (LoopEntry (next_loop b)) (with_loop name first limit label b)) refl refl refl refl (grown l f b (placed-container b (after_growth l f b) (larger l f b)) h)
+    unchanged (after_growth l f b) (with_loop_member owner (LoopEntry (next_loop b)) (with_loop name first limit label b)) refl refl refl refl (grown l f b (placed-container b (after_growth l f b) (nodes-more l f b)) h)
 
 pub containers-have-one-parent : ContainersHaveOneParent
 containers-have-one-parent = record {

@@ -136,8 +136,8 @@ length-listed : (l : Listing) (nests : List NestRecord) → length (listed_nests
 length-listed (InModule owner entry name) nests = refl
 length-listed (InNest place entry) nests = length-changed_at (with_entry entry) nests place
 
-pub larger : (l : Listing) (f : Fresh) (b : Bench) → Larger b (after_growth l f b) (count_of f.container + block_count f.block) (count_of f.function) (count_of f.always_block)
-larger l f b =
+pub nodes-more : (l : Listing) (f : Fresh) (b : Bench) → Larger b (after_growth l f b) (count_of f.container + block_count f.block) (count_of f.function) (count_of f.always_block)
+nodes-more l f b =
     let container = length-added b.nests f.container in
     let block = length-block f.block (added b.nests f.container) in
     let kept = length-listed l (with_empty_block f.block (added b.nests f.container)) in
@@ -168,7 +168,7 @@ pub grown : (l : Listing) (f : Fresh) (b : Bench) → ((p : Part) → Placed b (
 grown l f b placed h = record {
   once = λ p. once-after b (after_growth l f b) (placed_by l f) p h (growth-places p l f b) (placed p);
   nowhere = λ p k. nowhere-after b (after_growth l f b) (placed_by l f) p h (growth-places p l f b) (placed p)
-      (to-come-before b (after_growth l f b) (count_of f.container + block_count f.block) (count_of f.function) (count_of f.always_block) (larger l f b) p k) k;
+      (to-come-before b (after_growth l f b) (count_of f.container + block_count f.block) (count_of f.function) (count_of f.always_block) (nodes-more l f b) p k) k;
 }
 
 -- The parts that growths place.
@@ -176,23 +176,27 @@ grown l f b placed h = record {
 abbrev one_if : ℕ → ℕ → ℕ
 one_if i n = cond (nat_eq i n) 1 0
 
-here-case : (i n : ℕ) (t : Bool) → nat_eq i n ≡ t → (one_if i n ≡ 0) ⊎ ((i ≡ n) × (one_if i n ≡ 1))
+-- A number is another or it isn't.
+abbrev IsHereOrNot : (i n : ℕ) → Type 0
+IsHereOrNot i n = (one_if i n ≡ 0) ⊎ ((i ≡ n) × (one_if i n ≡ 1))
+
+here-case : (i n : ℕ) (t : Bool) → nat_eq i n ≡ t → IsHereOrNot i n
 here-case i n true e = inr (eqb-true i n e, rw e refl)
 here-case i n false e = inl (rw e refl)
 
--- A number is another or it isn't.
-here : (i n : ℕ) → (one_if i n ≡ 0) ⊎ ((i ≡ n) × (one_if i n ≡ 1))
+here : (i n : ℕ) → IsHereOrNot i n
 here i n = here-case i n (nat_eq i n) refl
 
--- One that is the next of n, where there are m afterwards.
+-- What has the number i stands in k new places: in none, or in one and its number is from n on and below m.
 abbrev Fits : (k i n m : ℕ) → Type 0
 Fits k i n m = (k ≡ 0) ⊎ ((n ≤ i) × (m ≤ i → ⊥) × (k ≤ 1))
 
+-- The place of the number n.
 one : (k i n m : ℕ) → n + 1 ≡ m → k ≡ one_if i n → Fits k i n m
 one k i n m more e = ⊎_elim (λ h. inl (omega (arith, e, h))) (λ h. let at = h.0 in let is = h.1 in inr (omega (arith, at), (λ below. omega (arith, at, more, below)), omega (arith, e, is))) (here i n)
 
--- The same of the next two.
-two-case : (k i n m : ℕ) → n + 2 ≡ m → k ≡ one_if i n + one_if i (suc n) → (one_if i n ≡ 0) ⊎ ((i ≡ n) × (one_if i n ≡ 1)) → (one_if i (suc n) ≡ 0) ⊎ ((i ≡ suc n) × (one_if i (suc n) ≡ 1)) → Fits k i n m
+-- The places of n and of the number behind it.
+two-case : (k i n m : ℕ) → n + 2 ≡ m → k ≡ one_if i n + one_if i (suc n) → IsHereOrNot i n → IsHereOrNot i (suc n) → Fits k i n m
 two-case k i n m more e (inl h) (inl g) = inl (omega (arith, e, h, g))
 two-case k i n m more e (inl h) (inr g) = let at = g.0 in let is = g.1 in inr (omega (arith, at), (λ below. omega (arith, at, more, below)), omega (arith, e, h, is))
 two-case k i n m more e (inr h) (inl g) = let at = h.0 in let is = h.1 in inr (omega (arith, at), (λ below. omega (arith, at, more, below)), omega (arith, e, g, is))
