@@ -11,5 +11,6 @@ mod loops;
 mod members;
 mod parameters;
 mod ports;
+mod reductions;
 mod statements;
 mod types;

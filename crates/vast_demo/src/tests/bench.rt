@@ -14,6 +14,7 @@ mod operands;
 mod operators;
 mod procedures;
 mod program;
+mod reductions;
 mod selects;
 mod statements;
 mod types;

@@ -46,6 +46,13 @@ impl<'a, R: Abort> Bench<'a, R> {
         }
     }
 
+    /// The element of an array at this index.
+    pub(crate) fn element(&mut self, array: Expr, index: i64) -> Result<Expr, AllocError> {
+        assert!(self.rt; self.file.owns(&array));
+        let subject = self.file.make_indexable_expression(&array);
+        self.index(subject, index)
+    }
+
     fn subject(&mut self, stack: &mut Vec<Expr>) -> IndexableExpr {
         let e = self.pop(stack);
         assert!(self.rt; self.file.owns(&e));

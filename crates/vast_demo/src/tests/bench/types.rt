@@ -10,7 +10,7 @@ impl<'a, R: Abort> Bench<'a, R> {
     /// is signed), or else an external type, `p::T` where it is of a package.
     pub(crate) fn data_type(&mut self, word: &str) -> Result<VastDataType, AllocError> {
         if let Ok(bits) = word.parse::<i32>() {
-            return self.vector(i64::from(bits));
+            return self.vector(bits);
         }
         if let Some((package, name)) = word.split_once("::") {
             return self.file.make_extern_package_type(package, name);
@@ -25,8 +25,8 @@ impl<'a, R: Abort> Bench<'a, R> {
         }
     }
 
-    fn vector(&mut self, bits: i64) -> Result<VastDataType, AllocError> {
-        let count = if bits < 0 { 0 - bits } else { bits };
+    fn vector(&mut self, bits: i32) -> Result<VastDataType, AllocError> {
+        let count = i64::from(bits.unsigned_abs());
         assert!(self.rt; count >= 1);
         self.file.make_bit_vector_type(count, bits < 0)
     }
