@@ -8,6 +8,7 @@ use Rattle.std.specs.Fmt.{signed_decimal}
 use Rattle.vast_literal.specs.Tree.{ExprTree, NameTree, IndexTree, TypeCastTree, TypeTree, PackedTree, MaybeType, Untyped, Typed}
 use Rattle.vast_core.specs.BitCount.{product}
 use Rattle.vast_core.specs.Growth.{known_literal}
+use Rattle.xlsynth_vast.specs.Refusals.{and_then}
 use Rattle.xlsynth_vast.specs.Literals.{selector_text}
 use Rattle.xlsynth_vast.specs.Reductions.{bitwise_reduction}
 
@@ -51,11 +52,6 @@ as_known (Some known) given = if pointwise int_eq known given then Ok tt else Er
 
 abbrev pub countable : List ℤ → Result (Unit {0}) (List ℕ)
 countable given = if int_lt (product given) (pos (2 ^ 64)) then Ok tt else Err (codes "packed-array element count exceeds usize")
-
--- The first refusal of the two, if there is one.
-abbrev pub and_then : (first second : Result (Unit {0}) (List ℕ)) → Result (Unit {0}) (List ℕ)
-and_then (Ok _) second = second
-and_then (Err words) second = Err words
 
 unfoldable pub reducible : ExprTree → List ℤ → Result (Unit {0}) (List ℕ)
 reducible array given = and_then (any_dimension given) (and_then (each_positive given) (and_then (as_known (known_dimensions array) given) (countable given)))

@@ -11,6 +11,7 @@ use Rattle.vast_core.specs.Nests.{FunctionRecord}
 use Rattle.vast_core.specs.Bench.{Bench, function_names}
 use Rattle.vast_core.specs.Growth.{with_named_member}
 use Rattle.vast_core.specs.Loops.{next_function, with_function}
+use Rattle.xlsynth_vast.specs.Refusals.{and_then}
 use Rattle.xlsynth_vast.specs.Declarations.{listed_names, unless_taken}
 
 -- An unpacked array is no type of a function's result.
@@ -20,11 +21,6 @@ is_unpacked _ = false
 
 abbrev pub unless_unpacked : TypeTree → Result (Unit {0}) (List ℕ)
 unless_unpacked t = if is_unpacked t then Err (codes "FAILED_PRECONDITION: function result type must not be an anonymous unpacked array; use a named typedef") else Ok tt
-
--- The first rule, and where it allows the call the second.
-abbrev pub and_then : Result (Unit {0}) (List ℕ) → Result (Unit {0}) (List ℕ) → Result (Unit {0}) (List ℕ)
-and_then (Ok _) second = second
-and_then (Err words) second = Err words
 
 -- The type of the result is looked at first, then the name.
 abbrev pub may_be_function : TypeTree → (name : List ℕ) (names : List (List ℕ)) → Result (Unit {0}) (List ℕ)
