@@ -139,7 +139,8 @@ fn product(dimensions: &[i64]) -> Option<usize>
 
 fn element_count(alloc: Global, dimensions: &[i64]) -> Result<usize, VastFault>
     requires { IsTrue (list_all is_positive dimensions.now) }
-    ensures { ChecksBy (countable dimensions.now) result }
+    ensures rule { ChecksBy (countable dimensions.now) result }
+    ensures count { IfOk result (λ n. product dimensions.now ≡ pos n) }
 {
     match product(dimensions) {
         Some(count) => Ok(count),
@@ -158,7 +159,8 @@ fn element_count(alloc: Global, dimensions: &[i64]) -> Result<usize, VastFault>
 #[tactic(auto, using(crate::proofs::ArrayReduced::checks), unfolding(crate::specs::ArrayReduction::reducible))]
 pub(super) fn checked_count(ast: &Ast, array: Expr, dimensions: &[i64]) -> Result<usize, VastFault>
     requires { OwnsExpr (bench ast.now) array }
-    ensures { ChecksBy (reducible (tree_of (bench ast.now) array) dimensions.now) result }
+    ensures rule { ChecksBy (reducible (tree_of (bench ast.now) array) dimensions.now) result }
+    ensures count { IfOk result (λ n. product dimensions.now ≡ pos n) }
 {
     let alloc = ast.allocator();
     check_any(alloc, dimensions)?;
