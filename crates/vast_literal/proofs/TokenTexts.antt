@@ -1,5 +1,5 @@
 -- The text of a literal in any format is an optional minus and one literal token, so is a pattern's; a quoted text is one string token.
-use Rattle.std.proofs.Common.{◌≡◌, ◌≢◌, ℕ, suc, ◌+◌, ◌-◌, ◌^◌, ◌<◌, ◌≤◌, List, [], ◌∷◌, ◌++◌, Bool, true, false, cond, not, eqb, eqb-true, leb, ltb, refl, sym, ap, ◌∙◌, length, arith, append_assoc, subst, ⊎_elim, lit≤, lit<, Ok}
+use Rattle.std.proofs.Common.{◌≡◌, ℕ, suc, ◌-◌, ◌^◌, ◌<◌, ◌≤◌, List, [], ◌∷◌, ◌++◌, Bool, true, false, cond, not, eqb, eqb-true, leb, ltb, refl, sym, ap, ◌∙◌, length, arith, append_assoc, lit≤}
 use Rattle.std.specs.Prelude.{◌||◌, ◌&&◌}
 use Rattle.std.specs.List.{list_all, flat_map}
 use Rattle.std.specs.Char.{digit_char}
@@ -8,21 +8,21 @@ use Rattle.std.specs.Int.{IsInRange}
 use Rattle.std.specs.Str.Parse.{AllDigits}
 use Rattle.std.proofs.lemmas.Str.Parse.{digit_from_value}
 use Rattle.std.proofs.lemmas.Fmt.{decimal_is_IsNumeral_wide}
-use Rattle.std.proofs.lemmas.Bool.{ne_eqb, cases_Bool, leb-true}
+use Rattle.std.proofs.lemmas.Bool.{ne_eqb, leb-true}
 use Rattle.std.proofs.lemmas.Bool.Decides.{nat_tests}
 use Rattle.std.proofs.lemmas.Nat.{pow_pos}
 use Rattle.std.proofs.Math.Pow.{pow_mono}
 use Rattle.vast_literal.specs.declared.literal.LiteralFormat.{LiteralFormat}
 use Rattle.vast_literal.specs.declared.literal.LiteralFormat.TheVariants.{Binary, Hex, SignedDecimal, UnsignedDecimal, UnsizedBinary, UnsizedDecimal, UnsizedHex}
-use Rattle.vast_literal.specs.Scan.{is_digit, is_radix, is_based_digit}
-use Rattle.vast_literal.specs.LiteralToken.{every, is_number, is_based_number, is_radix_tail, is_based_tail, is_based, is_filled, is_bare_literal, is_literal_text, is_done, is_string_rest, is_string_text}
+use Rattle.vast_literal.specs.Scan.{is_digit, is_based_digit}
+use Rattle.vast_literal.specs.LiteralToken.{every, is_number, is_based_number, is_based_tail, is_based, is_bare_literal, is_literal_text, is_done, is_string_rest, is_string_text}
 use Rattle.vast_literal.specs.Digits.{lowest_digits, digit_count, characters, grouped}
 use Rattle.vast_literal.specs.LiteralText.{padded_count, is_below_half, sized, signed_text, spelled}
 use Rattle.vast_literal.specs.Pattern.{is_pattern_digit, is_pattern}
 use Rattle.vast_literal.specs.Quoted.{escaped, closes, is_string_token, quoted}
 use Rattle.vast_literal.proofs.Numbers.{both_parts, length-lowest_digits}
 use Rattle.vast_literal.proofs.Widths.{positive_from_high, narrow_from_high}
-use Rattle.vast_literal.proofs.Spelt.{Below, lowest_below, all_grouped, all_characters}
+use Rattle.vast_literal.proofs.Spelt.{lowest_below, all_grouped, all_characters}
 use Rattle.vast_literal.proofs.Decimals.{digit_count-some}
 use Rattle.vast_literal.proofs.Formats.{padded_some, padded_some_4}
 use Rattle.vast_literal.proofs.QuotedLaws.{quoted_token}
