@@ -1,1 +1,2 @@
 pub mod DesignTexts
+pub mod CasesText

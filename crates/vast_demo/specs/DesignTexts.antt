@@ -3,3 +3,6 @@ use Rattle.std.specs.Prelude.{ℕ, List, codes}
 
 unfoldable pub passthrough_text : List ℕ
 passthrough_text = codes "module passthrough(\n  input wire [7:0] input_data,\n  output wire [7:0] output_data\n);\n  assign output_data = input_data;\nendmodule\n"
+
+unfoldable pub cases_text : List ℕ
+cases_text = codes "module encoder(\n  input wire [3:0] s,\n  output wire [1:0] y\n);\n  function automatic logic [1:0] f (input reg [3:0] s);\n    unique casez (s)\n      4'b1???: f = 2;\n      default: begin\n        // none\n        f = 0;\n      end\n    endcase\n  endfunction\n  assign y = f(s);\nendmodule\n"

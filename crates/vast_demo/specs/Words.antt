@@ -1,9 +1,17 @@
 -- The words with which the program is called.
-use Rattle.std.specs.Prelude.{ℕ, Bool, false, List, [], ◌∷◌, codes}
+use Rattle.std.specs.Prelude.{ℕ, List, [], ◌∷◌, Option, Some, None, codes, if◌then◌else◌}
 use Rattle.std.specs.Str.{bytes_eq}
 use Rattle.std.specs.Borrow.{Bor}
+use Rattle.vast_demo.specs.DesignTexts.{passthrough_text, cases_text}
 
--- whether there is one word, which names a design
-abbrev pub names_design : List (Bor (List ℕ)) → Bool
-names_design (word ∷ []) = bytes_eq word.now (codes "passthrough")
-names_design _ = false
+-- the text of the design of this name
+abbrev pub text_of : (name : List ℕ) → Option (List ℕ)
+text_of name =
+    if bytes_eq name (codes "passthrough") then Some passthrough_text
+    else if bytes_eq name (codes "cases") then Some cases_text
+    else None
+
+-- the text of the design that the words name: there is one word, and it is the design's name
+abbrev pub design_text : List (Bor (List ℕ)) → Option (List ℕ)
+design_text (word ∷ []) = text_of word.now
+design_text _ = None

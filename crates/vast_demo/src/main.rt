@@ -1,4 +1,4 @@
-//! Prints designs: `vast_demo passthrough`.
+//! Prints designs: `vast_demo passthrough`, `vast_demo cases`.
 #![tactic(auto)]
 
 mod designs;

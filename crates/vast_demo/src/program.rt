@@ -1,21 +1,20 @@
 //! What the program does with its words and its streams.
 
-ghost use Rattle.std.specs.Prelude.{◌≡◌, ◌≤◌, true, false, MatchResult, string_bytes};
+ghost use Rattle.std.specs.Prelude.{◌≡◌, ◌≤◌, IsNone, IsSome, IfSome, MatchResult, string_bytes};
 ghost use Rattle.std.specs.Io.KnownBytes.{Appends};
-ghost use Rattle.vast_demo.specs.DesignTexts.{passthrough_text};
-ghost use Rattle.vast_demo.specs.Words.{names_design};
+ghost use Rattle.vast_demo.specs.Words.{design_text};
 
-use crate::designs::passthrough;
+use crate::designs::{cases, passthrough};
 use std::alloc::Global;
 use std::io::{Read, Write};
 use xlsynth_vast::{VastError, VastFault};
 
 /// Prints the design that the one word names to `out`, and answers the status.
 ///
-/// `passthrough` is printed with status 0. A refusal or want of memory prints its text to `err`, status 1; a failed
-/// write prints `write fault` there, status 1. No word, another word or more than one prints `unknown design` there,
-/// status 2. Every text on `err` has a line break behind it; a failed write there changes no status. No design reads
-/// `input`.
+/// `passthrough` and `cases` are printed with status 0. A refusal or want of memory prints its text to `err`, status 1;
+/// a failed write prints `write fault` there, status 1. No word, another word or more than one prints `unknown design`
+/// there, status 2. Every text on `err` has a line break behind it; a failed write there changes no status. No design
+/// reads `input`.
 pub fn run<R: Read, W: Write, E: Write>(
     alloc: Global,
     words: &[&str],
@@ -23,14 +22,16 @@ pub fn run<R: Read, W: Write, E: Write>(
     out: &mut W,
     err: &mut E,
 ) -> u8
-    ensures unknown { names_design words.now ≡ false → result ≡ 2 }
-    ensures known { names_design words.now ≡ true → result ≤ 1 }
-    ensures printed { names_design words.now ≡ true → result ≡ 0 → Appends (W.contents out.old) (W.contents out.new) passthrough_text }
+    ensures unknown { IsNone (design_text words.now) → result ≡ 2 }
+    ensures known { IsSome (design_text words.now) → result ≤ 1 }
+    ensures printed { IfSome (design_text words.now) (λ text. result ≡ 0 → Appends (W.contents out.old) (W.contents out.new) text) }
 {
     match words {
         [word] => {
             if *word == "passthrough" {
                 print_design(passthrough(alloc), out, err)
+            } else if *word == "cases" {
+                print_design(cases(alloc), out, err)
             } else {
                 unknown(err)
             }
@@ -106,6 +107,19 @@ mod tests {
         assert!(rt; err.is_empty());
         let text =
             "module passthrough(\n  input wire [7:0] input_data,\n  output wire [7:0] output_data\n);\n  assign output_data = input_data;\nendmodule\n";
+        assert!(rt; out.as_slice() == text.as_bytes());
+    }
+
+    #[test]
+    fn prints_the_cases(rt: HostRuntime) {
+        let alloc = rt.alloc();
+        let mut out: Vec<u8> = Vec::new(alloc);
+        let mut err: Vec<u8> = Vec::new(alloc);
+        let status = run(alloc, &["cases"], &mut NoInput, &mut out, &mut err);
+        assert_eq!(rt; status, 0);
+        assert!(rt; err.is_empty());
+        let text =
+            "module encoder(\n  input wire [3:0] s,\n  output wire [1:0] y\n);\n  function automatic logic [1:0] f (input reg [3:0] s);\n    unique casez (s)\n      4'b1???: f = 2;\n      default: begin\n        // none\n        f = 0;\n      end\n    endcase\n  endfunction\n  assign y = f(s);\nendmodule\n";
         assert!(rt; out.as_slice() == text.as_bytes());
     }
 
