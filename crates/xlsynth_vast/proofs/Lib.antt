@@ -12,3 +12,5 @@ pub mod PlacedOnce
 pub mod Parents
 pub mod Reduced
 pub mod ArrayReduced
+pub mod RegisterParts
+pub mod RegisterBranches
