@@ -1,5 +1,5 @@
 -- Laws of the conditional of a reset, and of the block that it ends.
-use Rattle.std.proofs.Common.{◌≡◌, ◌≢◌, ℕ, suc, zero, ◌+◌, ◌<◌, ◌≤◌, Bool, true, false, List, [], ◌∷◌, ◌++◌, length, Option, Some, None, slice_get, IsErr, Result, Ok, Err, refl, sym, ap, ◌∙◌, arith, append_assoc, append-nil, length-append}
+use Rattle.std.proofs.Common.{◌≡◌, ◌≢◌, ℕ, suc, zero, ◌+◌, ◌<◌, ◌≤◌, Bool, true, false, List, [], ◌∷◌, ◌++◌, length, All, Option, Some, None, slice_get, IsErr, Result, Ok, Err, refl, sym, ap, ◌∙◌, arith, append_assoc, append-nil, length-append}
 use Rattle.std.specs.List.{list_any}
 use Rattle.std.specs.declared.alloc.AllocError.{AllocError}
 use Rattle.vast_literal.specs.Tree.{ExprTree, StatementTree}
@@ -13,14 +13,20 @@ use Rattle.vast_core.specs.Records.{changed_at}
 use Rattle.vast_core.specs.Nests.{StatementEntry, ConditionalStatement, NestRecord, BlockRecord, BranchRecord}
 use Rattle.vast_core.specs.Bench.{Bench, OwnsExpr, OwnsBlock, OwnsConditional, tree_of}
 use Rattle.vast_core.specs.Growth.{Builds}
-use Rattle.vast_core.specs.Containers.{StatementEnters, ElseEnters, with_entry, with_statement, with_conditional, new_conditional, with_else, next_conditional, next_block, with_block, has_else}
+use Rattle.vast_core.specs.Containers.{NestedEntry, StatementEnters, ElseEnters, with_entry, with_statement, with_conditional, new_conditional, with_else, next_conditional, next_block, with_block, has_else}
 use Rattle.vast_core.proofs.Lists.{length-changed_at}
 use Rattle.vast_core.proofs.Nests.{changed-before}
-use Rattle.vast_core.proofs.Enters.{block-place}
+use Rattle.vast_core.proofs.NodeLaws.{Extends-same}
+use Rattle.vast_core.proofs.Enters.{block-place, next_block_owned, next_conditional_owned}
+use Rattle.vast_core.proofs.NestLaws.{entered_block_owned, entered_conditional_owned, old_block_owned}
 use Rattle.xlsynth_vast.specs.Inspections.{then_block_at}
-use Rattle.xlsynth_vast.specs.Reductions.{HasMoreNodes}
-use Rattle.xlsynth_vast.specs.RegisterSteps.{with_statements, with_filled, Disturbs, Fills, MayFill, Branch, Branches, MayBranch, branch_statements, branch_containers, first_behind, second_behind}
-use Rattle.xlsynth_vast.proofs.RegisterParts.{changed-alike, one-statement}
+use Rattle.xlsynth_vast.specs.declared.helpers.registers.Reset.{Reset}
+use Rattle.xlsynth_vast.specs.declared.helpers.registers.RegisterDefinition.{RegisterDefinition}
+use Rattle.xlsynth_vast.specs.declared.helpers.registers.Share.TheVariants.{AtReset, OutsideReset}
+use Rattle.xlsynth_vast.specs.Reductions.{HasMoreNodes, IsTree}
+use Rattle.xlsynth_vast.specs.Registers.{register_trees, reset_tree, active_tree, assigned_all, value_at_reset, value_outside_reset, by_reset, OwnsRegister}
+use Rattle.xlsynth_vast.specs.RegisterSteps.{is_resettable, value_in, AreAssigned, with_statements, with_filled, Disturbs, Fills, MayFill, Branch, Branches, MayBranch, branch_statements, branch_containers, first_behind, second_behind}
+use Rattle.xlsynth_vast.proofs.RegisterParts.{changed-alike, one-statement, any-tree, Wider, wider-wider, filled-wider, fills-wider, wider_owned, wider_tree, registers-kept, are-kept}
 
 -- A list behind another.
 
@@ -140,3 +146,98 @@ behind-disturbed old now new block x tail k h is d =
 pub branch-refused : (old new : Bench) (r : Result (Unit {0}) AllocError) (block : VastStatementBlock) (trees : List StatementTree) → IsErr r → Disturbs old new block → MayBranch old new r block trees
 branch-refused old new (Ok x) block trees e h = absurd cc
 branch-refused old new (Err x) block trees e h = h
+
+pub behind-wider : (old now : Bench) (block : VastStatementBlock) (tail : List NestRecord) → Behind old now block tail → Wider old now
+behind-wider old now block tail h = rw h.after (filled-wider old h.roots h.assignments (branch_statements old) tail block)
+
+-- The conditional is there, with its first block.
+pub record Opened (old mid now : Bench) (block : VastStatementBlock) (condition : Expr) (answer : Conditional) : Type 0 where
+  pub handle : answer ≡ next_conditional old
+  pub behind : Behind old now block (new_conditional old condition ∷ BlockRecord [] ∷ [])
+  pub wider : Wider mid now
+  pub owned : OwnsConditional now answer
+
+pub opened :
+    (old mid now : Bench) (block : VastStatementBlock) (condition : Expr) (answer : Conditional) → HasMoreNodes old mid → OwnsBlock old block →
+    Builds mid now (Ok answer) (next_conditional mid) (with_statement block (ConditionalStatement (next_conditional mid)) (with_conditional condition mid)) →
+    Opened old mid now block condition answer
+opened old mid now block condition answer more h built =
+    let owned : OwnsBlock mid block = rw more.after h in
+    record {
+      handle = built.0 ∙ rw more.after refl;
+      behind = behind-start old mid now block condition answer more owned built;
+      wider = rw built.1 (record { nodes = Extends-same mid.nodes; assignments = λ i a e. e });
+      owned = rw (built.0, built.1) (entered_conditional_owned (with_conditional condition mid) (block_index block) (StatementEnters (ConditionalStatement (next_conditional mid))) (next_conditional mid) (next_conditional_owned mid condition));
+    }
+
+pub opened-else : (old mid now : Bench) (block : VastStatementBlock) (condition : Expr) (answer : Conditional) → Opened old mid now block condition answer → has_else (slice_get now.nests (conditional_index answer)) ≡ false
+opened-else old mid now block condition answer o = rw o.handle (no-else old now block condition (BlockRecord [] ∷ []) o.behind)
+
+-- Both blocks are there.
+pub record Closed (old mid now : Bench) (block : VastStatementBlock) (condition : Expr) (first second : VastStatementBlock) : Type 0 where
+  pub first_is : first ≡ first_behind old
+  pub second_is : second ≡ second_behind old
+  pub behind : Behind old now block (branch_of old condition (Some (second_behind old)) ∷ BlockRecord [] ∷ BlockRecord [] ∷ [])
+  pub wider : Wider mid now
+  pub first_owned : OwnsBlock now first
+  pub second_owned : OwnsBlock now second
+
+pub closed :
+    (old mid now new : Bench) (block : VastStatementBlock) (condition : Expr) (answer : Conditional) (first second : VastStatementBlock) → Opened old mid now block condition answer →
+    then_block_at now answer ≡ Some first → OwnsBlock now first → Builds now new (Ok second) (next_block now) (with_else answer now) → Closed old mid new block condition first second
+closed old mid now new block condition answer first second o then owned built =
+    let then-here : then_block_at now (next_conditional old) ≡ Some first = rw o.handle at then in
+    let built-here : Builds now new (Ok second) (next_block now) (with_else (next_conditional old) now) = rw o.handle at built in
+    let e = behind-else old now new block condition second o.behind built-here in
+    let i : ℕ = conditional_index answer in
+    let entry : NestedEntry = ElseEnters (next_block now) in
+    record {
+      first_is = then-block old now block first condition (BlockRecord [] ∷ []) o.behind then-here;
+      second_is = e.0;
+      behind = e.1;
+      wider = wider-wider mid now new o.wider (rw built.1 (record { nodes = Extends-same now.nodes; assignments = λ i a e. e }));
+      first_owned = rw built.1 (entered_block_owned (with_block now) i entry first (old_block_owned now (BlockRecord []) first owned));
+      second_owned = rw (built.0, built.1) (entered_block_owned (with_block now) i entry (next_block now) (next_block_owned now));
+    }
+
+pub first-place : (old mid now : Bench) (block : VastStatementBlock) (condition : Expr) (first second : VastStatementBlock) → Closed old mid now block condition first second → block_index first ≡ 1 + length old.nests
+first-place old mid now block condition first second k = rw k.first_is (omega arith)
+
+pub second-place : (old mid now : Bench) (block : VastStatementBlock) (condition : Expr) (first second : VastStatementBlock) → Closed old mid now block condition first second → block_index second ≡ 2 + length old.nests
+second-place old mid now block condition first second k = rw k.second_is (omega arith)
+
+-- Both blocks are filled.
+pub branch-end :
+    (old mid now after new : Bench) (r : Result (Unit {0}) AllocError) (block : VastStatementBlock) (condition : Expr) (first second : VastStatementBlock) (reset : Reset) (registers : List RegisterDefinition) →
+    All (OwnsRegister old) registers → list_any is_resettable registers ≡ true →
+    IsTree mid condition (active_tree (reset_tree old reset)) → Closed old mid now block condition first second →
+    Fills now after first (assigned_all (value_in AtReset) (register_trees now registers)) →
+    MayFill after new r second (assigned_all (value_in OutsideReset) (register_trees after registers)) →
+    MayBranch old new r block (by_reset (Some (reset_tree old reset)) (register_trees old registers))
+branch-end old mid now after new (Err x) block condition first second reset registers owned any tree k f g =
+    let one = behind-fills old now after block first _ 1 _ k.behind (first-place old mid now block condition first second k) f in
+    behind-disturbed old after new block second _ 2 one (second-place old mid now block condition first second k) g
+branch-end old mid now after new (Ok x) block condition first second reset registers owned any tree k f g =
+    let one = behind-fills old now after block first _ 1 _ k.behind (first-place old mid now block condition first second k) f in
+    let two = behind-fills old after new block second _ 2 _ one (second-place old mid now block condition first second k) g in
+    let w : Wider after new = fills-wider after new second _ g in
+    let all : Wider mid new = wider-wider mid now new k.wider (wider-wider now after new (fills-wider now after first _ f) w) in
+    let at_reset : List StatementTree = assigned_all value_at_reset (register_trees old registers) in
+    let outside : List StatementTree = assigned_all value_outside_reset (register_trees old registers) in
+    let first-reads : AreAssigned after f.statements at_reset = rw (registers-kept old now (behind-wider old now block _ k.behind) registers owned) at f.reads in
+    let second-reads : AreAssigned new g.statements outside = rw (registers-kept old after (behind-wider old after block _ one) registers owned) at g.reads in
+    let here : tree_of new condition ≡ active_tree (reset_tree old reset) = wider_tree mid new all condition tree.0 ∙ tree.1 in
+    record {
+      roots = two.roots;
+      assignments = two.assignments;
+      branch = record { condition = condition; at_reset = f.statements; outside = g.statements };
+      after = two.after;
+      reads = record {
+        at_reset = at_reset;
+        outside = outside;
+        condition_owned = wider_owned mid new all condition tree.0;
+        is = rw (any-tree old registers, any, here) refl;
+        at_reset_reads = are-kept after new w f.statements at_reset first-reads;
+        outside_reads = second-reads;
+      };
+    }
