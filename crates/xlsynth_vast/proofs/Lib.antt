@@ -14,3 +14,5 @@ pub mod Reduced
 pub mod ArrayReduced
 pub mod RegisterParts
 pub mod RegisterBranches
+pub mod RegisterBlocks
+pub mod RegisterMembers

@@ -191,7 +191,7 @@ same-kind ss (RepeatRecord l) = refl
 
 -- Blocks that are filled.
 
-filled-filled :
+pub filled-filled :
     (b : Bench) (roots others : List Root) (assignments later : List Assignment) (first second : List StatementEntry) (containers : List NestRecord) (block : VastStatementBlock) →
     with_filled others later second containers block (with_filled roots assignments first [] block b) ≡ with_filled (roots ++ others) (assignments ++ later) (first ++ second) containers block b
 filled-filled b roots others assignments later first second containers block =

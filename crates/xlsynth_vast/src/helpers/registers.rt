@@ -4,8 +4,9 @@ ghost use Rattle.std.specs.Prelude.{◌≡◌, true, [], All, Ok, Some};
 ghost use Rattle.std.specs.List.{list_any};
 ghost use Rattle.vast_core.specs.Nodes.{OptionHolds};
 ghost use Rattle.vast_core.specs.Bench.{OwnsExpr, OwnsBlock, tree_of};
-ghost use Rattle.vast_core.specs.Sound.{EventSound};
+ghost use Rattle.vast_core.specs.Sound.{EventSound, RecordsSound};
 ghost use Rattle.vast_core.specs.Growth.{Builds};
+ghost use Rattle.vast_core.specs.Containers.{next_block, with_block};
 ghost use Rattle.vast_core.specs.Unattached.{IsUnheld};
 ghost use Rattle.vast_core.specs.View.{bench};
 ghost use Rattle.xlsynth_vast.specs.Reductions.{ChecksBy};
@@ -179,6 +180,13 @@ fn branch(
     assign_all(Share::OutsideReset, registers, outside, file)
 }
 
+/// An empty block, which nothing holds yet.
+fn make_empty_block(file: &mut VastFile) -> Result<VastStatementBlock, AllocError>
+    ensures { Builds (bench file.old) (bench file.new) result (next_block (bench file.old)) (with_block (bench file.old)) }
+{
+    file.ast.push_block()
+}
+
 /// The block of the registers, which nothing holds yet.
 fn make_block(
     reset: Option<Reset>,
@@ -189,14 +197,18 @@ fn make_block(
     requires registers { All (OwnsRegister (bench file.old)) registers.now }
     ensures { MayMakeBlock (bench file.old) (bench file.new) result (maybe_reset_tree (bench file.old) reset) (register_trees (bench file.old) registers.now) }
 {
-    let block = file.ast.push_block()?;
+    let block = make_empty_block(file)?;
     assign_all(Share::Unreset, registers, block, file)?;
-    if let Some(reset) = reset {
-        if any_resettable(registers) {
-            branch(reset, registers, block, file)?;
-        }
+    if !any_resettable(registers) {
+        return Ok(block);
     }
-    Ok(block)
+    match reset {
+        Some(reset) => {
+            branch(reset, registers, block, file)?;
+            Ok(block)
+        }
+        None => Ok(block),
+    }
 }
 
 /// Adds an `always_ff` at this event, over the block, as the last member of the scope.
@@ -224,6 +236,12 @@ fn attach(
         }
     };
     Ok(())
+}
+
+fn records_are_sound(file: &VastFile)
+    ensures { RecordsSound (bench file.now) }
+{
+    file.ast.records_are_sound();
 }
 
 /// One `always_ff` at the rising edge of the clock, as the last member of the scope. First the registers without reset
@@ -255,7 +273,7 @@ pub fn add_registers(
     if registers.is_empty() {
         return Ok(());
     }
-    file.ast.records_are_sound();
+    records_are_sound(file);
     check_reset(reset, registers, file)?;
     let block = make_block(reset, registers, file)?;
     let event = file.make_pos_edge(clk)?;
