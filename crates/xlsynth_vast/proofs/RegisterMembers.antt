@@ -3,6 +3,9 @@ use Rattle.std.proofs.Common.{◌≡◌, ◌≢◌, ℕ, suc, zero, ◌+◌, ◌
 use Rattle.std.specs.Option.{option_map}
 use Rattle.std.specs.declared.alloc.AllocError.{AllocError}
 use Rattle.vast_literal.specs.Tree.{ExprTree, StatementTree, Statements, PosEdgeTree, MoreStatements, NoStatements, ConditionalTree, Else, MemberTree, AlwaysMember, AlwaysFFWord, MoreExprs, NoExprs}
+use Rattle.vast_literal.specs.declared.error.VastFault.{VastFault}
+use Rattle.vast_literal.specs.declared.error.VastFault.TheVariants.{Refused, Memory}
+use Rattle.vast_literal.specs.Fault.{RefusedBy}
 use Rattle.vast_core.specs.declared.handle.Expr.{Expr}
 use Rattle.vast_core.specs.declared.handle.VastStatementBlock.{VastStatementBlock}
 use Rattle.vast_core.specs.declared.kind.AlwaysKind.TheVariants.{AlwaysFF}
@@ -30,10 +33,11 @@ use Rattle.xlsynth_vast.specs.declared.helpers.registers.RegisterDefinition.{Reg
 use Rattle.xlsynth_vast.specs.declared.helpers.registers.RegisterScope.{RegisterScope}
 use Rattle.xlsynth_vast.specs.declared.helpers.registers.RegisterScope.TheVariants.{Module as ModuleScope, GenerateLoop as LoopScope}
 use Rattle.xlsynth_vast.specs.Expressions.{with_pos_edge}
-use Rattle.xlsynth_vast.specs.Registers.{RegisterTree, ResetTree, unreset_value, assigned_all, by_reset, block_of, register_block, registers_member, OwnsScope, with_unused, HasUnused, with_clocked, AddsMember}
+use Rattle.xlsynth_vast.specs.Registers.{RegisterTree, ResetTree, unreset_value, assigned_all, by_reset, block_of, register_block, registers_member, OwnsScope, with_unused, HasUnused, with_clocked, AddsMember, MayAddRegisters, unless_unresettable, maybe_reset_tree, register_trees}
 use Rattle.xlsynth_vast.specs.RegisterSteps.{AreAssigned, Branch, BranchReads, LastReads, branch_statements, branch_containers, last_statements, last_containers, first_behind, second_behind, MakesBlock, IsOlderScope}
 use Rattle.xlsynth_vast.proofs.RegisterParts.{Wider, wider_owned, wider_tree, are-kept}
 use Rattle.xlsynth_vast.proofs.RegisterBranches.{get-behind}
+use Rattle.xlsynth_vast.proofs.RegisterBlocks.{unused-none}
 
 -- Nothing of a file holds a block that it does not have.
 
@@ -238,7 +242,8 @@ clocked-tree old b scope event block clk reset registers owned h own tree =
     let there = clocked-there scope event block old b (ap (λ (x : Bench). x.always_blocks) h.after) in
     let body : block_in (families d (length old.nests)) ≡ register_block reset registers =
     last-read old d h.statements h.branch _ _ (clocked-last scope event block old b h.statements h.branch owned (ap (λ (x : Bench). x.nests) h.after)) (are-kept b d w h.statements _ h.reads) (last-kept b d w h.branch _ h.last_reads) in
-    rw (there, wider_tree b d w event own, tree, ap block_index h.is, body) refl
+    let here : block_in (families d (block_index block)) ≡ register_block reset registers = ap (λ i. block_in (families d i)) (ap block_index h.is) ∙ body in
+    rw (there, wider_tree b d w event own, tree, here) refl
 
 pub adds-member :
     (old b new : Bench) (scope : RegisterScope) (event : Expr) (block : VastStatementBlock) (clk : ExprTree) (reset : Option ResetTree) (registers : List RegisterTree) → OwnsScope old scope →
@@ -253,3 +258,19 @@ adds-member old b new scope event block clk reset registers owned h own tree aft
       after = after;
       tree = rw after (clocked-tree old b scope event block clk reset registers owned h own tree);
     }
+
+-- What the call answers.
+
+pub check-refused :
+    (b : Bench) (fault : VastFault) (clk : Expr) (reset : Option Reset) (registers : List RegisterDefinition) (scope : RegisterScope) →
+    RefusedBy (unless_unresettable (maybe_reset_tree b reset) (register_trees b registers)) fault → MayAddRegisters b b (Err fault) clk reset registers scope
+check-refused b (Refused e) clk reset registers scope h = (h, refl)
+check-refused b (Memory e) clk reset registers scope h = unused-none b
+
+pub member-added :
+    (old new : Bench) (clk : Expr) (reset : Option Reset) (registers : List RegisterDefinition) (scope : RegisterScope) → 0 < length registers →
+    unless_unresettable (maybe_reset_tree old reset) (register_trees old registers) ≡ Ok tt →
+    AddsMember old new scope (registers_member (tree_of old clk) (maybe_reset_tree old reset) (register_trees old registers)) →
+    MayAddRegisters old new (Ok tt) clk reset registers scope
+member-added old new clk reset [] scope some rule h = absurd (omega (arith, some))
+member-added old new clk reset (r ∷ rs) scope some rule h = (rule, h)

@@ -1,45 +1,41 @@
-use Rattle.std.proofs.Common.{rules, ◌≡◌, true, [], All, Ok, Some, ℕ, ◌+◌, ◌-◌, ◌*◌, ◌<◌, ◌≤◌, length, ◌/◌, ◌%◌, Bool, false, nat_eq, nat_lt, List, ◌∷◌, ◌++◌, slice_index_or, slice_set, bit_and, bit_or, Fits, w8, w32, w64, Bor, MutBor}
-use Rattle.std.specs.List.{list_any}
-use Rattle.vast_core.specs.Nodes.{OptionHolds}
-use Rattle.vast_core.specs.Bench.{OwnsExpr, OwnsBlock, tree_of}
-use Rattle.vast_core.specs.Sound.{EventSound, RecordsSound}
-use Rattle.vast_core.specs.Growth.{Builds}
-use Rattle.vast_core.specs.Containers.{next_block, with_block}
-use Rattle.vast_core.specs.Unattached.{IsUnheld}
-use Rattle.vast_core.specs.View.{bench}
-use Rattle.xlsynth_vast.specs.Reductions.{ChecksBy}
-use Rattle.xlsynth_vast.specs.Registers.{register_tree, register_trees, reset_tree, maybe_reset_tree, unless_unresettable, running_value, given, assigned_all, active_tree, by_reset, OwnsRegister, OwnsReset, OwnsScope, with_clocked, MayAddRegisters}
-use Rattle.xlsynth_vast.specs.RegisterSteps.{is_resettable, value_in, MakesValue, MakesMaybeValue, MayFill, MayBranch, MayMakeBlock, IsOlderScope}
+-- proofs/helpers/registers/add_registers/Answers.antt
+use Rattle.std.proofs.Common.{rules, ◌≡◌, ◌<◌, length, Err}
+use Rattle.xlsynth_vast.proofs.RegisterParts.{wider_owned}
+use Rattle.xlsynth_vast.proofs.RegisterMembers.{unused-made, unused-wider, made-with-edge, edge-sound, edge-tree, made-owned, made-unheld, scope-owned, scope-older, adds-member, check-refused, member-added}
 use Rattle.xlsynth_vast.proofs.helpers.registers.add_registers.Goals as goal
 
--- src/helpers/registers.rt:277:5
 pub returns-in_err-check_reset-clause-built : goal.returns-in_err-check_reset-clause-built
-returns-in_err-check_reset-clause-built c = ?
+returns-in_err-check_reset-clause-built c =
+    let e : c.from_residual.result ≡ Err c.in_err-check_reset.field-0.0 = search rules in
+    rw e (check-refused _ _ _ c.args.reset c.args.registers.now _ c.in_err-check_reset.ensures)
 
--- src/helpers/registers.rt:279:17
 pub make_pos_edge-requires : goal.make_pos_edge-requires
-make_pos_edge-requires c = ?
+make_pos_edge-requires c = wider_owned _ _ (unused-wider _ _ (unused-made _ _ _ _ _ c.in_ok-block.ensures)) _ c.requires.clk
 
--- src/helpers/registers.rt:280:8
 pub attach-requires-clause-scope : goal.attach-requires-clause-scope
-attach-requires-clause-scope c = ?
+attach-requires-clause-scope c =
+    let made = made-with-edge _ _ _ _ _ _ c.args.clk.now c.in_ok-event.event c.in_ok-block.ensures c.in_ok-event.ensures in
+    scope-owned _ _ c.args.scope (unused-made _ _ _ _ _ made) c.requires.scope
 
--- src/helpers/registers.rt:280:8
 pub attach-requires-clause-event : goal.attach-requires-clause-event
-attach-requires-clause-event c = ?
+attach-requires-clause-event c = edge-sound _ _ c.args.clk.now c.in_ok-event.event c.in_ok-event.ensures
 
--- src/helpers/registers.rt:280:8
 pub attach-requires-clause-block : goal.attach-requires-clause-block
-attach-requires-clause-block c = ?
+attach-requires-clause-block c = made-owned _ _ _ _ _ (made-with-edge _ _ _ _ _ _ c.args.clk.now c.in_ok-event.event c.in_ok-block.ensures c.in_ok-event.ensures)
 
--- src/helpers/registers.rt:280:8
 pub attach-requires-clause-unheld : goal.attach-requires-clause-unheld
-attach-requires-clause-unheld c = ?
+attach-requires-clause-unheld c =
+    made-unheld _ _ _ _ _ c.records_are_sound.ensures (made-with-edge _ _ _ _ _ _ c.args.clk.now c.in_ok-event.event c.in_ok-block.ensures c.in_ok-event.ensures)
 
--- src/helpers/registers.rt:280:8
 pub attach-requires-clause-newer : goal.attach-requires-clause-newer
-attach-requires-clause-newer c = ?
+attach-requires-clause-newer c =
+    scope-older _ _ _ _ _ c.args.scope (made-with-edge _ _ _ _ _ _ c.args.clk.now c.in_ok-event.event c.in_ok-block.ensures c.in_ok-event.ensures) c.requires.scope
 
--- src/helpers/registers.rt:259:1
 pub returns-clause-built : goal.returns-clause-built
-returns-clause-built c = ?
+returns-clause-built c =
+    let made = made-with-edge _ _ _ _ _ _ c.args.clk.now c.in_ok-event.event c.in_ok-block.ensures c.in_ok-event.ensures in
+    let wide = unused-wider _ _ (unused-made _ _ _ _ _ c.in_ok-block.ensures) in
+    let some : 0 < length c.args.registers.now = search rules in
+    member-added _ _ c.args.clk.now c.args.reset c.args.registers.now c.args.scope some c.in_ok-check_reset.ensures
+    (adds-member _ _ _ c.args.scope c.in_ok-event.event _ _ _ _ c.requires.scope made (edge-sound _ _ c.args.clk.now c.in_ok-event.event c.in_ok-event.ensures).0
+    (edge-tree _ _ _ c.args.clk.now c.in_ok-event.event wide c.requires.clk c.in_ok-event.ensures) c.in_ok-attach.ensures.1)
