@@ -1,15 +1,13 @@
 -- Laws of the block of registers: that nothing holds it, and its tree once an always block does.
-use Rattle.std.proofs.Common.{◌≡◌, ◌≢◌, ℕ, suc, zero, ◌+◌, ◌<◌, ◌≤◌, Bool, true, false, List, [], ◌∷◌, ◌++◌, length, All, Option, Some, None, slice_get, IsErr, Result, Ok, Err, refl, sym, ap, ◌∙◌, arith, append_assoc, append-nil, length-append}
+use Rattle.std.proofs.Common.{◌≡◌, false, List, [], ◌∷◌, ◌++◌, length, All, Option, Some, None, IsErr, Result, Ok, Err, refl, ap, ◌∙◌, arith, append_assoc, append-nil}
 use Rattle.std.specs.List.{list_any}
-use Rattle.std.specs.Option.{option_map}
 use Rattle.std.specs.declared.alloc.AllocError.{AllocError}
-use Rattle.vast_literal.specs.Tree.{ExprTree, StatementTree, PosEdgeTree, MoreStatements, NoStatements, ConditionalTree, Else}
-use Rattle.vast_core.specs.declared.handle.Expr.{Expr}
+use Rattle.vast_literal.specs.Tree.{StatementTree}
 use Rattle.vast_core.specs.declared.handle.VastStatementBlock.{VastStatementBlock}
 use Rattle.vast_core.specs.Handles.{block_index}
 use Rattle.vast_core.specs.Records.{changed_at}
-use Rattle.vast_core.specs.Nests.{StatementEntry, NestRecord, BlockRecord, BranchRecord}
-use Rattle.vast_core.specs.Bench.{Bench, OwnsExpr, OwnsBlock, tree_of}
+use Rattle.vast_core.specs.Nests.{StatementEntry, NestRecord, BlockRecord}
+use Rattle.vast_core.specs.Bench.{Bench, OwnsBlock, tree_of}
 use Rattle.vast_core.specs.Containers.{next_block, with_block}
 use Rattle.vast_core.proofs.Lists.{length-changed_at}
 use Rattle.vast_core.proofs.Enters.{next_block_owned}
@@ -18,7 +16,7 @@ use Rattle.xlsynth_vast.specs.declared.helpers.registers.RegisterDefinition.{Reg
 use Rattle.xlsynth_vast.specs.declared.helpers.registers.Share.TheVariants.{Unreset}
 use Rattle.xlsynth_vast.specs.Registers.{RegisterTree, ResetTree, register_trees, reset_tree, maybe_reset_tree, unreset_value, assigned_all, by_reset, OwnsRegister, OwnsReset, HasUnused}
 use Rattle.xlsynth_vast.specs.RegisterSteps.{is_resettable, value_in, with_statements, with_filled, Disturbs, Fills, Branches, branch_statements, branch_containers, MakesBlock, MayMakeBlock}
-use Rattle.xlsynth_vast.proofs.RegisterParts.{any-tree, filled-filled, Wider, wider-wider, fills-wider, wider_tree, registers-kept, are-kept, filled-wider}
+use Rattle.xlsynth_vast.proofs.RegisterParts.{any-tree, filled-filled, Wider, fills-wider, wider_tree, registers-kept, are-kept, filled-wider}
 use Rattle.xlsynth_vast.proofs.RegisterBranches.{changed-behind}
 
 -- What is done to the last block is done behind all that there was.

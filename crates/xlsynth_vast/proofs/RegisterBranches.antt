@@ -1,8 +1,8 @@
 -- Laws of the conditional of a reset, and of the block that it ends.
-use Rattle.std.proofs.Common.{◌≡◌, ◌≢◌, ℕ, suc, zero, ◌+◌, ◌<◌, ◌≤◌, Bool, true, false, List, [], ◌∷◌, ◌++◌, length, All, Option, Some, None, slice_get, IsErr, Result, Ok, Err, refl, sym, ap, ◌∙◌, arith, append_assoc, append-nil, length-append}
+use Rattle.std.proofs.Common.{◌≡◌, ℕ, suc, zero, ◌+◌, ◌<◌, true, false, List, [], ◌∷◌, ◌++◌, length, All, Option, Some, slice_get, IsErr, Result, Ok, Err, refl, ap, ◌∙◌, arith, append_assoc, append-nil, length-append}
 use Rattle.std.specs.List.{list_any}
 use Rattle.std.specs.declared.alloc.AllocError.{AllocError}
-use Rattle.vast_literal.specs.Tree.{ExprTree, StatementTree}
+use Rattle.vast_literal.specs.Tree.{StatementTree}
 use Rattle.vast_core.specs.declared.handle.Expr.{Expr}
 use Rattle.vast_core.specs.declared.handle.Conditional.{Conditional}
 use Rattle.vast_core.specs.declared.handle.VastStatementBlock.{VastStatementBlock}
@@ -11,7 +11,7 @@ use Rattle.vast_core.specs.Handles.{block_index, conditional_index}
 use Rattle.vast_core.specs.Nodes.{Root}
 use Rattle.vast_core.specs.Records.{changed_at}
 use Rattle.vast_core.specs.Nests.{StatementEntry, ConditionalStatement, NestRecord, BlockRecord, BranchRecord}
-use Rattle.vast_core.specs.Bench.{Bench, OwnsExpr, OwnsBlock, OwnsConditional, tree_of}
+use Rattle.vast_core.specs.Bench.{Bench, OwnsBlock, OwnsConditional, tree_of}
 use Rattle.vast_core.specs.Growth.{Builds}
 use Rattle.vast_core.specs.Containers.{NestedEntry, StatementEnters, ElseEnters, with_entry, with_statement, with_conditional, new_conditional, with_else, next_conditional, next_block, with_block, has_else}
 use Rattle.vast_core.proofs.Lists.{length-changed_at}
@@ -25,7 +25,7 @@ use Rattle.xlsynth_vast.specs.declared.helpers.registers.RegisterDefinition.{Reg
 use Rattle.xlsynth_vast.specs.declared.helpers.registers.Share.TheVariants.{AtReset, OutsideReset}
 use Rattle.xlsynth_vast.specs.Reductions.{HasMoreNodes, IsTree}
 use Rattle.xlsynth_vast.specs.Registers.{register_trees, reset_tree, active_tree, assigned_all, value_at_reset, value_outside_reset, by_reset, OwnsRegister}
-use Rattle.xlsynth_vast.specs.RegisterSteps.{is_resettable, value_in, AreAssigned, with_statements, with_filled, Disturbs, Fills, MayFill, Branch, Branches, MayBranch, branch_statements, branch_containers, first_behind, second_behind}
+use Rattle.xlsynth_vast.specs.RegisterSteps.{is_resettable, value_in, AreAssigned, with_statements, with_filled, Disturbs, Fills, MayFill, MayBranch, branch_statements, first_behind, second_behind}
 use Rattle.xlsynth_vast.proofs.RegisterParts.{changed-alike, one-statement, any-tree, Wider, wider-wider, filled-wider, fills-wider, wider_owned, wider_tree, registers-kept, are-kept}
 
 -- A list behind another.

@@ -1,8 +1,6 @@
 -- Laws of the member that registers become: nothing holds its block before, and its tree is theirs.
-use Rattle.std.proofs.Common.{◌≡◌, ◌≢◌, ℕ, suc, zero, ◌+◌, ◌<◌, ◌≤◌, Bool, true, false, IsTrue, List, [], ◌∷◌, ◌++◌, length, All, Option, Some, None, slice_get, Result, Ok, Err, refl, sym, ap, ◌∙◌, arith, append_assoc, append-nil, length-append}
-use Rattle.std.specs.Option.{option_map}
-use Rattle.std.specs.declared.alloc.AllocError.{AllocError}
-use Rattle.vast_literal.specs.Tree.{ExprTree, StatementTree, Statements, PosEdgeTree, MoreStatements, NoStatements, ConditionalTree, Else, MemberTree, AlwaysMember, AlwaysFFWord, MoreExprs, NoExprs}
+use Rattle.std.proofs.Common.{◌≡◌, ℕ, suc, ◌+◌, ◌<◌, ◌≤◌, List, [], ◌∷◌, ◌++◌, length, Option, Some, None, slice_get, Ok, Err, refl, ap, ◌∙◌, arith, append_assoc, append-nil, length-append}
+use Rattle.vast_literal.specs.Tree.{ExprTree, StatementTree, PosEdgeTree, MoreStatements, NoStatements, ConditionalTree, Else}
 use Rattle.vast_literal.specs.declared.error.VastFault.{VastFault}
 use Rattle.vast_literal.specs.declared.error.VastFault.TheVariants.{Refused, Memory}
 use Rattle.vast_literal.specs.Fault.{RefusedBy}
@@ -16,12 +14,12 @@ use Rattle.vast_core.specs.declared.node.Assignment.{Assignment}
 use Rattle.vast_core.specs.Nodes.{OptionHolds, Root, ExprRoot}
 use Rattle.vast_core.specs.Records.{changed_at, AlwaysEntry}
 use Rattle.vast_core.specs.Nests.{StatementEntry, NestRecord, BlockRecord, BranchRecord, SwitchRecord, RepeatRecord, FunctionRecord, AlwaysRecord}
-use Rattle.vast_core.specs.Bench.{Bench, OwnsExpr, OwnsBlock, OwnsLoop, tree_of}
+use Rattle.vast_core.specs.Bench.{Bench, OwnsExpr, OwnsBlock, tree_of}
 use Rattle.vast_core.specs.Sound.{Each, HoldsBlock, ElseIfSound, CaseArmSound, NestSound, NestsSound, FunctionSound, AlwaysSound, RecordsSound, EventSound}
 use Rattle.vast_core.specs.Growth.{Builds, next_expr, with_root}
 use Rattle.vast_core.specs.Containers.{MemberEnters, with_entry, next_block, with_block}
 use Rattle.vast_core.specs.Loops.{next_always}
-use Rattle.vast_core.specs.Unattached.{IsOther, HasOtherBlocks, IsUnheld, always_over, with_always_over}
+use Rattle.vast_core.specs.Unattached.{IsOther, HasOtherBlocks, IsUnheld, always_over}
 use Rattle.vast_core.specs.FileTree.{Family, block_in, branch_statement, statements_in, unfolded, families, member_tree}
 use Rattle.vast_core.proofs.Lists.{slice_get-append, slice_get-seam, Each-map, length-changed_at}
 use Rattle.vast_core.proofs.NodeLaws.{Extends-same, Extends-root}
@@ -33,7 +31,7 @@ use Rattle.xlsynth_vast.specs.declared.helpers.registers.RegisterDefinition.{Reg
 use Rattle.xlsynth_vast.specs.declared.helpers.registers.RegisterScope.{RegisterScope}
 use Rattle.xlsynth_vast.specs.declared.helpers.registers.RegisterScope.TheVariants.{Module as ModuleScope, GenerateLoop as LoopScope}
 use Rattle.xlsynth_vast.specs.Expressions.{with_pos_edge}
-use Rattle.xlsynth_vast.specs.Registers.{RegisterTree, ResetTree, unreset_value, assigned_all, by_reset, block_of, register_block, registers_member, OwnsScope, with_unused, HasUnused, with_clocked, AddsMember, MayAddRegisters, unless_unresettable, maybe_reset_tree, register_trees}
+use Rattle.xlsynth_vast.specs.Registers.{RegisterTree, ResetTree, block_of, register_block, registers_member, OwnsScope, with_unused, HasUnused, with_clocked, AddsMember, MayAddRegisters, unless_unresettable, maybe_reset_tree, register_trees}
 use Rattle.xlsynth_vast.specs.RegisterSteps.{AreAssigned, Branch, BranchReads, LastReads, branch_statements, branch_containers, last_statements, last_containers, first_behind, second_behind, MakesBlock, IsOlderScope}
 use Rattle.xlsynth_vast.proofs.RegisterParts.{Wider, wider_owned, wider_tree, are-kept}
 use Rattle.xlsynth_vast.proofs.RegisterBranches.{get-behind}

@@ -1,5 +1,5 @@
 -- What the steps leave by which the block of registers is made.
-use Rattle.std.specs.Prelude.{◌≡◌, suc, ◌<◌, Bool, true, false, List, [], ◌∷◌, ◌++◌, length, Option, Some, None, slice_get, Result, Ok, Err}
+use Rattle.std.specs.Prelude.{◌≡◌, suc, ◌<◌, Bool, List, [], ◌∷◌, ◌++◌, length, Option, Some, None, slice_get, Result, Ok, Err}
 use Rattle.std.specs.declared.alloc.AllocError.{AllocError}
 use Rattle.vast_literal.specs.Tree.{ExprTree, StatementTree, ConditionalTree, Else}
 use Rattle.vast_core.specs.declared.handle.Expr.{Expr}

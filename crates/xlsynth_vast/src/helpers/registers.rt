@@ -1,12 +1,13 @@
 //! Registers of one clock, with resets and enables.
 
-ghost use Rattle.std.specs.Prelude.{◌≡◌, true, [], All, Ok, Some};
+ghost use Rattle.std.specs.Prelude.{◌≡◌, true, [], All, Ok, OnErr, Some};
 ghost use Rattle.std.specs.List.{list_any};
 ghost use Rattle.vast_core.specs.Nodes.{OptionHolds};
 ghost use Rattle.vast_core.specs.Bench.{OwnsExpr, OwnsBlock, tree_of};
 ghost use Rattle.vast_core.specs.Sound.{EventSound, RecordsSound};
 ghost use Rattle.vast_core.specs.Growth.{Builds};
 ghost use Rattle.vast_core.specs.Containers.{next_block, with_block};
+ghost use Rattle.vast_core.specs.FileTree.{tree};
 ghost use Rattle.vast_core.specs.Unattached.{IsUnheld};
 ghost use Rattle.vast_core.specs.View.{bench};
 ghost use Rattle.xlsynth_vast.specs.Reductions.{ChecksBy};
@@ -268,6 +269,7 @@ pub fn add_registers(
     requires registers { All (OwnsRegister (bench file.old)) registers.now }
     requires scope { OwnsScope (bench file.old) scope }
     ensures built { MayAddRegisters (bench file.old) (bench file.new) result clk.now reset registers.now scope }
+    ensures unseen { OnErr result (tree (bench file.new) ≡ tree (bench file.old)) }
     ensures none { registers.now ≡ [] → result ≡ Ok tt }
 {
     if registers.is_empty() {

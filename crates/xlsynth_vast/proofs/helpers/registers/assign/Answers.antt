@@ -1,5 +1,4 @@
 -- proofs/helpers/registers/assign/Answers.antt
-use Rattle.std.proofs.Common.{refl}
 use Rattle.xlsynth_vast.proofs.RegisterParts.{wider-nodes, wider_owned, disturbs-nodes, fill-refused, fills-none, fills-value}
 use Rattle.xlsynth_vast.proofs.helpers.registers.assign.Goals as goal
 
