@@ -123,6 +123,9 @@ continuous-there : (o : Option Assignment) → IsTrue (is_continuous o) → o �
 continuous-there None h e = never h
 continuous-there (Some x) h e = cc
 
+continuous-at : (b c : Bench) → Alike b c → (i : ℕ) → IsTrue (is_continuous (slice_get b.assignments i)) → AssignmentAt b c i
+continuous-at b c a i h = assignment-at b c a i (slice_get b.assignments i) refl (continuous-there (slice_get b.assignments i) h)
+
 definition-alike : (b c : Bench) → Alike b c → (o : Option DefinitionRecord) → OptionHolds (DefinitionSound b) o → definition_tree c o ≡ definition_tree b o
 definition-alike b c a None h = refl
 definition-alike b c a (Some d) h = rw (type-alike b c a d.data_type h) refl
@@ -236,7 +239,7 @@ always-alike b c a f g from q (Some x) h k =
 member-alike : (b c : Bench) → Alike b c → (f g : ℕ → Family) (from : ℕ) → Meet b from f g → (m : MemberEntry) → MemberSound b m → From b from m → member_in c f m ≡ member_in b g m
 member-alike b c a f g from q (DeclarationEntry kind name t) h k = rw (type-alike b c a t h) refl
 member-alike b c a f g from q (AssignmentEntry x) h k =
-    let y = assignment-at b c a (continuous_index x) (slice_get b.assignments (continuous_index x)) refl (continuous-there (slice_get b.assignments (continuous_index x)) h.of_kind) in rw (y.here, y.there, y.left, y.right) refl
+    let y = continuous-at b c a (continuous_index x) h.of_kind in rw (y.here, y.there, y.left, y.right) refl
 member-alike b c a f g from q (ParameterEntry local form value) h k = rw (form-alike b c a form, expr-alike b c a value h.1) refl
 member-alike b c a f g from q BlankEntry h k = refl
 member-alike b c a f g from q (CommentEntry x) h k = artifact-at b c a (comment_index x)
