@@ -84,8 +84,8 @@ makes-branched-here old mid now reset registers f h =
     let after : now ≡ with_filled (f.roots ++ h.roots) (f.assignments ++ h.assignments) (f.statements ++ branch_statements b) (branch_containers b h.branch) (next_block old) b =
     rw (statements, containers) at h.after
     ∙ (
-      ap (λ x. with_filled h.roots h.assignments (branch_statements b) (branch_containers b h.branch) (next_block old) x) f.after
-      ∙ filled-filled b f.roots h.roots f.assignments h.assignments f.statements (branch_statements b) (branch_containers b h.branch) (next_block old)
+    ap (λ x. with_filled h.roots h.assignments (branch_statements b) (branch_containers b h.branch) (next_block old) x) f.after
+    ∙ filled-filled b f.roots h.roots f.assignments h.assignments f.statements (branch_statements b) (branch_containers b h.branch) (next_block old)
     ) in
     record {
       roots = f.roots ++ h.roots;

@@ -69,8 +69,8 @@ behind-start old mid new block condition answer more owned built =
     let grouped : (mid.nests ++ new_conditional mid condition ∷ []) ++ BlockRecord [] ∷ [] ≡ mid.nests ++ new_conditional mid condition ∷ BlockRecord [] ∷ [] = append_assoc mid.nests (new_conditional mid condition ∷ []) (BlockRecord [] ∷ []) in
     let nests : changed_at (block_index block) (with_entry (StatementEnters s)) ((mid.nests ++ new_conditional mid condition ∷ []) ++ BlockRecord [] ∷ []) ≡ front mid block ++ new_conditional mid condition ∷ BlockRecord [] ∷ [] =
     rw grouped (
-      changed-before (with_entry (StatementEnters s)) mid.nests (new_conditional mid condition ∷ BlockRecord [] ∷ []) (block_index block) below
-      ∙ ap (λ ns. ns ++ new_conditional mid condition ∷ BlockRecord [] ∷ []) (changed-alike (with_entry (StatementEnters s)) (with_statements (s ∷ [])) (one-statement s) mid.nests (block_index block))
+    changed-before (with_entry (StatementEnters s)) mid.nests (new_conditional mid condition ∷ BlockRecord [] ∷ []) (block_index block) below
+    ∙ ap (λ ns. ns ++ new_conditional mid condition ∷ BlockRecord [] ∷ []) (changed-alike (with_entry (StatementEnters s)) (with_statements (s ∷ [])) (one-statement s) mid.nests (block_index block))
     ) in
     record {
       roots = more.more;
@@ -110,7 +110,7 @@ behind-else old now new block condition answer h built =
     let count : length now.nests ≡ suc (suc (length old.nests)) = let e = length-behind old now block (new_conditional old condition ∷ BlockRecord [] ∷ []) h in omega (arith, e) in
     let next : next_block now ≡ second_behind old = rw (same-ids old now block (new_conditional old condition ∷ BlockRecord [] ∷ []) h, count) refl in
     let nests : changed_at (length old.nests) (with_entry (ElseEnters (second_behind old))) ((front old block ++ new_conditional old condition ∷ BlockRecord [] ∷ []) ++ BlockRecord [] ∷ [])
-        ≡ front old block ++ branch_of old condition (Some (second_behind old)) ∷ BlockRecord [] ∷ BlockRecord [] ∷ [] =
+    ≡ front old block ++ branch_of old condition (Some (second_behind old)) ∷ BlockRecord [] ∷ BlockRecord [] ∷ [] =
     rw (append_assoc (front old block) (new_conditional old condition ∷ BlockRecord [] ∷ []) (BlockRecord [] ∷ []))
     (changed-behind (with_entry (ElseEnters (second_behind old))) (front old block) (new_conditional old condition ∷ BlockRecord [] ∷ BlockRecord [] ∷ []) 0 (length old.nests) (at-front old block)) in (
       built.0 ∙ next,

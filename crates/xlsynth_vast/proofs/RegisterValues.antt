@@ -122,8 +122,8 @@ share-value v value (q ∷ rs) zero r before d named e =
     let same : r ≡ q = cc in
     let here : IsTrue (is_name q.target) = rw same at named in
     rw same (
-      in-append v (name_in q.target) (given q.target (value q)) (assigned_all value rs) before
-      ∙ rw (own v (name_in q.target) q.target (value q) before (name-self q.target here)) (others v (name_in q.target) value rs (after v (value q) before) d.0)
+    in-append v (name_in q.target) (given q.target (value q)) (assigned_all value rs) before
+    ∙ rw (own v (name_in q.target) q.target (value q) before (name-self q.target here)) (others v (name_in q.target) value rs (after v (value q) before) d.0)
     )
 share-value v value (q ∷ rs) (suc i) r before d named e =
     let other : name_in q.target ≢ name_in r.target = λ k. free-at (name_in q.target) rs i r d.0 e (sym k) in
@@ -185,8 +185,8 @@ takes v None rs false e rule i r d named there = alone v false rs i r r.reset_va
 takes v (Some s) rs false e rule i r d named there = rw e (alone v (is_active v (Some s)) rs i r r.reset_value refl (none-given rs i r e there) d named there)
 takes v (Some s) rs true e rule i r d named there =
     rw e (
-      in-append v (name_in r.target) (assigned_all unreset_value rs) (ConditionalTree (active_tree s) (block_of (assigned_all value_at_reset rs)) (Else (block_of (assigned_all value_outside_reset rs))) ∷ []) None
-      ∙ rw (share-value v unreset_value rs i r None d named there, active-holds v s.signal s.active_low) (branched v (is_active v (Some s)) rs i r r.reset_value refl d named there)
+    in-append v (name_in r.target) (assigned_all unreset_value rs) (ConditionalTree (active_tree s) (block_of (assigned_all value_at_reset rs)) (Else (block_of (assigned_all value_outside_reset rs))) ∷ []) None
+    ∙ rw (share-value v unreset_value rs i r None d named there, active-holds v s.signal s.active_low) (branched v (is_active v (Some s)) rs i r r.reset_value refl d named there)
     )
 
 pub registers-take-their-values : RegistersTakeTheirValues

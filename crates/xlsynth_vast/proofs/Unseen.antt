@@ -1,25 +1,23 @@
 -- What no list names is not in a file's tree.
-use Rattle.std.proofs.Common.{◌≡◌, ℕ, suc, zero, ◌+◌, ◌<◌, ◌≤◌, Bool, IsTrue, nat_lt, List, [], ◌∷◌, ◌++◌, length, map, Option, Some, None, slice_get, Result, Ok, Err, OnErr, refl, sym, ap, ◌∙◌, arith, length-append, zero-le}
+use Rattle.std.proofs.Common.{◌≡◌, ℕ, suc, zero, ◌+◌, ◌<◌, ◌≤◌, IsTrue, nat_lt, List, [], ◌∷◌, ◌++◌, length, map, Option, Some, None, slice_get, Result, Ok, Err, OnErr, refl, sym, ap, ◌∙◌, arith, length-append, zero-le}
 use Rattle.vast_literal.specs.declared.error.VastFault.{VastFault}
-use Rattle.vast_literal.specs.Tree.{ElseIf as ElseIfTree, Else, CaseArm as CaseArmTree, MoreStatements, MoreMembers, CaseTree, LoopMember, AlwaysMember, MoreExprs, ParameterPortTree, Connection, FileItemTree, FileTree}
+use Rattle.vast_literal.specs.Tree.{ElseIf as ElseIfTree, Else, CaseArm as CaseArmTree, MoreStatements, MoreMembers, AlwaysMember, FileItemTree, FileTree}
 use Rattle.vast_core.specs.declared.handle.Expr.{Expr}
 use Rattle.vast_core.specs.declared.handle.VastDataType.{VastDataType}
-use Rattle.vast_core.specs.declared.handle.VastModule.{VastModule}
 use Rattle.vast_core.specs.declared.handle.VastStatementBlock.{VastStatementBlock}
 use Rattle.vast_core.specs.declared.handle.ModulePort.{ModulePort}
 use Rattle.vast_core.specs.declared.kind.VastFileType.{VastFileType}
-use Rattle.vast_core.specs.declared.kind.DataKind.{DataKind}
 use Rattle.vast_core.specs.declared.node.Assignment.{Assignment}
 use Rattle.vast_core.specs.declared.node.ElseIf.{ElseIf}
 use Rattle.vast_core.specs.declared.node.CaseArm.{CaseArm}
 use Rattle.vast_core.specs.Handles.{module_index, port_index, block_index, conditional_index, case_index, loop_index, always_index, function_index, statement_index, continuous_index, definition_index, comment_index, inline_index, macro_statement_index, instantiation_index, macro_ref_to_expr}
-use Rattle.vast_core.specs.Kinds.{dialect_of, always_word, case_word}
+use Rattle.vast_core.specs.Kinds.{dialect_of, always_word}
 use Rattle.vast_core.specs.Nodes.{OptionHolds, maybe_type_in, maybe_expr_in}
 use Rattle.vast_core.specs.Records.{PortRecord, ParameterPortRecord, ModuleRecord, FormEntry, PlainForm, IntForm, DefinedForm, MemberEntry, DeclarationEntry, AssignmentEntry, ParameterEntry, BlankEntry, CommentEntry, InlineEntry, MacroEntry, InstanceEntry, FunctionEntry, AlwaysEntry, ConditionalEntry, LoopEntry, FileEntry, ModuleEntry, IncludeEntry, FileCommentEntry, FileBlankEntry, DefinitionRecord, ArtifactRecord, BlankLineRecord, CommentRecord, InlineRecord, MacroRecord, ConnectionRecord, InstanceRecord}
 use Rattle.vast_core.specs.Nests.{StatementEntry, AssignStatement, ContinuousStatement, ConditionalStatement, CasesStatement, BlankStatement, CommentStatement, InlineStatement, NestRecord, BlockRecord, BranchRecord, SwitchRecord, RepeatRecord, VariableRecord, FunctionRecord, AlwaysRecord}
 use Rattle.vast_core.specs.Bench.{Bench, OwnsExpr, OwnsType, is_continuous, tree_of, type_of, maybe_tree_of, trees_of}
-use Rattle.vast_core.specs.Sound.{Each, HoldsBlock, FormSound, EventSound, VariableSound, ConnectionSound, PortSound, ParameterPortSound, AssignmentSound, DefinitionSound, ArtifactSound, InstanceSound, MemberSound, StatementSound, ElseIfSound, CaseArmSound, AlwaysNewer, MemberNewer, LoopMemberSound, NestSound, FunctionSound, AlwaysSound, ModuleSound, EntrySound, RecordsSound}
-use Rattle.vast_core.specs.FileTree.{Family, BlockFamily, BranchFamily, SwitchFamily, RepeatFamily, block_in, branch_statement, switch_statement, branch_member, repeat_member, declared, definition_tree, form_tree, assignment_member, artifact_member, connection_tree, instance_member, assigned_tree, continuous_tree, statement_in, statements_in, otherwise_in, alternates_in, arms_in, always_in, variable_tree, function_in, member_in, members_in, family, unfolded, families, maybe_port_tree, port_tree, declared_port, parameter_port_tree, module_tree, maybe_module_tree, item_tree, tree}
+use Rattle.vast_core.specs.Sound.{Each, HoldsBlock, EventSound, VariableSound, ConnectionSound, PortSound, ParameterPortSound, AssignmentSound, DefinitionSound, ArtifactSound, InstanceSound, MemberSound, StatementSound, ElseIfSound, CaseArmSound, AlwaysNewer, MemberNewer, LoopMemberSound, NestSound, FunctionSound, AlwaysSound, ModuleSound, RecordsSound}
+use Rattle.vast_core.specs.FileTree.{Family, BlockFamily, block_in, branch_statement, switch_statement, branch_member, repeat_member, definition_tree, form_tree, artifact_member, connection_tree, instance_member, statement_in, statements_in, otherwise_in, alternates_in, arms_in, always_in, variable_tree, function_in, member_in, members_in, family, unfolded, families, maybe_port_tree, port_tree, parameter_port_tree, maybe_module_tree, item_tree, tree}
 use Rattle.vast_core.proofs.Lists.{Each-get}
 use Rattle.vast_core.proofs.Laws.{macro_ref_is_expr}
 use Rattle.vast_core.proofs.Readers.{below-of}
@@ -27,7 +25,7 @@ use Rattle.vast_core.proofs.Sound.{never}
 use Rattle.vast_core.proofs.NodeLaws.{type_in-kept}
 use Rattle.vast_core.proofs.Nests.{get-before, family-at, nest-at}
 use Rattle.vast_core.proofs.Enters.{block-place, conditional-place, case-place, loop-place}
-use Rattle.xlsynth_vast.specs.Registers.{HasUnused, with_unused}
+use Rattle.xlsynth_vast.specs.Registers.{HasUnused}
 use Rattle.xlsynth_vast.proofs.RegisterParts.{Wider, wider_tree}
 use Rattle.xlsynth_vast.proofs.RegisterMembers.{unused-wider}
 

@@ -102,7 +102,7 @@ abbrev pub by_reset : Option ResetTree → List RegisterTree → List StatementT
 by_reset None registers = []
 by_reset (Some reset) registers =
     if list_any has_reset_value registers then
-      ConditionalTree (active_tree reset) (block_of (assigned_all value_at_reset registers)) (Else (block_of (assigned_all value_outside_reset registers))) ∷ []
+    ConditionalTree (active_tree reset) (block_of (assigned_all value_at_reset registers)) (Else (block_of (assigned_all value_outside_reset registers))) ∷ []
     else []
 
 -- The block of these registers, and the member whose block it is.
