@@ -1,13 +1,15 @@
 -- What registers take by their block.
-use Rattle.std.proofs.Common.{◌≡◌, ◌≢◌, ℕ, suc, zero, Bool, true, false, ◌||◌, IsTrue, nat_eq, if◌then◌else◌, List, [], ◌∷◌, ◌++◌, map, Option, Some, None, slice_get, Ok, refl, sym, ◌∙◌, arith}
+use Rattle.std.proofs.Common.{◌≡◌, ◌≢◌, ℕ, suc, zero, Bool, true, false, ◌||◌, IsTrue, nat_eq, if◌then◌else◌, List, [], ◌∷◌, ◌++◌, map, length, Option, Some, None, slice_get, Ok, refl, sym, ◌∙◌, arith}
 use Rattle.std.specs.List.{list_any}
 use Rattle.std.proofs.lemmas.Bool.{eq-eqb}
 use Rattle.std.specs.Cmp.Lexicographic.{pointwise, same_text}
 use Rattle.vast_literal.specs.Tree.{ExprTree, NameTree, LiteralTree, StringTree, UnaryTree, BinaryTree, TernaryTree, IndexTree, SliceTree, PartSelectTree, ConcatTree, PatternTree, WidthCastTree, TypeCastTree, PosEdgeTree, NegEdgeTree, MacroTree, CallTree, MissingExpr, StatementTree, ConditionalTree, Else}
 use Rattle.vast_core.specs.Nodes.{is_name}
+use Rattle.vast_core.specs.Bench.{Bench}
+use Rattle.xlsynth_vast.specs.declared.helpers.registers.RegisterDefinition.{RegisterDefinition}
 use Rattle.vast_core.specs.Records.{IsFree}
 use Rattle.vast_core.specs.Sound.{AreDistinct}
-use Rattle.xlsynth_vast.specs.Registers.{RegisterTree, ResetTree, has_reset_value, is_given, unless_unresettable, running_value, unreset_value, value_at_reset, value_outside_reset, given, assigned_all, block_of, active_tree, register_block, holds, settle, is_named, assigned_in, assigned, is_active, taken_outside, taken_with, taken, name_in, RegistersTakeTheirValues}
+use Rattle.xlsynth_vast.specs.Registers.{RegisterTree, ResetTree, has_reset_value, is_given, unless_unresettable, running_value, unreset_value, value_at_reset, value_outside_reset, given, assigned_all, block_of, active_tree, register_block, holds, settle, is_named, assigned_in, assigned, is_active, taken_outside, taken_with, taken, name_in, register_trees, TakeTheirValues, RegistersTakeTheirValues}
 
 -- Names.
 
@@ -190,4 +192,8 @@ takes v (Some s) rs true e rule i r d named there =
     )
 
 pub registers-take-their-values : RegistersTakeTheirValues
-registers-take-their-values v reset registers rule h i r there = takes v reset registers (list_any has_reset_value registers) refl rule i r h.distinct (h.named i r there) there
+registers-take-their-values reset registers rule h v i r there = takes v reset registers (list_any has_reset_value registers) refl rule i r h.distinct (h.named i r there) there
+
+pub none-take : (b : Bench) (reset : Option ResetTree) (registers : List RegisterDefinition) → length registers ≡ 0 → TakeTheirValues reset (register_trees b registers)
+none-take b reset [] none h v i r there = cc
+none-take b reset (x ∷ xs) none h v i r there = absurd (omega (arith, none))

@@ -182,11 +182,14 @@ pub record AreDistinctRegisters (registers : List RegisterTree) : Type 0 where
   pub named : (i : ℕ) (r : RegisterTree) → slice_get registers i ≡ Some r → IsTrue (is_name r.target)
   pub distinct : AreDistinct (map (λ r. name_in r.target) registers)
 
--- Whatever holds, each of the registers takes its value.
+-- Whatever holds, each of the registers takes its value by their block.
+abbrev pub TakeTheirValues : Option ResetTree → List RegisterTree → Type 0
+TakeTheirValues reset registers =
+    AreDistinctRegisters registers → (v : ExprTree → Bool) (i : ℕ) (r : RegisterTree) → slice_get registers i ≡ Some r →
+    assigned v (register_block reset registers) (name_in r.target) ≡ Some (taken v reset r)
+
 abbrev pub RegistersTakeTheirValues : Type 0
-RegistersTakeTheirValues =
-    (v : ExprTree → Bool) (reset : Option ResetTree) (registers : List RegisterTree) → unless_unresettable reset registers ≡ Ok tt → AreDistinctRegisters registers →
-    (i : ℕ) (r : RegisterTree) → slice_get registers i ≡ Some r → assigned v (register_block reset registers) (name_in r.target) ≡ Some (taken v reset r)
+RegistersTakeTheirValues = (reset : Option ResetTree) (registers : List RegisterTree) → unless_unresettable reset registers ≡ Ok tt → TakeTheirValues reset registers
 
 -- What a call leaves.
 

@@ -1,6 +1,6 @@
 //! Registers of one clock, with resets and enables.
 
-ghost use Rattle.std.specs.Prelude.{◌≡◌, true, [], All, Ok, OnErr, Some};
+ghost use Rattle.std.specs.Prelude.{◌≡◌, true, [], All, Ok, OnErr, OnOk, Some};
 ghost use Rattle.std.specs.List.{list_any};
 ghost use Rattle.vast_core.specs.Nodes.{OptionHolds};
 ghost use Rattle.vast_core.specs.Bench.{OwnsExpr, OwnsBlock, tree_of};
@@ -11,7 +11,7 @@ ghost use Rattle.vast_core.specs.FileTree.{tree};
 ghost use Rattle.vast_core.specs.Unattached.{IsUnheld};
 ghost use Rattle.vast_core.specs.View.{bench};
 ghost use Rattle.xlsynth_vast.specs.Reductions.{ChecksBy};
-ghost use Rattle.xlsynth_vast.specs.Registers.{register_tree, register_trees, reset_tree, maybe_reset_tree, unless_unresettable, running_value, given, assigned_all, active_tree, by_reset, OwnsRegister, OwnsReset, OwnsScope, with_clocked, MayAddRegisters};
+ghost use Rattle.xlsynth_vast.specs.Registers.{register_tree, register_trees, reset_tree, maybe_reset_tree, unless_unresettable, running_value, given, assigned_all, active_tree, by_reset, OwnsRegister, OwnsReset, OwnsScope, TakeTheirValues, with_clocked, MayAddRegisters};
 ghost use Rattle.xlsynth_vast.specs.RegisterSteps.{is_resettable, value_in, MakesValue, MakesMaybeValue, MayFill, MayBranch, MayMakeBlock, IsOlderScope};
 
 use crate::file::VastFile;
@@ -251,7 +251,8 @@ fn records_are_sound(file: &VastFile)
 /// `enable ? next : reg`, or `next` where it has no enable. Each assignment is nonblocking. No registers change
 /// nothing, and take no memory.
 ///
-/// Where the registers are names that differ, each takes its value: [`crate::laws::registers_take_their_values`].
+/// Where the registers are names that differ, each takes its value, whatever signals hold: its reset value where the
+/// reset is active and it has one, else its next value where it has no enable or the enable holds, else its own.
 ///
 /// # Errors
 /// `Refused` where a register has a reset value and there is no reset: `reset signal is required when a register has a
@@ -269,6 +270,7 @@ pub fn add_registers(
     requires registers { All (OwnsRegister (bench file.old)) registers.now }
     requires scope { OwnsScope (bench file.old) scope }
     ensures built { MayAddRegisters (bench file.old) (bench file.new) result clk.now reset registers.now scope }
+    ensures values { OnOk result (TakeTheirValues (maybe_reset_tree (bench file.old) reset) (register_trees (bench file.old) registers.now)) }
     ensures unseen { OnErr result (tree (bench file.new) ≡ tree (bench file.old)) }
     ensures none { registers.now ≡ [] → result ≡ Ok tt }
 {

@@ -2,6 +2,8 @@
 use Rattle.std.proofs.Common.{rules, ◌≡◌, ◌<◌, length, Err}
 use Rattle.xlsynth_vast.proofs.RegisterParts.{wider_owned}
 use Rattle.xlsynth_vast.proofs.RegisterMembers.{unused-made, unused-wider, made-with-edge, edge-sound, edge-tree, made-owned, made-unheld, scope-owned, scope-older, adds-member, check-refused, member-added}
+use Rattle.vast_core.specs.View.{bench}
+use Rattle.xlsynth_vast.proofs.RegisterValues.{registers-take-their-values, none-take}
 use Rattle.xlsynth_vast.proofs.Unseen.{unseen-refused}
 use Rattle.xlsynth_vast.proofs.helpers.registers.add_registers.Goals as goal
 
@@ -52,3 +54,11 @@ pub returns-in_err-attach-clause-unseen : goal.returns-in_err-attach-clause-unse
 returns-in_err-attach-clause-unseen c =
     unseen-refused _ _ c.from_residual-in_err-attach.result c.records_are_sound.ensures
     (rw c.in_err-attach.ensures (unused-made _ _ _ _ _ (made-with-edge _ _ _ _ _ _ c.args.clk.now c.in_ok-event.event c.in_ok-block.ensures c.in_ok-event.ensures)))
+
+pub returns-then-is_empty-clause-values : goal.returns-then-is_empty-clause-values
+returns-then-is_empty-clause-values c =
+    let none : length c.args.registers.now ≡ 0 = search rules in
+    none-take (bench c.args.file.now) _ c.args.registers.now none
+
+pub returns-clause-values : goal.returns-clause-values
+returns-clause-values c = registers-take-their-values _ _ c.in_ok-check_reset.ensures
