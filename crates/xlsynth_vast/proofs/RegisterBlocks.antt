@@ -16,7 +16,7 @@ use Rattle.xlsynth_vast.specs.declared.helpers.registers.RegisterDefinition.{Reg
 use Rattle.xlsynth_vast.specs.declared.helpers.registers.Share.TheVariants.{Unreset}
 use Rattle.xlsynth_vast.specs.Registers.{RegisterTree, ResetTree, register_trees, reset_tree, maybe_reset_tree, unreset_value, assigned_all, by_reset, OwnsRegister, OwnsReset, HasUnused}
 use Rattle.xlsynth_vast.specs.RegisterSteps.{is_resettable, value_in, with_statements, with_filled, Disturbs, Fills, Branches, branch_statements, branch_containers, MakesBlock, MayMakeBlock}
-use Rattle.xlsynth_vast.proofs.RegisterParts.{any-tree, filled-filled, Wider, fills-wider, wider_tree, registers-kept, are-kept, filled-wider}
+use Rattle.xlsynth_vast.proofs.RegisterParts.{one-parent, any-tree, filled-filled, Wider, fills-wider, wider_tree, registers-kept, are-kept, filled-wider}
 use Rattle.xlsynth_vast.proofs.RegisterBranches.{changed-behind}
 
 -- What is done to the last block is done behind all that there was.
@@ -27,7 +27,7 @@ last-changed xs containers statements =
     rw (changed-behind (with_statements statements) xs (BlockRecord [] ∷ []) 0 (length xs) (omega arith)) (append_assoc xs (BlockRecord statements ∷ []) containers)
 
 unused-disturbed : (old now : Bench) → Disturbs (with_block old) now (next_block old) → HasUnused old now
-unused-disturbed old now d = record { roots = d.roots; assignments = d.assignments; containers = BlockRecord d.statements ∷ d.containers; after = d.after ∙ rw (last-changed old.nests d.containers d.statements) refl }
+unused-disturbed old now d = record { roots = d.roots; assignments = d.assignments; containers = BlockRecord d.statements ∷ d.containers; after = d.after ∙ rw (last-changed old.nests d.containers d.statements) refl; parents = λ x. d.parents (one-parent.with_a_block_that_nothing_holds old x) }
 
 pub unused-from : (old first now : Bench) (block : VastStatementBlock) → block ≡ next_block old → first ≡ with_block old → Disturbs first now block → HasUnused old now
 unused-from old first now block e f d = unused-disturbed old now (rw (e, f) at d)
@@ -37,7 +37,7 @@ block-refused old new (Ok x) reset registers e h = absurd cc
 block-refused old new (Err x) reset registers e h = h
 
 pub unused-none : (b : Bench) → HasUnused b b
-unused-none b = record { roots = []; assignments = []; containers = []; after = rw (append-nil b.nodes.roots, append-nil b.assignments, append-nil b.nests) refl }
+unused-none b = record { roots = []; assignments = []; containers = []; after = rw (append-nil b.nodes.roots, append-nil b.assignments, append-nil b.nests) refl; parents = λ x. x }
 
 pub none-by-reset : (b : Bench) (reset : Option Reset) (registers : List RegisterDefinition) → list_any is_resettable registers ≡ false → by_reset (maybe_reset_tree b reset) (register_trees b registers) ≡ []
 none-by-reset b None registers none = refl
@@ -56,6 +56,7 @@ makes-plain-here old now reset registers none f =
       after = f.after ∙ rw (last-changed old.nests [] f.statements, append-nil f.statements) refl;
       reads = f.reads;
       last_reads = none;
+      parents = λ x. f.parents (one-parent.with_a_block_that_nothing_holds old x);
     }
 
 pub makes-plain :
@@ -96,6 +97,7 @@ makes-branched-here old mid now reset registers f h =
       after = after ∙ rw (last-changed old.nests (branch_containers b h.branch) (f.statements ++ branch_statements b)) refl;
       reads = are-kept mid now (rw h.after (filled-wider mid h.roots h.assignments (branch_statements mid) (branch_containers mid h.branch) (next_block old))) f.statements _ f.reads;
       last_reads = h.reads;
+      parents = λ x. h.parents (f.parents (one-parent.with_a_block_that_nothing_holds old x));
     }
 
 pub makes-branched :

@@ -23,10 +23,11 @@ use Rattle.xlsynth_vast.specs.Inspections.{then_block_at}
 use Rattle.xlsynth_vast.specs.declared.helpers.registers.Reset.{Reset}
 use Rattle.xlsynth_vast.specs.declared.helpers.registers.RegisterDefinition.{RegisterDefinition}
 use Rattle.xlsynth_vast.specs.declared.helpers.registers.Share.TheVariants.{AtReset, OutsideReset}
+use Rattle.xlsynth_vast.specs.Parents.{HasOneParent}
 use Rattle.xlsynth_vast.specs.Reductions.{HasMoreNodes, IsTree}
 use Rattle.xlsynth_vast.specs.Registers.{register_trees, reset_tree, active_tree, assigned_all, value_at_reset, value_outside_reset, by_reset, OwnsRegister}
 use Rattle.xlsynth_vast.specs.RegisterSteps.{is_resettable, value_in, AreAssigned, with_statements, with_filled, Disturbs, Fills, MayFill, MayBranch, branch_statements, first_behind, second_behind}
-use Rattle.xlsynth_vast.proofs.RegisterParts.{changed-alike, one-statement, any-tree, Wider, wider-wider, filled-wider, fills-wider, wider_owned, wider_tree, registers-kept, are-kept}
+use Rattle.xlsynth_vast.proofs.RegisterParts.{one-parent, nodes-parents, changed-alike, one-statement, any-tree, Wider, wider-wider, filled-wider, fills-wider, wider_owned, wider_tree, registers-kept, are-kept}
 
 -- A list behind another.
 
@@ -45,6 +46,7 @@ pub record Behind (old now : Bench) (block : VastStatementBlock) (tail : List Ne
   pub roots : List Root
   pub assignments : List Assignment
   pub after : now ≡ with_filled roots assignments (branch_statements old) tail block old
+  pub parents : HasOneParent old → HasOneParent now
 
 abbrev front : Bench → VastStatementBlock → List NestRecord
 front old block = changed_at (block_index block) (with_statements (branch_statements old)) old.nests
@@ -56,7 +58,7 @@ at-front : (old : Bench) (block : VastStatementBlock) → length old.nests ≡ 0
 at-front old block = let e = length-front old block in omega (arith, e)
 
 pub disturbs-behind : (old now : Bench) (block : VastStatementBlock) (tail : List NestRecord) → Behind old now block tail → Disturbs old now block
-disturbs-behind old now block tail h = record { roots = h.roots; assignments = h.assignments; statements = branch_statements old; containers = tail; after = h.after }
+disturbs-behind old now block tail h = record { roots = h.roots; assignments = h.assignments; statements = branch_statements old; containers = tail; after = h.after; parents = h.parents }
 
 -- The conditional comes, behind expressions.
 pub behind-start :
@@ -76,6 +78,7 @@ behind-start old mid new block condition answer more owned built =
       roots = more.more;
       assignments = [];
       after = rw (append-nil old.assignments) (built.1 ∙ rw (nests, more.after) refl);
+      parents = λ x. rw built.1 (one-parent.with_a_conditional_in_a_block mid block condition (nodes-parents old mid more x));
     }
 
 abbrev branch_of : Bench → Expr → (otherwise : Option VastStatementBlock) → NestRecord
@@ -114,15 +117,15 @@ behind-else old now new block condition answer h built =
     rw (append_assoc (front old block) (new_conditional old condition ∷ BlockRecord [] ∷ []) (BlockRecord [] ∷ []))
     (changed-behind (with_entry (ElseEnters (second_behind old))) (front old block) (new_conditional old condition ∷ BlockRecord [] ∷ BlockRecord [] ∷ []) 0 (length old.nests) (at-front old block)) in (
       built.0 ∙ next,
-      record { roots = h.roots; assignments = h.assignments; after = built.1 ∙ rw next (rw h.after (rw nests refl)) },
+      record { roots = h.roots; assignments = h.assignments; after = built.1 ∙ rw next (rw h.after (rw nests refl)); parents = λ x. rw built.1 (one-parent.with_an_else now (next_conditional old) (h.parents x)) },
     )
 
 -- One of the containers behind is filled.
 pub behind-filled :
     (old now new : Bench) (block x : VastStatementBlock) (tail : List NestRecord) (k : ℕ) (roots : List Root) (assignments : List Assignment) (statements : List StatementEntry) (containers : List NestRecord) →
-    Behind old now block tail → block_index x ≡ k + length old.nests → new ≡ with_filled roots assignments statements containers x now →
+    Behind old now block tail → block_index x ≡ k + length old.nests → new ≡ with_filled roots assignments statements containers x now → (HasOneParent now → HasOneParent new) →
     Behind old new block (changed_at k (with_statements statements) tail ++ containers)
-behind-filled old now new block x tail k roots assignments statements containers h is after =
+behind-filled old now new block x tail k roots assignments statements containers h is after parents =
     let nests : changed_at (block_index x) (with_statements statements) (front old block ++ tail) ++ containers ≡ front old block ++ (changed_at k (with_statements statements) tail ++ containers) =
     rw (changed-behind (with_statements statements) (front old block) tail k (block_index x) (let e = length-front old block in omega (arith, e, is)))
     (append_assoc (front old block) (changed_at k (with_statements statements) tail) containers) in
@@ -130,18 +133,19 @@ behind-filled old now new block x tail k roots assignments statements containers
       roots = h.roots ++ roots;
       assignments = h.assignments ++ assignments;
       after = after ∙ rw h.after (rw (append_assoc old.nodes.roots h.roots roots, append_assoc old.assignments h.assignments assignments, nests) refl);
+      parents = λ p. parents (h.parents p);
     }
 
 pub behind-fills :
     (old now new : Bench) (block x : VastStatementBlock) (tail : List NestRecord) (k : ℕ) (trees : List StatementTree) → Behind old now block tail → block_index x ≡ k + length old.nests →
     (f : Fills now new x trees) → Behind old new block (changed_at k (with_statements f.statements) tail)
 behind-fills old now new block x tail k trees h is f =
-    rw (append-nil (changed_at k (with_statements f.statements) tail)) at (behind-filled old now new block x tail k f.roots f.assignments f.statements [] h is f.after)
+    rw (append-nil (changed_at k (with_statements f.statements) tail)) at (behind-filled old now new block x tail k f.roots f.assignments f.statements [] h is f.after f.parents)
 
 pub behind-disturbed :
     (old now new : Bench) (block x : VastStatementBlock) (tail : List NestRecord) (k : ℕ) → Behind old now block tail → block_index x ≡ k + length old.nests → Disturbs now new x → Disturbs old new block
 behind-disturbed old now new block x tail k h is d =
-    disturbs-behind old new block (changed_at k (with_statements d.statements) tail ++ d.containers) (behind-filled old now new block x tail k d.roots d.assignments d.statements d.containers h is d.after)
+    disturbs-behind old new block (changed_at k (with_statements d.statements) tail ++ d.containers) (behind-filled old now new block x tail k d.roots d.assignments d.statements d.containers h is d.after d.parents)
 
 pub branch-refused : (old new : Bench) (r : Result (Unit {0}) AllocError) (block : VastStatementBlock) (trees : List StatementTree) → IsErr r → Disturbs old new block → MayBranch old new r block trees
 branch-refused old new (Ok x) block trees e h = absurd cc
@@ -240,4 +244,5 @@ branch-end old mid now after new (Ok x) block condition first second reset regis
         at_reset_reads = are-kept after new w f.statements at_reset first-reads;
         outside_reads = second-reads;
       };
+      parents = two.parents;
     }

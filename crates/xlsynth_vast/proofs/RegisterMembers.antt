@@ -1,5 +1,5 @@
 -- Laws of the member that registers become: nothing holds its block before, and its tree is theirs.
-use Rattle.std.proofs.Common.{◌≡◌, ℕ, suc, ◌+◌, ◌<◌, ◌≤◌, List, [], ◌∷◌, ◌++◌, length, Option, Some, None, slice_get, Ok, Err, refl, ap, ◌∙◌, arith, append_assoc, append-nil, length-append}
+use Rattle.std.proofs.Common.{◌≡◌, ℕ, suc, ◌+◌, ◌<◌, ◌≤◌, List, [], ◌∷◌, ◌++◌, length, Option, Some, None, slice_get, Ok, Err, refl, ap, ◌∙◌, arith, append_assoc, append-nil, length-append, flat_map, nat_eq, false}
 use Rattle.vast_literal.specs.Tree.{ExprTree, StatementTree, PosEdgeTree, MoreStatements, NoStatements, ConditionalTree, Else}
 use Rattle.vast_literal.specs.declared.error.VastFault.{VastFault}
 use Rattle.vast_literal.specs.declared.error.VastFault.TheVariants.{Refused, Memory}
@@ -33,7 +33,10 @@ use Rattle.xlsynth_vast.specs.declared.helpers.registers.RegisterScope.TheVarian
 use Rattle.xlsynth_vast.specs.Expressions.{with_pos_edge}
 use Rattle.xlsynth_vast.specs.Registers.{RegisterTree, ResetTree, block_of, register_block, registers_member, OwnsScope, with_unused, HasUnused, with_clocked, AddsMember, MayAddRegisters, unless_unresettable, maybe_reset_tree, register_trees}
 use Rattle.xlsynth_vast.specs.RegisterSteps.{AreAssigned, Branch, BranchReads, LastReads, branch_statements, branch_containers, last_statements, last_containers, first_behind, second_behind, MakesBlock, IsOlderScope}
-use Rattle.xlsynth_vast.proofs.RegisterParts.{Wider, wider_owned, wider_tree, are-kept}
+use Rattle.xlsynth_vast.proofs.RegisterParts.{one-parent, Wider, wider_owned, wider_tree, are-kept}
+use Rattle.xlsynth_vast.specs.Parents.{Part, ContainerPart, held_by_statement, held_by_conditional, held_by_container, held, places, HasOneParent}
+use Rattle.xlsynth_vast.proofs.Places.{places-append, over-append, over-one}
+use Rattle.xlsynth_vast.proofs.PlacedOnce.{file-places}
 use Rattle.xlsynth_vast.proofs.RegisterBranches.{get-behind}
 use Rattle.xlsynth_vast.proofs.RegisterBlocks.{unused-none}
 
@@ -67,7 +70,7 @@ Each-append P (x ∷ xs) ys h k = (h.0, Each-append P xs ys h.1 k)
 -- The block that was made.
 
 pub unused-made : (old now : Bench) (block : VastStatementBlock) (reset : Option ResetTree) (registers : List RegisterTree) → MakesBlock old now block reset registers → HasUnused old now
-unused-made old now block reset registers h = record { roots = h.roots; assignments = h.assignments; containers = BlockRecord (h.statements ++ last_statements (with_block old) h.branch) ∷ last_containers (with_block old) h.branch; after = h.after }
+unused-made old now block reset registers h = record { roots = h.roots; assignments = h.assignments; containers = BlockRecord (h.statements ++ last_statements (with_block old) h.branch) ∷ last_containers (with_block old) h.branch; after = h.after; parents = h.parents }
 
 pub unused-wider : (old now : Bench) → HasUnused old now → Wider old now
 unused-wider old now h = rw h.after (record { nodes = record { same_id = refl; same_roots = λ i r e. slice_get-append old.nodes.roots h.roots i r e }; assignments = λ i a e. slice_get-append old.assignments h.assignments i a e })
@@ -99,6 +102,7 @@ made-with-edge old mid now block reset registers clk answer h built =
       after = built.1 ∙ (ap (λ x. with_root x (ExprRoot (PosEdgeTree (tree_of mid clk)))) h.after ∙ rw (append_assoc old.nodes.roots h.roots (ExprRoot (PosEdgeTree (tree_of mid clk)) ∷ [])) refl);
       reads = are-kept mid now w h.statements _ h.reads;
       last_reads = last-kept mid now w h.branch _ h.last_reads;
+      parents = λ x. rw built.1 (one-parent.otherwise mid (with_pos_edge clk mid) refl refl refl refl (h.parents x));
     }
 
 pub edge-sound : (mid now : Bench) (clk answer : Expr) → Builds mid now (Ok answer) (next_expr mid) (with_pos_edge clk mid) → EventSound now answer
@@ -243,6 +247,66 @@ clocked-tree old b scope event block clk reset registers owned h own tree =
     let here : block_in (families d (block_index block)) ≡ register_block reset registers = ap (λ i. block_in (families d i)) (ap block_index h.is) ∙ body in
     rw (there, wider_tree b d w event own, tree, here) refl
 
+-- In how many places the block stands before: in none.
+
+differ : (i n : ℕ) → i < n → nat_eq i n ≡ false
+differ i n below = grind arith
+
+nothing-held : (p : Part) (b : Bench) (ss : List StatementEntry) (ts : List StatementTree) → AreAssigned b ss ts → places p (flat_map held_by_statement ss) ≡ 0
+nothing-held p b [] ts h = refl
+nothing-held p b (s ∷ ss) [] h = absurd h
+nothing-held p b (s ∷ ss) (t ∷ ts) h = rw h.0.is (nothing-held p b ss ts h.1)
+
+last-nowhere :
+    (old b : Bench) (ss : List StatementEntry) (ts : List StatementTree) (x : Option Branch) (more : List StatementTree) → AreAssigned b ss ts → LastReads b x more →
+    places (ContainerPart (length old.nests)) (flat_map held_by_container (BlockRecord (ss ++ last_statements (with_block old) x) ∷ last_containers (with_block old) x)) ≡ 0
+last-nowhere old b ss ts None more h k =
+    let p : Part = ContainerPart (length old.nests) in
+    let e = nothing-held p b ss ts h in
+    let one = over-one p held_by_container (BlockRecord ss) in
+    rw (append-nil ss) (one ∙ e)
+last-nowhere old b ss ts (Some x) more h k =
+    let p : Part = ContainerPart (length old.nests) in
+    let count = length-append old.nests (BlockRecord [] ∷ []) in
+    let first = nothing-held p b ss ts h in
+    let second = nothing-held p b x.at_reset k.at_reset k.at_reset_reads in
+    let third = nothing-held p b x.outside k.outside k.outside_reads in
+    let joined = over-append p held_by_statement ss (branch_statements (with_block old)) in
+    let outer = places-append p (flat_map held_by_statement (ss ++ branch_statements (with_block old))) (flat_map held_by_container (branch_containers (with_block old) x)) in
+    let branch = places-append p (held_by_conditional (record { condition = x.condition; consequent = first_behind (with_block old); else_ifs = []; otherwise = Some (second_behind (with_block old)) })) (flat_map held_by_container (BlockRecord x.at_reset ∷ BlockRecord x.outside ∷ [])) in
+    let rest = places-append p (flat_map held_by_statement x.at_reset) (flat_map held_by_container (BlockRecord x.outside ∷ [])) in
+    let last = over-one p held_by_container (BlockRecord x.outside) in
+    let a : nat_eq (length old.nests) (length (with_block old).nests) ≡ false = differ (length old.nests) (length (with_block old).nests) (omega (arith, count)) in
+    let c : nat_eq (length old.nests) (suc (length (with_block old).nests)) ≡ false = differ (length old.nests) (suc (length (with_block old).nests)) (omega (arith, count)) in
+    let d : nat_eq (length old.nests) (suc (suc (length (with_block old).nests))) ≡ false = differ (length old.nests) (suc (suc (length (with_block old).nests))) (omega (arith, count)) in
+    let named : places p (flat_map held_by_statement (branch_statements (with_block old))) ≡ 0 = rw a refl in
+    let arms : places p (held_by_conditional (record { condition = x.condition; consequent = first_behind (with_block old); else_ifs = []; otherwise = Some (second_behind (with_block old)) })) ≡ 0 = rw (c, d) refl in
+    omega (arith, first, second, third, joined, outer, branch, rest, last, named, arms)
+
+made-nowhere :
+    (old b : Bench) (block : VastStatementBlock) (reset : Option ResetTree) (registers : List RegisterTree) → MakesBlock old b block reset registers → HasOneParent old → places (ContainerPart (block_index block)) (held b) ≡ 0
+made-nowhere old b block reset registers h x =
+    let p : Part = ContainerPart (length old.nests) in
+    let tail : List NestRecord = BlockRecord (h.statements ++ last_statements (with_block old) h.branch) ∷ last_containers (with_block old) h.branch in
+    let none = x.nowhere p (omega arith) in
+    let more = last-nowhere old b h.statements _ h.branch _ h.reads h.last_reads in
+    let before = file-places p old in
+    let after = file-places p (with_unused h.roots h.assignments tail old) in
+    let both = over-append p held_by_container old.nests tail in
+    let here : places p (held (with_unused h.roots h.assignments tail old)) ≡ 0 = omega (arith, none, more, before, after, both) in
+    rw (h.is, h.after) here
+
+made-below : (old b : Bench) (block : VastStatementBlock) (reset : Option ResetTree) (registers : List RegisterTree) → MakesBlock old b block reset registers → block_index block < length b.nests
+made-below old b block reset registers h = block-place b block (made-owned old b block reset registers h)
+
+clocked-parent :
+    (old b : Bench) (scope : RegisterScope) (event : Expr) (block : VastStatementBlock) (reset : Option ResetTree) (registers : List RegisterTree) → MakesBlock old b block reset registers → HasOneParent old →
+    HasOneParent (clocked scope event block b)
+clocked-parent old b (ModuleScope owner) event block reset registers h x =
+    one-parent.with_an_always_block_over_it b owner AlwaysFF (event ∷ []) block (made-nowhere old b block reset registers h x) (made-below old b block reset registers h) (h.parents x)
+clocked-parent old b (LoopScope owner) event block reset registers h x =
+    one-parent.with_an_always_block_over_it_in_a_loop b owner AlwaysFF (event ∷ []) block (made-nowhere old b block reset registers h x) (made-below old b block reset registers h) (h.parents x)
+
 pub adds-member :
     (old b new : Bench) (scope : RegisterScope) (event : Expr) (block : VastStatementBlock) (clk : ExprTree) (reset : Option ResetTree) (registers : List RegisterTree) → OwnsScope old scope →
     MakesBlock old b block reset registers → OwnsExpr b event → tree_of b event ≡ PosEdgeTree clk → new ≡ with_clocked scope event block b →
@@ -255,6 +319,7 @@ adds-member old b new scope event block clk reset registers owned h own tree aft
       block = block;
       after = after;
       tree = rw after (clocked-tree old b scope event block clk reset registers owned h own tree);
+      parents = λ x. rw after (clocked-parent old b scope event block reset registers h x);
     }
 
 -- What the call answers.

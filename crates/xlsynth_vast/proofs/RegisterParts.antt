@@ -26,9 +26,11 @@ use Rattle.vast_core.proofs.Nests.{kind-changed}
 use Rattle.xlsynth_vast.specs.declared.helpers.registers.Reset.{Reset}
 use Rattle.xlsynth_vast.specs.declared.helpers.registers.RegisterDefinition.{RegisterDefinition}
 use Rattle.xlsynth_vast.specs.declared.helpers.registers.Share.{Share}
-use Rattle.xlsynth_vast.specs.Reductions.{HasMoreNodes}
+use Rattle.xlsynth_vast.specs.Parents.{HasOneParent, ContainersHaveOneParent}
+use Rattle.xlsynth_vast.specs.Reductions.{HasMoreNodes, with_nodes}
 use Rattle.xlsynth_vast.specs.Registers.{RegisterTree, is_given, has_reset_value, register_tree, register_trees, maybe_reset_tree, unless_unresettable, given, assigned_all, OwnsRegister}
 use Rattle.xlsynth_vast.specs.RegisterSteps.{is_resettable, value_in, MakesValue, IsAssigned, AreAssigned, with_statements, with_filled, Disturbs, Fills, MayFill}
+use Rattle.xlsynth_vast.proofs.Parents.{containers-have-one-parent}
 use Rattle.xlsynth_vast.proofs.Reduced.{more-none, more-root, All-at}
 
 -- Values.
@@ -191,6 +193,12 @@ same-kind ss (RepeatRecord l) = refl
 
 -- Blocks that are filled.
 
+abbrev pub one-parent : ContainersHaveOneParent
+one-parent = containers-have-one-parent
+
+pub nodes-parents : (old new : Bench) → HasMoreNodes old new → HasOneParent old → HasOneParent new
+nodes-parents old new h x = rw h.after (one-parent.otherwise old (with_nodes h.more old) refl refl refl refl x)
+
 pub filled-filled :
     (b : Bench) (roots others : List Root) (assignments later : List Assignment) (first second : List StatementEntry) (containers : List NestRecord) (block : VastStatementBlock) →
     with_filled others later second containers block (with_filled roots assignments first [] block b) ≡ with_filled (roots ++ others) (assignments ++ later) (first ++ second) containers block b
@@ -210,6 +218,7 @@ fills-none old new block h =
       statements = [];
       after = rw (append-nil old.assignments, append-nil (changed_at (block_index block) (with_statements []) old.nests), changed-still (with_statements []) no-statements old.nests (block_index block)) h.after;
       reads = tt;
+      parents = nodes-parents old new h;
     }
 
 fills-here :
@@ -226,6 +235,7 @@ fills-here b block a left right is =
         changed-alike (with_entry (StatementEnters (AssignStatement (next_statement b)))) (with_statements (AssignStatement (next_statement b) ∷ [])) (one-statement (AssignStatement (next_statement b))) b.nests (block_index block),
       ) refl;
       reads = (record { handle = next_statement b; is = refl; assignment = a; there = slice_get-seam b.assignments a; left = left; right = right; tree = rw is refl }, tt);
+      parents = λ h. one-parent.with_another_statement (with_assignment a b) block (AssignStatement (next_statement b)) refl (one-parent.otherwise b (with_assignment a b) refl refl refl refl h);
     }
 
 pub fills-more : (old mid new : Bench) (block : VastStatementBlock) (trees others : List StatementTree) → Fills old mid block trees → Fills mid new block others → Fills old new block (trees ++ others)
@@ -236,10 +246,11 @@ fills-more old mid new block trees others h k =
       statements = h.statements ++ k.statements;
       after = k.after ∙ (ap (λ x. with_filled k.roots k.assignments k.statements [] block x) h.after ∙ filled-filled old h.roots k.roots h.assignments k.assignments h.statements k.statements [] block);
       reads = are-more new h.statements k.statements trees others (are-kept mid new (fills-wider mid new block others k) h.statements trees h.reads) k.reads;
+      parents = λ x. k.parents (h.parents x);
     }
 
 pub disturbs-filled : (old new : Bench) (block : VastStatementBlock) (trees : List StatementTree) → Fills old new block trees → Disturbs old new block
-disturbs-filled old new block trees h = record { roots = h.roots; assignments = h.assignments; statements = h.statements; containers = []; after = h.after }
+disturbs-filled old new block trees h = record { roots = h.roots; assignments = h.assignments; statements = h.statements; containers = []; after = h.after; parents = h.parents }
 
 pub disturbs-nodes : (old new : Bench) (block : VastStatementBlock) → HasMoreNodes old new → Disturbs old new block
 disturbs-nodes old new block h = disturbs-filled old new block [] (fills-none old new block h)
@@ -252,6 +263,7 @@ disturbs-more old mid new block trees h k =
       statements = h.statements ++ k.statements;
       containers = k.containers;
       after = k.after ∙ (ap (λ x. with_filled k.roots k.assignments k.statements k.containers block x) h.after ∙ filled-filled old h.roots k.roots h.assignments k.assignments h.statements k.statements k.containers block);
+      parents = λ x. k.parents (h.parents x);
     }
 
 pub filled_block_owned : (old new : Bench) (block x : VastStatementBlock) (trees : List StatementTree) → Fills old new block trees → OwnsBlock old x → OwnsBlock new x

@@ -19,6 +19,7 @@ use Rattle.xlsynth_vast.specs.declared.helpers.registers.RegisterScope.{Register
 use Rattle.xlsynth_vast.specs.declared.helpers.registers.RegisterScope.TheVariants.{Module as ModuleScope, GenerateLoop as LoopScope}
 use Rattle.xlsynth_vast.specs.declared.helpers.registers.Share.{Share}
 use Rattle.xlsynth_vast.specs.declared.helpers.registers.Share.TheVariants.{Unreset, AtReset, OutsideReset}
+use Rattle.xlsynth_vast.specs.Parents.{HasOneParent}
 use Rattle.xlsynth_vast.specs.Reductions.{HasMoreNodes, IsTree}
 use Rattle.xlsynth_vast.specs.Registers.{RegisterTree, ResetTree, HasUnused, is_given, unreset_value, value_at_reset, value_outside_reset, assigned_all, by_reset, block_of, with_unused}
 
@@ -80,6 +81,7 @@ pub record Disturbs (old new : Bench) (block : VastStatementBlock) : Type 0 wher
   pub statements : List StatementEntry
   pub containers : List NestRecord
   pub after : new ≡ with_filled roots assignments statements containers block old
+  pub parents : HasOneParent old → HasOneParent new
 
 pub record Fills (old new : Bench) (block : VastStatementBlock) (trees : List StatementTree) : Type 0 where
   pub roots : List Root
@@ -87,6 +89,7 @@ pub record Fills (old new : Bench) (block : VastStatementBlock) (trees : List St
   pub statements : List StatementEntry
   pub after : new ≡ with_filled roots assignments statements [] block old
   pub reads : AreAssigned new statements trees
+  pub parents : HasOneParent old → HasOneParent new
 
 abbrev pub MayFill : (old new : Bench) → Result (Unit {0}) AllocError → VastStatementBlock → List StatementTree → Type 0
 MayFill old new (Ok _) block trees = Fills old new block trees
@@ -126,6 +129,7 @@ pub record Branches (old new : Bench) (block : VastStatementBlock) (trees : List
   pub branch : Branch
   pub after : new ≡ with_filled roots assignments (branch_statements old) (branch_containers old branch) block old
   pub reads : BranchReads new branch trees
+  pub parents : HasOneParent old → HasOneParent new
 
 abbrev pub MayBranch : (old new : Bench) → Result (Unit {0}) AllocError → VastStatementBlock → List StatementTree → Type 0
 MayBranch old new (Ok _) block trees = Branches old new block trees
@@ -154,6 +158,7 @@ pub record MakesBlock (old new : Bench) (block : VastStatementBlock) (reset : Op
   pub after : new ≡ with_unused roots assignments (BlockRecord (statements ++ last_statements (with_block old) branch) ∷ last_containers (with_block old) branch) old
   pub reads : AreAssigned new statements (assigned_all unreset_value registers)
   pub last_reads : LastReads new branch (by_reset reset registers)
+  pub parents : HasOneParent old → HasOneParent new
 
 abbrev pub MayMakeBlock : (old new : Bench) → Result VastStatementBlock AllocError → Option ResetTree → List RegisterTree → Type 0
 MayMakeBlock old new (Ok block) reset registers = MakesBlock old new block reset registers

@@ -18,6 +18,7 @@ use Rattle.vast_core.specs.Growth.{with_member}
 use Rattle.vast_core.specs.Loops.{next_always, with_loop_member}
 use Rattle.vast_core.specs.Unattached.{with_always_over}
 use Rattle.vast_core.specs.FileTree.{member_tree}
+use Rattle.xlsynth_vast.specs.Parents.{HasOneParent}
 use Rattle.xlsynth_vast.specs.declared.helpers.registers.Reset.{Reset}
 use Rattle.xlsynth_vast.specs.declared.helpers.registers.RegisterDefinition.{RegisterDefinition}
 use Rattle.xlsynth_vast.specs.declared.helpers.registers.RegisterScope.{RegisterScope}
@@ -203,7 +204,8 @@ abbrev pub OwnsScope : Bench → RegisterScope → Type 0
 OwnsScope b (ModuleScope owner) = OwnsModule b owner
 OwnsScope b (LoopScope owner) = OwnsLoop b owner
 
--- The file has these expressions, assignments and containers more, which no list names, and all else is as it was.
+-- The file has these expressions, assignments and containers more, which no list names, and all else is as it was. Each
+-- container still has one parent.
 abbrev pub with_unused : List Root → List Assignment → List NestRecord → Bench → Bench
 with_unused roots assignments containers b =
     record b { nodes = record { id = b.nodes.id; roots = b.nodes.roots ++ roots }; assignments = b.assignments ++ assignments; nests = b.nests ++ containers }
@@ -213,6 +215,7 @@ pub record HasUnused (old new : Bench) : Type 0 where
   pub assignments : List Assignment
   pub containers : List NestRecord
   pub after : new ≡ with_unused roots assignments containers old
+  pub parents : HasOneParent old → HasOneParent new
 
 -- A member more at the end of the scope's members.
 abbrev pub with_last_member : RegisterScope → MemberEntry → Bench → Bench
@@ -230,6 +233,7 @@ pub record AddsMember (old new : Bench) (scope : RegisterScope) (member : Member
   pub block : VastStatementBlock
   pub after : new ≡ with_clocked scope event block made
   pub tree : member_tree new (AlwaysEntry (next_always old)) ≡ member
+  pub parents : HasOneParent old → HasOneParent new
 
 -- No registers change nothing. Others add their member, or are refused as the rule says, and nothing changed, or want memory.
 abbrev pub MayAddRegisters : (old new : Bench) → Result (Unit {0}) VastFault → (clk : Expr) → Option Reset → List RegisterDefinition → RegisterScope → Type 0

@@ -2,6 +2,7 @@
 use Rattle.std.proofs.Common.{rules, ◌≡◌, ◌<◌, length, Err}
 use Rattle.xlsynth_vast.proofs.RegisterParts.{wider_owned}
 use Rattle.xlsynth_vast.proofs.RegisterMembers.{unused-made, unused-wider, made-with-edge, edge-sound, edge-tree, made-owned, made-unheld, scope-owned, scope-older, adds-member, check-refused, member-added}
+use Rattle.vast_literal.specs.declared.error.VastFault.TheVariants.{Memory}
 use Rattle.vast_core.specs.View.{bench}
 use Rattle.xlsynth_vast.proofs.RegisterValues.{registers-take-their-values, none-take}
 use Rattle.xlsynth_vast.proofs.Unseen.{unseen-refused}
@@ -42,6 +43,11 @@ returns-clause-built c =
     member-added _ _ c.args.clk.now c.args.reset c.args.registers.now c.args.scope some c.in_ok-check_reset.ensures
     (adds-member _ _ _ c.args.scope c.in_ok-event.event _ _ _ _ c.requires.scope made (edge-sound _ _ c.args.clk.now c.in_ok-event.event c.in_ok-event.ensures).0
     (edge-tree _ _ _ c.args.clk.now c.in_ok-event.event wide c.requires.clk c.in_ok-event.ensures) c.in_ok-attach.ensures.1)
+
+pub returns-in_err-attach-clause-built : goal.returns-in_err-attach-clause-built
+returns-in_err-attach-clause-built c =
+    let e : c.from_residual-in_err-attach.result ≡ Err (Memory c.in_err-attach.field-0.0) = search rules in
+    rw e (rw c.in_err-attach.ensures (unused-made _ _ _ _ _ (made-with-edge _ _ _ _ _ _ c.args.clk.now c.in_ok-event.event c.in_ok-block.ensures c.in_ok-event.ensures)))
 
 pub returns-in_err-block-clause-unseen : goal.returns-in_err-block-clause-unseen
 returns-in_err-block-clause-unseen c = unseen-refused _ _ c.from_residual-in_err-block.result c.records_are_sound.ensures c.in_err-block.ensures
