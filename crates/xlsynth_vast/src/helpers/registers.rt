@@ -20,10 +20,11 @@ use std::alloc::AllocError;
 use vast_core::{AlwaysKind, Expr, GenerateLoop, VastModule, VastStatementBlock};
 use vast_literal::VastFault;
 
-/// The signal that resets registers. For active low the reset is active where the signal does not hold.
+/// The signal that resets registers.
 #[derive(Clone, Copy, Debug)]
 pub struct Reset {
     pub signal: Expr,
+    /// Whether the reset is active where the signal does not hold.
     pub active_low: bool,
 }
 
@@ -31,16 +32,22 @@ pub struct Reset {
 /// them.
 #[derive(Clone, Copy, Debug)]
 pub struct RegisterDefinition {
+    /// What is assigned to.
     pub reg: Expr,
+    /// The value of the next cycle.
     pub next: Expr,
+    /// The value while the reset is active; without one the reset does not concern the register.
     pub reset_value: Option<Expr>,
+    /// Where it does not hold, the register keeps its value.
     pub enable: Option<Expr>,
 }
 
 /// Where the always block of registers goes.
 #[derive(Clone, Copy, Debug)]
 pub enum RegisterScope {
+    /// To the end of a module's members.
     Module(VastModule),
+    /// To the end of a generate loop's members.
     GenerateLoop(GenerateLoop),
 }
 
