@@ -22,3 +22,4 @@ pub mod NestLaws
 pub mod FreeNames
 pub mod Functions
 pub mod KeywordTable
+pub mod Unattached

@@ -19,3 +19,4 @@ pub mod Arrivals
 pub mod Loops
 pub mod Functions
 pub mod Events
+pub mod Unattached

@@ -35,6 +35,7 @@ mod places;
 mod ports;
 mod terms;
 mod types;
+mod unattached;
 mod variables;
 
 /// The nodes of one file, in arenas. Handles name nodes by their index.

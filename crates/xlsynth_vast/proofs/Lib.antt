@@ -9,6 +9,13 @@ pub mod MemberNames
 pub mod DeclaredNames
 pub mod Places
 pub mod PlacedOnce
+pub mod PlacedLater
 pub mod Parents
 pub mod Reduced
 pub mod ArrayReduced
+pub mod RegisterParts
+pub mod RegisterBranches
+pub mod RegisterBlocks
+pub mod RegisterMembers
+pub mod RegisterValues
+pub mod Unseen

@@ -25,6 +25,7 @@ use Rattle.xlsynth_vast.specs.Functions.{with_function_member}
 use Rattle.xlsynth_vast.specs.AlwaysBlocks.{with_always_member, with_loop_always}
 use Rattle.xlsynth_vast.specs.Parents.{Part, held_by_member, held_by_container, held_by_function, held_by_module, held, places, HasOneParent, ContainersHaveOneParent}
 use Rattle.xlsynth_vast.proofs.Places.{over-push, over-changed, over-hoisted}
+use Rattle.xlsynth_vast.proofs.PlacedLater.{with-loose-block, with-always-over, with-always-over-inside}
 use Rattle.xlsynth_vast.proofs.PlacedOnce.{held_by_entry, container_after, Larger, nodes-more, to-come-before, file-places, grown, placed-container, placed-containers, placed-function, placed-always}
 
 -- Files that hold no more than before.
@@ -186,6 +187,9 @@ containers-have-one-parent = record {
   with_a_case_arm = λ b owner label h. with-block-inside b (case_index owner) (CaseArmEnters (record { label = label; block = next_block b })) refl h;
   with_a_loop = with-loop;
   with_a_loop_in_a_loop = with-loop-inside;
+  with_a_block_that_nothing_holds = with-loose-block;
+  with_an_always_block_over_it = with-always-over;
+  with_an_always_block_over_it_in_a_loop = with-always-over-inside;
   with_another_statement = λ b owner s e h. grown (InNest (block_index owner) (StatementEnters s)) no_fresh b (λ p. inl (rw e refl)) h;
   with_another_member = λ b owner entry e h. grown (InModule owner entry None) no_fresh b (λ p. inl (rw e refl)) h;
   with_another_member_of_a_loop = λ b owner entry e h. grown (InNest (loop_index owner) (MemberEnters entry)) no_fresh b (λ p. inl (rw e refl)) h;

@@ -111,7 +111,7 @@ entry-comes p (InNest place entry) b =
 abbrev pub placed_by : Listing → Fresh → List Part
 placed_by l f = held_by_listing l ++ held_by_fresh f
 
-growth-places : (p : Part) (l : Listing) (f : Fresh) (b : Bench) → places p (held (after_growth l f b)) ≤ places p (held b) + places p (placed_by l f)
+pub growth-places : (p : Part) (l : Listing) (f : Fresh) (b : Bench) → places p (held (after_growth l f b)) ≤ places p (held b) + places p (placed_by l f)
 growth-places p l f b =
     let nodes = nodes-come p f b in
     let entry = entry-comes p l (with_fresh f b) in
@@ -173,18 +173,18 @@ grown l f b placed h = record {
 
 -- The parts that growths place.
 
-abbrev one_if : ℕ → ℕ → ℕ
+abbrev pub one_if : ℕ → ℕ → ℕ
 one_if i n = cond (nat_eq i n) 1 0
 
 -- A number is another or it isn't.
-abbrev IsHereOrNot : (i n : ℕ) → Type 0
+abbrev pub IsHereOrNot : (i n : ℕ) → Type 0
 IsHereOrNot i n = (one_if i n ≡ 0) ⊎ ((i ≡ n) × (one_if i n ≡ 1))
 
 here-case : (i n : ℕ) (t : Bool) → nat_eq i n ≡ t → IsHereOrNot i n
 here-case i n true e = inr (eqb-true i n e, rw e refl)
 here-case i n false e = inl (rw e refl)
 
-here : (i n : ℕ) → IsHereOrNot i n
+pub here : (i n : ℕ) → IsHereOrNot i n
 here i n = here-case i n (nat_eq i n) refl
 
 -- What has the number i stands in k new places: in none, or in one and its number is from n on and below m.

@@ -14,3 +14,5 @@ pub mod Parents
 pub mod Widths
 pub mod Reductions
 pub mod ArrayReduction
+pub mod Registers
+pub mod RegisterSteps

@@ -1,5 +1,5 @@
 -- In how many places each container, function and always block of a file stands.
-use Rattle.std.specs.Prelude.{◌≡◌, ℕ, ◌≤◌, Bool, false, List, [], ◌∷◌, ◌++◌, length, flat_map, count_by, nat_eq, Option, Some, None}
+use Rattle.std.specs.Prelude.{◌≡◌, ℕ, ◌≤◌, ◌<◌, Bool, false, List, [], ◌∷◌, ◌++◌, length, flat_map, count_by, nat_eq, Option, Some, None}
 use Rattle.vast_core.specs.declared.handle.Expr.{Expr}
 use Rattle.vast_core.specs.declared.handle.VastModule.{VastModule}
 use Rattle.vast_core.specs.declared.handle.VastDataType.{VastDataType}
@@ -23,8 +23,9 @@ use Rattle.vast_core.specs.Growth.{with_module, with_port, with_declaration, wit
 use Rattle.vast_core.specs.Parameters.{with_parameter_listed}
 use Rattle.vast_core.specs.Hoisting.{with_hoisted}
 use Rattle.vast_core.specs.Functions.{with_variable}
-use Rattle.vast_core.specs.Containers.{next_conditional, next_case, with_conditional, with_case, with_statement, with_else_if, with_else, with_case_arm, with_case_unique}
-use Rattle.vast_core.specs.Loops.{next_loop, with_loop, with_loop_member}
+use Rattle.vast_core.specs.Containers.{next_conditional, next_case, with_block, with_conditional, with_case, with_statement, with_else_if, with_else, with_case_arm, with_case_unique}
+use Rattle.vast_core.specs.Loops.{next_always, next_loop, with_loop, with_loop_member}
+use Rattle.vast_core.specs.Unattached.{with_always_over}
 use Rattle.xlsynth_vast.specs.Functions.{with_function_member}
 use Rattle.xlsynth_vast.specs.AlwaysBlocks.{with_always_member, with_loop_always}
 
@@ -123,6 +124,14 @@ pub record ContainersHaveOneParent : Type 0 where
       HasOneParent b → HasOneParent (with_member owner (LoopEntry (next_loop b)) (with_loop name first limit label b))
   pub with_a_loop_in_a_loop : (b : Bench) (owner : GenerateLoop) (name : List ℕ) (first limit : Expr) (label : Option (List ℕ)) →
       HasOneParent b → HasOneParent (with_loop_member owner (LoopEntry (next_loop b)) (with_loop name first limit label b))
+  pub with_a_block_that_nothing_holds : (b : Bench) → HasOneParent b → HasOneParent (with_block b)
+  -- Calls that place a block which nothing held.
+  pub with_an_always_block_over_it : (b : Bench) (owner : VastModule) (kind : AlwaysKind) (events : List Expr) (block : VastStatementBlock) →
+      places (ContainerPart (block_index block)) (held b) ≡ 0 → block_index block < length b.nests →
+      HasOneParent b → HasOneParent (with_member owner (AlwaysEntry (next_always b)) (with_always_over kind events block b))
+  pub with_an_always_block_over_it_in_a_loop : (b : Bench) (owner : GenerateLoop) (kind : AlwaysKind) (events : List Expr) (block : VastStatementBlock) →
+      places (ContainerPart (block_index block)) (held b) ≡ 0 → block_index block < length b.nests →
+      HasOneParent b → HasOneParent (with_loop_member owner (AlwaysEntry (next_always b)) (with_always_over kind events block b))
   -- Calls that make none.
   pub with_another_statement : (b : Bench) (owner : VastStatementBlock) (s : StatementEntry) → held_by_statement s ≡ [] → HasOneParent b → HasOneParent (with_statement owner s b)
   pub with_another_member : (b : Bench) (owner : VastModule) (entry : MemberEntry) → held_by_member entry ≡ [] → HasOneParent b → HasOneParent (with_member owner entry b)

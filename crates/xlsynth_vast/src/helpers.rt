@@ -5,6 +5,8 @@
 mod array_checks;
 mod array_reduction;
 mod reductions;
+mod registers;
 
 pub use array_reduction::bitwise_or_reduce_array_elements;
 pub use reductions::{bitwise_or_reduce, logical_and_reduce, logical_or_reduce};
+pub use registers::{RegisterDefinition, RegisterScope, Reset, add_registers};

@@ -4,6 +4,7 @@ ghost use Rattle.vast_core.specs.Bench.{OwnsFunction};
 ghost use Rattle.vast_core.specs.View.{bench};
 ghost use Rattle.xlsynth_vast.specs.Laws.{HoistingAgain, NamesStayDistinct, FunctionNamesAreDistinct};
 ghost use Rattle.xlsynth_vast.specs.Parents.{ContainersHaveOneParent};
+ghost use Rattle.xlsynth_vast.specs.Registers.{RegistersTakeTheirValues};
 
 use crate::file::VastFile;
 use vast_core::VastFunction;
@@ -33,3 +34,10 @@ pub fn function_names_are_distinct(file: &VastFile, function: VastFunction)
 {
     let _declared = file.ast.function(function);
 }
+
+/// By the block of [`crate::helpers::add_registers`] each register takes its value, whatever signals hold: its reset
+/// value where the reset is active and it has one, else its next value where it has no enable or the enable holds, else
+/// its own.
+pub fn registers_take_their_values()
+    ensures { RegistersTakeTheirValues }
+{}

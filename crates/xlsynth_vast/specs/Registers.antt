@@ -1,0 +1,245 @@
+-- Registers: the always block that a call makes of them, and the values that they take by it.
+use Rattle.std.specs.Prelude.{◌≡◌, ℕ, Bool, true, false, IsTrue, not, nat_eq, List, [], ◌∷◌, ◌++◌, map, Option, Some, None, option_map, slice_get, Result, Ok, Err, codes, string_bytes, if◌then◌else◌}
+use Rattle.std.specs.List.{flat_map, list_any}
+use Rattle.std.specs.Cmp.Lexicographic.{pointwise}
+use Rattle.vast_literal.specs.declared.error.VastFault.{VastFault}
+use Rattle.vast_literal.specs.declared.error.VastFault.TheVariants.{Refused, Memory}
+use Rattle.vast_literal.specs.Tree.{ExprTree, NameTree, UnaryTree, LogicalNotOp, TernaryTree, PosEdgeTree, MoreExprs, NoExprs, Nonblocking, StatementTree, AssignTree, CommentTree, BlankTree, InlineTree, ConditionalTree, CaseTree, Statements, NoStatements, MoreStatements, Alternates, NoElse, ElseIf, Else, MemberTree, AlwaysMember, AlwaysFFWord}
+use Rattle.vast_core.specs.declared.handle.Expr.{Expr}
+use Rattle.vast_core.specs.declared.handle.VastStatementBlock.{VastStatementBlock}
+use Rattle.vast_core.specs.declared.kind.AlwaysKind.TheVariants.{AlwaysFF}
+use Rattle.vast_core.specs.declared.node.Assignment.{Assignment}
+use Rattle.vast_core.specs.Nodes.{Root, OptionHolds, is_name}
+use Rattle.vast_core.specs.Records.{MemberEntry, AlwaysEntry}
+use Rattle.vast_core.specs.Nests.{NestRecord}
+use Rattle.vast_core.specs.Bench.{Bench, OwnsExpr, OwnsModule, OwnsLoop, tree_of}
+use Rattle.vast_core.specs.Sound.{AreDistinct}
+use Rattle.vast_core.specs.Growth.{with_member}
+use Rattle.vast_core.specs.Loops.{next_always, with_loop_member}
+use Rattle.vast_core.specs.Unattached.{with_always_over}
+use Rattle.vast_core.specs.FileTree.{member_tree}
+use Rattle.xlsynth_vast.specs.Parents.{HasOneParent}
+use Rattle.xlsynth_vast.specs.declared.helpers.registers.Reset.{Reset}
+use Rattle.xlsynth_vast.specs.declared.helpers.registers.RegisterDefinition.{RegisterDefinition}
+use Rattle.xlsynth_vast.specs.declared.helpers.registers.RegisterScope.{RegisterScope}
+use Rattle.xlsynth_vast.specs.declared.helpers.registers.RegisterScope.TheVariants.{Module as ModuleScope, GenerateLoop as LoopScope}
+
+-- A register: what is assigned to, its next value, its reset value where it has one, and its enable where it has one.
+pub record RegisterTree : Type 0 where
+  pub target : ExprTree
+  pub next : ExprTree
+  pub reset_value : Option ExprTree
+  pub enable : Option ExprTree
+
+-- The signal of a reset, which is active where the signal holds, or, for active low, where it doesn't.
+pub record ResetTree : Type 0 where
+  pub signal : ExprTree
+  pub active_low : Bool
+
+abbrev pub register_tree : Bench → RegisterDefinition → RegisterTree
+register_tree b r = record { target = tree_of b r.reg; next = tree_of b r.next; reset_value = option_map (tree_of b) r.reset_value; enable = option_map (tree_of b) r.enable }
+
+abbrev pub register_trees : Bench → List RegisterDefinition → List RegisterTree
+register_trees b registers = map (register_tree b) registers
+
+abbrev pub reset_tree : Bench → Reset → ResetTree
+reset_tree b r = record { signal = tree_of b r.signal; active_low = r.active_low }
+
+abbrev pub maybe_reset_tree : Bench → Option Reset → Option ResetTree
+maybe_reset_tree b reset = option_map (reset_tree b) reset
+
+-- The statements.
+
+abbrev pub is_given : {A : Type 0} → Option A → Bool
+is_given None = false
+is_given (Some x) = true
+
+abbrev pub has_reset_value : RegisterTree → Bool
+has_reset_value r = is_given r.reset_value
+
+-- A reset value asks for a reset.
+abbrev pub unless_unresettable : Option ResetTree → List RegisterTree → Result (Unit {0}) (List ℕ)
+unless_unresettable (Some reset) registers = Ok tt
+unless_unresettable None registers = if list_any has_reset_value registers then Err (codes "reset signal is required when a register has a reset value") else Ok tt
+
+-- The value outside of reset: the next value, or where the enable doesn't hold the register itself.
+abbrev pub enabled_value : Option ExprTree → (next target : ExprTree) → ExprTree
+enabled_value None next target = next
+enabled_value (Some enable) next target = TernaryTree enable next target
+
+abbrev pub running_value : RegisterTree → ExprTree
+running_value r = enabled_value r.enable r.next r.target
+
+-- Which value a list of assignments gives to a register, if any: one to the registers without reset values, and to the others
+-- one at reset and one outside of it.
+
+abbrev pub unreset_value : RegisterTree → Option ExprTree
+unreset_value r = if has_reset_value r then None else Some (running_value r)
+
+abbrev pub value_at_reset : RegisterTree → Option ExprTree
+value_at_reset r = r.reset_value
+
+abbrev pub value_outside_reset : RegisterTree → Option ExprTree
+value_outside_reset r = if has_reset_value r then Some (running_value r) else None
+
+abbrev pub given : ExprTree → Option ExprTree → List StatementTree
+given target None = []
+given target (Some value) = AssignTree Nonblocking target value ∷ []
+
+-- The assignments of these values, in the order of the registers.
+abbrev pub assigned_all : (RegisterTree → Option ExprTree) → List RegisterTree → List StatementTree
+assigned_all value registers = flat_map (λ r. given r.target (value r)) registers
+
+abbrev pub block_of : List StatementTree → Statements
+block_of [] = NoStatements
+block_of (s ∷ ss) = MoreStatements s (block_of ss)
+
+abbrev pub active_tree : ResetTree → ExprTree
+active_tree reset = if reset.active_low then UnaryTree LogicalNotOp reset.signal else reset.signal
+
+-- What stands behind the assignments of the registers without reset values: `if (signal) .. else ..`, where a register has
+-- one.
+abbrev pub by_reset : Option ResetTree → List RegisterTree → List StatementTree
+by_reset None registers = []
+by_reset (Some reset) registers =
+    if list_any has_reset_value registers then
+    ConditionalTree (active_tree reset) (block_of (assigned_all value_at_reset registers)) (Else (block_of (assigned_all value_outside_reset registers))) ∷ []
+    else []
+
+-- The block of these registers, and the member whose block it is.
+abbrev pub register_block : Option ResetTree → List RegisterTree → Statements
+register_block reset registers = block_of (assigned_all unreset_value registers ++ by_reset reset registers)
+
+abbrev pub registers_member : (clk : ExprTree) → Option ResetTree → List RegisterTree → MemberTree
+registers_member clk reset registers = AlwaysMember AlwaysFFWord (MoreExprs (PosEdgeTree clk) NoExprs) (register_block reset registers)
+
+-- What the statements mean. A set of trees says which of them hold: it is given by its test.
+
+abbrev pub holds : (ExprTree → Bool) → ExprTree → Bool
+holds v (UnaryTree LogicalNotOp operand) = not (holds v operand)
+holds v (TernaryTree condition consequent alternate) = if holds v condition then holds v consequent else holds v alternate
+holds v e = v e
+
+-- A ternary is settled by its condition; any other tree is settled.
+abbrev pub settle : (ExprTree → Bool) → ExprTree → ExprTree
+settle v (TernaryTree condition consequent alternate) = if holds v condition then settle v consequent else settle v alternate
+settle v e = e
+
+abbrev pub is_named : List ℕ → ExprTree → Bool
+is_named name (NameTree other type) = pointwise nat_eq name other
+is_named name _ = false
+
+-- The settled right side of the last assignment to the name on the path through a block that the set takes; before the
+-- block it was this. Which arm of a case statement is taken isn't said.
+abbrev mutual
+  pub assigned_in : (ExprTree → Bool) → (name : List ℕ) → Statements → (before : Option ExprTree) → Option ExprTree
+  assigned_in v name NoStatements before = before
+  assigned_in v name (MoreStatements s ss) before = assigned_in v name ss (assigned_by v name s before)
+
+  pub assigned_by : (ExprTree → Bool) → (name : List ℕ) → StatementTree → (before : Option ExprTree) → Option ExprTree
+  assigned_by v name (AssignTree form left right) before = if is_named name left then Some (settle v right) else before
+  assigned_by v name (ConditionalTree condition consequent alternates) before = if holds v condition then assigned_in v name consequent before else assigned_else v name alternates before
+  assigned_by v name (CaseTree unique word selector arms) before = before
+  assigned_by v name (CommentTree text) before = before
+  assigned_by v name BlankTree before = before
+  assigned_by v name (InlineTree text) before = before
+
+  pub assigned_else : (ExprTree → Bool) → (name : List ℕ) → Alternates → (before : Option ExprTree) → Option ExprTree
+  assigned_else v name NoElse before = before
+  assigned_else v name (ElseIf condition block alternates) before = if holds v condition then assigned_in v name block before else assigned_else v name alternates before
+  assigned_else v name (Else block) before = assigned_in v name block before
+
+abbrev pub assigned : (ExprTree → Bool) → Statements → (name : List ℕ) → Option ExprTree
+assigned v block name = assigned_in v name block None
+
+-- What a register takes: its reset value where reset is active and it has one, else its next value where it has no enable or
+-- the enable holds, else itself.
+
+abbrev pub is_active : (ExprTree → Bool) → Option ResetTree → Bool
+is_active v None = false
+is_active v (Some reset) = if reset.active_low then not (holds v reset.signal) else holds v reset.signal
+
+abbrev pub is_enabled : (ExprTree → Bool) → Option ExprTree → Bool
+is_enabled v None = true
+is_enabled v (Some enable) = holds v enable
+
+abbrev pub taken_outside : (ExprTree → Bool) → RegisterTree → ExprTree
+taken_outside v r = if is_enabled v r.enable then settle v r.next else r.target
+
+abbrev pub taken_with : (ExprTree → Bool) → Option ExprTree → (active : Bool) → RegisterTree → ExprTree
+taken_with v (Some value) true r = settle v value
+taken_with v (Some value) false r = taken_outside v r
+taken_with v None active r = taken_outside v r
+
+abbrev pub taken : (ExprTree → Bool) → Option ResetTree → RegisterTree → ExprTree
+taken v reset r = taken_with v r.reset_value (is_active v reset) r
+
+abbrev pub name_in : ExprTree → List ℕ
+name_in (NameTree name type) = name
+name_in _ = []
+
+-- Registers are told apart by their names.
+pub record AreDistinctRegisters (registers : List RegisterTree) : Type 0 where
+  pub named : (i : ℕ) (r : RegisterTree) → slice_get registers i ≡ Some r → IsTrue (is_name r.target)
+  pub distinct : AreDistinct (map (λ r. name_in r.target) registers)
+
+-- Whatever holds, each of the registers takes its value by their block.
+abbrev pub TakeTheirValues : Option ResetTree → List RegisterTree → Type 0
+TakeTheirValues reset registers =
+    AreDistinctRegisters registers → (v : ExprTree → Bool) (i : ℕ) (r : RegisterTree) → slice_get registers i ≡ Some r →
+    assigned v (register_block reset registers) (name_in r.target) ≡ Some (taken v reset r)
+
+abbrev pub RegistersTakeTheirValues : Type 0
+RegistersTakeTheirValues = (reset : Option ResetTree) (registers : List RegisterTree) → unless_unresettable reset registers ≡ Ok tt → TakeTheirValues reset registers
+
+-- What a call leaves.
+
+abbrev pub OwnsRegister : Bench → RegisterDefinition → Type 0
+OwnsRegister b r = OwnsExpr b r.reg × OwnsExpr b r.next × OptionHolds (OwnsExpr b) r.reset_value × OptionHolds (OwnsExpr b) r.enable
+
+abbrev pub OwnsReset : Bench → Reset → Type 0
+OwnsReset b reset = OwnsExpr b reset.signal
+
+abbrev pub OwnsScope : Bench → RegisterScope → Type 0
+OwnsScope b (ModuleScope owner) = OwnsModule b owner
+OwnsScope b (LoopScope owner) = OwnsLoop b owner
+
+-- The file has these expressions, assignments and containers more, which no list names, and all else is as it was. Each
+-- container still has one parent.
+abbrev pub with_unused : List Root → List Assignment → List NestRecord → Bench → Bench
+with_unused roots assignments containers b =
+    record b { nodes = record { id = b.nodes.id; roots = b.nodes.roots ++ roots }; assignments = b.assignments ++ assignments; nests = b.nests ++ containers }
+
+pub record HasUnused (old new : Bench) : Type 0 where
+  pub roots : List Root
+  pub assignments : List Assignment
+  pub containers : List NestRecord
+  pub after : new ≡ with_unused roots assignments containers old
+  pub parents : HasOneParent old → HasOneParent new
+
+-- A member more at the end of the scope's members.
+abbrev pub with_last_member : RegisterScope → MemberEntry → Bench → Bench
+with_last_member (ModuleScope owner) entry b = with_member owner entry b
+with_last_member (LoopScope owner) entry b = with_loop_member owner entry b
+
+abbrev pub with_clocked : RegisterScope → (event : Expr) → VastStatementBlock → Bench → Bench
+with_clocked scope event block b = with_last_member scope (AlwaysEntry (next_always b)) (with_always_over AlwaysFF (event ∷ []) block b)
+
+-- One always block more, last in its scope, whose tree is this; and of all else only what that block names.
+pub record AddsMember (old new : Bench) (scope : RegisterScope) (member : MemberTree) : Type 0 where
+  pub made : Bench
+  pub unused : HasUnused old made
+  pub event : Expr
+  pub block : VastStatementBlock
+  pub after : new ≡ with_clocked scope event block made
+  pub tree : member_tree new (AlwaysEntry (next_always old)) ≡ member
+  pub parents : HasOneParent old → HasOneParent new
+
+-- No registers change nothing. Others add their member, or are refused as the rule says, and nothing changed, or want memory.
+abbrev pub MayAddRegisters : (old new : Bench) → Result (Unit {0}) VastFault → (clk : Expr) → Option Reset → List RegisterDefinition → RegisterScope → Type 0
+MayAddRegisters old new (Ok _) clk reset [] scope = new ≡ old
+MayAddRegisters old new (Ok _) clk reset (r ∷ rs) scope =
+    (unless_unresettable (maybe_reset_tree old reset) (register_trees old (r ∷ rs)) ≡ Ok tt)
+    × AddsMember old new scope (registers_member (tree_of old clk) (maybe_reset_tree old reset) (register_trees old (r ∷ rs)))
+MayAddRegisters old new (Err (Refused e)) clk reset registers scope = (unless_unresettable (maybe_reset_tree old reset) (register_trees old registers) ≡ Err (string_bytes e.0)) × (new ≡ old)
+MayAddRegisters old new (Err (Memory e)) clk reset registers scope = HasUnused old new
