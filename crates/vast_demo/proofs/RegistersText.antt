@@ -25,10 +25,10 @@ use Rattle.vast_core.specs.Growth.{with_module, with_port, with_declaration, wit
 use Rattle.vast_core.specs.Loops.{next_always}
 use Rattle.vast_core.specs.FileTree.{tree, member_tree}
 use Rattle.vast_print.specs.Printed.{plain_text, ◌⊕◌, spaced, wrapped}
-use Rattle.vast_print.specs.Text.{expr_text, list_text, more_text}
-use Rattle.vast_print.specs.Statements.{begin_end, statement_page, statements_page, block_page, arms_page}
+use Rattle.vast_print.specs.Text.{expr_text}
+use Rattle.vast_print.specs.Statements.{begin_end, statement_page, statements_page, block_page}
 use Rattle.vast_print.specs.Declaration.{base_of, is_external, packed_text, unpacked_text, limit_text, joined, based_text, type_text, name_text, declaration_text}
-use Rattle.vast_print.specs.Page.{print_lines, print, no_lines, line, inner_lines, inner, lead_lines, lead, above, beside_lines, written_lines, written, beside, commented_lines, commented}
+use Rattle.vast_print.specs.Page.{print_lines, print, no_lines, line, inner_lines, inner, lead_lines, lead, above, beside_lines, written_lines, written, beside}
 use Rattle.vast_print.specs.Members.{entries_page, always_text, events_text, more_events_text, member_page, members_page}
 use Rattle.vast_print.specs.Layout.{port_text, ports_page, opening_page, header_page, body_page, module_page, item_page, items_page, layout}
 use Rattle.xlsynth_vast.specs.declared.helpers.registers.Reset.{Reset}
@@ -180,7 +180,7 @@ abbrev the_member : MemberTree
 the_member = registers_member (tree_of b12 (logic_ref_to_expr clock)) (maybe_reset_tree b12 (Some the_reset)) (register_trees b12 (enabled ∷ plain ∷ []))
 
 registers_printed : print (layout (design_with the_member)) ≡ registers_text
-unfolding registers_text design_with b0 b1 b2 b3 b4 b5 b6 b7 b8 b9 b10 b11 b12 expr_in type_in print print_lines layout items_page item_page module_page header_page opening_page ports_page port_text entries_page body_page members_page member_page always_text events_text more_events_text begin_end statement_page statements_page block_page arms_page list_text more_text expr_text declaration_text name_text type_text based_text base_of is_external packed_text unpacked_text limit_text joined spaced wrapped inner inner_lines lead lead_lines no_lines line above beside beside_lines written written_lines commented commented_lines plain_text ◌⊕◌ digits
+unfolding registers_text design_with b0 b1 b2 b3 b4 b5 b6 b7 b8 b9 b10 b11 b12 expr_in type_in print print_lines layout items_page item_page module_page header_page opening_page ports_page port_text entries_page body_page members_page member_page always_text events_text more_events_text begin_end statement_page statements_page block_page expr_text declaration_text name_text type_text based_text base_of is_external packed_text unpacked_text limit_text joined spaced wrapped inner inner_lines lead lead_lines no_lines line above beside beside_lines written written_lines plain_text ◌⊕◌ digits
 registers_printed = refl
 
 -- Each call in turn: from the file before it, its answer and the file after it.
