@@ -1,5 +1,5 @@
 -- The printed text of the design `registers`.
-use Rattle.std.proofs.Common.{◌≡◌, ℕ, zero, suc, All, pos, true, false, List, [], ◌∷◌, Some, None, Ok, arith, refl, sym, ap, ◌∙◌, codes}
+use Rattle.std.proofs.Common.{◌≡◌, ℕ, pos, true, false, List, [], ◌∷◌, Some, None, Ok, refl, sym, ap, ◌∙◌, codes}
 use Rattle.std.specs.Fmt.{digits}
 use Rattle.vast_literal.specs.declared.literal.LiteralFormat.TheVariants.{Hex}
 use Rattle.vast_literal.specs.Digits.{is_numeral, digits_in, number_in, lowest_digits, digit_count, separator}
@@ -20,7 +20,7 @@ use Rattle.vast_core.specs.Handles.{logic_ref_to_expr}
 use Rattle.vast_core.specs.Nodes.{Root, expr_in, type_in}
 use Rattle.vast_core.specs.Records.{AlwaysEntry}
 use Rattle.vast_core.specs.Nests.{NestRecord}
-use Rattle.vast_core.specs.Bench.{Bench, start, tree_of, OwnsExpr}
+use Rattle.vast_core.specs.Bench.{Bench, start, tree_of}
 use Rattle.vast_core.specs.Growth.{with_module, with_port, with_declaration, with_expr, with_type, next_module, next_logic_ref, next_expr, next_type}
 use Rattle.vast_core.specs.Loops.{next_always}
 use Rattle.vast_core.specs.FileTree.{tree, member_tree}
@@ -38,7 +38,7 @@ use Rattle.xlsynth_vast.specs.Equations.{next_bit_vector, with_bit_vector}
 use Rattle.xlsynth_vast.specs.Declarations.{names_in, unless_taken}
 use Rattle.xlsynth_vast.specs.Refusals.{MayBuild}
 use Rattle.xlsynth_vast.specs.Literals.{literal_in}
-use Rattle.xlsynth_vast.specs.Registers.{with_unused, with_clocked, AddsMember, registers_member, maybe_reset_tree, register_trees, OwnsRegister, OwnsReset, OwnsScope, MayAddRegisters}
+use Rattle.xlsynth_vast.specs.Registers.{with_unused, with_clocked, AddsMember, registers_member, maybe_reset_tree, register_trees, MayAddRegisters}
 use Rattle.vast_demo.specs.DesignTexts.{registers_text}
 use Rattle.vast_demo.proofs.CasesText.{allowed}
 
@@ -291,30 +291,16 @@ reached c0 c1 c2 c3 c4 c5 c6 c7 c8 c9 c10 c11 c12 m t u k s e r rn q qn v w h0 h
     let s12 = step12 c11 c12 w s11.1 h12 in
     record { file = s12.1; module_is = s1.0; clock_is = s4.0; signal_is = s5.0; enable_is = s6.0; first_is = s7.0; first_next_is = s8.0; second_is = s9.0; second_next_is = s10.0; first_value_is = s11.0; second_value_is = s12.0 }
 
--- The handles that the last call takes are the file's.
-
-pub owned_clock : (c : Bench) (k : Expr) → c ≡ b12 → k ≡ logic_ref_to_expr clock → OwnsExpr c k
-unfolding b0 b1 b2 b3 b4 b5 b6 b7 b8 b9 b10 b11 b12
-owned_clock c k e ek = rw (e, ek) (record { of_file = refl; of_kind = refl })
-
-pub owned_reset : (c : Bench) (x : Reset) → c ≡ b12 → x ≡ the_reset → OwnsReset c x
-unfolding b0 b1 b2 b3 b4 b5 b6 b7 b8 b9 b10 b11 b12
-owned_reset c x e ex = rw (e, ex) (record { of_file = refl; of_kind = refl })
-
-pub owned_registers : (c : Bench) (x y : RegisterDefinition) → c ≡ b12 → x ≡ enabled → y ≡ plain → All (OwnsRegister c) (x ∷ y ∷ [])
-unfolding b0 b1 b2 b3 b4 b5 b6 b7 b8 b9 b10 b11 b12
-owned_registers c x y e ex ey zero d h = rw (e, ex) (record { of_file = refl; of_kind = refl }, record { of_file = refl; of_kind = refl }, record { of_file = refl; of_kind = refl }, record { of_file = refl; of_kind = refl })
-owned_registers c x y e ex ey (suc zero) d h = rw (e, ey) (record { of_file = refl; of_kind = refl }, record { of_file = refl; of_kind = refl }, record { of_file = refl; of_kind = refl }, tt)
-owned_registers c x y e ex ey (suc (suc k)) d h = absurd (omega arith)
-
-pub owned_scope : (c : Bench) (m : VastModule) → c ≡ b12 → m ≡ the_module → OwnsScope c (ModuleScope m)
-unfolding b0 b1 b2 b3 b4 b5 b6 b7 b8 b9 b10 b11 b12
-owned_scope c m e em = rw (e, em) (record { of_file = refl; of_kind = refl })
-
--- The text after the last call.
+-- The text after the last call, whose expressions are these names.
 pub registers_added :
-    (b c : Bench) (k : Expr) (reset : Reset) (x y : RegisterDefinition) (m : VastModule) → b ≡ b12 → k ≡ logic_ref_to_expr clock → reset ≡ the_reset → x ≡ enabled → y ≡ plain → m ≡ the_module →
-    MayAddRegisters b c (Ok tt) k (Some reset) (x ∷ y ∷ []) (ModuleScope m) → print (layout (tree c)) ≡ registers_text
-registers_added b c k reset x y m e ek er ex ey em h =
-    let added : AddsMember b12 c (ModuleScope the_module) the_member = simp (e, ek, er, ex, ey, em) at h.1 in
+    (b c : Bench) (m : VastModule) (k s e r rn q qn : LogicRef) (v w xk xs xe xr xrn xq xqn : Expr) →
+    Reached b m k s e r rn q qn v w →
+    xk ≡ logic_ref_to_expr k → xs ≡ logic_ref_to_expr s → xe ≡ logic_ref_to_expr e → xr ≡ logic_ref_to_expr r → xrn ≡ logic_ref_to_expr rn → xq ≡ logic_ref_to_expr q → xqn ≡ logic_ref_to_expr qn →
+    MayAddRegisters b c (Ok tt) xk (Some (record { signal = xs; active_low = true }))
+    (record { reg = xr; next = xrn; reset_value = Some v; enable = Some xe } ∷ record { reg = xq; next = xqn; reset_value = Some w; enable = None } ∷ []) (ModuleScope m) →
+    print (layout (tree c)) ≡ registers_text
+registers_added b c m k s e r rn q qn v w xk xs xe xr xrn xq xqn g hk hs he hr hrn hq hqn h =
+    let added : AddsMember b12 c (ModuleScope the_module) the_member =
+    simp (hk, hs, he, hr, hrn, hq, hqn, g.file, g.module_is, g.clock_is, g.signal_is, g.enable_is, g.first_is, g.first_next_is, g.second_is, g.second_next_is, g.first_value_is, g.second_value_is) at h.1
+    in
     rw (tree_after c the_member added) registers_printed
