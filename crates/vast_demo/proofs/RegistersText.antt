@@ -149,12 +149,12 @@ design_with last =
     record {
       dialect = SystemVerilogDialect;
       items =
-        ModuleItem (record {
-          name = codes "regs_rst_en";
-          parameters = [];
-          ports = bit_port (codes "clk") ∷ bit_port (codes "rst") ∷ bit_port (codes "en") ∷ [];
-          members = MoreMembers (byte_logic (codes "r")) (MoreMembers (byte_logic (codes "r_next")) (MoreMembers (byte_logic (codes "r2")) (MoreMembers (byte_logic (codes "r2_next")) (MoreMembers last NoMembers))));
-        }) ∷ [];
+          ModuleItem (record {
+            name = codes "regs_rst_en";
+            parameters = [];
+            ports = bit_port (codes "clk") ∷ bit_port (codes "rst") ∷ bit_port (codes "en") ∷ [];
+            members = MoreMembers (byte_logic (codes "r")) (MoreMembers (byte_logic (codes "r_next")) (MoreMembers (byte_logic (codes "r2")) (MoreMembers (byte_logic (codes "r2_next")) (MoreMembers last NoMembers))));
+          }) ∷ [];
     }
 
 -- Whatever else the file has that no list names: it isn't in the tree.
