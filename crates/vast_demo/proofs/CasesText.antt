@@ -175,7 +175,7 @@ cases_printed = refl
 
 -- Each call in turn: from the file before it, its answer and the file after it.
 
-allowed : {P : Type 0} (rule : Result (Unit {0}) (List ℕ)) → IsOkAnd rule (λ _. P) → P
+pub allowed : {P : Type 0} (rule : Result (Unit {0}) (List ℕ)) → IsOkAnd rule (λ _. P) → P
 allowed (Ok x) h = h
 allowed (Err words) h = absurd h
 

@@ -2,13 +2,14 @@
 use Rattle.std.specs.Prelude.{ℕ, List, [], ◌∷◌, Option, Some, None, codes, if◌then◌else◌}
 use Rattle.std.specs.Str.{bytes_eq}
 use Rattle.std.specs.Borrow.{Bor}
-use Rattle.vast_demo.specs.DesignTexts.{passthrough_text, cases_text}
+use Rattle.vast_demo.specs.DesignTexts.{passthrough_text, cases_text, registers_text}
 
 -- the text of the design of this name
 abbrev pub text_of : (name : List ℕ) → Option (List ℕ)
 text_of name =
     if bytes_eq name (codes "passthrough") then Some passthrough_text
     else if bytes_eq name (codes "cases") then Some cases_text
+    else if bytes_eq name (codes "registers") then Some registers_text
     else None
 
 -- the text of the design that the words name: there is one word, and it is the design's name

@@ -1,4 +1,4 @@
-//! Prints designs: `vast_demo passthrough`, `vast_demo cases`.
+//! Prints designs: `vast_demo passthrough`, `vast_demo cases`, `vast_demo registers`.
 #![tactic(auto)]
 
 mod designs;

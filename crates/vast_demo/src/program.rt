@@ -4,14 +4,14 @@ ghost use Rattle.std.specs.Prelude.{◌≡◌, ◌≤◌, IsNone, IsSome, IfSome
 ghost use Rattle.std.specs.Io.KnownBytes.{Appends};
 ghost use Rattle.vast_demo.specs.Words.{design_text};
 
-use crate::designs::{cases, passthrough};
+use crate::designs::{cases, passthrough, registers};
 use std::alloc::Global;
 use std::io::{Read, Write};
 use xlsynth_vast::{VastError, VastFault};
 
 /// Prints the design that the one word names to `out`, and answers the status.
 ///
-/// `passthrough` and `cases` are printed with status 0. A refusal or want of memory prints its text to `err`, status 1;
+/// `passthrough`, `cases` and `registers` are printed with status 0. A refusal or want of memory prints its text to `err`, status 1;
 /// a failed write prints `write fault` there, status 1. No word, another word or more than one prints `unknown design`
 /// there, status 2. Every text on `err` has a line break behind it; a failed write there changes no status. No design
 /// reads `input`.
@@ -32,6 +32,8 @@ pub fn run<R: Read, W: Write, E: Write>(
                 print_design(passthrough(alloc), out, err)
             } else if *word == "cases" {
                 print_design(cases(alloc), out, err)
+            } else if *word == "registers" {
+                print_design(registers(alloc), out, err)
             } else {
                 unknown(err)
             }
@@ -120,6 +122,19 @@ mod tests {
         assert!(rt; err.is_empty());
         let text =
             "module encoder(\n  input wire [3:0] s,\n  output wire [1:0] y\n);\n  function automatic logic [1:0] f (input reg [3:0] s);\n    unique casez (s)\n      4'b1???: f = 2;\n      default: begin\n        // none\n        f = 0;\n      end\n    endcase\n  endfunction\n  assign y = f(s);\nendmodule\n";
+        assert!(rt; out.as_slice() == text.as_bytes());
+    }
+
+    #[test]
+    fn prints_the_registers(rt: HostRuntime) {
+        let alloc = rt.alloc();
+        let mut out: Vec<u8> = Vec::new(alloc);
+        let mut err: Vec<u8> = Vec::new(alloc);
+        let status = run(alloc, &["registers"], &mut NoInput, &mut out, &mut err);
+        assert_eq!(rt; status, 0);
+        assert!(rt; err.is_empty());
+        let text =
+            "module regs_rst_en(\n  input wire clk,\n  input wire rst,\n  input wire en\n);\n  logic [7:0] r;\n  logic [7:0] r_next;\n  logic [7:0] r2;\n  logic [7:0] r2_next;\n  always_ff @ (posedge clk) begin\n    if (!rst) begin\n      r <= 8'haa;\n      r2 <= 8'h55;\n    end else begin\n      r <= en ? r_next : r;\n      r2 <= r2_next;\n    end\n  end\nendmodule\n";
         assert!(rt; out.as_slice() == text.as_bytes());
     }
 
