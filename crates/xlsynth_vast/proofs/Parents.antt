@@ -47,7 +47,7 @@ equal b c e f g =
       always_there = omega (arith, always_blocks);
     }
 
-unchanged : (b c : Bench) → c.nests ≡ b.nests → c.functions ≡ b.functions → c.always_blocks ≡ b.always_blocks → c.modules ≡ b.modules → HasOneParent b → HasOneParent c
+pub unchanged : (b c : Bench) → c.nests ≡ b.nests → c.functions ≡ b.functions → c.always_blocks ≡ b.always_blocks → c.modules ≡ b.modules → HasOneParent b → HasOneParent c
 unchanged b c e f g k h = kept b c (equal b c e f g) (λ p. rw (e, f, g, k) (omega arith)) h
 
 -- The same nodes, and modules that hold no more.

@@ -1,6 +1,7 @@
 -- Laws of expressions that are joined, and of files that have more nodes.
 use Rattle.std.proofs.Common.{zero, Bool, true, false, not, codes, pos, suc, get_or, drop, add-one, ◌≡◌, ℕ, ◌+◌, ◌<◌, List, [], ◌∷◌, ◌++◌, length, map, All, Some, None, Ok, refl, sym, ap, ◌∙◌, arith, append_assoc, append-nil}
-use Rattle.vast_literal.specs.Tree.{BinaryOp, BitwiseOrOp, LogicalOrOp, LogicalAndOp, LogicalNotOp, ExprTree, LiteralTree, UnaryTree, BinaryTree}
+use Rattle.std.specs.Bool.{beq}
+use Rattle.vast_literal.specs.Tree.{BinaryOp, BitwiseOrOp, LogicalNotOp, ExprTree, LiteralTree, UnaryTree, BinaryTree}
 use Rattle.vast_core.specs.declared.handle.Expr.{Expr}
 use Rattle.vast_core.specs.Nodes.{Root, ExprRoot}
 use Rattle.vast_core.specs.Bench.{Bench, OwnsExpr, tree_of}
@@ -136,13 +137,11 @@ pub none_logical :
 none_logical old mid new sign of_none invert [] bit answer is j built = rw (← is) (of-none old mid new (bit_literal bit) answer j.1 built)
 none_logical old mid new sign of_none invert (t ∷ ts) bit answer is j built = absurd j.0
 
-pub bit_of_or : (invert : Bool) → bit_literal invert ≡ logical_reduction LogicalOrOp false invert []
-bit_of_or false = refl
-bit_of_or true = refl
-
-pub bit_of_and : (invert : Bool) → bit_literal (not invert) ≡ logical_reduction LogicalAndOp true invert []
-bit_of_and false = refl
-bit_of_and true = refl
+pub bit_of_none : (sign : BinaryOp) (of_none invert : Bool) → bit_literal (not (beq of_none invert)) ≡ logical_reduction sign of_none invert []
+bit_of_none sign false false = refl
+bit_of_none sign false true = refl
+bit_of_none sign true false = refl
+bit_of_none sign true true = refl
 
 pub none_bitwise :
     (old mid new : Bench) (trees : List ExprTree) (answer : Expr) →

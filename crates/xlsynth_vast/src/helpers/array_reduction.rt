@@ -1,8 +1,9 @@
 //! All elements of an array joined by `|`.
 
-ghost use Rattle.std.specs.Prelude.{All, map};
+ghost use Rattle.std.specs.Prelude.{◌≡◌, All, map};
 ghost use Rattle.std.specs.List.{flat_map};
 ghost use Rattle.vast_core.specs.Bench.{OwnsExpr, OwnsIndexable, tree_of};
+ghost use Rattle.vast_core.specs.FileTree.{tree};
 ghost use Rattle.vast_core.specs.View.{bench};
 ghost use Rattle.xlsynth_vast.specs.Expressions.{subject_of};
 ghost use Rattle.xlsynth_vast.specs.Reductions.{MakesTree, MakesTrees, AddsTrees};
@@ -10,7 +11,8 @@ ghost use Rattle.xlsynth_vast.specs.ArrayReduction.{slots, elements, array_reduc
 
 use crate::file::VastFile;
 use crate::helpers::array_checks::checked_count;
-use crate::helpers::reductions::bitwise_or_reduce;
+use crate::helpers::records_are_sound;
+use crate::helpers::reductions::bitwise_reduced;
 use std::alloc::AllocError;
 use vast_core::{Expr, IndexableExpr};
 use vast_literal::VastFault;
@@ -94,16 +96,8 @@ fn counted_elements(
     Ok(made)
 }
 
-/// All elements of a packed array of these dimensions joined by `|`, those of its first slot first, as
-/// `a[0][0] | a[0][1] | a[1][0] | a[1][1]`.
-///
-/// # Errors
-/// `Refused`, and then the file is unchanged, by the first of these: `packed-array reduction requires at least one
-/// dimension`; `packed-array dimensions must be greater than zero`; `packed-array dimensions do not match expression
-/// type: expected [2, 3], got [2, 4]`, where the array is a name or a cast with its type, or an element of one;
-/// `packed-array element count exceeds usize`, for a product of 2^64 or more. `Memory` as
-/// [`logical_or_reduce`](crate::helpers::logical_or_reduce).
-pub fn bitwise_or_reduce_array_elements(
+/// The joined elements, where the dimensions pass their checks.
+fn array_reduced(
     value: &IndexableExpr,
     dimensions: &[i64],
     file: &mut VastFile,
@@ -114,5 +108,28 @@ pub fn bitwise_or_reduce_array_elements(
     let array = value.to_expr();
     let count = checked_count(&file.ast, array, dimensions)?;
     let elements = counted_elements(array, dimensions, count, file)?;
-    bitwise_or_reduce(&elements, file)
+    bitwise_reduced(&elements, file)
+}
+
+/// All elements of a packed array of these dimensions joined by `|`, those of its first slot first, as
+/// `a[0][0] | a[0][1] | a[1][0] | a[1][1]`. The file's tree is as it was.
+///
+/// # Errors
+/// `Refused`, and then the file is unchanged, by the first of these: `packed-array reduction requires at least one
+/// dimension`; `packed-array dimensions must be greater than zero`; `packed-array dimensions do not match expression
+/// type: expected [2, 3], got [2, 4]`, where the array is a name or a cast with its type, or an element of one;
+/// `packed-array element count exceeds usize`, for a product of 2^64 or more. `Memory` as
+/// [`logical_or_reduce`](crate::helpers::logical_or_reduce).
+#[tactic(auto, using(crate::proofs::Unseen::unseen))]
+pub fn bitwise_or_reduce_array_elements(
+    value: &IndexableExpr,
+    dimensions: &[i64],
+    file: &mut VastFile,
+) -> Result<Expr, VastFault>
+    requires { OwnsIndexable (bench file.old) value.now }
+    ensures made { MakesTree (bench file.old) (bench file.new) result (array_reduction dimensions.now (subject_of (bench file.old) value.now)) }
+    ensures unseen { tree (bench file.new) ≡ tree (bench file.old) }
+{
+    records_are_sound(file);
+    array_reduced(value, dimensions, file)
 }

@@ -3,12 +3,14 @@
 ghost use Rattle.std.specs.Prelude.{◌≡◌, All, Ok, map, false, true};
 ghost use Rattle.vast_literal.specs.Tree.{BinaryOp, BitwiseOrOp, LogicalAndOp, LogicalOrOp};
 ghost use Rattle.vast_core.specs.Bench.{OwnsExpr, tree_of};
+ghost use Rattle.vast_core.specs.FileTree.{tree};
 ghost use Rattle.vast_core.specs.Growth.{Builds, next_expr, with_expr};
 ghost use Rattle.vast_core.specs.View.{bench};
 ghost use Rattle.xlsynth_vast.specs.Expressions.{with_binary};
 ghost use Rattle.xlsynth_vast.specs.Reductions.{MakesTree, MakesJoined, bit_literal, logical_reduction, bitwise_reduction};
 
 use crate::file::VastFile;
+use crate::helpers::records_are_sound;
 use std::alloc::AllocError;
 use vast_core::Expr;
 use vast_literal::VastFault;
@@ -44,55 +46,33 @@ fn make_bit(set: bool, file: &mut VastFile) -> Result<Expr, AllocError>
     }
 }
 
-/// The values joined by `||`, as `a || b || c`, and `1'h0` where there are none. To invert is one `!` over the whole,
-/// and of no values `1'h1`.
-///
-/// # Errors
-/// `Memory` where a growth was refused. The file then may have expressions more that nothing uses; all else of it is
-/// as it was.
+/// The values joined by this call, inverted where that is asked; the bit that stands for none where there are none.
 #[tactic(auto, using(crate::proofs::Reduced::reductions))]
-pub fn logical_or_reduce(
+fn logical_reduced<F>(
     values: &[Expr],
+    join: F,
+    of_none: bool,
     invert: bool,
     file: &mut VastFile,
 ) -> Result<Expr, VastFault>
-    requires { All (OwnsExpr (bench file.old)) values.now }
-    ensures { MakesTree (bench file.old) (bench file.new) result (Ok (logical_reduction LogicalOrOp false invert (map (tree_of (bench file.old)) values.now))) }
+where
+    F: FnMut(&mut VastFile, &Expr, &Expr) -> Result<Expr, AllocError>,
+    ghost sign: { BinaryOp }
+    requires callable { (state : F) (f : _) (a : _) (b : _) → OwnsExpr (bench f.now) a.now → OwnsExpr (bench f.now) b.now → F.pre state f a b }
+    requires joins { (state : F) (f : _) (a : _) (b : _) (r : _) (g : _) (next : F) → F.step state f a b r g next → Builds (bench f.now) (bench g.now) r (next_expr (bench f.now)) (with_binary sign a.now b.now (bench f.now)) }
+    requires owned { All (OwnsExpr (bench file.old)) values.now }
+    ensures { MakesTree (bench file.old) (bench file.new) result (Ok (logical_reduction sign of_none invert (map (tree_of (bench file.old)) values.now))) }
 {
-    match joined(values, VastFile::make_logical_or, file)? {
-        Some(any) if invert => Ok(file.make_logical_not(&any)?),
-        Some(any) => Ok(any),
-        None => Ok(make_bit(invert, file)?),
+    match joined(values, join, file)? {
+        Some(whole) if invert => Ok(file.make_logical_not(&whole)?),
+        Some(whole) => Ok(whole),
+        None => Ok(make_bit(of_none != invert, file)?),
     }
 }
 
-/// The values joined by `&&`, as `a && b && c`, and `1'h1` where there are none. To invert is one `!` over the whole,
-/// and of no values `1'h0`.
-///
-/// # Errors
-/// As [`logical_or_reduce`].
+/// The values joined by `|`, and a zero where there are none.
 #[tactic(auto, using(crate::proofs::Reduced::reductions))]
-pub fn logical_and_reduce(
-    values: &[Expr],
-    invert: bool,
-    file: &mut VastFile,
-) -> Result<Expr, VastFault>
-    requires { All (OwnsExpr (bench file.old)) values.now }
-    ensures { MakesTree (bench file.old) (bench file.new) result (Ok (logical_reduction LogicalAndOp true invert (map (tree_of (bench file.old)) values.now))) }
-{
-    match joined(values, VastFile::make_logical_and, file)? {
-        Some(all) if invert => Ok(file.make_logical_not(&all)?),
-        Some(all) => Ok(all),
-        None => Ok(make_bit(!invert, file)?),
-    }
-}
-
-/// The values joined by `|`, as `a | b | c`, and `'0` where there are none.
-///
-/// # Errors
-/// As [`logical_or_reduce`].
-#[tactic(auto, using(crate::proofs::Reduced::reductions))]
-pub fn bitwise_or_reduce(values: &[Expr], file: &mut VastFile) -> Result<Expr, VastFault>
+pub(crate) fn bitwise_reduced(values: &[Expr], file: &mut VastFile) -> Result<Expr, VastFault>
     requires { All (OwnsExpr (bench file.old)) values.now }
     ensures { MakesTree (bench file.old) (bench file.new) result (Ok (bitwise_reduction (map (tree_of (bench file.old)) values.now))) }
 {
@@ -100,4 +80,57 @@ pub fn bitwise_or_reduce(values: &[Expr], file: &mut VastFile) -> Result<Expr, V
         Some(whole) => Ok(whole),
         None => Ok(file.make_unsized_zero_literal()?),
     }
+}
+
+/// The values joined by `||`, as `a || b || c`, and `1'h0` where there are none. To invert is one `!` over the whole,
+/// and of no values `1'h1`. The file's tree is as it was.
+///
+/// # Errors
+/// `Memory` where a growth was refused. The file then may have expressions more that nothing uses; all else of it is
+/// as it was.
+#[tactic(auto, using(crate::proofs::Unseen::unseen))]
+pub fn logical_or_reduce(
+    values: &[Expr],
+    invert: bool,
+    file: &mut VastFile,
+) -> Result<Expr, VastFault>
+    requires { All (OwnsExpr (bench file.old)) values.now }
+    ensures made { MakesTree (bench file.old) (bench file.new) result (Ok (logical_reduction LogicalOrOp false invert (map (tree_of (bench file.old)) values.now))) }
+    ensures unseen { tree (bench file.new) ≡ tree (bench file.old) }
+{
+    records_are_sound(file);
+    logical_reduced(values, VastFile::make_logical_or, false, invert, file)
+}
+
+/// The values joined by `&&`, as `a && b && c`, and `1'h1` where there are none. To invert is one `!` over the whole,
+/// and of no values `1'h0`. The file's tree is as it was.
+///
+/// # Errors
+/// As [`logical_or_reduce`].
+#[tactic(auto, using(crate::proofs::Unseen::unseen))]
+pub fn logical_and_reduce(
+    values: &[Expr],
+    invert: bool,
+    file: &mut VastFile,
+) -> Result<Expr, VastFault>
+    requires { All (OwnsExpr (bench file.old)) values.now }
+    ensures made { MakesTree (bench file.old) (bench file.new) result (Ok (logical_reduction LogicalAndOp true invert (map (tree_of (bench file.old)) values.now))) }
+    ensures unseen { tree (bench file.new) ≡ tree (bench file.old) }
+{
+    records_are_sound(file);
+    logical_reduced(values, VastFile::make_logical_and, true, invert, file)
+}
+
+/// The values joined by `|`, as `a | b | c`, and `'0` where there are none. The file's tree is as it was.
+///
+/// # Errors
+/// As [`logical_or_reduce`].
+#[tactic(auto, using(crate::proofs::Unseen::unseen))]
+pub fn bitwise_or_reduce(values: &[Expr], file: &mut VastFile) -> Result<Expr, VastFault>
+    requires { All (OwnsExpr (bench file.old)) values.now }
+    ensures made { MakesTree (bench file.old) (bench file.new) result (Ok (bitwise_reduction (map (tree_of (bench file.old)) values.now))) }
+    ensures unseen { tree (bench file.new) ≡ tree (bench file.old) }
+{
+    records_are_sound(file);
+    bitwise_reduced(values, file)
 }

@@ -4,7 +4,7 @@ ghost use Rattle.std.specs.Prelude.{◌≡◌, true, [], All, Ok, OnErr, OnOk, S
 ghost use Rattle.std.specs.List.{list_any};
 ghost use Rattle.vast_core.specs.Nodes.{OptionHolds};
 ghost use Rattle.vast_core.specs.Bench.{OwnsExpr, OwnsBlock, tree_of};
-ghost use Rattle.vast_core.specs.Sound.{EventSound, RecordsSound};
+ghost use Rattle.vast_core.specs.Sound.{EventSound};
 ghost use Rattle.vast_core.specs.Growth.{Builds};
 ghost use Rattle.vast_core.specs.Containers.{next_block, with_block};
 ghost use Rattle.vast_core.specs.FileTree.{tree};
@@ -15,6 +15,7 @@ ghost use Rattle.xlsynth_vast.specs.Registers.{register_tree, register_trees, re
 ghost use Rattle.xlsynth_vast.specs.RegisterSteps.{is_resettable, value_in, MakesValue, MakesMaybeValue, MayFill, MayBranch, MayMakeBlock, IsOlderScope};
 
 use crate::file::VastFile;
+use crate::helpers::records_are_sound;
 use crate::refusals::refusal;
 use std::alloc::AllocError;
 use vast_core::{AlwaysKind, Expr, GenerateLoop, VastModule, VastStatementBlock};
@@ -244,12 +245,6 @@ fn attach(
         }
     };
     Ok(())
-}
-
-fn records_are_sound(file: &VastFile)
-    ensures { RecordsSound (bench file.now) }
-{
-    file.ast.records_are_sound();
 }
 
 /// One `always_ff` at the rising edge of the clock, as the last member of the scope. First the registers without reset

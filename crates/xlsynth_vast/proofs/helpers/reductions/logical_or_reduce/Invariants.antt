@@ -1,6 +1,5 @@
 use Rattle.vast_literal.specs.Tree.{LogicalOrOp}
 use Rattle.xlsynth_vast.proofs.helpers.reductions.logical_or_reduce.Given as goal
 
--- The sign that joins.
-abbrev pub ghost-joined : goal.ghost-joined
-ghost-joined a = LogicalOrOp
+abbrev pub ghost-logical_reduced : goal.ghost-logical_reduced
+ghost-logical_reduced a = LogicalOrOp

@@ -1,5 +1,5 @@
 use Rattle.xlsynth_vast.proofs.Reduced.{none_bitwise}
-use Rattle.xlsynth_vast.proofs.helpers.reductions.bitwise_or_reduce.Goals as goal
+use Rattle.xlsynth_vast.proofs.helpers.reductions.bitwise_reduced.Goals as goal
 
 pub returns-in_ok-make_unsized_zero_literal-in-None : goal.returns-in_ok-make_unsized_zero_literal-in-None
 returns-in_ok-make_unsized_zero_literal-in-None c =

@@ -1,5 +1,5 @@
 use Rattle.vast_literal.specs.Tree.{BitwiseOrOp}
-use Rattle.xlsynth_vast.proofs.helpers.reductions.bitwise_or_reduce.Given as goal
+use Rattle.xlsynth_vast.proofs.helpers.reductions.bitwise_reduced.Given as goal
 
 -- The sign that joins.
 abbrev pub ghost-joined : goal.ghost-joined
