@@ -1,2 +1,2 @@
 pub mod DesignTexts
-pub mod CasesText
+pub mod EncoderSteps
