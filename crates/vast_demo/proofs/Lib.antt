@@ -1,3 +1,3 @@
 pub mod DesignTexts
-pub mod CasesText
+pub mod EncoderSteps
 pub mod RegistersText

@@ -40,7 +40,7 @@ use Rattle.xlsynth_vast.specs.Refusals.{MayBuild}
 use Rattle.xlsynth_vast.specs.Literals.{literal_in}
 use Rattle.xlsynth_vast.specs.Registers.{with_unused, with_clocked, AddsMember, registers_member, maybe_reset_tree, register_trees, MayAddRegisters}
 use Rattle.vast_demo.specs.DesignTexts.{registers_text}
-use Rattle.vast_demo.proofs.CasesText.{allowed}
+use Rattle.vast_demo.proofs.EncoderSteps.{allowed}
 
 -- The handles that the calls answer, in a file of id 1.
 
