@@ -12,5 +12,6 @@ mod members;
 mod parameters;
 mod ports;
 mod reductions;
+mod registers;
 mod statements;
 mod types;

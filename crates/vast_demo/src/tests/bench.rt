@@ -15,6 +15,7 @@ mod operators;
 mod procedures;
 mod program;
 mod reductions;
+mod registers;
 mod selects;
 mod statements;
 mod types;
@@ -88,6 +89,23 @@ impl<'a, R: Abort> Bench<'a, R> {
     pub(crate) fn bits(&self, t: VastDataType) -> Result<i64, VastFault> {
         assert!(self.rt; self.file.owns(&t));
         self.file.type_flat_bit_count_as_int64(t)
+    }
+
+    /// Whether the type is signed, and the text of its width where it has one: `signed 8`, `unsigned`.
+    pub(crate) fn sign_and_width(&self, t: VastDataType) -> Result<String, AllocError> {
+        assert!(self.rt; self.file.owns(&t));
+        let sign = if self.file.type_is_signed(t) {
+            "signed"
+        } else {
+            "unsigned"
+        };
+        match self.file.type_width_expr(t) {
+            Some(width) => {
+                let width = self.spelling(width)?;
+                format!(in self.file.allocator(); "{sign} {width}")
+            }
+            None => String::from_str(self.file.allocator(), sign),
+        }
     }
 }
 

@@ -116,3 +116,37 @@ fn refuses_counts_past_the_limit(rt: HostRuntime) -> Result<(), Fail> {
     assert_eq!(rt; bench.width(array)?, 1);
     Ok(())
 }
+
+#[test]
+fn answers_signs_and_widths(rt: HostRuntime) -> Result<(), Fail> {
+    let mut bench = Bench::system_verilog(&rt, rt.alloc());
+    let cases = [
+        ("bit", "unsigned"),
+        ("1", "unsigned"),
+        ("-1", "signed"),
+        ("8", "unsigned 8"),
+        ("-8", "signed 8"),
+        ("integer", "signed"),
+        ("integer_unsigned", "unsigned"),
+        ("int", "signed"),
+        ("int_unsigned", "unsigned"),
+        ("T", "unsigned"),
+        ("p::T", "unsigned"),
+    ];
+    for (word, answer) in cases {
+        let t = bench.data_type(word)?;
+        assert_eq!(rt; bench.sign_and_width(t)?.as_str(), answer);
+        let array = bench.unpacked(t, &[2, 3])?;
+        assert_eq!(rt; bench.sign_and_width(array)?.as_str(), answer);
+    }
+    let one = bench.vector_of("1")?;
+    assert_eq!(rt; bench.sign_and_width(one)?.as_str(), "unsigned 1");
+    let symbolic = bench.vector_of("a 1 +")?;
+    let packed = bench.packed(symbolic, &[4])?;
+    let unpacked = bench.unpacked(packed, &[5])?;
+    assert_eq!(rt; bench.sign_and_width(unpacked)?.as_str(), "unsigned a + 1");
+    let byte = bench.data_type("-8")?;
+    let bytes = bench.packed(byte, &[4])?;
+    assert_eq!(rt; bench.sign_and_width(bytes)?.as_str(), "signed 8");
+    Ok(())
+}
