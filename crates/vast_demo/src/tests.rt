@@ -6,6 +6,7 @@ mod expressions;
 mod files;
 mod functions;
 mod keywords;
+mod literals;
 mod loops;
 mod members;
 mod parameters;

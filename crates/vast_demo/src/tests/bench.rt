@@ -2,19 +2,20 @@
 
 use std::alloc::{AllocError, Global};
 use std::process::Abort;
-use xlsynth_vast::{Expr, FileIds, VastFault, VastFile, VastFileType, VastModule};
+use xlsynth_vast::{
+    Expr, FileIds, LiteralFormat, VastDataType, VastFault, VastFile, VastFileType, VastModule,
+};
 
+mod artifacts;
 mod declarations;
 mod inspections;
 mod loops;
-mod members;
 mod operands;
 mod operators;
 mod procedures;
 mod program;
 mod reductions;
 mod registers;
-mod rows;
 mod selects;
 mod statements;
 mod types;
@@ -35,6 +36,10 @@ impl<'a, R: Abort> Bench<'a, R> {
         }
     }
 
+    pub(crate) fn verilog(rt: &'a R, alloc: Global) -> Bench<'a, R> {
+        Bench::new(rt, alloc, VastFileType::Verilog)
+    }
+
     pub(crate) fn system_verilog(rt: &'a R, alloc: Global) -> Bench<'a, R> {
         Bench::new(rt, alloc, VastFileType::SystemVerilog)
     }
@@ -53,6 +58,54 @@ impl<'a, R: Abort> Bench<'a, R> {
     pub(crate) fn spelling(&self, e: Expr) -> Result<String, AllocError> {
         assert!(self.rt; self.file.owns(&e));
         words_of(self.file.emit_expression(&e))
+    }
+
+    /// The text of a new literal.
+    pub(crate) fn literal(
+        &mut self,
+        text: &str,
+        format: &LiteralFormat,
+    ) -> Result<String, VastFault> {
+        let e = self.file.make_literal(text, format)?;
+        self.file.emit_expression(&e)
+    }
+
+    /// The text of the word's operand, or the words that refuse it.
+    pub(crate) fn operand_text(&mut self, word: &str) -> Result<String, AllocError> {
+        match self.operand(word) {
+            Ok(e) => self.spelling(e),
+            Err(VastFault::Refused(error)) => Ok(error.0),
+            Err(VastFault::Memory(error)) => Err(error),
+        }
+    }
+
+    /// The declared width.
+    pub(crate) fn width(&self, t: VastDataType) -> Result<i64, VastFault> {
+        assert!(self.rt; self.file.owns(&t));
+        self.file.type_width_as_int64(t)
+    }
+
+    /// The number of all bits.
+    pub(crate) fn bits(&self, t: VastDataType) -> Result<i64, VastFault> {
+        assert!(self.rt; self.file.owns(&t));
+        self.file.type_flat_bit_count_as_int64(t)
+    }
+
+    /// Whether the type is signed, and the text of its width where it has one: `signed 8`, `unsigned`.
+    pub(crate) fn sign_and_width(&self, t: VastDataType) -> Result<String, AllocError> {
+        assert!(self.rt; self.file.owns(&t));
+        let sign = if self.file.type_is_signed(t) {
+            "signed"
+        } else {
+            "unsigned"
+        };
+        match self.file.type_width_expr(t) {
+            Some(width) => {
+                let width = self.spelling(width)?;
+                format!(in self.file.allocator(); "{sign} {width}")
+            }
+            None => String::from_str(self.file.allocator(), sign),
+        }
     }
 }
 

@@ -35,11 +35,8 @@ fn counts_the_bits_of_a_deep_array(rt: HostRuntime) -> Result<(), Fail> {
     let mut bench = Bench::system_verilog(&rt, rt.alloc());
     let mut array = bench.data_type("bit")?;
     for _ in 0..10_000 {
-        array = bench.array(array, &[1], &[])?;
+        array = bench.packed(array, &[1])?;
     }
-    let (base, width, bits) = bench.facts(array)?;
-    assert_eq!(rt; base.as_str(), "unsigned");
-    assert_eq!(rt; width.as_str(), "1");
-    assert_eq!(rt; bits.as_str(), "1");
+    assert_eq!(rt; bench.bits(array)?, 1);
     Ok(())
 }

@@ -1,65 +1,79 @@
 //! Parameters, and selects of their names.
 
 use crate::tests::bench::Bench;
-use crate::tests::files::Row;
 use std::test::Fail;
-use xlsynth_vast::VastFileType::SystemVerilog;
+use xlsynth_vast::DataKind;
 
-pub(crate) const FILES: [Row; 4] = [
-    (
-        SystemVerilog,
-        &[["module", "p", ""], ["parameter port", "W", "8"]],
-        "",
-        "module p #(\n  parameter W = 8\n);\n\nendmodule\n",
-    ),
-    (
-        SystemVerilog,
-        &[
-            ["module", "p", ""],
-            ["parameter port", "W", "8"],
-            ["input", "a", "bit"],
-        ],
-        "",
-        "module p #(\n  parameter W = 8\n) (\n  input wire a\n);\n\nendmodule\n",
-    ),
-    (
-        SystemVerilog,
-        &[
-            ["module", "m", ""],
-            ["int localparam", "N", "4"],
-            ["localparam", "L", "4"],
-            ["parameter", "P", "4"],
-        ],
-        "",
-        "module m;\n  localparam int N = 4;\n  localparam L = 4;\n  parameter P = 4;\nendmodule\n",
-    ),
-    (
-        SystemVerilog,
-        &[
-            ["module", "m", ""],
-            ["typed localparam", "M", "8"],
-            ["typed user localparam", "M", "8"],
-        ],
-        "",
-        "module m;\n  localparam logic [7:0] M = 4;\n  localparam [7:0] M = 4;\nendmodule\n",
-    ),
+#[test]
+fn prints_local_parameters(rt: HostRuntime) -> Result<(), Fail> {
+    let mut bench = Bench::system_verilog(&rt, rt.alloc());
+    let m = bench.module("m")?;
+    let four = bench.expression("4")?;
+    bench.int_localparam(m, "N", four)?;
+    bench.localparam(m, "L", four)?;
+    bench.parameter(m, "P", four)?;
+    let text =
+        "module m;\n  localparam int N = 4;\n  localparam L = 4;\n  parameter P = 4;\nendmodule\n";
+    assert_eq!(rt; bench.text()?.as_str(), text);
+    Ok(())
+}
+
+#[test]
+fn prints_defined_parameters(rt: HostRuntime) -> Result<(), Fail> {
+    let mut bench = Bench::system_verilog(&rt, rt.alloc());
+    let m = bench.module("m")?;
+    let four = bench.expression("4")?;
+    let byte = bench.data_type("8")?;
+    let logic = bench.definition("M", DataKind::Logic, byte)?;
+    let user = bench.definition("M", DataKind::User, byte)?;
+    bench.defined_localparam(m, logic, four)?;
+    bench.defined_localparam(m, user, four)?;
+    let text = "module m;\n  localparam logic [7:0] M = 4;\n  localparam [7:0] M = 4;\nendmodule\n";
+    assert_eq!(rt; bench.text()?.as_str(), text);
+    Ok(())
+}
+
+#[test]
+fn selects_of_a_parameter(rt: HostRuntime) -> Result<(), Fail> {
+    let mut bench = Bench::system_verilog(&rt, rt.alloc());
+    let m = bench.module("m")?;
+    let four = bench.expression("4")?;
+    let p = bench.parameter(m, "P", four)?;
+    let bit = bench.index(p.to_indexable_expr(), 1)?;
+    assert_eq!(rt; bench.spelling(bit)?.as_str(), "P[1]");
+    Ok(())
+}
+
+/// The bits of a scalar `P`: bit 0 is `P`, and bit 1 is refused.
+const BITS: [(i64, &str); 2] = [
+    (0, "P"),
+    (1, "a scalar signal can only be indexed with zero"),
 ];
 
 #[test]
-fn selects_of_parameters(rt: HostRuntime) -> Result<(), Fail> {
+fn selects_of_a_defined_parameter(rt: HostRuntime) -> Result<(), Fail> {
     let mut bench = Bench::system_verilog(&rt, rt.alloc());
     let m = bench.module("m")?;
-    let refusal = "a scalar signal can only be indexed with zero";
-    let cases = [
-        ("parameter", "4", 1, "P[1]"),
-        ("typed parameter", "bit", 0, "P"),
-        ("typed parameter", "bit", 1, refusal),
-        ("typed parameter port", "bit", 0, "P"),
-        ("typed parameter port", "bit", 1, refusal),
-    ];
-    for (words, what, n, text) in cases {
-        let p = bench.declared(m, words, "P", what)?;
-        let bit = bench.index(p, n)?;
+    let four = bench.expression("4")?;
+    let bit = bench.data_type("bit")?;
+    let d = bench.definition("P", DataKind::Logic, bit)?;
+    let p = bench.defined_parameter(m, d, four)?;
+    for (n, text) in BITS {
+        let bit = bench.index(p.to_indexable_expr(), n)?;
+        assert_eq!(rt; bench.spelling(bit)?.as_str(), text);
+    }
+    Ok(())
+}
+
+#[test]
+fn selects_of_a_parameter_port(rt: HostRuntime) -> Result<(), Fail> {
+    let mut bench = Bench::system_verilog(&rt, rt.alloc());
+    let m = bench.module("m")?;
+    let four = bench.expression("4")?;
+    let bit = bench.data_type("bit")?;
+    let p = bench.typed_parameter_port(m, "P", bit, four)?;
+    for (n, text) in BITS {
+        let bit = bench.index(p.to_indexable_expr(), n)?;
         assert_eq!(rt; bench.spelling(bit)?.as_str(), text);
     }
     Ok(())

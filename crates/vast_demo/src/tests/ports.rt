@@ -1,108 +1,109 @@
 //! Ports and names.
 
-use crate::tests::bench::Bench;
-use crate::tests::files::Row;
+use crate::tests::bench::{Bench, is_refused};
+use std::process::Abort;
 use std::test::Fail;
-use xlsynth_vast::VastFileType::{SystemVerilog, Verilog};
-
-/// The file of a reg `r` and a logic `l`.
-const DECLARED: &str = "module m;\n  reg r;\n  logic l;\nendmodule\n";
-
-pub(crate) const FILES: [Row; 6] = [
-    (
-        SystemVerilog,
-        &[
-            ["module", "duplicates", ""],
-            ["input", "z", "bit"],
-            ["wire", "a", "bit"],
-            ["wire", "middle", "bit"],
-            ["reg", "a", "bit"],
-        ],
-        "FAILED_PRECONDITION: Attempted to declare reg with name 'a' multiple times in the same module. Already defined: [a, middle, z]",
-        "module duplicates(\n  input wire z\n);\n  wire a;\n  wire middle;\nendmodule\n",
-    ),
-    (
-        SystemVerilog,
-        &[
-            ["module", "m", ""],
-            ["reg", "r", "bit"],
-            ["logic", "l", "bit"],
-        ],
-        "",
-        DECLARED,
-    ),
-    (
-        SystemVerilog,
-        &[
-            ["module", "m", ""],
-            ["reg", "r", "bit"],
-            ["logic", "l", "bit"],
-            ["reg", "l", "bit"],
-        ],
-        "FAILED_PRECONDITION: Attempted to declare reg with name 'l' multiple times in the same module. Already defined: [l, r]",
-        DECLARED,
-    ),
-    (
-        SystemVerilog,
-        &[
-            ["module", "m", ""],
-            ["reg", "r", "bit"],
-            ["logic", "l", "bit"],
-            ["logic", "r", "bit"],
-        ],
-        "FAILED_PRECONDITION: Attempted to declare logic with name 'r' multiple times in the same module. Already defined: [l, r]",
-        DECLARED,
-    ),
-    (
-        Verilog,
-        &[
-            ["module", "m", ""],
-            ["wire", "x\ny", "bit"],
-            ["wire", "", "bit"],
-        ],
-        "",
-        "module m;\n  wire x\n  y;\n  wire ;\nendmodule\n",
-    ),
-    (
-        SystemVerilog,
-        &[
-            ["module", "m", ""],
-            ["logic input", "i", "bit"],
-            ["logic output", "o", "bit"],
-            ["inout", "io", "bit"],
-            ["output", "w", "bit"],
-        ],
-        "",
-        "module m(\n  input logic i,\n  output logic o,\n  inout wire io,\n  output wire w\n);\n\nendmodule\n",
-    ),
-];
+use xlsynth_vast::{ModulePortDirection, VastModule};
 
 #[test]
-fn tells_of_ports(rt: HostRuntime) -> Result<(), Fail> {
+fn refuses_a_taken_name(rt: HostRuntime) -> Result<(), Fail> {
+    let mut bench = Bench::system_verilog(&rt, rt.alloc());
+    let m = bench.module("duplicates")?;
+    let bit = bench.data_type("bit")?;
+    bench.input(m, "z", bit)?;
+    bench.wire(m, "a", bit)?;
+    bench.wire(m, "middle", bit)?;
+    let refusal =
+        "FAILED_PRECONDITION: Attempted to declare reg with name 'a' multiple times in the same module. Already defined: [a, middle, z]";
+    assert!(rt; is_refused(&bench.reg(m, "a", bit), refusal));
+    let text = "module duplicates(\n  input wire z\n);\n  wire a;\n  wire middle;\nendmodule\n";
+    assert_eq!(rt; bench.text()?.as_str(), text);
+    Ok(())
+}
+
+#[test]
+fn declares_regs_and_logics(rt: HostRuntime) -> Result<(), Fail> {
     let mut bench = Bench::system_verilog(&rt, rt.alloc());
     let m = bench.module("m")?;
     let bit = bench.data_type("bit")?;
-    let byte = bench.data_type("8")?;
-    let x = bench.declare(m, "input", "x", byte)?;
-    for (words, name) in [
-        ("logic input", "i"),
-        ("logic output", "o"),
-        ("inout", "io"),
-        ("output", "w"),
-    ] {
-        bench.declare(m, words, name, bit)?;
+    bench.reg(m, "r", bit)?;
+    bench.logic(m, "l", bit)?;
+    assert!(rt; bench.reg(m, "l", bit).is_err());
+    assert!(rt; bench.logic(m, "r", bit).is_err());
+    let text = "module m;\n  reg r;\n  logic l;\nendmodule\n";
+    assert_eq!(rt; bench.text()?.as_str(), text);
+    Ok(())
+}
+
+#[test]
+fn breaks_lines_in_names_of_wires(rt: HostRuntime) -> Result<(), Fail> {
+    let mut bench = Bench::verilog(&rt, rt.alloc());
+    let m = bench.module("m")?;
+    let bit = bench.data_type("bit")?;
+    bench.wire(m, "x\ny", bit)?;
+    bench.wire(m, "", bit)?;
+    let text = "module m;\n  wire x\n  y;\n  wire ;\nendmodule\n";
+    assert_eq!(rt; bench.text()?.as_str(), text);
+    Ok(())
+}
+
+/// Module `m` with a port of each form.
+fn with_ports<R: Abort>(bench: &mut Bench<R>) -> Result<VastModule, Fail> {
+    let m = bench.module("m")?;
+    let bit = bench.data_type("bit")?;
+    bench.port(m, "logic input", "i", bit)?;
+    bench.port(m, "logic output", "o", bit)?;
+    bench.port(m, "inout", "io", bit)?;
+    bench.port(m, "output", "w", bit)?;
+    Ok(m)
+}
+
+#[test]
+fn prints_ports_of_each_form(rt: HostRuntime) -> Result<(), Fail> {
+    let mut bench = Bench::system_verilog(&rt, rt.alloc());
+    with_ports(&mut bench)?;
+    let text =
+        "module m(\n  input logic i,\n  output logic o,\n  inout wire io,\n  output wire w\n);\n\nendmodule\n";
+    assert_eq!(rt; bench.text()?.as_str(), text);
+    Ok(())
+}
+
+#[test]
+fn lists_ports_by_direction(rt: HostRuntime) -> Result<(), Fail> {
+    let mut bench = Bench::system_verilog(&rt, rt.alloc());
+    let m = with_ports(&mut bench)?;
+    for (direction, names) in [("all", "i o io w "), ("inputs", "i "), ("outputs", "o w ")] {
+        assert_eq!(rt; bench.port_names(m, direction)?.as_str(), names);
     }
-    let many = bench.array(bit, &[9223372036854775807, 3], &[])?;
-    bench.declare(m, "input", "many", many)?;
-    let inputs = "input x 8 x\ninput i 1 i\ninput many 0 many\n";
-    assert_eq!(rt; bench.port_lines(m, "inputs")?.as_str(), inputs);
-    let outputs = "output o 1 o\noutput w 1 w\n";
-    assert_eq!(rt; bench.port_lines(m, "outputs")?.as_str(), outputs);
-    let all =
-        "input x 8 x\ninput i 1 i\noutput o 1 o\ninout io 1 io\noutput w 1 w\ninput many 0 many\n";
-    assert_eq!(rt; bench.port_lines(m, "all")?.as_str(), all);
-    let (data_type, name) = bench.first_port(m)?.expect(&rt, "a port");
-    assert_eq!(rt; data_type, byte);
-    assert_eq!(rt; name, x);
+    Ok(())
+}
+
+#[test]
+fn tells_of_a_port(rt: HostRuntime) -> Result<(), Fail> {
+    let mut bench = Bench::system_verilog(&rt, rt.alloc());
+    let m = bench.module("m")?;
+    let byte = bench.data_type("8")?;
+    let name = bench.input(m, "x", byte)?;
+    for port in bench.ports(m, "all")? {
+        assert_eq!(rt; bench.port_width(port), 8);
+        assert_eq!(rt; bench.port_direction(port), ModulePortDirection::Input);
+        assert_eq!(rt; bench.port_data_type(port), byte);
+        let logic_ref = bench.port_logic_ref(port);
+        assert_eq!(rt; logic_ref, name);
+        assert_eq!(rt; bench.logic_ref_name(logic_ref)?.as_str(), "x");
+    }
+    Ok(())
+}
+
+#[test]
+fn has_no_width_above_64_bits(rt: HostRuntime) -> Result<(), Fail> {
+    let mut bench = Bench::system_verilog(&rt, rt.alloc());
+    let m = bench.module("m")?;
+    let bit = bench.data_type("bit")?;
+    let many = bench.packed(bit, &[9223372036854775807, 3])?;
+    bench.input(m, "x", many)?;
+    for port in bench.ports(m, "all")? {
+        assert_eq!(rt; bench.port_width(port), 0);
+    }
     Ok(())
 }

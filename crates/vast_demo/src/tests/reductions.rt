@@ -1,16 +1,14 @@
 //! Worked reductions.
 
-use crate::tests::bench::Bench;
+use crate::tests::bench::{Bench, is_refused};
 use std::test::Fail;
-use xlsynth_vast::Expr;
-use xlsynth_vast::helpers::RegisterScope;
 
 #[test]
 fn joins_values(rt: HostRuntime) -> Result<(), Fail> {
     let mut bench = Bench::system_verilog(&rt, rt.alloc());
-    let a = bench.expression("a")?;
-    let b = bench.expression("b")?;
-    let c = bench.expression("c")?;
+    let a = bench.name("a")?;
+    let b = bench.name("b")?;
+    let c = bench.name("c")?;
     let cases = [
         ("||", "a || b || c", "1'h0"),
         ("!||", "!(a || b || c)", "1'h1"),
@@ -26,51 +24,42 @@ fn joins_values(rt: HostRuntime) -> Result<(), Fail> {
     Ok(())
 }
 
-const WHOLE: &str =
-    "elements[0][0] | elements[0][1] | elements[0][2] | elements[1][0] | elements[1][1] | elements[1][2]";
-
-const MISMATCH: &str =
-    "packed-array dimensions do not match expression type: expected [2, 3], got [2, 4]";
-
-const SCALAR: &str = "packed-array dimensions do not match expression type: expected [], got [2]";
-
 #[test]
 fn joins_elements(rt: HostRuntime) -> Result<(), Fail> {
     let mut bench = Bench::system_verilog(&rt, rt.alloc());
-    let packed = bench.type_of("8;2,3")?;
-    let elements = bench.name("elements", packed)?;
-    let second = bench.index(elements, 1)?;
-    let s = bench.expression("s")?;
+    let byte = bench.data_type("8")?;
+    let packed = bench.packed(byte, &[2, 3])?;
+    let elements = bench.name_of_type("elements", packed)?;
+    let whole =
+        "elements[0][0] | elements[0][1] | elements[0][2] | elements[1][0] | elements[1][1] | elements[1][2]";
+    assert_eq!(rt; bench.joined_elements(elements, &[2, 3])?.as_str(), whole);
+    let second = bench.element(elements, 1)?;
+    let row = "elements[1][0] | elements[1][1] | elements[1][2]";
+    assert_eq!(rt; bench.joined_elements(second, &[3])?.as_str(), row);
     let m = bench.module("m")?;
-    let p = bench.constant(RegisterScope::Module(m), "parameter port", "P", second)?;
-    let cases: [(Expr, &[i64], &str); 8] = [
-        (elements, &[2, 3], WHOLE),
-        (
-            second,
-            &[3],
-            "elements[1][0] | elements[1][1] | elements[1][2]",
-        ),
-        (p, &[2], "P[0] | P[1]"),
-        (
-            elements,
-            &[],
-            "packed-array reduction requires at least one dimension",
-        ),
-        (
-            elements,
-            &[2, 0],
-            "packed-array dimensions must be greater than zero",
-        ),
-        (elements, &[2, 4], MISMATCH),
-        (s, &[2], SCALAR),
-        (
-            p,
-            &[4294967296, 4294967296],
-            "packed-array element count exceeds usize",
-        ),
-    ];
-    for (array, dimensions, text) in cases {
-        assert_eq!(rt; bench.joined_elements(array, dimensions)?.as_str(), text);
-    }
+    let p = bench.parameter_port(m, "P", second)?.to_expr();
+    assert_eq!(rt; bench.joined_elements(p, &[2])?.as_str(), "P[0] | P[1]");
+    Ok(())
+}
+
+#[test]
+fn refuses_dimensions(rt: HostRuntime) -> Result<(), Fail> {
+    let mut bench = Bench::system_verilog(&rt, rt.alloc());
+    let byte = bench.data_type("8")?;
+    let packed = bench.packed(byte, &[2, 3])?;
+    let elements = bench.name_of_type("elements", packed)?;
+    let words = "packed-array reduction requires at least one dimension";
+    assert!(rt; is_refused(&bench.joined_elements(elements, &[]), words));
+    let words = "packed-array dimensions must be greater than zero";
+    assert!(rt; is_refused(&bench.joined_elements(elements, &[2, 0]), words));
+    let words = "packed-array dimensions do not match expression type: expected [2, 3], got [2, 4]";
+    assert!(rt; is_refused(&bench.joined_elements(elements, &[2, 4]), words));
+    let s = bench.name("s")?;
+    let words = "packed-array dimensions do not match expression type: expected [], got [2]";
+    assert!(rt; is_refused(&bench.joined_elements(s, &[2]), words));
+    let m = bench.module("m")?;
+    let p = bench.parameter_port(m, "P", s)?.to_expr();
+    let words = "packed-array element count exceeds usize";
+    assert!(rt; is_refused(&bench.joined_elements(p, &[4294967296, 4294967296]), words));
     Ok(())
 }

@@ -48,8 +48,8 @@ const BLOCKS: [(Option<bool>, &[[&str; 4]], &str); 6] = [
 #[test]
 fn clocks_registers(rt: HostRuntime) -> Result<(), Fail> {
     let mut bench = Bench::system_verilog(&rt, rt.alloc());
-    let clk = bench.expression("clk")?;
-    let signal = bench.expression("rst")?;
+    let clk = bench.name("clk")?;
+    let signal = bench.name("rst")?;
     for (active_low, rows, block) in BLOCKS {
         let registers = bench.registers(rows)?;
         let reset = active_low.map(|active_low| Reset { signal, active_low });
@@ -67,13 +67,13 @@ fn clocks_registers(rt: HostRuntime) -> Result<(), Fail> {
 #[test]
 fn clocks_registers_in_a_loop(rt: HostRuntime) -> Result<(), Fail> {
     let mut bench = Bench::system_verilog(&rt, rt.alloc());
-    let clk = bench.expression("clk")?;
+    let clk = bench.name("clk")?;
     let resettable = bench.registers(&[R2, R])?;
     let plain = bench.registers(&[R2])?;
     let two = bench.expression("2")?;
     let names = bench.text()?;
     let m = bench.module("m")?;
-    let l = bench.generate_loop(RegisterScope::Module(m), "i", two, Some("lanes"))?;
+    let l = bench.generate_loop(m, "i", two, Some("lanes"))?;
     let before = bench.text()?;
     let words = "reset signal is required when a register has a reset value";
     for scope in [RegisterScope::Module(m), RegisterScope::GenerateLoop(l)] {

@@ -3,7 +3,7 @@
 use crate::tests::bench::Bench;
 use std::alloc::AllocError;
 use std::process::Abort;
-use xlsynth_vast::{LogicRef, ModulePortDirection, VastDataType, VastModule};
+use xlsynth_vast::{LogicRef, ModulePort, ModulePortDirection, VastDataType, VastModule};
 
 impl<'a, R: Abort> Bench<'a, R> {
     pub(crate) fn module_name(&self, m: VastModule) -> Result<String, AllocError> {
@@ -11,46 +11,50 @@ impl<'a, R: Abort> Bench<'a, R> {
         self.file.module_name(m)
     }
 
-    /// The ports of the module, its `inputs` or its `outputs`: each with its direction, name and width, the name of its
-    /// logic, and a line break.
-    pub(crate) fn port_lines(&self, m: VastModule, which: &str) -> Result<String, AllocError> {
+    /// The module's ports: all of them, its `inputs` or its `outputs`.
+    pub(crate) fn ports(&self, m: VastModule, which: &str) -> Result<Vec<ModulePort>, AllocError> {
         assert!(self.rt; self.file.owns(&m));
-        let ports = match which {
-            "inputs" => self.file.module_input_ports(m)?,
-            "outputs" => self.file.module_output_ports(m)?,
-            _ => self.file.module_ports(m)?,
-        };
-        let alloc = self.file.allocator();
-        let mut lines = String::new(alloc);
-        for port in ports {
-            assert!(self.rt; self.file.owns(&port));
-            let direction = match self.file.port_direction(port) {
-                ModulePortDirection::Input => "input",
-                ModulePortDirection::Output => "output",
-                ModulePortDirection::InOut => "inout",
-            };
-            let name = self.file.port_name(port)?;
-            let width = self.file.port_width(port);
-            let logic_ref = self.file.port_logic_ref(port);
-            assert!(self.rt; self.file.owns(&logic_ref));
-            let logic = self.file.logic_ref_name(logic_ref)?;
-            let line = format!(in alloc; "{direction} {name} {width} {logic}\n")?;
-            lines.push_str(&line)?;
+        match which {
+            "inputs" => self.file.module_input_ports(m),
+            "outputs" => self.file.module_output_ports(m),
+            _ => self.file.module_ports(m),
         }
-        Ok(lines)
     }
 
-    /// The type and the name of the module's first port.
-    pub(crate) fn first_port(
-        &self,
-        m: VastModule,
-    ) -> Result<Option<(VastDataType, LogicRef)>, AllocError> {
-        assert!(self.rt; self.file.owns(&m));
-        let Some(port) = self.file.module_ports(m)?.first().copied() else {
-            return Ok(None);
-        };
+    /// The names of the ports, each with a space behind it.
+    pub(crate) fn port_names(&self, m: VastModule, which: &str) -> Result<String, AllocError> {
+        let mut names = String::new(self.file.allocator());
+        for port in self.ports(m, which)? {
+            assert!(self.rt; self.file.owns(&port));
+            let name = self.file.port_name(port)?;
+            names.push_str(&name)?;
+            names.push(' ')?;
+        }
+        Ok(names)
+    }
+
+    pub(crate) fn port_width(&self, port: ModulePort) -> i64 {
         assert!(self.rt; self.file.owns(&port));
-        let data_type = self.file.port_data_type(port);
-        Ok(Some((data_type, self.file.port_logic_ref(port))))
+        self.file.port_width(port)
+    }
+
+    pub(crate) fn port_direction(&self, port: ModulePort) -> ModulePortDirection {
+        assert!(self.rt; self.file.owns(&port));
+        self.file.port_direction(port)
+    }
+
+    pub(crate) fn port_data_type(&self, port: ModulePort) -> VastDataType {
+        assert!(self.rt; self.file.owns(&port));
+        self.file.port_data_type(port)
+    }
+
+    pub(crate) fn port_logic_ref(&self, port: ModulePort) -> LogicRef {
+        assert!(self.rt; self.file.owns(&port));
+        self.file.port_logic_ref(port)
+    }
+
+    pub(crate) fn logic_ref_name(&self, name: LogicRef) -> Result<String, AllocError> {
+        assert!(self.rt; self.file.owns(&name));
+        self.file.logic_ref_name(name)
     }
 }

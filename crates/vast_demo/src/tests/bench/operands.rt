@@ -1,4 +1,4 @@
-//! Names, literals, and expressions of one operand by words.
+//! Names, literals, lists and casts by words.
 
 use crate::tests::bench::Bench;
 use std::alloc::AllocError;
@@ -18,46 +18,44 @@ impl<'a, R: Abort> Bench<'a, R> {
         if let Some(bits) = word.strip_prefix('?') {
             return self.file.make_binary_pattern(bits);
         }
-        if let Some((head, tail)) = word.split_once(':') {
-            return self.typed(head, tail);
+        if let Some(text) = word.strip_prefix("hex:") {
+            return self.file.make_literal(text, &LiteralFormat::Hex);
         }
-        Ok(match word {
-            "'0" => self.file.make_unsized_zero_literal()?,
-            "'1" => self.file.make_unsized_one_literal()?,
-            "'X" => self.file.make_unsized_x_literal()?,
-            "{}" => self.file.make_concat(&[])?,
-            "`M" => self.file.make_macro_ref("M")?.to_expr(),
-            _ => {
-                let bit = self.file.make_scalar_type()?;
-                self.name(word, bit)?
-            }
-        })
+        if let Some(text) = word.strip_prefix("signed:") {
+            return self.file.make_literal(text, &LiteralFormat::SignedDecimal);
+        }
+        Ok(self.word(word)?)
     }
 
-    /// A typed literal behind its format, or else a name before its type.
-    fn typed(&mut self, head: &str, tail: &str) -> Result<Expr, VastFault> {
-        let format = match head {
-            "binary" => LiteralFormat::Binary,
-            "hex" => LiteralFormat::Hex,
-            "signed" => LiteralFormat::SignedDecimal,
-            "unsigned" => LiteralFormat::UnsignedDecimal,
-            "unsized" => LiteralFormat::UnsizedDecimal,
-            _ => {
-                let t = self.data_type(tail)?;
-                return Ok(self.name(head, t)?);
-            }
-        };
-        self.file.make_literal(tail, &format)
+    fn word(&mut self, word: &str) -> Result<Expr, AllocError> {
+        match word {
+            "'0" => self.file.make_unsized_zero_literal(),
+            "'1" => self.file.make_unsized_one_literal(),
+            "'X" => self.file.make_unsized_x_literal(),
+            "{}" => self.file.make_concat(&[]),
+            "`M" => Ok(self.file.make_macro_ref("M")?.to_expr()),
+            _ => match word.split_once(':') {
+                Some((name, type_word)) => {
+                    let t = self.data_type(type_word)?;
+                    self.name_of_type(name, t)
+                }
+                None => self.name(word),
+            },
+        }
+    }
+
+    /// The name of a scalar input of a new module.
+    pub(crate) fn name(&mut self, name: &str) -> Result<Expr, AllocError> {
+        let bit = self.file.make_scalar_type()?;
+        self.name_of_type(name, bit)
     }
 
     /// The name of an input of a new module.
-    pub(crate) fn name(&mut self, name: &str, t: VastDataType) -> Result<Expr, VastFault> {
+    pub(crate) fn name_of_type(&mut self, name: &str, t: VastDataType) -> Result<Expr, AllocError> {
         let owner = self.file.add_module("names")?;
-        Ok(self.declare(owner, "input", name, t)?.to_expr())
+        Ok(self.input(owner, name, t)?.to_expr())
     }
 
-    /// A unary operator, a type cast, a call of a function or of a macro that begins with its backtick, or else the
-    /// concatenation of one element, with its count where there is one.
     pub(crate) fn of_one(&mut self, word: &str, e: Expr) -> Result<Expr, VastFault> {
         if word.ends_with('.') {
             return Ok(self.unary(word, e)?);
@@ -66,22 +64,60 @@ impl<'a, R: Abort> Bench<'a, R> {
             let t = self.data_type(name)?;
             return Ok(self.type_cast(t, e)?);
         }
-        assert!(self.rt; self.file.owns(&e));
         if let Some(name) = word.strip_suffix("()") {
-            return match name.strip_prefix('`') {
-                Some(name) => Ok(self.file.make_macro_ref_with_args(name, &[&e])?.to_expr()),
-                None => {
-                    assert!(self.rt; !name.is_empty());
-                    Ok(self.file.make_function_call(name, &[&e])?)
-                }
-            };
+            return Ok(self.call(name, e)?);
         }
         let count = word
             .strip_suffix("{_}")
             .and_then(|count| count.parse().ok());
-        Ok(match count {
-            Some(count) => self.file.make_replicated_concat_i64(count, &[&e])?,
-            None => self.file.make_concat(&[&e])?,
-        })
+        Ok(self.copies(count, e)?)
+    }
+
+    /// A call of a function, or of a macro that begins with its backtick.
+    fn call(&mut self, name: &str, e: Expr) -> Result<Expr, AllocError> {
+        assert!(self.rt; self.file.owns(&e));
+        match name.strip_prefix('`') {
+            Some(name) => Ok(self.file.make_macro_ref_with_args(name, &[&e])?.to_expr()),
+            None => {
+                assert!(self.rt; !name.is_empty());
+                self.file.make_function_call(name, &[&e])
+            }
+        }
+    }
+
+    /// The concatenation of one element, with its count where there is one.
+    fn copies(&mut self, count: Option<i64>, e: Expr) -> Result<Expr, AllocError> {
+        assert!(self.rt; self.file.owns(&e));
+        match count {
+            Some(count) => self.file.make_replicated_concat_i64(count, &[&e]),
+            None => self.file.make_concat(&[&e]),
+        }
+    }
+
+    pub(crate) fn list_of_two(
+        &mut self,
+        word: &str,
+        first: Expr,
+        second: Expr,
+    ) -> Result<Expr, AllocError> {
+        assert!(self.rt; self.file.owns(&first));
+        assert!(self.rt; self.file.owns(&second));
+        match word {
+            "{,}" => self.file.make_concat(&[&first, &second]),
+            "'{,}" => self.file.make_array_assignment_pattern(&[&first, &second]),
+            _ => self.file.make_replicated_concat(&first, &[&second]),
+        }
+    }
+
+    pub(crate) fn call_of_two(
+        &mut self,
+        name: &str,
+        first: Expr,
+        second: Expr,
+    ) -> Result<Expr, AllocError> {
+        assert!(self.rt; self.file.owns(&first));
+        assert!(self.rt; self.file.owns(&second));
+        assert!(self.rt; !name.is_empty());
+        self.file.make_function_call(name, &[&first, &second])
     }
 }

@@ -1,4 +1,4 @@
-//! Operators and lists of two by their signs.
+//! Operators by their signs.
 
 use crate::tests::bench::Bench;
 use std::alloc::AllocError;
@@ -21,8 +21,18 @@ impl<'a, R: Abort> Bench<'a, R> {
         }
     }
 
-    /// A binary operator, a width cast, a list, or else the call of the function of this name.
     pub(crate) fn of_two(&mut self, word: &str, lhs: Expr, rhs: Expr) -> Result<Expr, AllocError> {
+        match word {
+            "+" | "-" | "*" | "/" | "%" | "**" | "<<" | ">>>" | ">>" => {
+                self.arithmetic(word, lhs, rhs)
+            }
+            "|" | "^" | "&" | "||" | "&&" | "'" => self.logical(word, lhs, rhs),
+            "{,}" | "'{,}" | "{{_}}" => self.list_of_two(word, lhs, rhs),
+            _ => self.comparison(word, lhs, rhs),
+        }
+    }
+
+    fn arithmetic(&mut self, word: &str, lhs: Expr, rhs: Expr) -> Result<Expr, AllocError> {
         assert!(self.rt; self.file.owns(&lhs));
         assert!(self.rt; self.file.owns(&rhs));
         match word {
@@ -34,18 +44,24 @@ impl<'a, R: Abort> Bench<'a, R> {
             "**" => self.file.make_power(&lhs, &rhs),
             "<<" => self.file.make_shll(&lhs, &rhs),
             ">>>" => self.file.make_shra(&lhs, &rhs),
-            ">>" => self.file.make_shrl(&lhs, &rhs),
+            _ => self.file.make_shrl(&lhs, &rhs),
+        }
+    }
+
+    fn logical(&mut self, word: &str, lhs: Expr, rhs: Expr) -> Result<Expr, AllocError> {
+        assert!(self.rt; self.file.owns(&lhs));
+        assert!(self.rt; self.file.owns(&rhs));
+        match word {
             "|" => self.file.make_bitwise_or(&lhs, &rhs),
             "^" => self.file.make_bitwise_xor(&lhs, &rhs),
             "&" => self.file.make_bitwise_and(&lhs, &rhs),
             "||" => self.file.make_logical_or(&lhs, &rhs),
             "&&" => self.file.make_logical_and(&lhs, &rhs),
-            "'" => self.file.make_width_cast(&lhs, &rhs),
-            _ => self.comparison_or_list(word, lhs, rhs),
+            _ => self.file.make_width_cast(&lhs, &rhs),
         }
     }
 
-    fn comparison_or_list(&mut self, word: &str, lhs: Expr, rhs: Expr) -> Result<Expr, AllocError> {
+    fn comparison(&mut self, word: &str, lhs: Expr, rhs: Expr) -> Result<Expr, AllocError> {
         assert!(self.rt; self.file.owns(&lhs));
         assert!(self.rt; self.file.owns(&rhs));
         match word {
@@ -58,14 +74,19 @@ impl<'a, R: Abort> Bench<'a, R> {
             ">=" => self.file.make_ge(&lhs, &rhs),
             ">" => self.file.make_gt(&lhs, &rhs),
             "<=" => self.file.make_le(&lhs, &rhs),
-            "<" => self.file.make_lt(&lhs, &rhs),
-            "{,}" => self.file.make_concat(&[&lhs, &rhs]),
-            "'{,}" => self.file.make_array_assignment_pattern(&[&lhs, &rhs]),
-            "{{_}}" => self.file.make_replicated_concat(&lhs, &[&rhs]),
-            name => {
-                assert!(self.rt; !name.is_empty());
-                self.file.make_function_call(name, &[&lhs, &rhs])
-            }
+            _ => self.file.make_lt(&lhs, &rhs),
         }
+    }
+
+    pub(crate) fn ternary(
+        &mut self,
+        condition: Expr,
+        consequent: Expr,
+        alternate: Expr,
+    ) -> Result<Expr, AllocError> {
+        assert!(self.rt; self.file.owns(&condition));
+        assert!(self.rt; self.file.owns(&consequent));
+        assert!(self.rt; self.file.owns(&alternate));
+        self.file.make_ternary(&condition, &consequent, &alternate)
     }
 }

@@ -1,11 +1,11 @@
-//! Functions, always blocks and conditionals of modules and loops.
+//! Functions and always blocks.
 
 use crate::tests::bench::Bench;
 use std::alloc::AllocError;
 use std::process::Abort;
-use xlsynth_vast::helpers::RegisterScope;
 use xlsynth_vast::{
-    Expr, LogicRef, VastDataType, VastFault, VastFunction, VastModule, VastStatementBlock,
+    Conditional, Expr, GenerateLoop, LogicRef, VastDataType, VastFault, VastFunction, VastModule,
+    VastStatementBlock,
 };
 
 impl<'a, R: Abort> Bench<'a, R> {
@@ -39,60 +39,76 @@ impl<'a, R: Abort> Bench<'a, R> {
         Ok(declared.to_expr())
     }
 
-    /// The block and the result of a function.
-    pub(crate) fn body_and_result(&self, f: VastFunction) -> (VastStatementBlock, Expr) {
+    pub(crate) fn body(&self, f: VastFunction) -> VastStatementBlock {
         assert!(self.rt; self.file.owns(&f));
-        let body = self.file.function_body(f);
-        (body, self.file.function_result(f).to_expr())
+        self.file.function_body(f)
     }
 
-    /// The block of a new `always_ff`, of an `always @`, or else of an `always_comb`, which takes no events.
-    pub(crate) fn always(
-        &mut self,
-        scope: RegisterScope,
-        word: &str,
-        events: &[&Expr],
-    ) -> Result<VastStatementBlock, VastFault> {
-        assert!(self.rt; events.iter().all(|event| self.file.owns(*event)));
-        let always = match scope {
-            RegisterScope::Module(m) => {
-                assert!(self.rt; self.file.owns(&m));
-                match word {
-                    "always_ff" => self.file.add_always_ff(m, events)?,
-                    "always @" => self.file.add_always_at(m, events)?,
-                    _ => self.file.add_always_comb(m)?,
-                }
-            }
-            RegisterScope::GenerateLoop(l) => {
-                assert!(self.rt; self.file.owns(&l));
-                match word {
-                    "always_ff" => self.file.generate_add_always_ff(l, events)?,
-                    "always @" => self.file.generate_add_always_at(l, events)?,
-                    _ => self.file.generate_add_always_comb(l)?,
-                }
-            }
-        };
-        assert!(self.rt; self.file.owns(&always));
+    pub(crate) fn result(&self, f: VastFunction) -> Expr {
+        assert!(self.rt; self.file.owns(&f));
+        self.file.function_result(f).to_expr()
+    }
+
+    /// The block of a new `always_comb`.
+    pub(crate) fn always_comb(&mut self, m: VastModule) -> Result<VastStatementBlock, VastFault> {
+        assert!(self.rt; self.file.owns(&m));
+        let always = self.file.add_always_comb(m)?;
         Ok(self.file.statement_block(always))
     }
 
-    /// An empty conditional among the members.
-    pub(crate) fn member_conditional(
+    /// The block of a new `always @ ()`.
+    pub(crate) fn always_at_nothing(
         &mut self,
-        scope: RegisterScope,
-        condition: Expr,
-    ) -> Result<(), AllocError> {
-        assert!(self.rt; self.file.owns(&condition));
-        match scope {
-            RegisterScope::Module(m) => {
-                assert!(self.rt; self.file.owns(&m));
-                self.file.add_conditional(m, &condition)?;
-            }
-            RegisterScope::GenerateLoop(l) => {
-                assert!(self.rt; self.file.owns(&l));
-                self.file.generate_add_conditional(l, &condition)?;
-            }
-        }
+        m: VastModule,
+    ) -> Result<VastStatementBlock, VastFault> {
+        assert!(self.rt; self.file.owns(&m));
+        let always = self.file.add_always_at(m, &[])?;
+        Ok(self.file.statement_block(always))
+    }
+
+    /// An `always_ff` of the module, or else an `always @`.
+    pub(crate) fn always(
+        &mut self,
+        m: VastModule,
+        word: &str,
+        first: Expr,
+        second: Expr,
+    ) -> Result<(), VastFault> {
+        assert!(self.rt; self.file.owns(&m));
+        assert!(self.rt; self.file.owns(&first));
+        assert!(self.rt; self.file.owns(&second));
+        match word {
+            "always_ff" => self.file.add_always_ff(m, &[&first, &second])?,
+            _ => self.file.add_always_at(m, &[&first, &second])?,
+        };
         Ok(())
+    }
+
+    /// An `always_ff` of the loop, or else an `always @`.
+    pub(crate) fn always_in_loop(
+        &mut self,
+        l: GenerateLoop,
+        word: &str,
+        first: Expr,
+        second: Expr,
+    ) -> Result<(), VastFault> {
+        assert!(self.rt; self.file.owns(&l));
+        assert!(self.rt; self.file.owns(&first));
+        assert!(self.rt; self.file.owns(&second));
+        match word {
+            "always_ff" => self.file.generate_add_always_ff(l, &[&first, &second])?,
+            _ => self.file.generate_add_always_at(l, &[&first, &second])?,
+        };
+        Ok(())
+    }
+
+    pub(crate) fn conditional_of_module(
+        &mut self,
+        m: VastModule,
+        condition: Expr,
+    ) -> Result<Conditional, AllocError> {
+        assert!(self.rt; self.file.owns(&m));
+        assert!(self.rt; self.file.owns(&condition));
+        self.file.add_conditional(m, &condition)
     }
 }

@@ -4,8 +4,7 @@
 //! ends in `{_}`, `()` or a quote: a replication, a call, a type cast. Brackets select. A word that no call is named by is
 //! the name of a scalar.
 
-use crate::tests::bench::{Bench, words_of};
-use std::alloc::AllocError;
+use crate::tests::bench::Bench;
 use std::process::Abort;
 use xlsynth_vast::{Expr, VastFault};
 
@@ -35,11 +34,9 @@ impl<'a, R: Abort> Bench<'a, R> {
     }
 
     /// The text of the program's expression, or the words that refuse it.
-    pub(crate) fn spelled(&mut self, program: &str) -> Result<String, AllocError> {
-        match self.expression(program) {
-            Ok(e) => self.spelling(e),
-            Err(fault) => words_of(Err(fault)),
-        }
+    pub(crate) fn spelled(&mut self, program: &str) -> Result<String, VastFault> {
+        let e = self.expression(program)?;
+        Ok(self.spelling(e)?)
     }
 
     pub(crate) fn pop(&self, stack: &mut Vec<Expr>) -> Expr {
@@ -60,10 +57,7 @@ impl<'a, R: Abort> Bench<'a, R> {
             let alternate = self.pop(stack);
             let consequent = self.pop(stack);
             let condition = self.pop(stack);
-            assert!(self.rt; self.file.owns(&condition));
-            assert!(self.rt; self.file.owns(&consequent));
-            assert!(self.rt; self.file.owns(&alternate));
-            return Ok(self.file.make_ternary(&condition, &consequent, &alternate)?);
+            return Ok(self.ternary(condition, consequent, alternate)?);
         }
         if word.starts_with('[') {
             return Ok(self.select(word, stack)?);

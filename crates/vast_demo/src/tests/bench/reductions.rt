@@ -1,7 +1,6 @@
 //! Reductions of many expressions.
 
-use crate::tests::bench::{Bench, words_of};
-use std::alloc::AllocError;
+use crate::tests::bench::Bench;
 use std::process::Abort;
 use xlsynth_vast::helpers::{
     bitwise_or_reduce, bitwise_or_reduce_array_elements, logical_and_reduce, logical_or_reduce,
@@ -22,17 +21,15 @@ impl<'a, R: Abort> Bench<'a, R> {
         Ok(self.spelling(whole)?)
     }
 
-    /// All elements joined by `|`, or the words of the refusal.
+    /// All elements joined by `|`.
     pub(crate) fn joined_elements(
         &mut self,
         array: Expr,
         dimensions: &[i64],
-    ) -> Result<String, AllocError> {
+    ) -> Result<String, VastFault> {
         assert!(self.rt; self.file.owns(&array));
         let subject = self.file.make_indexable_expression(&array);
-        match bitwise_or_reduce_array_elements(&subject, dimensions, &mut self.file) {
-            Ok(whole) => self.spelling(whole),
-            Err(fault) => words_of(Err(fault)),
-        }
+        let whole = bitwise_or_reduce_array_elements(&subject, dimensions, &mut self.file)?;
+        Ok(self.spelling(whole)?)
     }
 }

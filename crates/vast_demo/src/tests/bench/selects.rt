@@ -23,37 +23,34 @@ impl<'a, R: Abort> Bench<'a, R> {
         if word == "[]" {
             let index = self.pop(stack);
             let subject = self.subject(stack);
-            assert!(self.rt; self.file.owns(&subject));
-            assert!(self.rt; self.file.owns(&index));
-            return Ok(self.file.make_index_expr(&subject, &index)?.to_expr());
+            return self.index_by(subject, index);
         }
         if word == "[:]" {
             let lo = self.pop(stack);
             let hi = self.pop(stack);
             let subject = self.subject(stack);
-            assert!(self.rt; self.file.owns(&subject));
-            assert!(self.rt; self.file.owns(&hi));
-            assert!(self.rt; self.file.owns(&lo));
-            return Ok(self.file.make_slice_expr(&subject, &hi, &lo)?.to_expr());
+            return self.slice_by(subject, hi, lo);
         }
         if let Some(width) = number_in(word, "[+:") {
             let start = self.pop(stack);
             let subject = self.subject(stack);
-            assert!(self.rt; self.file.owns(&subject));
-            assert!(self.rt; self.file.owns(&start));
-            assert!(self.rt; width >= 1);
-            return self.file.make_indexed_part_select(&subject, &start, width);
+            return self.part_select(subject, start, width);
         }
-        if let Some((hi, lo)) = bounds_in(word) {
-            let subject = self.subject(stack);
-            assert!(self.rt; self.file.owns(&subject));
-            assert!(self.rt; hi >= 0);
-            assert!(self.rt; lo >= 0);
-            return Ok(self.file.make_slice(&subject, hi, lo)?.to_expr());
+        let subject = self.subject(stack);
+        match bounds_in(word) {
+            Some((hi, lo)) => self.slice(subject, hi, lo),
+            None => {
+                let index = number_in(word, "[").expect(self.rt, "an index");
+                self.index(subject, index)
+            }
         }
-        let index = number_in(word, "[").expect(self.rt, "an index");
-        let array = self.pop(stack);
-        self.index(array, index)
+    }
+
+    /// The element of an array at this index.
+    pub(crate) fn element(&mut self, array: Expr, index: i64) -> Result<Expr, AllocError> {
+        assert!(self.rt; self.file.owns(&array));
+        let subject = self.file.make_indexable_expression(&array);
+        self.index(subject, index)
     }
 
     fn subject(&mut self, stack: &mut Vec<Expr>) -> IndexableExpr {
@@ -62,11 +59,41 @@ impl<'a, R: Abort> Bench<'a, R> {
         self.file.make_indexable_expression(&e)
     }
 
-    pub(crate) fn index(&mut self, array: Expr, index: i64) -> Result<Expr, AllocError> {
-        assert!(self.rt; self.file.owns(&array));
-        let subject = self.file.make_indexable_expression(&array);
+    pub(crate) fn index(&mut self, subject: IndexableExpr, index: i64) -> Result<Expr, AllocError> {
         assert!(self.rt; self.file.owns(&subject));
         assert!(self.rt; index >= 0);
         Ok(self.file.make_index(&subject, index)?.to_expr())
+    }
+
+    fn index_by(&mut self, subject: IndexableExpr, index: Expr) -> Result<Expr, AllocError> {
+        assert!(self.rt; self.file.owns(&subject));
+        assert!(self.rt; self.file.owns(&index));
+        Ok(self.file.make_index_expr(&subject, &index)?.to_expr())
+    }
+
+    fn slice(&mut self, subject: IndexableExpr, hi: i64, lo: i64) -> Result<Expr, AllocError> {
+        assert!(self.rt; self.file.owns(&subject));
+        assert!(self.rt; hi >= 0);
+        assert!(self.rt; lo >= 0);
+        Ok(self.file.make_slice(&subject, hi, lo)?.to_expr())
+    }
+
+    fn slice_by(&mut self, subject: IndexableExpr, hi: Expr, lo: Expr) -> Result<Expr, AllocError> {
+        assert!(self.rt; self.file.owns(&subject));
+        assert!(self.rt; self.file.owns(&hi));
+        assert!(self.rt; self.file.owns(&lo));
+        Ok(self.file.make_slice_expr(&subject, &hi, &lo)?.to_expr())
+    }
+
+    fn part_select(
+        &mut self,
+        subject: IndexableExpr,
+        start: Expr,
+        width: i64,
+    ) -> Result<Expr, AllocError> {
+        assert!(self.rt; self.file.owns(&subject));
+        assert!(self.rt; self.file.owns(&start));
+        assert!(self.rt; width >= 1);
+        self.file.make_indexed_part_select(&subject, &start, width)
     }
 }

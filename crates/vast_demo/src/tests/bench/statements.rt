@@ -29,21 +29,6 @@ impl<'a, R: Abort> Bench<'a, R> {
         Ok(())
     }
 
-    /// The assignments that no block holds.
-    pub(crate) fn procedural_assignments(
-        &mut self,
-        lhs: Expr,
-        rhs: Expr,
-    ) -> Result<(), AllocError> {
-        assert!(self.rt; self.file.owns(&lhs));
-        assert!(self.rt; self.file.owns(&rhs));
-        self.file.make_nonblocking_assignment(&lhs, &rhs)?;
-        assert!(self.rt; self.file.owns(&lhs));
-        assert!(self.rt; self.file.owns(&rhs));
-        self.file.make_blocking_assignment(&lhs, &rhs)?;
-        Ok(())
-    }
-
     /// A comment behind `//`, an empty line, or else a text that is written as it is.
     pub(crate) fn line(&mut self, block: VastStatementBlock, line: &str) -> Result<(), AllocError> {
         assert!(self.rt; self.file.owns(&block));
@@ -56,17 +41,19 @@ impl<'a, R: Abort> Bench<'a, R> {
         }
     }
 
-    /// A conditional and its first block.
     pub(crate) fn conditional(
         &mut self,
         block: VastStatementBlock,
         condition: Expr,
-    ) -> Result<(Conditional, VastStatementBlock), AllocError> {
+    ) -> Result<Conditional, AllocError> {
         assert!(self.rt; self.file.owns(&block));
         assert!(self.rt; self.file.owns(&condition));
-        let c = self.file.block_add_cond(block, &condition)?;
+        self.file.block_add_cond(block, &condition)
+    }
+
+    pub(crate) fn then_block(&self, c: Conditional) -> VastStatementBlock {
         assert!(self.rt; self.file.owns(&c));
-        Ok((c, self.file.conditional_then_block(c)))
+        self.file.conditional_then_block(c)
     }
 
     pub(crate) fn has_else(&self, c: Conditional) -> bool {
@@ -74,21 +61,21 @@ impl<'a, R: Abort> Bench<'a, R> {
         self.file.conditional_has_else(c)
     }
 
-    /// The block of an `else if` of this condition, or of an `else`.
-    pub(crate) fn alternate(
+    pub(crate) fn else_if(
         &mut self,
         c: Conditional,
-        condition: Option<Expr>,
+        condition: Expr,
     ) -> Result<VastStatementBlock, AllocError> {
         assert!(self.rt; self.file.owns(&c));
+        assert!(self.rt; self.file.owns(&condition));
         assert!(self.rt; !self.file.conditional_has_else(c));
-        match condition {
-            Some(condition) => {
-                assert!(self.rt; self.file.owns(&condition));
-                self.file.conditional_add_else_if(c, &condition)
-            }
-            None => self.file.conditional_add_else(c),
-        }
+        self.file.conditional_add_else_if(c, &condition)
+    }
+
+    pub(crate) fn otherwise(&mut self, c: Conditional) -> Result<VastStatementBlock, AllocError> {
+        assert!(self.rt; self.file.owns(&c));
+        assert!(self.rt; !self.file.conditional_has_else(c));
+        self.file.conditional_add_else(c)
     }
 
     /// A case statement by its word.
