@@ -1,2 +1,3 @@
 pub mod DesignTexts
+pub mod RegistersFile
 pub mod Words
