@@ -1,3 +1,4 @@
 pub mod DesignTexts
 pub mod EncoderSteps
+pub mod RegistersSteps
 pub mod RegistersText
