@@ -1,5 +1,5 @@
 -- The printed text of each design.
-use Rattle.std.proofs.Common.{◌≡◌, ℕ, pos, false, List, refl, ◌∙◌, codes, Result, Ok, Err, IfOk, String, Global, string_bytes}
+use Rattle.std.proofs.Common.{◌≡◌, ℕ, pos, false, List, refl, ◌∙◌, codes, Result, Ok, Err, IfOk, IsOkAnd, String, Global, string_bytes}
 use Rattle.std.specs.Fmt.{digits}
 use Rattle.vast_literal.specs.declared.error.VastFault.{VastFault}
 use Rattle.vast_core.specs.declared.handle.VastModule.{VastModule}
@@ -76,3 +76,8 @@ passthrough_built id b0 b1 b2 b3 b4 b5 b6 m t i o a e0 em e1 et e2 ei e3 eo e4 e
 pub emitted : (b : Bench) (text : List ℕ) (r : Result (String Global) VastFault) → print (layout (tree b)) ≡ text → Emits (layout (tree b)) r → IfOk r (λ s. string_bytes s ≡ text)
 emitted b text (Ok s) e h = h.1 ∙ e
 emitted b text (Err fault) e h = tt
+
+-- What a rule that passed allows.
+pub allowed : {P : Type 0} (rule : Result (Unit {0}) (List ℕ)) → IsOkAnd rule (λ _. P) → P
+allowed (Ok x) h = h
+allowed (Err words) h = absurd h

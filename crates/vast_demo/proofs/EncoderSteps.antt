@@ -1,5 +1,5 @@
 -- The encoder: its printed text, and each call in turn.
-use Rattle.std.proofs.Common.{◌≡◌, ℕ, zero, suc, All, pos, true, false, List, [], ◌∷◌, Some, None, Result, Ok, Err, IsOkAnd, arith, refl, sym, ◌∙◌, codes}
+use Rattle.std.proofs.Common.{◌≡◌, zero, suc, All, pos, true, false, [], ◌∷◌, Some, None, Ok, arith, refl, sym, ◌∙◌, codes}
 use Rattle.std.specs.Borrow.{Bor}
 use Rattle.std.specs.Fmt.{digits}
 use Rattle.vast_literal.specs.Pattern.{is_pattern, pattern as pattern_of}
@@ -44,6 +44,7 @@ use Rattle.xlsynth_vast.specs.Literals.{pattern_literal}
 use Rattle.xlsynth_vast.specs.Inspections.{body_at, result_at}
 use Rattle.vast_demo.specs.DesignTexts.{cases_text}
 use Rattle.vast_demo.specs.Encoder.{the_module, nibble, pair, input, output, the_function, result_name, selector, body, the_case, pattern, two, arm, nought, otherwise, the_call, assignment, ports, assigned, ports_made, encoding_made, case_made, arm_made, default_made, whole}
+use Rattle.vast_demo.proofs.DesignTexts.{allowed}
 
 -- The file after each call within a part.
 
@@ -97,10 +98,6 @@ unfolding cases_text b0 b1 b2 b3 b4 ports_made b6 encoding_made b8 case_made b10
 cases_printed = refl
 
 -- Each call in turn: from the file before it, its answer and the file after it.
-
-pub allowed : {P : Type 0} (rule : Result (Unit {0}) (List ℕ)) → IsOkAnd rule (λ _. P) → P
-allowed (Ok x) h = h
-allowed (Err words) h = absurd h
 
 some_parts : {A : Type 0} (x y : A) → Some x ≡ Some y → x ≡ y
 some_parts x y h = cc

@@ -1,5 +1,5 @@
 -- The file of the registers: each call in turn, from the file before it, its answer and the file after it.
-use Rattle.std.proofs.Common.{◌≡◌, ℕ, pos, false, List, ◌∷◌, [], All, Some, Result, Ok, Err, IsOkAnd, refl, codes}
+use Rattle.std.proofs.Common.{◌≡◌, ℕ, pos, false, List, ◌∷◌, [], All, Some, Ok, refl, codes}
 use Rattle.std.proofs.lemmas.List.Elements.{All-cons, All-nil}
 use Rattle.vast_literal.specs.declared.literal.LiteralFormat.TheVariants.{Hex}
 use Rattle.vast_literal.specs.Digits.{is_numeral, digits_in, number_in, lowest_digits, digit_count, separator}
@@ -24,6 +24,7 @@ use Rattle.xlsynth_vast.specs.Refusals.{MayBuild}
 use Rattle.xlsynth_vast.specs.Literals.{literal_in}
 use Rattle.xlsynth_vast.specs.Registers.{OwnsRegister}
 use Rattle.vast_demo.specs.RegistersFile.{the_module, bit, clock, reset, enable, the_signals, byte, first, first_next, second, second_next, the_state, first_value, second_value, the_values, enabled, plain, signals_made, state_made, values_made}
+use Rattle.vast_demo.proofs.DesignTexts.{allowed}
 
 -- The file after each call within a part.
 
@@ -81,10 +82,6 @@ step6 b c t e h = rw (h.1, h.0, e) (refl, refl)
 -- What a call of `add_logic` leaves whose name is free.
 abbrev Declares : (b c : Bench) (m : VastModule) (name : List ℕ) (t : VastDataType) (r : LogicRef) → Type 0
 Declares b c m name t r = MayBuild b c (Ok r) (unless_taken (codes "logic") name (names_in b m)) (next_logic_ref b) (λ _. with_declaration m Logic name t b)
-
-allowed : {P : Type 0} (rule : Result (Unit {0}) (List ℕ)) → IsOkAnd rule (λ _. P) → P
-allowed (Ok x) h = h
-allowed (Err words) h = absurd h
 
 pub step7 : (b c : Bench) (m : VastModule) (t : VastDataType) (r : LogicRef) → b ≡ b6 → m ≡ the_module → t ≡ byte → Declares b c m (codes "r") t r → (r ≡ first) × (c ≡ b7)
 unfolding signals_made b6 b7
