@@ -19,3 +19,4 @@ pub mod RegisterBlocks
 pub mod RegisterMembers
 pub mod RegisterValues
 pub mod Unseen
+pub mod UnseenNodes

@@ -1,8 +1,7 @@
 -- What no list names is not in a file's tree.
-use Rattle.std.proofs.Common.{◌≡◌, ℕ, suc, zero, ◌+◌, ◌<◌, ◌≤◌, IsTrue, nat_lt, List, [], ◌∷◌, ◌++◌, length, map, Option, Some, None, slice_get, Result, Ok, Err, OnErr, refl, sym, ap, ◌∙◌, arith, length-append, append-nil, zero-le}
+use Rattle.std.proofs.Common.{◌≡◌, ℕ, suc, zero, ◌+◌, ◌<◌, ◌≤◌, IsTrue, nat_lt, List, [], ◌∷◌, ◌++◌, length, map, Option, Some, None, slice_get, Result, Ok, Err, OnErr, refl, sym, ap, ◌∙◌, arith, length-append, zero-le}
 use Rattle.vast_literal.specs.declared.error.VastFault.{VastFault}
-use Rattle.vast_literal.specs.declared.error.VastFault.TheVariants.{Refused, Memory}
-use Rattle.vast_literal.specs.Tree.{ExprTree, ElseIf as ElseIfTree, Else, CaseArm as CaseArmTree, MoreStatements, MoreMembers, AlwaysMember, FileItemTree, FileTree}
+use Rattle.vast_literal.specs.Tree.{ElseIf as ElseIfTree, Else, CaseArm as CaseArmTree, MoreStatements, MoreMembers, AlwaysMember, FileItemTree, FileTree}
 use Rattle.vast_core.specs.declared.handle.Expr.{Expr}
 use Rattle.vast_core.specs.declared.handle.VastDataType.{VastDataType}
 use Rattle.vast_core.specs.declared.handle.VastStatementBlock.{VastStatementBlock}
@@ -26,9 +25,7 @@ use Rattle.vast_core.proofs.Sound.{never}
 use Rattle.vast_core.proofs.NodeLaws.{type_in-kept}
 use Rattle.vast_core.proofs.Nests.{get-before, family-at, nest-at}
 use Rattle.vast_core.proofs.Enters.{block-place, conditional-place, case-place, loop-place}
-use Rattle.xlsynth_vast.specs.Reductions.{HasMoreNodes, MakesTree}
 use Rattle.xlsynth_vast.specs.Registers.{HasUnused}
-use Rattle.xlsynth_vast.proofs.Parents.{unchanged}
 use Rattle.xlsynth_vast.proofs.RegisterParts.{Wider, wider_tree}
 use Rattle.xlsynth_vast.proofs.RegisterMembers.{unused-wider}
 
@@ -382,23 +379,3 @@ tree-unseen b c s h = tree-alike b c (alike b c s h)
 pub unseen-refused : (old new : Bench) (r : Result (Unit {0}) VastFault) → RecordsSound old → HasUnused old new → OnErr r (tree new ≡ tree old)
 unseen-refused old new (Ok x) s h = tt
 unseen-refused old new (Err x) s h = tree-unseen old new s h
-
--- Nodes more are not in the tree either.
-
-nodes-unused : (b c : Bench) → HasMoreNodes b c → HasUnused b c
-nodes-unused b c h =
-    record {
-      roots = h.more;
-      assignments = [];
-      containers = [];
-      after = h.after ∙ ap (λ (xs : List Assignment). record b { nodes = record { id = b.nodes.id; roots = b.nodes.roots ++ h.more }; assignments = xs }) (sym (append-nil b.assignments))
-          ∙ ap (λ (xs : List NestRecord). record b { nodes = record { id = b.nodes.id; roots = b.nodes.roots ++ h.more }; assignments = b.assignments ++ []; nests = xs }) (sym (append-nil b.nests));
-      parents = unchanged b c (ap (λ (x : Bench). x.nests) h.after) (ap (λ (x : Bench). x.functions) h.after) (ap (λ (x : Bench). x.always_blocks) h.after) (ap (λ (x : Bench). x.modules) h.after);
-    }
-
-pub tree-made : (old new : Bench) (r : Result Expr VastFault) (rule : Result ExprTree (List ℕ)) → RecordsSound old → MakesTree old new r rule → tree new ≡ tree old
-tree-made old new (Ok e) rule s h = tree-unseen old new s (nodes-unused old new h.1)
-tree-made old new (Err (Refused e)) rule s h = ap tree h.1
-tree-made old new (Err (Memory e)) rule s h = tree-unseen old new s (nodes-unused old new h)
-
-pub ruleset unseen = (tree-made)

@@ -88,7 +88,7 @@ pub(crate) fn bitwise_reduced(values: &[Expr], file: &mut VastFile) -> Result<Ex
 /// # Errors
 /// `Memory` where a growth was refused. The file then may have expressions more that nothing uses; all else of it is
 /// as it was.
-#[tactic(auto, using(crate::proofs::Unseen::unseen))]
+#[tactic(auto, using(crate::proofs::UnseenNodes::unseen))]
 pub fn logical_or_reduce(
     values: &[Expr],
     invert: bool,
@@ -107,7 +107,7 @@ pub fn logical_or_reduce(
 ///
 /// # Errors
 /// As [`logical_or_reduce`].
-#[tactic(auto, using(crate::proofs::Unseen::unseen))]
+#[tactic(auto, using(crate::proofs::UnseenNodes::unseen))]
 pub fn logical_and_reduce(
     values: &[Expr],
     invert: bool,
@@ -125,7 +125,7 @@ pub fn logical_and_reduce(
 ///
 /// # Errors
 /// As [`logical_or_reduce`].
-#[tactic(auto, using(crate::proofs::Unseen::unseen))]
+#[tactic(auto, using(crate::proofs::UnseenNodes::unseen))]
 pub fn bitwise_or_reduce(values: &[Expr], file: &mut VastFile) -> Result<Expr, VastFault>
     requires { All (OwnsExpr (bench file.old)) values.now }
     ensures made { MakesTree (bench file.old) (bench file.new) result (Ok (bitwise_reduction (map (tree_of (bench file.old)) values.now))) }
