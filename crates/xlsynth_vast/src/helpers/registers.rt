@@ -24,6 +24,7 @@ use vast_literal::VastFault;
 /// The signal that resets registers.
 #[derive(Clone, Copy, Debug)]
 pub struct Reset {
+    /// Active where it holds, or, for active low, where it does not.
     pub signal: Expr,
     /// Whether the reset is active where the signal does not hold.
     pub active_low: bool,
