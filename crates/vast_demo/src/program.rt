@@ -11,10 +11,10 @@ use xlsynth_vast::{VastError, VastFault};
 
 /// Prints the design that the one word names to `out`, and answers the status.
 ///
-/// `passthrough`, `cases` and `registers` are printed with status 0. A refusal or want of memory prints its text to `err`, status 1;
-/// a failed write prints `write fault` there, status 1. No word, another word or more than one prints `unknown design`
-/// there, status 2. Every text on `err` has a line break behind it; a failed write there changes no status. No design
-/// reads `input`.
+/// `passthrough`, `cases` and `registers` are printed with status 0. A refusal or want of memory prints its text to
+/// `err`, status 1; a failed write prints `write fault` there, status 1. No word, another word or more than one prints
+/// `unknown design` there, status 2. Every text on `err` has a line break behind it; a failed write there changes no
+/// status. No design reads `input`.
 pub fn run<R: Read, W: Write, E: Write>(
     alloc: Global,
     words: &[&str],

@@ -296,9 +296,6 @@ fills-value old mid new block target value share s more h k is built =
 assigned-more : (value : RegisterTree → Option ExprTree) (rs : List RegisterTree) (r : RegisterTree) → assigned_all value (rs ++ r ∷ []) ≡ assigned_all value rs ++ given r.target (value r)
 assigned-more value rs r = flat_map-append (λ (x : RegisterTree). given x.target (value x)) rs (r ∷ []) ∙ ap (λ ts. assigned_all value rs ++ ts) (append-nil (given r.target (value r)))
 
-pub assigning-start : (start : Bench) (share : Share) (block : VastStatementBlock) → Fills start start block (assigned_all (value_in share) (register_trees start []))
-assigning-start start share block = fills-none start start block (more-none start)
-
 pub assigning-step :
     (start now after : Bench) (share : Share) (block : VastStatementBlock) (registers : List RegisterDefinition) (i : ℕ) (r : RegisterDefinition) →
     All (OwnsRegister start) registers → i < length registers → r ≡ get_or registers i r →
