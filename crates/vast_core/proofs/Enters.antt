@@ -13,6 +13,7 @@ use Rattle.vast_core.specs.Nests.{StatementEntry, AssignStatement, ContinuousSta
 use Rattle.vast_core.specs.Bench.{Bench, OwnsExpr, OwnsBlock, OwnsConditional, OwnsCase, OwnsLoop}
 use Rattle.vast_core.specs.Growth.{with_assignment, next_id}
 use Rattle.vast_core.specs.Artifacts.{next_statement}
+use Rattle.vast_core.specs.Parents.{held_by_statement}
 use Rattle.vast_core.specs.Sound.{AssignmentSound, StatementSound}
 use Rattle.vast_core.specs.Containers.{InNest, StatementEnters, ElseIfEnters, ElseEnters, CaseArmEnters, GrowthSound, FreshSound, no_fresh, fresh_assignment, fresh_block, fresh_container, next_block, next_conditional, next_case, new_conditional, new_case, with_block, with_conditional, with_case}
 use Rattle.vast_core.proofs.Lists.{slice_get-seam}
@@ -20,11 +21,11 @@ use Rattle.vast_core.proofs.Nests.{kind-there}
 use Rattle.vast_core.proofs.Sound.{never}
 use Rattle.vast_core.proofs.RecordLaws.{next_statement_owned}
 
-nothing-comes : (b c : Bench) → FreshSound b c no_fresh
-nothing-comes b c = record { term = tt; assignment = tt; container = tt; function = tt; always_block = tt }
+pub nothing-comes : (b c : Bench) → FreshSound b c no_fresh
+nothing-comes b c = record { term = tt; port = tt; fresh_module = tt; definition = tt; artifact = tt; instance = tt; assignment = tt; container = tt; function = tt; always_block = tt }
 
-a-block-comes : (b c : Bench) → FreshSound b c fresh_block
-a-block-comes b c = record { term = tt; assignment = tt; container = tt; function = tt; always_block = tt }
+pub a-block-comes : (b c : Bench) → FreshSound b c fresh_block
+a-block-comes b c = record { term = tt; port = tt; fresh_module = tt; definition = tt; artifact = tt; instance = tt; assignment = tt; container = tt; function = tt; always_block = tt }
 
 pub block-place : (b : Bench) (x : VastStatementBlock) → OwnsBlock b x → block_index x < length b.nests
 block-place b x h = kind-there is_block_kind b.nests x.id.index never h.of_kind
@@ -63,52 +64,52 @@ pub conditional-comes : (b : Bench) (condition : Expr) → OwnsExpr b condition 
 conditional-comes b condition h =
     record {
       term = tt;
-      assignment = tt;
+      port = tt; fresh_module = tt; definition = tt; artifact = tt; instance = tt; assignment = tt;
       container = record { condition = h; consequent = (consequent_owned b condition, omega arith); else_ifs = tt; otherwise = tt };
       function = tt;
       always_block = tt;
     }
 
 case-comes : (b : Bench) (kind : CaseKind) (selector : Expr) → OwnsExpr b selector → FreshSound b (with_case kind selector b) (fresh_container (new_case kind selector) false)
-case-comes b kind selector h = record { term = tt; assignment = tt; container = record { selector = h; arms = tt }; function = tt; always_block = tt }
+case-comes b kind selector h = record { term = tt; port = tt; fresh_module = tt; definition = tt; artifact = tt; instance = tt; assignment = tt; container = record { selector = h; arms = tt }; function = tt; always_block = tt }
 
 -- Statements of blocks.
 
-pub statement-enters : (b : Bench) (owner : VastStatementBlock) (s : StatementEntry) → OwnsBlock b owner → StatementSound b (block_index owner) s → GrowthSound b (InNest (block_index owner) (StatementEnters s)) no_fresh
-statement-enters b owner s h k = record { fresh = nothing-comes b b; listing = (block-place b owner h, k) }
+pub statement-enters : (b : Bench) (owner : VastStatementBlock) (s : StatementEntry) → OwnsBlock b owner → StatementSound b (block_index owner) s → held_by_statement s ≡ [] → GrowthSound b (InNest (block_index owner) (StatementEnters s)) no_fresh
+statement-enters b owner s h k none = record { fresh = nothing-comes b b; listing = (block-place b owner h, k); placed = rw none refl }
 
 assignment-comes : (b : Bench) (a : Assignment) → AssignmentSound b a → FreshSound b (with_assignment a b) (fresh_assignment a)
-assignment-comes b a h = record { term = tt; assignment = h; container = tt; function = tt; always_block = tt }
+assignment-comes b a h = record { term = tt; port = tt; fresh_module = tt; definition = tt; artifact = tt; instance = tt; assignment = h; container = tt; function = tt; always_block = tt }
 
 pub assignment-enters :
     (b : Bench) (owner : VastStatementBlock) (a : Assignment) → OwnsBlock b owner → AssignmentSound b a →
     GrowthSound b (InNest (block_index owner) (StatementEnters (AssignStatement (next_statement b)))) (fresh_assignment a)
-assignment-enters b owner a h k = record { fresh = assignment-comes b a k; listing = (block-place b owner h, next_statement_owned b a) }
+assignment-enters b owner a h k = record { fresh = assignment-comes b a k; listing = (block-place b owner h, next_statement_owned b a); placed = refl }
 
 pub continuous-enters :
     (b : Bench) (owner : VastStatementBlock) (a : Assignment) → OwnsBlock b owner → AssignmentSound b a →
     GrowthSound b (InNest (block_index owner) (StatementEnters (ContinuousStatement (next_statement b)))) (fresh_assignment a)
-continuous-enters b owner a h k = record { fresh = assignment-comes b a k; listing = (block-place b owner h, next_statement_owned b a) }
+continuous-enters b owner a h k = record { fresh = assignment-comes b a k; listing = (block-place b owner h, next_statement_owned b a); placed = refl }
 
 pub conditional-enters :
     (b : Bench) (owner : VastStatementBlock) (condition : Expr) → OwnsBlock b owner → OwnsExpr b condition →
     GrowthSound b (InNest (block_index owner) (StatementEnters (ConditionalStatement (next_conditional b)))) (fresh_container (new_conditional b condition) true)
-conditional-enters b owner condition h k = record { fresh = conditional-comes b condition k; listing = (block-place b owner h, (next_conditional_owned b condition, block-place b owner h)) }
+conditional-enters b owner condition h k = record { fresh = conditional-comes b condition k; listing = (block-place b owner h, (next_conditional_owned b condition, block-place b owner h)); placed = refl }
 
 pub case-enters :
     (b : Bench) (owner : VastStatementBlock) (kind : CaseKind) (selector : Expr) → OwnsBlock b owner → OwnsExpr b selector →
     GrowthSound b (InNest (block_index owner) (StatementEnters (CasesStatement (next_case b)))) (fresh_container (new_case kind selector) false)
-case-enters b owner kind selector h k = record { fresh = case-comes b kind selector k; listing = (block-place b owner h, (next_case_owned b kind selector, block-place b owner h)) }
+case-enters b owner kind selector h k = record { fresh = case-comes b kind selector k; listing = (block-place b owner h, (next_case_owned b kind selector, block-place b owner h)); placed = refl }
 
 -- Arms.
 
 pub else_if-enters :
     (b : Bench) (owner : Conditional) (condition : Expr) → OwnsConditional b owner → OwnsExpr b condition →
     GrowthSound b (InNest (conditional_index owner) (ElseIfEnters (record { condition = condition; block = next_block b }))) fresh_block
-else_if-enters b owner condition h k = record { fresh = a-block-comes b (with_block b); listing = (conditional-place b owner h, (k, (next_block_owned b, conditional-place b owner h))) }
+else_if-enters b owner condition h k = record { fresh = a-block-comes b (with_block b); listing = (conditional-place b owner h, (k, (next_block_owned b, conditional-place b owner h))); placed = refl }
 
 pub else-enters : (b : Bench) (owner : Conditional) → OwnsConditional b owner → GrowthSound b (InNest (conditional_index owner) (ElseEnters (next_block b))) fresh_block
-else-enters b owner h = record { fresh = a-block-comes b (with_block b); listing = (conditional-place b owner h, (next_block_owned b, conditional-place b owner h)) }
+else-enters b owner h = record { fresh = a-block-comes b (with_block b); listing = (conditional-place b owner h, (next_block_owned b, conditional-place b owner h)); placed = refl }
 
 maybe-same : (b : Bench) (label : Option Expr) → OptionHolds (OwnsExpr b) label → OptionHolds (OwnsExpr (with_block b)) label
 maybe-same b None h = tt
@@ -117,6 +118,6 @@ maybe-same b (Some e) h = h
 pub case_arm-enters :
     (b : Bench) (owner : CaseStatement) (label : Option Expr) → OwnsCase b owner → OptionHolds (OwnsExpr b) label →
     GrowthSound b (InNest (case_index owner) (CaseArmEnters (record { label = label; block = next_block b }))) fresh_block
-case_arm-enters b owner label h k = record { fresh = a-block-comes b (with_block b); listing = (case-place b owner h, (maybe-same b label k, (next_block_owned b, case-place b owner h))) }
+case_arm-enters b owner label h k = record { fresh = a-block-comes b (with_block b); listing = (case-place b owner h, (maybe-same b label k, (next_block_owned b, case-place b owner h))); placed = refl }
 
 pub ruleset enters = (statement-enters, assignment-enters, continuous-enters, conditional-enters, case-enters, else_if-enters, else-enters, case_arm-enters)

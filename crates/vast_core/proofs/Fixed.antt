@@ -1,13 +1,14 @@
 -- Selects by numbers: what stands after the literals and the select.
-use Rattle.std.proofs.Common.{◌≡◌, ℕ, ℤ, List, Some, refl}
-use Rattle.vast_literal.specs.Tree.{LiteralTree, IndexTree, SliceTree}
+use Rattle.std.proofs.Common.{◌≡◌, ℕ, ℤ, List, Some, All, refl}
+use Rattle.std.specs.Fmt.{signed_decimal}
+use Rattle.vast_literal.specs.Tree.{LiteralTree, IndexTree, SliceTree, ConcatTree, SomeExpr}
 use Rattle.vast_core.specs.declared.handle.Expr.{Expr}
 use Rattle.vast_core.specs.declared.handle.IndexableExpr.{IndexableExpr}
 use Rattle.vast_core.specs.Handles.{indexable_expr_to_expr}
 use Rattle.vast_core.specs.Nodes.{ExprRoot}
-use Rattle.vast_core.specs.Bench.{Bench, OwnsIndexable, tree_of}
-use Rattle.vast_core.specs.Growth.{with_expr, with_bounds, with_fixed_index, with_fixed_slice, next_expr, next_fixed_index, next_fixed_slice, known_literal}
-use Rattle.vast_core.proofs.Laws.{next_owned, next_tree, old_owned, old_tree}
+use Rattle.vast_core.specs.Bench.{Bench, OwnsExpr, OwnsIndexable, tree_of, trees_of}
+use Rattle.vast_core.specs.Growth.{with_expr, with_bounds, with_fixed_index, with_fixed_slice, next_expr, next_fixed_index, next_fixed_slice, known_literal, decimal_literal, with_fixed_replication, next_fixed_replication}
+use Rattle.vast_core.proofs.Laws.{next_owned, next_tree, old_owned, old_tree, old_trees}
 
 index-built :
     (b : Bench) (s : IndexableExpr) (text : List ℕ) (v : ℤ) → OwnsIndexable b s →
@@ -45,3 +46,14 @@ pub fixed-slice :
     (record { id = x.id } ≡ next_fixed_slice text1 v1 text2 v2 a) × (b3 ≡ with_fixed_slice s text1 v1 text2 v2 a)
 fixed-slice a b b1 b2 b3 s text1 t1 v1 w1 text2 t2 v2 w2 i j e x h p q1 q2 o1 o2 k1 k2 k3 k4 k5 k6 k7 =
     rw (k7, k6, k5, k4, k3, k2, k1, p, q1, q2, o1, o2) (refl, slice-built a s text1 v1 text2 v2 h)
+
+replication-built :
+    (b : Bench) (count : ℤ) (parts : List Expr) → All (OwnsExpr b) parts →
+    with_expr (with_expr b (decimal_literal count)) (ConcatTree (SomeExpr (tree_of (with_expr b (decimal_literal count)) (next_expr b))) (trees_of (with_expr b (decimal_literal count)) parts)) ≡ with_fixed_replication count parts b
+replication-built b count parts h = rw (next_tree b (decimal_literal count), old_trees b (ExprRoot (decimal_literal count)) parts h) refl
+
+pub fixed-replication :
+    (a b b1 b2 : Bench) (count w : ℤ) (t : List ℕ) (parts own : List Expr) (i x : Expr) → All (OwnsExpr a) parts → b ≡ a → t ≡ signed_decimal count → w ≡ count → own ≡ parts →
+    i ≡ next_expr b → b1 ≡ with_expr b (LiteralTree t (Some w)) → x ≡ next_expr b1 → b2 ≡ with_expr b1 (ConcatTree (SomeExpr (tree_of b1 i)) (trees_of b1 own)) →
+    (x ≡ next_fixed_replication count a) × (b2 ≡ with_fixed_replication count parts a)
+fixed-replication a b b1 b2 count w t parts own i x h p q o r k l m n = rw (n, m, l, k, p, q, o, r) (refl, replication-built a count parts h)

@@ -10,7 +10,7 @@ use Rattle.vast_core.specs.Nests.{NestRecord, NestKind, NoKind, nest_kind, is_bl
 use Rattle.vast_core.specs.Bench.{Bench, OwnsBlock, OwnsConditional, OwnsCase, OwnsLoop, OwnsAlways, OwnsFunction}
 use Rattle.vast_core.specs.Containers.{NestedEntry, InNest, fresh_container, with_nest_entry, with_nest}
 use Rattle.vast_core.proofs.Sound.{nest-kept, index-kept, never}
-use Rattle.vast_core.proofs.Containers.{Grows-fresh, Grows-listing}
+use Rattle.vast_core.proofs.Growing.{Grows-fresh, Grows-listing}
 use Rattle.vast_core.specs.declared.handle.Expr.{Expr}
 use Rattle.vast_core.specs.declared.handle.VastDataType.{VastDataType}
 use Rattle.vast_core.specs.declared.handle.VastAlwaysBase.{VastAlwaysBase}
@@ -18,7 +18,7 @@ use Rattle.vast_core.specs.declared.handle.VastFunction.{VastFunction}
 use Rattle.vast_core.specs.declared.kind.AlwaysKind.{AlwaysKind}
 use Rattle.vast_core.specs.Loops.{next_loop, next_function, new_loop, with_loop, new_function, with_function, new_always, with_always, fresh_always}
 use Rattle.vast_core.proofs.Lists.{slice_get-seam}
-use Rattle.vast_core.proofs.Growth.{last-test}
+use Rattle.vast_core.proofs.Terms.{last-test}
 use Rattle.vast_core.proofs.Readers.{below-of}
 use Rattle.vast_core.proofs.EntersMembers.{next_always_owned}
 use Rattle.vast_core.proofs.Enters.{next_block_owned, next_conditional_owned, next_case_owned}

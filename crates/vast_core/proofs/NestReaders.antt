@@ -1,5 +1,5 @@
 -- What the readers of always blocks and functions cite, and a change of one container that keeps what it holds.
-use Rattle.std.proofs.Common.{◌≡◌, ℕ, ◌<◌, Bool, IsTrue, List, length, get_or, map, nat_lt, Some, slice_get, All, refl, arith, subst}
+use Rattle.std.proofs.Common.{◌≡◌, ℕ, ◌<◌, Bool, IsTrue, List, length, get_or, map, nat_lt, Some, slice_get, All, refl, arith, subst, Option, None}
 use Rattle.std.proofs.lemmas.List.{length-map}
 use Rattle.vast_core.specs.declared.handle.Expr.{Expr}
 use Rattle.vast_core.specs.declared.node.Nest.{Nest}
@@ -8,14 +8,18 @@ use Rattle.vast_core.specs.declared.node.AlwaysBlock.{AlwaysBlock}
 use Rattle.vast_core.specs.Raw.{Raw}
 use Rattle.vast_core.specs.Records.{changed_at}
 use Rattle.vast_core.specs.Nests.{NestRecord, BlockRecord, BranchRecord, SwitchRecord, RepeatRecord, nest_record, function_record, always_record, nest_kind}
-use Rattle.vast_core.specs.Bench.{Bench}
+use Rattle.vast_core.specs.Bench.{Bench, OwnsBlock}
 use Rattle.vast_core.specs.View.{bench}
 use Rattle.vast_core.specs.Containers.{with_unique}
-use Rattle.vast_core.specs.Sound.{Each, EventSound, NestSound, FunctionSound, AlwaysSound, RecordsSound, IsSound}
+use Rattle.vast_core.specs.Sound.{FileSound, Each, EventSound, NestSound, FunctionSound, AlwaysSound, RecordsSound, IsSound}
 use Rattle.vast_core.proofs.Lists.{slice_get-map, Each-at, All-own}
 use Rattle.vast_core.proofs.NodeLaws.{Extends-same}
 use Rattle.vast_core.proofs.Nests.{kind-changed, nests-changed}
-use Rattle.vast_core.proofs.Sound.{Grows, carried}
+use Rattle.vast_core.specs.declared.handle.VastStatementBlock.{VastStatementBlock}
+use Rattle.vast_core.specs.Nodes.{OptionHolds}
+use Rattle.vast_core.specs.Nests.{is_block_kind}
+use Rattle.vast_core.proofs.OneParent.{HasOneParent-unique}
+use Rattle.vast_core.proofs.Sound.{Grows, carried, nest-kept, never}
 use Rattle.vast_core.proofs.Readers.{below-of}
 
 length-functions : (a b : Raw) → b ≡ a → length (bench a).functions ≡ length b.functions
@@ -31,7 +35,7 @@ function-there a b i x e below is = rw (← e) (slice_get-map function_record b.
 
 function-own : (b : Raw) (i : ℕ) (x : Function) → IsSound b → i < length b.functions → x ≡ get_or b.functions i x → FunctionSound (bench b) (function_record x)
 unfolding bench
-function-own b i x s below is = Each-at function_record (FunctionSound (bench b)) b.functions i x s.records.functions below is
+function-own b i x s below is = Each-at function_record (FunctionSound (bench b)) b.functions i x s.file.records.functions below is
 
 pub function-sound : (a b : Raw) (i : ℕ) (x : Function) → b ≡ a → IsSound b → i < length b.functions → x ≡ get_or b.functions i x → FunctionSound (bench a) (function_record x)
 function-sound a b i x e s below is = let P : Raw → Type 0 = λ r. FunctionSound (bench r) (function_record x) in subst P e (function-own b i x s below is)
@@ -49,7 +53,7 @@ always-there a b i x e below is = rw (← e) (slice_get-map always_record b.alwa
 
 always-own : (b : Raw) (i : ℕ) (x : AlwaysBlock) → IsSound b → i < length b.always_blocks → x ≡ get_or b.always_blocks i x → AlwaysSound (bench b) (always_record x)
 unfolding bench
-always-own b i x s below is = Each-at always_record (AlwaysSound (bench b)) b.always_blocks i x s.records.always_blocks below is
+always-own b i x s below is = Each-at always_record (AlwaysSound (bench b)) b.always_blocks i x s.file.records.always_blocks below is
 
 pub always-sound : (a b : Raw) (i : ℕ) (x : AlwaysBlock) → b ≡ a → IsSound b → i < length b.always_blocks → x ≡ get_or b.always_blocks i x → AlwaysSound (bench a) (always_record x)
 always-sound a b i x e s below is = let P : Raw → Type 0 = λ r. AlwaysSound (bench r) (always_record x) in subst P e (always-own b i x s below is)
@@ -109,9 +113,22 @@ pub bench-unique :
 unfolding bench
 bench-unique a b i u ns r e q = rw (q, ← e) refl
 
+spare-unique : (b : Bench) (i : ℕ) (u : Bool) (o : Option VastStatementBlock) → OptionHolds (OwnsBlock b) o → OptionHolds (OwnsBlock (record b { nests = changed_at i (with_unique u) b.nests })) o
+spare-unique b i u None h = tt
+spare-unique b i u (Some x) h = nest-kept is_block_kind b (record b { nests = changed_at i (with_unique u) b.nests }) x.id (Grows-unique b i u) never h
+
+FileSound-unique : (b : Bench) (i : ℕ) (u : Bool) → FileSound b → FileSound (record b { nests = changed_at i (with_unique u) b.nests })
+FileSound-unique b i u s =
+    record {
+      records = RecordsSound-unique b i u s.records;
+      spare = spare-unique b i u b.spare s.spare;
+      names = s.names;
+      parents = HasOneParent-unique b (record { id = record { file_id = b.nodes.id; index = i } }) u s.parents;
+    }
+
 pub sound-unique :
     (a b : Raw) (i : ℕ) (u : Bool) (ns : List Nest) (r : ℕ) → b ≡ a → map nest_record ns ≡ changed_at i (with_unique u) (map nest_record b.nests) → IsSound b →
     IsSound (record b { nests = ns; nest_room = r })
 sound-unique a b i u ns r e q s =
-    let P : Raw → Type 0 = λ y. RecordsSound (bench y) in
-    record { terms = s.terms; records = rw (bench-unique a b i u ns r e q) (RecordsSound-unique (bench a) i u (subst P e s.records)) }
+    let P : Raw → Type 0 = λ y. FileSound (bench y) in
+    record { terms = s.terms; file = rw (bench-unique a b i u ns r e q) (FileSound-unique (bench a) i u (subst P e s.file)) }

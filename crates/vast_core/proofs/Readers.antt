@@ -19,8 +19,8 @@ use Rattle.std.proofs.lemmas.List.{length-map}
 use Rattle.vast_core.proofs.Nests.{nest-at, family-at}
 use Rattle.vast_core.proofs.Lists.{slice_get-map, slice_get-at, slice_get-past, Each-at, All-Each}
 use Rattle.std.proofs.lemmas.Option.{slice_get_within}
-use Rattle.vast_core.proofs.Growth.{length-modules, length-ports, length-assignments}
-use Rattle.vast_core.proofs.Arenas.{length-definitions, length-artifacts, length-instances}
+use Rattle.vast_core.proofs.Terms.{length-modules, length-ports, length-assignments}
+use Rattle.vast_core.proofs.Terms.{length-definitions, length-artifacts, length-instances}
 
 map-same : {A : Type 0} (xs : List A) → map (λ x. x) xs ≡ xs
 map-same [] = refl
@@ -38,7 +38,7 @@ module-there a b i x e below is = rw (← e) (slice_get-map module_record b.modu
 
 module-own : (b : Raw) (i : ℕ) (x : Module) → IsSound b → i < length b.modules → x ≡ get_or b.modules i x → ModuleSound (bench b) (module_record x)
 unfolding bench
-module-own b i x s below is = Each-at module_record (ModuleSound (bench b)) b.modules i x s.records.modules below is
+module-own b i x s below is = Each-at module_record (ModuleSound (bench b)) b.modules i x s.file.records.modules below is
 
 pub module-sound : (a b : Raw) (i : ℕ) (x : Module) → b ≡ a → IsSound b → i < length b.modules → x ≡ get_or b.modules i x → ModuleSound (bench a) (module_record x)
 module-sound a b i x e s below is = let P : Raw → Type 0 = λ r. ModuleSound (bench r) (module_record x) in subst P e (module-own b i x s below is)
@@ -52,7 +52,7 @@ port-there a b i x e below is = rw (← e) (slice_get-map port_record b.ports i 
 
 port-own : (b : Raw) (i : ℕ) (x : Port) → IsSound b → i < length b.ports → x ≡ get_or b.ports i x → PortSound (bench b) (port_record x)
 unfolding bench
-port-own b i x s below is = Each-at port_record (PortSound (bench b)) b.ports i x s.records.ports below is
+port-own b i x s below is = Each-at port_record (PortSound (bench b)) b.ports i x s.file.records.ports below is
 
 pub port-sound : (a b : Raw) (i : ℕ) (x : Port) → b ≡ a → IsSound b → i < length b.ports → x ≡ get_or b.ports i x → PortSound (bench a) (port_record x)
 port-sound a b i x e s below is = let P : Raw → Type 0 = λ r. PortSound (bench r) (port_record x) in subst P e (port-own b i x s below is)
@@ -73,14 +73,14 @@ assignment-there a b i x e below is = assignment-read a b i e ∙ slice_get-at b
 
 assignment-own : (b : Raw) (i : ℕ) (x : Assignment) → IsSound b → i < length b.assignments → x ≡ get_or b.assignments i x → AssignmentSound (bench b) x
 unfolding bench
-assignment-own b i x s below is = Each-at (λ y. y) (AssignmentSound (bench b)) b.assignments i x (rw map-same s.records.assignments) below is
+assignment-own b i x s below is = Each-at (λ y. y) (AssignmentSound (bench b)) b.assignments i x (rw map-same s.file.records.assignments) below is
 
 pub assignment-sound : (a b : Raw) (i : ℕ) (x : Assignment) → b ≡ a → IsSound b → i < length b.assignments → x ≡ get_or b.assignments i x → AssignmentSound (bench a) x
 assignment-sound a b i x e s below is = let P : Raw → Type 0 = λ r. AssignmentSound (bench r) x in subst P e (assignment-own b i x s below is)
 
 item-all : (b : Raw) → IsSound b → All (λ x. EntrySound (bench b) (file_entry x)) b.items
 unfolding bench
-item-all b s = All-Each file_entry (EntrySound (bench b)) b.items s.records.items
+item-all b s = All-Each file_entry (EntrySound (bench b)) b.items s.file.records.items
 
 pub items-sound : (a b : Raw) → b ≡ a → IsSound b → All (λ x. EntrySound (bench a) (file_entry x)) b.items
 items-sound a b e s = let P : Raw → Type 0 = λ r. All (λ x. EntrySound (bench r) (file_entry x)) b.items in subst P e (item-all b s)
@@ -98,7 +98,7 @@ definition-there a b i x e below is = rw (← e) (slice_get-map definition_recor
 
 definition-own : (b : Raw) (i : ℕ) (x : Definition) → IsSound b → i < length b.definitions → x ≡ get_or b.definitions i x → DefinitionSound (bench b) (definition_record x)
 unfolding bench
-definition-own b i x s below is = Each-at definition_record (DefinitionSound (bench b)) b.definitions i x s.records.definitions below is
+definition-own b i x s below is = Each-at definition_record (DefinitionSound (bench b)) b.definitions i x s.file.records.definitions below is
 
 pub definition-sound : (a b : Raw) (i : ℕ) (x : Definition) → b ≡ a → IsSound b → i < length b.definitions → x ≡ get_or b.definitions i x → DefinitionSound (bench a) (definition_record x)
 definition-sound a b i x e s below is = let P : Raw → Type 0 = λ r. DefinitionSound (bench r) (definition_record x) in subst P e (definition-own b i x s below is)
@@ -112,7 +112,7 @@ artifact-there a b i x e below is = rw (← e) (slice_get-map artifact_record b.
 
 artifact-own : (b : Raw) (i : ℕ) (x : Artifact) → IsSound b → i < length b.artifacts → x ≡ get_or b.artifacts i x → ArtifactSound (bench b) (artifact_record x)
 unfolding bench
-artifact-own b i x s below is = Each-at artifact_record (ArtifactSound (bench b)) b.artifacts i x s.records.artifacts below is
+artifact-own b i x s below is = Each-at artifact_record (ArtifactSound (bench b)) b.artifacts i x s.file.records.artifacts below is
 
 pub artifact-sound : (a b : Raw) (i : ℕ) (x : Artifact) → b ≡ a → IsSound b → i < length b.artifacts → x ≡ get_or b.artifacts i x → ArtifactSound (bench a) (artifact_record x)
 artifact-sound a b i x e s below is = let P : Raw → Type 0 = λ r. ArtifactSound (bench r) (artifact_record x) in subst P e (artifact-own b i x s below is)
@@ -126,7 +126,7 @@ instance-there a b i x e below is = rw (← e) (slice_get-map instance_record b.
 
 instance-own : (b : Raw) (i : ℕ) (x : Instance) → IsSound b → i < length b.instances → x ≡ get_or b.instances i x → InstanceSound (bench b) (instance_record x)
 unfolding bench
-instance-own b i x s below is = Each-at instance_record (InstanceSound (bench b)) b.instances i x s.records.instances below is
+instance-own b i x s below is = Each-at instance_record (InstanceSound (bench b)) b.instances i x s.file.records.instances below is
 
 pub instance-sound : (a b : Raw) (i : ℕ) (x : Instance) → b ≡ a → IsSound b → i < length b.instances → x ≡ get_or b.instances i x → InstanceSound (bench a) (instance_record x)
 instance-sound a b i x e s below is = let P : Raw → Type 0 = λ r. InstanceSound (bench r) (instance_record x) in subst P e (instance-own b i x s below is)
@@ -149,7 +149,7 @@ unfolding bench
 nest-there a b i x e below is = rw (← e) (slice_get-map nest_record b.nests i x below is)
 
 nests-of : (a b : Raw) → b ≡ a → IsSound b → NestsSound (bench a) 0 (bench a).nests
-nests-of a b e s = let P : Raw → Type 0 = λ r. NestsSound (bench r) 0 (bench r).nests in subst P e s.records.nests
+nests-of a b e s = let P : Raw → Type 0 = λ r. NestsSound (bench r) 0 (bench r).nests in subst P e s.file.records.nests
 
 pub nest-sound : (a b : Raw) (i : ℕ) (x : Nest) → b ≡ a → IsSound b → i < length b.nests → x ≡ get_or b.nests i x → NestSound (bench a) i (nest_record x)
 nest-sound a b i x e s below is = nest-at (bench a) 0 (bench a).nests i i (nest_record x) (nests-of a b e s) (nest-there a b i x e below is) (omega arith)

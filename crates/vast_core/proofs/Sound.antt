@@ -83,7 +83,7 @@ found-kept b c id xs ys g k h =
 pub never : IsTrue false → ⊥
 never h = cc
 
-OwnsPort-kept : (b c : Bench) → Grows b c → (p : ModulePort) → OwnsPort b p → OwnsPort c p
+pub OwnsPort-kept : (b c : Bench) → Grows b c → (p : ModulePort) → OwnsPort b p → OwnsPort c p
 OwnsPort-kept b c g p h = index-kept b c p.id (length b.ports) (length c.ports) g g.ports h
 
 maybe-type-kept : (b c : Bench) → Grows b c → (t : Option VastDataType) → OptionHolds (OwnsType b) t → OptionHolds (OwnsType c) t
@@ -103,10 +103,10 @@ PortSound-kept b c g p h = (
 AssignmentSound-kept : (b c : Bench) → Grows b c → (a : Assignment) → AssignmentSound b a → AssignmentSound c a
 AssignmentSound-kept b c g a h = (HasExpr-kept b.nodes c.nodes g.nodes a.lhs h.0, HasExpr-kept b.nodes c.nodes g.nodes a.rhs h.1)
 
-DefinitionSound-kept : (b c : Bench) → Grows b c → (d : DefinitionRecord) → DefinitionSound b d → DefinitionSound c d
+pub DefinitionSound-kept : (b c : Bench) → Grows b c → (d : DefinitionRecord) → DefinitionSound b d → DefinitionSound c d
 DefinitionSound-kept b c g d h = HasType-kept b.nodes c.nodes g.nodes d.data_type h
 
-ArtifactSound-kept : (b c : Bench) → Grows b c → (a : ArtifactRecord) → ArtifactSound b a → ArtifactSound c a
+pub ArtifactSound-kept : (b c : Bench) → Grows b c → (a : ArtifactRecord) → ArtifactSound b a → ArtifactSound c a
 ArtifactSound-kept b c g BlankLineRecord h = tt
 ArtifactSound-kept b c g (CommentRecord text) h = tt
 ArtifactSound-kept b c g (InlineRecord text) h = tt
@@ -149,7 +149,7 @@ MemberSound-kept b c g (AlwaysEntry a) h = found-kept b c a.id b.always_blocks c
 MemberSound-kept b c g (ConditionalEntry x) h = nest-kept is_conditional_kind b c x.id g never h
 MemberSound-kept b c g (LoopEntry l) h = nest-kept is_loop_kind b c l.id g never h
 
-ParameterPortSound-kept : (b c : Bench) → Grows b c → (p : ParameterPortRecord) → ParameterPortSound b p → ParameterPortSound c p
+pub ParameterPortSound-kept : (b c : Bench) → Grows b c → (p : ParameterPortRecord) → ParameterPortSound b p → ParameterPortSound c p
 ParameterPortSound-kept b c g p h = (maybe-type-kept b c g p.data_type h.0, HasExpr-kept b.nodes c.nodes g.nodes p.value h.1)
 
 pub ModuleSound-kept : (b c : Bench) → Grows b c → (m : ModuleRecord) → ModuleSound b m → ModuleSound c m
@@ -235,7 +235,7 @@ NestsSound-kept : (b c : Bench) → Grows b c → (i : ℕ) (ns : List NestRecor
 NestsSound-kept b c g i [] h = tt
 NestsSound-kept b c g i (n ∷ ns) h = (NestSound-kept b c g i n h.0, NestsSound-kept b c g (suc i) ns h.1)
 
-VariableSound-kept : (b c : Bench) → Grows b c → (v : VariableRecord) → VariableSound b v → VariableSound c v
+pub VariableSound-kept : (b c : Bench) → Grows b c → (v : VariableRecord) → VariableSound b v → VariableSound c v
 VariableSound-kept b c g v h = HasType-kept b.nodes c.nodes g.nodes v.data_type h
 
 pub FunctionSound-kept : (b c : Bench) → Grows b c → (f : FunctionRecord) → FunctionSound b f → FunctionSound c f
@@ -256,7 +256,7 @@ EventSound-kept b c g e h = (HasExpr-kept b.nodes c.nodes g.nodes e h.0, rw (exp
 pub AlwaysSound-kept : (b c : Bench) → Grows b c → (a : AlwaysRecord) → AlwaysSound b a → AlwaysSound c a
 AlwaysSound-kept b c g a h = record { events = Each-map (EventSound-kept b c g) a.events h.events; block = nest-kept is_block_kind b c a.block.id g never h.block }
 
-EntrySound-kept : (b c : Bench) → Grows b c → (e : FileEntry) → EntrySound b e → EntrySound c e
+pub EntrySound-kept : (b c : Bench) → Grows b c → (e : FileEntry) → EntrySound b e → EntrySound c e
 EntrySound-kept b c g (ModuleEntry m) h = index-kept b c m.id (length b.modules) (length c.modules) g g.modules h
 EntrySound-kept b c g (IncludeEntry path) h = tt
 EntrySound-kept b c g (FileCommentEntry text) h = tt

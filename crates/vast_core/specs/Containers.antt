@@ -1,8 +1,10 @@
 -- What a file holds after a call that adds to a container, or to a module what holds containers.
-use Rattle.std.specs.Prelude.{ℕ, suc, ◌+◌, ◌<◌, ◌≤◌, Bool, true, false, List, [], ◌∷◌, ◌++◌, length, Option, Some, None}
+use Rattle.std.specs.Prelude.{◌≡◌, ℕ, suc, ◌+◌, ◌<◌, ◌≤◌, Bool, true, false, List, [], ◌∷◌, ◌++◌, length, Option, Some, None}
 use Rattle.vast_core.specs.declared.handle.Expr.{Expr}
 use Rattle.vast_core.specs.declared.handle.VastModule.{VastModule}
 use Rattle.vast_core.specs.declared.handle.VastStatementBlock.{VastStatementBlock}
+use Rattle.vast_core.specs.declared.handle.ModulePort.{ModulePort}
+use Rattle.vast_core.specs.declared.handle.VastFunction.{VastFunction}
 use Rattle.vast_core.specs.declared.handle.Conditional.{Conditional}
 use Rattle.vast_core.specs.declared.handle.CaseStatement.{CaseStatement}
 use Rattle.vast_core.specs.declared.kind.CaseKind.{CaseKind}
@@ -10,14 +12,17 @@ use Rattle.vast_core.specs.declared.node.Assignment.{Assignment}
 use Rattle.vast_core.specs.declared.node.ElseIf.{ElseIf}
 use Rattle.vast_core.specs.declared.node.CaseArm.{CaseArm}
 use Rattle.vast_core.specs.declared.node.Term.{Term}
-use Rattle.vast_core.specs.Handles.{module_index, block_index, conditional_index, case_index}
+use Rattle.vast_core.specs.Handles.{module_index, function_index, block_index, conditional_index, case_index}
 use Rattle.vast_core.specs.Nodes.{Nodes, OptionHolds, ChildrenHold, RootFits, term_root, with_root as with_node}
-use Rattle.vast_core.specs.Records.{ModuleRecord, MemberEntry, with_member, with_named_member, changed_at}
-use Rattle.vast_core.specs.Nests.{StatementEntry, NestRecord, BlockRecord, BranchRecord, SwitchRecord, RepeatRecord, FunctionRecord, AlwaysRecord}
+use Rattle.vast_core.specs.Records.{PortRecord, ParameterPortRecord, ModuleRecord, MemberEntry, FileEntry, DefinitionRecord, ArtifactRecord, InstanceRecord, with_port, with_parameter_port, with_member, with_named_member, changed_at}
+use Rattle.vast_core.specs.Nests.{StatementEntry, NestRecord, BlockRecord, BranchRecord, SwitchRecord, RepeatRecord, VariableRecord, FunctionRecord, AlwaysRecord}
 use Rattle.vast_core.specs.Raw.{Raw}
-use Rattle.vast_core.specs.Bench.{Bench, OwnsModule, OwnsExpr, OwnsType}
+use Rattle.vast_core.specs.Bench.{Bench, OwnsModule, OwnsPort, OwnsFunction, OwnsBlock, OwnsExpr, OwnsType, NameIsFree, IsFreeInFunction}
+use Rattle.vast_core.specs.Functions.{with_listed_variable}
+use Rattle.vast_core.specs.DeclaredNames.{NamesSound, names_by_port, names_by_member}
+use Rattle.vast_core.specs.Parents.{Part, ContainerPart, FunctionPart, AlwaysPart, held_by_statement, held_by_member, held_by_else_if, held_by_block, held_by_case_arm, held_by_container, held_by_function, held_by_always, held_by_module}
 use Rattle.vast_core.specs.Growth.{next_id}
-use Rattle.vast_core.specs.Sound.{AssignmentSound, MemberSound, StatementSound, ElseIfSound, HoldsBlock, CaseArmSound, LoopMemberSound, NestSound, FunctionSound, AlwaysSound}
+use Rattle.vast_core.specs.Sound.{PortSound, AssignmentSound, MemberSound, ParameterPortSound, ModuleSound, EntrySound, DefinitionSound, ArtifactSound, InstanceSound, StatementSound, ElseIfSound, HoldsBlock, CaseArmSound, LoopMemberSound, NestSound, VariableSound, FunctionSound, AlwaysSound}
 
 -- A new entry of a container.
 pub data NestedEntry : Type 0 where
@@ -50,40 +55,74 @@ with_entry (MemberEnters m) (BranchRecord c) = BranchRecord c
 with_entry (MemberEnters m) (SwitchRecord c) = SwitchRecord c
 with_entry (MemberEnters m) (RepeatRecord l) = RepeatRecord (record l { members = l.members ++ m ∷ [] })
 
--- Where a new entry goes: to the end of a module's members, perhaps with a name that is taken from then on, or into a
--- container.
+-- Where a new entry goes: nowhere, to the end of the file's items, of a module's header, ports or members, of a
+-- function's inputs or locals, or into a container. A name is taken from then on. Or a block becomes the file's spare one.
 pub data Listing : Type 0 where
+  Nowhere : Listing
+  InFile : FileEntry → Listing
+  InHeader : VastModule → ParameterPortRecord → Listing
+  InPorts : VastModule → ModulePort → (name : List ℕ) → Listing
   InModule : VastModule → MemberEntry → (name : Option (List ℕ)) → Listing
+  InFunction : VastFunction → (local : Bool) → VariableRecord → Listing
   InNest : (place : ℕ) → NestedEntry → Listing
+  AsSpare : VastStatementBlock → Listing
 
 abbrev pub with_listed : MemberEntry → Option (List ℕ) → ModuleRecord → ModuleRecord
 with_listed entry None m = with_member entry m
 with_listed entry (Some name) m = with_named_member entry name m
 
 abbrev pub listed_modules : Listing → List ModuleRecord → List ModuleRecord
+listed_modules (InHeader owner p) modules = changed_at (module_index owner) (with_parameter_port p) modules
+listed_modules (InPorts owner port name) modules = changed_at (module_index owner) (with_port port name) modules
 listed_modules (InModule owner entry name) modules = changed_at (module_index owner) (with_listed entry name) modules
-listed_modules (InNest place entry) modules = modules
+listed_modules _ modules = modules
+
+abbrev pub listed_functions : Listing → List FunctionRecord → List FunctionRecord
+listed_functions (InFunction f local v) functions = changed_at (function_index f) (with_listed_variable local v) functions
+listed_functions _ functions = functions
 
 abbrev pub listed_nests : Listing → List NestRecord → List NestRecord
-listed_nests (InModule owner entry name) nests = nests
 listed_nests (InNest place entry) nests = changed_at place (with_entry entry) nests
+listed_nests _ nests = nests
+
+abbrev pub listed_items : Listing → List FileEntry → List FileEntry
+listed_items (InFile entry) items = items ++ entry ∷ []
+listed_items _ items = items
+
+abbrev pub listed_spare : Listing → Option VastStatementBlock → Option VastStatementBlock
+listed_spare (AsSpare block) spare = Some block
+listed_spare _ spare = spare
 
 abbrev pub with_listing : Listing → Bench → Bench
-with_listing l b = record b { modules = listed_modules l b.modules; nests = listed_nests l b.nests }
+with_listing l b =
+    record b {
+      modules = listed_modules l b.modules;
+      functions = listed_functions l b.functions;
+      nests = listed_nests l b.nests;
+      items = listed_items l b.items;
+      spare = listed_spare l b.spare;
+    }
 
 -- The list with the element at its end, if there is one.
 abbrev pub added : {A : Type 0} → List A → Option A → List A
 added xs None = xs
 added xs (Some x) = xs ++ x ∷ []
 
--- The nodes that come with a new entry, at most one of each kind, and then perhaps an empty block.
+-- What comes at once, at most one of each kind, and then perhaps an empty block; and whether an always block takes the
+-- spare one.
 pub record Fresh : Type 0 where
   pub term : Option Term
   pub assignment : Option Assignment
   pub container : Option NestRecord
   pub block : Bool
+  pub port : Option PortRecord
+  pub fresh_module : Option ModuleRecord
   pub function : Option FunctionRecord
+  pub definition : Option DefinitionRecord
+  pub artifact : Option ArtifactRecord
+  pub instance : Option InstanceRecord
   pub always_block : Option AlwaysRecord
+  pub takes_spare : Bool
 
 abbrev pub with_term : Nodes → Option Term → Nodes
 with_term nodes None = nodes
@@ -93,22 +132,43 @@ abbrev pub with_empty_block : Bool → List NestRecord → List NestRecord
 with_empty_block false nests = nests
 with_empty_block true nests = nests ++ BlockRecord [] ∷ []
 
+abbrev pub spare_left : Bool → Option VastStatementBlock → Option VastStatementBlock
+spare_left false spare = spare
+spare_left true spare = None
+
 abbrev pub with_fresh : Fresh → Bench → Bench
 with_fresh f b =
     record b {
       nodes = with_term b.nodes f.term;
       assignments = added b.assignments f.assignment;
       nests = with_empty_block f.block (added b.nests f.container);
+      ports = added b.ports f.port;
+      modules = added b.modules f.fresh_module;
       functions = added b.functions f.function;
+      definitions = added b.definitions f.definition;
+      artifacts = added b.artifacts f.artifact;
+      instances = added b.instances f.instance;
       always_blocks = added b.always_blocks f.always_block;
+      spare = spare_left f.takes_spare b.spare;
     }
+
+-- A module that comes declares nothing and holds nothing.
+pub record ComesEmpty (c : Bench) (m : ModuleRecord) : Type 0 where
+  pub sound : ModuleSound c m
+  pub names : NamesSound c.ports c.functions m
+  pub parts : held_by_module m ≡ []
 
 -- The new nodes of file b are made of what file c owns.
 pub record FreshSound (b c : Bench) (f : Fresh) : Type 0 where
   pub term : OptionHolds (λ t. ChildrenHold (OwnsExpr b) (OwnsType b) t × RootFits (term_root b.nodes t)) f.term
   pub assignment : OptionHolds (AssignmentSound c) f.assignment
   pub container : OptionHolds (NestSound c (length b.nests)) f.container
+  pub port : OptionHolds (PortSound c) f.port
+  pub fresh_module : OptionHolds (ComesEmpty c) f.fresh_module
   pub function : OptionHolds (FunctionSound c) f.function
+  pub definition : OptionHolds (DefinitionSound c) f.definition
+  pub artifact : OptionHolds (ArtifactSound c) f.artifact
+  pub instance : OptionHolds (InstanceSound c) f.instance
   pub always_block : OptionHolds (AlwaysSound c) f.always_block
 
 abbrev pub EntersSound : Bench → ℕ → NestedEntry → Type 0
@@ -118,14 +178,80 @@ EntersSound b i (ElseEnters x) = HoldsBlock b i x
 EntersSound b i (CaseArmEnters a) = CaseArmSound b i a
 EntersSound b i (MemberEnters m) = LoopMemberSound b i m
 
--- The new entry of file b is made of what file c owns.
+abbrev pub listed_name : Option (List ℕ) → List (List ℕ)
+listed_name None = []
+listed_name (Some name) = name ∷ []
+
+-- A port that is listed declares the name that it takes, and so does a member with a name; the name is free.
+pub record ListsPort (b c : Bench) (owner : VastModule) (port : ModulePort) (name : List ℕ) : Type 0 where
+  pub owner_there : OwnsModule b owner
+  pub port_there : OwnsPort c port
+  pub declares : names_by_port c.ports port ≡ name ∷ []
+  pub free : NameIsFree c owner name
+
+pub record ListsMember (b c : Bench) (owner : VastModule) (entry : MemberEntry) (name : Option (List ℕ)) : Type 0 where
+  pub owner_there : OwnsModule b owner
+  pub member : MemberSound c entry
+  pub declares : names_by_member c.functions entry ≡ listed_name name
+  pub free : OptionHolds (NameIsFree c owner) name
+
+pub record ListsVariable (b c : Bench) (f : VastFunction) (v : VariableRecord) : Type 0 where
+  pub function_there : OwnsFunction b f
+  pub variable : VariableSound c v
+  pub free : IsFreeInFunction c f v.name
+
+-- The new entry of file b is made of what file c owns, and declares the names that it takes; those are free.
 abbrev pub ListingSound : Bench → Bench → Listing → Type 0
-ListingSound b c (InModule owner entry name) = OwnsModule b owner × MemberSound c entry
+ListingSound b c Nowhere = Unit {0}
+ListingSound b c (InFile entry) = EntrySound c entry
+ListingSound b c (InHeader owner p) = OwnsModule b owner × ParameterPortSound c p
+ListingSound b c (InPorts owner port name) = ListsPort b c owner port name
+ListingSound b c (InModule owner entry name) = ListsMember b c owner entry name
+ListingSound b c (InFunction f local v) = ListsVariable b c f v
 ListingSound b c (InNest place entry) = (place < length b.nests) × EntersSound c place entry
+ListingSound b c (AsSpare block) = OwnsBlock c block
+
+-- The parts that a new entry places, those that stand in new nodes, and those that are made.
+
+abbrev pub held_by_entry : NestedEntry → List Part
+held_by_entry (StatementEnters s) = held_by_statement s
+held_by_entry (ElseIfEnters a) = held_by_else_if a
+held_by_entry (ElseEnters c) = held_by_block (Some c)
+held_by_entry (CaseArmEnters a) = held_by_case_arm a
+held_by_entry (MemberEnters m) = held_by_member m
+
+abbrev pub held_by_listing : Listing → List Part
+held_by_listing (InModule owner entry name) = held_by_member entry
+held_by_listing (InNest place entry) = held_by_entry entry
+held_by_listing (AsSpare block) = held_by_block (Some block)
+held_by_listing _ = []
+
+-- What is read off a node that may come.
+abbrev pub read_off : {X A : Type 0} → (X → List A) → Option X → List A
+read_off g None = []
+read_off g (Some x) = g x
+
+abbrev pub held_by_fresh : Fresh → List Part
+held_by_fresh f = read_off held_by_container f.container ++ (read_off held_by_function f.function ++ read_off held_by_always f.always_block)
+
+abbrev pub made_containers : ℕ → Option NestRecord → Bool → List Part
+made_containers n None false = []
+made_containers n None true = ContainerPart n ∷ []
+made_containers n (Some x) false = ContainerPart n ∷ []
+made_containers n (Some x) true = ContainerPart n ∷ ContainerPart (suc n) ∷ []
+
+abbrev pub made : Bench → Fresh → List Part
+made b f = read_off (λ x. FunctionPart (length b.functions) ∷ []) f.function ++ (read_off (λ x. AlwaysPart (length b.always_blocks) ∷ []) f.always_block ++ made_containers (length b.nests) f.container f.block)
+
+abbrev pub spare_taken : Bool → Option VastStatementBlock → List Part
+spare_taken false spare = []
+spare_taken true spare = held_by_block spare
 
 pub record GrowthSound (b : Bench) (l : Listing) (f : Fresh) : Type 0 where
   pub fresh : FreshSound b (with_fresh f b) f
   pub listing : ListingSound b (with_fresh f b) l
+  -- What is made is placed, each once, and so is the spare block that is taken.
+  pub placed : held_by_listing l ++ held_by_fresh f ≡ made b f ++ spare_taken f.takes_spare b.spare
 
 abbrev pub after_growth : Listing → Fresh → Bench → Bench
 after_growth l f b = with_listing l (with_fresh f b)
@@ -144,23 +270,28 @@ pub record HasRoom (a : Raw) (f : Fresh) : Type 0 where
   pub terms : count_of f.term ≤ a.term_room
   pub assignments : count_of f.assignment ≤ a.assignment_room
   pub nests : count_of f.container + block_count f.block ≤ a.nest_room
+  pub ports : count_of f.port ≤ a.port_room
+  pub modules : count_of f.fresh_module ≤ a.module_room
   pub functions : count_of f.function ≤ a.function_room
+  pub definitions : count_of f.definition ≤ a.definition_room
+  pub artifacts : count_of f.artifact ≤ a.artifact_room
+  pub instances : count_of f.instance ≤ a.instance_room
   pub always_blocks : count_of f.always_block ≤ a.always_block_room
 
 -- Words of the public calls.
 
 -- Nothing comes.
 abbrev pub no_fresh : Fresh
-no_fresh = record { term = None; assignment = None; container = None; block = false; function = None; always_block = None }
+no_fresh = record { term = None; assignment = None; container = None; block = false; port = None; fresh_module = None; function = None; definition = None; artifact = None; instance = None; always_block = None; takes_spare = false }
 
 abbrev pub fresh_assignment : Assignment → Fresh
-fresh_assignment a = record { term = None; assignment = Some a; container = None; block = false; function = None; always_block = None }
+fresh_assignment a = record no_fresh { assignment = Some a }
 
 abbrev pub fresh_block : Fresh
-fresh_block = record { term = None; assignment = None; container = None; block = true; function = None; always_block = None }
+fresh_block = record no_fresh { block = true }
 
 abbrev pub fresh_container : NestRecord → Bool → Fresh
-fresh_container n block = record { term = None; assignment = None; container = Some n; block = block; function = None; always_block = None }
+fresh_container n block = record no_fresh { container = Some n; block = block }
 
 abbrev pub next_block : Bench → VastStatementBlock
 next_block b = record { id = next_id b (length b.nests) }
@@ -177,6 +308,10 @@ with_nest n b = record b { nests = b.nests ++ n ∷ [] }
 -- An empty block, which nothing holds yet.
 abbrev pub with_block : Bench → Bench
 with_block b = with_nest (BlockRecord []) b
+
+-- An empty block, which is the file's spare one.
+abbrev pub with_spare_block : Bench → Bench
+with_spare_block b = record (with_block b) { spare = Some (next_block b) }
 
 -- A conditional and its first arm, an empty block.
 abbrev pub new_conditional : Bench → Expr → NestRecord

@@ -13,10 +13,14 @@ pub mod Artifacts
 pub mod Parameters
 pub mod Hoisting
 pub mod FileTree
+pub mod DeclaredNames
+pub mod Parents
 pub mod Sound
 pub mod Containers
 pub mod Arrivals
+pub mod GrowthLaws
 pub mod Loops
 pub mod Functions
 pub mod Events
 pub mod Unattached
+pub mod Scopes

@@ -18,7 +18,7 @@ use Rattle.vast_core.specs.Nests.{NestRecord, RepeatRecord, AlwaysRecord, Functi
 use Rattle.vast_core.specs.Bench.{Bench, type_of}
 use Rattle.vast_core.specs.Growth.{next_id, next_logic_ref, with_expr}
 use Rattle.vast_core.specs.Parameters.{defined_name}
-use Rattle.vast_core.specs.Containers.{MemberEnters, Fresh, next_block, with_nest, with_block, with_nest_entry}
+use Rattle.vast_core.specs.Containers.{MemberEnters, Fresh, no_fresh, next_block, with_nest, with_block, with_nest_entry}
 
 abbrev pub next_always : Bench → VastAlwaysBase
 next_always b = record { id = next_id b (length b.always_blocks) }
@@ -52,7 +52,7 @@ abbrev pub with_always : AlwaysKind → List Expr → Bench → Bench
 with_always kind events b = record (with_block b) { always_blocks = b.always_blocks ++ new_always b kind events ∷ [] }
 
 abbrev pub fresh_always : AlwaysRecord → Fresh
-fresh_always a = record { term = None; assignment = None; container = None; block = true; function = None; always_block = Some a }
+fresh_always a = record no_fresh { block = true; always_block = Some a }
 
 -- A loop without members, and its variable's name as an expression.
 abbrev pub new_loop : Bench → List ℕ → Expr → Expr → Option (List ℕ) → NestRecord
@@ -65,10 +65,10 @@ abbrev pub name_term : String Global → Option VastDataType → Term
 name_term name type = Expression (Name name type)
 
 abbrev pub fresh_name : String Global → Option VastDataType → Fresh
-fresh_name name type = record { term = Some (name_term name type); assignment = None; container = None; block = false; function = None; always_block = None }
+fresh_name name type = record no_fresh { term = Some (name_term name type) }
 
 abbrev pub fresh_loop : String Global → NestRecord → Fresh
-fresh_loop variable n = record { term = Some (name_term variable None); assignment = None; container = Some n; block = false; function = None; always_block = None }
+fresh_loop variable n = record no_fresh { term = Some (name_term variable None); container = Some n }
 
 -- A function without inputs and locals, its empty body, and its result's name as an expression.
 abbrev pub new_function : Bench → List ℕ → VastDataType → FunctionRecord
@@ -79,4 +79,4 @@ with_function name result_type b =
     with_expr (record (with_block b) { functions = b.functions ++ new_function b name result_type ∷ [] }) (NameTree name (Typed (type_of b result_type)))
 
 abbrev pub fresh_function : String Global → VastDataType → FunctionRecord → Fresh
-fresh_function name result_type f = record { term = Some (name_term name (Some result_type)); assignment = None; container = None; block = true; function = Some f; always_block = None }
+fresh_function name result_type f = record no_fresh { term = Some (name_term name (Some result_type)); block = true; function = Some f }

@@ -1,5 +1,6 @@
 -- What an Ast holds, node by node, and how many nodes fit before an arena has to grow.
-use Rattle.std.specs.Prelude.{ℕ, List}
+use Rattle.std.specs.Prelude.{ℕ, List, Option}
+use Rattle.vast_core.specs.declared.handle.VastStatementBlock.{VastStatementBlock}
 use Rattle.vast_core.specs.declared.kind.VastFileType.{VastFileType}
 use Rattle.vast_core.specs.declared.node.Term.{Term}
 use Rattle.vast_core.specs.declared.node.Nest.{Nest}
@@ -28,7 +29,13 @@ pub record Raw : Type 0 where
   pub instances : List Instance
   pub always_blocks : List AlwaysBlock
   pub items : List FileItem
+  pub spare : Option VastStatementBlock
   pub assignment_room : ℕ
   pub nest_room : ℕ
   pub function_room : ℕ
   pub always_block_room : ℕ
+  pub port_room : ℕ
+  pub module_room : ℕ
+  pub definition_room : ℕ
+  pub artifact_room : ℕ
+  pub instance_room : ℕ

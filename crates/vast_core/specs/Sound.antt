@@ -13,6 +13,8 @@ use Rattle.vast_core.specs.Nodes.{no_nodes, TermsSound, OptionHolds}
 use Rattle.vast_core.specs.Records.{PortRecord, ParameterPortRecord, ModuleRecord, FormEntry, PlainForm, IntForm, DefinedForm, MemberEntry, DeclarationEntry, AssignmentEntry, ParameterEntry, BlankEntry, CommentEntry, InlineEntry, MacroEntry, InstanceEntry, FunctionEntry, AlwaysEntry, ConditionalEntry, LoopEntry, FileEntry, ModuleEntry, IncludeEntry, FileCommentEntry, FileBlankEntry, DefinitionRecord, ArtifactRecord, BlankLineRecord, CommentRecord, InlineRecord, MacroRecord, ConnectionRecord, InstanceRecord, IsFree}
 use Rattle.vast_core.specs.Raw.{Raw}
 use Rattle.vast_core.specs.Bench.{Bench, OwnsExpr, OwnsType, OwnsLogicRef, OwnsPort, OwnsContinuous, OwnsModule, OwnsDef, OwnsMacroRef, OwnsComment, OwnsInline, OwnsMacroStatement, OwnsInstantiation, OwnsFunction, OwnsAlways, OwnsStatement, OwnsBlock, OwnsConditional, OwnsCase, OwnsLoop, tree_of}
+use Rattle.vast_core.specs.DeclaredNames.{NamesSound}
+use Rattle.vast_core.specs.Parents.{HasOneParent}
 use Rattle.vast_core.specs.View.{bench}
 
 abbrev pub Each : {A : Type 0} (P : A → Type 0) → List A → Type 0
@@ -189,6 +191,16 @@ pub record RecordsSound (b : Bench) : Type 0 where
   pub functions : Each (FunctionSound b) b.functions
   pub always_blocks : Each (AlwaysSound b) b.always_blocks
 
+-- The names that a module declares are distinct, and those are taken in it.
+abbrev pub NamesAreSound : Bench → Type 0
+NamesAreSound b = Each (NamesSound b.ports b.functions) b.modules
+
+pub record FileSound (b : Bench) : Type 0 where
+  pub records : RecordsSound b
+  pub spare : OptionHolds (OwnsBlock b) b.spare
+  pub names : NamesAreSound b
+  pub parents : HasOneParent b
+
 pub record IsSound (a : Raw) : Type 0 where
   pub terms : TermsSound (no_nodes a.id) a.terms
-  pub records : RecordsSound (bench a)
+  pub file : FileSound (bench a)

@@ -21,6 +21,7 @@ bench a =
       instances = map instance_record a.instances;
       always_blocks = map always_record a.always_blocks;
       items = map file_entry a.items;
+      spare = a.spare;
     }
 
 -- How many expressions and types can be made before memory is needed.

@@ -4,6 +4,7 @@ ghost use Rattle.std.specs.Prelude.{◌≡◌};
 ghost use Rattle.vast_core.specs.Bench.{start};
 ghost use Rattle.vast_core.specs.View.{bench};
 
+use crate::handle::VastStatementBlock;
 use crate::kind::VastFileType;
 use crate::node::{
     AlwaysBlock, Artifact, Assignment, Definition, FileItem, Function, Instance, Module, Nest,
@@ -24,6 +25,7 @@ mod functions;
 mod growth;
 mod hoisting;
 mod inspect;
+mod laws;
 mod localparams;
 mod loops;
 mod members;
@@ -33,6 +35,7 @@ pub(crate) mod owns;
 mod parameters;
 mod places;
 mod ports;
+mod scoped;
 mod terms;
 mod types;
 mod unattached;
@@ -59,6 +62,8 @@ pub struct Ast {
     instances: Vec<Instance>,
     always_blocks: Vec<AlwaysBlock>,
     items: Vec<FileItem>,
+    /// A block that nothing holds yet, for an always block to take.
+    spare: Option<VastStatementBlock>,
 }
 
 impl Model for Ast {
@@ -69,9 +74,9 @@ impl Model for Ast {
     ghost use Rattle.std.specs.Prelude.{◌-◌, vec_capacity, vec_len};
     ghost use Rattle.vast_core.specs.Sound.{IsSound};
 
-    ghost view = { λ a. record { file_type = a.file_type; id = a.id; terms = a.terms.items; term_room = vec_capacity a.terms - vec_len a.terms; nests = a.nests.items; ports = a.ports.items; assignments = a.assignments.items; modules = a.modules.items; functions = a.functions.items; definitions = a.definitions.items; artifacts = a.artifacts.items; instances = a.instances.items; always_blocks = a.always_blocks.items; items = a.items.items; assignment_room = vec_capacity a.assignments - vec_len a.assignments; nest_room = vec_capacity a.nests - vec_len a.nests; function_room = vec_capacity a.functions - vec_len a.functions; always_block_room = vec_capacity a.always_blocks - vec_len a.always_blocks } };
+    ghost view = { λ a. record { file_type = a.file_type; id = a.id; terms = a.terms.items; term_room = vec_capacity a.terms - vec_len a.terms; nests = a.nests.items; ports = a.ports.items; assignments = a.assignments.items; modules = a.modules.items; functions = a.functions.items; definitions = a.definitions.items; artifacts = a.artifacts.items; instances = a.instances.items; always_blocks = a.always_blocks.items; items = a.items.items; spare = a.spare; assignment_room = vec_capacity a.assignments - vec_len a.assignments; nest_room = vec_capacity a.nests - vec_len a.nests; function_room = vec_capacity a.functions - vec_len a.functions; always_block_room = vec_capacity a.always_blocks - vec_len a.always_blocks; port_room = vec_capacity a.ports - vec_len a.ports; module_room = vec_capacity a.modules - vec_len a.modules; definition_room = vec_capacity a.definitions - vec_len a.definitions; artifact_room = vec_capacity a.artifacts - vec_len a.artifacts; instance_room = vec_capacity a.instances - vec_len a.instances } };
 
-    ghost invariant = { λ a. IsSound record { file_type = a.file_type; id = a.id; terms = a.terms.items; term_room = vec_capacity a.terms - vec_len a.terms; nests = a.nests.items; ports = a.ports.items; assignments = a.assignments.items; modules = a.modules.items; functions = a.functions.items; definitions = a.definitions.items; artifacts = a.artifacts.items; instances = a.instances.items; always_blocks = a.always_blocks.items; items = a.items.items; assignment_room = vec_capacity a.assignments - vec_len a.assignments; nest_room = vec_capacity a.nests - vec_len a.nests; function_room = vec_capacity a.functions - vec_len a.functions; always_block_room = vec_capacity a.always_blocks - vec_len a.always_blocks } };
+    ghost invariant = { λ a. IsSound record { file_type = a.file_type; id = a.id; terms = a.terms.items; term_room = vec_capacity a.terms - vec_len a.terms; nests = a.nests.items; ports = a.ports.items; assignments = a.assignments.items; modules = a.modules.items; functions = a.functions.items; definitions = a.definitions.items; artifacts = a.artifacts.items; instances = a.instances.items; always_blocks = a.always_blocks.items; items = a.items.items; spare = a.spare; assignment_room = vec_capacity a.assignments - vec_len a.assignments; nest_room = vec_capacity a.nests - vec_len a.nests; function_room = vec_capacity a.functions - vec_len a.functions; always_block_room = vec_capacity a.always_blocks - vec_len a.always_blocks; port_room = vec_capacity a.ports - vec_len a.ports; module_room = vec_capacity a.modules - vec_len a.modules; definition_room = vec_capacity a.definitions - vec_len a.definitions; artifact_room = vec_capacity a.artifacts - vec_len a.artifacts; instance_room = vec_capacity a.instances - vec_len a.instances } };
 }
 
 impl Ast {
@@ -94,6 +99,7 @@ impl Ast {
             instances: Vec::new(alloc),
             always_blocks: Vec::new(alloc),
             items: Vec::new(alloc),
+            spare: None,
         }
     }
 

@@ -43,16 +43,13 @@ impl Ast {
         self.grow(
             Place::Module(owner, Member::Always(always_block), None),
             Arrivals {
-                term: None,
-                assignment: None,
-                container: None,
                 block: true,
-                function: None,
                 always_block: Some(AlwaysBlock {
                     kind,
                     events,
                     block,
                 }),
+                ..Arrivals::none()
             },
         )?;
         Ok(always_block)
@@ -83,16 +80,13 @@ impl Ast {
         self.grow(
             Place::Nest(owner.id.index, Entry::Member(Member::Always(always_block))),
             Arrivals {
-                term: None,
-                assignment: None,
-                container: None,
                 block: true,
-                function: None,
                 always_block: Some(AlwaysBlock {
                     kind,
                     events,
                     block,
                 }),
+                ..Arrivals::none()
             },
         )?;
         Ok(always_block)

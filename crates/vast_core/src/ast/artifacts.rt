@@ -10,6 +10,7 @@ ghost use Rattle.vast_core.specs.Artifacts.{next_def, with_definition, next_arti
 ghost use Rattle.vast_core.specs.View.{bench};
 
 use crate::ast::Ast;
+use crate::ast::growth::{Arrivals, Place};
 use crate::handle::{
     BlankLine, Comment, Def, Id, InlineVerilogStatement, Instantiation, MacroRef, MacroStatement,
     VastDataType,
@@ -23,6 +24,7 @@ impl Ast {
     ///
     /// # Errors
     /// `AllocError` where a growth was refused; nothing changed.
+    #[tactic(auto, using(crate::proofs::EntersRecords::enters_records))]
     pub fn push_def(
         &mut self,
         name: &str,
@@ -33,26 +35,35 @@ impl Ast {
         ensures { Builds (bench self.old) (bench self.new) result (next_def (bench self.old)) (with_definition (record { name = name.now; kind = kind; data_type = data_type }) (bench self.old)) }
     {
         let name = String::from_str(self.alloc, name)?;
-        let file_id = self.id;
-        let index = self.definitions.len();
-        self.definitions.push(Definition {
-            name,
-            kind,
-            data_type,
-        })?;
-        Ok(Def {
-            id: Id { file_id, index },
-        })
+        let id = self.next_definition();
+        self.grow(
+            Place::Nowhere,
+            Arrivals {
+                definition: Some(Definition {
+                    name,
+                    kind,
+                    data_type,
+                }),
+                ..Arrivals::none()
+            },
+        )?;
+        Ok(Def { id })
     }
 
+    #[tactic(auto, using(crate::proofs::EntersRecords::enters_records))]
     fn push_artifact(&mut self, artifact: Artifact) -> Result<Id, AllocError>
         requires { ArtifactSound (bench self.old) (artifact_record artifact) }
         ensures { Builds (bench self.old) (bench self.new) result (next_artifact (bench self.old)) (with_artifact (artifact_record artifact) (bench self.old)) }
     {
-        let file_id = self.id;
-        let index = self.artifacts.len();
-        self.artifacts.push(artifact)?;
-        Ok(Id { file_id, index })
+        let id = self.next_artifact();
+        self.grow(
+            Place::Nowhere,
+            Arrivals {
+                artifact: Some(artifact),
+                ..Arrivals::none()
+            },
+        )?;
+        Ok(id)
     }
 
     /// Adds a blank line, which no list holds yet.
@@ -110,6 +121,7 @@ impl Ast {
     ///
     /// # Errors
     /// `AllocError` where a growth was refused; nothing changed.
+    #[tactic(auto, using(crate::proofs::EntersRecords::enters_records))]
     pub fn push_instantiation(
         &mut self,
         module_name: &str,
@@ -123,17 +135,20 @@ impl Ast {
     {
         let module_name = String::from_str(self.alloc, module_name)?;
         let instance_name = String::from_str(self.alloc, instance_name)?;
-        let file_id = self.id;
-        let index = self.instances.len();
-        self.instances.push(Instance {
-            module_name,
-            instance_name,
-            parameters,
-            connections,
-        })?;
-        Ok(Instantiation {
-            id: Id { file_id, index },
-        })
+        let id = self.next_instance();
+        self.grow(
+            Place::Nowhere,
+            Arrivals {
+                instance: Some(Instance {
+                    module_name,
+                    instance_name,
+                    parameters,
+                    connections,
+                }),
+                ..Arrivals::none()
+            },
+        )?;
+        Ok(Instantiation { id })
     }
 
     /// A definition. Its type is the file's.

@@ -8,7 +8,8 @@ ghost use Rattle.vast_core.specs.Artifacts.{next_statement};
 ghost use Rattle.vast_core.specs.View.{bench};
 
 use crate::ast::Ast;
-use crate::handle::{ContinuousAssignment, Expr, Id, VastStatement};
+use crate::ast::growth::{Arrivals, Place};
+use crate::handle::{ContinuousAssignment, Expr, VastStatement};
 use crate::node::Assignment;
 use std::alloc::AllocError;
 
@@ -17,6 +18,7 @@ impl Ast {
     ///
     /// # Errors
     /// `AllocError` where a growth was refused; nothing changed.
+    #[tactic(auto, using(crate::proofs::EntersRecords::enters_records))]
     pub fn push_continuous(
         &mut self,
         lhs: Expr,
@@ -26,24 +28,26 @@ impl Ast {
         requires rhs { OwnsExpr (bench self.old) rhs }
         ensures { Builds (bench self.old) (bench self.new) result (next_continuous (bench self.old)) (with_assignment (record { lhs = lhs; rhs = rhs; nonblocking = false }) (bench self.old)) }
     {
-        let index = self.assignments.len();
-        self.assignments.push(Assignment {
-            lhs,
-            rhs,
-            nonblocking: false,
-        })?;
-        Ok(ContinuousAssignment {
-            id: Id {
-                file_id: self.id,
-                index,
+        let id = self.next_assignment();
+        self.grow(
+            Place::Nowhere,
+            Arrivals {
+                assignment: Some(Assignment {
+                    lhs,
+                    rhs,
+                    nonblocking: false,
+                }),
+                ..Arrivals::none()
             },
-        })
+        )?;
+        Ok(ContinuousAssignment { id })
     }
 
     /// Adds an assignment of a procedural block, `lhs <= rhs` where it is nonblocking.
     ///
     /// # Errors
     /// `AllocError` where a growth was refused; nothing changed.
+    #[tactic(auto, using(crate::proofs::EntersRecords::enters_records))]
     pub fn push_assignment(
         &mut self,
         lhs: Expr,
@@ -54,18 +58,19 @@ impl Ast {
         requires rhs { OwnsExpr (bench self.old) rhs }
         ensures { Builds (bench self.old) (bench self.new) result (next_statement (bench self.old)) (with_assignment (record { lhs = lhs; rhs = rhs; nonblocking = nonblocking }) (bench self.old)) }
     {
-        let index = self.assignments.len();
-        self.assignments.push(Assignment {
-            lhs,
-            rhs,
-            nonblocking,
-        })?;
-        Ok(VastStatement {
-            id: Id {
-                file_id: self.id,
-                index,
+        let id = self.next_assignment();
+        self.grow(
+            Place::Nowhere,
+            Arrivals {
+                assignment: Some(Assignment {
+                    lhs,
+                    rhs,
+                    nonblocking,
+                }),
+                ..Arrivals::none()
             },
-        })
+        )?;
+        Ok(VastStatement { id })
     }
 
     /// The sides of an assignment.

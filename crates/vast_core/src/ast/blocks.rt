@@ -1,8 +1,9 @@
 //! Blocks: their statements, and calls that append to them.
 
-ghost use Rattle.std.specs.Prelude.{◌≡◌, ◌<◌, ◌^◌, false, All, Some, map, slice_get};
+ghost use Rattle.std.specs.Prelude.{[], ◌≡◌, ◌<◌, ◌^◌, false, All, Some, map, slice_get};
 ghost use Rattle.vast_core.specs.Handles.{block_index};
 ghost use Rattle.vast_core.specs.Nests.{statement_entry, BlockRecord, AssignStatement, ContinuousStatement, BlankStatement, CommentStatement, InlineStatement};
+ghost use Rattle.vast_core.specs.Parents.{held_by_statement};
 ghost use Rattle.vast_core.specs.Bench.{OwnsBlock, OwnsExpr};
 ghost use Rattle.vast_core.specs.Sound.{StatementSound};
 ghost use Rattle.vast_core.specs.FileTree.{block_tree, statements_tree};
@@ -26,18 +27,12 @@ impl Ast {
     ) -> Result<(), AllocError>
         requires owner { OwnsBlock (bench self.old) owner }
         requires statement { StatementSound (bench self.old) (block_index owner) (statement_entry statement) }
+        requires no_part { held_by_statement (statement_entry statement) ≡ [] }
         ensures { Builds (bench self.old) (bench self.new) result tt (with_statement owner (statement_entry statement) (bench self.old)) }
     {
         self.grow(
             Place::Nest(owner.id.index, Entry::Statement(statement)),
-            Arrivals {
-                term: None,
-                assignment: None,
-                container: None,
-                block: false,
-                function: None,
-                always_block: None,
-            },
+            Arrivals::none(),
         )
     }
 
@@ -110,16 +105,12 @@ impl Ast {
                 Entry::Statement(Statement::Assignment(statement)),
             ),
             Arrivals {
-                term: None,
                 assignment: Some(Assignment {
                     lhs,
                     rhs,
                     nonblocking,
                 }),
-                container: None,
-                block: false,
-                function: None,
-                always_block: None,
+                ..Arrivals::none()
             },
         )?;
         Ok(statement)
@@ -150,16 +141,12 @@ impl Ast {
                 Entry::Statement(Statement::Continuous(statement)),
             ),
             Arrivals {
-                term: None,
                 assignment: Some(Assignment {
                     lhs,
                     rhs,
                     nonblocking: false,
                 }),
-                container: None,
-                block: false,
-                function: None,
-                always_block: None,
+                ..Arrivals::none()
             },
         )?;
         Ok(statement)

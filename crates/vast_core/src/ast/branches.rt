@@ -73,12 +73,9 @@ impl Ast {
                 Entry::Statement(Statement::Conditional(conditional)),
             ),
             Arrivals {
-                term: None,
-                assignment: None,
                 container: Some(Nest::Conditional(node)),
                 block: true,
-                function: None,
-                always_block: None,
+                ..Arrivals::none()
             },
         )?;
         Ok(conditional)
@@ -111,12 +108,8 @@ impl Ast {
         self.grow(
             Place::Nest(owner.id.index, Entry::Statement(Statement::Case(case))),
             Arrivals {
-                term: None,
-                assignment: None,
                 container: Some(Nest::Case(node)),
-                block: false,
-                function: None,
-                always_block: None,
+                ..Arrivals::none()
             },
         )?;
         Ok(case)
@@ -130,12 +123,8 @@ impl Ast {
         self.grow(
             Place::Nest(place, entry),
             Arrivals {
-                term: None,
-                assignment: None,
-                container: None,
                 block: true,
-                function: None,
-                always_block: None,
+                ..Arrivals::none()
             },
         )
     }

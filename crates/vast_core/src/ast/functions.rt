@@ -4,7 +4,7 @@ ghost use Rattle.std.specs.Prelude.{◌≡◌, Some, slice_get};
 ghost use Rattle.vast_core.specs.Handles.{function_index};
 ghost use Rattle.vast_core.specs.Records.{FunctionEntry};
 ghost use Rattle.vast_core.specs.Nests.{function_record};
-ghost use Rattle.vast_core.specs.Bench.{OwnsModule, OwnsType, OwnsFunction};
+ghost use Rattle.vast_core.specs.Bench.{NameIsFree, OwnsModule, OwnsType, OwnsFunction};
 ghost use Rattle.vast_core.specs.Sound.{FunctionSound};
 ghost use Rattle.vast_core.specs.Growth.{Builds, with_named_member};
 ghost use Rattle.vast_core.specs.Loops.{next_function, with_function};
@@ -32,6 +32,7 @@ impl Ast {
     ) -> Result<VastFunction, AllocError>
         requires owner { OwnsModule (bench self.old) owner }
         requires result_type { OwnsType (bench self.old) result_type }
+        requires free { NameIsFree (bench self.old) owner name.now }
         ensures { Builds (bench self.old) (bench self.new) result (next_function (bench self.old)) (with_named_member owner (FunctionEntry (next_function (bench self.old))) name.now (with_function name.now result_type (bench self.old))) }
     {
         let taken = String::from_str(self.alloc, name)?;
@@ -60,11 +61,9 @@ impl Ast {
             Place::Module(owner, Member::Function(function), Some(taken)),
             Arrivals {
                 term: Some(Term::Expression(ExprNode::Name(variable, Some(result_type)))),
-                assignment: None,
-                container: None,
                 block: true,
                 function: Some(node),
-                always_block: None,
+                ..Arrivals::none()
             },
         )?;
         Ok(function)

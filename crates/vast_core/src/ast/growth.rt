@@ -1,17 +1,20 @@
-//! A new entry of a list, together with the nodes that it names.
+//! The one growth of the arenas: nodes that come, and the entry of a list that names them.
 
 ghost use Rattle.std.specs.Prelude.{◌≡◌, ◌+◌, ◌-◌, ◌≤◌, ◌<◌, OnOk, OnErr, length, map, string_bytes, vec_capacity, vec_len};
-ghost use Rattle.vast_core.specs.Records.{module_record, member_entry, changed_at};
-ghost use Rattle.vast_core.specs.Nests.{nest_record, statement_entry};
-ghost use Rattle.vast_core.specs.Containers.{StatementEnters, ElseIfEnters, ElseEnters, CaseArmEnters, MemberEnters, with_entry, with_listed, listed_modules, listed_nests, added, with_empty_block, count_of, block_count, GrowthSound, HasRoom, after_growth};
-ghost use Rattle.vast_core.specs.Arrivals.{entry_of, name_of, listing_of, fresh_of, ListingThere};
+ghost use Rattle.vast_core.specs.Records.{module_record, member_entry, file_entry, parameter_port_record, changed_at, with_port, with_parameter_port, with_member, with_named_member};
+ghost use Rattle.vast_core.specs.Nests.{nest_record, statement_entry, function_record, variable_record};
+ghost use Rattle.vast_core.specs.Functions.{with_listed_variable};
+ghost use Rattle.vast_core.specs.Containers.{StatementEnters, ElseIfEnters, ElseEnters, CaseArmEnters, MemberEnters, with_entry, with_listed, listed_modules, listed_nests, listed_functions, listed_items, listed_spare, spare_left, added, with_empty_block, count_of, block_count, GrowthSound, HasRoom, after_growth};
+ghost use Rattle.vast_core.specs.Arrivals.{entry_of, name_of, listing_of, fresh_of, no_arrivals, ListingThere};
+ghost use Rattle.vast_core.specs.Scopes.{listing_in};
 ghost use Rattle.vast_core.specs.Growth.{Builds};
 ghost use Rattle.vast_core.specs.View.{bench};
 
 use crate::ast::Ast;
-use crate::handle::{VastModule, VastStatementBlock};
+use crate::handle::{GenerateLoop, ModulePort, VastFunction, VastModule, VastStatementBlock};
 use crate::node::{
-    AlwaysBlock, Assignment, CaseArm, ElseIf, Function, Member, Module, Nest, Statement, Term,
+    AlwaysBlock, Artifact, Assignment, CaseArm, Definition, ElseIf, FileItem, Function,
+    FunctionVariable, Instance, Member, Module, Nest, ParameterPort, Port, Statement, Term,
 };
 use std::alloc::{AllocError, Global};
 
@@ -25,23 +28,79 @@ pub(crate) enum Entry {
     Member(Member),
 }
 
-/// Where a new entry goes: to the end of a module's members, perhaps with a name that is taken from then on, or into
-/// the container of this index.
-#[derive(Drop)]
-pub(crate) enum Place {
-    Module(VastModule, Member, Option<String>),
-    Nest(usize, Entry),
+/// What has members: a module or a generate loop.
+#[derive(Clone, Copy, Debug, PartialEq, Eq)]
+pub enum Scope {
+    Module(VastModule),
+    Loop(GenerateLoop),
 }
 
-/// The nodes that come with a new entry, at most one of each kind, and then perhaps an empty block.
+/// The list that gains an entry, with the entry; a name is taken from then on.
+#[derive(Drop)]
+pub(crate) enum Place {
+    Nowhere,
+    File(FileItem),
+    Header(VastModule, ParameterPort),
+    Ports(VastModule, ModulePort, String),
+    Module(VastModule, Member, Option<String>),
+    /// Whether the variable is a local; else it is an input.
+    Function(VastFunction, bool, FunctionVariable),
+    /// Into the container of this index.
+    Nest(usize, Entry),
+    /// The block is the file's spare one from then on.
+    Spare(VastStatementBlock),
+}
+
+/// What comes into the arenas at once, at most one of each kind, and then perhaps an empty block.
 #[derive(Drop)]
 pub(crate) struct Arrivals {
     pub(crate) term: Option<Term>,
     pub(crate) assignment: Option<Assignment>,
     pub(crate) container: Option<Nest>,
     pub(crate) block: bool,
+    pub(crate) port: Option<Port>,
+    pub(crate) new_module: Option<Module>,
     pub(crate) function: Option<Function>,
+    pub(crate) definition: Option<Definition>,
+    pub(crate) artifact: Option<Artifact>,
+    pub(crate) instance: Option<Instance>,
     pub(crate) always_block: Option<AlwaysBlock>,
+    /// Whether an always block that comes is over the spare block.
+    pub(crate) takes_spare: bool,
+}
+
+impl Place {
+    /// At the end of the scope's members, without a name.
+    pub(crate) fn in_scope(scope: Scope, member: Member) -> Place
+        ensures { listing_of result ≡ listing_in scope (member_entry member) }
+    {
+        match scope {
+            Scope::Module(owner) => Place::Module(owner, member, None),
+            Scope::Loop(owner) => Place::Nest(owner.id.index, Entry::Member(member)),
+        }
+    }
+}
+
+impl Arrivals {
+    /// Nothing comes.
+    pub(crate) fn none() -> Arrivals
+        ensures { result ≡ no_arrivals }
+    {
+        Arrivals {
+            term: None,
+            assignment: None,
+            container: None,
+            block: false,
+            port: None,
+            new_module: None,
+            function: None,
+            definition: None,
+            artifact: None,
+            instance: None,
+            always_block: None,
+            takes_spare: false,
+        }
+    }
 }
 
 impl Nest {
@@ -112,6 +171,44 @@ impl Nest {
 }
 
 impl Module {
+    fn enter_header(&mut self, parameter: ParameterPort) -> Result<(), AllocError>
+        ensures ok { OnOk result (module_record self.new ≡ with_parameter_port (parameter_port_record parameter) (module_record self.old)) }
+        ensures err { OnErr result (module_record self.new ≡ module_record self.old) }
+    {
+        self.parameters.push(parameter)?;
+        Ok(())
+    }
+
+    /// Lists the port and takes its name, or changes nothing.
+    fn enter_port(&mut self, port: ModulePort, name: String) -> Result<(), AllocError>
+        ensures ok { OnOk result (module_record self.new ≡ with_port port (string_bytes name) (module_record self.old)) }
+        ensures err { OnErr result (module_record self.new ≡ module_record self.old) }
+    {
+        self.ports.reserve(1)?;
+        self.names.insert(name)?;
+        self.ports.push(port).unwrap();
+        Ok(())
+    }
+
+    fn push_member(&mut self, member: Member) -> Result<(), AllocError>
+        ensures ok { OnOk result (module_record self.new ≡ with_member (member_entry member) (module_record self.old)) }
+        ensures err { OnErr result (module_record self.new ≡ module_record self.old) }
+    {
+        self.members.push(member)?;
+        Ok(())
+    }
+
+    /// Appends the member and takes the name, or changes nothing.
+    fn enter_member(&mut self, member: Member, name: String) -> Result<(), AllocError>
+        ensures ok { OnOk result (module_record self.new ≡ with_named_member (member_entry member) (string_bytes name) (module_record self.old)) }
+        ensures err { OnErr result (module_record self.new ≡ module_record self.old) }
+    {
+        self.members.reserve(1)?;
+        self.names.insert(name)?;
+        self.members.push(member).unwrap();
+        Ok(())
+    }
+
     /// Adds the member, and takes the name where there is one, or changes nothing.
     fn enter(&mut self, member: Member, name: Option<String>) -> Result<(), AllocError>
         ensures ok { OnOk result (module_record self.new ≡ with_listed (member_entry member) (name_of name) (module_record self.old)) }
@@ -134,6 +231,35 @@ fn enter_nest(nests: &mut Vec<Nest>, place: usize, entry: Entry) -> Result<(), A
     target.enter(entry)
 }
 
+fn enter_header(
+    modules: &mut Vec<Module>,
+    owner: VastModule,
+    parameter: ParameterPort,
+) -> Result<(), AllocError>
+    requires { owner.id.index < length modules.old.items }
+    ensures ok { OnOk result (map module_record modules.new.items ≡ changed_at owner.id.index (with_parameter_port (parameter_port_record parameter)) (map module_record modules.old.items)) }
+    ensures err { OnErr result (map module_record modules.new.items ≡ map module_record modules.old.items) }
+    ensures room { vec_capacity modules.new - vec_len modules.new ≡ vec_capacity modules.old - vec_len modules.old }
+{
+    let target = &mut modules[owner.id.index];
+    target.enter_header(parameter)
+}
+
+fn enter_port(
+    modules: &mut Vec<Module>,
+    owner: VastModule,
+    port: ModulePort,
+    name: String,
+) -> Result<(), AllocError>
+    requires { owner.id.index < length modules.old.items }
+    ensures ok { OnOk result (map module_record modules.new.items ≡ changed_at owner.id.index (with_port port (string_bytes name)) (map module_record modules.old.items)) }
+    ensures err { OnErr result (map module_record modules.new.items ≡ map module_record modules.old.items) }
+    ensures room { vec_capacity modules.new - vec_len modules.new ≡ vec_capacity modules.old - vec_len modules.old }
+{
+    let target = &mut modules[owner.id.index];
+    target.enter_port(port, name)
+}
+
 fn enter_module(
     modules: &mut Vec<Module>,
     owner: VastModule,
@@ -143,23 +269,71 @@ fn enter_module(
     requires { owner.id.index < length modules.old.items }
     ensures ok { OnOk result (map module_record modules.new.items ≡ changed_at owner.id.index (with_listed (member_entry member) (name_of name)) (map module_record modules.old.items)) }
     ensures err { OnErr result (map module_record modules.new.items ≡ map module_record modules.old.items) }
+    ensures room { vec_capacity modules.new - vec_len modules.new ≡ vec_capacity modules.old - vec_len modules.old }
 {
     let target = &mut modules[owner.id.index];
     target.enter(member, name)
 }
 
+fn enter_function(
+    functions: &mut Vec<Function>,
+    owner: VastFunction,
+    local: bool,
+    variable: FunctionVariable,
+    alloc: Global,
+) -> Result<(), AllocError>
+    requires { owner.id.index < length functions.old.items }
+    ensures ok { OnOk result (map function_record functions.new.items ≡ changed_at owner.id.index (with_listed_variable local (variable_record variable)) (map function_record functions.old.items)) }
+    ensures err { OnErr result (map function_record functions.new.items ≡ map function_record functions.old.items) }
+    ensures room { vec_capacity functions.new - vec_len functions.new ≡ vec_capacity functions.old - vec_len functions.old }
+{
+    let name = String::from_str(alloc, &variable.name)?;
+    let target = &mut functions[owner.id.index];
+    target.enter_variable(local, variable, name)
+}
+
 /// Adds the entry where it goes, or changes nothing.
-fn enter(modules: &mut Vec<Module>, nests: &mut Vec<Nest>, place: Place) -> Result<(), AllocError>
-    requires { ListingThere (length modules.old.items) (length nests.old.items) (listing_of place) }
+fn enter(
+    modules: &mut Vec<Module>,
+    nests: &mut Vec<Nest>,
+    functions: &mut Vec<Function>,
+    items: &mut Vec<FileItem>,
+    spare: &mut Option<VastStatementBlock>,
+    place: Place,
+    alloc: Global,
+) -> Result<(), AllocError>
+    requires { ListingThere (length modules.old.items) (length nests.old.items) (length functions.old.items) (listing_of place) }
     ensures modules { OnOk result (map module_record modules.new.items ≡ listed_modules (listing_of place) (map module_record modules.old.items)) }
     ensures nests { OnOk result (map nest_record nests.new.items ≡ listed_nests (listing_of place) (map nest_record nests.old.items)) }
+    ensures functions { OnOk result (map function_record functions.new.items ≡ listed_functions (listing_of place) (map function_record functions.old.items)) }
+    ensures items { OnOk result (map file_entry items.new.items ≡ listed_items (listing_of place) (map file_entry items.old.items)) }
+    ensures spare { OnOk result (spare.new ≡ listed_spare (listing_of place) spare.old) }
     ensures err_modules { OnErr result (map module_record modules.new.items ≡ map module_record modules.old.items) }
     ensures err_nests { OnErr result (map nest_record nests.new.items ≡ map nest_record nests.old.items) }
-    ensures room { vec_capacity nests.new - vec_len nests.new ≡ vec_capacity nests.old - vec_len nests.old }
+    ensures err_functions { OnErr result (map function_record functions.new.items ≡ map function_record functions.old.items) }
+    ensures err_items { OnErr result (items.new.items ≡ items.old.items) }
+    ensures err_spare { OnErr result (spare.new ≡ spare.old) }
+    ensures modules_room { vec_capacity modules.new - vec_len modules.new ≡ vec_capacity modules.old - vec_len modules.old }
+    ensures nests_room { vec_capacity nests.new - vec_len nests.new ≡ vec_capacity nests.old - vec_len nests.old }
+    ensures functions_room { vec_capacity functions.new - vec_len functions.new ≡ vec_capacity functions.old - vec_len functions.old }
 {
     match place {
+        Place::Nowhere => Ok(()),
+        Place::File(item) => {
+            items.push(item)?;
+            Ok(())
+        }
+        Place::Header(owner, parameter) => enter_header(modules, owner, parameter),
+        Place::Ports(owner, port, name) => enter_port(modules, owner, port, name),
         Place::Module(owner, member, name) => enter_module(modules, owner, member, name),
+        Place::Function(owner, local, variable) => {
+            enter_function(functions, owner, local, variable, alloc)
+        }
         Place::Nest(index, entry) => enter_nest(nests, index, entry),
+        Place::Spare(block) => {
+            *spare = Some(block);
+            Ok(())
+        }
     }
 }
 
@@ -189,6 +363,13 @@ fn settle_block(nests: &mut Vec<Nest>, block: bool, alloc: Global)
     }
 }
 
+/// The spare block, unless it is taken.
+fn spare_left(taken: bool, spare: Option<VastStatementBlock>) -> Option<VastStatementBlock>
+    ensures { result ≡ spare_left taken spare }
+{
+    if taken { None } else { spare }
+}
+
 impl Ast {
     /// Makes room for the nodes.
     #[tactic(auto, unfolding(crate::specs::View::bench))]
@@ -200,7 +381,12 @@ impl Ast {
         self.assignments.reserve(count(&arrivals.assignment))?;
         let block = if arrivals.block { 1 } else { 0 };
         self.nests.reserve(count(&arrivals.container) + block)?;
+        self.ports.reserve(count(&arrivals.port))?;
+        self.modules.reserve(count(&arrivals.new_module))?;
         self.functions.reserve(count(&arrivals.function))?;
+        self.definitions.reserve(count(&arrivals.definition))?;
+        self.artifacts.reserve(count(&arrivals.artifact))?;
+        self.instances.reserve(count(&arrivals.instance))?;
         self.always_blocks.reserve(count(&arrivals.always_block))?;
         Ok(())
     }
@@ -211,12 +397,27 @@ impl Ast {
         requires room { HasRoom self.old (fresh_of arrivals) }
         ensures { Builds (bench self.old) (bench self.new) result tt (after_growth (listing_of place) (fresh_of arrivals) (bench self.old)) }
     {
-        enter(&mut self.modules, &mut self.nests, place)?;
+        let mut spare = spare_left(arrivals.takes_spare, self.spare);
+        enter(
+            &mut self.modules,
+            &mut self.nests,
+            &mut self.functions,
+            &mut self.items,
+            &mut spare,
+            place,
+            self.alloc,
+        )?;
+        self.spare = spare;
         settle(&mut self.terms, arrivals.term);
         settle(&mut self.assignments, arrivals.assignment);
         settle(&mut self.nests, arrivals.container);
         settle_block(&mut self.nests, arrivals.block, self.alloc);
+        settle(&mut self.ports, arrivals.port);
+        settle(&mut self.modules, arrivals.new_module);
         settle(&mut self.functions, arrivals.function);
+        settle(&mut self.definitions, arrivals.definition);
+        settle(&mut self.artifacts, arrivals.artifact);
+        settle(&mut self.instances, arrivals.instance);
         settle(&mut self.always_blocks, arrivals.always_block);
         Ok(())
     }

@@ -43,11 +43,7 @@ impl Ast {
             ),
             Arrivals {
                 term: Some(Term::Expression(ExprNode::Name(name, data_type))),
-                assignment: None,
-                container: None,
-                block: false,
-                function: None,
-                always_block: None,
+                ..Arrivals::none()
             },
         )?;
         Ok(localparam)

@@ -1,9 +1,10 @@
 //! Generate loops, and conditionals among members.
 
-ghost use Rattle.std.specs.Prelude.{◌≡◌, ◌<◌, ◌^◌, false, All, None, Some, slice_get, map, string_bytes};
+ghost use Rattle.std.specs.Prelude.{[], ◌≡◌, ◌<◌, ◌^◌, false, All, None, Some, slice_get, map, string_bytes};
 ghost use Rattle.vast_core.specs.Handles.{loop_index};
 ghost use Rattle.vast_core.specs.Records.{member_entry, BlankEntry, CommentEntry, InlineEntry, MacroEntry, InstanceEntry, AssignmentEntry, ConditionalEntry, LoopEntry};
 ghost use Rattle.vast_core.specs.Nests.{label_bytes, loop_record, RepeatRecord};
+ghost use Rattle.vast_core.specs.Parents.{held_by_member};
 ghost use Rattle.vast_core.specs.Bench.{OwnsModule, OwnsLoop, OwnsExpr, OwnsLogicRef, OwnsComment, OwnsInline, OwnsMacroStatement, OwnsInstantiation, OwnsContinuous, tree_of};
 ghost use Rattle.vast_core.specs.Sound.{LoopMemberSound, MemberSound, MemberNewer};
 ghost use Rattle.vast_core.specs.FileTree.{RepeatFamily, families, members_tree};
@@ -53,12 +54,9 @@ impl Ast {
         self.grow(
             Place::Module(owner, Member::Conditional(conditional), None),
             Arrivals {
-                term: None,
-                assignment: None,
                 container: Some(Nest::Conditional(node)),
                 block: true,
-                function: None,
-                always_block: None,
+                ..Arrivals::none()
             },
         )?;
         Ok(conditional)
@@ -96,12 +94,9 @@ impl Ast {
                 Entry::Member(Member::Conditional(conditional)),
             ),
             Arrivals {
-                term: None,
-                assignment: None,
                 container: Some(Nest::Conditional(node)),
                 block: true,
-                function: None,
-                always_block: None,
+                ..Arrivals::none()
             },
         )?;
         Ok(conditional)
@@ -145,11 +140,8 @@ impl Ast {
             Place::Module(owner, Member::Loop(generate_loop), None),
             Arrivals {
                 term: Some(Term::Expression(ExprNode::Name(variable, None))),
-                assignment: None,
                 container: Some(Nest::Loop(node)),
-                block: false,
-                function: None,
-                always_block: None,
+                ..Arrivals::none()
             },
         )?;
         Ok(generate_loop)
@@ -193,11 +185,8 @@ impl Ast {
             Place::Nest(owner.id.index, Entry::Member(Member::Loop(generate_loop))),
             Arrivals {
                 term: Some(Term::Expression(ExprNode::Name(variable, None))),
-                assignment: None,
                 container: Some(Nest::Loop(node)),
-                block: false,
-                function: None,
-                always_block: None,
+                ..Arrivals::none()
             },
         )?;
         Ok(generate_loop)
@@ -208,18 +197,12 @@ impl Ast {
         requires owner { OwnsLoop (bench self.old) owner }
         requires member { MemberSound (bench self.old) (member_entry member) }
         requires newer { MemberNewer (bench self.old) (loop_index owner) (member_entry member) }
+        requires no_part { held_by_member (member_entry member) ≡ [] }
         ensures { Builds (bench self.old) (bench self.new) result tt (with_loop_member owner (member_entry member) (bench self.old)) }
     {
         self.grow(
             Place::Nest(owner.id.index, Entry::Member(member)),
-            Arrivals {
-                term: None,
-                assignment: None,
-                container: None,
-                block: false,
-                function: None,
-                always_block: None,
-            },
+            Arrivals::none(),
         )
     }
 
@@ -264,16 +247,12 @@ impl Ast {
                 Entry::Member(Member::ContinuousAssignment(assignment)),
             ),
             Arrivals {
-                term: None,
                 assignment: Some(Assignment {
                     lhs,
                     rhs,
                     nonblocking: false,
                 }),
-                container: None,
-                block: false,
-                function: None,
-                always_block: None,
+                ..Arrivals::none()
             },
         )?;
         Ok(VastStatement { id: assignment.id })

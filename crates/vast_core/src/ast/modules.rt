@@ -10,7 +10,8 @@ ghost use Rattle.vast_core.specs.Hoisting.{members_of};
 ghost use Rattle.vast_core.specs.View.{bench};
 
 use crate::ast::Ast;
-use crate::handle::{Id, VastModule};
+use crate::ast::growth::{Arrivals, Place};
+use crate::handle::VastModule;
 use crate::node::{FileItem, Module};
 use std::alloc::AllocError;
 use std::collections::BTreeSet;
@@ -33,32 +34,31 @@ impl Ast {
         ensures { Builds (bench self.old) (bench self.new) result (next_module (bench self.old)) (with_module name.now (bench self.old)) }
     {
         let name = String::from_str(self.alloc, name)?;
-        self.modules.reserve(1)?;
         let handle = VastModule {
-            id: Id {
-                file_id: self.id,
-                index: self.modules.len(),
-            },
+            id: self.next_module(),
         };
-        self.items.push(FileItem::Module(handle))?;
-        self.modules
-            .push(Module {
-                name,
-                parameters: Vec::new(self.alloc),
-                ports: Vec::new(self.alloc),
-                members: Vec::new(self.alloc),
-                names: BTreeSet::new(self.alloc),
-            })
-            .unwrap();
+        self.grow(
+            Place::File(FileItem::Module(handle)),
+            Arrivals {
+                new_module: Some(Module {
+                    name,
+                    parameters: Vec::new(self.alloc),
+                    ports: Vec::new(self.alloc),
+                    members: Vec::new(self.alloc),
+                    names: BTreeSet::new(self.alloc),
+                }),
+                ..Arrivals::none()
+            },
+        )?;
         Ok(handle)
     }
 
+    #[tactic(auto, using(crate::proofs::EntersRecords::enters_records))]
     fn push_item(&mut self, item: FileItem) -> Result<(), AllocError>
         requires { EntrySound (bench self.old) (file_entry item) }
         ensures { Builds (bench self.old) (bench self.new) result tt (with_item (file_entry item) (bench self.old)) }
     {
-        self.items.push(item)?;
-        Ok(())
+        self.grow(Place::File(item), Arrivals::none())
     }
 
     /// Adds the inclusion of a file as the last item.

@@ -17,7 +17,7 @@ impl Ast {
         }
     }
 
-    #[tactic(auto, using(crate::proofs::Containers::lengths), unfolding(crate::specs::View::bench))]
+    #[tactic(auto, using(crate::proofs::Lengths::lengths), unfolding(crate::specs::View::bench))]
     fn nest_count(&self) -> usize
         ensures count { result ≡ length (bench self.now).nests }
         ensures small { result < 2 ^ 63 }
@@ -25,25 +25,60 @@ impl Ast {
         self.nests.len()
     }
 
-    #[tactic(auto, using(crate::proofs::Containers::lengths), unfolding(crate::specs::View::bench))]
+    #[tactic(auto, using(crate::proofs::Lengths::lengths), unfolding(crate::specs::View::bench))]
     fn assignment_count(&self) -> usize
         ensures { result ≡ length (bench self.now).assignments }
     {
         self.assignments.len()
     }
 
-    #[tactic(auto, using(crate::proofs::Containers::lengths), unfolding(crate::specs::View::bench))]
+    #[tactic(auto, using(crate::proofs::Lengths::lengths), unfolding(crate::specs::View::bench))]
     fn function_count(&self) -> usize
         ensures { result ≡ length (bench self.now).functions }
     {
         self.functions.len()
     }
 
-    #[tactic(auto, using(crate::proofs::Containers::lengths), unfolding(crate::specs::View::bench))]
+    #[tactic(auto, using(crate::proofs::Lengths::lengths), unfolding(crate::specs::View::bench))]
     fn always_block_count(&self) -> usize
         ensures { result ≡ length (bench self.now).always_blocks }
     {
         self.always_blocks.len()
+    }
+
+    #[tactic(auto, using(crate::proofs::Lengths::lengths), unfolding(crate::specs::View::bench))]
+    fn port_count(&self) -> usize
+        ensures { result ≡ length (bench self.now).ports }
+    {
+        self.ports.len()
+    }
+
+    #[tactic(auto, using(crate::proofs::Lengths::lengths), unfolding(crate::specs::View::bench))]
+    fn module_count(&self) -> usize
+        ensures { result ≡ length (bench self.now).modules }
+    {
+        self.modules.len()
+    }
+
+    #[tactic(auto, using(crate::proofs::Lengths::lengths), unfolding(crate::specs::View::bench))]
+    fn definition_count(&self) -> usize
+        ensures { result ≡ length (bench self.now).definitions }
+    {
+        self.definitions.len()
+    }
+
+    #[tactic(auto, using(crate::proofs::Lengths::lengths), unfolding(crate::specs::View::bench))]
+    fn artifact_count(&self) -> usize
+        ensures { result ≡ length (bench self.now).artifacts }
+    {
+        self.artifacts.len()
+    }
+
+    #[tactic(auto, using(crate::proofs::Lengths::lengths), unfolding(crate::specs::View::bench))]
+    fn instance_count(&self) -> usize
+        ensures { result ≡ length (bench self.now).instances }
+    {
+        self.instances.len()
     }
 
     fn term_count(&self) -> usize
@@ -89,5 +124,35 @@ impl Ast {
         ensures { result ≡ next_id (bench self.now) (length (bench self.now).nodes.roots) }
     {
         self.id_at(self.term_count())
+    }
+
+    pub(crate) fn next_port(&self) -> Id
+        ensures { result ≡ next_id (bench self.now) (length (bench self.now).ports) }
+    {
+        self.id_at(self.port_count())
+    }
+
+    pub(crate) fn next_module(&self) -> Id
+        ensures { result ≡ next_id (bench self.now) (length (bench self.now).modules) }
+    {
+        self.id_at(self.module_count())
+    }
+
+    pub(crate) fn next_definition(&self) -> Id
+        ensures { result ≡ next_id (bench self.now) (length (bench self.now).definitions) }
+    {
+        self.id_at(self.definition_count())
+    }
+
+    pub(crate) fn next_artifact(&self) -> Id
+        ensures { result ≡ next_id (bench self.now) (length (bench self.now).artifacts) }
+    {
+        self.id_at(self.artifact_count())
+    }
+
+    pub(crate) fn next_instance(&self) -> Id
+        ensures { result ≡ next_id (bench self.now) (length (bench self.now).instances) }
+    {
+        self.id_at(self.instance_count())
     }
 }

@@ -1,52 +1,29 @@
 //! Parameters of modules, in headers and among members.
 
-ghost use Rattle.std.specs.Prelude.{◌≡◌, OnOk, OnErr, true, false, None, string_bytes};
-ghost use Rattle.vast_core.specs.Records.{module_record, parameter_port_record, form_entry, with_parameter_port as with_listed_parameter};
+ghost use Rattle.std.specs.Prelude.{◌≡◌, true, false, None, string_bytes};
+ghost use Rattle.vast_core.specs.Records.{form_entry};
 ghost use Rattle.vast_core.specs.Nodes.{OptionHolds, expr_tree};
 ghost use Rattle.vast_core.specs.Bench.{OwnsModule, OwnsExpr, OwnsType, OwnsDef};
-ghost use Rattle.vast_core.specs.Sound.{FormSound, ParameterPortSound};
+ghost use Rattle.vast_core.specs.Sound.{FormSound};
 ghost use Rattle.vast_core.specs.Growth.{Builds, next_expr, next_logic_ref};
-ghost use Rattle.vast_core.specs.Parameters.{next_parameter_ref, next_localparam_ref, with_parameter_listed, with_parameter_port, with_parameter_named, with_plain_parameter, with_int_parameter, with_defined_parameter};
-ghost use Rattle.vast_core.specs.View.{bench, room};
+ghost use Rattle.vast_core.specs.Parameters.{next_parameter_ref, next_localparam_ref, with_parameter_port, with_parameter_named, with_plain_parameter, with_int_parameter, with_defined_parameter};
+ghost use Rattle.vast_core.specs.View.{bench};
 ghost use Rattle.vast_literal.specs.Tree.{NameTree};
 ghost use Rattle.vast_core.specs.Nodes.{maybe_type_in};
 
 use crate::ast::Ast;
+use crate::ast::growth::{Arrivals, Place};
 use crate::handle::{Def, Expr, LocalparamRef, LogicRef, ParameterRef, VastDataType, VastModule};
-use crate::node::{ExprNode, Member, Module, ParameterForm, ParameterPort};
+use crate::node::{ExprNode, Member, ParameterForm, ParameterPort, Term};
 use std::alloc::AllocError;
 
-impl Module {
-    fn push_parameter_port(&mut self, port: ParameterPort) -> Result<(), AllocError>
-        ensures ok { OnOk result (module_record self.new ≡ with_listed_parameter (parameter_port_record port) (module_record self.old)) }
-        ensures err { OnErr result (module_record self.new ≡ module_record self.old) }
-    {
-        self.parameters.push(port)?;
-        Ok(())
-    }
-}
-
 impl Ast {
-    fn list_parameter_port(
-        &mut self,
-        owner: VastModule,
-        port: ParameterPort,
-    ) -> Result<(), AllocError>
-        requires owner { OwnsModule (bench self.old) owner }
-        requires port { ParameterPortSound (bench self.old) (parameter_port_record port) }
-        ensures built { Builds (bench self.old) (bench self.new) result tt (with_parameter_listed owner (parameter_port_record port) (bench self.old)) }
-        ensures room { room self.new ≡ room self.old }
-    {
-        let target = &mut self.modules[owner.id.index];
-        target.push_parameter_port(port)?;
-        Ok(())
-    }
-
     /// Adds a parameter to the end of the module's header, and answers its name as an expression. Its name isn't
     /// among those that the module has taken.
     ///
     /// # Errors
     /// `AllocError` where a growth was refused; nothing changed.
+    #[tactic(auto, using(crate::proofs::EntersRecords::enters_records))]
     pub fn push_parameter_port(
         &mut self,
         owner: VastModule,
@@ -61,17 +38,25 @@ impl Ast {
     {
         let node_name = String::from_str(self.alloc, name)?;
         let port_name = String::from_str(self.alloc, name)?;
-        self.reserve_terms(1)?;
         let port = ParameterPort {
             name: port_name,
             data_type,
             value,
         };
-        self.list_parameter_port(owner, port)?;
-        let expr = self.plant_expr(ExprNode::Name(node_name, data_type));
-        Ok(LogicRef { id: expr.id })
+        let logic_ref = LogicRef {
+            id: self.next_term(),
+        };
+        self.grow(
+            Place::Header(owner, port),
+            Arrivals {
+                term: Some(Term::Expression(ExprNode::Name(node_name, data_type))),
+                ..Arrivals::none()
+            },
+        )?;
+        Ok(logic_ref)
     }
 
+    #[tactic(auto, using(crate::proofs::EntersRecords::enters_records))]
     fn push_parameter_member(
         &mut self,
         owner: VastModule,
@@ -87,9 +72,17 @@ impl Ast {
         requires data_type { OptionHolds (OwnsType (bench self.old)) data_type }
         ensures { Builds (bench self.old) (bench self.new) result (next_expr (bench self.old)) (with_parameter_named owner local (form_entry form) value (NameTree (string_bytes name) (maybe_type_in (bench self.old).nodes data_type)) (bench self.old)) }
     {
-        self.reserve_terms(1)?;
-        self.list_member(owner, Member::Parameter(local, form, value))?;
-        Ok(self.plant_expr(ExprNode::Name(name, data_type)))
+        let expr = Expr {
+            id: self.next_term(),
+        };
+        self.grow(
+            Place::Module(owner, Member::Parameter(local, form, value), None),
+            Arrivals {
+                term: Some(Term::Expression(ExprNode::Name(name, data_type))),
+                ..Arrivals::none()
+            },
+        )?;
+        Ok(expr)
     }
 
     fn push_plain(

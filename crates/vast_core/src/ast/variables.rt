@@ -5,13 +5,14 @@ ghost use Rattle.vast_core.specs.Records.{IsFree};
 ghost use Rattle.vast_core.specs.Nests.{function_record, variable_record};
 ghost use Rattle.vast_core.specs.Bench.{OwnsFunction, OwnsType, IsFreeInFunction};
 ghost use Rattle.vast_core.specs.Growth.{Builds, next_logic_ref};
-ghost use Rattle.vast_core.specs.Functions.{with_listed_variable, with_listed_in, with_variable};
-ghost use Rattle.vast_core.specs.View.{bench, room};
+ghost use Rattle.vast_core.specs.Functions.{with_listed_variable, with_variable};
+ghost use Rattle.vast_core.specs.View.{bench};
 
 use crate::ast::Ast;
+use crate::ast::growth::{Arrivals, Place};
 use crate::handle::{LogicRef, VastDataType, VastFunction};
 use crate::kind::DataKind;
-use crate::node::{ExprNode, Function, FunctionVariable};
+use crate::node::{ExprNode, Function, FunctionVariable, Term};
 use std::alloc::AllocError;
 
 impl Function {
@@ -45,7 +46,7 @@ impl Function {
     }
 
     /// Lists the variable and takes its name, or changes nothing.
-    fn enter_variable(
+    pub(crate) fn enter_variable(
         &mut self,
         local: bool,
         variable: FunctionVariable,
@@ -64,30 +65,12 @@ impl Function {
 }
 
 impl Ast {
-    fn list_variable(
-        &mut self,
-        owner: VastFunction,
-        local: bool,
-        variable: FunctionVariable,
-        name: String,
-    ) -> Result<(), AllocError>
-        requires owner { OwnsFunction (bench self.old) owner }
-        requires data_type { OwnsType (bench self.old) variable.data_type }
-        requires name { string_bytes name ≡ string_bytes variable.name }
-        requires free { IsFreeInFunction (bench self.old) owner (string_bytes variable.name) }
-        ensures built { Builds (bench self.old) (bench self.new) result tt (with_listed_in owner local (variable_record variable) (bench self.old)) }
-        ensures room { room self.new ≡ room self.old }
-    {
-        let target = &mut self.functions[owner.id.index];
-        target.enter_variable(local, variable, name)?;
-        Ok(())
-    }
-
     /// Adds an input, or a local, at the end of the function's, and answers its name as an expression. The name is free
     /// ([`Function::name_is_free`]), and is taken from then on.
     ///
     /// # Errors
     /// `AllocError` where a growth was refused; nothing changed.
+    #[tactic(auto, using(crate::proofs::EntersRecords::enters_records))]
     pub fn function_add_variable(
         &mut self,
         owner: VastFunction,
@@ -103,15 +86,24 @@ impl Ast {
     {
         let node_name = String::from_str(self.alloc, name)?;
         let own_name = String::from_str(self.alloc, name)?;
-        let taken_name = String::from_str(self.alloc, name)?;
-        self.reserve_terms(1)?;
-        let variable = FunctionVariable {
-            kind,
-            name: own_name,
-            data_type,
+        let logic_ref = LogicRef {
+            id: self.next_term(),
         };
-        self.list_variable(owner, local, variable, taken_name)?;
-        let expr = self.plant_expr(ExprNode::Name(node_name, Some(data_type)));
-        Ok(LogicRef { id: expr.id })
+        self.grow(
+            Place::Function(
+                owner,
+                local,
+                FunctionVariable {
+                    kind,
+                    name: own_name,
+                    data_type,
+                },
+            ),
+            Arrivals {
+                term: Some(Term::Expression(ExprNode::Name(node_name, Some(data_type)))),
+                ..Arrivals::none()
+            },
+        )?;
+        Ok(logic_ref)
     }
 }

@@ -4,8 +4,10 @@ use Rattle.vast_core.specs.Hoisting.{with_members_hoisted}
 use Rattle.vast_core.specs.View.{bench}
 use Rattle.vast_core.proofs.Lists.{changed-map, unchanged-map}
 use Rattle.vast_core.proofs.Readers.{module-below, module-there}
-use Rattle.vast_core.proofs.Growth.{bench-changed, sound-changed, bench-same, sound-same, refused}
-use Rattle.vast_core.proofs.Hoisting.{members-hoisted, start-within}
+use Rattle.vast_core.proofs.Terms.{refused}
+use Rattle.vast_core.proofs.Growing.{bench-still, sound-still}
+use Rattle.vast_core.proofs.Hoists.{bench-changed, sound-hoisted}
+use Rattle.vast_core.proofs.Hoisting.{start-within}
 use Rattle.vast_core.proofs.ast.Ast.hoist_declarations.Goals as goal
 
 pub index_mut-target-requires : goal.index_mut-target-requires
@@ -22,28 +24,28 @@ hoist-requires c =
 pub invariant_of-self : goal.invariant_of-self
 invariant_of-self c =
     let below : c.args.owner.id.index < length c.self.inside.modules.items = module-below c.args.self.now _ c.args.owner.id.index c.self.view_is c.requires.owner.of_kind in
-    sound-same c.args.self.now _ _ _ _ _ c.self.view_is refl refl
-    (unchanged-map module_record c.self.inside.modules.items c.args.owner.id.index c.index_mut-target.result.now c.hoist.new.self below c.index_mut-target.ensures.value c.in_err-hoist.ensures.err)
+    sound-still c.args.self.now _ _ c.self.view_is
+    (record { file_type = refl; id = refl; terms = refl; assignments = refl; nests = refl; ports = refl; modules = unchanged-map module_record c.self.inside.modules.items c.args.owner.id.index c.index_mut-target.result.now c.hoist.new.self below c.index_mut-target.ensures.value c.in_err-hoist.ensures.err; functions = refl; definitions = refl; artifacts = refl; instances = refl; always_blocks = refl; items = refl; spare = refl })
     c.self.invariant
 
 pub returns-in_err-hoist : goal.returns-in_err-hoist
 returns-in_err-hoist c =
     let below : c.args.owner.id.index < length c.self.inside.modules.items = module-below c.args.self.now _ c.args.owner.id.index c.self.view_is c.requires.owner.of_kind in
     refused _ _ c.from_residual.result _ _ c.from_residual.ensures.0
-    (bench-same c.args.self.now _ _ _ _ _ c.self.view_is refl refl
-    (unchanged-map module_record c.self.inside.modules.items c.args.owner.id.index c.index_mut-target.result.now c.hoist.new.self below c.index_mut-target.ensures.value c.in_err-hoist.ensures.err))
+    (bench-still c.args.self.now _ _ c.self.view_is
+    (record { file_type = refl; id = refl; terms = refl; assignments = refl; nests = refl; ports = refl; modules = unchanged-map module_record c.self.inside.modules.items c.args.owner.id.index c.index_mut-target.result.now c.hoist.new.self below c.index_mut-target.ensures.value c.in_err-hoist.ensures.err; functions = refl; definitions = refl; artifacts = refl; instances = refl; always_blocks = refl; items = refl; spare = refl }))
 
 pub invariant_of-self-2 : goal.invariant_of-self-2
 invariant_of-self-2 c =
     let below : c.args.owner.id.index < length c.self.inside.modules.items = module-below c.args.self.now _ c.args.owner.id.index c.self.view_is c.requires.owner.of_kind in
-    sound-changed c.args.self.now _ c.args.owner.id.index (with_members_hoisted c.args.start) _ c.self.view_is
+    sound-hoisted c.args.self.now _ c.args.owner c.args.start _ _ c.self.view_is
     (changed-map module_record (with_members_hoisted c.args.start) c.self.inside.modules.items c.args.owner.id.index c.index_mut-target.result.now c.hoist.new.self below c.index_mut-target.ensures.value c.in_ok-hoist.ensures.ok)
-    c.self.invariant (members-hoisted (bench c.args.self.now) c.args.start)
+    c.self.invariant
 
 pub returns : goal.returns
 returns c =
     let below : c.args.owner.id.index < length c.self.inside.modules.items = module-below c.args.self.now _ c.args.owner.id.index c.self.view_is c.requires.owner.of_kind in (
       refl,
-      bench-changed c.args.self.now _ c.args.owner.id.index (with_members_hoisted c.args.start) _ c.self.view_is
+      bench-changed c.args.self.now _ c.args.owner.id.index (with_members_hoisted c.args.start) _ _ c.self.view_is
           (changed-map module_record (with_members_hoisted c.args.start) c.self.inside.modules.items c.args.owner.id.index c.index_mut-target.result.now c.hoist.new.self below c.index_mut-target.ensures.value c.in_ok-hoist.ensures.ok),
     )

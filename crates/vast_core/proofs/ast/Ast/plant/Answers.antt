@@ -1,7 +1,7 @@
 use Rattle.std.proofs.Common.{◌≡◌, ◌<◌, ◌-◌, ◌+◌, ◌++◌, ◌∷◌, [], length, vec_len, rules, arith}
 use Rattle.std.specs.Vec.{vec_capacity}
 use Rattle.vast_core.specs.View.{room}
-use Rattle.vast_core.proofs.Growth.{bench-plant, sound-plant, length-plant}
+use Rattle.vast_core.proofs.Terms.{bench-plant, sound-plant, length-plant}
 use Rattle.vast_core.proofs.ast.Ast.plant.Goals as goal
 
 pub unwrap-requires : goal.unwrap-requires

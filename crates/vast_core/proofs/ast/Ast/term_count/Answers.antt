@@ -1,6 +1,6 @@
 -- proofs/ast/Ast/term_count/Answers.antt
 use Rattle.std.proofs.Common.{◌≡◌, length, rules}
-use Rattle.vast_core.proofs.Growth.{length-plant}
+use Rattle.vast_core.proofs.Terms.{length-plant}
 use Rattle.vast_core.proofs.ast.Ast.term_count.Goals as goal
 
 pub returns : goal.returns

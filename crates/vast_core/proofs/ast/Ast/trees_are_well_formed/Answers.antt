@@ -1,4 +1,4 @@
-use Rattle.vast_core.proofs.Growth.{trees-well_formed}
+use Rattle.vast_core.proofs.Terms.{trees-well_formed}
 use Rattle.vast_core.proofs.ast.Ast.trees_are_well_formed.Goals as goal
 
 pub returns : goal.returns

@@ -1,0 +1,185 @@
+-- What calls know that make a record, or that add to a file, a module's lists or a function's: what comes, and the entry
+-- that names it, are the file's.
+use Rattle.std.proofs.Common.{◌≡◌, ℕ, Bool, false, List, [], ◌∷◌, ◌++◌, length, Option, Some, None, All, String, string_bytes, refl, arith, length-append}
+use Rattle.std.specs.declared.alloc.Global.{Global}
+use Rattle.vast_literal.specs.Tree.{NameTree, MaybeType, Typed}
+use Rattle.vast_core.specs.declared.handle.Expr.{Expr}
+use Rattle.vast_core.specs.declared.handle.LogicRef.{LogicRef}
+use Rattle.vast_core.specs.declared.handle.ModulePort.{ModulePort}
+use Rattle.vast_core.specs.declared.handle.VastModule.{VastModule}
+use Rattle.vast_core.specs.declared.handle.VastFunction.{VastFunction}
+use Rattle.vast_core.specs.declared.handle.VastDataType.{VastDataType}
+use Rattle.vast_core.specs.declared.kind.DataKind.{DataKind}
+use Rattle.vast_core.specs.declared.kind.ModulePortDirection.{ModulePortDirection}
+use Rattle.vast_core.specs.declared.node.Assignment.{Assignment}
+use Rattle.vast_core.specs.Nodes.{Root, ExprRoot, OptionHolds, with_root as with_node}
+use Rattle.vast_core.specs.Records.{PortRecord, ParameterPortRecord, ModuleRecord, MemberEntry, DeclarationEntry, ParameterEntry, FormEntry, ModuleEntry, FileEntry, DefinitionRecord, ArtifactRecord, InstanceRecord, new_module}
+use Rattle.vast_core.specs.Nests.{VariableRecord}
+use Rattle.vast_core.specs.Bench.{Bench, OwnsExpr, OwnsType, OwnsModule, OwnsFunction, OwnsPort, OwnsLogicRef, NameIsFree, IsFreeInFunction, type_of}
+use Rattle.vast_core.specs.Growth.{next_module, next_port, next_logic_ref}
+use Rattle.vast_core.specs.DeclaredNames.{names_by_member, names_by_port}
+use Rattle.vast_core.specs.Parents.{held_by_member}
+use Rattle.vast_core.specs.Sound.{AssignmentSound, MemberSound, EntrySound, DefinitionSound, ArtifactSound, InstanceSound, FormSound, ParameterPortSound}
+use Rattle.vast_core.specs.Containers.{Nowhere, InFile, InHeader, InPorts, InModule, InFunction, GrowthSound, FreshSound, Fresh, no_fresh, fresh_assignment, with_fresh}
+use Rattle.vast_core.specs.Loops.{fresh_name, name_term}
+use Rattle.vast_core.proofs.Lists.{slice_get-seam}
+use Rattle.vast_core.proofs.NodeLaws.{Extends-root, HasExpr-kept, HasType-kept}
+use Rattle.vast_core.proofs.Sound.{MemberSound-kept, ParameterPortSound-kept, DefinitionSound-kept, ArtifactSound-kept, InstanceSound-kept}
+use Rattle.vast_core.proofs.Growing.{Grows-fresh}
+use Rattle.vast_core.proofs.Terms.{last-test}
+use Rattle.vast_core.proofs.Enters.{nothing-comes}
+
+-- Records that no list names yet.
+
+pub assignment-stands : (b : Bench) (a : Assignment) → AssignmentSound b a → GrowthSound b Nowhere (fresh_assignment a)
+assignment-stands b a h =
+    record { fresh = record { term = tt; assignment = h; container = tt; port = tt; fresh_module = tt; function = tt; definition = tt; artifact = tt; instance = tt; always_block = tt }; listing = tt; placed = refl }
+
+pub definition-stands : (b : Bench) (d : DefinitionRecord) → DefinitionSound b d → GrowthSound b Nowhere (record no_fresh { definition = Some d })
+definition-stands b d h =
+    record { fresh = record { term = tt; assignment = tt; container = tt; port = tt; fresh_module = tt; function = tt; definition = h; artifact = tt; instance = tt; always_block = tt }; listing = tt; placed = refl }
+
+pub artifact-stands : (b : Bench) (a : ArtifactRecord) → ArtifactSound b a → GrowthSound b Nowhere (record no_fresh { artifact = Some a })
+artifact-stands b a h =
+    let f : Fresh = record no_fresh { artifact = Some a } in
+    record {
+      fresh = record { term = tt; assignment = tt; container = tt; port = tt; fresh_module = tt; function = tt; definition = tt; artifact = ArtifactSound-kept b (with_fresh f b) (Grows-fresh b f) a h; instance = tt; always_block = tt };
+      listing = tt;
+      placed = refl;
+    }
+
+pub instance-stands : (b : Bench) (i : InstanceRecord) → InstanceSound b i → GrowthSound b Nowhere (record no_fresh { instance = Some i })
+instance-stands b i h =
+    let f : Fresh = record no_fresh { instance = Some i } in
+    record {
+      fresh = record { term = tt; assignment = tt; container = tt; port = tt; fresh_module = tt; function = tt; definition = tt; artifact = tt; instance = InstanceSound-kept b (with_fresh f b) (Grows-fresh b f) i h; always_block = tt };
+      listing = tt;
+      placed = refl;
+    }
+
+-- Items of the file.
+
+pub item-enters : (b : Bench) (e : FileEntry) → EntrySound b e → GrowthSound b (InFile e) no_fresh
+item-enters b e h = record { fresh = nothing-comes b b; listing = h; placed = refl }
+
+pub module-enters : (b : Bench) (name : List ℕ) → GrowthSound b (InFile (ModuleEntry (next_module b))) (record no_fresh { fresh_module = Some (new_module name) })
+module-enters b name =
+    record {
+      fresh = record {
+        term = tt;
+        assignment = tt;
+        container = tt;
+        port = tt;
+        fresh_module = record { sound = record { parameters = tt; ports = tt; members = tt }; names = record { taken = λ n. refl; once = λ n. omega arith }; parts = refl };
+        function = tt;
+        definition = tt;
+        artifact = tt;
+        instance = tt;
+        always_block = tt;
+      };
+      listing = record { of_file = refl; of_kind = rw (length-append b.modules (new_module name ∷ [])) (last-test (length b.modules)) };
+      placed = refl;
+    }
+
+pub module-enters-as :
+    (b : Bench) (h : VastModule) (name : List ℕ) (ps : List ParameterPortRecord) (qs : List ModulePort) (ms : List MemberEntry) (names : List (List ℕ)) → h ≡ next_module b → ps ≡ [] → qs ≡ [] → ms ≡ [] → names ≡ [] →
+    GrowthSound b (InFile (ModuleEntry h)) (record no_fresh { fresh_module = Some (record { name = name; parameters = ps; ports = qs; members = ms; names = names }) })
+module-enters-as b h name ps qs ms names e f g k l = rw (e, f, g, k, l) (module-enters b name)
+
+-- A name that comes.
+
+name-comes : (b : Bench) (name : String Global) (type : Option VastDataType) → OptionHolds (OwnsType b) type → FreshSound b (with_fresh (fresh_name name type) b) (fresh_name name type)
+name-comes b name type h = record { term = (h, tt); assignment = tt; container = tt; port = tt; fresh_module = tt; function = tt; definition = tt; artifact = tt; instance = tt; always_block = tt }
+
+-- Members of a module.
+
+pub plain_member-enters :
+    (b : Bench) (owner : VastModule) (m : MemberEntry) → OwnsModule b owner → MemberSound b m → names_by_member b.functions m ≡ [] → held_by_member m ≡ [] → GrowthSound b (InModule owner m None) no_fresh
+plain_member-enters b owner m h k names parts = record { fresh = nothing-comes b b; listing = record { owner_there = h; member = k; declares = names; free = tt }; placed = rw parts refl }
+
+pub declaration-enters :
+    (b : Bench) (owner : VastModule) (kind : DataKind) (own taken : List ℕ) (name : String Global) (t : VastDataType) → own ≡ taken → OwnsModule b owner → OwnsType b t → NameIsFree b owner taken →
+    GrowthSound b (InModule owner (DeclarationEntry kind own t) (Some taken)) (fresh_name name (Some t))
+declaration-enters b owner kind own taken name t e h k free =
+    let f : Fresh = fresh_name name (Some t) in
+    rw e (record {
+      fresh = name-comes b name (Some t) k;
+      listing = record { owner_there = h; member = MemberSound-kept b (with_fresh f b) (Grows-fresh b f) (DeclarationEntry kind taken t) k; declares = refl; free = free };
+      placed = refl;
+    })
+
+pub declaration-enters-as :
+    (b : Bench) (owner : VastModule) (kind : DataKind) (n own taken : List ℕ) (name : String Global) (t : VastDataType) → own ≡ n → taken ≡ n → OwnsModule b owner → OwnsType b t → NameIsFree b owner n →
+    GrowthSound b (InModule owner (DeclarationEntry kind own t) (Some taken)) (fresh_name name (Some t))
+declaration-enters-as b owner kind n own taken name t e f h k free = rw (e, f) (declaration-enters b owner kind n n name t refl h k free)
+
+pub module_parameter-enters :
+    (b : Bench) (owner : VastModule) (local : Bool) (form : FormEntry) (value : Expr) (name : String Global) (type : Option VastDataType) →
+    OwnsModule b owner → FormSound b form → OwnsExpr b value → OptionHolds (OwnsType b) type → GrowthSound b (InModule owner (ParameterEntry local form value) None) (fresh_name name type)
+module_parameter-enters b owner local form value name type h k l m =
+    let f : Fresh = fresh_name name type in
+    record {
+      fresh = name-comes b name type m;
+      listing = record { owner_there = h; member = MemberSound-kept b (with_fresh f b) (Grows-fresh b f) (ParameterEntry local form value) (k, l); declares = refl; free = tt };
+      placed = refl;
+    }
+
+-- The header and the ports of a module.
+
+pub header-enters :
+    (b : Bench) (owner : VastModule) (p : ParameterPortRecord) (name : String Global) (type : Option VastDataType) → OwnsModule b owner → OptionHolds (OwnsType b) p.data_type → OwnsExpr b p.value → OptionHolds (OwnsType b) type →
+    GrowthSound b (InHeader owner p) (fresh_name name type)
+header-enters b owner p name type h k l m =
+    let f : Fresh = fresh_name name type in
+    record { fresh = name-comes b name type m; listing = (h, ParameterPortSound-kept b (with_fresh f b) (Grows-fresh b f) p (k, l)); placed = refl }
+
+abbrev fresh_port : String Global → VastDataType → PortRecord → Fresh
+fresh_port name t p = record no_fresh { term = Some (name_term name (Some t)); port = Some p }
+
+abbrev new_port : Bench → ModulePortDirection → DataKind → List ℕ → VastDataType → PortRecord
+new_port b direction kind name t = record { direction = direction; kind = kind; name = name; data_type = t; logic_ref = next_logic_ref b }
+
+pub port-enters :
+    (b : Bench) (owner : VastModule) (direction : ModulePortDirection) (kind : DataKind) (taken : List ℕ) (name : String Global) (t : VastDataType) → OwnsModule b owner → OwnsType b t → NameIsFree b owner taken →
+    GrowthSound b (InPorts owner (next_port b) taken) (fresh_port name t (new_port b direction kind taken t))
+port-enters b owner direction kind taken name t h k free =
+    let p : PortRecord = new_port b direction kind taken t in
+    let r : Root = ExprRoot (NameTree (string_bytes name) (Typed (type_of b t))) in
+    record {
+      fresh = record {
+        term = (k, tt);
+        assignment = tt;
+        container = tt;
+        port = (HasType-kept b.nodes (with_node b.nodes r) (Extends-root b.nodes r) t k, record { of_file = refl; of_kind = rw (slice_get-seam b.nodes.roots r) refl });
+        fresh_module = tt;
+        function = tt;
+        definition = tt;
+        artifact = tt;
+        instance = tt;
+        always_block = tt;
+      };
+      listing = record { owner_there = h; port_there = record { of_file = refl; of_kind = rw (length-append b.ports (p ∷ [])) (last-test (length b.ports)) }; declares = rw (slice_get-seam b.ports p) refl; free = free };
+      placed = refl;
+    }
+
+pub port-enters-as :
+    (b : Bench) (owner : VastModule) (q : ModulePort) (g : LogicRef) (direction : ModulePortDirection) (kind : DataKind) (n own taken : List ℕ) (name : String Global) (t : VastDataType) →
+    q ≡ next_port b → g ≡ next_logic_ref b → own ≡ n → taken ≡ n → OwnsModule b owner → OwnsType b t → NameIsFree b owner n →
+    GrowthSound b (InPorts owner q taken) (fresh_port name t (record { direction = direction; kind = kind; name = own; data_type = t; logic_ref = g }))
+port-enters-as b owner q g direction kind n own taken name t e f i j h k free = rw (e, f, i, j) (port-enters b owner direction kind n name t h k free)
+
+-- Inputs and locals of a function.
+
+pub variable-enters :
+    (b : Bench) (owner : VastFunction) (local : Bool) (v : VariableRecord) (name : String Global) (t : VastDataType) → OwnsFunction b owner → OwnsType b v.data_type → OwnsType b t → IsFreeInFunction b owner v.name →
+    GrowthSound b (InFunction owner local v) (fresh_name name (Some t))
+variable-enters b owner local v name t h k l free =
+    let r : Root = ExprRoot (NameTree (string_bytes name) (Typed (type_of b t))) in
+    record { fresh = name-comes b name (Some t) l; listing = record { function_there = h; variable = HasType-kept b.nodes (with_node b.nodes r) (Extends-root b.nodes r) v.data_type k; free = free }; placed = refl }
+
+pub variable-enters-as :
+    (b : Bench) (owner : VastFunction) (local : Bool) (kind : DataKind) (n own : List ℕ) (name : String Global) (t : VastDataType) → own ≡ n → OwnsFunction b owner → OwnsType b t → IsFreeInFunction b owner n →
+    GrowthSound b (InFunction owner local (record { kind = kind; name = own; data_type = t })) (fresh_name name (Some t))
+variable-enters-as b owner local kind n own name t e h k free = rw e (variable-enters b owner local (record { kind = kind; name = n; data_type = t }) name t h k k free)
+
+pub ruleset enters_records = (assignment-stands, definition-stands, artifact-stands, instance-stands, item-enters, plain_member-enters, declaration-enters, module_parameter-enters, header-enters, variable-enters)

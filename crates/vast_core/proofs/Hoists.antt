@@ -1,0 +1,84 @@
+-- A file stays sound as a module's declarations are hoisted.
+use Rattle.std.proofs.Common.{◌≡◌, ℕ, ◌+◌, IsTrue, List, [], ◌∷◌, ◌++◌, length, map, nat_lt, Result, Ok, Err, IsErr, refl, sym, ap, arith, length-append, subst, string_bytes}
+use Rattle.std.specs.declared.alloc.AllocError.{AllocError}
+use Rattle.std.proofs.lemmas.List.{length-map, map-append}
+use Rattle.vast_literal.specs.Tree.{NameTree, Typed}
+use Rattle.vast_core.specs.declared.handle.VastModule.{VastModule}
+use Rattle.vast_core.specs.declared.handle.VastDataType.{VastDataType}
+use Rattle.vast_core.specs.declared.kind.ModulePortDirection.{ModulePortDirection}
+use Rattle.vast_core.specs.declared.kind.DataKind.{DataKind}
+use Rattle.vast_core.specs.declared.node.Term.{Term}
+use Rattle.vast_core.specs.declared.node.Port.{Port}
+use Rattle.vast_core.specs.declared.node.Module.{Module}
+use Rattle.vast_core.specs.declared.node.FileItem.{FileItem}
+use Rattle.vast_core.specs.declared.node.Assignment.{Assignment}
+use Rattle.vast_core.specs.Raw.{Raw}
+use Rattle.vast_core.specs.Nodes.{Root, ExprRoot, no_nodes, TermsSound, ChildrenHold, RootFits, term_root, built, RootWellFormed}
+use Rattle.vast_core.specs.Records.{PortRecord, ParameterPortRecord, ModuleRecord, MemberEntry, ModuleEntry, port_record, module_record, file_entry, new_module, changed_at, with_port as with_listed_port, with_member as with_listed_member, with_named_member, with_parameter_port}
+use Rattle.vast_core.specs.Bench.{Bench, type_of, OwnsExpr, OwnsType, OwnsPort, OwnsModule, AreWellFormed}
+use Rattle.vast_core.specs.View.{bench}
+use Rattle.vast_core.specs.Growth.{Builds, with_root, with_assignment, with_module, with_port, next_module, next_port, next_logic_ref}
+use Rattle.vast_core.specs.Sound.{PortSound, AssignmentSound, MemberSound, ParameterPortSound, ModuleSound, EntrySound, RecordsSound, IsSound, Each}
+use Rattle.vast_core.proofs.Lists.{slice_get-append, slice_get-seam, length-changed_at, Each-map, Each-push, Each-changed_at}
+use Rattle.vast_core.proofs.NodeLaws.{Extends-same, Extends-root, HasType-kept, built-push, built-id, TermsSound-push, built-length, built-well_formed, expr-well_formed, type-well_formed}
+use Rattle.vast_core.proofs.Sound.{Grows, carried, ModuleSound-kept}
+
+use Rattle.vast_core.specs.declared.handle.VastStatementBlock.{VastStatementBlock}
+use Rattle.vast_core.specs.Nodes.{OptionHolds}
+use Rattle.vast_core.specs.Bench.{OwnsBlock}
+use Rattle.vast_core.specs.Hoisting.{with_members_hoisted, with_hoisted}
+use Rattle.vast_core.specs.Sound.{FileSound}
+use Rattle.vast_core.proofs.Hoisting.{members-hoisted}
+use Rattle.vast_core.proofs.OneParent.{HasOneParent-hoisted}
+use Rattle.vast_core.proofs.ModuleNames.{names-hoisted}
+use Rattle.std.proofs.Common.{Option, Some, None}
+
+pub Grows-changed : (b : Bench) (i : ℕ) (f : ModuleRecord → ModuleRecord) → Grows b (record b { modules = changed_at i f b.modules })
+Grows-changed b i f = record { nodes = Extends-same b.nodes; ports = omega arith; assignments = λ i a h. h; modules = omega (arith, length-changed_at f b.modules i); definitions = omega arith; artifacts = λ i a h. h; instances = omega arith; nests = λ i below. refl; functions = omega arith; always_blocks = λ i a h. h }
+
+pub RecordsSound-changed :
+    (b : Bench) (i : ℕ) (f : ModuleRecord → ModuleRecord) → ((m : ModuleRecord) → ModuleSound b m → ModuleSound b (f m)) → RecordsSound b →
+    RecordsSound (record b { modules = changed_at i f b.modules })
+RecordsSound-changed b i f q s =
+    let g = Grows-changed b i f in
+    let c : Bench = record b { modules = changed_at i f b.modules } in
+    let k = carried b c g s in
+    record {
+      ports = k.ports;
+      assignments = k.assignments;
+      modules = Each-map (ModuleSound-kept b c g) (changed_at i f b.modules) (Each-changed_at (ModuleSound b) f q b.modules i s.modules);
+      definitions = k.definitions;
+      artifacts = k.artifacts;
+      instances = k.instances;
+      items = k.items;
+      nests = k.nests;
+      functions = k.functions;
+      always_blocks = k.always_blocks;
+    }
+
+pub bench-changed :
+    (a b : Raw) (i : ℕ) (f : ModuleRecord → ModuleRecord) (ms : List Module) (r : ℕ) → b ≡ a →
+    map module_record ms ≡ changed_at i f (map module_record b.modules) →
+    bench (record b { modules = ms; module_room = r }) ≡ record (bench a) { modules = changed_at i f (bench a).modules }
+unfolding bench
+bench-changed a b i f ms r e q = rw (q, ← e) refl
+
+spare-hoisted : (b : Bench) (m : VastModule) (start : ℕ) (o : Option VastStatementBlock) → OptionHolds (OwnsBlock b) o → OptionHolds (OwnsBlock (with_hoisted m start b)) o
+spare-hoisted b m start None h = tt
+spare-hoisted b m start (Some x) h = record { of_file = h.of_file; of_kind = h.of_kind }
+
+FileSound-hoisted : (b : Bench) (m : VastModule) (start : ℕ) → FileSound b → FileSound (with_hoisted m start b)
+FileSound-hoisted b m start s =
+    record {
+      records = RecordsSound-changed b m.id.index (with_members_hoisted start) (members-hoisted b start) s.records;
+      spare = spare-hoisted b m start b.spare s.spare;
+      names = names-hoisted b m start s.names;
+      parents = HasOneParent-hoisted b m start s.parents;
+    }
+
+pub sound-hoisted :
+    (a b : Raw) (m : VastModule) (start : ℕ) (ms : List Module) (r : ℕ) → b ≡ a →
+    map module_record ms ≡ changed_at m.id.index (with_members_hoisted start) (map module_record b.modules) → IsSound b → IsSound (record b { modules = ms; module_room = r })
+sound-hoisted a b m start ms r e q s =
+    let P : Raw → Type 0 = λ y. FileSound (bench y) in
+    record { terms = s.terms; file = rw (bench-changed a b m.id.index (with_members_hoisted start) ms r e q) (FileSound-hoisted (bench a) m start (subst P e s.file)) }

@@ -1,0 +1,296 @@
+-- Each part of a file stands in at most one place, whatever grows.
+use Rattle.std.proofs.Common.{◌≡◌, ℕ, zero, suc, ◌+◌, ◌≤◌, Bool, true, false, List, [], ◌∷◌, ◌++◌, length, flat_map, count_by, nat_eq, nat_lt, cond, Option, Some, None, refl, sym, ap, ◌∙◌, arith, length-append}
+use Rattle.vast_core.specs.declared.handle.VastModule.{VastModule}
+use Rattle.vast_core.specs.declared.handle.CaseStatement.{CaseStatement}
+use Rattle.vast_core.specs.declared.handle.VastStatementBlock.{VastStatementBlock}
+use Rattle.vast_core.specs.Handles.{module_index, function_index, case_index, block_index}
+use Rattle.vast_core.specs.Records.{ModuleRecord, MemberEntry, changed_at, with_port, with_parameter_port}
+use Rattle.vast_core.specs.Nests.{ConditionalRecord, NestRecord, BlockRecord, BranchRecord, SwitchRecord, RepeatRecord, VariableRecord, FunctionRecord, AlwaysRecord}
+use Rattle.vast_core.specs.Bench.{Bench}
+use Rattle.vast_core.specs.Functions.{with_listed_variable}
+use Rattle.vast_core.specs.Hoisting.{with_hoisted, with_members_hoisted}
+use Rattle.vast_core.specs.Containers.{NestedEntry, StatementEnters, ElseIfEnters, ElseEnters, CaseArmEnters, MemberEnters, with_entry, Listing, Nowhere, InFile, InHeader, InPorts, InModule, InFunction, InNest, AsSpare, with_listed, listed_modules, listed_functions, listed_nests, listed_spare, with_listing, added, Fresh, with_fresh, with_empty_block, spare_left, after_growth, read_off, held_by_entry, held_by_listing, held_by_fresh, made_containers, made, spare_taken, with_unique, with_case_unique}
+use Rattle.vast_core.specs.Parents.{Part, ContainerPart, FunctionPart, AlwaysPart, is_same, held_by_statement, held_by_member, held_by_else_if, held_by_block, held_by_case_arm, held_by_conditional, held_by_container, held_by_function, held_by_always, held_by_module, held, places, present, HasOneParent}
+use Rattle.vast_core.proofs.Lists.{length-changed_at}
+use Rattle.vast_core.proofs.Counts.{count-append, over-push, over-added, over-changed, over-hoisted}
+
+conditional-places :
+    (p : Part) (c : ConditionalRecord) →
+    places p (held_by_conditional c) ≡ places p (ContainerPart (block_index c.consequent) ∷ []) + (places p (flat_map held_by_else_if c.else_ifs) + places p (held_by_block c.otherwise))
+conditional-places p c =
+    let outer = count-append (is_same p) (ContainerPart (block_index c.consequent) ∷ []) (flat_map held_by_else_if c.else_ifs ++ held_by_block c.otherwise) in
+    let inner = count-append (is_same p) (flat_map held_by_else_if c.else_ifs) (held_by_block c.otherwise) in
+    omega (arith, outer, inner)
+
+-- A container gains at most what its new entry places.
+entered : (p : Part) (e : NestedEntry) (n : NestRecord) → places p (held_by_container (with_entry e n)) ≤ places p (held_by_container n) + places p (held_by_entry e)
+entered p (StatementEnters s) (BlockRecord statements) = let e = over-push (is_same p) held_by_statement statements s in omega (arith, e)
+entered p (StatementEnters s) (BranchRecord c) = omega arith
+entered p (StatementEnters s) (SwitchRecord c) = omega arith
+entered p (StatementEnters s) (RepeatRecord l) = omega arith
+entered p (ElseIfEnters a) (BlockRecord statements) = omega arith
+entered p (ElseIfEnters a) (BranchRecord c) =
+    let new = conditional-places p (record c { else_ifs = c.else_ifs ++ a ∷ [] }) in
+    let more = over-push (is_same p) held_by_else_if c.else_ifs a in
+    let old = conditional-places p c in
+    omega (arith, new, more, old)
+entered p (ElseIfEnters a) (SwitchRecord c) = omega arith
+entered p (ElseIfEnters a) (RepeatRecord l) = omega arith
+entered p (ElseEnters x) (BlockRecord statements) = omega arith
+entered p (ElseEnters x) (BranchRecord c) =
+    let new = conditional-places p (record c { otherwise = Some x }) in
+    let old = conditional-places p c in
+    omega (arith, new, old)
+entered p (ElseEnters x) (SwitchRecord c) = omega arith
+entered p (ElseEnters x) (RepeatRecord l) = omega arith
+entered p (CaseArmEnters a) (BlockRecord statements) = omega arith
+entered p (CaseArmEnters a) (BranchRecord c) = omega arith
+entered p (CaseArmEnters a) (SwitchRecord c) = let e = over-push (is_same p) held_by_case_arm c.arms a in omega (arith, e)
+entered p (CaseArmEnters a) (RepeatRecord l) = omega arith
+entered p (MemberEnters m) (BlockRecord statements) = omega arith
+entered p (MemberEnters m) (BranchRecord c) = omega arith
+entered p (MemberEnters m) (SwitchRecord c) = omega arith
+entered p (MemberEnters m) (RepeatRecord l) = let e = over-push (is_same p) held_by_member l.members m in omega (arith, e)
+
+listed : (p : Part) (entry : MemberEntry) (name : Option (List ℕ)) (m : ModuleRecord) → places p (held_by_module (with_listed entry name m)) ≤ places p (held_by_module m) + places p (held_by_member entry)
+listed p entry None m = let e = over-push (is_same p) held_by_member m.members entry in omega (arith, e)
+listed p entry (Some name) m = let e = over-push (is_same p) held_by_member m.members entry in omega (arith, e)
+
+-- The places of a whole file.
+
+file-places :
+    (p : Part) (b : Bench) → places p (held b) ≡
+    places p (flat_map held_by_container b.nests) + (places p (flat_map held_by_function b.functions) + (places p (flat_map held_by_always b.always_blocks) + (places p (flat_map held_by_module b.modules) + places p (held_by_block b.spare))))
+file-places p b =
+    let t = is_same p in
+    let modules = count-append t (flat_map held_by_module b.modules) (held_by_block b.spare) in
+    let always_blocks = count-append t (flat_map held_by_always b.always_blocks) (flat_map held_by_module b.modules ++ held_by_block b.spare) in
+    let functions = count-append t (flat_map held_by_function b.functions) (flat_map held_by_always b.always_blocks ++ (flat_map held_by_module b.modules ++ held_by_block b.spare)) in
+    let containers = count-append t (flat_map held_by_container b.nests) (flat_map held_by_function b.functions ++ (flat_map held_by_always b.always_blocks ++ (flat_map held_by_module b.modules ++ held_by_block b.spare))) in
+    omega (arith, containers, functions, always_blocks, modules)
+
+-- New nodes.
+
+empty-block : (p : Part) (block : Bool) (nests : List NestRecord) → places p (flat_map held_by_container (with_empty_block block nests)) ≡ places p (flat_map held_by_container nests)
+empty-block p false nests = refl
+empty-block p true nests = let e = over-push (is_same p) held_by_container nests (BlockRecord []) in omega (arith, e)
+
+spare-parts : (p : Part) (takes : Bool) (spare : Option VastStatementBlock) → places p (held_by_block (spare_left takes spare)) + places p (spare_taken takes spare) ≡ places p (held_by_block spare)
+spare-parts p false spare = omega arith
+spare-parts p true spare = omega arith
+
+module-parts : (p : Part) (o : Option ModuleRecord) → places p (read_off held_by_module o) ≡ 0 → (ms : List ModuleRecord) → places p (flat_map held_by_module (added ms o)) ≡ places p (flat_map held_by_module ms)
+module-parts p o h ms = let e = over-added (is_same p) held_by_module ms o in omega (arith, e, h)
+
+nodes-come :
+    (p : Part) (f : Fresh) (b : Bench) → places p (read_off held_by_module f.fresh_module) ≡ 0 →
+    places p (held (with_fresh f b)) + places p (spare_taken f.takes_spare b.spare) ≡ places p (held b) + places p (held_by_fresh f)
+nodes-come p f b none =
+    let t = is_same p in
+    let old = file-places p b in
+    let new = file-places p (with_fresh f b) in
+    let block = empty-block p f.block (added b.nests f.container) in
+    let containers = over-added t held_by_container b.nests f.container in
+    let functions = over-added t held_by_function b.functions f.function in
+    let always_blocks = over-added t held_by_always b.always_blocks f.always_block in
+    let modules = module-parts p f.fresh_module none b.modules in
+    let spare = spare-parts p f.takes_spare b.spare in
+    let outer = count-append t (read_off held_by_container f.container) (read_off held_by_function f.function ++ read_off held_by_always f.always_block) in
+    let inner = count-append t (read_off held_by_function f.function) (read_off held_by_always f.always_block) in
+    omega (arith, old, new, block, containers, functions, always_blocks, modules, spare, outer, inner)
+
+-- A new entry.
+
+same-body : (p : Part) (local : Bool) (v : VariableRecord) (f : FunctionRecord) → places p (held_by_function (with_listed_variable local v f)) ≤ places p (held_by_function f) + 0
+same-body p false v f = omega arith
+same-body p true v f = omega arith
+
+entry-comes : (p : Part) (l : Listing) (b : Bench) → places p (held (with_listing l b)) ≤ places p (held b) + places p (held_by_listing l)
+entry-comes p Nowhere b = omega arith
+entry-comes p (InFile entry) b = omega arith
+entry-comes p (InHeader owner x) b =
+    let old = file-places p b in
+    let new = file-places p (with_listing (InHeader owner x) b) in
+    let same = over-changed (is_same p) held_by_module (with_parameter_port x) 0 (λ m. omega arith) b.modules (module_index owner) in
+    omega (arith, old, new, same)
+entry-comes p (InPorts owner port name) b =
+    let old = file-places p b in
+    let new = file-places p (with_listing (InPorts owner port name) b) in
+    let same = over-changed (is_same p) held_by_module (with_port port name) 0 (λ m. omega arith) b.modules (module_index owner) in
+    omega (arith, old, new, same)
+entry-comes p (InModule owner entry name) b =
+    let old = file-places p b in
+    let new = file-places p (with_listing (InModule owner entry name) b) in
+    let more = over-changed (is_same p) held_by_module (with_listed entry name) (places p (held_by_member entry)) (listed p entry name) b.modules (module_index owner) in
+    omega (arith, old, new, more)
+entry-comes p (InFunction f local v) b =
+    let old = file-places p b in
+    let new = file-places p (with_listing (InFunction f local v) b) in
+    let same = over-changed (is_same p) held_by_function (with_listed_variable local v) 0 (same-body p local v) b.functions (function_index f) in
+    omega (arith, old, new, same)
+entry-comes p (InNest place entry) b =
+    let old = file-places p b in
+    let new = file-places p (with_listing (InNest place entry) b) in
+    let more = over-changed (is_same p) held_by_container (with_entry entry) (places p (held_by_entry entry)) (entered p entry) b.nests place in
+    omega (arith, old, new, more)
+entry-comes p (AsSpare block) b =
+    let old = file-places p b in
+    let new = file-places p (with_listing (AsSpare block) b) in
+    omega (arith, old, new)
+
+-- The parts that a file has.
+
+abbrev one_if : ℕ → ℕ → ℕ
+one_if i n = cond (nat_eq i n) 1 0
+
+abbrev below : ℕ → ℕ → ℕ
+below i n = cond (nat_lt i n) 1 0
+
+below-suc : (i n : ℕ) → below i (suc n) ≡ below i n + one_if i n
+below-suc i n = grind arith
+
+length-added : {A : Type 0} (xs : List A) (x : A) → length (xs ++ x ∷ []) ≡ suc (length xs)
+length-added xs x = omega (arith, length-append xs (x ∷ []))
+
+present-containers :
+    (i : ℕ) (ns : List NestRecord) (o : Option NestRecord) (block : Bool) → below i (length (with_empty_block block (added ns o))) ≡ below i (length ns) + places (ContainerPart i) (made_containers (length ns) o block)
+present-containers i ns None false = omega arith
+present-containers i ns None true = let e = below-suc i (length ns) in rw (length-added ns (BlockRecord [])) (omega (arith, e))
+present-containers i ns (Some x) false = let e = below-suc i (length ns) in rw (length-added ns x) (omega (arith, e))
+present-containers i ns (Some x) true =
+    let e = below-suc i (length ns) in
+    let f = below-suc i (suc (length ns)) in
+    rw (length-added (ns ++ x ∷ []) (BlockRecord []), length-added ns x) (omega (arith, e, f))
+
+present-functions : (i : ℕ) (xs : List FunctionRecord) (o : Option FunctionRecord) → below i (length (added xs o)) ≡ below i (length xs) + places (FunctionPart i) (read_off (λ x. FunctionPart (length xs) ∷ []) o)
+present-functions i xs None = omega arith
+present-functions i xs (Some x) = let e = below-suc i (length xs) in rw (length-added xs x) (omega (arith, e))
+
+present-always : (i : ℕ) (xs : List AlwaysRecord) (o : Option AlwaysRecord) → below i (length (added xs o)) ≡ below i (length xs) + places (AlwaysPart i) (read_off (λ x. AlwaysPart (length xs) ∷ []) o)
+present-always i xs None = omega arith
+present-always i xs (Some x) = let e = below-suc i (length xs) in rw (length-added xs x) (omega (arith, e))
+
+no-container : (i n : ℕ) (o : Option NestRecord) (block : Bool) → (places (FunctionPart i) (made_containers n o block) ≡ 0) × (places (AlwaysPart i) (made_containers n o block) ≡ 0)
+no-container i n None false = (refl, refl)
+no-container i n None true = (refl, refl)
+no-container i n (Some x) false = (refl, refl)
+no-container i n (Some x) true = (refl, refl)
+
+no-function : (i n : ℕ) (o : Option FunctionRecord) → (places (ContainerPart i) (read_off (λ x. FunctionPart n ∷ []) o) ≡ 0) × (places (AlwaysPart i) (read_off (λ x. FunctionPart n ∷ []) o) ≡ 0)
+no-function i n None = (refl, refl)
+no-function i n (Some x) = (refl, refl)
+
+no-always : (i n : ℕ) (o : Option AlwaysRecord) → (places (ContainerPart i) (read_off (λ x. AlwaysPart n ∷ []) o) ≡ 0) × (places (FunctionPart i) (read_off (λ x. AlwaysPart n ∷ []) o) ≡ 0)
+no-always i n None = (refl, refl)
+no-always i n (Some x) = (refl, refl)
+
+made-places :
+    (p : Part) (f : Fresh) (b : Bench) → places p (made b f) ≡
+    places p (read_off (λ x. FunctionPart (length b.functions) ∷ []) f.function) + (places p (read_off (λ x. AlwaysPart (length b.always_blocks) ∷ []) f.always_block) + places p (made_containers (length b.nests) f.container f.block))
+made-places p f b =
+    let fs : List Part = read_off (λ x. FunctionPart (length b.functions) ∷ []) f.function in
+    let us : List Part = read_off (λ x. AlwaysPart (length b.always_blocks) ∷ []) f.always_block in
+    let ns : List Part = made_containers (length b.nests) f.container f.block in
+    let outer = count-append (is_same p) fs (us ++ ns) in
+    let inner = count-append (is_same p) us ns in
+    omega (arith, outer, inner)
+
+present-made : (p : Part) (f : Fresh) (b : Bench) → present (with_fresh f b) p ≡ present b p + places p (made b f)
+present-made (ContainerPart i) f b =
+    let all = made-places (ContainerPart i) f b in
+    let containers = present-containers i b.nests f.container f.block in
+    let functions = (no-function i (length b.functions) f.function).0 in
+    let always_blocks = (no-always i (length b.always_blocks) f.always_block).0 in
+    omega (arith, all, containers, functions, always_blocks)
+present-made (FunctionPart i) f b =
+    let all = made-places (FunctionPart i) f b in
+    let containers = (no-container i (length b.nests) f.container f.block).0 in
+    let functions = present-functions i b.functions f.function in
+    let always_blocks = (no-always i (length b.always_blocks) f.always_block).1 in
+    omega (arith, all, containers, functions, always_blocks)
+present-made (AlwaysPart i) f b =
+    let all = made-places (AlwaysPart i) f b in
+    let containers = (no-container i (length b.nests) f.container f.block).1 in
+    let functions = (no-function i (length b.functions) f.function).1 in
+    let always_blocks = present-always i b.always_blocks f.always_block in
+    omega (arith, all, containers, functions, always_blocks)
+
+length-nests : (l : Listing) (ns : List NestRecord) → length (listed_nests l ns) ≡ length ns
+length-nests (InNest place entry) ns = length-changed_at (with_entry entry) ns place
+length-nests Nowhere ns = refl
+length-nests (InFile entry) ns = refl
+length-nests (InHeader owner x) ns = refl
+length-nests (InPorts owner port name) ns = refl
+length-nests (InModule owner entry name) ns = refl
+length-nests (InFunction f local v) ns = refl
+length-nests (AsSpare block) ns = refl
+
+length-functions : (l : Listing) (fs : List FunctionRecord) → length (listed_functions l fs) ≡ length fs
+length-functions (InFunction f local v) fs = length-changed_at (with_listed_variable local v) fs (function_index f)
+length-functions Nowhere fs = refl
+length-functions (InFile entry) fs = refl
+length-functions (InHeader owner x) fs = refl
+length-functions (InPorts owner port name) fs = refl
+length-functions (InModule owner entry name) fs = refl
+length-functions (InNest place entry) fs = refl
+length-functions (AsSpare block) fs = refl
+
+present-listed : (p : Part) (l : Listing) (b : Bench) → present (with_listing l b) p ≡ present b p
+present-listed (ContainerPart i) l b = ap (below i) (length-nests l b.nests)
+present-listed (FunctionPart i) l b = ap (below i) (length-functions l b.functions)
+present-listed (AlwaysPart i) l b = refl
+
+-- A growth that places what it makes, each once.
+pub HasOneParent-growth :
+    (b : Bench) (l : Listing) (f : Fresh) → ((p : Part) → places p (read_off held_by_module f.fresh_module) ≡ 0) →
+    held_by_listing l ++ held_by_fresh f ≡ made b f ++ spare_taken f.takes_spare b.spare → HasOneParent b → HasOneParent (after_growth l f b)
+HasOneParent-growth b l f none placed h =
+    record {
+      once = λ p.
+      let t = is_same p in
+      let old = h.once p in
+      let nodes = nodes-come p f b (none p) in
+      let entry = entry-comes p l (with_fresh f b) in
+      let there = present-listed p l (with_fresh f b) in
+      let more = present-made p f b in
+      let same = ap (places p) placed in
+      let left = count-append t (held_by_listing l) (held_by_fresh f) in
+      let right = count-append t (made b f) (spare_taken f.takes_spare b.spare) in
+      omega (arith, old, nodes, entry, there, more, same, left, right);
+    }
+
+-- Hoisting, and a case statement that is made unique.
+
+pub HasOneParent-hoisted : (b : Bench) (owner : VastModule) (start : ℕ) → HasOneParent b → HasOneParent (with_hoisted owner start b)
+HasOneParent-hoisted b owner start h =
+    record {
+      once = λ p.
+      let old = h.once p in
+      let before = file-places p b in
+      let after = file-places p (with_hoisted owner start b) in
+      let same = over-changed (is_same p) held_by_module (with_members_hoisted start) 0 (λ m. let e = over-hoisted (is_same p) held_by_member start m.members in omega (arith, e)) b.modules (module_index owner) in
+      omega (arith, old, before, after, same);
+    }
+
+same-unique : (p : Part) (unique : Bool) (n : NestRecord) → places p (held_by_container (with_unique unique n)) ≤ places p (held_by_container n) + 0
+same-unique p unique (BlockRecord statements) = omega arith
+same-unique p unique (BranchRecord c) = omega arith
+same-unique p unique (SwitchRecord c) = omega arith
+same-unique p unique (RepeatRecord l) = omega arith
+
+present-unique : (p : Part) (c : CaseStatement) (unique : Bool) (b : Bench) → present (with_case_unique c unique b) p ≡ present b p
+present-unique (ContainerPart i) c unique b = ap (below i) (length-changed_at (with_unique unique) b.nests (case_index c))
+present-unique (FunctionPart i) c unique b = refl
+present-unique (AlwaysPart i) c unique b = refl
+
+pub HasOneParent-unique : (b : Bench) (c : CaseStatement) (unique : Bool) → HasOneParent b → HasOneParent (with_case_unique c unique b)
+HasOneParent-unique b c unique h =
+    record {
+      once = λ p.
+      let old = h.once p in
+      let before = file-places p b in
+      let after = file-places p (with_case_unique c unique b) in
+      let there = present-unique p c unique b in
+      let same = over-changed (is_same p) held_by_container (with_unique unique) 0 (same-unique p unique) b.nests (case_index c) in
+      omega (arith, old, before, after, there, same);
+    }

@@ -1,0 +1,81 @@
+-- In how many places each container, function and always block of a file stands: in one at most.
+use Rattle.std.specs.Prelude.{ℕ, ◌+◌, ◌≤◌, Bool, true, false, List, [], ◌∷◌, ◌++◌, length, flat_map, count_by, nat_eq, nat_lt, cond, Option, Some, None}
+use Rattle.vast_core.specs.declared.handle.VastStatementBlock.{VastStatementBlock}
+use Rattle.vast_core.specs.declared.node.ElseIf.{ElseIf}
+use Rattle.vast_core.specs.declared.node.CaseArm.{CaseArm}
+use Rattle.vast_core.specs.Handles.{function_index, always_index, block_index, conditional_index, case_index, loop_index}
+use Rattle.vast_core.specs.Records.{MemberEntry, FunctionEntry, AlwaysEntry, ConditionalEntry, LoopEntry, ModuleRecord}
+use Rattle.vast_core.specs.Nests.{StatementEntry, ConditionalStatement, CasesStatement, ConditionalRecord, NestRecord, BlockRecord, BranchRecord, SwitchRecord, RepeatRecord, FunctionRecord, AlwaysRecord}
+use Rattle.vast_core.specs.Bench.{Bench}
+
+-- What stands in a place of the file: a container, a function or an always block, by its number among its like.
+pub data Part : Type 0 where
+  ContainerPart : ℕ → Part
+  FunctionPart : ℕ → Part
+  AlwaysPart : ℕ → Part
+
+abbrev pub is_same : Part → Part → Bool
+is_same (ContainerPart i) (ContainerPart j) = nat_eq i j
+is_same (FunctionPart i) (FunctionPart j) = nat_eq i j
+is_same (AlwaysPart i) (AlwaysPart j) = nat_eq i j
+is_same _ _ = false
+
+-- The parts that each holds directly: a statement, a member, an arm, a container, a function, an always block, a module.
+
+abbrev pub held_by_statement : StatementEntry → List Part
+held_by_statement (ConditionalStatement c) = ContainerPart (conditional_index c) ∷ []
+held_by_statement (CasesStatement c) = ContainerPart (case_index c) ∷ []
+held_by_statement _ = []
+
+abbrev pub held_by_member : MemberEntry → List Part
+held_by_member (FunctionEntry f) = FunctionPart (function_index f) ∷ []
+held_by_member (AlwaysEntry a) = AlwaysPart (always_index a) ∷ []
+held_by_member (ConditionalEntry c) = ContainerPart (conditional_index c) ∷ []
+held_by_member (LoopEntry l) = ContainerPart (loop_index l) ∷ []
+held_by_member _ = []
+
+abbrev pub held_by_else_if : ElseIf → List Part
+held_by_else_if a = ContainerPart (block_index a.block) ∷ []
+
+abbrev pub held_by_block : Option VastStatementBlock → List Part
+held_by_block None = []
+held_by_block (Some c) = ContainerPart (block_index c) ∷ []
+
+abbrev pub held_by_case_arm : CaseArm → List Part
+held_by_case_arm a = ContainerPart (block_index a.block) ∷ []
+
+abbrev pub held_by_conditional : ConditionalRecord → List Part
+held_by_conditional c = ContainerPart (block_index c.consequent) ∷ (flat_map held_by_else_if c.else_ifs ++ held_by_block c.otherwise)
+
+abbrev pub held_by_container : NestRecord → List Part
+held_by_container (BlockRecord statements) = flat_map held_by_statement statements
+held_by_container (BranchRecord c) = held_by_conditional c
+held_by_container (SwitchRecord c) = flat_map held_by_case_arm c.arms
+held_by_container (RepeatRecord l) = flat_map held_by_member l.members
+
+abbrev pub held_by_function : FunctionRecord → List Part
+held_by_function f = ContainerPart (block_index f.body) ∷ []
+
+abbrev pub held_by_always : AlwaysRecord → List Part
+held_by_always a = ContainerPart (block_index a.block) ∷ []
+
+abbrev pub held_by_module : ModuleRecord → List Part
+held_by_module m = flat_map held_by_member m.members
+
+-- The parts that stand anywhere in the file; its spare block stands in a place of its own.
+abbrev pub held : Bench → List Part
+held b = flat_map held_by_container b.nests ++ (flat_map held_by_function b.functions ++ (flat_map held_by_always b.always_blocks ++ (flat_map held_by_module b.modules ++ held_by_block b.spare)))
+
+-- In how many places a part stands.
+abbrev pub places : Part → List Part → ℕ
+places p parts = count_by (is_same p) parts
+
+-- 1 for a part that the file has, 0 for another.
+abbrev pub present : Bench → Part → ℕ
+present b (ContainerPart i) = cond (nat_lt i (length b.nests)) 1 0
+present b (FunctionPart i) = cond (nat_lt i (length b.functions)) 1 0
+present b (AlwaysPart i) = cond (nat_lt i (length b.always_blocks)) 1 0
+
+-- Each part of the file stands in at most one place, and nothing holds what the file does not have.
+pub record HasOneParent (b : Bench) : Type 0 where
+  pub once : (p : Part) → places p (held b) ≤ present b p
