@@ -1,5 +1,5 @@
 -- Laws of the conditional of a reset, and of the block that it ends.
-use Rattle.std.proofs.Common.{◌≡◌, ◌≢◌, ℕ, suc, ◌+◌, ◌<◌, ◌≤◌, ◌⊎◌, Bool, true, false, List, [], ◌∷◌, ◌++◌, length, All, Option, Some, None, slice_get, refl, ap, ◌∙◌, inl, inr, arith, append-nil, length-append}
+use Rattle.std.proofs.Common.{◌≡◌, ◌≢◌, ℕ, suc, ◌<◌, ◌≤◌, Bool, true, false, List, [], ◌∷◌, ◌++◌, length, All, Option, Some, None, slice_get, refl, ◌∙◌, inl, inr, arith, append-nil, length-append}
 use Rattle.std.specs.List.{list_any}
 use Rattle.vast_literal.specs.Tree.{StatementTree, ConditionalTree, Else, UnaryTree, LogicalNotOp}
 use Rattle.vast_core.specs.declared.handle.Expr.{Expr}
@@ -19,10 +19,10 @@ use Rattle.xlsynth_vast.specs.declared.helpers.registers.RegisterDefinition.{Reg
 use Rattle.xlsynth_vast.specs.declared.helpers.registers.Share.TheVariants.{AtReset, OutsideReset}
 use Rattle.xlsynth_vast.specs.Inspections.{then_block_at}
 use Rattle.xlsynth_vast.specs.Reductions.{IsTree}
-use Rattle.xlsynth_vast.specs.Registers.{RegisterTree, ResetTree, register_trees, reset_tree, maybe_reset_tree, active_tree, assigned_all, value_at_reset, value_outside_reset, block_of, by_reset, OwnsRegister, OwnsReset}
+use Rattle.xlsynth_vast.specs.Registers.{register_trees, reset_tree, maybe_reset_tree, active_tree, assigned_all, value_at_reset, value_outside_reset, block_of, by_reset, OwnsRegister, OwnsReset}
 use Rattle.xlsynth_vast.specs.AddedRegisters.{is_resettable, active_expr, with_active, with_if, with_if_else, first_block, second_block, with_all_assigned, with_branches, with_reset, with_maybe_reset}
 use Rattle.xlsynth_vast.proofs.RegisterParts.{any-tree, Wider, wider_owned, wider_tree, registers-owned, registers-kept, get-changed, get-unchanged, Changes, changes-none, changes-then, changes-root, changes-nest, changes-entry}
-use Rattle.xlsynth_vast.proofs.RegisterBlocks.{AreAssigned, are-kept, Stands, stands-still, stands-kept, if-changes, all-assigned-changes, all-assigned-stands}
+use Rattle.xlsynth_vast.proofs.RegisterBlocks.{AreAssigned, are-kept, Stands, stands-kept, if-changes, all-assigned-changes, all-assigned-stands}
 
 -- The condition.
 

@@ -1,7 +1,6 @@
 -- Laws of the member that registers become: the block that it takes, and its tree.
-use Rattle.std.proofs.Common.{◌≡◌, ◌≢◌, ℕ, suc, zero, ◌+◌, ◌-◌, ◌<◌, ◌≤◌, List, [], ◌∷◌, ◌++◌, length, All, Option, Some, None, slice_get, Ok, Err, IsErr, Result, refl, ap, ◌∙◌, ◌⊎◌, inl, inr, arith, append-nil, length-append}
-use Rattle.std.specs.declared.alloc.AllocError.{AllocError}
-use Rattle.vast_literal.specs.Tree.{ExprTree, StatementTree, PosEdgeTree, MoreStatements, NoStatements, ConditionalTree, Else}
+use Rattle.std.proofs.Common.{◌≡◌, ℕ, suc, zero, ◌<◌, ◌≤◌, List, [], ◌∷◌, ◌++◌, length, All, Option, Some, None, slice_get, Ok, Err, refl, ap, ◌∙◌, inl, arith, append-nil}
+use Rattle.vast_literal.specs.Tree.{StatementTree, PosEdgeTree, MoreStatements, NoStatements}
 use Rattle.vast_literal.specs.declared.error.VastFault.{VastFault}
 use Rattle.vast_literal.specs.declared.error.VastFault.TheVariants.{Refused, Memory}
 use Rattle.vast_literal.specs.Fault.{RefusedBy}
@@ -31,8 +30,8 @@ use Rattle.xlsynth_vast.specs.declared.helpers.registers.RegisterScope.{Register
 use Rattle.xlsynth_vast.specs.declared.helpers.registers.RegisterScope.TheVariants.{Module as ModuleScope, GenerateLoop as LoopScope}
 use Rattle.xlsynth_vast.specs.declared.helpers.registers.Share.TheVariants.{Unreset}
 use Rattle.xlsynth_vast.specs.Expressions.{with_pos_edge}
-use Rattle.xlsynth_vast.specs.Registers.{RegisterTree, ResetTree, block_of, unreset_value, assigned_all, by_reset, register_block, registers_member, OwnsScope, OwnsReset, OwnsRegister, HasUnused, unless_unresettable, maybe_reset_tree, register_trees, reset_tree}
-use Rattle.xlsynth_vast.specs.AddedRegisters.{with_all_assigned, with_maybe_reset, with_register_block, with_clocked, with_clocked_at, with_registers, AddsRegisters, MayAddRegisters}
+use Rattle.xlsynth_vast.specs.Registers.{block_of, unreset_value, assigned_all, by_reset, registers_member, OwnsScope, OwnsReset, OwnsRegister, HasUnused, unless_unresettable, maybe_reset_tree, register_trees}
+use Rattle.xlsynth_vast.specs.AddedRegisters.{with_all_assigned, with_register_block, with_clocked_at, with_registers, MayAddRegisters}
 use Rattle.xlsynth_vast.specs.RegisterSteps.{IsOlderScope}
 use Rattle.xlsynth_vast.proofs.RegisterParts.{Wider, wider-wider, wider_owned, wider_tree, registers-owned, registers-kept, get-unchanged, get-within, unused-none, unused-block, unused-wider, Changes, changes-then, changes-root}
 use Rattle.xlsynth_vast.proofs.RegisterBlocks.{AreAssigned, are-kept, Stands, stands-still, all-assigned-changes, all-assigned-stands}

@@ -11,7 +11,7 @@ use Rattle.vast_core.specs.Nests.{NestRecord, BlockRecord}
 use Rattle.vast_core.specs.Bench.{Bench, OwnsExpr, OwnsBlock, tree_of}
 use Rattle.vast_core.specs.Growth.{with_root, with_assignment}
 use Rattle.vast_core.specs.Containers.{NestedEntry, with_entry, with_nest, with_nest_entry, with_spare_block}
-use Rattle.vast_core.proofs.Lists.{slice_get-append, slice_get-past}
+use Rattle.vast_core.proofs.Lists.{slice_get-append}
 use Rattle.vast_core.proofs.NodeLaws.{Extends, Extends-same, Extends-root, HasExpr-kept, expr_in-kept}
 use Rattle.vast_core.proofs.NestLaws.{entered_block_owned, old_block_owned}
 use Rattle.xlsynth_vast.specs.declared.helpers.registers.Reset.{Reset}

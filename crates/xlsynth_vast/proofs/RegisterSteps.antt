@@ -1,5 +1,5 @@
 -- What the steps answer by which the block of registers is made: each leaves what its equation says, or leaves unused what was.
-use Rattle.std.proofs.Common.{◌≡◌, ℕ, ◌<◌, ◌≤◌, ◌⊎◌, Bool, true, false, List, length, All, Option, Some, None, slice_get, Result, Ok, Err, IsErr, refl, sym, ◌∙◌, inl, inr, arith}
+use Rattle.std.proofs.Common.{◌≡◌, ℕ, ◌<◌, ◌≤◌, ◌⊎◌, true, false, List, length, All, Option, Some, None, slice_get, Result, Ok, Err, IsErr, refl, sym, ◌∙◌, inl, inr, arith}
 use Rattle.std.specs.List.{list_any}
 use Rattle.std.specs.declared.alloc.AllocError.{AllocError}
 use Rattle.vast_core.specs.declared.handle.Expr.{Expr}
@@ -25,8 +25,8 @@ use Rattle.xlsynth_vast.specs.AddedRegisters.{is_resettable, value_expr, with_va
 use Rattle.xlsynth_vast.specs.RegisterSteps.{StaysUnused, MayFill, MayMakeBlock, IsOlderScope}
 use Rattle.xlsynth_vast.proofs.RegisterParts.{wider_owned, registers-owned, unused-none, unused-block, unused-count, unused-wider, Changes, changes-then}
 use Rattle.xlsynth_vast.proofs.RegisterBlocks.{value-changes, value-made, all-assigned-changes}
-use Rattle.xlsynth_vast.proofs.RegisterBranches.{active-changes, active-made, opened-changes, opened-owned, opened-then, opened-else, both-changes, first-owned, second-owned, second-place, reset-changes}
-use Rattle.xlsynth_vast.proofs.RegisterMembers.{spare-owned, spare-registers, filled-wider, block-unused, block-spare, edge-sound, edge-unused, scope-owned, scope-older, registers-added}
+use Rattle.xlsynth_vast.proofs.RegisterBranches.{active-changes, active-made, opened-changes, opened-owned, opened-then, opened-else, both-changes, first-owned, second-owned, second-place}
+use Rattle.xlsynth_vast.proofs.RegisterMembers.{spare-owned, filled-wider, block-unused, block-spare, edge-sound, edge-unused, scope-owned, scope-older, registers-added}
 
 -- Where memory was refused.
 

@@ -1,11 +1,9 @@
 -- Nodes that nothing else uses are not in a file's tree.
-use Rattle.std.proofs.Common.{◌≡◌, ℕ, List, [], ◌++◌, Result, Ok, Err, refl, ap, ◌∙◌, append-nil}
+use Rattle.std.proofs.Common.{◌≡◌, ℕ, List, [], Result, Ok, Err, refl, ap, ◌∙◌, append-nil}
 use Rattle.vast_literal.specs.declared.error.VastFault.{VastFault}
 use Rattle.vast_literal.specs.declared.error.VastFault.TheVariants.{Refused, Memory}
 use Rattle.vast_literal.specs.Tree.{ExprTree}
 use Rattle.vast_core.specs.declared.handle.Expr.{Expr}
-use Rattle.vast_core.specs.declared.node.Assignment.{Assignment}
-use Rattle.vast_core.specs.Nests.{NestRecord}
 use Rattle.vast_core.specs.Bench.{Bench}
 use Rattle.vast_core.specs.Sound.{RecordsSound}
 use Rattle.vast_core.specs.FileTree.{tree}

@@ -1,5 +1,5 @@
 -- What adding registers leaves: the equations of its steps, from value to member.
-use Rattle.std.specs.Prelude.{◌≡◌, suc, Bool, true, false, List, [], ◌∷◌, length, Option, Some, None, Result, Ok, Err, string_bytes, if◌then◌else◌}
+use Rattle.std.specs.Prelude.{◌≡◌, suc, Bool, true, List, [], ◌∷◌, length, Option, Some, None, Result, Ok, Err, string_bytes, if◌then◌else◌}
 use Rattle.std.specs.List.{list_any}
 use Rattle.vast_literal.specs.declared.error.VastFault.{VastFault}
 use Rattle.vast_literal.specs.declared.error.VastFault.TheVariants.{Refused, Memory}

@@ -1,5 +1,5 @@
 -- What the steps leave by which the block of registers is made.
-use Rattle.std.specs.Prelude.{◌≡◌, ◌<◌, ◌≤◌, List, length, Option, Some, None, Result, Ok, Err}
+use Rattle.std.specs.Prelude.{◌≡◌, ◌<◌, ◌≤◌, List, length, Option, Result, Ok, Err}
 use Rattle.std.specs.declared.alloc.AllocError.{AllocError}
 use Rattle.vast_core.specs.declared.handle.VastStatementBlock.{VastStatementBlock}
 use Rattle.vast_core.specs.Handles.{block_index, loop_index}

@@ -1,5 +1,5 @@
 -- proofs/helpers/registers/add_registers/Answers.antt
-use Rattle.std.proofs.Common.{rules, ◌≡◌, ◌<◌, length, Err, refl}
+use Rattle.std.proofs.Common.{rules, ◌≡◌, ◌<◌, length, Err}
 use Rattle.vast_literal.specs.declared.error.VastFault.TheVariants.{Memory}
 use Rattle.vast_core.specs.View.{bench}
 use Rattle.xlsynth_vast.proofs.RegisterMembers.{check-refused}

@@ -1,5 +1,5 @@
 -- proofs/helpers/registers/assign_all/Answers.antt
-use Rattle.std.proofs.Common.{◌≡◌, ℕ, List, None, get_or, take, inl, refl}
+use Rattle.std.proofs.Common.{◌≡◌, List, None, get_or, take, inl, refl}
 use Rattle.std.proofs.lemmas.List.{get_or_default}
 use Rattle.vast_core.specs.declared.handle.Expr.{Expr}
 use Rattle.vast_core.specs.declared.handle.VastStatementBlock.{VastStatementBlock}

@@ -1,14 +1,9 @@
 -- proofs/helpers/registers/branch/Answers.antt
-use Rattle.std.proofs.Common.{◌≡◌, inl, inr, refl}
-use Rattle.vast_core.specs.Bench.{Bench, OwnsBlock}
-use Rattle.vast_core.specs.declared.handle.VastStatementBlock.{VastStatementBlock}
+use Rattle.std.proofs.Common.{inl, inr, refl}
 use Rattle.vast_core.specs.Handles.{block_index}
 use Rattle.vast_core.specs.View.{bench}
-use Rattle.xlsynth_vast.specs.declared.helpers.registers.Reset.{Reset}
-use Rattle.xlsynth_vast.specs.AddedRegisters.{with_active, active_expr}
-use Rattle.xlsynth_vast.proofs.RegisterParts.{registers-owned, Changes, changes-then}
-use Rattle.xlsynth_vast.proofs.RegisterBranches.{active-changes, active-made}
-use Rattle.xlsynth_vast.proofs.RegisterSteps.{fill-refused, stays-same, stays-then, conditional-owned, conditional-open, opened-stays, both, Both, ready, half-changes, half-owned, branch-end, condition-owned, condition-changes, both-behind}
+use Rattle.xlsynth_vast.proofs.RegisterParts.{registers-owned, changes-then}
+use Rattle.xlsynth_vast.proofs.RegisterSteps.{fill-refused, stays-same, stays-then, conditional-owned, conditional-open, opened-stays, ready, half-changes, half-owned, branch-end, condition-owned, condition-changes, both-behind}
 use Rattle.xlsynth_vast.proofs.helpers.registers.branch.Goals as goal
 
 pub returns-in_err-condition : goal.returns-in_err-condition

@@ -1,5 +1,5 @@
 -- proofs/helpers/registers/make_block/Answers.antt
-use Rattle.std.proofs.Common.{refl, sym, ◌∙◌}
+use Rattle.std.proofs.Common.{sym}
 use Rattle.vast_core.specs.View.{bench}
 use Rattle.xlsynth_vast.proofs.RegisterParts.{unused-none}
 use Rattle.xlsynth_vast.proofs.RegisterMembers.{spare-owned, spare-registers}
