@@ -50,7 +50,7 @@ always-comes b kind events h =
 pub always-enters :
     (b : Bench) (owner : VastModule) (kind : AlwaysKind) (events : List Expr) → OwnsModule b owner → All (EventSound b) events →
     GrowthSound b (InModule owner (AlwaysEntry (next_always b)) None) (fresh_always (new_always b kind events))
-always-enters b owner kind events h k = record { fresh = always-comes b kind events k; listing = record { owner_there = h; member = next_always_owned b kind events; declares = refl; free = tt }; placed = refl }
+always-enters b owner kind events h k = record { fresh = always-comes b kind events k; listing = record { owner_there = h; member = next_always_owned b kind events; kind = tt; declares = refl; free = tt }; placed = refl }
 
 pub loop_always-enters :
     (b : Bench) (owner : GenerateLoop) (kind : AlwaysKind) (events : List Expr) → OwnsLoop b owner → All (EventSound b) events →
@@ -67,7 +67,7 @@ loop_always-enters b owner kind events h k =
 pub conditional_member-enters :
     (b : Bench) (owner : VastModule) (condition : Expr) → OwnsModule b owner → OwnsExpr b condition →
     GrowthSound b (InModule owner (ConditionalEntry (next_conditional b)) None) (fresh_container (new_conditional b condition) true)
-conditional_member-enters b owner condition h k = record { fresh = conditional-comes b condition k; listing = record { owner_there = h; member = next_conditional_owned b condition; declares = refl; free = tt }; placed = refl }
+conditional_member-enters b owner condition h k = record { fresh = conditional-comes b condition k; listing = record { owner_there = h; member = next_conditional_owned b condition; kind = tt; declares = refl; free = tt }; placed = refl }
 
 pub loop_conditional-enters :
     (b : Bench) (owner : GenerateLoop) (condition : Expr) → OwnsLoop b owner → OwnsExpr b condition →
@@ -108,7 +108,7 @@ pub loop-enters :
     (b : Bench) (owner : VastModule) (variable : String Global) (name : List ℕ) (start limit : Expr) (label : Option (List ℕ)) → OwnsModule b owner → OwnsExpr b start → OwnsExpr b limit →
     GrowthSound b (InModule owner (LoopEntry (next_loop b)) None) (fresh_loop variable (new_loop b name start limit label))
 loop-enters b owner variable name start limit label h k m =
-    record { fresh = loop-comes b variable name start limit label k m; listing = record { owner_there = h; member = loop_owned b variable name start limit label; declares = refl; free = tt }; placed = refl }
+    record { fresh = loop-comes b variable name start limit label k m; listing = record { owner_there = h; member = loop_owned b variable name start limit label; kind = tt; declares = refl; free = tt }; placed = refl }
 
 pub loop_loop-enters :
     (b : Bench) (owner : GenerateLoop) (variable : String Global) (name : List ℕ) (start limit : Expr) (label : Option (List ℕ)) → OwnsLoop b owner → OwnsExpr b start → OwnsExpr b limit →
@@ -192,6 +192,7 @@ function-enters b owner variable name type h k free =
         port = tt; fresh_module = tt; definition = tt; artifact = tt; instance = tt; assignment = tt;
         container = tt;
         function = record {
+          sound = record {
           result_type = HasType-kept b.nodes (with_node b.nodes r) (Extends-root b.nodes r) type k;
           result_name = named_owned b (grown_function b variable name type) r (string_bytes variable) (Typed (type_of b type)) refl refl;
           inputs = tt;
@@ -199,10 +200,12 @@ function-enters b owner variable name type h k free =
           body = body_owned b variable name type;
           distinct = (λ k d below. absurd (omega arith), tt);
           taken = λ other. (λ h. h, λ h. h);
+          };
+          kinds = tt;
         };
         always_block = tt;
       };
-      listing = record { owner_there = h; member = function_owned b variable name type; declares = rw (slice_get-seam b.functions (new_function b name type)) refl; free = free };
+      listing = record { owner_there = h; member = function_owned b variable name type; kind = tt; declares = rw (slice_get-seam b.functions (new_function b name type)) refl; free = free };
       placed = refl;
     }
 

@@ -31,6 +31,7 @@ use Rattle.vast_core.specs.Sound.{FileSound}
 use Rattle.vast_core.proofs.Hoisting.{members-hoisted}
 use Rattle.vast_core.proofs.OneParent.{HasOneParent-hoisted}
 use Rattle.vast_core.proofs.ModuleNames.{names-hoisted}
+use Rattle.vast_core.proofs.KindsKept.{KindsSound-hoisted}
 use Rattle.std.proofs.Common.{Option, Some, None}
 
 pub Grows-changed : (b : Bench) (i : ℕ) (f : ModuleRecord → ModuleRecord) → Grows b (record b { modules = changed_at i f b.modules })
@@ -74,6 +75,7 @@ FileSound-hoisted b m start s =
       spare = spare-hoisted b m start b.spare s.spare;
       names = names-hoisted b m start s.names;
       parents = HasOneParent-hoisted b m start s.parents;
+      kinds = KindsSound-hoisted b m start s.kinds;
     }
 
 pub sound-hoisted :

@@ -50,7 +50,7 @@ pub always_over-enters :
     (b : Bench) (owner : VastModule) (kind : AlwaysKind) (events : List Expr) (block : VastStatementBlock) → OwnsModule b owner → All (EventSound b) events → OwnsBlock b block → b.spare ≡ Some block →
     GrowthSound b (InModule owner (AlwaysEntry (next_always b)) None) (fresh_over (always_over kind events block))
 always_over-enters b owner kind events block h k m spare =
-    record { fresh = over-comes b kind events block k m; listing = record { owner_there = h; member = next_over_owned b kind events block; declares = refl; free = tt }; placed = rw spare refl }
+    record { fresh = over-comes b kind events block k m; listing = record { owner_there = h; member = next_over_owned b kind events block; kind = tt; declares = refl; free = tt }; placed = rw spare refl }
 
 pub loop_always_over-enters :
     (b : Bench) (owner : GenerateLoop) (kind : AlwaysKind) (events : List Expr) (block : VastStatementBlock) → OwnsLoop b owner → All (EventSound b) events → OwnsBlock b block → b.spare ≡ Some block →

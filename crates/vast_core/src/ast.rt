@@ -25,7 +25,6 @@ mod functions;
 mod growth;
 mod hoisting;
 mod inspect;
-mod laws;
 mod localparams;
 mod loops;
 mod members;

@@ -3,6 +3,7 @@
 ghost use Rattle.std.specs.Prelude.{◌≡◌, []};
 ghost use Rattle.vast_core.specs.DeclaredNames.{names_by_member};
 ghost use Rattle.vast_core.specs.Parents.{held_by_member};
+ghost use Rattle.vast_core.specs.WrittenKinds.{HasOwnKind, IsOwnKind};
 ghost use Rattle.vast_core.specs.Records.{member_entry, DeclarationEntry, AssignmentEntry, BlankEntry, CommentEntry, InlineEntry, MacroEntry, InstanceEntry};
 ghost use Rattle.vast_core.specs.Bench.{NameIsFree, OwnsModule, OwnsType, OwnsContinuous, OwnsBlankLine, OwnsComment, OwnsInline, OwnsMacroStatement, OwnsInstantiation};
 ghost use Rattle.vast_core.specs.Sound.{MemberSound};
@@ -24,6 +25,7 @@ impl Ast {
     fn append_member(&mut self, owner: VastModule, member: Member) -> Result<(), AllocError>
         requires owner { OwnsModule (bench self.old) owner }
         requires member { MemberSound (bench self.old) (member_entry member) }
+        requires kind { HasOwnKind (member_entry member) }
         requires no_name { names_by_member (bench self.old).functions (member_entry member) ≡ [] }
         requires no_part { held_by_member (member_entry member) ≡ [] }
         ensures { Builds (bench self.old) (bench self.new) result tt (with_member owner (member_entry member) (bench self.old)) }
@@ -31,8 +33,8 @@ impl Ast {
         self.grow(Place::Module(owner, member, None), Arrivals::none())
     }
 
-    /// Adds a wire, reg or logic as the module's last member, and answers its name as an expression. The module's
-    /// name set gains the name; whether it was free is the caller's to know ([`Module::name_is_free`]).
+    /// Adds a wire, reg or logic as the module's last member, and answers its name as an expression. The name is free
+    /// ([`Module::name_is_free`]), and is taken from then on.
     ///
     /// # Errors
     /// `AllocError` where a growth was refused; nothing changed.
@@ -45,6 +47,7 @@ impl Ast {
         data_type: VastDataType,
     ) -> Result<LogicRef, AllocError>
         requires owner { OwnsModule (bench self.old) owner }
+        requires kind { IsOwnKind kind }
         requires data_type { OwnsType (bench self.old) data_type }
         requires free { NameIsFree (bench self.old) owner name.now }
         ensures { Builds (bench self.old) (bench self.new) result (next_logic_ref (bench self.old)) (with_declaration owner kind name.now data_type (bench self.old)) }
