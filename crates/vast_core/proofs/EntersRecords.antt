@@ -94,10 +94,6 @@ name-comes b name type h = record { term = (h, tt); assignment = tt; container =
 
 -- Members of a module.
 
-pub plain_member-enters :
-    (b : Bench) (owner : VastModule) (m : MemberEntry) → OwnsModule b owner → MemberSound b m → HasOwnKind m → names_by_member b.functions m ≡ [] → held_by_member m ≡ [] → GrowthSound b (InModule owner m None) no_fresh
-plain_member-enters b owner m h k kind names parts = record { fresh = nothing-comes b b; listing = record { owner_there = h; member = k; kind = kind; declares = names; free = tt }; placed = rw parts refl }
-
 pub declaration-enters :
     (b : Bench) (owner : VastModule) (kind : DataKind) (own taken : List ℕ) (name : String Global) (t : VastDataType) → own ≡ taken → OwnsModule b owner → IsOwnKind kind → OwnsType b t → NameIsFree b owner taken →
     GrowthSound b (InModule owner (DeclarationEntry kind own t) (Some taken)) (fresh_name name (Some t))
@@ -113,17 +109,6 @@ pub declaration-enters-as :
     (b : Bench) (owner : VastModule) (kind : DataKind) (n own taken : List ℕ) (name : String Global) (t : VastDataType) → own ≡ n → taken ≡ n → OwnsModule b owner → IsOwnKind kind → OwnsType b t → NameIsFree b owner n →
     GrowthSound b (InModule owner (DeclarationEntry kind own t) (Some taken)) (fresh_name name (Some t))
 declaration-enters-as b owner kind n own taken name t e f h own_kind k free = rw (e, f) (declaration-enters b owner kind n n name t refl h own_kind k free)
-
-pub module_parameter-enters :
-    (b : Bench) (owner : VastModule) (local : Bool) (form : FormEntry) (value : Expr) (name : String Global) (type : Option VastDataType) →
-    OwnsModule b owner → FormSound b form → OwnsExpr b value → OptionHolds (OwnsType b) type → GrowthSound b (InModule owner (ParameterEntry local form value) None) (fresh_name name type)
-module_parameter-enters b owner local form value name type h k l m =
-    let f : Fresh = fresh_name name type in
-    record {
-      fresh = name-comes b name type m;
-      listing = record { owner_there = h; member = MemberSound-kept b (with_fresh f b) (Grows-fresh b f) (ParameterEntry local form value) (k, l); kind = tt; declares = refl; free = tt };
-      placed = refl;
-    }
 
 -- The header and the ports of a module.
 
@@ -183,4 +168,4 @@ pub variable-enters-as :
     GrowthSound b (InFunction owner local (record { kind = kind; name = own; data_type = t })) (fresh_name name (Some t))
 variable-enters-as b owner local kind n own name t e h suits k free = rw e (variable-enters b owner local (record { kind = kind; name = n; data_type = t }) name t h suits k k free)
 
-pub ruleset enters_records = (assignment-stands, definition-stands, artifact-stands, instance-stands, item-enters, plain_member-enters, declaration-enters, module_parameter-enters, header-enters, variable-enters)
+pub ruleset enters_records = (assignment-stands, definition-stands, artifact-stands, instance-stands, item-enters, declaration-enters, header-enters, variable-enters)

@@ -28,5 +28,6 @@ pub mod NestLaws
 pub mod FreeNames
 pub mod KeywordTable
 pub mod Unattached
+pub mod EntersScopes
 pub mod WellFormedParts
 pub mod WellFormedTree

@@ -25,7 +25,7 @@ mod functions;
 mod growth;
 mod hoisting;
 mod inspect;
-mod localparams;
+mod laws;
 mod loops;
 mod members;
 mod modules;
@@ -34,10 +34,10 @@ pub(crate) mod owns;
 mod parameters;
 mod places;
 mod ports;
-mod scoped;
+pub(crate) mod scope;
+mod spare;
 mod terms;
 mod types;
-mod unattached;
 mod variables;
 
 /// The nodes of one file, in arenas. Handles name nodes by their index.

@@ -20,6 +20,7 @@ use std::alloc::AllocError;
 impl Ast {
     /// The same node as an expression that may be selected from.
     pub fn indexable(&self, e: Expr) -> IndexableExpr
+        requires { OwnsExpr (bench self.now) e }
         ensures { result ≡ expr_to_indexable_expr e }
     {
         IndexableExpr { id: e.id }

@@ -1,12 +1,10 @@
 //! The arena of expressions and types: growing it and reading it.
 
-ghost use Rattle.std.specs.Prelude.{◌≡◌, ◌+◌, ◌<◌, ◌≤◌, true, length, IfSome, IfNone, OnOk, None, Some, slice_get};
+ghost use Rattle.std.specs.Prelude.{◌≡◌, ◌+◌, ◌<◌, ◌≤◌, length, IfSome, IfNone, OnOk, None, Some, slice_get};
 ghost use Rattle.vast_core.specs.Handles.{rank, type_rank};
 ghost use Rattle.vast_core.specs.Nodes.{IsNodeAt, ChildrenHold, ExprChildrenHold, TypeChildrenHold, RootFits, term_root, expr_tree, type_tree};
 ghost use Rattle.vast_core.specs.Types.{ExprFits, TypeFits, ExprWellFormed, TypeWellFormed};
-ghost use Rattle.vast_core.specs.Bench.{OwnsExpr, OwnsType, AreWellFormed, tree_of, type_of};
-ghost use Rattle.vast_core.specs.FileTree.{tree};
-ghost use Rattle.vast_literal.specs.WellFormedFile.{is_well_formed_file};
+ghost use Rattle.vast_core.specs.Bench.{OwnsExpr, OwnsType, tree_of, type_of};
 ghost use Rattle.vast_core.specs.Growth.{with_root, with_expr, with_type, next_expr, next_type};
 ghost use Rattle.vast_core.specs.View.{bench, room};
 
@@ -68,22 +66,6 @@ impl Ast {
         VastDataType {
             id: Id { file_id, index },
         }
-    }
-
-    /// Each expression and each type of the file is well formed in all its parts: a law, which computes nothing.
-    pub fn trees_are_well_formed(&self)
-        ensures { AreWellFormed (bench self.now) }
-    {
-        let _ = &self.terms;
-    }
-
-    /// The file's tree is well formed: its expressions are, what declares is a wire, reg or logic, locals are regs and
-    /// logics, events edges and names, and each parameter of an instance has a value: a law, which computes nothing.
-    pub fn file_is_well_formed(&self)
-        ensures { is_well_formed_file (tree (bench self.now)) ≡ true }
-    {
-        self.trees_are_well_formed();
-        self.file_is_sound();
     }
 
     pub(crate) fn node(&self, index: usize) -> Option<&Term>
