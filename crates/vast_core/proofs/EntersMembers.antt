@@ -62,7 +62,12 @@ loop-comes b variable name start limit label h k =
     let r : Root = ExprRoot (NameTree (string_bytes variable) Untyped) in
     record {
       term = (tt, tt);
-      port = tt; fresh_module = tt; definition = tt; artifact = tt; instance = tt; assignment = tt;
+      port = tt;
+      fresh_module = tt;
+      definition = tt;
+      artifact = tt;
+      instance = tt;
+      assignment = tt;
       container = record {
         genvar = named_owned b (grown_loop b variable name start limit label) r (string_bytes variable) Untyped refl refl;
         start = HasExpr-kept b.nodes (with_node b.nodes r) (Extends-root b.nodes r) start h;
@@ -100,17 +105,22 @@ function-enters b owner variable name type h k free =
     record {
       fresh = record {
         term = (k, tt);
-        port = tt; fresh_module = tt; definition = tt; artifact = tt; instance = tt; assignment = tt;
+        port = tt;
+        fresh_module = tt;
+        definition = tt;
+        artifact = tt;
+        instance = tt;
+        assignment = tt;
         container = tt;
         function = record {
           sound = record {
-          result_type = HasType-kept b.nodes (with_node b.nodes r) (Extends-root b.nodes r) type k;
-          result_name = named_owned b (grown_function b variable name type) r (string_bytes variable) (Typed (type_of b type)) refl refl;
-          inputs = tt;
-          locals = tt;
-          body = body_owned b variable name type;
-          distinct = (λ k d below. absurd (omega arith), tt);
-          taken = λ other. (λ h. h, λ h. h);
+            result_type = HasType-kept b.nodes (with_node b.nodes r) (Extends-root b.nodes r) type k;
+            result_name = named_owned b (grown_function b variable name type) r (string_bytes variable) (Typed (type_of b type)) refl refl;
+            inputs = tt;
+            locals = tt;
+            body = body_owned b variable name type;
+            distinct = (λ k d below. absurd (omega arith), tt);
+            taken = λ other. (λ h. h, λ h. h);
           };
           kinds = tt;
         };

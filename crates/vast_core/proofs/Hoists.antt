@@ -22,7 +22,6 @@ use Rattle.vast_core.specs.Sound.{PortSound, AssignmentSound, MemberSound, Param
 use Rattle.vast_core.proofs.Lists.{slice_get-append, slice_get-seam, length-changed_at, Each-map, Each-push, Each-changed_at}
 use Rattle.vast_core.proofs.NodeLaws.{Extends-same, Extends-root, HasType-kept, built-push, built-id, TermsSound-push, built-length, built-well_formed, expr-well_formed, type-well_formed}
 use Rattle.vast_core.proofs.Sound.{Grows, carried, ModuleSound-kept}
-
 use Rattle.vast_core.specs.declared.handle.VastStatementBlock.{VastStatementBlock}
 use Rattle.vast_core.specs.Nodes.{OptionHolds}
 use Rattle.vast_core.specs.Bench.{OwnsBlock}

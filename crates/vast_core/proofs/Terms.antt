@@ -85,7 +85,6 @@ sound-well_formed a s =
 pub trees-well_formed : (a b : Raw) → b ≡ a → IsSound b → AreWellFormed (bench a)
 trees-well_formed a b e s = let P : Raw → Type 0 = λ r. AreWellFormed (bench r) in subst P e (sound-well_formed b s)
 
-
 pub last-test : (n : ℕ) → IsTrue (nat_lt n (n + 1))
 last-test n = grind arith
 
