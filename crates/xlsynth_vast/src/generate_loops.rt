@@ -156,8 +156,7 @@ impl VastFile {
         requires condition { OwnsExpr (bench self.old) condition.now }
         ensures { Builds (bench self.old) (bench self.new) result (next_conditional (bench self.old)) (with_loop_member generate (ConditionalEntry (next_conditional (bench self.old))) (with_conditional condition.now (bench self.old))) }
     {
-        self.ast
-            .push_conditional(Scope::Loop(generate), *condition)
+        self.ast.push_conditional(Scope::Loop(generate), *condition)
     }
 
     /// A blank line, as the loop's last member.
@@ -202,8 +201,7 @@ impl VastFile {
         requires instantiation { OwnsInstantiation (bench self.old) instantiation.now }
         ensures { Builds (bench self.old) (bench self.new) result tt (with_loop_member generate (InstanceEntry instantiation.now) (bench self.old)) }
     {
-        self.ast
-            .append_member(Scope::Loop(generate), Member::Instantiation(*instantiation))
+        self.ast.append_member(Scope::Loop(generate), Member::Instantiation(*instantiation))
     }
 
     /// The text, as the loop's last member.

@@ -44,8 +44,10 @@ impl VastFile {
         requires assignment { OwnsContinuous (bench self.old) assignment }
         ensures { Builds (bench self.old) (bench self.new) result tt (with_member owner (AssignmentEntry assignment) (bench self.old)) }
     {
-        self.ast
-            .append_member(Scope::Module(owner), Member::ContinuousAssignment(assignment))
+        self.ast.append_member(
+            Scope::Module(owner),
+            Member::ContinuousAssignment(assignment),
+        )
     }
 
     /// A blank line, as the module's last member.
@@ -61,7 +63,8 @@ impl VastFile {
         requires blank { OwnsBlankLine (bench self.old) blank }
         ensures { Builds (bench self.old) (bench self.new) result tt (with_member owner BlankEntry (bench self.old)) }
     {
-        self.ast.append_member(Scope::Module(owner), Member::BlankLine)
+        self.ast
+            .append_member(Scope::Module(owner), Member::BlankLine)
     }
 
     /// The comment, as the module's last member.
@@ -77,7 +80,8 @@ impl VastFile {
         requires comment { OwnsComment (bench self.old) comment }
         ensures { Builds (bench self.old) (bench self.new) result tt (with_member owner (CommentEntry comment) (bench self.old)) }
     {
-        self.ast.append_member(Scope::Module(owner), Member::Comment(comment))
+        self.ast
+            .append_member(Scope::Module(owner), Member::Comment(comment))
     }
 
     /// The text, as the module's last member.
@@ -93,7 +97,8 @@ impl VastFile {
         requires statement { OwnsInline (bench self.old) statement }
         ensures { Builds (bench self.old) (bench self.new) result tt (with_member owner (InlineEntry statement) (bench self.old)) }
     {
-        self.ast.append_member(Scope::Module(owner), Member::Inline(statement))
+        self.ast
+            .append_member(Scope::Module(owner), Member::Inline(statement))
     }
 
     /// The use of a macro, as the module's last member.
@@ -109,6 +114,7 @@ impl VastFile {
         requires statement { OwnsMacroStatement (bench self.old) statement }
         ensures { Builds (bench self.old) (bench self.new) result tt (with_member owner (MacroEntry statement) (bench self.old)) }
     {
-        self.ast.append_member(Scope::Module(owner), Member::Macro(statement))
+        self.ast
+            .append_member(Scope::Module(owner), Member::Macro(statement))
     }
 }
