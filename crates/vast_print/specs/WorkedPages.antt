@@ -32,7 +32,7 @@ pub record WorkedPages : Type 0 where
   -- In Verilog an array of four has the range from 0 to 3.
   pub verilog_array :
       declaration_text VerilogDialect RegKind (UnpackedTree (bits 8 false (codes "8")) (pos 4 ∷ [])) (codes "m") ≡ plain_text (codes "reg [7:0] m[0:3]")
-  -- A width without a value is less one as it is written, in parentheses where its sign is weaker.
+  -- A width without a value is written less one, in parentheses where its sign is weaker.
   pub symbolic_limit :
       declaration_text SystemVerilogDialect WireKind (VectorTree (BinaryTree LogicalOrOp (name (codes "a")) (name (codes "b"))) None false) (codes "v") ≡ plain_text (codes "wire [(a || b) - 1:0] v")
   -- The name part of a declaration always stands.

@@ -20,7 +20,7 @@ use crate::module::print_module;
 use crate::refusal::PrintFault;
 use crate::words;
 use crate::writer::Writer;
-use std::alloc::{AllocError, Global};
+use std::alloc::Global;
 use vast_core::{Ast, Expr, FileItem};
 use vast_literal::{VastError, VastFault};
 
@@ -69,7 +69,7 @@ fn fault_of(alloc: Global, fault: PrintFault) -> VastFault
             Ok(text) => VastFault::Refused(VastError(text)),
             Err(error) => VastFault::Memory(error),
         },
-        PrintFault::Memory => VastFault::Memory(AllocError),
+        PrintFault::Memory(error) => VastFault::Memory(error),
     }
 }
 
