@@ -1,119 +1,205 @@
--- Laws of the block of registers: that nothing holds it, and its tree once an always block does.
-use Rattle.std.proofs.Common.{◌≡◌, false, List, [], ◌∷◌, ◌++◌, length, All, Option, Some, None, IsErr, Result, Ok, Err, refl, ap, ◌∙◌, arith, append_assoc, append-nil}
-use Rattle.std.specs.List.{list_any}
-use Rattle.std.specs.declared.alloc.AllocError.{AllocError}
-use Rattle.vast_literal.specs.Tree.{StatementTree}
+-- Laws of the blocks of registers: what they say once they are filled.
+use Rattle.std.proofs.Common.{◌≡◌, ◌≢◌, ℕ, suc, ◌+◌, ◌<◌, Bool, true, false, List, [], ◌∷◌, ◌++◌, length, All, Option, Some, None, slice_get, get_or, take, if◌then◌else◌, refl, sym, ap, ◌∙◌, inl, arith, add-one, append_assoc, append-nil}
+use Rattle.std.specs.Option.{option_map}
+use Rattle.std.proofs.Math.Seq.{take-suc}
+use Rattle.vast_literal.specs.Tree.{ExprTree, StatementTree, TernaryTree, AssignTree, Nonblocking}
+use Rattle.vast_core.specs.declared.handle.Expr.{Expr}
+use Rattle.vast_core.specs.declared.handle.VastStatement.{VastStatement}
 use Rattle.vast_core.specs.declared.handle.VastStatementBlock.{VastStatementBlock}
-use Rattle.vast_core.specs.Handles.{block_index}
-use Rattle.vast_core.specs.Records.{changed_at}
-use Rattle.vast_core.specs.Nests.{StatementEntry, NestRecord, BlockRecord}
-use Rattle.vast_core.specs.Bench.{Bench, OwnsBlock, tree_of}
-use Rattle.vast_core.specs.Containers.{next_block, with_block}
-use Rattle.vast_core.proofs.Lists.{length-changed_at}
-use Rattle.vast_core.proofs.Enters.{next_block_owned}
-use Rattle.xlsynth_vast.specs.declared.helpers.registers.Reset.{Reset}
+use Rattle.vast_core.specs.declared.node.Assignment.{Assignment}
+use Rattle.vast_core.specs.Handles.{block_index, statement_index}
+use Rattle.vast_core.specs.Nodes.{OptionHolds, ExprRoot}
+use Rattle.vast_core.specs.Nests.{StatementEntry, AssignStatement, NestRecord, BlockRecord}
+use Rattle.vast_core.specs.Bench.{Bench, OwnsExpr, tree_of}
+use Rattle.vast_core.specs.Growth.{with_assignment}
+use Rattle.vast_core.specs.Artifacts.{next_statement}
+use Rattle.vast_core.specs.Containers.{StatementEnters, with_entry}
+use Rattle.vast_core.specs.FileTree.{assigned_tree}
+use Rattle.vast_core.proofs.Laws.{next_owned, next_tree}
+use Rattle.vast_core.proofs.Lists.{All-head, All-tail, slice_get-seam}
 use Rattle.xlsynth_vast.specs.declared.helpers.registers.RegisterDefinition.{RegisterDefinition}
-use Rattle.xlsynth_vast.specs.declared.helpers.registers.Share.TheVariants.{Unreset}
-use Rattle.xlsynth_vast.specs.Registers.{RegisterTree, ResetTree, register_trees, reset_tree, maybe_reset_tree, unreset_value, assigned_all, by_reset, OwnsRegister, OwnsReset, HasUnused}
-use Rattle.xlsynth_vast.specs.RegisterSteps.{is_resettable, value_in, with_statements, with_filled, Disturbs, Fills, Branches, branch_statements, branch_containers, MakesBlock, MayMakeBlock}
-use Rattle.xlsynth_vast.proofs.RegisterParts.{one-parent, any-tree, filled-filled, Wider, fills-wider, wider_tree, registers-kept, are-kept, filled-wider}
-use Rattle.xlsynth_vast.proofs.RegisterBranches.{changed-behind}
+use Rattle.xlsynth_vast.specs.declared.helpers.registers.Share.{Share}
+use Rattle.xlsynth_vast.specs.declared.helpers.registers.Share.TheVariants.{Unreset, AtReset, OutsideReset}
+use Rattle.xlsynth_vast.specs.Reductions.{IsTree}
+use Rattle.xlsynth_vast.specs.Registers.{RegisterTree, enabled_value, unreset_value, value_at_reset, value_outside_reset, given, assigned_all, register_tree, register_trees, OwnsRegister}
+use Rattle.xlsynth_vast.specs.AddedRegisters.{is_resettable, enabled_expr, with_enabled, running_expr, with_running, value_expr, with_value, with_given, with_assigned, with_all_assigned}
+use Rattle.xlsynth_vast.proofs.RegisterParts.{Wider, wider_owned, wider_tree, registers-owned, registers-kept, get-changed, Changes, changes-none, changes-then, changes-root, changes-assignment, changes-entry}
 
--- What is done to the last block is done behind all that there was.
-last-changed :
-    (xs containers : List NestRecord) (statements : List StatementEntry) →
-    changed_at (length xs) (with_statements statements) (xs ++ BlockRecord [] ∷ []) ++ containers ≡ xs ++ BlockRecord statements ∷ containers
-last-changed xs containers statements =
-    rw (changed-behind (with_statements statements) xs (BlockRecord [] ∷ []) 0 (length xs) (omega arith)) (append_assoc xs (BlockRecord statements ∷ []) containers)
+-- Statements that are assignments of these trees.
 
-unused-disturbed : (old now : Bench) → Disturbs (with_block old) now (next_block old) → HasUnused old now
-unused-disturbed old now d = record { roots = d.roots; assignments = d.assignments; containers = BlockRecord d.statements ∷ d.containers; after = d.after ∙ rw (last-changed old.nests d.containers d.statements) refl; parents = λ x. d.parents (one-parent.with_a_block_that_nothing_holds old x) }
+pub record IsAssigned (b : Bench) (s : StatementEntry) (t : StatementTree) : Type 0 where
+  pub handle : VastStatement
+  pub is : s ≡ AssignStatement handle
+  pub assignment : Assignment
+  pub there : slice_get b.assignments (statement_index handle) ≡ Some assignment
+  pub left : OwnsExpr b assignment.lhs
+  pub right : OwnsExpr b assignment.rhs
+  pub tree : t ≡ assigned_tree b (Some assignment)
 
-pub unused-from : (old first now : Bench) (block : VastStatementBlock) → block ≡ next_block old → first ≡ with_block old → Disturbs first now block → HasUnused old now
-unused-from old first now block e f d = unused-disturbed old now (rw (e, f) at d)
+abbrev pub AreAssigned : Bench → List StatementEntry → List StatementTree → Type 0
+AreAssigned b [] [] = Unit {0}
+AreAssigned b [] (t ∷ ts) = ⊥
+AreAssigned b (s ∷ ss) [] = ⊥
+AreAssigned b (s ∷ ss) (t ∷ ts) = IsAssigned b s t × AreAssigned b ss ts
 
-pub block-refused : (old new : Bench) (r : Result VastStatementBlock AllocError) (reset : Option ResetTree) (registers : List RegisterTree) → IsErr r → HasUnused old new → MayMakeBlock old new r reset registers
-block-refused old new (Ok x) reset registers e h = absurd cc
-block-refused old new (Err x) reset registers e h = h
-
-pub unused-none : (b : Bench) → HasUnused b b
-unused-none b = record { roots = []; assignments = []; containers = []; after = rw (append-nil b.nodes.roots, append-nil b.assignments, append-nil b.nests) refl; parents = λ x. x }
-
-pub none-by-reset : (b : Bench) (reset : Option Reset) (registers : List RegisterDefinition) → list_any is_resettable registers ≡ false → by_reset (maybe_reset_tree b reset) (register_trees b registers) ≡ []
-none-by-reset b None registers none = refl
-none-by-reset b (Some r) registers none = rw (any-tree b registers, none) refl
-
-makes-plain-here :
-    (old now : Bench) (reset : Option ResetTree) (registers : List RegisterTree) → by_reset reset registers ≡ [] → Fills (with_block old) now (next_block old) (assigned_all unreset_value registers) →
-    MakesBlock old now (next_block old) reset registers
-makes-plain-here old now reset registers none f =
+is-kept : (b c : Bench) → Wider b c → (s : StatementEntry) (t : StatementTree) → IsAssigned b s t → IsAssigned c s t
+is-kept b c w s t h =
     record {
-      roots = f.roots;
-      assignments = f.assignments;
-      statements = f.statements;
-      branch = None;
-      is = refl;
-      after = f.after ∙ rw (last-changed old.nests [] f.statements, append-nil f.statements) refl;
-      reads = f.reads;
-      last_reads = none;
-      parents = λ x. f.parents (one-parent.with_a_block_that_nothing_holds old x);
+      handle = h.handle;
+      is = h.is;
+      assignment = h.assignment;
+      there = w.assignments _ h.assignment h.there;
+      left = wider_owned b c w h.assignment.lhs h.left;
+      right = wider_owned b c w h.assignment.rhs h.right;
+      tree = rw (wider_tree b c w h.assignment.lhs h.left, wider_tree b c w h.assignment.rhs h.right) h.tree;
     }
 
-pub makes-plain :
-    (old first now : Bench) (block : VastStatementBlock) (reset : Option ResetTree) (registers : List RegisterDefinition) → block ≡ next_block old → first ≡ with_block old →
-    by_reset reset (register_trees old registers) ≡ [] → Fills first now block (assigned_all (value_in Unreset) (register_trees first registers)) →
-    MakesBlock old now block reset (register_trees old registers)
-makes-plain old first now block reset registers e f none h = rw e (makes-plain-here old now reset (register_trees old registers) none (rw (e, f) at h))
+pub are-kept : (b c : Bench) → Wider b c → (ss : List StatementEntry) (ts : List StatementTree) → AreAssigned b ss ts → AreAssigned c ss ts
+are-kept b c w [] [] h = tt
+are-kept b c w [] (t ∷ ts) h = h
+are-kept b c w (s ∷ ss) [] h = h
+are-kept b c w (s ∷ ss) (t ∷ ts) h = (is-kept b c w s t h.0, are-kept b c w ss ts h.1)
 
--- A branch behind a block that is filled.
-length-filled : (b now : Bench) (block : VastStatementBlock) (trees : List StatementTree) → Fills b now block trees → length now.nests ≡ length b.nests
-length-filled b now block trees f =
-    rw (f.after, append-nil (changed_at (block_index block) (with_statements f.statements) b.nests)) (length-changed_at (with_statements f.statements) b.nests (block_index block))
+are-more : (b : Bench) (ss more : List StatementEntry) (ts others : List StatementTree) → AreAssigned b ss ts → AreAssigned b more others → AreAssigned b (ss ++ more) (ts ++ others)
+are-more b [] more [] others h k = k
+are-more b [] more (t ∷ ts) others h k = absurd h
+are-more b (s ∷ ss) more [] others h k = absurd h
+are-more b (s ∷ ss) more (t ∷ ts) others h k = (h.0, are-more b ss more ts others h.1 k)
 
-id-filled : (b now : Bench) (block : VastStatementBlock) (trees : List StatementTree) → Fills b now block trees → now.nodes.id ≡ b.nodes.id
-id-filled b now block trees f = rw f.after refl
+-- Container i is a block of assignments of these trees.
+pub record Stands (b : Bench) (i : ℕ) (trees : List StatementTree) : Type 0 where
+  pub statements : List StatementEntry
+  pub there : slice_get b.nests i ≡ Some (BlockRecord statements)
+  pub read : AreAssigned b statements trees
 
-makes-branched-here :
-    (old mid now : Bench) (reset : Option ResetTree) (registers : List RegisterTree) → Fills (with_block old) mid (next_block old) (assigned_all unreset_value registers) →
-    Branches mid now (next_block old) (by_reset reset registers) → MakesBlock old now (next_block old) reset registers
-makes-branched-here old mid now reset registers f h =
-    let b : Bench = with_block old in
-    let id : mid.nodes.id ≡ b.nodes.id = id-filled b mid (next_block old) _ f in
-    let count : length mid.nests ≡ length b.nests = length-filled b mid (next_block old) _ f in
-    let statements : branch_statements mid ≡ branch_statements b = rw (id, count) refl in
-    let containers : branch_containers mid h.branch ≡ branch_containers b h.branch = rw (id, count) refl in
-    let after : now ≡ with_filled (f.roots ++ h.roots) (f.assignments ++ h.assignments) (f.statements ++ branch_statements b) (branch_containers b h.branch) (next_block old) b =
-    rw (statements, containers) at h.after
-    ∙ (
-    ap (λ x. with_filled h.roots h.assignments (branch_statements b) (branch_containers b h.branch) (next_block old) x) f.after
-    ∙ filled-filled b f.roots h.roots f.assignments h.assignments f.statements (branch_statements b) (branch_containers b h.branch) (next_block old)
-    ) in
-    record {
-      roots = f.roots ++ h.roots;
-      assignments = f.assignments ++ h.assignments;
-      statements = f.statements;
-      branch = Some h.branch;
-      is = refl;
-      after = after ∙ rw (last-changed old.nests (branch_containers b h.branch) (f.statements ++ branch_statements b)) refl;
-      reads = are-kept mid now (rw h.after (filled-wider mid h.roots h.assignments (branch_statements mid) (branch_containers mid h.branch) (next_block old))) f.statements _ f.reads;
-      last_reads = h.reads;
-      parents = λ x. h.parents (f.parents (one-parent.with_a_block_that_nothing_holds old x));
-    }
+pub stands-still : (b c : Bench) (i : ℕ) (trees : List StatementTree) → Wider b c → ((n : NestRecord) → slice_get b.nests i ≡ Some n → slice_get c.nests i ≡ Some n) → Stands b i trees → Stands c i trees
+stands-still b c i trees w keep h = record { statements = h.statements; there = keep (BlockRecord h.statements) h.there; read = are-kept b c w h.statements trees h.read }
 
-pub makes-branched :
-    (old first mid now : Bench) (block : VastStatementBlock) (reset : Reset) (registers : List RegisterDefinition) → block ≡ next_block old → first ≡ with_block old →
-    OwnsReset old reset → All (OwnsRegister old) registers → Fills first mid block (assigned_all (value_in Unreset) (register_trees first registers)) →
-    Branches mid now block (by_reset (Some (reset_tree mid reset)) (register_trees mid registers)) →
-    MakesBlock old now block (Some (reset_tree old reset)) (register_trees old registers)
-makes-branched old first mid now block reset registers e f owned all h k =
-    let filled : Fills (with_block old) mid (next_block old) (assigned_all unreset_value (register_trees old registers)) = rw (e, f) at h in
-    let w : Wider old mid = let wide = fills-wider (with_block old) mid (next_block old) _ filled in record { nodes = wide.nodes; assignments = wide.assignments } in
-    let trees : register_trees mid registers ≡ register_trees old registers = registers-kept old mid w registers all in
-    let signal : tree_of mid reset.signal ≡ tree_of old reset.signal = wider_tree old mid w reset.signal owned in
-    rw e (makes-branched-here old mid now (Some (reset_tree old reset)) (register_trees old registers) filled (rw (e, trees, signal) at k))
+pub stands-kept : (i j : ℕ) (b c : Bench) (trees : List StatementTree) → Changes j b c → i ≢ j → Stands b i trees → Stands c i trees
+stands-kept i j b c trees k other h = stands-still b c i trees k.wider (λ n e. k.containers i n other e) h
 
-pub block-wider : (old first mid : Bench) (block : VastStatementBlock) (trees : List StatementTree) → first ≡ with_block old → Fills first mid block trees → Wider old mid
-block-wider old first mid block trees f h = let wide = fills-wider (with_block old) mid block trees (rw f at h) in record { nodes = wide.nodes; assignments = wide.assignments }
+-- Values.
 
-pub empty-owned : (old first : Bench) (block : VastStatementBlock) → block ≡ next_block old → first ≡ with_block old → OwnsBlock first block
-empty-owned old first block e f = rw (e, f) (next_block_owned old)
+abbrev pub value_in : Share → RegisterTree → Option ExprTree
+value_in Unreset r = unreset_value r
+value_in AtReset r = value_at_reset r
+value_in OutsideReset r = value_outside_reset r
+
+pub if-changes : (i : ℕ) (b c d : Bench) (t : Bool) → Changes i b c → Changes i b d → Changes i b (if t then c else d)
+if-changes i b c d true h k = h
+if-changes i b c d false h k = k
+
+enabled-changes : (i : ℕ) (enable : Option Expr) (next target : Expr) (b : Bench) → Changes i b (with_enabled enable next target b)
+enabled-changes i None next target b = changes-none i b
+enabled-changes i (Some enable) next target b = changes-root i b (ExprRoot (TernaryTree (tree_of b enable) (tree_of b next) (tree_of b target)))
+
+pub value-changes : (i : ℕ) (share : Share) (r : RegisterDefinition) (b : Bench) → Changes i b (with_value share r b)
+value-changes i Unreset r b = if-changes i b b (with_running r b) (is_resettable r) (changes-none i b) (enabled-changes i r.enable r.next r.reg b)
+value-changes i AtReset r b = changes-none i b
+value-changes i OutsideReset r b = if-changes i b (with_running r b) b (is_resettable r) (enabled-changes i r.enable r.next r.reg b) (changes-none i b)
+
+enabled-made :
+    (enable : Option Expr) (next target : Expr) (b : Bench) → OwnsExpr b next →
+    IsTree (with_enabled enable next target b) (enabled_expr enable next b) (enabled_value (option_map (tree_of b) enable) (tree_of b next) (tree_of b target))
+enabled-made None next target b h = (h, refl)
+enabled-made (Some enable) next target b h = let t = TernaryTree (tree_of b enable) (tree_of b next) (tree_of b target) in (next_owned b t, next_tree b t)
+
+-- The expression of the tree, or none where there is no tree.
+abbrev MaybeTree : Bench → Option Expr → Option ExprTree → Type 0
+MaybeTree b None t = t ≡ None
+MaybeTree b (Some e) t = OwnsExpr b e × (t ≡ Some (tree_of b e))
+
+some-tree : (b : Bench) (e : Expr) (t : ExprTree) → IsTree b e t → MaybeTree b (Some e) (Some t)
+some-tree b e t h = (h.0, ap Some (sym h.1))
+
+value-case :
+    (share : Share) (r : RegisterDefinition) (b : Bench) (o : Option Expr) → r.reset_value ≡ o → OptionHolds (OwnsExpr b) o → OwnsExpr b r.next →
+    MaybeTree (with_value share r b) (value_expr share r b) (value_in share (register_tree b r))
+value-case Unreset r b None e k h = rw e (some-tree (with_running r b) (running_expr r b) _ (enabled-made r.enable r.next r.reg b h))
+value-case Unreset r b (Some v) e k h = rw e refl
+value-case AtReset r b None e k h = rw e refl
+value-case AtReset r b (Some v) e k h = rw e (k, refl)
+value-case OutsideReset r b None e k h = rw e refl
+value-case OutsideReset r b (Some v) e k h = rw e (some-tree (with_running r b) (running_expr r b) _ (enabled-made r.enable r.next r.reg b h))
+
+pub value-made : (share : Share) (r : RegisterDefinition) (b : Bench) → OwnsRegister b r → MaybeTree (with_value share r b) (value_expr share r b) (value_in share (register_tree b r))
+value-made share r b h = value-case share r b r.reset_value refl h.2 h.1
+
+-- Assignments.
+
+given-changes : (block : VastStatementBlock) (target : Expr) (o : Option Expr) (b : Bench) → Changes (block_index block) b (with_given block target o b)
+given-changes block target None b = changes-none (block_index block) b
+given-changes block target (Some value) b =
+    let a : Assignment = record { lhs = target; rhs = value; nonblocking = true } in
+    let i : ℕ = block_index block in
+    changes-then i i b (with_assignment a b) (with_given block target (Some value) b) (changes-assignment i b a) (changes-entry i (with_assignment a b) (StatementEnters (AssignStatement (next_statement b)))) (inl refl)
+
+pub assigned-changes : (share : Share) (block : VastStatementBlock) (r : RegisterDefinition) (b : Bench) → Changes (block_index block) b (with_assigned share block r b)
+unfolding with_assigned
+assigned-changes share block r b =
+    let i : ℕ = block_index block in
+    changes-then i i b (with_value share r b) (with_assigned share block r b) (value-changes i share r b) (given-changes block r.reg (value_expr share r b) (with_value share r b)) (inl refl)
+
+pub all-assigned-changes : (share : Share) (block : VastStatementBlock) (rs : List RegisterDefinition) (b : Bench) → Changes (block_index block) b (with_all_assigned share block rs b)
+all-assigned-changes share block [] b = changes-none (block_index block) b
+all-assigned-changes share block (r ∷ rs) b =
+    let i : ℕ = block_index block in
+    let c : Bench = with_assigned share block r b in
+    changes-then i i b c (with_all_assigned share block rs c) (assigned-changes share block r b) (all-assigned-changes share block rs c) (inl refl)
+
+given-stands :
+    (block : VastStatementBlock) (target : Expr) (o : Option Expr) (t : Option ExprTree) (b : Bench) (trees : List StatementTree) → OwnsExpr b target → MaybeTree b o t → Stands b (block_index block) trees →
+    Stands (with_given block target o b) (block_index block) (trees ++ given (tree_of b target) t)
+given-stands block target None t b trees h k s = rw (k, append-nil trees) s
+given-stands block target (Some value) t b trees h k s =
+    let a : Assignment = record { lhs = target; rhs = value; nonblocking = true } in
+    let x : StatementEntry = AssignStatement (next_statement b) in
+    let c : Bench = with_given block target (Some value) b in
+    let w : Wider b c = (given-changes block target (Some value) b).wider in
+    let one : IsAssigned c x (AssignTree Nonblocking (tree_of b target) (tree_of b value)) =
+    record { handle = next_statement b; is = refl; assignment = a; there = slice_get-seam b.assignments a; left = h; right = k.0; tree = refl } in
+    rw k.1 (record {
+      statements = s.statements ++ x ∷ [];
+      there = get-changed (with_entry (StatementEnters x)) b.nests (block_index block) (BlockRecord s.statements) s.there;
+      read = are-more c s.statements (x ∷ []) trees (AssignTree Nonblocking (tree_of b target) (tree_of b value) ∷ []) (are-kept b c w s.statements trees s.read) (one, tt);
+    })
+
+assigned-stands :
+    (share : Share) (block : VastStatementBlock) (r : RegisterDefinition) (b : Bench) (trees : List StatementTree) → OwnsRegister b r → Stands b (block_index block) trees →
+    Stands (with_assigned share block r b) (block_index block) (trees ++ given (tree_of b r.reg) (value_in share (register_tree b r)))
+unfolding with_assigned
+assigned-stands share block r b trees h s =
+    let i : ℕ = block_index block in
+    let c : Bench = with_value share r b in
+    let k : Changes (suc i) b c = value-changes (suc i) share r b in
+    rw (wider_tree b c k.wider r.reg h.0) at
+    (given-stands block r.reg (value_expr share r b) (value_in share (register_tree b r)) c trees (wider_owned b c k.wider r.reg h.0) (value-made share r b h) (stands-kept i (suc i) b c trees k (λ e. absurd (omega (arith, e))) s))
+
+pub all-assigned-stands :
+    (share : Share) (block : VastStatementBlock) (rs : List RegisterDefinition) (b : Bench) (trees : List StatementTree) → All (OwnsRegister b) rs → Stands b (block_index block) trees →
+    Stands (with_all_assigned share block rs b) (block_index block) (trees ++ assigned_all (value_in share) (register_trees b rs))
+all-assigned-stands share block [] b trees h s = rw (append-nil trees) s
+all-assigned-stands share block (r ∷ rs) b trees h s =
+    let c : Bench = with_assigned share block r b in
+    let w : Wider b c = (assigned-changes share block r b).wider in
+    let one : List StatementTree = given (tree_of b r.reg) (value_in share (register_tree b r)) in
+    let rest : All (OwnsRegister b) rs = All-tail (OwnsRegister b) r rs h in
+    let here : Stands c (block_index block) (trees ++ one) = assigned-stands share block r b trees (All-head (OwnsRegister b) r rs h) s in
+    let all : Stands (with_all_assigned share block rs c) (block_index block) ((trees ++ one) ++ assigned_all (value_in share) (register_trees b rs)) =
+    rw (← registers-kept b c w rs rest) (all-assigned-stands share block rs c (trees ++ one) (registers-owned b c w rs rest) here) in
+    rw (append_assoc trees one (assigned_all (value_in share) (register_trees b rs))) at all
+
+-- The loop over the registers.
+
+all-assigned-last :
+    (share : Share) (block : VastStatementBlock) (rs : List RegisterDefinition) (r : RegisterDefinition) (b : Bench) →
+    with_all_assigned share block (rs ++ r ∷ []) b ≡ with_assigned share block r (with_all_assigned share block rs b)
+all-assigned-last share block [] r b = refl
+all-assigned-last share block (x ∷ rs) r b = all-assigned-last share block rs r (with_assigned share block x b)
+
+pub assigning-step :
+    (share : Share) (block : VastStatementBlock) (registers : List RegisterDefinition) (i : ℕ) (r : RegisterDefinition) (old now after : Bench) → i < length registers → r ≡ get_or registers i r →
+    now ≡ with_all_assigned share block (take i registers) old → after ≡ with_assigned share block r now → after ≡ with_all_assigned share block (take (i + 1) registers) old
+assigning-step share block registers i r old now after below is e f =
+    let taken : take (suc i) registers ≡ take i registers ++ r ∷ [] = rw (← is) at (take-suc registers i r below) in
+    rw (add-one, taken) (f ∙ ap (with_assigned share block r) e ∙ sym (all-assigned-last share block (take i registers) r old))

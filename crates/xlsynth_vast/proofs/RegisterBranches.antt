@@ -1,248 +1,288 @@
 -- Laws of the conditional of a reset, and of the block that it ends.
-use Rattle.std.proofs.Common.{◌≡◌, ℕ, suc, zero, ◌+◌, ◌<◌, true, false, List, [], ◌∷◌, ◌++◌, length, All, Option, Some, slice_get, IsErr, Result, Ok, Err, refl, ap, ◌∙◌, arith, append_assoc, append-nil, length-append}
+use Rattle.std.proofs.Common.{◌≡◌, ◌≢◌, ℕ, suc, ◌+◌, ◌<◌, ◌≤◌, ◌⊎◌, Bool, true, false, List, [], ◌∷◌, ◌++◌, length, All, Option, Some, None, slice_get, refl, ap, ◌∙◌, inl, inr, arith, append-nil, length-append}
 use Rattle.std.specs.List.{list_any}
-use Rattle.std.specs.declared.alloc.AllocError.{AllocError}
-use Rattle.vast_literal.specs.Tree.{StatementTree}
+use Rattle.vast_literal.specs.Tree.{StatementTree, ConditionalTree, Else, UnaryTree, LogicalNotOp}
 use Rattle.vast_core.specs.declared.handle.Expr.{Expr}
 use Rattle.vast_core.specs.declared.handle.Conditional.{Conditional}
 use Rattle.vast_core.specs.declared.handle.VastStatementBlock.{VastStatementBlock}
-use Rattle.vast_core.specs.declared.node.Assignment.{Assignment}
 use Rattle.vast_core.specs.Handles.{block_index, conditional_index}
-use Rattle.vast_core.specs.Nodes.{Root}
-use Rattle.vast_core.specs.Records.{changed_at}
+use Rattle.vast_core.specs.Nodes.{OptionHolds, ExprRoot}
 use Rattle.vast_core.specs.Nests.{StatementEntry, ConditionalStatement, NestRecord, BlockRecord, BranchRecord}
-use Rattle.vast_core.specs.Bench.{Bench, OwnsBlock, OwnsConditional, tree_of}
-use Rattle.vast_core.specs.Growth.{Builds}
-use Rattle.vast_core.specs.Containers.{NestedEntry, StatementEnters, ElseEnters, with_entry, with_statement, with_conditional, new_conditional, with_else, next_conditional, next_block, with_block, has_else}
-use Rattle.vast_core.proofs.Lists.{length-changed_at}
-use Rattle.vast_core.proofs.Nests.{changed-before}
-use Rattle.vast_core.proofs.NodeLaws.{Extends-same}
+use Rattle.vast_core.specs.Bench.{Bench, OwnsExpr, OwnsBlock, OwnsConditional, tree_of}
+use Rattle.vast_core.specs.Containers.{NestedEntry, StatementEnters, ElseEnters, with_entry, with_nest, with_block, with_conditional, new_conditional, next_conditional, next_block, has_else}
+use Rattle.vast_core.proofs.Lists.{slice_get-append, slice_get-seam, length-changed_at}
+use Rattle.vast_core.proofs.Laws.{next_owned, next_tree}
 use Rattle.vast_core.proofs.Enters.{block-place, next_block_owned, next_conditional_owned}
-use Rattle.vast_core.proofs.NestLaws.{entered_block_owned, entered_conditional_owned, old_block_owned}
-use Rattle.xlsynth_vast.specs.Inspections.{then_block_at}
+use Rattle.vast_core.proofs.NestLaws.{entered_block_owned, entered_conditional_owned}
 use Rattle.xlsynth_vast.specs.declared.helpers.registers.Reset.{Reset}
 use Rattle.xlsynth_vast.specs.declared.helpers.registers.RegisterDefinition.{RegisterDefinition}
 use Rattle.xlsynth_vast.specs.declared.helpers.registers.Share.TheVariants.{AtReset, OutsideReset}
-use Rattle.xlsynth_vast.specs.Parents.{HasOneParent}
-use Rattle.xlsynth_vast.specs.Reductions.{HasMoreNodes, IsTree}
-use Rattle.xlsynth_vast.specs.Registers.{register_trees, reset_tree, active_tree, assigned_all, value_at_reset, value_outside_reset, by_reset, OwnsRegister}
-use Rattle.xlsynth_vast.specs.RegisterSteps.{is_resettable, value_in, AreAssigned, with_statements, with_filled, Disturbs, Fills, MayFill, MayBranch, branch_statements, first_behind, second_behind}
-use Rattle.xlsynth_vast.proofs.RegisterParts.{one-parent, nodes-parents, changed-alike, one-statement, any-tree, Wider, wider-wider, filled-wider, fills-wider, wider_owned, wider_tree, registers-kept, are-kept}
+use Rattle.xlsynth_vast.specs.Inspections.{then_block_at}
+use Rattle.xlsynth_vast.specs.Reductions.{IsTree}
+use Rattle.xlsynth_vast.specs.Registers.{RegisterTree, ResetTree, register_trees, reset_tree, maybe_reset_tree, active_tree, assigned_all, value_at_reset, value_outside_reset, block_of, by_reset, OwnsRegister, OwnsReset}
+use Rattle.xlsynth_vast.specs.AddedRegisters.{is_resettable, active_expr, with_active, with_if, with_if_else, first_block, second_block, with_all_assigned, with_branches, with_reset, with_maybe_reset}
+use Rattle.xlsynth_vast.proofs.RegisterParts.{any-tree, Wider, wider_owned, wider_tree, registers-owned, registers-kept, get-changed, get-unchanged, Changes, changes-none, changes-then, changes-root, changes-nest, changes-entry}
+use Rattle.xlsynth_vast.proofs.RegisterBlocks.{AreAssigned, are-kept, Stands, stands-still, stands-kept, if-changes, all-assigned-changes, all-assigned-stands}
 
--- A list behind another.
+-- The condition.
 
-pub changed-behind : {A : Type 0} (f : A → A) (xs ys : List A) (k i : ℕ) → i ≡ k + length xs → changed_at i f (xs ++ ys) ≡ xs ++ changed_at k f ys
-changed-behind f [] ys k i e = let same : i ≡ k = omega (arith, e) in rw same refl
-changed-behind f (x ∷ xs) ys k zero e = absurd (omega (arith, e))
-changed-behind f (x ∷ xs) ys k (suc i) e = ap (λ r. x ∷ r) (changed-behind f xs ys k i (omega (arith, e)))
+pub active-changes : (i : ℕ) (reset : Reset) (b : Bench) → Changes i b (with_active reset b)
+active-changes i reset b = if-changes i b _ b reset.active_low (changes-root i b (ExprRoot (UnaryTree LogicalNotOp (tree_of b reset.signal)))) (changes-none i b)
 
-pub get-behind : {A : Type 0} (xs ys : List A) (k i : ℕ) → i ≡ k + length xs → slice_get (xs ++ ys) i ≡ slice_get ys k
-get-behind [] ys k i e = let same : i ≡ k = omega (arith, e) in rw same refl
-get-behind (x ∷ xs) ys k zero e = absurd (omega (arith, e))
-get-behind (x ∷ xs) ys k (suc i) e = get-behind xs ys k i (omega (arith, e))
+active-case : (reset : Reset) (b : Bench) (low : Bool) → reset.active_low ≡ low → OwnsReset b reset → IsTree (with_active reset b) (active_expr reset b) (active_tree (reset_tree b reset))
+active-case reset b true e h = let t = UnaryTree LogicalNotOp (tree_of b reset.signal) in rw e (next_owned b t, next_tree b t)
+active-case reset b false e h = rw e (h, refl)
 
--- The block names the container behind all that there was, and these containers stand there.
-pub record Behind (old now : Bench) (block : VastStatementBlock) (tail : List NestRecord) : Type 0 where
-  pub roots : List Root
-  pub assignments : List Assignment
-  pub after : now ≡ with_filled roots assignments (branch_statements old) tail block old
-  pub parents : HasOneParent old → HasOneParent now
+pub active-made : (reset : Reset) (b : Bench) → OwnsReset b reset → IsTree (with_active reset b) (active_expr reset b) (active_tree (reset_tree b reset))
+active-made reset b h = active-case reset b reset.active_low refl h
 
-abbrev front : Bench → VastStatementBlock → List NestRecord
-front old block = changed_at (block_index block) (with_statements (branch_statements old)) old.nests
+-- The conditional with its first block.
 
-length-front : (old : Bench) (block : VastStatementBlock) → length (front old block) ≡ length old.nests
-length-front old block = length-changed_at (with_statements (branch_statements old)) old.nests (block_index block)
+abbrev entered : Bench → NestedEntry
+entered b = StatementEnters (ConditionalStatement (next_conditional b))
 
-at-front : (old : Bench) (block : VastStatementBlock) → length old.nests ≡ 0 + length (front old block)
-at-front old block = let e = length-front old block in omega (arith, e)
+pub opened-changes : (condition : Expr) (block : VastStatementBlock) (b : Bench) → Changes (block_index block) b (with_if condition block b)
+unfolding with_if
+opened-changes condition block b =
+    let i : ℕ = block_index block in
+    let c : Bench = with_nest (new_conditional b condition) b in
+    let two : Changes i b (with_block c) = changes-then i i b c (with_block c) (changes-nest i b (new_conditional b condition)) (changes-nest i c (BlockRecord [])) (inl refl) in
+    changes-then i i b (with_block c) (with_if condition block b) two (changes-entry i (with_block c) (entered b)) (inl refl)
 
-pub disturbs-behind : (old now : Bench) (block : VastStatementBlock) (tail : List NestRecord) → Behind old now block tail → Disturbs old now block
-disturbs-behind old now block tail h = record { roots = h.roots; assignments = h.assignments; statements = branch_statements old; containers = tail; after = h.after; parents = h.parents }
+pub opened-owned : (condition : Expr) (block : VastStatementBlock) (b : Bench) → OwnsConditional (with_if condition block b) (next_conditional b)
+unfolding with_if
+opened-owned condition block b = entered_conditional_owned (with_conditional condition b) (block_index block) (entered b) (next_conditional b) (next_conditional_owned b condition)
 
--- The conditional comes, behind expressions.
-pub behind-start :
-    (old mid new : Bench) (block : VastStatementBlock) (condition : Expr) (answer : Conditional) → HasMoreNodes old mid → OwnsBlock mid block →
-    Builds mid new (Ok answer) (next_conditional mid) (with_statement block (ConditionalStatement (next_conditional mid)) (with_conditional condition mid)) →
-    Behind old new block (new_conditional old condition ∷ BlockRecord [] ∷ [])
-behind-start old mid new block condition answer more owned built =
-    let s : StatementEntry = ConditionalStatement (next_conditional mid) in
-    let below : block_index block < length mid.nests = block-place mid block owned in
-    let grouped : (mid.nests ++ new_conditional mid condition ∷ []) ++ BlockRecord [] ∷ [] ≡ mid.nests ++ new_conditional mid condition ∷ BlockRecord [] ∷ [] = append_assoc mid.nests (new_conditional mid condition ∷ []) (BlockRecord [] ∷ []) in
-    let nests : changed_at (block_index block) (with_entry (StatementEnters s)) ((mid.nests ++ new_conditional mid condition ∷ []) ++ BlockRecord [] ∷ []) ≡ front mid block ++ new_conditional mid condition ∷ BlockRecord [] ∷ [] =
-    rw grouped (
-    changed-before (with_entry (StatementEnters s)) mid.nests (new_conditional mid condition ∷ BlockRecord [] ∷ []) (block_index block) below
-    ∙ ap (λ ns. ns ++ new_conditional mid condition ∷ BlockRecord [] ∷ []) (changed-alike (with_entry (StatementEnters s)) (with_statements (s ∷ [])) (one-statement s) mid.nests (block_index block))
-    ) in
+opened-count : (condition : Expr) (block : VastStatementBlock) (b : Bench) → length (with_if condition block b).nests ≡ suc (suc (length b.nests))
+unfolding with_if
+opened-count condition block b =
+    let d : Bench = with_conditional condition b in
+    let all = length-changed_at (with_entry (entered b)) d.nests (block_index block) in
+    let one = length-append b.nests (new_conditional b condition ∷ []) in
+    let two = length-append (b.nests ++ new_conditional b condition ∷ []) (BlockRecord [] ∷ []) in
+    omega (arith, all, one, two)
+
+opened-there : (condition : Expr) (block : VastStatementBlock) (b : Bench) → OwnsBlock b block → slice_get (with_if condition block b).nests (length b.nests) ≡ Some (new_conditional b condition)
+unfolding with_if
+opened-there condition block b h =
+    let n : ℕ = length b.nests in
+    let below : block_index block < n = block-place b block h in
+    get-unchanged (with_entry (entered b)) (with_conditional condition b).nests n (block_index block) (λ e. absurd (omega (arith, below, e)))
+    ∙ slice_get-append (b.nests ++ new_conditional b condition ∷ []) (BlockRecord [] ∷ []) n (new_conditional b condition) (slice_get-seam b.nests (new_conditional b condition))
+
+opened-first : (condition : Expr) (block : VastStatementBlock) (b : Bench) → OwnsBlock b block → slice_get (with_if condition block b).nests (suc (length b.nests)) ≡ Some (BlockRecord [])
+unfolding with_if
+opened-first condition block b h =
+    let n : ℕ = length b.nests in
+    let below : block_index block < n = block-place b block h in
+    let c : Bench = with_nest (new_conditional b condition) b in
+    let count : length c.nests ≡ suc n = omega (arith, length-append b.nests (new_conditional b condition ∷ [])) in
+    get-unchanged (with_entry (entered b)) (with_conditional condition b).nests (suc n) (block_index block) (λ e. absurd (omega (arith, below, e)))
+    ∙ rw count at (slice_get-seam c.nests (BlockRecord []))
+
+opened-block :
+    (condition : Expr) (block : VastStatementBlock) (b : Bench) (ss : List StatementEntry) → slice_get b.nests (block_index block) ≡ Some (BlockRecord ss) →
+    slice_get (with_if condition block b).nests (block_index block) ≡ Some (BlockRecord (ss ++ ConditionalStatement (next_conditional b) ∷ []))
+unfolding with_if
+opened-block condition block b ss e =
+    let i : ℕ = block_index block in
+    get-changed (with_entry (entered b)) (with_conditional condition b).nests i (BlockRecord ss)
+    (slice_get-append (b.nests ++ new_conditional b condition ∷ []) (BlockRecord [] ∷ []) i (BlockRecord ss) (slice_get-append b.nests (new_conditional b condition ∷ []) i (BlockRecord ss) e))
+
+pub opened-then : (condition : Expr) (block : VastStatementBlock) (b : Bench) → OwnsBlock b block → then_block_at (with_if condition block b) (next_conditional b) ≡ Some (first_block b)
+opened-then condition block b h = rw (opened-there condition block b h) refl
+
+pub opened-else : (condition : Expr) (block : VastStatementBlock) (b : Bench) → OwnsBlock b block → has_else (slice_get (with_if condition block b).nests (length b.nests)) ≡ false
+opened-else condition block b h = rw (opened-there condition block b h) refl
+
+-- Its `else` with the second block.
+
+pub both-changes : (condition : Expr) (block : VastStatementBlock) (b : Bench) → Changes (block_index block) b (with_if_else condition block b)
+both-changes condition block b =
+    let i : ℕ = block_index block in
+    let c : Bench = with_if condition block b in
+    let one : Changes i b (with_block c) = changes-then i i b c (with_block c) (opened-changes condition block b) (changes-nest i c (BlockRecord [])) (inl refl) in
+    changes-then i (length b.nests) b (with_block c) (with_if_else condition block b) one (changes-entry (length b.nests) (with_block c) (ElseEnters (next_block c))) (inr (omega arith))
+
+abbrev branch_of : Expr → VastStatementBlock → Bench → NestRecord
+branch_of condition block b = BranchRecord (record { condition = condition; consequent = first_block b; else_ifs = []; otherwise = Some (second_block condition block b) })
+
+both-there : (condition : Expr) (block : VastStatementBlock) (b : Bench) → OwnsBlock b block → slice_get (with_if_else condition block b).nests (length b.nests) ≡ Some (branch_of condition block b)
+both-there condition block b h =
+    let c : Bench = with_if condition block b in
+    get-changed (with_entry (ElseEnters (next_block c))) (with_block c).nests (length b.nests) (new_conditional b condition)
+    (slice_get-append c.nests (BlockRecord [] ∷ []) (length b.nests) (new_conditional b condition) (opened-there condition block b h))
+
+both-else :
+    (condition : Expr) (block : VastStatementBlock) (b : Bench) (k : ℕ) (x : NestRecord) → k ≢ length b.nests → slice_get (with_if condition block b).nests k ≡ Some x → slice_get (with_if_else condition block b).nests k ≡ Some x
+both-else condition block b k x other e =
+    let c : Bench = with_if condition block b in
+    get-unchanged (with_entry (ElseEnters (next_block c))) (with_block c).nests k (length b.nests) other ∙ slice_get-append c.nests (BlockRecord [] ∷ []) k x e
+
+first-empty : (condition : Expr) (block : VastStatementBlock) (b : Bench) → OwnsBlock b block → Stands (with_if_else condition block b) (suc (length b.nests)) []
+first-empty condition block b h =
+    record { statements = []; there = both-else condition block b (suc (length b.nests)) (BlockRecord []) (λ e. absurd (omega (arith, e))) (opened-first condition block b h); read = tt }
+
+second-empty : (condition : Expr) (block : VastStatementBlock) (b : Bench) → Stands (with_if_else condition block b) (block_index (second_block condition block b)) []
+second-empty condition block b =
+    let c : Bench = with_if condition block b in
+    let count = opened-count condition block b in
     record {
-      roots = more.more;
-      assignments = [];
-      after = rw (append-nil old.assignments) (built.1 ∙ rw (nests, more.after) refl);
-      parents = λ x. rw built.1 (one-parent.with_a_conditional_in_a_block mid block condition (nodes-parents old mid more x));
+      statements = [];
+      there = get-unchanged (with_entry (ElseEnters (next_block c))) (with_block c).nests (length c.nests) (length b.nests) (λ e. absurd (omega (arith, e, count))) ∙ slice_get-seam c.nests (BlockRecord []);
+      read = tt;
     }
 
-abbrev branch_of : Bench → Expr → (otherwise : Option VastStatementBlock) → NestRecord
-branch_of b condition otherwise = BranchRecord (record { condition = condition; consequent = first_behind b; else_ifs = []; otherwise = otherwise })
+pub second-place : (condition : Expr) (block : VastStatementBlock) (b : Bench) → block_index (second_block condition block b) ≡ suc (suc (length b.nests))
+second-place condition block b = opened-count condition block b
 
-same-ids : (old now : Bench) (block : VastStatementBlock) (tail : List NestRecord) → Behind old now block tail → now.nodes.id ≡ old.nodes.id
-same-ids old now block tail h = rw h.after refl
+pub first-owned : (condition : Expr) (block : VastStatementBlock) (b : Bench) → OwnsBlock b block → OwnsBlock (with_if_else condition block b) (first_block b)
+unfolding with_if
+first-owned condition block b h = record { of_file = refl; of_kind = rw ((first-empty condition block b h).there) refl }
 
-length-behind : (old now : Bench) (block : VastStatementBlock) (tail : List NestRecord) → Behind old now block tail → length now.nests ≡ length tail + length old.nests
-length-behind old now block tail h = rw h.after (let e = length-front old block in omega (arith, e, length-append (front old block) tail))
+pub second-owned : (condition : Expr) (block : VastStatementBlock) (b : Bench) → OwnsBlock (with_if_else condition block b) (second_block condition block b)
+second-owned condition block b = let c : Bench = with_if condition block b in entered_block_owned (with_block c) (length b.nests) (ElseEnters (next_block c)) (next_block c) (next_block_owned c)
 
--- Its first block, and whether it has an `else`.
-pub then-block :
-    (old now : Bench) (block result : VastStatementBlock) (condition : Expr) (rest : List NestRecord) → Behind old now block (new_conditional old condition ∷ rest) →
-    then_block_at now (next_conditional old) ≡ Some result → result ≡ first_behind old
-then-block old now block result condition rest h e =
-    let there : slice_get now.nests (length old.nests) ≡ Some (new_conditional old condition) =
-    rw h.after (get-behind (front old block) (new_conditional old condition ∷ rest) 0 (length old.nests) (at-front old block)) in
-    let k : Some (first_behind old) ≡ Some result = rw there at e in cc
+-- The blocks are filled.
 
-pub no-else :
-    (old now : Bench) (block : VastStatementBlock) (condition : Expr) (rest : List NestRecord) → Behind old now block (new_conditional old condition ∷ rest) → has_else (slice_get now.nests (length old.nests)) ≡ false
-no-else old now block condition rest h =
-    rw h.after (rw (get-behind (front old block) (new_conditional old condition ∷ rest) 0 (length old.nests) (at-front old block)) refl)
+pub branches-changes : (condition : Expr) (registers : List RegisterDefinition) (block : VastStatementBlock) (b : Bench) → Changes (block_index block) b (with_branches condition registers block b)
+unfolding with_branches
+branches-changes condition registers block b =
+    let i : ℕ = block_index block in
+    let first : VastStatementBlock = first_block b in
+    let second : VastStatementBlock = second_block condition block b in
+    let place = second-place condition block b in
+    let c : Bench = with_if_else condition block b in
+    let d : Bench = with_all_assigned AtReset first registers c in
+    let one : Changes i b d = changes-then i (block_index first) b c d (both-changes condition block b) (all-assigned-changes AtReset first registers c) (inr (omega arith)) in
+    changes-then i (block_index second) b d (with_branches condition registers block b) one (all-assigned-changes OutsideReset second registers d) (inr (omega (arith, place)))
 
--- The `else` comes.
-pub behind-else :
-    (old now new : Bench) (block : VastStatementBlock) (condition : Expr) (answer : VastStatementBlock) → Behind old now block (new_conditional old condition ∷ BlockRecord [] ∷ []) →
-    Builds now new (Ok answer) (next_block now) (with_else (next_conditional old) now) →
-    (answer ≡ second_behind old) × Behind old new block (branch_of old condition (Some (second_behind old)) ∷ BlockRecord [] ∷ BlockRecord [] ∷ [])
-behind-else old now new block condition answer h built =
-    let count : length now.nests ≡ suc (suc (length old.nests)) = let e = length-behind old now block (new_conditional old condition ∷ BlockRecord [] ∷ []) h in omega (arith, e) in
-    let next : next_block now ≡ second_behind old = rw (same-ids old now block (new_conditional old condition ∷ BlockRecord [] ∷ []) h, count) refl in
-    let nests : changed_at (length old.nests) (with_entry (ElseEnters (second_behind old))) ((front old block ++ new_conditional old condition ∷ BlockRecord [] ∷ []) ++ BlockRecord [] ∷ [])
-    ≡ front old block ++ branch_of old condition (Some (second_behind old)) ∷ BlockRecord [] ∷ BlockRecord [] ∷ [] =
-    rw (append_assoc (front old block) (new_conditional old condition ∷ BlockRecord [] ∷ []) (BlockRecord [] ∷ []))
-    (changed-behind (with_entry (ElseEnters (second_behind old))) (front old block) (new_conditional old condition ∷ BlockRecord [] ∷ BlockRecord [] ∷ []) 0 (length old.nests) (at-front old block)) in (
-      built.0 ∙ next,
-      record { roots = h.roots; assignments = h.assignments; after = built.1 ∙ rw next (rw h.after (rw nests refl)); parents = λ x. rw built.1 (one-parent.with_an_else now (next_conditional old) (h.parents x)) },
-    )
+-- What stands in the bench with both blocks, but not in them, stands there once they are filled.
+branches-keep :
+    (condition : Expr) (registers : List RegisterDefinition) (block : VastStatementBlock) (b : Bench) (k : ℕ) (x : NestRecord) → k ≤ length b.nests →
+    slice_get (with_if_else condition block b).nests k ≡ Some x → slice_get (with_branches condition registers block b).nests k ≡ Some x
+unfolding with_branches
+branches-keep condition registers block b k x low e =
+    let first : VastStatementBlock = first_block b in
+    let second : VastStatementBlock = second_block condition block b in
+    let place = second-place condition block b in
+    let c : Bench = with_if_else condition block b in
+    (all-assigned-changes OutsideReset second registers (with_all_assigned AtReset first registers c)).containers k x (λ s. absurd (omega (arith, low, place, s)))
+    ((all-assigned-changes AtReset first registers c).containers k x (λ s. absurd (omega (arith, low, s))) e)
 
--- One of the containers behind is filled.
-pub behind-filled :
-    (old now new : Bench) (block x : VastStatementBlock) (tail : List NestRecord) (k : ℕ) (roots : List Root) (assignments : List Assignment) (statements : List StatementEntry) (containers : List NestRecord) →
-    Behind old now block tail → block_index x ≡ k + length old.nests → new ≡ with_filled roots assignments statements containers x now → (HasOneParent now → HasOneParent new) →
-    Behind old new block (changed_at k (with_statements statements) tail ++ containers)
-behind-filled old now new block x tail k roots assignments statements containers h is after parents =
-    let nests : changed_at (block_index x) (with_statements statements) (front old block ++ tail) ++ containers ≡ front old block ++ (changed_at k (with_statements statements) tail ++ containers) =
-    rw (changed-behind (with_statements statements) (front old block) tail k (block_index x) (let e = length-front old block in omega (arith, e, is)))
-    (append_assoc (front old block) (changed_at k (with_statements statements) tail) containers) in
+-- Container i is a conditional of two blocks, the containers behind it, and reads so.
+pub record Branched (b : Bench) (i : ℕ) (trees : List StatementTree) : Type 0 where
+  pub condition : Expr
+  pub first : VastStatementBlock
+  pub second : VastStatementBlock
+  pub at_reset : List StatementTree
+  pub outside : List StatementTree
+  pub there : slice_get b.nests i ≡ Some (BranchRecord (record { condition = condition; consequent = first; else_ifs = []; otherwise = Some second }))
+  pub first_place : block_index first ≡ suc i
+  pub second_place : block_index second ≡ suc (suc i)
+  pub owned : OwnsExpr b condition
+  pub first_stands : Stands b (block_index first) at_reset
+  pub second_stands : Stands b (block_index second) outside
+  pub is : trees ≡ ConditionalTree (tree_of b condition) (block_of at_reset) (Else (block_of outside)) ∷ []
+
+branches-stand :
+    (condition : Expr) (registers : List RegisterDefinition) (block : VastStatementBlock) (b : Bench) (trees : List StatementTree) → OwnsExpr b condition → All (OwnsRegister b) registers → OwnsBlock b block →
+    trees ≡ ConditionalTree (tree_of b condition) (block_of (assigned_all value_at_reset (register_trees b registers))) (Else (block_of (assigned_all value_outside_reset (register_trees b registers)))) ∷ [] →
+    Branched (with_branches condition registers block b) (length b.nests) trees
+unfolding with_branches
+branches-stand condition registers block b trees h all own is =
+    let first : VastStatementBlock = first_block b in
+    let second : VastStatementBlock = second_block condition block b in
+    let place = second-place condition block b in
+    let c : Bench = with_if_else condition block b in
+    let d : Bench = with_all_assigned AtReset first registers c in
+    let e : Bench = with_all_assigned OutsideReset second registers d in
+    let v : Wider b c = (both-changes condition block b).wider in
+    let k : Changes (block_index first) c d = all-assigned-changes AtReset first registers c in
+    let l : Changes (block_index second) d e = all-assigned-changes OutsideReset second registers d in
+    let w : Wider b e = (branches-changes condition registers block b).wider in
+    let in-c : All (OwnsRegister c) registers = registers-owned b c v registers all in
+    let in-d : All (OwnsRegister d) registers = registers-owned c d k.wider registers in-c in
+    let trees-c : register_trees c registers ≡ register_trees b registers = registers-kept b c v registers all in
+    let trees-d : register_trees d registers ≡ register_trees b registers = registers-kept c d k.wider registers in-c ∙ trees-c in
+    let one : Stands d (block_index first) (assigned_all value_at_reset (register_trees b registers)) = rw trees-c at (all-assigned-stands AtReset first registers c [] in-c (first-empty condition block b own)) in
+    let empty : Stands d (block_index second) [] = stands-kept (block_index second) (block_index first) c d [] k (λ s. absurd (omega (arith, place, s))) (second-empty condition block b) in
     record {
-      roots = h.roots ++ roots;
-      assignments = h.assignments ++ assignments;
-      after = after ∙ rw h.after (rw (append_assoc old.nodes.roots h.roots roots, append_assoc old.assignments h.assignments assignments, nests) refl);
-      parents = λ p. parents (h.parents p);
+      condition = condition;
+      first = first;
+      second = second;
+      at_reset = assigned_all value_at_reset (register_trees b registers);
+      outside = assigned_all value_outside_reset (register_trees b registers);
+      there = branches-keep condition registers block b (length b.nests) (branch_of condition block b) (omega arith) (both-there condition block b own);
+      first_place = refl;
+      second_place = place;
+      owned = wider_owned b e w condition h;
+      first_stands = stands-kept (block_index first) (block_index second) d e (assigned_all value_at_reset (register_trees b registers)) l (λ s. absurd (omega (arith, place, s))) one;
+      second_stands = rw trees-d at (all-assigned-stands OutsideReset second registers d [] in-d empty);
+      is = rw (wider_tree b e w condition h) is;
     }
 
-pub behind-fills :
-    (old now new : Bench) (block x : VastStatementBlock) (tail : List NestRecord) (k : ℕ) (trees : List StatementTree) → Behind old now block tail → block_index x ≡ k + length old.nests →
-    (f : Fills now new x trees) → Behind old new block (changed_at k (with_statements f.statements) tail)
-behind-fills old now new block x tail k trees h is f =
-    rw (append-nil (changed_at k (with_statements f.statements) tail)) at (behind-filled old now new block x tail k f.roots f.assignments f.statements [] h is f.after f.parents)
+-- A block of assignments, and behind them perhaps a conditional.
 
-pub behind-disturbed :
-    (old now new : Bench) (block x : VastStatementBlock) (tail : List NestRecord) (k : ℕ) → Behind old now block tail → block_index x ≡ k + length old.nests → Disturbs now new x → Disturbs old new block
-behind-disturbed old now new block x tail k h is d =
-    disturbs-behind old new block (changed_at k (with_statements d.statements) tail ++ d.containers) (behind-filled old now new block x tail k d.roots d.assignments d.statements d.containers h is d.after d.parents)
+abbrev pub last_entry : Option Conditional → List StatementEntry
+last_entry None = []
+last_entry (Some c) = ConditionalStatement c ∷ []
 
-pub branch-refused : (old new : Bench) (r : Result (Unit {0}) AllocError) (block : VastStatementBlock) (trees : List StatementTree) → IsErr r → Disturbs old new block → MayBranch old new r block trees
-branch-refused old new (Ok x) block trees e h = absurd cc
-branch-refused old new (Err x) block trees e h = h
+abbrev pub LastReads : Bench → (i : ℕ) → Option Conditional → List StatementTree → Type 0
+LastReads b i None trees = trees ≡ []
+LastReads b i (Some c) trees = i < conditional_index c × Branched b (conditional_index c) trees
 
-pub behind-wider : (old now : Bench) (block : VastStatementBlock) (tail : List NestRecord) → Behind old now block tail → Wider old now
-behind-wider old now block tail h = rw h.after (filled-wider old h.roots h.assignments (branch_statements old) tail block)
+pub record Ends (b : Bench) (i : ℕ) (trees others : List StatementTree) : Type 0 where
+  pub statements : List StatementEntry
+  pub last : Option Conditional
+  pub there : slice_get b.nests i ≡ Some (BlockRecord (statements ++ last_entry last))
+  pub read : AreAssigned b statements trees
+  pub last_read : LastReads b i last others
 
--- The conditional is there, with its first block.
-pub record Opened (old mid now : Bench) (block : VastStatementBlock) (condition : Expr) (answer : Conditional) : Type 0 where
-  pub handle : answer ≡ next_conditional old
-  pub behind : Behind old now block (new_conditional old condition ∷ BlockRecord [] ∷ [])
-  pub wider : Wider mid now
-  pub owned : OwnsConditional now answer
+plain-ends : (b : Bench) (i : ℕ) (trees others : List StatementTree) → others ≡ [] → Stands b i trees → Ends b i trees others
+plain-ends b i trees others none s = record { statements = s.statements; last = None; there = rw (append-nil s.statements) s.there; read = s.read; last_read = none }
 
-pub opened :
-    (old mid now : Bench) (block : VastStatementBlock) (condition : Expr) (answer : Conditional) → HasMoreNodes old mid → OwnsBlock old block →
-    Builds mid now (Ok answer) (next_conditional mid) (with_statement block (ConditionalStatement (next_conditional mid)) (with_conditional condition mid)) →
-    Opened old mid now block condition answer
-opened old mid now block condition answer more h built =
-    let owned : OwnsBlock mid block = rw more.after h in
+pub reset-changes : (reset : Reset) (registers : List RegisterDefinition) (block : VastStatementBlock) (b : Bench) → Changes (block_index block) b (with_reset reset registers block b)
+reset-changes reset registers block b =
+    let i : ℕ = block_index block in
+    changes-then i i b (with_active reset b) (with_reset reset registers block b) (active-changes i reset b) (branches-changes (active_expr reset b) registers block (with_active reset b)) (inl refl)
+
+reset-ends :
+    (reset : Reset) (registers : List RegisterDefinition) (block : VastStatementBlock) (b : Bench) (trees : List StatementTree) → list_any is_resettable registers ≡ true →
+    OwnsReset b reset → All (OwnsRegister b) registers → OwnsBlock b block → Stands b (block_index block) trees →
+    Ends (with_reset reset registers block b) (block_index block) trees (by_reset (Some (reset_tree b reset)) (register_trees b registers))
+reset-ends reset registers block b trees any h all own s =
+    let i : ℕ = block_index block in
+    let c : Bench = with_active reset b in
+    let condition : Expr = active_expr reset b in
+    let d : Bench = with_branches condition registers block c in
+    let k : Changes (suc i) b c = active-changes (suc i) reset b in
+    let here : Stands c i trees = stands-kept i (suc i) b c trees k (λ e. absurd (omega (arith, e))) s in
+    let owned : OwnsBlock c block = k.blocks block own in
+    let below : i < length c.nests = block-place c block owned in
+    let made = active-made reset b h in
+    let same : register_trees c registers ≡ register_trees b registers = registers-kept b c k.wider registers all in
     record {
-      handle = built.0 ∙ rw more.after refl;
-      behind = behind-start old mid now block condition answer more owned built;
-      wider = rw built.1 (record { nodes = Extends-same mid.nodes; assignments = λ i a e. e });
-      owned = rw (built.0, built.1) (entered_conditional_owned (with_conditional condition mid) (block_index block) (StatementEnters (ConditionalStatement (next_conditional mid))) (next_conditional mid) (next_conditional_owned mid condition));
+      statements = here.statements;
+      last = Some (next_conditional c);
+      there = branches-keep condition registers block c i _ (omega (arith, below)) (both-else condition block c i _ (λ e. absurd (omega (arith, below, e))) (opened-block condition block c here.statements here.there));
+      read = are-kept c d (branches-changes condition registers block c).wider here.statements trees here.read;
+      last_read = (below, branches-stand condition registers block c _ made.0 (registers-owned b c k.wider registers all) owned (rw (any-tree b registers, any, made.1, same) refl));
     }
 
-pub opened-else : (old mid now : Bench) (block : VastStatementBlock) (condition : Expr) (answer : Conditional) → Opened old mid now block condition answer → has_else (slice_get now.nests (conditional_index answer)) ≡ false
-opened-else old mid now block condition answer o = rw o.handle (no-else old now block condition (BlockRecord [] ∷ []) o.behind)
+pub maybe-reset-changes : (reset : Option Reset) (registers : List RegisterDefinition) (block : VastStatementBlock) (b : Bench) → Changes (block_index block) b (with_maybe_reset reset registers block b)
+maybe-reset-changes None registers block b = changes-none (block_index block) b
+maybe-reset-changes (Some reset) registers block b = if-changes (block_index block) b (with_reset reset registers block b) b (list_any is_resettable registers) (reset-changes reset registers block b) (changes-none (block_index block) b)
 
--- Both blocks are there.
-pub record Closed (old mid now : Bench) (block : VastStatementBlock) (condition : Expr) (first second : VastStatementBlock) : Type 0 where
-  pub first_is : first ≡ first_behind old
-  pub second_is : second ≡ second_behind old
-  pub behind : Behind old now block (branch_of old condition (Some (second_behind old)) ∷ BlockRecord [] ∷ BlockRecord [] ∷ [])
-  pub wider : Wider mid now
-  pub first_owned : OwnsBlock now first
-  pub second_owned : OwnsBlock now second
+ends-case :
+    (reset : Reset) (registers : List RegisterDefinition) (block : VastStatementBlock) (b : Bench) (trees : List StatementTree) (t : Bool) → list_any is_resettable registers ≡ t →
+    OwnsReset b reset → All (OwnsRegister b) registers → OwnsBlock b block → Stands b (block_index block) trees →
+    Ends (with_maybe_reset (Some reset) registers block b) (block_index block) trees (by_reset (Some (reset_tree b reset)) (register_trees b registers))
+ends-case reset registers block b trees true e h all own s = let x = reset-ends reset registers block b trees e h all own s in rw e x
+ends-case reset registers block b trees false e h all own s = rw e (plain-ends b (block_index block) trees _ (rw (any-tree b registers, e) refl) s)
 
-pub closed :
-    (old mid now new : Bench) (block : VastStatementBlock) (condition : Expr) (answer : Conditional) (first second : VastStatementBlock) → Opened old mid now block condition answer →
-    then_block_at now answer ≡ Some first → OwnsBlock now first → Builds now new (Ok second) (next_block now) (with_else answer now) → Closed old mid new block condition first second
-closed old mid now new block condition answer first second o then owned built =
-    let then-here : then_block_at now (next_conditional old) ≡ Some first = rw o.handle at then in
-    let built-here : Builds now new (Ok second) (next_block now) (with_else (next_conditional old) now) = rw o.handle at built in
-    let e = behind-else old now new block condition second o.behind built-here in
-    let i : ℕ = conditional_index answer in
-    let entry : NestedEntry = ElseEnters (next_block now) in
-    record {
-      first_is = then-block old now block first condition (BlockRecord [] ∷ []) o.behind then-here;
-      second_is = e.0;
-      behind = e.1;
-      wider = wider-wider mid now new o.wider (rw built.1 (record { nodes = Extends-same now.nodes; assignments = λ i a e. e }));
-      first_owned = rw built.1 (entered_block_owned (with_block now) i entry first (old_block_owned now (BlockRecord []) first owned));
-      second_owned = rw (built.0, built.1) (entered_block_owned (with_block now) i entry (next_block now) (next_block_owned now));
-    }
-
-pub first-place : (old mid now : Bench) (block : VastStatementBlock) (condition : Expr) (first second : VastStatementBlock) → Closed old mid now block condition first second → block_index first ≡ 1 + length old.nests
-first-place old mid now block condition first second k = rw k.first_is (omega arith)
-
-pub second-place : (old mid now : Bench) (block : VastStatementBlock) (condition : Expr) (first second : VastStatementBlock) → Closed old mid now block condition first second → block_index second ≡ 2 + length old.nests
-second-place old mid now block condition first second k = rw k.second_is (omega arith)
-
--- Both blocks are filled.
-pub branch-end :
-    (old mid now after new : Bench) (r : Result (Unit {0}) AllocError) (block : VastStatementBlock) (condition : Expr) (first second : VastStatementBlock) (reset : Reset) (registers : List RegisterDefinition) →
-    All (OwnsRegister old) registers → list_any is_resettable registers ≡ true →
-    IsTree mid condition (active_tree (reset_tree old reset)) → Closed old mid now block condition first second →
-    Fills now after first (assigned_all (value_in AtReset) (register_trees now registers)) →
-    MayFill after new r second (assigned_all (value_in OutsideReset) (register_trees after registers)) →
-    MayBranch old new r block (by_reset (Some (reset_tree old reset)) (register_trees old registers))
-branch-end old mid now after new (Err x) block condition first second reset registers owned any tree k f g =
-    let one = behind-fills old now after block first _ 1 _ k.behind (first-place old mid now block condition first second k) f in
-    behind-disturbed old after new block second _ 2 one (second-place old mid now block condition first second k) g
-branch-end old mid now after new (Ok x) block condition first second reset registers owned any tree k f g =
-    let one = behind-fills old now after block first _ 1 _ k.behind (first-place old mid now block condition first second k) f in
-    let two = behind-fills old after new block second _ 2 _ one (second-place old mid now block condition first second k) g in
-    let w : Wider after new = fills-wider after new second _ g in
-    let all : Wider mid new = wider-wider mid now new k.wider (wider-wider now after new (fills-wider now after first _ f) w) in
-    let at_reset : List StatementTree = assigned_all value_at_reset (register_trees old registers) in
-    let outside : List StatementTree = assigned_all value_outside_reset (register_trees old registers) in
-    let first-reads : AreAssigned after f.statements at_reset = rw (registers-kept old now (behind-wider old now block _ k.behind) registers owned) at f.reads in
-    let second-reads : AreAssigned new g.statements outside = rw (registers-kept old after (behind-wider old after block _ one) registers owned) at g.reads in
-    let here : tree_of new condition ≡ active_tree (reset_tree old reset) = wider_tree mid new all condition tree.0 ∙ tree.1 in
-    record {
-      roots = two.roots;
-      assignments = two.assignments;
-      branch = record { condition = condition; at_reset = f.statements; outside = g.statements };
-      after = two.after;
-      reads = record {
-        at_reset = at_reset;
-        outside = outside;
-        condition_owned = wider_owned mid new all condition tree.0;
-        is = rw (any-tree old registers, any, here) refl;
-        at_reset_reads = are-kept after new w f.statements at_reset first-reads;
-        outside_reads = second-reads;
-      };
-      parents = two.parents;
-    }
+pub maybe-reset-ends :
+    (reset : Option Reset) (registers : List RegisterDefinition) (block : VastStatementBlock) (b : Bench) (trees : List StatementTree) → OptionHolds (OwnsReset b) reset → All (OwnsRegister b) registers → OwnsBlock b block →
+    Stands b (block_index block) trees → Ends (with_maybe_reset reset registers block b) (block_index block) trees (by_reset (maybe_reset_tree b reset) (register_trees b registers))
+maybe-reset-ends None registers block b trees h all own s = plain-ends b (block_index block) trees [] refl s
+maybe-reset-ends (Some reset) registers block b trees h all own s = ends-case reset registers block b trees (list_any is_resettable registers) refl h all own s

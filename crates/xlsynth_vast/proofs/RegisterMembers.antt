@@ -1,153 +1,114 @@
--- Laws of the member that registers become: nothing holds its block before, and its tree is theirs.
-use Rattle.std.proofs.Common.{◌≡◌, ℕ, suc, ◌+◌, ◌<◌, ◌≤◌, List, [], ◌∷◌, ◌++◌, length, Option, Some, None, slice_get, Ok, Err, refl, ap, ◌∙◌, arith, append_assoc, append-nil, length-append, flat_map, nat_eq, false}
+-- Laws of the member that registers become: the block that it takes, and its tree.
+use Rattle.std.proofs.Common.{◌≡◌, ◌≢◌, ℕ, suc, zero, ◌+◌, ◌-◌, ◌<◌, ◌≤◌, List, [], ◌∷◌, ◌++◌, length, All, Option, Some, None, slice_get, Ok, Err, IsErr, Result, refl, ap, ◌∙◌, ◌⊎◌, inl, inr, arith, append-nil, length-append}
+use Rattle.std.specs.declared.alloc.AllocError.{AllocError}
 use Rattle.vast_literal.specs.Tree.{ExprTree, StatementTree, PosEdgeTree, MoreStatements, NoStatements, ConditionalTree, Else}
 use Rattle.vast_literal.specs.declared.error.VastFault.{VastFault}
 use Rattle.vast_literal.specs.declared.error.VastFault.TheVariants.{Refused, Memory}
 use Rattle.vast_literal.specs.Fault.{RefusedBy}
 use Rattle.vast_core.specs.declared.handle.Expr.{Expr}
+use Rattle.vast_core.specs.declared.handle.Conditional.{Conditional}
 use Rattle.vast_core.specs.declared.handle.VastStatementBlock.{VastStatementBlock}
 use Rattle.vast_core.specs.declared.kind.AlwaysKind.TheVariants.{AlwaysFF}
-use Rattle.vast_core.specs.declared.node.ElseIf.{ElseIf}
-use Rattle.vast_core.specs.declared.node.CaseArm.{CaseArm}
-use Rattle.vast_core.specs.Handles.{block_index, loop_index}
-use Rattle.vast_core.specs.declared.node.Assignment.{Assignment}
-use Rattle.vast_core.specs.Nodes.{OptionHolds, Root, ExprRoot}
-use Rattle.vast_core.specs.Records.{changed_at, AlwaysEntry}
-use Rattle.vast_core.specs.Nests.{StatementEntry, NestRecord, BlockRecord, BranchRecord, SwitchRecord, RepeatRecord, FunctionRecord, AlwaysRecord}
+use Rattle.vast_core.specs.Handles.{block_index, conditional_index, loop_index}
+use Rattle.vast_core.specs.Nodes.{OptionHolds, ExprRoot}
+use Rattle.vast_core.specs.Records.{AlwaysEntry}
+use Rattle.vast_core.specs.Nests.{StatementEntry, NestRecord, BlockRecord}
 use Rattle.vast_core.specs.Bench.{Bench, OwnsExpr, OwnsBlock, tree_of}
-use Rattle.vast_core.specs.Sound.{Each, HoldsBlock, ElseIfSound, CaseArmSound, NestSound, NestsSound, FunctionSound, AlwaysSound, RecordsSound, EventSound}
-use Rattle.vast_core.specs.Growth.{Builds, next_expr, with_root}
-use Rattle.vast_core.specs.Containers.{MemberEnters, with_entry, next_block, with_block}
+use Rattle.vast_core.specs.Sound.{EventSound}
+use Rattle.vast_core.specs.Growth.{next_expr}
+use Rattle.vast_core.specs.Containers.{MemberEnters, with_entry, next_block, with_spare_block}
 use Rattle.vast_core.specs.Loops.{next_always}
-use Rattle.vast_core.specs.Unattached.{IsOther, HasOtherBlocks, IsUnheld, always_over}
+use Rattle.vast_core.specs.Unattached.{always_over}
 use Rattle.vast_core.specs.FileTree.{Family, block_in, branch_statement, statements_in, unfolded, families, member_tree}
-use Rattle.vast_core.proofs.Lists.{slice_get-append, slice_get-seam, Each-map, length-changed_at}
-use Rattle.vast_core.proofs.NodeLaws.{Extends-same, Extends-root}
-use Rattle.vast_core.proofs.Nests.{get-before, changed-before}
-use Rattle.vast_core.proofs.Enters.{block-place, loop-place}
+use Rattle.vast_core.proofs.Lists.{slice_get-seam}
+use Rattle.vast_core.proofs.NodeLaws.{Extends-root}
+use Rattle.vast_core.proofs.Nests.{get-before}
+use Rattle.vast_core.proofs.Enters.{next_block_owned, loop-place}
 use Rattle.vast_core.proofs.Laws.{next_owned, next_tree}
 use Rattle.xlsynth_vast.specs.declared.helpers.registers.Reset.{Reset}
 use Rattle.xlsynth_vast.specs.declared.helpers.registers.RegisterDefinition.{RegisterDefinition}
 use Rattle.xlsynth_vast.specs.declared.helpers.registers.RegisterScope.{RegisterScope}
 use Rattle.xlsynth_vast.specs.declared.helpers.registers.RegisterScope.TheVariants.{Module as ModuleScope, GenerateLoop as LoopScope}
+use Rattle.xlsynth_vast.specs.declared.helpers.registers.Share.TheVariants.{Unreset}
 use Rattle.xlsynth_vast.specs.Expressions.{with_pos_edge}
-use Rattle.xlsynth_vast.specs.Registers.{RegisterTree, ResetTree, block_of, register_block, registers_member, OwnsScope, with_unused, HasUnused, with_clocked, AddsMember, MayAddRegisters, unless_unresettable, maybe_reset_tree, register_trees}
-use Rattle.xlsynth_vast.specs.RegisterSteps.{AreAssigned, Branch, BranchReads, LastReads, branch_statements, branch_containers, last_statements, last_containers, first_behind, second_behind, MakesBlock, IsOlderScope}
-use Rattle.xlsynth_vast.proofs.RegisterParts.{one-parent, Wider, wider_owned, wider_tree, are-kept}
-use Rattle.xlsynth_vast.specs.Parents.{Part, ContainerPart, held_by_statement, held_by_conditional, held_by_container, held, places, HasOneParent}
-use Rattle.xlsynth_vast.proofs.Places.{places-append, over-append, over-one}
-use Rattle.xlsynth_vast.proofs.PlacedOnce.{file-places}
-use Rattle.xlsynth_vast.proofs.RegisterBranches.{get-behind}
-use Rattle.xlsynth_vast.proofs.RegisterBlocks.{unused-none}
+use Rattle.xlsynth_vast.specs.Registers.{RegisterTree, ResetTree, block_of, unreset_value, assigned_all, by_reset, register_block, registers_member, OwnsScope, OwnsReset, OwnsRegister, HasUnused, unless_unresettable, maybe_reset_tree, register_trees, reset_tree}
+use Rattle.xlsynth_vast.specs.AddedRegisters.{with_all_assigned, with_maybe_reset, with_register_block, with_clocked, with_clocked_at, with_registers, AddsRegisters, MayAddRegisters}
+use Rattle.xlsynth_vast.specs.RegisterSteps.{IsOlderScope}
+use Rattle.xlsynth_vast.proofs.RegisterParts.{Wider, wider-wider, wider_owned, wider_tree, registers-owned, registers-kept, get-unchanged, get-within, unused-none, unused-block, unused-wider, Changes, changes-then, changes-root}
+use Rattle.xlsynth_vast.proofs.RegisterBlocks.{AreAssigned, are-kept, Stands, stands-still, all-assigned-changes, all-assigned-stands}
+use Rattle.xlsynth_vast.proofs.RegisterBranches.{Branched, last_entry, LastReads, Ends, maybe-reset-changes, maybe-reset-ends}
 
--- Nothing of a file holds a block that it does not have.
+-- The block of the registers.
 
-other-of : (b : Bench) (block c : VastStatementBlock) → length b.nests ≤ block_index block → OwnsBlock b c → IsOther block c
-other-of b block c past h e = let below : block_index c < length b.nests = block-place b c h in absurd (omega (arith, e))
+abbrev filled : List RegisterDefinition → Bench → Bench
+filled registers b = with_all_assigned Unreset (next_block b) registers (with_spare_block b)
 
-other-maybe : (b : Bench) (i : ℕ) (block : VastStatementBlock) (o : Option VastStatementBlock) → length b.nests ≤ block_index block → OptionHolds (HoldsBlock b i) o → OptionHolds (IsOther block) o
-other-maybe b i block None past h = tt
-other-maybe b i block (Some c) past h = other-of b block c past h.0
+pub block-changes : (reset : Option Reset) (registers : List RegisterDefinition) (b : Bench) → Changes (length b.nests) (with_spare_block b) (with_register_block reset registers b)
+unfolding with_register_block
+block-changes reset registers b =
+    let i : ℕ = length b.nests in
+    changes-then i i (with_spare_block b) (filled registers b) (with_register_block reset registers b) (all-assigned-changes Unreset (next_block b) registers (with_spare_block b))
+    (maybe-reset-changes reset registers (next_block b) (filled registers b)) (inl refl)
 
-others : (b : Bench) (i : ℕ) (block : VastStatementBlock) (n : NestRecord) → length b.nests ≤ block_index block → NestSound b i n → HasOtherBlocks block n
-others b i block (BlockRecord ss) past h = tt
-others b i block (BranchRecord c) past h = (
-  other-of b block c.consequent past h.consequent.0,
-  Each-map (λ (a : ElseIf) (k : ElseIfSound b i a). other-of b block a.block past k.1.0) c.else_ifs h.else_ifs,
-  other-maybe b i block c.otherwise past h.otherwise,
-)
-others b i block (SwitchRecord c) past h = Each-map (λ (a : CaseArm) (k : CaseArmSound b i a). other-of b block a.block past k.1.0) c.arms h.arms
-others b i block (RepeatRecord l) past h = tt
+pub block-unused : (reset : Option Reset) (registers : List RegisterDefinition) (b : Bench) → HasUnused b (with_register_block reset registers b)
+block-unused reset registers b = (block-changes reset registers b).unused b (unused-block b) (omega arith)
 
-all-others : (b : Bench) (i : ℕ) (block : VastStatementBlock) (ns : List NestRecord) → length b.nests ≤ block_index block → NestsSound b i ns → Each (HasOtherBlocks block) ns
-all-others b i block [] past h = tt
-all-others b i block (n ∷ ns) past h = (others b i block n past h.0, all-others b (suc i) block ns past h.1)
+pub spare-owned : (b : Bench) → OwnsBlock (with_spare_block b) (next_block b)
+spare-owned b = next_block_owned b
 
-Each-append : {A : Type 0} (P : A → Type 0) (xs ys : List A) → Each P xs → Each P ys → Each P (xs ++ ys)
-Each-append P [] ys h k = k
-Each-append P (x ∷ xs) ys h k = (h.0, Each-append P xs ys h.1 k)
+pub spare-registers : (b : Bench) (registers : List RegisterDefinition) → All (OwnsRegister b) registers → All (OwnsRegister (with_spare_block b)) registers
+spare-registers b registers h = registers-owned b (with_spare_block b) (unused-wider b (with_spare_block b) (unused-block b)) registers h
 
--- The block that was made.
+pub filled-wider : (b : Bench) (registers : List RegisterDefinition) → Wider b (filled registers b)
+filled-wider b registers = wider-wider b (with_spare_block b) (filled registers b) (unused-wider b (with_spare_block b) (unused-block b)) ((all-assigned-changes Unreset (next_block b) registers (with_spare_block b)).wider)
 
-pub unused-made : (old now : Bench) (block : VastStatementBlock) (reset : Option ResetTree) (registers : List RegisterTree) → MakesBlock old now block reset registers → HasUnused old now
-unused-made old now block reset registers h = record { roots = h.roots; assignments = h.assignments; containers = BlockRecord (h.statements ++ last_statements (with_block old) h.branch) ∷ last_containers (with_block old) h.branch; after = h.after; parents = h.parents }
+maybe-reset-owned : (b c : Bench) → Wider b c → (reset : Option Reset) → OptionHolds (OwnsReset b) reset → OptionHolds (OwnsReset c) reset
+maybe-reset-owned b c w None h = tt
+maybe-reset-owned b c w (Some reset) h = wider_owned b c w reset.signal h
 
-pub unused-wider : (old now : Bench) → HasUnused old now → Wider old now
-unused-wider old now h = rw h.after (record { nodes = record { same_id = refl; same_roots = λ i r e. slice_get-append old.nodes.roots h.roots i r e }; assignments = λ i a e. slice_get-append old.assignments h.assignments i a e })
+maybe-reset-kept : (b c : Bench) → Wider b c → (reset : Option Reset) → OptionHolds (OwnsReset b) reset → maybe_reset_tree c reset ≡ maybe_reset_tree b reset
+maybe-reset-kept b c w None h = refl
+maybe-reset-kept b c w (Some reset) h = rw (wider_tree b c w reset.signal h) refl
 
--- An expression more.
-last-kept : (b c : Bench) → Wider b c → (x : Option Branch) (trees : List StatementTree) → LastReads b x trees → LastReads c x trees
-last-kept b c w None trees h = h
-last-kept b c w (Some x) trees h =
-    record {
-      at_reset = h.at_reset;
-      outside = h.outside;
-      condition_owned = wider_owned b c w x.condition h.condition_owned;
-      is = rw (wider_tree b c w x.condition h.condition_owned) h.is;
-      at_reset_reads = are-kept b c w x.at_reset h.at_reset h.at_reset_reads;
-      outside_reads = are-kept b c w x.outside h.outside h.outside_reads;
-    }
+block-ends :
+    (reset : Option Reset) (registers : List RegisterDefinition) (b : Bench) → OptionHolds (OwnsReset b) reset → All (OwnsRegister b) registers →
+    Ends (with_register_block reset registers b) (length b.nests) (assigned_all unreset_value (register_trees b registers)) (by_reset (maybe_reset_tree b reset) (register_trees b registers))
+unfolding with_register_block
+block-ends reset registers b h all =
+    let c : Bench = with_spare_block b in
+    let d : Bench = filled registers b in
+    let w : Wider b c = unused-wider b c (unused-block b) in
+    let v : Wider b d = filled-wider b registers in
+    let empty : Stands c (length b.nests) [] = record { statements = []; there = slice_get-seam b.nests (BlockRecord []); read = tt } in
+    let in-c : All (OwnsRegister c) registers = registers-owned b c w registers all in
+    let one : Stands d (length b.nests) (assigned_all unreset_value (register_trees b registers)) = rw (registers-kept b c w registers all) at (all-assigned-stands Unreset (next_block b) registers c [] in-c empty) in
+    rw (maybe-reset-kept b d v reset h, registers-kept b d v registers all) at
+    (maybe-reset-ends reset registers (next_block b) d (assigned_all unreset_value (register_trees b registers)) (maybe-reset-owned b d v reset h) (registers-owned b d v registers all)
+    ((all-assigned-changes Unreset (next_block b) registers c).blocks (next_block b) (spare-owned b)) one)
 
-pub made-with-edge :
-    (old mid now : Bench) (block : VastStatementBlock) (reset : Option ResetTree) (registers : List RegisterTree) (clk answer : Expr) → MakesBlock old mid block reset registers →
-    Builds mid now (Ok answer) (next_expr mid) (with_pos_edge clk mid) → MakesBlock old now block reset registers
-made-with-edge old mid now block reset registers clk answer h built =
-    let w : Wider mid now = rw built.1 (record { nodes = Extends-root mid.nodes (ExprRoot (PosEdgeTree (tree_of mid clk))); assignments = λ i a e. e }) in
-    record {
-      roots = h.roots ++ ExprRoot (PosEdgeTree (tree_of mid clk)) ∷ [];
-      assignments = h.assignments;
-      statements = h.statements;
-      branch = h.branch;
-      is = h.is;
-      after = built.1 ∙ (ap (λ x. with_root x (ExprRoot (PosEdgeTree (tree_of mid clk)))) h.after ∙ rw (append_assoc old.nodes.roots h.roots (ExprRoot (PosEdgeTree (tree_of mid clk)) ∷ [])) refl);
-      reads = are-kept mid now w h.statements _ h.reads;
-      last_reads = last-kept mid now w h.branch _ h.last_reads;
-      parents = λ x. rw built.1 (one-parent.otherwise mid (with_pos_edge clk mid) refl refl refl refl (h.parents x));
-    }
+-- It can be attached, at an edge of the clock.
 
-pub edge-sound : (mid now : Bench) (clk answer : Expr) → Builds mid now (Ok answer) (next_expr mid) (with_pos_edge clk mid) → EventSound now answer
-edge-sound mid now clk answer built = rw (built.0, built.1) (next_owned mid (PosEdgeTree (tree_of mid clk)), rw (next_tree mid (PosEdgeTree (tree_of mid clk))) refl)
+pub edge-sound : (b : Bench) (clk : Expr) → EventSound (with_pos_edge clk b) (next_expr b)
+edge-sound b clk = let t = PosEdgeTree (tree_of b clk) in (next_owned b t, rw (next_tree b t) refl)
 
-pub edge-tree : (old mid now : Bench) (clk answer : Expr) → Wider old mid → OwnsExpr old clk → Builds mid now (Ok answer) (next_expr mid) (with_pos_edge clk mid) → tree_of now answer ≡ PosEdgeTree (tree_of old clk)
-edge-tree old mid now clk answer w h built = rw (built.0, built.1, ← wider_tree old mid w clk h) (next_tree mid (PosEdgeTree (tree_of mid clk)))
+edge-changes : (i : ℕ) (b : Bench) (clk : Expr) → Changes i b (with_pos_edge clk b)
+edge-changes i b clk = changes-root i b (ExprRoot (PosEdgeTree (tree_of b clk)))
 
--- It can be attached.
+pub edge-unused : (old b : Bench) (clk : Expr) → HasUnused old b → HasUnused old (with_pos_edge clk b)
+edge-unused old b clk h = (edge-changes (length old.nests) b clk).unused old h (omega arith)
 
-pub made-owned : (old now : Bench) (block : VastStatementBlock) (reset : Option ResetTree) (registers : List RegisterTree) → MakesBlock old now block reset registers → OwnsBlock now block
-made-owned old now block reset registers h =
-    rw (h.is, h.after) (record {
-      of_file = refl;
-      of_kind = rw (get-behind old.nests (BlockRecord (h.statements ++ last_statements (with_block old) h.branch) ∷ last_containers (with_block old) h.branch) 0 (length old.nests) (omega arith)) refl;
-    })
-
-last-others : (old : Bench) (x : Option Branch) → Each (HasOtherBlocks (next_block old)) (last_containers (with_block old) x)
-last-others old None = tt
-last-others old (Some x) =
-    let count = length-append old.nests (BlockRecord [] ∷ []) in
-    ((λ e. absurd (omega (arith, count, e)), tt, λ e. absurd (omega (arith, count, e))), (tt, (tt, tt)))
-
-made-unheld-here :
-    (old : Bench) (roots : List Root) (assignments : List Assignment) (statements : List StatementEntry) (x : Option Branch) → RecordsSound old →
-    IsUnheld (with_unused roots assignments (BlockRecord statements ∷ last_containers (with_block old) x) old) (next_block old)
-made-unheld-here old roots assignments statements x s =
-    record {
-      containers = Each-append (HasOtherBlocks (next_block old)) old.nests (BlockRecord statements ∷ last_containers (with_block old) x) (all-others old 0 (next_block old) old.nests (omega arith) s.nests) (tt, last-others old x);
-      functions = Each-map (λ (f : FunctionRecord) (k : FunctionSound old f). other-of old (next_block old) f.body (omega arith) k.body) old.functions s.functions;
-      always_blocks = Each-map (λ (a : AlwaysRecord) (k : AlwaysSound old a). other-of old (next_block old) a.block (omega arith) k.block) old.always_blocks s.always_blocks;
-    }
-
-pub made-unheld : (old now : Bench) (block : VastStatementBlock) (reset : Option ResetTree) (registers : List RegisterTree) → RecordsSound old → MakesBlock old now block reset registers → IsUnheld now block
-made-unheld old now block reset registers s h = rw (h.is, h.after) (made-unheld-here old h.roots h.assignments (h.statements ++ last_statements (with_block old) h.branch) h.branch s)
+pub block-spare : (reset : Option Reset) (registers : List RegisterDefinition) (b : Bench) → (with_register_block reset registers b).spare ≡ Some (next_block b)
+block-spare reset registers b = (block-changes reset registers b).spare
 
 pub scope-owned : (old now : Bench) (scope : RegisterScope) → HasUnused old now → OwnsScope old scope → OwnsScope now scope
 scope-owned old now (ModuleScope owner) h k = rw h.after k
 scope-owned old now (LoopScope owner) h k = rw h.after (record { of_file = k.of_file; of_kind = rw (get-before old.nests h.containers (loop_index owner) (loop-place old owner k)) k.of_kind })
 
-pub scope-older : (old now : Bench) (block : VastStatementBlock) (reset : Option ResetTree) (registers : List RegisterTree) (scope : RegisterScope) → MakesBlock old now block reset registers → OwnsScope old scope → IsOlderScope scope block
-scope-older old now block reset registers (ModuleScope owner) h k = tt
-scope-older old now block reset registers (LoopScope owner) h k = rw h.is (loop-place old owner k)
+pub scope-older : (b : Bench) (scope : RegisterScope) → OwnsScope b scope → IsOlderScope scope (next_block b)
+scope-older b (ModuleScope owner) k = tt
+scope-older b (LoopScope owner) k = loop-place b owner k
 
--- Its tree.
+-- The tree of a block.
 
 statements-read :
     (d : Bench) (f : ℕ → Family) (ss more : List StatementEntry) (ts others : List StatementTree) → AreAssigned d ss ts → statements_in d f more ≡ block_of others →
@@ -158,182 +119,114 @@ statements-read d f (s ∷ ss) more [] others h e = absurd h
 statements-read d f (s ∷ ss) more (t ∷ ts) others h e =
     rw (h.0.is, h.0.there, ← h.0.tree) (ap (λ x. MoreStatements t x) (statements-read d f ss more ts others h.1 e))
 
-block-read : (d : Bench) (m i : ℕ) (ss : List StatementEntry) (ts : List StatementTree) → slice_get d.nests i ≡ Some (BlockRecord ss) → AreAssigned d ss ts → block_in (unfolded d (suc m) i) ≡ block_of ts
-block-read d m i ss ts e h =
-    rw e (rw (append-nil ss, append-nil ts) at (statements-read d (unfolded d m) ss [] ts [] h refl))
+stands-read : (d : Bench) (m i : ℕ) (ts : List StatementTree) → Stands d i ts → block_in (unfolded d (suc m) i) ≡ block_of ts
+stands-read d m i ts s =
+    rw s.there (rw (append-nil s.statements, append-nil ts) at (statements-read d (unfolded d m) s.statements [] ts [] s.read refl))
 
-branch-read :
-    (d : Bench) (m i : ℕ) (x : Branch) (first second : VastStatementBlock) (trees : List StatementTree) → (reads : BranchReads d x trees) →
-    slice_get d.nests i ≡ Some (BranchRecord (record { condition = x.condition; consequent = first; else_ifs = []; otherwise = Some second })) →
-    slice_get d.nests (block_index first) ≡ Some (BlockRecord x.at_reset) → slice_get d.nests (block_index second) ≡ Some (BlockRecord x.outside) →
-    branch_statement (unfolded d (suc (suc m)) i) ≡ ConditionalTree (tree_of d x.condition) (block_of reads.at_reset) (Else (block_of reads.outside))
-branch-read d m i x first second trees reads e f g =
-    rw e (rw (block-read d m (block_index first) x.at_reset reads.at_reset f reads.at_reset_reads, block-read d m (block_index second) x.outside reads.outside g reads.outside_reads) refl)
+branched-read : (d : Bench) (m i : ℕ) (trees : List StatementTree) → (x : Branched d i trees) → MoreStatements (branch_statement (unfolded d (suc (suc m)) i)) NoStatements ≡ block_of trees
+branched-read d m i trees x =
+    rw (x.is, x.there) (rw (stands-read d m (block_index x.first) x.at_reset x.first_stands, stands-read d m (block_index x.second) x.outside x.second_stands) refl)
 
--- A bench in which these containers stand last.
-pub record StandsLast (old d : Bench) (statements : List StatementEntry) (x : Option Branch) : Type 0 where
-  pub front : List NestRecord
-  pub count : length front ≡ length old.nests
-  pub nests : d.nests ≡ front ++ BlockRecord (statements ++ last_statements (with_block old) x) ∷ last_containers (with_block old) x
+ends-deep :
+    (d : Bench) (depth i : ℕ) (ss : List StatementEntry) (last : Option Conditional) (ts others : List StatementTree) → length d.nests ≤ depth →
+    slice_get d.nests i ≡ Some (BlockRecord (ss ++ last_entry last)) → AreAssigned d ss ts → LastReads d i last others → block_in (unfolded d depth i) ≡ block_of (ts ++ others)
+ends-deep d zero i ss last ts others deep e h k = let below = get-within d.nests i _ e in absurd (omega (arith, below, deep))
+ends-deep d (suc m) i ss None ts others deep e h k = rw (e, k) (statements-read d (unfolded d m) ss [] ts [] h refl)
+ends-deep d (suc zero) i ss (Some c) ts others deep e h k = let below = get-within d.nests _ _ k.1.there in absurd (omega (arith, below, deep, k.0))
+ends-deep d (suc (suc zero)) i ss (Some c) ts others deep e h k = let below = get-within d.nests _ _ k.1.first_stands.there in let place = k.1.first_place in absurd (omega (arith, below, deep, place, k.0))
+ends-deep d (suc (suc (suc m))) i ss (Some c) ts others deep e h k =
+    rw e (statements-read d (unfolded d (suc (suc m))) ss (last_entry (Some c)) ts others h (branched-read d m (conditional_index c) others k.1))
 
-last-at :
-    (old d : Bench) (statements : List StatementEntry) (x : Option Branch) (k i : ℕ) → (s : StandsLast old d statements x) → i ≡ k + length old.nests →
-    slice_get d.nests i ≡ slice_get (BlockRecord (statements ++ last_statements (with_block old) x) ∷ last_containers (with_block old) x) k
-last-at old d statements x k i s e =
-    let count = s.count in rw s.nests (get-behind s.front (BlockRecord (statements ++ last_statements (with_block old) x) ∷ last_containers (with_block old) x) k i (omega (arith, count, e)))
-
-pub last-read :
-    (old d : Bench) (statements : List StatementEntry) (x : Option Branch) (trees others : List StatementTree) → StandsLast old d statements x → AreAssigned d statements trees → LastReads d x others →
-    block_in (families d (length old.nests)) ≡ block_of (trees ++ others)
+ends-read : (d : Bench) (i : ℕ) (ts others : List StatementTree) → Ends d i ts others → block_in (families d i) ≡ block_of (ts ++ others)
 unfolding families
-last-read old d statements None trees others s h k =
-    let count = s.count in
-    let there : slice_get d.nests (length old.nests) ≡ Some (BlockRecord (statements ++ [])) = last-at old d statements None 0 (length old.nests) s (omega arith) in
-    let size : length d.nests ≡ suc (length old.nests) = rw s.nests (omega (arith, count, length-append s.front (BlockRecord (statements ++ []) ∷ []))) in
-    rw (size, k, append-nil trees) (block-read d (length old.nests) (length old.nests) statements trees (rw (append-nil statements) at there) h)
-last-read old d statements (Some x) trees others s h k =
-    let count = s.count in
-    let n : ℕ = length old.nests in
-    let added = length-append old.nests (BlockRecord [] ∷ []) in
-    let held : List StatementEntry = statements ++ branch_statements (with_block old) in
-    let there : slice_get d.nests n ≡ Some (BlockRecord held) = last-at old d statements (Some x) 0 n s (omega arith) in
-    let size : length d.nests ≡ suc (suc (suc (suc n))) = rw s.nests (omega (arith, count, length-append s.front (BlockRecord held ∷ branch_containers (with_block old) x))) in
-    let branch : slice_get d.nests (length (with_block old).nests) ≡ Some (BranchRecord (record { condition = x.condition; consequent = first_behind (with_block old); else_ifs = []; otherwise = Some (second_behind (with_block old)) })) =
-    last-at old d statements (Some x) 1 (length (with_block old).nests) s (omega (arith, added)) in
-    let first : slice_get d.nests (block_index (first_behind (with_block old))) ≡ Some (BlockRecord x.at_reset) = last-at old d statements (Some x) 2 (suc (length (with_block old).nests)) s (omega (arith, added)) in
-    let second : slice_get d.nests (block_index (second_behind (with_block old))) ≡ Some (BlockRecord x.outside) = last-at old d statements (Some x) 3 (suc (suc (length (with_block old).nests))) s (omega (arith, added)) in
-    let f : ℕ → Family = unfolded d (suc (suc (suc n))) in
-    let last : statements_in d f (branch_statements (with_block old)) ≡ block_of others =
-    rw k.is (ap (λ t. MoreStatements t NoStatements) (branch-read d (suc n) (length (with_block old).nests) x (first_behind (with_block old)) (second_behind (with_block old)) others k branch first second)) in
-    rw (size, there) (statements-read d f statements (branch_statements (with_block old)) trees others h last)
+ends-read d i ts others x = ends-deep d (length d.nests) i x.statements x.last ts others (omega arith) x.there x.read x.last_read
+
+-- A block is read alike where the containers from it on stay.
+pub record StaysFrom (i : ℕ) (b c : Bench) : Type 0 where
+  pub wider : Wider b c
+  pub containers : (k : ℕ) (n : NestRecord) → i ≤ k → slice_get b.nests k ≡ Some n → slice_get c.nests k ≡ Some n
+
+branched-stays : (i j : ℕ) (b c : Bench) (trees : List StatementTree) → i ≤ j → StaysFrom i b c → Branched b j trees → Branched c j trees
+branched-stays i j b c trees past s x =
+    let one = x.first_place in
+    let two = x.second_place in
+    record {
+      condition = x.condition;
+      first = x.first;
+      second = x.second;
+      at_reset = x.at_reset;
+      outside = x.outside;
+      there = s.containers j _ past x.there;
+      first_place = x.first_place;
+      second_place = x.second_place;
+      owned = wider_owned b c s.wider x.condition x.owned;
+      first_stands = stands-still b c (block_index x.first) x.at_reset s.wider (λ n e. s.containers (block_index x.first) n (omega (arith, past, one)) e) x.first_stands;
+      second_stands = stands-still b c (block_index x.second) x.outside s.wider (λ n e. s.containers (block_index x.second) n (omega (arith, past, two)) e) x.second_stands;
+      is = rw (wider_tree b c s.wider x.condition x.owned) x.is;
+    }
+
+last-stays : (i : ℕ) (b c : Bench) (last : Option Conditional) (trees : List StatementTree) → StaysFrom i b c → LastReads b i last trees → LastReads c i last trees
+last-stays i b c None trees s h = h
+last-stays i b c (Some x) trees s h = let later = h.0 in (h.0, branched-stays i (conditional_index x) b c trees (omega (arith, later)) s h.1)
+
+ends-stays : (i : ℕ) (b c : Bench) (ts others : List StatementTree) → StaysFrom i b c → Ends b i ts others → Ends c i ts others
+ends-stays i b c ts others s x =
+    record {
+      statements = x.statements;
+      last = x.last;
+      there = s.containers i _ (omega arith) x.there;
+      read = are-kept b c s.wider x.statements ts x.read;
+      last_read = last-stays i b c x.last others s x.last_read;
+    }
 
 -- The member.
 
-abbrev clocked : RegisterScope → Expr → VastStatementBlock → Bench → Bench
-clocked scope event block b = with_clocked scope event block b
-
-clocked-wider : (scope : RegisterScope) (event : Expr) (block : VastStatementBlock) (b : Bench) → Wider b (clocked scope event block b)
-clocked-wider (ModuleScope owner) event block b = record { nodes = Extends-same b.nodes; assignments = λ i a e. e }
-clocked-wider (LoopScope owner) event block b = record { nodes = Extends-same b.nodes; assignments = λ i a e. e }
+clocked-stays : (scope : RegisterScope) (clk : Expr) (block : VastStatementBlock) (i : ℕ) (b : Bench) → IsOlderScope scope block → i ≡ block_index block → StaysFrom i b (with_clocked_at clk scope block b)
+clocked-stays (ModuleScope owner) clk block i b older is =
+    record { wider = record { nodes = Extends-root b.nodes (ExprRoot (PosEdgeTree (tree_of b clk))); assignments = λ k a e. e }; containers = λ k n past e. e }
+clocked-stays (LoopScope owner) clk block i b older is =
+    record {
+      wider = record { nodes = Extends-root b.nodes (ExprRoot (PosEdgeTree (tree_of b clk))); assignments = λ k a e. e };
+      containers = λ k n past e.
+          get-unchanged (with_entry (MemberEnters (AlwaysEntry (next_always b)))) b.nests k (loop_index owner) (λ s. absurd (omega (arith, past, older, is, s))) ∙ e;
+    }
 
 clocked-there :
-    (scope : RegisterScope) (event : Expr) (block : VastStatementBlock) (old b : Bench) → b.always_blocks ≡ old.always_blocks →
-    slice_get (clocked scope event block b).always_blocks (length old.always_blocks) ≡ Some (always_over AlwaysFF (event ∷ []) block)
-clocked-there (ModuleScope owner) event block old b e = rw e (slice_get-seam old.always_blocks (always_over AlwaysFF (event ∷ []) block))
-clocked-there (LoopScope owner) event block old b e = rw e (slice_get-seam old.always_blocks (always_over AlwaysFF (event ∷ []) block))
+    (scope : RegisterScope) (clk : Expr) (block : VastStatementBlock) (old b : Bench) → b.always_blocks ≡ old.always_blocks →
+    slice_get (with_clocked_at clk scope block b).always_blocks (length old.always_blocks) ≡ Some (always_over AlwaysFF (next_expr b ∷ []) block)
+clocked-there (ModuleScope owner) clk block old b e = rw e (slice_get-seam old.always_blocks (always_over AlwaysFF (next_expr b ∷ []) block))
+clocked-there (LoopScope owner) clk block old b e = rw e (slice_get-seam old.always_blocks (always_over AlwaysFF (next_expr b ∷ []) block))
 
-clocked-last :
-    (scope : RegisterScope) (event : Expr) (block : VastStatementBlock) (old b : Bench) (statements : List StatementEntry) (x : Option Branch) → OwnsScope old scope →
-    b.nests ≡ old.nests ++ BlockRecord (statements ++ last_statements (with_block old) x) ∷ last_containers (with_block old) x → StandsLast old (clocked scope event block b) statements x
-clocked-last (ModuleScope owner) event block old b statements x owned e = record { front = old.nests; count = refl; nests = e }
-clocked-last (LoopScope owner) event block old b statements x owned e =
-    let f : NestRecord → NestRecord = with_entry (MemberEnters (AlwaysEntry (next_always b))) in
-    record {
-      front = changed_at (loop_index owner) f old.nests;
-      count = length-changed_at f old.nests (loop_index owner);
-      nests = rw e (changed-before f old.nests (BlockRecord (statements ++ last_statements (with_block old) x) ∷ last_containers (with_block old) x) (loop_index owner) (loop-place old owner owned));
-    }
+clocked-event : (scope : RegisterScope) (clk : Expr) (block : VastStatementBlock) (b : Bench) → tree_of (with_clocked_at clk scope block b) (next_expr b) ≡ PosEdgeTree (tree_of b clk)
+clocked-event (ModuleScope owner) clk block b = next_tree b (PosEdgeTree (tree_of b clk))
+clocked-event (LoopScope owner) clk block b = next_tree b (PosEdgeTree (tree_of b clk))
 
-clocked-tree :
-    (old b : Bench) (scope : RegisterScope) (event : Expr) (block : VastStatementBlock) (clk : ExprTree) (reset : Option ResetTree) (registers : List RegisterTree) → OwnsScope old scope →
-    MakesBlock old b block reset registers → OwnsExpr b event → tree_of b event ≡ PosEdgeTree clk →
-    member_tree (clocked scope event block b) (AlwaysEntry (next_always old)) ≡ registers_member clk reset registers
-clocked-tree old b scope event block clk reset registers owned h own tree =
-    let d : Bench = clocked scope event block b in
-    let w : Wider b d = clocked-wider scope event block b in
-    let there = clocked-there scope event block old b (ap (λ (x : Bench). x.always_blocks) h.after) in
-    let body : block_in (families d (length old.nests)) ≡ register_block reset registers =
-    last-read old d h.statements h.branch _ _ (clocked-last scope event block old b h.statements h.branch owned (ap (λ (x : Bench). x.nests) h.after)) (are-kept b d w h.statements _ h.reads) (last-kept b d w h.branch _ h.last_reads) in
-    let here : block_in (families d (block_index block)) ≡ register_block reset registers = ap (λ i. block_in (families d i)) (ap block_index h.is) ∙ body in
-    rw (there, wider_tree b d w event own, tree, here) refl
-
--- In how many places the block stands before: in none.
-
-differ : (i n : ℕ) → i < n → nat_eq i n ≡ false
-differ i n below = grind arith
-
-nothing-held : (p : Part) (b : Bench) (ss : List StatementEntry) (ts : List StatementTree) → AreAssigned b ss ts → places p (flat_map held_by_statement ss) ≡ 0
-nothing-held p b [] ts h = refl
-nothing-held p b (s ∷ ss) [] h = absurd h
-nothing-held p b (s ∷ ss) (t ∷ ts) h = rw h.0.is (nothing-held p b ss ts h.1)
-
-last-nowhere :
-    (old b : Bench) (ss : List StatementEntry) (ts : List StatementTree) (x : Option Branch) (more : List StatementTree) → AreAssigned b ss ts → LastReads b x more →
-    places (ContainerPart (length old.nests)) (flat_map held_by_container (BlockRecord (ss ++ last_statements (with_block old) x) ∷ last_containers (with_block old) x)) ≡ 0
-last-nowhere old b ss ts None more h k =
-    let p : Part = ContainerPart (length old.nests) in
-    let e = nothing-held p b ss ts h in
-    let one = over-one p held_by_container (BlockRecord ss) in
-    rw (append-nil ss) (one ∙ e)
-last-nowhere old b ss ts (Some x) more h k =
-    let p : Part = ContainerPart (length old.nests) in
-    let count = length-append old.nests (BlockRecord [] ∷ []) in
-    let first = nothing-held p b ss ts h in
-    let second = nothing-held p b x.at_reset k.at_reset k.at_reset_reads in
-    let third = nothing-held p b x.outside k.outside k.outside_reads in
-    let joined = over-append p held_by_statement ss (branch_statements (with_block old)) in
-    let outer = places-append p (flat_map held_by_statement (ss ++ branch_statements (with_block old))) (flat_map held_by_container (branch_containers (with_block old) x)) in
-    let branch = places-append p (held_by_conditional (record { condition = x.condition; consequent = first_behind (with_block old); else_ifs = []; otherwise = Some (second_behind (with_block old)) })) (flat_map held_by_container (BlockRecord x.at_reset ∷ BlockRecord x.outside ∷ [])) in
-    let rest = places-append p (flat_map held_by_statement x.at_reset) (flat_map held_by_container (BlockRecord x.outside ∷ [])) in
-    let last = over-one p held_by_container (BlockRecord x.outside) in
-    let a : nat_eq (length old.nests) (length (with_block old).nests) ≡ false = differ (length old.nests) (length (with_block old).nests) (omega (arith, count)) in
-    let c : nat_eq (length old.nests) (suc (length (with_block old).nests)) ≡ false = differ (length old.nests) (suc (length (with_block old).nests)) (omega (arith, count)) in
-    let d : nat_eq (length old.nests) (suc (suc (length (with_block old).nests))) ≡ false = differ (length old.nests) (suc (suc (length (with_block old).nests))) (omega (arith, count)) in
-    let named : places p (flat_map held_by_statement (branch_statements (with_block old))) ≡ 0 = rw a refl in
-    let arms : places p (held_by_conditional (record { condition = x.condition; consequent = first_behind (with_block old); else_ifs = []; otherwise = Some (second_behind (with_block old)) })) ≡ 0 = rw (c, d) refl in
-    omega (arith, first, second, third, joined, outer, branch, rest, last, named, arms)
-
-made-nowhere :
-    (old b : Bench) (block : VastStatementBlock) (reset : Option ResetTree) (registers : List RegisterTree) → MakesBlock old b block reset registers → HasOneParent old → places (ContainerPart (block_index block)) (held b) ≡ 0
-made-nowhere old b block reset registers h x =
-    let p : Part = ContainerPart (length old.nests) in
-    let tail : List NestRecord = BlockRecord (h.statements ++ last_statements (with_block old) h.branch) ∷ last_containers (with_block old) h.branch in
-    let none = x.nowhere p (omega arith) in
-    let more = last-nowhere old b h.statements _ h.branch _ h.reads h.last_reads in
-    let before = file-places p old in
-    let after = file-places p (with_unused h.roots h.assignments tail old) in
-    let both = over-append p held_by_container old.nests tail in
-    let here : places p (held (with_unused h.roots h.assignments tail old)) ≡ 0 = omega (arith, none, more, before, after, both) in
-    rw (h.is, h.after) here
-
-made-below : (old b : Bench) (block : VastStatementBlock) (reset : Option ResetTree) (registers : List RegisterTree) → MakesBlock old b block reset registers → block_index block < length b.nests
-made-below old b block reset registers h = block-place b block (made-owned old b block reset registers h)
-
-clocked-parent :
-    (old b : Bench) (scope : RegisterScope) (event : Expr) (block : VastStatementBlock) (reset : Option ResetTree) (registers : List RegisterTree) → MakesBlock old b block reset registers → HasOneParent old →
-    HasOneParent (clocked scope event block b)
-clocked-parent old b (ModuleScope owner) event block reset registers h x =
-    one-parent.with_an_always_block_over_it b owner AlwaysFF (event ∷ []) block (made-nowhere old b block reset registers h x) (made-below old b block reset registers h) (h.parents x)
-clocked-parent old b (LoopScope owner) event block reset registers h x =
-    one-parent.with_an_always_block_over_it_in_a_loop b owner AlwaysFF (event ∷ []) block (made-nowhere old b block reset registers h x) (made-below old b block reset registers h) (h.parents x)
-
-pub adds-member :
-    (old b new : Bench) (scope : RegisterScope) (event : Expr) (block : VastStatementBlock) (clk : ExprTree) (reset : Option ResetTree) (registers : List RegisterTree) → OwnsScope old scope →
-    MakesBlock old b block reset registers → OwnsExpr b event → tree_of b event ≡ PosEdgeTree clk → new ≡ with_clocked scope event block b →
-    AddsMember old new scope (registers_member clk reset registers)
-adds-member old b new scope event block clk reset registers owned h own tree after =
-    record {
-      made = b;
-      unused = unused-made old b block reset registers h;
-      event = event;
-      block = block;
-      after = after;
-      tree = rw after (clocked-tree old b scope event block clk reset registers owned h own tree);
-      parents = λ x. rw after (clocked-parent old b scope event block reset registers h x);
-    }
+member-read :
+    (scope : RegisterScope) (clk : Expr) (reset : Option Reset) (registers : List RegisterDefinition) (b : Bench) → OwnsScope b scope → OwnsExpr b clk → OptionHolds (OwnsReset b) reset → All (OwnsRegister b) registers →
+    member_tree (with_registers clk reset registers scope b) (AlwaysEntry (next_always b)) ≡ registers_member (tree_of b clk) (maybe_reset_tree b reset) (register_trees b registers)
+unfolding with_registers
+member-read scope clk reset registers b owned own h all =
+    let c : Bench = with_register_block reset registers b in
+    let u : HasUnused b c = block-unused reset registers b in
+    let d : Bench = with_clocked_at clk scope (next_block b) c in
+    let there = clocked-there scope clk (next_block b) b c (ap (λ (x : Bench). x.always_blocks) u.after) in
+    let event = clocked-event scope clk (next_block b) c in
+    let clock = wider_tree b c (unused-wider b c u) clk own in
+    let body = ends-read d (length b.nests) _ _ (ends-stays (length b.nests) c d _ _ (clocked-stays scope clk (next_block b) (length b.nests) c (scope-older b scope owned) refl) (block-ends reset registers b h all)) in
+    rw (there, body, event, clock) refl
 
 -- What the call answers.
+
+pub registers-added :
+    (old new : Bench) (clk : Expr) (reset : Option Reset) (registers : List RegisterDefinition) (scope : RegisterScope) → OwnsScope old scope → OwnsExpr old clk → OptionHolds (OwnsReset old) reset →
+    All (OwnsRegister old) registers → 0 < length registers → unless_unresettable (maybe_reset_tree old reset) (register_trees old registers) ≡ Ok tt → new ≡ with_registers clk reset registers scope old →
+    MayAddRegisters old new (Ok tt) clk reset registers scope
+registers-added old new clk reset [] scope owned own h all some rule e = absurd (omega (arith, some))
+registers-added old new clk reset (r ∷ rs) scope owned own h all some rule e =
+    record { allowed = rule; after = e; tree = rw e (member-read scope clk reset (r ∷ rs) old owned own h all) }
 
 pub check-refused :
     (b : Bench) (fault : VastFault) (clk : Expr) (reset : Option Reset) (registers : List RegisterDefinition) (scope : RegisterScope) →
     RefusedBy (unless_unresettable (maybe_reset_tree b reset) (register_trees b registers)) fault → MayAddRegisters b b (Err fault) clk reset registers scope
 check-refused b (Refused e) clk reset registers scope h = (h, refl)
 check-refused b (Memory e) clk reset registers scope h = unused-none b
-
-pub member-added :
-    (old new : Bench) (clk : Expr) (reset : Option Reset) (registers : List RegisterDefinition) (scope : RegisterScope) → 0 < length registers →
-    unless_unresettable (maybe_reset_tree old reset) (register_trees old registers) ≡ Ok tt →
-    AddsMember old new scope (registers_member (tree_of old clk) (maybe_reset_tree old reset) (register_trees old registers)) →
-    MayAddRegisters old new (Ok tt) clk reset registers scope
-member-added old new clk reset [] scope some rule h = absurd (omega (arith, some))
-member-added old new clk reset (r ∷ rs) scope some rule h = (rule, h)

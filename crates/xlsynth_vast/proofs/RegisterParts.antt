@@ -1,43 +1,25 @@
--- Laws of the steps by which the block of registers is made: values, and assignments in a block.
-use Rattle.std.proofs.Common.{◌≡◌, ℕ, suc, zero, ◌+◌, ◌<◌, true, false, List, [], ◌∷◌, ◌++◌, length, All, Option, Some, None, slice_get, get_or, take, IsErr, Result, Ok, Err, codes, refl, ap, ◌∙◌, arith, add-one, append_assoc, append-nil}
+-- Laws of the steps by which the block of registers is made: what the file had before stays, and what came since is unused.
+use Rattle.std.proofs.Common.{◌≡◌, ◌≢◌, ℕ, suc, zero, ◌+◌, ◌-◌, ◌<◌, ◌≤◌, true, false, List, [], ◌∷◌, ◌++◌, length, All, Option, Some, None, slice_get, get_or, Ok, Err, codes, refl, ap, ◌∙◌, ◌⊎◌, inl, inr, arith, append_assoc, append-nil, length-append}
 use Rattle.std.specs.Option.{option_map, is_some}
 use Rattle.std.specs.List.{list_any}
-use Rattle.std.specs.declared.alloc.AllocError.{AllocError}
-use Rattle.std.proofs.lemmas.List.{map-append}
-use Rattle.std.proofs.lemmas.Grind.{flat_map-append}
-use Rattle.std.proofs.Math.Seq.{take-suc}
-use Rattle.vast_literal.specs.Tree.{ExprTree, StatementTree, AssignTree, Nonblocking}
 use Rattle.vast_core.specs.declared.handle.Expr.{Expr}
-use Rattle.vast_core.specs.declared.handle.VastStatement.{VastStatement}
 use Rattle.vast_core.specs.declared.handle.VastStatementBlock.{VastStatementBlock}
 use Rattle.vast_core.specs.declared.node.Assignment.{Assignment}
-use Rattle.vast_core.specs.Handles.{block_index}
-use Rattle.vast_core.specs.Nodes.{Root, ExprRoot, OptionHolds}
+use Rattle.vast_core.specs.Nodes.{Root, OptionHolds}
 use Rattle.vast_core.specs.Records.{changed_at}
-use Rattle.vast_core.specs.Nests.{StatementEntry, AssignStatement, NestRecord, BlockRecord, BranchRecord, SwitchRecord, RepeatRecord, nest_kind}
+use Rattle.vast_core.specs.Nests.{NestRecord, BlockRecord}
 use Rattle.vast_core.specs.Bench.{Bench, OwnsExpr, OwnsBlock, tree_of}
-use Rattle.vast_core.specs.Growth.{Builds, with_expr, next_expr, with_assignment}
-use Rattle.vast_core.specs.Artifacts.{next_statement}
-use Rattle.vast_core.specs.Containers.{StatementEnters, with_entry, with_statement}
-use Rattle.vast_core.proofs.Laws.{next_owned, next_tree}
-use Rattle.vast_core.proofs.Lists.{slice_get-append, slice_get-seam}
-use Rattle.vast_core.proofs.NodeLaws.{Extends, HasExpr-kept, expr_in-kept}
-use Rattle.vast_core.proofs.Nests.{kind-changed}
+use Rattle.vast_core.specs.Growth.{with_root, with_assignment}
+use Rattle.vast_core.specs.Containers.{NestedEntry, with_entry, with_nest, with_nest_entry, with_spare_block}
+use Rattle.vast_core.proofs.Lists.{slice_get-append, slice_get-past}
+use Rattle.vast_core.proofs.NodeLaws.{Extends, Extends-same, Extends-root, HasExpr-kept, expr_in-kept}
+use Rattle.vast_core.proofs.NestLaws.{entered_block_owned, old_block_owned}
 use Rattle.xlsynth_vast.specs.declared.helpers.registers.Reset.{Reset}
 use Rattle.xlsynth_vast.specs.declared.helpers.registers.RegisterDefinition.{RegisterDefinition}
-use Rattle.xlsynth_vast.specs.declared.helpers.registers.Share.{Share}
-use Rattle.xlsynth_vast.specs.Parents.{HasOneParent, ContainersHaveOneParent}
-use Rattle.xlsynth_vast.specs.Reductions.{HasMoreNodes, with_nodes}
-use Rattle.xlsynth_vast.specs.Registers.{RegisterTree, is_given, has_reset_value, register_tree, register_trees, maybe_reset_tree, unless_unresettable, given, assigned_all, OwnsRegister}
-use Rattle.xlsynth_vast.specs.RegisterSteps.{is_resettable, value_in, MakesValue, IsAssigned, AreAssigned, with_statements, with_filled, Disturbs, Fills, MayFill}
-use Rattle.xlsynth_vast.proofs.Parents.{containers-have-one-parent}
-use Rattle.xlsynth_vast.proofs.Reduced.{more-none, more-root, All-at}
+use Rattle.xlsynth_vast.specs.Registers.{is_given, has_reset_value, register_tree, register_trees, maybe_reset_tree, unless_unresettable, OwnsRegister, HasUnused}
+use Rattle.xlsynth_vast.specs.AddedRegisters.{is_resettable}
 
--- Values.
-
-pub makes-node : (old new : Bench) (r : Result Expr AllocError) (t made : ExprTree) → made ≡ t → Builds old new r (next_expr old) (with_expr old made) → MakesValue old new r t
-makes-node old new (Ok e) t made is built = rw (built.0, built.1, ← is) ((next_owned old made, next_tree old made), more-root old old (ExprRoot made) (more-none old))
-makes-node old new (Err x) t made is built = rw built (more-none old)
+-- Refusals.
 
 given-tree : (b : Bench) (o : Option Expr) → is_given (option_map (tree_of b) o) ≡ is_given o
 given-tree b None = refl
@@ -46,8 +28,6 @@ given-tree b (Some e) = refl
 pub any-tree : (b : Bench) (registers : List RegisterDefinition) → list_any has_reset_value (register_trees b registers) ≡ list_any is_resettable registers
 any-tree b [] = refl
 any-tree b (r ∷ rs) = rw (given-tree b r.reset_value, any-tree b rs) refl
-
--- Refusals.
 
 pub unresettable-refused :
     (b : Bench) (reset : Option Reset) (registers : List RegisterDefinition) → false ≡ is_some reset → true ≡ list_any is_resettable registers →
@@ -82,21 +62,6 @@ wider-wider b c d h k =
       assignments = λ i a e. k.assignments i a (h.assignments i a e);
     }
 
-pub wider-nodes : (b c : Bench) → HasMoreNodes b c → Wider b c
-wider-nodes b c h = rw h.after (record { nodes = record { same_id = refl; same_roots = λ i r e. slice_get-append b.nodes.roots h.more i r e }; assignments = λ i a e. e })
-
-pub filled-wider :
-    (b : Bench) (roots : List Root) (assignments : List Assignment) (statements : List StatementEntry) (containers : List NestRecord) (block : VastStatementBlock) →
-    Wider b (with_filled roots assignments statements containers block b)
-filled-wider b roots assignments statements containers block =
-    record {
-      nodes = record { same_id = refl; same_roots = λ i r e. slice_get-append b.nodes.roots roots i r e };
-      assignments = λ i a e. slice_get-append b.assignments assignments i a e;
-    }
-
-pub fills-wider : (b c : Bench) (block : VastStatementBlock) (trees : List StatementTree) → Fills b c block trees → Wider b c
-fills-wider b c block trees h = rw h.after (filled-wider b h.roots h.assignments h.statements [] block)
-
 pub wider_owned : (b c : Bench) → Wider b c → (e : Expr) → OwnsExpr b e → OwnsExpr c e
 wider_owned b c w e h = HasExpr-kept b.nodes c.nodes w.nodes e h
 
@@ -124,191 +89,118 @@ pub registers-kept : (b c : Bench) → Wider b c → (rs : List RegisterDefiniti
 registers-kept b c w [] h = refl
 registers-kept b c w (r ∷ rs) h = rw (register-kept b c w r (h 0 r (omega arith)), registers-kept b c w rs (λ k d below. h (suc k) d (omega arith))) refl
 
--- Assignments stay.
+-- Lists behind others, and with one element changed.
 
-is-kept : (b c : Bench) → Wider b c → (s : StatementEntry) (t : StatementTree) → IsAssigned b s t → IsAssigned c s t
-is-kept b c w s t h =
+pub changed-behind : {A : Type 0} (f : A → A) (xs ys : List A) (k i : ℕ) → i ≡ k + length xs → changed_at i f (xs ++ ys) ≡ xs ++ changed_at k f ys
+changed-behind f [] ys k i e = let same : i ≡ k = omega (arith, e) in rw same refl
+changed-behind f (x ∷ xs) ys k zero e = absurd (omega (arith, e))
+changed-behind f (x ∷ xs) ys k (suc i) e = ap (λ r. x ∷ r) (changed-behind f xs ys k i (omega (arith, e)))
+
+pub get-changed : {A : Type 0} (f : A → A) (xs : List A) (i : ℕ) (x : A) → slice_get xs i ≡ Some x → slice_get (changed_at i f xs) i ≡ Some (f x)
+get-changed f [] i x e = cc
+get-changed f (y ∷ xs) zero x e = let same : y ≡ x = cc in ap (λ z. Some (f z)) same
+get-changed f (y ∷ xs) (suc i) x e = get-changed f xs i x e
+
+pub get-unchanged : {A : Type 0} (f : A → A) (xs : List A) (i j : ℕ) → i ≢ j → slice_get (changed_at j f xs) i ≡ slice_get xs i
+get-unchanged f [] i j n = refl
+get-unchanged f (y ∷ xs) zero zero n = absurd (n refl)
+get-unchanged f (y ∷ xs) zero (suc j) n = refl
+get-unchanged f (y ∷ xs) (suc i) zero n = refl
+get-unchanged f (y ∷ xs) (suc i) (suc j) n = get-unchanged f xs i j (λ e. n (ap suc e))
+
+pub get-within : {A : Type 0} (xs : List A) (i : ℕ) (x : A) → slice_get xs i ≡ Some x → i < length xs
+get-within [] i x e = cc
+get-within (y ∷ xs) zero x e = omega arith
+get-within (y ∷ xs) (suc i) x e = let h = get-within xs i x e in omega (arith, h)
+
+-- What is unused since a file stays so.
+
+pub unused-none : (b : Bench) → HasUnused b b
+unused-none b = record { roots = []; assignments = []; containers = []; spare = b.spare; after = rw (append-nil b.nodes.roots, append-nil b.assignments, append-nil b.nests) refl }
+
+pub unused-wider : (old now : Bench) → HasUnused old now → Wider old now
+unused-wider old now h = rw h.after (record { nodes = record { same_id = refl; same_roots = λ i r e. slice_get-append old.nodes.roots h.roots i r e }; assignments = λ i a e. slice_get-append old.assignments h.assignments i a e })
+
+pub unused-count : (old now : Bench) → HasUnused old now → length old.nests ≤ length now.nests
+unused-count old now h = rw h.after (omega (arith, length-append old.nests h.containers))
+
+unused-root : (b c : Bench) (r : Root) → HasUnused b c → HasUnused b (with_root c r)
+unused-root b c r h = rw h.after (record { roots = h.roots ++ r ∷ []; assignments = h.assignments; containers = h.containers; spare = h.spare; after = rw (append_assoc b.nodes.roots h.roots (r ∷ [])) refl })
+
+unused-assignment : (b c : Bench) (a : Assignment) → HasUnused b c → HasUnused b (with_assignment a c)
+unused-assignment b c a h = rw h.after (record { roots = h.roots; assignments = h.assignments ++ a ∷ []; containers = h.containers; spare = h.spare; after = rw (append_assoc b.assignments h.assignments (a ∷ [])) refl })
+
+unused-nest : (b c : Bench) (n : NestRecord) → HasUnused b c → HasUnused b (with_nest n c)
+unused-nest b c n h = rw h.after (record { roots = h.roots; assignments = h.assignments; containers = h.containers ++ n ∷ []; spare = h.spare; after = rw (append_assoc b.nests h.containers (n ∷ [])) refl })
+
+unused-entry : (b c : Bench) (i : ℕ) (e : NestedEntry) → HasUnused b c → length b.nests ≤ i → HasUnused b (with_nest_entry i e c)
+unused-entry b c i e h past =
+    let k : ℕ = i - length b.nests in
+    let place : i ≡ k + length b.nests = omega (arith, past) in
+    rw h.after (record { roots = h.roots; assignments = h.assignments; containers = changed_at k (with_entry e) h.containers; spare = h.spare; after = rw (changed-behind (with_entry e) b.nests h.containers k i place) refl })
+
+pub unused-block : (b : Bench) → HasUnused b (with_spare_block b)
+unused-block b = record { roots = []; assignments = []; containers = BlockRecord [] ∷ []; spare = (with_spare_block b).spare; after = rw (append-nil b.nodes.roots, append-nil b.assignments) refl }
+
+-- Of what the file had only the container i changed. It has expressions, assignments and containers more.
+pub record Changes (i : ℕ) (b c : Bench) : Type 0 where
+  pub wider : Wider b c
+  pub containers : (k : ℕ) (n : NestRecord) → k ≢ i → slice_get b.nests k ≡ Some n → slice_get c.nests k ≡ Some n
+  pub blocks : (x : VastStatementBlock) → OwnsBlock b x → OwnsBlock c x
+  pub spare : c.spare ≡ b.spare
+  pub unused : (start : Bench) → HasUnused start b → length start.nests ≤ i → HasUnused start c
+
+pub changes-none : (i : ℕ) (b : Bench) → Changes i b b
+changes-none i b = record { wider = record { nodes = Extends-same b.nodes; assignments = λ k a e. e }; containers = λ k n other e. e; blocks = λ x h. h; spare = refl; unused = λ start h past. h }
+
+-- Then a container changes that is the same, or that the file hadn't.
+pub changes-then : (i j : ℕ) (b c d : Bench) → Changes i b c → Changes j c d → (j ≡ i) ⊎ (length b.nests ≤ j) → Changes i b d
+changes-then i j b c d h k (inl same) =
     record {
-      handle = h.handle;
-      is = h.is;
-      assignment = h.assignment;
-      there = w.assignments _ h.assignment h.there;
-      left = wider_owned b c w h.assignment.lhs h.left;
-      right = wider_owned b c w h.assignment.rhs h.right;
-      tree = rw (wider_tree b c w h.assignment.lhs h.left, wider_tree b c w h.assignment.rhs h.right) h.tree;
+      wider = wider-wider b c d h.wider k.wider;
+      containers = λ x n other e. k.containers x n (rw same other) (h.containers x n other e);
+      blocks = λ x o. k.blocks x (h.blocks x o);
+      spare = k.spare ∙ h.spare;
+      unused = λ start u past. k.unused start (h.unused start u past) (rw same past);
+    }
+changes-then i j b c d h k (inr behind) =
+    record {
+      wider = wider-wider b c d h.wider k.wider;
+      containers = λ x n other e. let here = get-within b.nests x n e in k.containers x n (λ same. absurd (omega (arith, here, behind, same))) (h.containers x n other e);
+      blocks = λ x o. k.blocks x (h.blocks x o);
+      spare = k.spare ∙ h.spare;
+      unused = λ start u past. let count = unused-count start b u in k.unused start (h.unused start u past) (omega (arith, count, behind));
     }
 
-pub are-kept : (b c : Bench) → Wider b c → (ss : List StatementEntry) (ts : List StatementTree) → AreAssigned b ss ts → AreAssigned c ss ts
-are-kept b c w [] [] h = tt
-are-kept b c w [] (t ∷ ts) h = h
-are-kept b c w (s ∷ ss) [] h = h
-are-kept b c w (s ∷ ss) (t ∷ ts) h = (is-kept b c w s t h.0, are-kept b c w ss ts h.1)
+pub changes-root : (i : ℕ) (b : Bench) (r : Root) → Changes i b (with_root b r)
+changes-root i b r = record { wider = record { nodes = Extends-root b.nodes r; assignments = λ k a e. e }; containers = λ k n other e. e; blocks = λ x h. h; spare = refl; unused = λ start h past. unused-root start b r h }
 
-are-more : (b : Bench) (ss more : List StatementEntry) (ts others : List StatementTree) → AreAssigned b ss ts → AreAssigned b more others → AreAssigned b (ss ++ more) (ts ++ others)
-are-more b [] more [] others h k = k
-are-more b [] more (t ∷ ts) others h k = absurd h
-are-more b (s ∷ ss) more [] others h k = absurd h
-are-more b (s ∷ ss) more (t ∷ ts) others h k = (h.0, are-more b ss more ts others h.1 k)
-
--- A list with one element changed.
-
-changed-still : {A : Type 0} (f : A → A) → ((x : A) → f x ≡ x) → (xs : List A) (i : ℕ) → changed_at i f xs ≡ xs
-changed-still f h [] i = refl
-changed-still f h (x ∷ xs) zero = ap (λ y. y ∷ xs) (h x)
-changed-still f h (x ∷ xs) (suc i) = ap (λ ys. x ∷ ys) (changed-still f h xs i)
-
-pub changed-alike : {A : Type 0} (f g : A → A) → ((x : A) → f x ≡ g x) → (xs : List A) (i : ℕ) → changed_at i f xs ≡ changed_at i g xs
-changed-alike f g h [] i = refl
-changed-alike f g h (x ∷ xs) zero = ap (λ y. y ∷ xs) (h x)
-changed-alike f g h (x ∷ xs) (suc i) = ap (λ ys. x ∷ ys) (changed-alike f g h xs i)
-
-changed-twice : {A : Type 0} (f g k : A → A) → ((x : A) → g (f x) ≡ k x) → (xs : List A) (i : ℕ) → changed_at i g (changed_at i f xs) ≡ changed_at i k xs
-changed-twice f g k h [] i = refl
-changed-twice f g k h (x ∷ xs) zero = ap (λ y. y ∷ xs) (h x)
-changed-twice f g k h (x ∷ xs) (suc i) = ap (λ ys. x ∷ ys) (changed-twice f g k h xs i)
-
-no-statements : (n : NestRecord) → with_statements [] n ≡ n
-no-statements (BlockRecord ss) = ap BlockRecord (append-nil ss)
-no-statements (BranchRecord c) = refl
-no-statements (SwitchRecord c) = refl
-no-statements (RepeatRecord l) = refl
-
-pub one-statement : (s : StatementEntry) (n : NestRecord) → with_entry (StatementEnters s) n ≡ with_statements (s ∷ []) n
-one-statement s (BlockRecord ss) = refl
-one-statement s (BranchRecord c) = refl
-one-statement s (SwitchRecord c) = refl
-one-statement s (RepeatRecord l) = refl
-
-more-statements : (first second : List StatementEntry) (n : NestRecord) → with_statements second (with_statements first n) ≡ with_statements (first ++ second) n
-more-statements first second (BlockRecord ss) = ap BlockRecord (append_assoc ss first second)
-more-statements first second (BranchRecord c) = refl
-more-statements first second (SwitchRecord c) = refl
-more-statements first second (RepeatRecord l) = refl
-
-same-kind : (ss : List StatementEntry) (n : NestRecord) → nest_kind (Some (with_statements ss n)) ≡ nest_kind (Some n)
-same-kind ss (BlockRecord xs) = refl
-same-kind ss (BranchRecord c) = refl
-same-kind ss (SwitchRecord c) = refl
-same-kind ss (RepeatRecord l) = refl
-
--- Blocks that are filled.
-
-abbrev pub one-parent : ContainersHaveOneParent
-one-parent = containers-have-one-parent
-
-pub nodes-parents : (old new : Bench) → HasMoreNodes old new → HasOneParent old → HasOneParent new
-nodes-parents old new h x = rw h.after (one-parent.otherwise old (with_nodes h.more old) refl refl refl refl x)
-
-pub filled-filled :
-    (b : Bench) (roots others : List Root) (assignments later : List Assignment) (first second : List StatementEntry) (containers : List NestRecord) (block : VastStatementBlock) →
-    with_filled others later second containers block (with_filled roots assignments first [] block b) ≡ with_filled (roots ++ others) (assignments ++ later) (first ++ second) containers block b
-filled-filled b roots others assignments later first second containers block =
-    rw (
-      append_assoc b.nodes.roots roots others,
-      append_assoc b.assignments assignments later,
-      append-nil (changed_at (block_index block) (with_statements first) b.nests),
-      changed-twice (with_statements first) (with_statements second) (with_statements (first ++ second)) (more-statements first second) b.nests (block_index block),
-    ) refl
-
-pub fills-none : (old new : Bench) (block : VastStatementBlock) → HasMoreNodes old new → Fills old new block []
-fills-none old new block h =
+pub changes-assignment : (i : ℕ) (b : Bench) (a : Assignment) → Changes i b (with_assignment a b)
+changes-assignment i b a =
     record {
-      roots = h.more;
-      assignments = [];
-      statements = [];
-      after = rw (append-nil old.assignments, append-nil (changed_at (block_index block) (with_statements []) old.nests), changed-still (with_statements []) no-statements old.nests (block_index block)) h.after;
-      reads = tt;
-      parents = nodes-parents old new h;
+      wider = record { nodes = Extends-same b.nodes; assignments = λ k x e. slice_get-append b.assignments (a ∷ []) k x e };
+      containers = λ k n other e. e;
+      blocks = λ x h. h;
+      spare = refl;
+      unused = λ start h past. unused-assignment start b a h;
     }
 
-fills-here :
-    (b : Bench) (block : VastStatementBlock) (a : Assignment) → OwnsExpr b a.lhs → OwnsExpr b a.rhs → a.nonblocking ≡ true →
-    Fills b (with_statement block (AssignStatement (next_statement b)) (with_assignment a b)) block (AssignTree Nonblocking (tree_of b a.lhs) (tree_of b a.rhs) ∷ [])
-fills-here b block a left right is =
+pub changes-nest : (i : ℕ) (b : Bench) (n : NestRecord) → Changes i b (with_nest n b)
+changes-nest i b n =
     record {
-      roots = [];
-      assignments = a ∷ [];
-      statements = AssignStatement (next_statement b) ∷ [];
-      after = rw (
-        append-nil b.nodes.roots,
-        append-nil (changed_at (block_index block) (with_statements (AssignStatement (next_statement b) ∷ [])) b.nests),
-        changed-alike (with_entry (StatementEnters (AssignStatement (next_statement b)))) (with_statements (AssignStatement (next_statement b) ∷ [])) (one-statement (AssignStatement (next_statement b))) b.nests (block_index block),
-      ) refl;
-      reads = (record { handle = next_statement b; is = refl; assignment = a; there = slice_get-seam b.assignments a; left = left; right = right; tree = rw is refl }, tt);
-      parents = λ h. one-parent.with_another_statement (with_assignment a b) block (AssignStatement (next_statement b)) refl (one-parent.otherwise b (with_assignment a b) refl refl refl refl h);
+      wider = record { nodes = Extends-same b.nodes; assignments = λ k a e. e };
+      containers = λ k x other e. slice_get-append b.nests (n ∷ []) k x e;
+      blocks = λ x h. old_block_owned b n x h;
+      spare = refl;
+      unused = λ start h past. unused-nest start b n h;
     }
 
-pub fills-more : (old mid new : Bench) (block : VastStatementBlock) (trees others : List StatementTree) → Fills old mid block trees → Fills mid new block others → Fills old new block (trees ++ others)
-fills-more old mid new block trees others h k =
+pub changes-entry : (i : ℕ) (b : Bench) (e : NestedEntry) → Changes i b (with_nest_entry i e b)
+changes-entry i b e =
     record {
-      roots = h.roots ++ k.roots;
-      assignments = h.assignments ++ k.assignments;
-      statements = h.statements ++ k.statements;
-      after = k.after ∙ (ap (λ x. with_filled k.roots k.assignments k.statements [] block x) h.after ∙ filled-filled old h.roots k.roots h.assignments k.assignments h.statements k.statements [] block);
-      reads = are-more new h.statements k.statements trees others (are-kept mid new (fills-wider mid new block others k) h.statements trees h.reads) k.reads;
-      parents = λ x. k.parents (h.parents x);
+      wider = record { nodes = Extends-same b.nodes; assignments = λ k a h. h };
+      containers = λ k n other h. get-unchanged (with_entry e) b.nests k i other ∙ h;
+      blocks = λ x h. entered_block_owned b i e x h;
+      spare = refl;
+      unused = λ start h past. unused-entry start b i e h past;
     }
-
-pub disturbs-filled : (old new : Bench) (block : VastStatementBlock) (trees : List StatementTree) → Fills old new block trees → Disturbs old new block
-disturbs-filled old new block trees h = record { roots = h.roots; assignments = h.assignments; statements = h.statements; containers = []; after = h.after; parents = h.parents }
-
-pub disturbs-nodes : (old new : Bench) (block : VastStatementBlock) → HasMoreNodes old new → Disturbs old new block
-disturbs-nodes old new block h = disturbs-filled old new block [] (fills-none old new block h)
-
-pub disturbs-more : (old mid new : Bench) (block : VastStatementBlock) (trees : List StatementTree) → Fills old mid block trees → Disturbs mid new block → Disturbs old new block
-disturbs-more old mid new block trees h k =
-    record {
-      roots = h.roots ++ k.roots;
-      assignments = h.assignments ++ k.assignments;
-      statements = h.statements ++ k.statements;
-      containers = k.containers;
-      after = k.after ∙ (ap (λ x. with_filled k.roots k.assignments k.statements k.containers block x) h.after ∙ filled-filled old h.roots k.roots h.assignments k.assignments h.statements k.statements k.containers block);
-      parents = λ x. k.parents (h.parents x);
-    }
-
-pub filled_block_owned : (old new : Bench) (block x : VastStatementBlock) (trees : List StatementTree) → Fills old new block trees → OwnsBlock old x → OwnsBlock new x
-filled_block_owned old new block x trees h k =
-    rw h.after (record {
-      of_file = k.of_file;
-      of_kind = rw (
-        append-nil (changed_at (block_index block) (with_statements h.statements) old.nests),
-        kind-changed (with_statements h.statements) (same-kind h.statements) old.nests (block_index block) (block_index x),
-      ) k.of_kind;
-    })
-
-pub fill-refused : (old new : Bench) (r : Result (Unit {0}) AllocError) (block : VastStatementBlock) (trees : List StatementTree) → IsErr r → Disturbs old new block → MayFill old new r block trees
-fill-refused old new (Ok x) block trees e h = absurd cc
-fill-refused old new (Err x) block trees e h = h
-
--- A register's assignment.
-
-pub fills-value :
-    (old mid new : Bench) (block : VastStatementBlock) (target value : Expr) (share : Option ExprTree) (s : VastStatement) → HasMoreNodes old mid → OwnsExpr old target → OwnsExpr mid value → share ≡ Some (tree_of mid value) →
-    Builds mid new (Ok s) (next_statement mid) (with_statement block (AssignStatement (next_statement mid)) (with_assignment (record { lhs = target; rhs = value; nonblocking = true }) mid)) →
-    Fills old new block (given (tree_of old target) share)
-fills-value old mid new block target value share s more h k is built =
-    let w = wider-nodes old mid more in
-    let one = fills-here mid block (record { lhs = target; rhs = value; nonblocking = true }) (wider_owned old mid w target h) k refl in
-    rw (is, ← wider_tree old mid w target h) (fills-more old mid new block [] (AssignTree Nonblocking (tree_of mid target) (tree_of mid value) ∷ []) (fills-none old mid block more) (rw built.1 one))
-
--- All registers' assignments.
-
-assigned-more : (value : RegisterTree → Option ExprTree) (rs : List RegisterTree) (r : RegisterTree) → assigned_all value (rs ++ r ∷ []) ≡ assigned_all value rs ++ given r.target (value r)
-assigned-more value rs r = flat_map-append (λ (x : RegisterTree). given x.target (value x)) rs (r ∷ []) ∙ ap (λ ts. assigned_all value rs ++ ts) (append-nil (given r.target (value r)))
-
-pub assigning-step :
-    (start now after : Bench) (share : Share) (block : VastStatementBlock) (registers : List RegisterDefinition) (i : ℕ) (r : RegisterDefinition) →
-    All (OwnsRegister start) registers → i < length registers → r ≡ get_or registers i r →
-    Fills start now block (assigned_all (value_in share) (register_trees start (take i registers))) →
-    Fills now after block (given (tree_of now r.reg) (value_in share (register_tree now r))) →
-    Fills start after block (assigned_all (value_in share) (register_trees start (take (i + 1) registers)))
-assigning-step start now after share block registers i r h below is filled one =
-    let old : OwnsRegister start r = All-at (OwnsRegister start) registers i r h below is in
-    let trees : List StatementTree = assigned_all (value_in share) (register_trees start (take i registers)) in
-    let w = fills-wider start now block trees filled in
-    let same : register_tree now r ≡ register_tree start r = register-kept start now w r old in
-    let taken : take (suc i) registers ≡ take i registers ++ r ∷ [] = rw (← is) at (take-suc registers i r below) in
-    let grown : assigned_all (value_in share) (register_trees start (take (suc i) registers)) ≡ trees ++ given (tree_of start r.reg) (value_in share (register_tree start r)) =
-    rw (taken, map-append (register_tree start) (take i registers) (r ∷ [])) (assigned-more (value_in share) (register_trees start (take i registers)) (register_tree start r)) in
-    let here : Fills now after block (given (tree_of start r.reg) (value_in share (register_tree start r))) = rw (← same, ← wider_tree start now w r.reg old.0) one in
-    rw (add-one, grown) (fills-more start now after block trees (given (tree_of start r.reg) (value_in share (register_tree start r))) filled here)

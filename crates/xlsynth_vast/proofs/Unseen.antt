@@ -26,8 +26,7 @@ use Rattle.vast_core.proofs.NodeLaws.{type_in-kept}
 use Rattle.vast_core.proofs.Nests.{get-before, family-at, nest-at}
 use Rattle.vast_core.proofs.Enters.{block-place, conditional-place, case-place, loop-place}
 use Rattle.xlsynth_vast.specs.Registers.{HasUnused}
-use Rattle.xlsynth_vast.proofs.RegisterParts.{Wider, wider_tree}
-use Rattle.xlsynth_vast.proofs.RegisterMembers.{unused-wider}
+use Rattle.xlsynth_vast.proofs.RegisterParts.{Wider, wider_tree, unused-wider}
 
 -- b is a file and c the same file with what no list names. Its expressions, types and assignments are read alike.
 pub record Alike (b c : Bench) : Type 0 where

@@ -1,5 +1,5 @@
 -- Nodes that nothing else uses are not in a file's tree.
-use Rattle.std.proofs.Common.{◌≡◌, ℕ, List, [], ◌++◌, Result, Ok, Err, sym, ap, ◌∙◌, append-nil}
+use Rattle.std.proofs.Common.{◌≡◌, ℕ, List, [], ◌++◌, Result, Ok, Err, refl, ap, ◌∙◌, append-nil}
 use Rattle.vast_literal.specs.declared.error.VastFault.{VastFault}
 use Rattle.vast_literal.specs.declared.error.VastFault.TheVariants.{Refused, Memory}
 use Rattle.vast_literal.specs.Tree.{ExprTree}
@@ -11,19 +11,11 @@ use Rattle.vast_core.specs.Sound.{RecordsSound}
 use Rattle.vast_core.specs.FileTree.{tree}
 use Rattle.xlsynth_vast.specs.Reductions.{HasMoreNodes, MakesTree}
 use Rattle.xlsynth_vast.specs.Registers.{HasUnused}
-use Rattle.xlsynth_vast.proofs.Parents.{unchanged}
 use Rattle.xlsynth_vast.proofs.Unseen.{tree-unseen}
 
 nodes-unused : (b c : Bench) → HasMoreNodes b c → HasUnused b c
 nodes-unused b c h =
-    record {
-      roots = h.more;
-      assignments = [];
-      containers = [];
-      after = h.after ∙ ap (λ (xs : List Assignment). record b { nodes = record { id = b.nodes.id; roots = b.nodes.roots ++ h.more }; assignments = xs }) (sym (append-nil b.assignments))
-          ∙ ap (λ (xs : List NestRecord). record b { nodes = record { id = b.nodes.id; roots = b.nodes.roots ++ h.more }; assignments = b.assignments ++ []; nests = xs }) (sym (append-nil b.nests));
-      parents = unchanged b c (ap (λ (x : Bench). x.nests) h.after) (ap (λ (x : Bench). x.functions) h.after) (ap (λ (x : Bench). x.always_blocks) h.after) (ap (λ (x : Bench). x.modules) h.after);
-    }
+    record { roots = h.more; assignments = []; containers = []; spare = b.spare; after = h.after ∙ rw (append-nil b.assignments, append-nil b.nests) refl }
 
 pub tree-made : (old new : Bench) (r : Result Expr VastFault) (rule : Result ExprTree (List ℕ)) → RecordsSound old → MakesTree old new r rule → tree new ≡ tree old
 tree-made old new (Ok e) rule s h = tree-unseen old new s (nodes-unused old new h.1)

@@ -10,9 +10,9 @@ pub mod Cases
 pub mod Inspections
 pub mod Instances
 pub mod Laws
-pub mod Parents
 pub mod Widths
 pub mod Reductions
 pub mod ArrayReduction
 pub mod Registers
+pub mod AddedRegisters
 pub mod RegisterSteps

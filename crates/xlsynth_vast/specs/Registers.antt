@@ -1,24 +1,14 @@
 -- Registers: the always block that a call makes of them, and the values that they take by it.
-use Rattle.std.specs.Prelude.{◌≡◌, ℕ, Bool, true, false, IsTrue, not, nat_eq, List, [], ◌∷◌, ◌++◌, map, Option, Some, None, option_map, slice_get, Result, Ok, Err, codes, string_bytes, if◌then◌else◌}
+use Rattle.std.specs.Prelude.{◌≡◌, ℕ, Bool, true, false, IsTrue, not, nat_eq, List, [], ◌∷◌, ◌++◌, map, Option, Some, None, option_map, slice_get, Result, Ok, Err, codes, if◌then◌else◌}
 use Rattle.std.specs.List.{flat_map, list_any}
 use Rattle.std.specs.Cmp.Lexicographic.{pointwise}
-use Rattle.vast_literal.specs.declared.error.VastFault.{VastFault}
-use Rattle.vast_literal.specs.declared.error.VastFault.TheVariants.{Refused, Memory}
 use Rattle.vast_literal.specs.Tree.{ExprTree, NameTree, UnaryTree, LogicalNotOp, TernaryTree, PosEdgeTree, MoreExprs, NoExprs, Nonblocking, StatementTree, AssignTree, CommentTree, BlankTree, InlineTree, ConditionalTree, CaseTree, Statements, NoStatements, MoreStatements, Alternates, NoElse, ElseIf, Else, MemberTree, AlwaysMember, AlwaysFFWord}
-use Rattle.vast_core.specs.declared.handle.Expr.{Expr}
 use Rattle.vast_core.specs.declared.handle.VastStatementBlock.{VastStatementBlock}
-use Rattle.vast_core.specs.declared.kind.AlwaysKind.TheVariants.{AlwaysFF}
 use Rattle.vast_core.specs.declared.node.Assignment.{Assignment}
 use Rattle.vast_core.specs.Nodes.{Root, OptionHolds, is_name}
-use Rattle.vast_core.specs.Records.{MemberEntry, AlwaysEntry}
 use Rattle.vast_core.specs.Nests.{NestRecord}
 use Rattle.vast_core.specs.Bench.{Bench, OwnsExpr, OwnsModule, OwnsLoop, tree_of}
 use Rattle.vast_core.specs.Sound.{AreDistinct}
-use Rattle.vast_core.specs.Growth.{with_member}
-use Rattle.vast_core.specs.Loops.{next_always, with_loop_member}
-use Rattle.vast_core.specs.Unattached.{with_always_over}
-use Rattle.vast_core.specs.FileTree.{member_tree}
-use Rattle.xlsynth_vast.specs.Parents.{HasOneParent}
 use Rattle.xlsynth_vast.specs.declared.helpers.registers.Reset.{Reset}
 use Rattle.xlsynth_vast.specs.declared.helpers.registers.RegisterDefinition.{RegisterDefinition}
 use Rattle.xlsynth_vast.specs.declared.helpers.registers.RegisterScope.{RegisterScope}
@@ -204,42 +194,20 @@ abbrev pub OwnsScope : Bench → RegisterScope → Type 0
 OwnsScope b (ModuleScope owner) = OwnsModule b owner
 OwnsScope b (LoopScope owner) = OwnsLoop b owner
 
--- The file has these expressions, assignments and containers more, which no list names, and all else is as it was. Each
--- container still has one parent.
-abbrev pub with_unused : List Root → List Assignment → List NestRecord → Bench → Bench
-with_unused roots assignments containers b =
-    record b { nodes = record { id = b.nodes.id; roots = b.nodes.roots ++ roots }; assignments = b.assignments ++ assignments; nests = b.nests ++ containers }
+-- The file has these expressions, assignments and containers more, which no list names, and perhaps another spare block. All
+-- else is as it was.
+abbrev pub with_unused : List Root → List Assignment → List NestRecord → Option VastStatementBlock → Bench → Bench
+with_unused roots assignments containers spare b =
+    record b {
+      nodes = record { id = b.nodes.id; roots = b.nodes.roots ++ roots };
+      assignments = b.assignments ++ assignments;
+      nests = b.nests ++ containers;
+      spare = spare;
+    }
 
 pub record HasUnused (old new : Bench) : Type 0 where
   pub roots : List Root
   pub assignments : List Assignment
   pub containers : List NestRecord
-  pub after : new ≡ with_unused roots assignments containers old
-  pub parents : HasOneParent old → HasOneParent new
-
--- A member more at the end of the scope's members.
-abbrev pub with_last_member : RegisterScope → MemberEntry → Bench → Bench
-with_last_member (ModuleScope owner) entry b = with_member owner entry b
-with_last_member (LoopScope owner) entry b = with_loop_member owner entry b
-
-abbrev pub with_clocked : RegisterScope → (event : Expr) → VastStatementBlock → Bench → Bench
-with_clocked scope event block b = with_last_member scope (AlwaysEntry (next_always b)) (with_always_over AlwaysFF (event ∷ []) block b)
-
--- One always block more, last in its scope, whose tree is this; and of all else only what that block names.
-pub record AddsMember (old new : Bench) (scope : RegisterScope) (member : MemberTree) : Type 0 where
-  pub made : Bench
-  pub unused : HasUnused old made
-  pub event : Expr
-  pub block : VastStatementBlock
-  pub after : new ≡ with_clocked scope event block made
-  pub tree : member_tree new (AlwaysEntry (next_always old)) ≡ member
-  pub parents : HasOneParent old → HasOneParent new
-
--- No registers change nothing. Others add their member, or are refused as the rule says, and nothing changed, or want memory.
-abbrev pub MayAddRegisters : (old new : Bench) → Result (Unit {0}) VastFault → (clk : Expr) → Option Reset → List RegisterDefinition → RegisterScope → Type 0
-MayAddRegisters old new (Ok _) clk reset [] scope = new ≡ old
-MayAddRegisters old new (Ok _) clk reset (r ∷ rs) scope =
-    (unless_unresettable (maybe_reset_tree old reset) (register_trees old (r ∷ rs)) ≡ Ok tt)
-    × AddsMember old new scope (registers_member (tree_of old clk) (maybe_reset_tree old reset) (register_trees old (r ∷ rs)))
-MayAddRegisters old new (Err (Refused e)) clk reset registers scope = (unless_unresettable (maybe_reset_tree old reset) (register_trees old registers) ≡ Err (string_bytes e.0)) × (new ≡ old)
-MayAddRegisters old new (Err (Memory e)) clk reset registers scope = HasUnused old new
+  pub spare : Option VastStatementBlock
+  pub after : new ≡ with_unused roots assignments containers spare old

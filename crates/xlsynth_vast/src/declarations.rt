@@ -2,7 +2,7 @@
 //!
 //! A module's ports, wires, variables and functions share one set of names; no name is declared twice.
 
-ghost use Rattle.std.specs.Prelude.{◌≡◌, Ok, IfOk, MatchResult, codes, map, string_bytes};
+ghost use Rattle.std.specs.Prelude.{◌≡◌, Ok, IfOk, MatchResult, OnOk, codes, map, string_bytes};
 ghost use Rattle.vast_literal.specs.Fault.{OnlyRefusedBy};
 ghost use Rattle.vast_core.specs.Bench.{OwnsModule, OwnsType, NameIsFree};
 ghost use Rattle.vast_core.specs.Growth.{Builds, next_logic_ref, with_declaration};
@@ -48,7 +48,8 @@ impl VastFile {
         name: &str,
     ) -> Result<(), VastFault>
         requires { OwnsModule (bench self.now) owner }
-        ensures { MatchResult result (λ _. unless_taken kind.now name.now (names_in (bench self.now) owner) ≡ Ok tt) (OnlyRefusedBy (unless_taken kind.now name.now (names_in (bench self.now) owner))) }
+        ensures answer { MatchResult result (λ _. unless_taken kind.now name.now (names_in (bench self.now) owner) ≡ Ok tt) (OnlyRefusedBy (unless_taken kind.now name.now (names_in (bench self.now) owner))) }
+        ensures free { OnOk result (NameIsFree (bench self.now) owner name.now) }
     {
         let module = self.ast.module(owner);
         if module.name_is_free(name) {

@@ -21,5 +21,5 @@ pub use registers::{RegisterDefinition, RegisterScope, Reset, add_registers};
 fn records_are_sound(file: &VastFile)
     ensures { RecordsSound (bench file.now) }
 {
-    file.ast.records_are_sound();
+    file.ast.file_is_sound();
 }

@@ -1,30 +1,35 @@
-//! Laws of the calls. The functions compute nothing; each contract is a law over all files.
+//! Laws. The functions compute nothing; the contract of each is a law over all files, or over the file at hand.
 
-ghost use Rattle.vast_core.specs.Bench.{OwnsFunction};
+ghost use Rattle.vast_core.specs.Bench.{OwnsFunction, OwnsModule};
+ghost use Rattle.vast_core.specs.Parents.{HasOneParent};
 ghost use Rattle.vast_core.specs.View.{bench};
-ghost use Rattle.xlsynth_vast.specs.Laws.{HoistingAgain, NamesStayDistinct, FunctionNamesAreDistinct};
-ghost use Rattle.xlsynth_vast.specs.Parents.{ContainersHaveOneParent};
+ghost use Rattle.xlsynth_vast.specs.Laws.{HoistingAgain, ModuleNamesAreDistinct, FunctionNamesAreDistinct};
 ghost use Rattle.xlsynth_vast.specs.Registers.{RegistersTakeTheirValues};
 
 use crate::file::VastFile;
-use vast_core::VastFunction;
+use vast_core::{VastFunction, VastModule};
 
 /// Hoisting a module's declarations again, from the same member, changes nothing.
 pub fn hoisting_again()
     ensures { HoistingAgain }
 {}
 
-/// The names that a module declares, of its ports, wires, regs, logics and functions, are pairwise distinct, whatever
-/// calls are made.
-pub fn names_stay_distinct()
-    ensures { NamesStayDistinct }
-{}
+/// In every file each block, conditional, case statement and loop stands in at most one place: a container has one
+/// parent. So does each function and each always block. Nothing holds what the file does not have.
+pub fn containers_have_one_parent(file: &VastFile)
+    ensures { HasOneParent (bench file.now) }
+{
+    file.ast.file_is_sound();
+}
 
-/// Each block, conditional, case statement and loop stands in at most one place, whatever calls are made: a container has
-/// one parent. So does each function and each always block.
-pub fn containers_have_one_parent()
-    ensures { ContainersHaveOneParent }
-{}
+/// The names that a module declares, of its ports, wires, regs, logics and functions, are pairwise distinct in every
+/// file, and they are the names that are taken in it.
+pub fn module_names_are_distinct(file: &VastFile, module: VastModule)
+    requires { OwnsModule (bench file.now) «module» }
+    ensures { ModuleNamesAreDistinct (bench file.now) «module» }
+{
+    file.ast.file_is_sound();
+}
 
 /// The names that a function declares, of its result, inputs and locals, are pairwise distinct in every file, and they
 /// are the names that are taken in it.

@@ -22,6 +22,7 @@ impl VastFile {
     ) -> Result<LogicRef, AllocError>
         requires owner { OwnsModule (bench self.old) owner }
         requires data_type { OwnsType (bench self.old) data_type }
+        requires free { NameIsFree (bench self.old) owner name.now }
         ensures { Builds (bench self.old) (bench self.new) result (next_logic_ref (bench self.old)) (with_port owner direction DataKind.Wire name.now data_type (bench self.old)) }
     {
         self.ast
@@ -37,6 +38,7 @@ impl VastFile {
     ) -> Result<LogicRef, AllocError>
         requires owner { OwnsModule (bench self.old) owner }
         requires data_type { OwnsType (bench self.old) data_type }
+        requires free { NameIsFree (bench self.old) owner name.now }
         ensures { Builds (bench self.old) (bench self.new) result (next_logic_ref (bench self.old)) (with_port owner direction DataKind.Logic name.now data_type (bench self.old)) }
     {
         self.ast

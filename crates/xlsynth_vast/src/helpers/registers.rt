@@ -1,18 +1,18 @@
 //! Registers of one clock, with resets and enables.
 
-ghost use Rattle.std.specs.Prelude.{◌≡◌, true, [], All, Ok, OnErr, OnOk, Some};
+ghost use Rattle.std.specs.Prelude.{◌≡◌, true, [], All, OnErr, OnOk, Some};
 ghost use Rattle.std.specs.List.{list_any};
 ghost use Rattle.vast_core.specs.Nodes.{OptionHolds};
-ghost use Rattle.vast_core.specs.Bench.{OwnsExpr, OwnsBlock, tree_of};
+ghost use Rattle.vast_core.specs.Bench.{OwnsExpr, OwnsBlock};
 ghost use Rattle.vast_core.specs.Sound.{EventSound};
 ghost use Rattle.vast_core.specs.Growth.{Builds};
-ghost use Rattle.vast_core.specs.Containers.{next_block, with_block};
+ghost use Rattle.vast_core.specs.Containers.{next_block, with_spare_block};
 ghost use Rattle.vast_core.specs.FileTree.{tree};
-ghost use Rattle.vast_core.specs.Unattached.{IsUnheld};
 ghost use Rattle.vast_core.specs.View.{bench};
 ghost use Rattle.xlsynth_vast.specs.Reductions.{ChecksBy};
-ghost use Rattle.xlsynth_vast.specs.Registers.{register_tree, register_trees, reset_tree, maybe_reset_tree, unless_unresettable, running_value, given, assigned_all, active_tree, by_reset, OwnsRegister, OwnsReset, OwnsScope, TakeTheirValues, with_clocked, MayAddRegisters};
-ghost use Rattle.xlsynth_vast.specs.RegisterSteps.{is_resettable, value_in, MakesValue, MakesMaybeValue, MayFill, MayBranch, MayMakeBlock, IsOlderScope};
+ghost use Rattle.xlsynth_vast.specs.Registers.{register_trees, maybe_reset_tree, unless_unresettable, OwnsRegister, OwnsReset, OwnsScope, TakeTheirValues};
+ghost use Rattle.xlsynth_vast.specs.AddedRegisters.{is_resettable, running_expr, with_running, value_expr, with_value, with_assigned, with_all_assigned, active_expr, with_active, with_reset, with_clocked, MayAddRegisters};
+ghost use Rattle.xlsynth_vast.specs.RegisterSteps.{MayFill, MayMakeBlock, IsOlderScope};
 
 use crate::file::VastFile;
 use crate::helpers::records_are_sound;
@@ -94,7 +94,7 @@ fn make_running_value(
     file: &mut VastFile,
 ) -> Result<Expr, AllocError>
     requires { OwnsRegister (bench file.old) register.now }
-    ensures { MakesValue (bench file.old) (bench file.new) result (running_value (register_tree (bench file.old) register.now)) }
+    ensures { Builds (bench file.old) (bench file.new) result (running_expr register.now (bench file.old)) (with_running register.now (bench file.old)) }
 {
     match register.enable {
         Some(enable) => file.make_ternary(&enable, &register.next, &register.reg),
@@ -108,7 +108,7 @@ fn make_value(
     file: &mut VastFile,
 ) -> Result<Option<Expr>, AllocError>
     requires { OwnsRegister (bench file.old) register.now }
-    ensures { MakesMaybeValue (bench file.old) (bench file.new) result (value_in share (register_tree (bench file.old) register.now)) }
+    ensures { Builds (bench file.old) (bench file.new) result (value_expr share register.now (bench file.old)) (with_value share register.now (bench file.old)) }
 {
     let takes_running_value = match share {
         Share::Unreset => register.reset_value.is_none(),
@@ -130,7 +130,7 @@ fn assign(
 ) -> Result<(), AllocError>
     requires register { OwnsRegister (bench file.old) register.now }
     requires block { OwnsBlock (bench file.old) block }
-    ensures { MayFill (bench file.old) (bench file.new) result block (given (tree_of (bench file.old) register.now.reg) (value_in share (register_tree (bench file.old) register.now))) }
+    ensures { MayFill (bench file.old) (bench file.new) result block (with_assigned share block register.now (bench file.old)) }
 {
     match make_value(share, register, file)? {
         Some(value) => {
@@ -149,7 +149,7 @@ fn assign_all(
 ) -> Result<(), AllocError>
     requires registers { All (OwnsRegister (bench file.old)) registers.now }
     requires block { OwnsBlock (bench file.old) block }
-    ensures { MayFill (bench file.old) (bench file.new) result block (assigned_all (value_in share) (register_trees (bench file.old) registers.now)) }
+    ensures { MayFill (bench file.old) (bench file.new) result block (with_all_assigned share block registers.now (bench file.old)) }
 {
     for register in registers {
         assign(share, register, block, file)?;
@@ -160,7 +160,7 @@ fn assign_all(
 /// The expression that holds where the reset is active.
 fn make_active(reset: Reset, file: &mut VastFile) -> Result<Expr, AllocError>
     requires { OwnsReset (bench file.old) reset }
-    ensures { MakesValue (bench file.old) (bench file.new) result (active_tree (reset_tree (bench file.old) reset)) }
+    ensures { Builds (bench file.old) (bench file.new) result (active_expr reset (bench file.old)) (with_active reset (bench file.old)) }
 {
     if reset.active_low {
         file.make_logical_not(&reset.signal)
@@ -178,9 +178,8 @@ fn branch(
 ) -> Result<(), AllocError>
     requires reset { OwnsReset (bench file.old) reset }
     requires registers { All (OwnsRegister (bench file.old)) registers.now }
-    requires any { list_any is_resettable registers.now ≡ true }
     requires block { OwnsBlock (bench file.old) block }
-    ensures { MayBranch (bench file.old) (bench file.new) result block (by_reset (Some (reset_tree (bench file.old) reset)) (register_trees (bench file.old) registers.now)) }
+    ensures { MayFill (bench file.old) (bench file.new) result block (with_reset reset registers.now block (bench file.old)) }
 {
     let condition = make_active(reset, file)?;
     let conditional = file.block_add_cond(block, &condition)?;
@@ -192,7 +191,7 @@ fn branch(
 
 /// An empty block, which nothing holds yet.
 fn make_empty_block(file: &mut VastFile) -> Result<VastStatementBlock, AllocError>
-    ensures { Builds (bench file.old) (bench file.new) result (next_block (bench file.old)) (with_block (bench file.old)) }
+    ensures { Builds (bench file.old) (bench file.new) result (next_block (bench file.old)) (with_spare_block (bench file.old)) }
 {
     file.ast.push_block()
 }
@@ -205,7 +204,7 @@ fn make_block(
 ) -> Result<VastStatementBlock, AllocError>
     requires reset { OptionHolds (OwnsReset (bench file.old)) reset }
     requires registers { All (OwnsRegister (bench file.old)) registers.now }
-    ensures { MayMakeBlock (bench file.old) (bench file.new) result (maybe_reset_tree (bench file.old) reset) (register_trees (bench file.old) registers.now) }
+    ensures { MayMakeBlock (bench file.old) (bench file.new) result reset registers.now }
 {
     let block = make_empty_block(file)?;
     assign_all(Share::Unreset, registers, block, file)?;
@@ -230,8 +229,7 @@ fn attach(
 ) -> Result<(), AllocError>
     requires scope { OwnsScope (bench file.old) scope }
     requires event { EventSound (bench file.old) event }
-    requires block { OwnsBlock (bench file.old) block }
-    requires unheld { IsUnheld (bench file.old) block }
+    requires spare { (bench file.old).spare ≡ Some block }
     requires newer { IsOlderScope scope block }
     ensures { Builds (bench file.old) (bench file.new) result tt (with_clocked scope event block (bench file.old)) }
 {

@@ -1,0 +1,255 @@
+-- What the steps answer by which the block of registers is made: each leaves what its equation says, or leaves unused what was.
+use Rattle.std.proofs.Common.{◌≡◌, ℕ, ◌<◌, ◌≤◌, ◌⊎◌, Bool, true, false, List, length, All, Option, Some, None, slice_get, Result, Ok, Err, IsErr, refl, sym, ◌∙◌, inl, inr, arith}
+use Rattle.std.specs.List.{list_any}
+use Rattle.std.specs.declared.alloc.AllocError.{AllocError}
+use Rattle.vast_core.specs.declared.handle.Expr.{Expr}
+use Rattle.vast_core.specs.declared.handle.Conditional.{Conditional}
+use Rattle.vast_core.specs.declared.handle.VastStatementBlock.{VastStatementBlock}
+use Rattle.vast_core.specs.Handles.{block_index, conditional_index}
+use Rattle.vast_core.specs.Nodes.{OptionHolds}
+use Rattle.vast_core.specs.Nests.{AssignStatement, ConditionalStatement}
+use Rattle.vast_core.specs.Bench.{Bench, OwnsExpr, OwnsBlock, OwnsConditional}
+use Rattle.vast_core.specs.Sound.{EventSound}
+use Rattle.vast_core.specs.Growth.{next_expr, with_assignment}
+use Rattle.vast_core.specs.Artifacts.{next_statement}
+use Rattle.vast_core.specs.Containers.{with_statement, with_conditional, with_else, next_conditional, next_block, with_spare_block, has_else}
+use Rattle.xlsynth_vast.specs.declared.helpers.registers.Reset.{Reset}
+use Rattle.xlsynth_vast.specs.declared.helpers.registers.RegisterDefinition.{RegisterDefinition}
+use Rattle.xlsynth_vast.specs.declared.helpers.registers.Share.{Share}
+use Rattle.xlsynth_vast.specs.declared.helpers.registers.Share.TheVariants.{Unreset, AtReset, OutsideReset}
+use Rattle.xlsynth_vast.specs.declared.helpers.registers.RegisterScope.{RegisterScope}
+use Rattle.xlsynth_vast.specs.Expressions.{with_pos_edge}
+use Rattle.xlsynth_vast.specs.Inspections.{then_block_at}
+use Rattle.xlsynth_vast.specs.Registers.{unless_unresettable, maybe_reset_tree, register_trees, OwnsRegister, OwnsReset, OwnsScope, HasUnused}
+use Rattle.xlsynth_vast.specs.AddedRegisters.{is_resettable, value_expr, with_value, with_assigned, with_all_assigned, active_expr, with_active, with_if, with_if_else, first_block, second_block, with_branches, with_reset, with_register_block, with_clocked, with_registers, MayAddRegisters}
+use Rattle.xlsynth_vast.specs.RegisterSteps.{StaysUnused, MayFill, MayMakeBlock, IsOlderScope}
+use Rattle.xlsynth_vast.proofs.RegisterParts.{wider_owned, registers-owned, unused-none, unused-block, unused-count, unused-wider, Changes, changes-then}
+use Rattle.xlsynth_vast.proofs.RegisterBlocks.{value-changes, value-made, all-assigned-changes}
+use Rattle.xlsynth_vast.proofs.RegisterBranches.{active-changes, active-made, opened-changes, opened-owned, opened-then, opened-else, both-changes, first-owned, second-owned, second-place, reset-changes}
+use Rattle.xlsynth_vast.proofs.RegisterMembers.{spare-owned, spare-registers, filled-wider, block-unused, block-spare, edge-sound, edge-unused, scope-owned, scope-older, registers-added}
+
+-- Where memory was refused.
+
+pub fill-refused : (old new : Bench) (r : Result (Unit {0}) AllocError) (block : VastStatementBlock) (after : Bench) → IsErr r → StaysUnused block old new → MayFill old new r block after
+fill-refused old new (Ok x) block after e h = absurd cc
+fill-refused old new (Err x) block after e h = h
+
+pub stays-same : (old new : Bench) (block : VastStatementBlock) → new ≡ old → StaysUnused block old new
+stays-same old new block e = λ start u past. rw e u
+
+-- After changes of the block, this block or one that is newer than the file was filled.
+pub stays-then : (old now new : Bench) (block x : VastStatementBlock) → Changes (block_index block) old now → (block_index x ≡ block_index block) ⊎ (length old.nests ≤ block_index x) → StaysUnused x now new → StaysUnused block old new
+stays-then old now new block x k (inl same) h = λ start u past. h start (k.unused start u past) (omega (arith, same, past))
+stays-then old now new block x k (inr behind) h = λ start u past. let count = unused-count start old u in h start (k.unused start u past) (omega (arith, behind, count))
+
+-- One assignment.
+
+pub value-owned : (share : Share) (r : RegisterDefinition) (old now : Bench) (o : Option Expr) (value : Expr) → OwnsRegister old r → (o ≡ value_expr share r old) × (now ≡ with_value share r old) → o ≡ Some value → OwnsExpr now value
+value-owned share r old now o value h e is =
+    let k : value_expr share r old ≡ Some value = sym e.0 ∙ is in rw e.1 ((rw k at (value-made share r old h)).0)
+
+pub value-still : (share : Share) (r : RegisterDefinition) (old now : Bench) (block : VastStatementBlock) → now ≡ with_value share r old → Changes (block_index block) old now
+value-still share r old now block e = rw e (value-changes (block_index block) share r old)
+
+pub assigned-value :
+    (share : Share) (block : VastStatementBlock) (r : RegisterDefinition) (old now new : Bench) (o : Option Expr) (value : Expr) → (o ≡ value_expr share r old) × (now ≡ with_value share r old) → o ≡ Some value →
+    new ≡ with_statement block (AssignStatement (next_statement now)) (with_assignment (record { lhs = r.reg; rhs = value; nonblocking = true }) now) → new ≡ with_assigned share block r old
+unfolding with_assigned
+assigned-value share block r old now new o value e is after =
+    let k : value_expr share r old ≡ Some value = sym e.0 ∙ is in rw (k, ← e.1) after
+
+pub assigned-none : (share : Share) (block : VastStatementBlock) (r : RegisterDefinition) (old now : Bench) (o : Option Expr) → (o ≡ value_expr share r old) × (now ≡ with_value share r old) → o ≡ None → now ≡ with_assigned share block r old
+unfolding with_assigned
+assigned-none share block r old now o e is =
+    let k : value_expr share r old ≡ None = sym e.0 ∙ is in rw k e.1
+
+-- The conditional.
+
+pub conditional-owned :
+    (b c : Bench) (condition : Expr) (block : VastStatementBlock) (x : Conditional) → (x ≡ next_conditional b) × (c ≡ with_statement block (ConditionalStatement (next_conditional b)) (with_conditional condition b)) → OwnsConditional c x
+unfolding with_if
+conditional-owned b c condition block x e = rw (e.0, e.1) (opened-owned condition block b)
+
+pub conditional-open :
+    (b c : Bench) (condition : Expr) (block : VastStatementBlock) (x : Conditional) → OwnsBlock b block → (x ≡ next_conditional b) × (c ≡ with_statement block (ConditionalStatement (next_conditional b)) (with_conditional condition b)) →
+    has_else (slice_get c.nests (conditional_index x)) ≡ false
+unfolding with_if
+conditional-open b c condition block x own e = rw (e.0, e.1) (opened-else condition block b own)
+
+pub opened-stays :
+    (b c : Bench) (condition : Expr) (block : VastStatementBlock) → c ≡ with_statement block (ConditionalStatement (next_conditional b)) (with_conditional condition b) → Changes (block_index block) b c
+unfolding with_if
+opened-stays b c condition block e = rw e (opened-changes condition block b)
+
+-- The conditional with both blocks.
+pub record Both (b d : Bench) (condition : Expr) (block first second : VastStatementBlock) : Type 0 where
+  pub after : d ≡ with_if_else condition block b
+  pub first_is : first ≡ first_block b
+  pub second_is : second ≡ second_block condition block b
+
+is-if : (b c : Bench) (condition : Expr) (block : VastStatementBlock) → c ≡ with_statement block (ConditionalStatement (next_conditional b)) (with_conditional condition b) → c ≡ with_if condition block b
+unfolding with_if
+is-if b c condition block e = e
+
+pub both :
+    (b c d : Bench) (condition : Expr) (block : VastStatementBlock) (x : Conditional) (first second : VastStatementBlock) → OwnsBlock b block →
+    (x ≡ next_conditional b) × (c ≡ with_statement block (ConditionalStatement (next_conditional b)) (with_conditional condition b)) →
+    then_block_at c x ≡ Some first → (second ≡ next_block c) × (d ≡ with_else x c) → Both b d condition block first second
+both b c d condition block x first second own opened then closed =
+    let e : c ≡ with_if condition block b = is-if b c condition block opened.1 in
+    let t : then_block_at (with_if condition block b) (next_conditional b) ≡ Some first = rw (e, opened.0) at then in
+    let k : Some (first_block b) ≡ Some first = rw (opened-then condition block b own) at t in
+    record { after = closed.1 ∙ rw (opened.0, e) refl; first_is = cc; second_is = closed.0 ∙ rw e refl }
+
+-- The same behind the condition of a reset.
+
+pub condition-changes : (reset : Reset) (block : VastStatementBlock) (old b : Bench) → b ≡ with_active reset old → Changes (block_index block) old b
+condition-changes reset block old b e = rw e (active-changes (block_index block) reset old)
+
+pub condition-owned : (reset : Reset) (old b : Bench) (condition : Expr) → OwnsReset old reset → (condition ≡ active_expr reset old) × (b ≡ with_active reset old) → OwnsExpr b condition
+condition-owned reset old b condition h e = rw (e.0, e.1) (active-made reset old h).0
+
+pub both-behind :
+    (old b c d : Bench) (reset : Reset) (condition : Expr) (block : VastStatementBlock) (x : Conditional) (first second : VastStatementBlock) → OwnsBlock old block →
+    (condition ≡ active_expr reset old) × (b ≡ with_active reset old) → (x ≡ next_conditional b) × (c ≡ with_statement block (ConditionalStatement (next_conditional b)) (with_conditional condition b)) →
+    then_block_at c x ≡ Some first → (second ≡ next_block c) × (d ≡ with_else x c) → Both (with_active reset old) d (active_expr reset old) block first second
+both-behind old b c d reset condition block x first second own e opened then closed =
+    both (with_active reset old) c d (active_expr reset old) block x first second ((active-changes (block_index block) reset old).blocks block own) (rw (e.0, e.1) at opened) then closed
+
+-- What there was stays, and both blocks are new.
+pub record Ready (old d : Bench) (block first second : VastStatementBlock) : Type 0 where
+  pub changes : Changes (block_index block) old d
+  pub first_owned : OwnsBlock d first
+  pub second_owned : OwnsBlock d second
+  pub first_past : length old.nests ≤ block_index first
+  pub second_past : length old.nests ≤ block_index second
+
+pub ready :
+    (old d : Bench) (reset : Reset) (block first second : VastStatementBlock) → OwnsBlock old block → Both (with_active reset old) d (active_expr reset old) block first second → Ready old d block first second
+ready old d reset block first second own k =
+    let i : ℕ = block_index block in
+    let b : Bench = with_active reset old in
+    let condition : Expr = active_expr reset old in
+    let w : Changes i old b = active-changes i reset old in
+    let count : length old.nests ≤ length b.nests = unused-count old b ((active-changes (length old.nests) reset old).unused old (unused-none old) (omega arith)) in
+    let place = second-place condition block b in
+    record {
+      changes = rw k.after (changes-then i i old b (with_if_else condition block b) w (both-changes condition block b) (inl refl));
+      first_owned = rw (k.first_is, k.after) (first-owned condition block b (w.blocks block own));
+      second_owned = rw (k.second_is, k.after) (second-owned condition block b);
+      first_past = rw k.first_is (omega (arith, count));
+      second_past = rw k.second_is (omega (arith, count, place));
+    }
+
+-- After the first of them is filled.
+pub half-changes :
+    (old d e : Bench) (block first second : VastStatementBlock) (registers : List RegisterDefinition) → Ready old d block first second → e ≡ with_all_assigned AtReset first registers d → Changes (block_index block) old e
+half-changes old d e block first second registers k is =
+    rw is (changes-then (block_index block) (block_index first) old d (with_all_assigned AtReset first registers d) k.changes (all-assigned-changes AtReset first registers d) (inr k.first_past))
+
+pub half-owned : (d e : Bench) (first second : VastStatementBlock) (registers : List RegisterDefinition) → OwnsBlock d second → e ≡ with_all_assigned AtReset first registers d → OwnsBlock e second
+half-owned d e first second registers own is = rw is ((all-assigned-changes AtReset first registers d).blocks second own)
+
+pub branch-end :
+    (old d e new : Bench) (reset : Reset) (r : Result (Unit {0}) AllocError) (block first second : VastStatementBlock) (registers : List RegisterDefinition) → OwnsBlock old block →
+    Both (with_active reset old) d (active_expr reset old) block first second → e ≡ with_all_assigned AtReset first registers d → MayFill e new r second (with_all_assigned OutsideReset second registers e) →
+    MayFill old new r block (with_reset reset registers block old)
+unfolding with_branches
+branch-end old d e new reset (Ok x) block first second registers own k is h = h ∙ rw (k.second_is, is, k.first_is, k.after) refl
+branch-end old d e new reset (Err x) block first second registers own k is h =
+    let y = ready old d reset block first second own k in
+    stays-then old e new block second (half-changes old d e block first second registers y is) (inr y.second_past) h
+
+-- The block of the registers.
+
+pub block-refused : (old new : Bench) (r : Result VastStatementBlock AllocError) (reset : Option Reset) (registers : List RegisterDefinition) → IsErr r → HasUnused old new → MayMakeBlock old new r reset registers
+block-refused old new (Ok x) reset registers e h = absurd cc
+block-refused old new (Err x) reset registers e h = h
+
+-- The spare block, with the assignments of the registers that have no reset value.
+pub record Started (old now : Bench) (block : VastStatementBlock) (registers : List RegisterDefinition) : Type 0 where
+  pub is : block ≡ next_block old
+  pub after : now ≡ with_all_assigned Unreset (next_block old) registers (with_spare_block old)
+
+pub started :
+    (old b now : Bench) (block : VastStatementBlock) (registers : List RegisterDefinition) → (block ≡ next_block old) × (b ≡ with_spare_block old) → now ≡ with_all_assigned Unreset block registers b → Started old now block registers
+started old b now block registers e f = record { is = e.0; after = f ∙ rw (e.0, e.1) refl }
+
+pub start-unused : (old b new : Bench) (block : VastStatementBlock) → (block ≡ next_block old) × (b ≡ with_spare_block old) → StaysUnused block b new → HasUnused old new
+start-unused old b new block e h = h old (rw e.1 (unused-block old)) (rw e.0 (omega arith))
+
+pub started-unused : (old now new : Bench) (block : VastStatementBlock) (registers : List RegisterDefinition) → Started old now block registers → StaysUnused block now new → HasUnused old new
+started-unused old now new block registers s h =
+    let k = all-assigned-changes Unreset (next_block old) registers (with_spare_block old) in
+    h old (rw s.after (k.unused old (unused-block old) (omega arith))) (rw s.is (omega arith))
+
+pub started-reset : (old now : Bench) (block : VastStatementBlock) (registers : List RegisterDefinition) (reset : Reset) → Started old now block registers → OwnsReset old reset → OwnsReset now reset
+started-reset old now block registers reset s h = rw s.after (wider_owned old _ (filled-wider old registers) reset.signal h)
+
+pub started-registers : (old now : Bench) (block : VastStatementBlock) (registers : List RegisterDefinition) → Started old now block registers → All (OwnsRegister old) registers → All (OwnsRegister now) registers
+started-registers old now block registers s h = rw s.after (registers-owned old _ (filled-wider old registers) registers h)
+
+pub started-block : (old now : Bench) (block : VastStatementBlock) (registers : List RegisterDefinition) → Started old now block registers → OwnsBlock now block
+started-block old now block registers s = rw (s.is, s.after) ((all-assigned-changes Unreset (next_block old) registers (with_spare_block old)).blocks (next_block old) (spare-owned old))
+
+pub block-plain :
+    (old now : Bench) (block : VastStatementBlock) (reset : Option Reset) (registers : List RegisterDefinition) → list_any is_resettable registers ≡ false → Started old now block registers → MayMakeBlock old now (Ok block) reset registers
+unfolding with_register_block
+block-plain old now block None registers none s = (s.is, s.after)
+block-plain old now block (Some reset) registers none s = (s.is, rw none s.after)
+
+pub block-bare : (old now : Bench) (block : VastStatementBlock) (registers : List RegisterDefinition) → Started old now block registers → MayMakeBlock old now (Ok block) None registers
+unfolding with_register_block
+block-bare old now block registers s = (s.is, s.after)
+
+pub block-branched :
+    (old now new : Bench) (block : VastStatementBlock) (reset : Reset) (registers : List RegisterDefinition) → list_any is_resettable registers ≡ true → Started old now block registers →
+    new ≡ with_reset reset registers block now → MayMakeBlock old new (Ok block) (Some reset) registers
+unfolding with_register_block
+block-branched old now new block reset registers any s e = (s.is, rw any (e ∙ rw (s.is, s.after) refl))
+
+-- The block is there, and then the edge of the clock.
+
+pub made-unused : (old b : Bench) (block : VastStatementBlock) (reset : Option Reset) (registers : List RegisterDefinition) → (block ≡ next_block old) × (b ≡ with_register_block reset registers old) → HasUnused old b
+made-unused old b block reset registers e = rw e.1 (block-unused reset registers old)
+
+pub made-clock :
+    (old b : Bench) (block : VastStatementBlock) (reset : Option Reset) (registers : List RegisterDefinition) (clk : Expr) → (block ≡ next_block old) × (b ≡ with_register_block reset registers old) → OwnsExpr old clk → OwnsExpr b clk
+made-clock old b block reset registers clk e h = wider_owned old b (unused-wider old b (made-unused old b block reset registers e)) clk h
+
+pub edged-unused :
+    (old b c : Bench) (block : VastStatementBlock) (reset : Option Reset) (registers : List RegisterDefinition) (clk event : Expr) → (block ≡ next_block old) × (b ≡ with_register_block reset registers old) →
+    (event ≡ next_expr b) × (c ≡ with_pos_edge clk b) → HasUnused old c
+edged-unused old b c block reset registers clk event e f = rw f.1 (edge-unused old b clk (made-unused old b block reset registers e))
+
+pub edged-event : (b c : Bench) (clk event : Expr) → (event ≡ next_expr b) × (c ≡ with_pos_edge clk b) → EventSound c event
+edged-event b c clk event f = rw (f.0, f.1) (edge-sound b clk)
+
+pub edged-scope :
+    (old b c : Bench) (block : VastStatementBlock) (reset : Option Reset) (registers : List RegisterDefinition) (clk event : Expr) (scope : RegisterScope) → (block ≡ next_block old) × (b ≡ with_register_block reset registers old) →
+    (event ≡ next_expr b) × (c ≡ with_pos_edge clk b) → OwnsScope old scope → OwnsScope c scope
+edged-scope old b c block reset registers clk event scope e f h = scope-owned old c scope (edged-unused old b c block reset registers clk event e f) h
+
+pub edged-spare :
+    (old b c : Bench) (block : VastStatementBlock) (reset : Option Reset) (registers : List RegisterDefinition) (clk event : Expr) → (block ≡ next_block old) × (b ≡ with_register_block reset registers old) →
+    (event ≡ next_expr b) × (c ≡ with_pos_edge clk b) → c.spare ≡ Some block
+edged-spare old b c block reset registers clk event e f = rw (f.1, e.0, e.1) (block-spare reset registers old)
+
+pub edged-older :
+    (old b : Bench) (block : VastStatementBlock) (reset : Option Reset) (registers : List RegisterDefinition) (scope : RegisterScope) → (block ≡ next_block old) × (b ≡ with_register_block reset registers old) →
+    OwnsScope old scope → IsOlderScope scope block
+edged-older old b block reset registers scope e h = rw e.0 (scope-older old scope h)
+
+is-added :
+    (old b c new : Bench) (block : VastStatementBlock) (clk event : Expr) (reset : Option Reset) (registers : List RegisterDefinition) (scope : RegisterScope) →
+    (block ≡ next_block old) × (b ≡ with_register_block reset registers old) → (event ≡ next_expr b) × (c ≡ with_pos_edge clk b) → new ≡ with_clocked scope event block c → new ≡ with_registers clk reset registers scope old
+unfolding with_registers
+is-added old b c new block clk event reset registers scope e f after = after ∙ rw (f.0, f.1, e.0, e.1) refl
+
+pub attached :
+    (old b c new : Bench) (block : VastStatementBlock) (clk event : Expr) (reset : Option Reset) (registers : List RegisterDefinition) (scope : RegisterScope) → OwnsScope old scope → OwnsExpr old clk →
+    OptionHolds (OwnsReset old) reset → All (OwnsRegister old) registers → 0 < length registers → unless_unresettable (maybe_reset_tree old reset) (register_trees old registers) ≡ Ok tt →
+    (block ≡ next_block old) × (b ≡ with_register_block reset registers old) → (event ≡ next_expr b) × (c ≡ with_pos_edge clk b) → new ≡ with_clocked scope event block c →
+    MayAddRegisters old new (Ok tt) clk reset registers scope
+attached old b c new block clk event reset registers scope owned own h all some rule e f after =
+    registers-added old new clk reset registers scope owned own h all some rule (is-added old b c new block clk event reset registers scope e f after)
