@@ -64,7 +64,12 @@ pub conditional-comes : (b : Bench) (condition : Expr) → OwnsExpr b condition 
 conditional-comes b condition h =
     record {
       term = tt;
-      port = tt; fresh_module = tt; definition = tt; artifact = tt; instance = tt; assignment = tt;
+      port = tt;
+      fresh_module = tt;
+      definition = tt;
+      artifact = tt;
+      instance = tt;
+      assignment = tt;
       container = record { condition = h; consequent = (consequent_owned b condition, omega arith); else_ifs = tt; otherwise = tt };
       function = tt;
       always_block = tt;

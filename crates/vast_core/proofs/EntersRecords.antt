@@ -19,7 +19,8 @@ use Rattle.vast_core.specs.Bench.{Bench, OwnsExpr, OwnsType, OwnsModule, OwnsFun
 use Rattle.vast_core.specs.Growth.{next_module, next_port, next_logic_ref}
 use Rattle.vast_core.specs.DeclaredNames.{names_by_member, names_by_port}
 use Rattle.vast_core.specs.Parents.{held_by_member}
-use Rattle.vast_core.specs.Sound.{AssignmentSound, MemberSound, EntrySound, DefinitionSound, ArtifactSound, InstanceSound, FormSound, ParameterPortSound}
+use Rattle.vast_core.specs.Sound.{AssignmentSound, MemberSound, EntrySound, DefinitionSound, ArtifactSound, InstanceSound, FormSound, ParameterPortSound, GivesValues}
+use Rattle.vast_core.specs.WrittenKinds.{IsOwnKind, IsVariableKind, HasOwnKind}
 use Rattle.vast_core.specs.Containers.{Nowhere, InFile, InHeader, InPorts, InModule, InFunction, GrowthSound, FreshSound, Fresh, no_fresh, fresh_assignment, with_fresh}
 use Rattle.vast_core.specs.Loops.{fresh_name, name_term}
 use Rattle.vast_core.proofs.Lists.{slice_get-seam}
@@ -48,11 +49,11 @@ artifact-stands b a h =
       placed = refl;
     }
 
-pub instance-stands : (b : Bench) (i : InstanceRecord) → InstanceSound b i → GrowthSound b Nowhere (record no_fresh { instance = Some i })
-instance-stands b i h =
+pub instance-stands : (b : Bench) (i : InstanceRecord) → InstanceSound b i → GivesValues i → GrowthSound b Nowhere (record no_fresh { instance = Some i })
+instance-stands b i h k =
     let f : Fresh = record no_fresh { instance = Some i } in
     record {
-      fresh = record { term = tt; assignment = tt; container = tt; port = tt; fresh_module = tt; function = tt; definition = tt; artifact = tt; instance = InstanceSound-kept b (with_fresh f b) (Grows-fresh b f) i h; always_block = tt };
+      fresh = record { term = tt; assignment = tt; container = tt; port = tt; fresh_module = tt; function = tt; definition = tt; artifact = tt; instance = record { sound = InstanceSound-kept b (with_fresh f b) (Grows-fresh b f) i h; values = k }; always_block = tt };
       listing = tt;
       placed = refl;
     }
@@ -70,7 +71,7 @@ module-enters b name =
         assignment = tt;
         container = tt;
         port = tt;
-        fresh_module = record { sound = record { parameters = tt; ports = tt; members = tt }; names = record { taken = λ n. refl; once = λ n. omega arith }; parts = refl };
+        fresh_module = record { sound = record { parameters = tt; ports = tt; members = tt }; names = record { taken = λ n. refl; once = λ n. omega arith }; parts = refl; kinds = tt };
         function = tt;
         definition = tt;
         artifact = tt;
@@ -93,36 +94,21 @@ name-comes b name type h = record { term = (h, tt); assignment = tt; container =
 
 -- Members of a module.
 
-pub plain_member-enters :
-    (b : Bench) (owner : VastModule) (m : MemberEntry) → OwnsModule b owner → MemberSound b m → names_by_member b.functions m ≡ [] → held_by_member m ≡ [] → GrowthSound b (InModule owner m None) no_fresh
-plain_member-enters b owner m h k names parts = record { fresh = nothing-comes b b; listing = record { owner_there = h; member = k; declares = names; free = tt }; placed = rw parts refl }
-
 pub declaration-enters :
-    (b : Bench) (owner : VastModule) (kind : DataKind) (own taken : List ℕ) (name : String Global) (t : VastDataType) → own ≡ taken → OwnsModule b owner → OwnsType b t → NameIsFree b owner taken →
+    (b : Bench) (owner : VastModule) (kind : DataKind) (own taken : List ℕ) (name : String Global) (t : VastDataType) → own ≡ taken → OwnsModule b owner → IsOwnKind kind → OwnsType b t → NameIsFree b owner taken →
     GrowthSound b (InModule owner (DeclarationEntry kind own t) (Some taken)) (fresh_name name (Some t))
-declaration-enters b owner kind own taken name t e h k free =
+declaration-enters b owner kind own taken name t e h own_kind k free =
     let f : Fresh = fresh_name name (Some t) in
     rw e (record {
       fresh = name-comes b name (Some t) k;
-      listing = record { owner_there = h; member = MemberSound-kept b (with_fresh f b) (Grows-fresh b f) (DeclarationEntry kind taken t) k; declares = refl; free = free };
+      listing = record { owner_there = h; member = MemberSound-kept b (with_fresh f b) (Grows-fresh b f) (DeclarationEntry kind taken t) k; kind = own_kind; declares = refl; free = free };
       placed = refl;
     })
 
 pub declaration-enters-as :
-    (b : Bench) (owner : VastModule) (kind : DataKind) (n own taken : List ℕ) (name : String Global) (t : VastDataType) → own ≡ n → taken ≡ n → OwnsModule b owner → OwnsType b t → NameIsFree b owner n →
+    (b : Bench) (owner : VastModule) (kind : DataKind) (n own taken : List ℕ) (name : String Global) (t : VastDataType) → own ≡ n → taken ≡ n → OwnsModule b owner → IsOwnKind kind → OwnsType b t → NameIsFree b owner n →
     GrowthSound b (InModule owner (DeclarationEntry kind own t) (Some taken)) (fresh_name name (Some t))
-declaration-enters-as b owner kind n own taken name t e f h k free = rw (e, f) (declaration-enters b owner kind n n name t refl h k free)
-
-pub module_parameter-enters :
-    (b : Bench) (owner : VastModule) (local : Bool) (form : FormEntry) (value : Expr) (name : String Global) (type : Option VastDataType) →
-    OwnsModule b owner → FormSound b form → OwnsExpr b value → OptionHolds (OwnsType b) type → GrowthSound b (InModule owner (ParameterEntry local form value) None) (fresh_name name type)
-module_parameter-enters b owner local form value name type h k l m =
-    let f : Fresh = fresh_name name type in
-    record {
-      fresh = name-comes b name type m;
-      listing = record { owner_there = h; member = MemberSound-kept b (with_fresh f b) (Grows-fresh b f) (ParameterEntry local form value) (k, l); declares = refl; free = tt };
-      placed = refl;
-    }
+declaration-enters-as b owner kind n own taken name t e f h own_kind k free = rw (e, f) (declaration-enters b owner kind n n name t refl h own_kind k free)
 
 -- The header and the ports of a module.
 
@@ -171,15 +157,15 @@ port-enters-as b owner q g direction kind n own taken name t e f i j h k free = 
 -- Inputs and locals of a function.
 
 pub variable-enters :
-    (b : Bench) (owner : VastFunction) (local : Bool) (v : VariableRecord) (name : String Global) (t : VastDataType) → OwnsFunction b owner → OwnsType b v.data_type → OwnsType b t → IsFreeInFunction b owner v.name →
+    (b : Bench) (owner : VastFunction) (local : Bool) (v : VariableRecord) (name : String Global) (t : VastDataType) → OwnsFunction b owner → IsVariableKind local v.kind → OwnsType b v.data_type → OwnsType b t → IsFreeInFunction b owner v.name →
     GrowthSound b (InFunction owner local v) (fresh_name name (Some t))
-variable-enters b owner local v name t h k l free =
+variable-enters b owner local v name t h kind k l free =
     let r : Root = ExprRoot (NameTree (string_bytes name) (Typed (type_of b t))) in
-    record { fresh = name-comes b name (Some t) l; listing = record { function_there = h; variable = HasType-kept b.nodes (with_node b.nodes r) (Extends-root b.nodes r) v.data_type k; free = free }; placed = refl }
+    record { fresh = name-comes b name (Some t) l; listing = record { function_there = h; variable = HasType-kept b.nodes (with_node b.nodes r) (Extends-root b.nodes r) v.data_type k; kind = kind; free = free }; placed = refl }
 
 pub variable-enters-as :
-    (b : Bench) (owner : VastFunction) (local : Bool) (kind : DataKind) (n own : List ℕ) (name : String Global) (t : VastDataType) → own ≡ n → OwnsFunction b owner → OwnsType b t → IsFreeInFunction b owner n →
+    (b : Bench) (owner : VastFunction) (local : Bool) (kind : DataKind) (n own : List ℕ) (name : String Global) (t : VastDataType) → own ≡ n → OwnsFunction b owner → IsVariableKind local kind → OwnsType b t → IsFreeInFunction b owner n →
     GrowthSound b (InFunction owner local (record { kind = kind; name = own; data_type = t })) (fresh_name name (Some t))
-variable-enters-as b owner local kind n own name t e h k free = rw e (variable-enters b owner local (record { kind = kind; name = n; data_type = t }) name t h k k free)
+variable-enters-as b owner local kind n own name t e h suits k free = rw e (variable-enters b owner local (record { kind = kind; name = n; data_type = t }) name t h suits k k free)
 
-pub ruleset enters_records = (assignment-stands, definition-stands, artifact-stands, instance-stands, item-enters, plain_member-enters, declaration-enters, module_parameter-enters, header-enters, variable-enters)
+pub ruleset enters_records = (assignment-stands, definition-stands, artifact-stands, instance-stands, item-enters, declaration-enters, header-enters, variable-enters)

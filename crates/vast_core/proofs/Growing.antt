@@ -10,7 +10,7 @@ use Rattle.vast_core.specs.declared.node.Function.{Function}
 use Rattle.vast_core.specs.Raw.{Raw}
 use Rattle.vast_core.specs.Handles.{module_index, function_index}
 use Rattle.vast_core.specs.Nodes.{Nodes, OptionHolds, ChildrenHold, RootFits, no_nodes, built, TermsSound, term_root}
-use Rattle.vast_core.specs.Records.{PortRecord, ParameterPortRecord, ModuleRecord, MemberEntry, changed_at, with_port, with_parameter_port, with_member, with_named_member, port_record, module_record, definition_record, artifact_record, instance_record, file_entry}
+use Rattle.vast_core.specs.Records.{PortRecord, ParameterPortRecord, ModuleRecord, MemberEntry, InstanceRecord, changed_at, with_port, with_parameter_port, with_member, with_named_member, port_record, module_record, definition_record, artifact_record, instance_record, file_entry}
 use Rattle.vast_core.specs.Nests.{NestRecord, BlockRecord, BranchRecord, SwitchRecord, RepeatRecord, VariableRecord, FunctionRecord, nest_kind, is_block_kind, nest_record, function_record, always_record}
 use Rattle.vast_core.specs.Functions.{with_listed_variable}
 use Rattle.vast_core.specs.Bench.{Bench, OwnsExpr, OwnsType, OwnsBlock, OwnsPort, IsFreeInFunction, function_names}
@@ -20,7 +20,7 @@ use Rattle.vast_core.specs.Nests.{declared_names}
 use Rattle.vast_core.specs.DeclaredNames.{NamesSound}
 use Rattle.vast_core.specs.Parents.{Part, places, held_by_module}
 use Rattle.vast_core.specs.Sound.{Each, PortSound, AssignmentSound, MemberSound, ParameterPortSound, ModuleSound, EntrySound, DefinitionSound, ArtifactSound, InstanceSound, NestSound, NestsSound, VariableSound, FunctionSound, AlwaysSound, RecordsSound, FileSound, IsSound, AreDistinct}
-use Rattle.vast_core.specs.Containers.{NestedEntry, StatementEnters, ElseIfEnters, ElseEnters, CaseArmEnters, MemberEnters, Listing, Nowhere, InFile, InHeader, InPorts, InModule, InFunction, InNest, AsSpare, with_entry, with_listed, listed_modules, listed_functions, listed_nests, listed_items, listed_spare, with_listing, added, with_term, with_empty_block, spare_left, with_fresh, Fresh, FreshSound, EntersSound, ListsPort, ListsMember, ListsVariable, ListingSound, GrowthSound, ComesEmpty, read_off, after_growth, count_of}
+use Rattle.vast_core.specs.Containers.{NestedEntry, StatementEnters, ElseIfEnters, ElseEnters, CaseArmEnters, MemberEnters, Listing, Nowhere, InFile, InHeader, InPorts, InModule, InFunction, InNest, AsSpare, with_entry, with_listed, listed_modules, listed_functions, listed_nests, listed_items, listed_spare, with_listing, added, with_term, with_empty_block, spare_left, with_fresh, Fresh, FreshSound, EntersSound, ListsPort, ListsMember, ListsVariable, ListingSound, GrowthSound, ComesEmpty, FunctionComes, InstanceComes, read_off, after_growth, count_of}
 use Rattle.vast_core.specs.Arrivals.{ListingThere, recorded, listing_of, fresh_of}
 use Rattle.vast_core.specs.declared.ast.growth.Arrivals.{Arrivals}
 use Rattle.vast_core.proofs.Readers.{module-below, length-nests}
@@ -32,6 +32,7 @@ use Rattle.vast_core.proofs.Terms.{terms-term}
 use Rattle.vast_core.proofs.FreeNames.{gains-variable, taken-after}
 use Rattle.vast_core.proofs.OneParent.{HasOneParent-growth}
 use Rattle.vast_core.proofs.ModuleNames.{names-fresh, names-listing}
+use Rattle.vast_core.proofs.KindsKept.{KindsSound-fresh, KindsSound-listing}
 
 -- An element more, or none.
 
@@ -100,6 +101,14 @@ module-parts : (c : Bench) (o : Option ModuleRecord) → OptionHolds (ComesEmpty
 module-parts c None h p = refl
 module-parts c (Some m) h p = rw h.parts refl
 
+function-sound : (c : Bench) (o : Option FunctionRecord) → OptionHolds (FunctionComes c) o → OptionHolds (FunctionSound c) o
+function-sound c None h = tt
+function-sound c (Some f) h = h.sound
+
+instance-sound : (c : Bench) (o : Option InstanceRecord) → OptionHolds (InstanceComes c) o → OptionHolds (InstanceSound c) o
+instance-sound c None h = tt
+instance-sound c (Some i) h = h.sound
+
 RecordsSound-fresh : (b : Bench) (f : Fresh) → RecordsSound b → FreshSound b (with_fresh f b) f → RecordsSound (with_fresh f b)
 RecordsSound-fresh b f s h =
     let c : Bench = with_fresh f b in
@@ -110,10 +119,10 @@ RecordsSound-fresh b f s h =
       modules = Each-added (ModuleSound c) b.modules f.fresh_module k.modules (module-sound c f.fresh_module h.fresh_module);
       definitions = Each-added (DefinitionSound c) b.definitions f.definition k.definitions h.definition;
       artifacts = Each-added (ArtifactSound c) b.artifacts f.artifact k.artifacts h.artifact;
-      instances = Each-added (InstanceSound c) b.instances f.instance k.instances h.instance;
+      instances = Each-added (InstanceSound c) b.instances f.instance k.instances (instance-sound c f.instance h.instance);
       items = k.items;
       nests = nests-with_block c f.block (added b.nests f.container) (nests-added c b.nests f.container k.nests h.container);
-      functions = Each-added (FunctionSound c) b.functions f.function k.functions h.function;
+      functions = Each-added (FunctionSound c) b.functions f.function k.functions (function-sound c f.function h.function);
       always_blocks = Each-added (AlwaysSound c) b.always_blocks f.always_block k.always_blocks h.always_block;
     }
 
@@ -344,6 +353,7 @@ FileSound-growth b l f s h =
       spare = spare-listing b c d l (Grows-listing c l) h.listing (spare-kept c d (Grows-listing c l) c.spare (spare-fresh c f.takes_spare b.spare (spare-kept b c (Grows-fresh b f) b.spare s.spare)));
       names = names-listing b c l records h.listing (names-fresh b f s.records (module-names c f.fresh_module h.fresh.fresh_module) s.names);
       parents = HasOneParent-growth b l f (module-parts c f.fresh_module h.fresh.fresh_module) h.placed s.parents;
+      kinds = KindsSound-listing b c l h.listing (KindsSound-fresh b f h.fresh s.kinds);
     }
 
 -- The arenas after a growth.

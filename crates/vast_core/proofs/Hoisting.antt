@@ -44,7 +44,7 @@ Each-filter : {A : Type 0} (P : A → Type 0) (p : A → Bool) (xs : List A) →
 Each-filter P p [] h = tt
 Each-filter P p (x ∷ xs) h = filter-case P p x xs (p x) refl h.0 (Each-filter P p xs h.1)
 
-Each-hoisted : (P : MemberEntry → Type 0) (start : ℕ) (members : List MemberEntry) → Each P members → Each P (hoisted start members)
+pub Each-hoisted : (P : MemberEntry → Type 0) (start : ℕ) (members : List MemberEntry) → Each P members → Each P (hoisted start members)
 Each-hoisted P zero members h = Each-append P (filter is_declaration members) (filter (other is_declaration) members) (Each-filter P is_declaration members h) (Each-filter P (other is_declaration) members h)
 Each-hoisted P (suc n) [] h = tt
 Each-hoisted P (suc n) (x ∷ members) h = (h.0, Each-hoisted P n members h.1)

@@ -22,7 +22,6 @@ use Rattle.vast_core.specs.Sound.{PortSound, AssignmentSound, MemberSound, Param
 use Rattle.vast_core.proofs.Lists.{slice_get-append, slice_get-seam, length-changed_at, Each-map, Each-push, Each-changed_at}
 use Rattle.vast_core.proofs.NodeLaws.{Extends-same, Extends-root, HasType-kept, built-push, built-id, TermsSound-push, built-length, built-well_formed, expr-well_formed, type-well_formed}
 use Rattle.vast_core.proofs.Sound.{Grows, carried, ModuleSound-kept}
-
 use Rattle.vast_core.specs.declared.handle.VastStatementBlock.{VastStatementBlock}
 use Rattle.vast_core.specs.Nodes.{OptionHolds}
 use Rattle.vast_core.specs.Bench.{OwnsBlock}
@@ -31,6 +30,7 @@ use Rattle.vast_core.specs.Sound.{FileSound}
 use Rattle.vast_core.proofs.Hoisting.{members-hoisted}
 use Rattle.vast_core.proofs.OneParent.{HasOneParent-hoisted}
 use Rattle.vast_core.proofs.ModuleNames.{names-hoisted}
+use Rattle.vast_core.proofs.KindsKept.{KindsSound-hoisted}
 use Rattle.std.proofs.Common.{Option, Some, None}
 
 pub Grows-changed : (b : Bench) (i : ℕ) (f : ModuleRecord → ModuleRecord) → Grows b (record b { modules = changed_at i f b.modules })
@@ -74,6 +74,7 @@ FileSound-hoisted b m start s =
       spare = spare-hoisted b m start b.spare s.spare;
       names = names-hoisted b m start s.names;
       parents = HasOneParent-hoisted b m start s.parents;
+      kinds = KindsSound-hoisted b m start s.kinds;
     }
 
 pub sound-hoisted :

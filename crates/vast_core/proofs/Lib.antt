@@ -17,6 +17,7 @@ pub mod RecordLaws
 pub mod Counts
 pub mod OneParent
 pub mod ModuleNames
+pub mod KindsKept
 pub mod Growing
 pub mod Enters
 pub mod EntersMembers
@@ -27,3 +28,6 @@ pub mod NestLaws
 pub mod FreeNames
 pub mod KeywordTable
 pub mod Unattached
+pub mod EntersScopes
+pub mod WellFormedParts
+pub mod WellFormedTree

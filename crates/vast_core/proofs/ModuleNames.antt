@@ -73,11 +73,11 @@ gained :
 gained ports functions x y name more is free h =
     record {
       taken = λ n.
-      let old = h.taken n in
-      let new = more n in
-      let set = times-with n name x.names free in
-      let here = ap (times n) is in
-      omega (arith, old, new, set, here);
+          let old = h.taken n in
+          let new = more n in
+          let set = times-with n name x.names free in
+          let here = ap (times n) is in
+          omega (arith, old, new, set, here);
       once = λ n. rw is (once-with n name x.names free (h.once n));
     }
 
@@ -225,14 +225,14 @@ hoisted-names : (ports : List PortRecord) (functions : List FunctionRecord) (sta
 hoisted-names ports functions start x h =
     record {
       taken = λ n.
-      let t = bytes_eq n in
-      let y : ModuleRecord = with_members_hoisted start x in
-      let names = flat_map (names_by_port ports) x.ports in
-      let same = over-hoisted t (names_by_member functions) start x.members in
-      let before = count-append t names (flat_map (names_by_member functions) x.members) in
-      let after = count-append t names (flat_map (names_by_member functions) y.members) in
-      let old = h.taken n in
-      omega (arith, same, before, after, old);
+          let t = bytes_eq n in
+          let y : ModuleRecord = with_members_hoisted start x in
+          let names = flat_map (names_by_port ports) x.ports in
+          let same = over-hoisted t (names_by_member functions) start x.members in
+          let before = count-append t names (flat_map (names_by_member functions) x.members) in
+          let after = count-append t names (flat_map (names_by_member functions) y.members) in
+          let old = h.taken n in
+          omega (arith, same, before, after, old);
       once = h.once;
     }
 

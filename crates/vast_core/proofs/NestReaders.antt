@@ -124,6 +124,7 @@ FileSound-unique b i u s =
       spare = spare-unique b i u b.spare s.spare;
       names = s.names;
       parents = HasOneParent-unique b (record { id = record { file_id = b.nodes.id; index = i } }) u s.parents;
+      kinds = s.kinds;
     }
 
 pub sound-unique :

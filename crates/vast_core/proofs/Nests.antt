@@ -62,7 +62,7 @@ always-same b f g i q None h = refl
 always-same b f g i q (Some a) h = ap (λ x. AlwaysMember (always_word a.kind) (trees_of b a.events) (block_in x)) (q.at (block_index a.block) h)
 
 member-same : (b : Bench) (f g : ℕ → Family) (i : ℕ) → Agree i f g → (m : MemberEntry) → MemberNewer b i m → member_in b f m ≡ member_in b g m
-member-same b f g i q (DeclarationEntry kind name t) h = refl
+member-same b f g i q (DeclarationEntry kind name t) h = absurd h
 member-same b f g i q (AssignmentEntry a) h = refl
 member-same b f g i q (ParameterEntry local form value) h = refl
 member-same b f g i q BlankEntry h = refl

@@ -247,16 +247,16 @@ pub HasOneParent-growth :
 HasOneParent-growth b l f none placed h =
     record {
       once = λ p.
-      let t = is_same p in
-      let old = h.once p in
-      let nodes = nodes-come p f b (none p) in
-      let entry = entry-comes p l (with_fresh f b) in
-      let there = present-listed p l (with_fresh f b) in
-      let more = present-made p f b in
-      let same = ap (places p) placed in
-      let left = count-append t (held_by_listing l) (held_by_fresh f) in
-      let right = count-append t (made b f) (spare_taken f.takes_spare b.spare) in
-      omega (arith, old, nodes, entry, there, more, same, left, right);
+          let t = is_same p in
+          let old = h.once p in
+          let nodes = nodes-come p f b (none p) in
+          let entry = entry-comes p l (with_fresh f b) in
+          let there = present-listed p l (with_fresh f b) in
+          let more = present-made p f b in
+          let same = ap (places p) placed in
+          let left = count-append t (held_by_listing l) (held_by_fresh f) in
+          let right = count-append t (made b f) (spare_taken f.takes_spare b.spare) in
+          omega (arith, old, nodes, entry, there, more, same, left, right);
     }
 
 -- Hoisting, and a case statement that is made unique.
@@ -265,11 +265,11 @@ pub HasOneParent-hoisted : (b : Bench) (owner : VastModule) (start : ℕ) → Ha
 HasOneParent-hoisted b owner start h =
     record {
       once = λ p.
-      let old = h.once p in
-      let before = file-places p b in
-      let after = file-places p (with_hoisted owner start b) in
-      let same = over-changed (is_same p) held_by_module (with_members_hoisted start) 0 (λ m. let e = over-hoisted (is_same p) held_by_member start m.members in omega (arith, e)) b.modules (module_index owner) in
-      omega (arith, old, before, after, same);
+          let old = h.once p in
+          let before = file-places p b in
+          let after = file-places p (with_hoisted owner start b) in
+          let same = over-changed (is_same p) held_by_module (with_members_hoisted start) 0 (λ m. let e = over-hoisted (is_same p) held_by_member start m.members in omega (arith, e)) b.modules (module_index owner) in
+          omega (arith, old, before, after, same);
     }
 
 same-unique : (p : Part) (unique : Bool) (n : NestRecord) → places p (held_by_container (with_unique unique n)) ≤ places p (held_by_container n) + 0
@@ -287,10 +287,10 @@ pub HasOneParent-unique : (b : Bench) (c : CaseStatement) (unique : Bool) → Ha
 HasOneParent-unique b c unique h =
     record {
       once = λ p.
-      let old = h.once p in
-      let before = file-places p b in
-      let after = file-places p (with_case_unique c unique b) in
-      let there = present-unique p c unique b in
-      let same = over-changed (is_same p) held_by_container (with_unique unique) 0 (same-unique p unique) b.nests (case_index c) in
-      omega (arith, old, before, after, there, same);
+          let old = h.once p in
+          let before = file-places p b in
+          let after = file-places p (with_case_unique c unique b) in
+          let there = present-unique p c unique b in
+          let same = over-changed (is_same p) held_by_container (with_unique unique) 0 (same-unique p unique) b.nests (case_index c) in
+          omega (arith, old, before, after, there, same);
     }

@@ -192,7 +192,7 @@ always-there : (xs : List AlwaysRecord) (i : ℕ) → IsTrue (nat_lt i (length x
 always-there xs i h e = let below : i < length xs = lt-of i (length xs) h in absurd (omega (arith, none-past xs i e))
 
 MemberNewer-kept : (b c : Bench) → Grows b c → (i : ℕ) (m : MemberEntry) → MemberSound b m → MemberNewer b i m → MemberNewer c i m
-MemberNewer-kept b c g i (DeclarationEntry kind name t) s h = tt
+MemberNewer-kept b c g i (DeclarationEntry kind name t) s h = h
 MemberNewer-kept b c g i (AssignmentEntry a) s h = tt
 MemberNewer-kept b c g i (ParameterEntry local form value) s h = tt
 MemberNewer-kept b c g i BlankEntry s h = tt

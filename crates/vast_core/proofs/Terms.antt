@@ -40,7 +40,7 @@ spare-kept b r None h = tt
 spare-kept b r (Some x) h = record { of_file = h.of_file; of_kind = h.of_kind }
 
 FileSound-root : (b : Bench) (r : Root) → FileSound b → FileSound (with_root b r)
-FileSound-root b r s = record { records = RecordsSound-root b r s.records; spare = spare-kept b r b.spare s.spare; names = s.names; parents = record { once = s.parents.once } }
+FileSound-root b r s = record { records = RecordsSound-root b r s.records; spare = spare-kept b r b.spare s.spare; names = s.names; parents = record { once = s.parents.once }; kinds = s.kinds }
 
 bench-term : (a : Raw) (t : Term) (r : ℕ) → bench (record a { terms = a.terms ++ t ∷ []; term_room = r }) ≡ with_root (bench a) (term_root (bench a).nodes t)
 unfolding bench
@@ -84,7 +84,6 @@ sound-well_formed a s =
 
 pub trees-well_formed : (a b : Raw) → b ≡ a → IsSound b → AreWellFormed (bench a)
 trees-well_formed a b e s = let P : Raw → Type 0 = λ r. AreWellFormed (bench r) in subst P e (sound-well_formed b s)
-
 
 pub last-test : (n : ℕ) → IsTrue (nat_lt n (n + 1))
 last-test n = grind arith

@@ -37,7 +37,7 @@ Each-own : {A : Type 0} (P : A → Type 0) (xs : List A) → All P xs → Each P
 Each-own P [] h = tt
 Each-own P (x ∷ xs) h = (h 0 x (omega arith), Each-own P xs (λ k d below. h (suc k) d (omega arith)))
 
-over-comes :
+pub over-comes :
     (b : Bench) (kind : AlwaysKind) (events : List Expr) (block : VastStatementBlock) → All (EventSound b) events → OwnsBlock b block →
     FreshSound b (with_always_over kind events block b) (fresh_over (always_over kind events block))
 over-comes b kind events block h k =
@@ -46,23 +46,6 @@ over-comes b kind events block h k =
 pub next_over_owned : (b : Bench) (kind : AlwaysKind) (events : List Expr) (block : VastStatementBlock) → OwnsAlways (with_always_over kind events block b) (next_always b)
 next_over_owned b kind events block = record { of_file = refl; of_kind = rw (length-append b.always_blocks (always_over kind events block ∷ [])) (last-test (length b.always_blocks)) }
 
-pub always_over-enters :
-    (b : Bench) (owner : VastModule) (kind : AlwaysKind) (events : List Expr) (block : VastStatementBlock) → OwnsModule b owner → All (EventSound b) events → OwnsBlock b block → b.spare ≡ Some block →
-    GrowthSound b (InModule owner (AlwaysEntry (next_always b)) None) (fresh_over (always_over kind events block))
-always_over-enters b owner kind events block h k m spare =
-    record { fresh = over-comes b kind events block k m; listing = record { owner_there = h; member = next_over_owned b kind events block; declares = refl; free = tt }; placed = rw spare refl }
-
-pub loop_always_over-enters :
-    (b : Bench) (owner : GenerateLoop) (kind : AlwaysKind) (events : List Expr) (block : VastStatementBlock) → OwnsLoop b owner → All (EventSound b) events → OwnsBlock b block → b.spare ≡ Some block →
-    loop_index owner < block_index block →
-    GrowthSound b (InNest (loop_index owner) (MemberEnters (AlwaysEntry (next_always b)))) (fresh_over (always_over kind events block))
-loop_always_over-enters b owner kind events block h k m spare newer =
-    record {
-      fresh = over-comes b kind events block k m;
-      listing = (loop-place b owner h, (next_over_owned b kind events block, rw (slice_get-seam b.always_blocks (always_over kind events block)) newer));
-      placed = rw spare refl;
-    }
-
 spare-there : (b : Bench) (o : Option VastStatementBlock) (x : VastStatementBlock) → o ≡ Some x → OptionHolds (OwnsBlock b) o → OwnsBlock b x
 spare-there b o x e h = rw e at h
 
@@ -70,4 +53,4 @@ spare-there b o x e h = rw e at h
 pub spare-owned : (b : Bench) (x : VastStatementBlock) → FileSound b → b.spare ≡ Some x → OwnsBlock b x
 spare-owned b x s e = spare-there b b.spare x e s.spare
 
-pub ruleset enters_over = (spare-comes, spare-owned, always_over-enters, loop_always_over-enters)
+pub ruleset enters_over = (spare-comes, spare-owned)

@@ -20,9 +20,10 @@ use Rattle.vast_core.specs.Raw.{Raw}
 use Rattle.vast_core.specs.Bench.{Bench, OwnsModule, OwnsPort, OwnsFunction, OwnsBlock, OwnsExpr, OwnsType, NameIsFree, IsFreeInFunction}
 use Rattle.vast_core.specs.Functions.{with_listed_variable}
 use Rattle.vast_core.specs.DeclaredNames.{NamesSound, names_by_port, names_by_member}
+use Rattle.vast_core.specs.WrittenKinds.{IsVariableKind, HasOwnKind}
 use Rattle.vast_core.specs.Parents.{Part, ContainerPart, FunctionPart, AlwaysPart, held_by_statement, held_by_member, held_by_else_if, held_by_block, held_by_case_arm, held_by_container, held_by_function, held_by_always, held_by_module}
 use Rattle.vast_core.specs.Growth.{next_id}
-use Rattle.vast_core.specs.Sound.{PortSound, AssignmentSound, MemberSound, ParameterPortSound, ModuleSound, EntrySound, DefinitionSound, ArtifactSound, InstanceSound, StatementSound, ElseIfSound, HoldsBlock, CaseArmSound, LoopMemberSound, NestSound, VariableSound, FunctionSound, AlwaysSound}
+use Rattle.vast_core.specs.Sound.{PortSound, AssignmentSound, MemberSound, ParameterPortSound, ModuleSound, EntrySound, DefinitionSound, ArtifactSound, InstanceSound, StatementSound, ElseIfSound, HoldsBlock, CaseArmSound, LoopMemberSound, NestSound, VariableSound, FunctionSound, AlwaysSound, DeclaresOwnKinds, HasLocalKinds, GivesValues}
 
 -- A new entry of a container.
 pub data NestedEntry : Type 0 where
@@ -157,6 +158,16 @@ pub record ComesEmpty (c : Bench) (m : ModuleRecord) : Type 0 where
   pub sound : ModuleSound c m
   pub names : NamesSound c.ports c.functions m
   pub parts : held_by_module m ≡ []
+  pub kinds : DeclaresOwnKinds m
+
+-- A function that comes has locals of their kinds, and an instance that comes gives its parameters values.
+pub record FunctionComes (c : Bench) (f : FunctionRecord) : Type 0 where
+  pub sound : FunctionSound c f
+  pub kinds : HasLocalKinds f
+
+pub record InstanceComes (c : Bench) (i : InstanceRecord) : Type 0 where
+  pub sound : InstanceSound c i
+  pub values : GivesValues i
 
 -- The new nodes of file b are made of what file c owns.
 pub record FreshSound (b c : Bench) (f : Fresh) : Type 0 where
@@ -165,10 +176,10 @@ pub record FreshSound (b c : Bench) (f : Fresh) : Type 0 where
   pub container : OptionHolds (NestSound c (length b.nests)) f.container
   pub port : OptionHolds (PortSound c) f.port
   pub fresh_module : OptionHolds (ComesEmpty c) f.fresh_module
-  pub function : OptionHolds (FunctionSound c) f.function
+  pub function : OptionHolds (FunctionComes c) f.function
   pub definition : OptionHolds (DefinitionSound c) f.definition
   pub artifact : OptionHolds (ArtifactSound c) f.artifact
-  pub instance : OptionHolds (InstanceSound c) f.instance
+  pub instance : OptionHolds (InstanceComes c) f.instance
   pub always_block : OptionHolds (AlwaysSound c) f.always_block
 
 abbrev pub EntersSound : Bench → ℕ → NestedEntry → Type 0
@@ -192,12 +203,14 @@ pub record ListsPort (b c : Bench) (owner : VastModule) (port : ModulePort) (nam
 pub record ListsMember (b c : Bench) (owner : VastModule) (entry : MemberEntry) (name : Option (List ℕ)) : Type 0 where
   pub owner_there : OwnsModule b owner
   pub member : MemberSound c entry
+  pub kind : HasOwnKind entry
   pub declares : names_by_member c.functions entry ≡ listed_name name
   pub free : OptionHolds (NameIsFree c owner) name
 
-pub record ListsVariable (b c : Bench) (f : VastFunction) (v : VariableRecord) : Type 0 where
+pub record ListsVariable (b c : Bench) (f : VastFunction) (local : Bool) (v : VariableRecord) : Type 0 where
   pub function_there : OwnsFunction b f
   pub variable : VariableSound c v
+  pub kind : IsVariableKind local v.kind
   pub free : IsFreeInFunction c f v.name
 
 -- The new entry of file b is made of what file c owns, and declares the names that it takes; those are free.
@@ -207,7 +220,7 @@ ListingSound b c (InFile entry) = EntrySound c entry
 ListingSound b c (InHeader owner p) = OwnsModule b owner × ParameterPortSound c p
 ListingSound b c (InPorts owner port name) = ListsPort b c owner port name
 ListingSound b c (InModule owner entry name) = ListsMember b c owner entry name
-ListingSound b c (InFunction f local v) = ListsVariable b c f v
+ListingSound b c (InFunction f local v) = ListsVariable b c f local v
 ListingSound b c (InNest place entry) = (place < length b.nests) × EntersSound c place entry
 ListingSound b c (AsSpare block) = OwnsBlock c block
 

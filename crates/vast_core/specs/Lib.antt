@@ -15,10 +15,10 @@ pub mod Hoisting
 pub mod FileTree
 pub mod DeclaredNames
 pub mod Parents
+pub mod WrittenKinds
 pub mod Sound
 pub mod Containers
 pub mod Arrivals
-pub mod GrowthLaws
 pub mod Loops
 pub mod Functions
 pub mod Events

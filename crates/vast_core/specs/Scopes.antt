@@ -1,11 +1,14 @@
 -- What has members: a module or a loop.
-use Rattle.std.specs.Prelude.{None}
-use Rattle.vast_core.specs.declared.ast.growth.Scope.{Scope}
-use Rattle.vast_core.specs.declared.ast.growth.Scope.TheVariants.{Module as ScopeModule, Loop as ScopeLoop}
-use Rattle.vast_core.specs.Handles.{loop_index}
-use Rattle.vast_core.specs.Records.{MemberEntry}
+use Rattle.std.specs.Prelude.{◌<◌, Bool, None}
+use Rattle.vast_core.specs.declared.handle.Expr.{Expr}
+use Rattle.vast_core.specs.declared.handle.VastStatementBlock.{VastStatementBlock}
+use Rattle.vast_core.specs.declared.ast.scope.Scope.{Scope}
+use Rattle.vast_core.specs.declared.ast.scope.Scope.TheVariants.{Module as ScopeModule, Loop as ScopeLoop}
+use Rattle.vast_core.specs.Handles.{block_index, loop_index}
+use Rattle.vast_core.specs.Records.{MemberEntry, DeclarationEntry, AssignmentEntry, ParameterEntry, BlankEntry, CommentEntry, InlineEntry, MacroEntry, InstanceEntry, FunctionEntry, AlwaysEntry, ConditionalEntry, LoopEntry, FormEntry}
 use Rattle.vast_core.specs.Bench.{Bench, OwnsModule, OwnsLoop}
-use Rattle.vast_core.specs.Growth.{with_member}
+use Rattle.vast_core.specs.Growth.{with_expr, with_member}
+use Rattle.vast_core.specs.Parameters.{form_name}
 use Rattle.vast_core.specs.Containers.{Listing, InModule, InNest, MemberEnters}
 use Rattle.vast_core.specs.Loops.{with_loop_member}
 
@@ -21,3 +24,27 @@ listing_in (ScopeLoop l) entry = InNest (loop_index l) (MemberEnters entry)
 abbrev pub with_scope_member : Scope → MemberEntry → Bench → Bench
 with_scope_member (ScopeModule m) entry b = with_member m entry b
 with_scope_member (ScopeLoop l) entry b = with_loop_member l entry b
+
+-- A parameter more among the scope's members, and its name as an expression.
+abbrev pub with_scope_parameter : Scope → (local : Bool) → FormEntry → Expr → Bench → Bench
+with_scope_parameter scope local form value b = with_expr (with_scope_member scope (ParameterEntry local form value) b) (form_name b form)
+
+-- The member may be given to more scopes than one: it declares no name, and holds no container and no function.
+abbrev pub IsShared : MemberEntry → Type 0
+IsShared (DeclarationEntry kind name data_type) = ⊥
+IsShared (AssignmentEntry a) = Unit {0}
+IsShared (ParameterEntry local form value) = Unit {0}
+IsShared BlankEntry = Unit {0}
+IsShared (CommentEntry a) = Unit {0}
+IsShared (InlineEntry a) = Unit {0}
+IsShared (MacroEntry a) = Unit {0}
+IsShared (InstanceEntry i) = Unit {0}
+IsShared (FunctionEntry f) = ⊥
+IsShared (AlwaysEntry a) = ⊥
+IsShared (ConditionalEntry c) = ⊥
+IsShared (LoopEntry l) = ⊥
+
+-- A loop may hold the block where it is older; a module always may.
+abbrev pub IsOlder : Scope → VastStatementBlock → Type 0
+IsOlder (ScopeModule m) block = Unit {0}
+IsOlder (ScopeLoop l) block = loop_index l < block_index block

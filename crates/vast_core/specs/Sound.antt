@@ -15,6 +15,7 @@ use Rattle.vast_core.specs.Raw.{Raw}
 use Rattle.vast_core.specs.Bench.{Bench, OwnsExpr, OwnsType, OwnsLogicRef, OwnsPort, OwnsContinuous, OwnsModule, OwnsDef, OwnsMacroRef, OwnsComment, OwnsInline, OwnsMacroStatement, OwnsInstantiation, OwnsFunction, OwnsAlways, OwnsStatement, OwnsBlock, OwnsConditional, OwnsCase, OwnsLoop, tree_of}
 use Rattle.vast_core.specs.DeclaredNames.{NamesSound}
 use Rattle.vast_core.specs.Parents.{HasOneParent}
+use Rattle.vast_core.specs.WrittenKinds.{HasOwnKind, HasLocalKind, HasValue}
 use Rattle.vast_core.specs.View.{bench}
 
 abbrev pub Each : {A : Type 0} (P : A → Type 0) → List A → Type 0
@@ -96,9 +97,9 @@ abbrev pub AlwaysNewer : ℕ → Option AlwaysRecord → Type 0
 AlwaysNewer i None = Unit {0}
 AlwaysNewer i (Some a) = i < block_index a.block
 
--- What a member of loop i holds is newer than the loop. Loops hold no functions.
+-- What a member of loop i holds is newer than the loop. Loops declare nothing and hold no functions.
 abbrev pub MemberNewer : Bench → ℕ → MemberEntry → Type 0
-MemberNewer b i (DeclarationEntry kind name data_type) = Unit {0}
+MemberNewer b i (DeclarationEntry kind name data_type) = ⊥
 MemberNewer b i (AssignmentEntry a) = Unit {0}
 MemberNewer b i (ParameterEntry local form value) = Unit {0}
 MemberNewer b i BlankEntry = Unit {0}
@@ -195,11 +196,27 @@ pub record RecordsSound (b : Bench) : Type 0 where
 abbrev pub NamesAreSound : Bench → Type 0
 NamesAreSound b = Each (NamesSound b.ports b.functions) b.modules
 
+-- The kinds that the grammar has stand in the file, and each parameter of an instance has a value.
+abbrev pub DeclaresOwnKinds : ModuleRecord → Type 0
+DeclaresOwnKinds m = Each HasOwnKind m.members
+
+abbrev pub HasLocalKinds : FunctionRecord → Type 0
+HasLocalKinds f = Each HasLocalKind f.locals
+
+abbrev pub GivesValues : InstanceRecord → Type 0
+GivesValues i = Each HasValue i.parameters
+
+pub record KindsSound (modules : List ModuleRecord) (functions : List FunctionRecord) (instances : List InstanceRecord) : Type 0 where
+  pub declarations : Each DeclaresOwnKinds modules
+  pub locals : Each HasLocalKinds functions
+  pub values : Each GivesValues instances
+
 pub record FileSound (b : Bench) : Type 0 where
   pub records : RecordsSound b
   pub spare : OptionHolds (OwnsBlock b) b.spare
   pub names : NamesAreSound b
   pub parents : HasOneParent b
+  pub kinds : KindsSound b.modules b.functions b.instances
 
 pub record IsSound (a : Raw) : Type 0 where
   pub terms : TermsSound (no_nodes a.id) a.terms

@@ -26,7 +26,6 @@ mod growth;
 mod hoisting;
 mod inspect;
 mod laws;
-mod localparams;
 mod loops;
 mod members;
 mod modules;
@@ -35,10 +34,10 @@ pub(crate) mod owns;
 mod parameters;
 mod places;
 mod ports;
-mod scoped;
+pub(crate) mod scope;
+mod spare;
 mod terms;
 mod types;
-mod unattached;
 mod variables;
 
 /// The nodes of one file, in arenas. Handles name nodes by their index.

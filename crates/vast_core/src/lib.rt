@@ -16,6 +16,7 @@ mod shape;
 
 pub use ast::Ast;
 pub use ast::owns::Handle;
+pub use ast::scope::Scope;
 pub use bits::{BitCountFault, WidthFault};
 pub use file_ids::{FileIds, IdsSpent};
 pub use handle::{

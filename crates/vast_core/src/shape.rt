@@ -108,7 +108,7 @@ impl ExprNode {
     }
 
     /// A literal's value, where that is known.
-    pub(crate) fn literal_value(&self) -> Option<i64>
+    pub fn literal_value(&self) -> Option<i64>
         ensures { (b : Nodes) → result ≡ literal_value (expr_tree b self.now) }
     {
         match self {

@@ -42,3 +42,4 @@ pub mod DerivedOnce
 pub mod FilePins
 pub mod LoopPin
 pub mod TokenTexts
+pub mod Worked

@@ -4,13 +4,13 @@ use Rattle.std.proofs.lemmas.Option.{same_Some}
 use Rattle.vast_literal.specs.Keyword.{is_keyword}
 use Rattle.vast_literal.specs.Tokens.{LogicOr, Less, Plus, level, is_unary, OpenParen, CloseParen, Semicolon, Assign, BeginKey, EndKey, GenvarKey, ModuleKey, EndModuleKey, ForKey, key_text, reserved_keys, Token, Reserved, Word, Number, Operator, Mark, word_token}
 use Rattle.vast_literal.specs.Scan.{tokens}
-use Rattle.vast_literal.specs.NormalFile.{NormalFile}
-use Rattle.vast_literal.specs.FileGrammar.{is_member_kind, IsFile, DerivesFile}
+use Rattle.vast_literal.specs.FileGrammar.{is_member_kind, IsFile}
 use Rattle.vast_literal.specs.Parser.{◌>>=◌, lead, code, after, key_at, prefix, word_at, number_at, enclosed, cast, list_on, list_step, arguments_on, arguments, applied, word_on, number_on, macro_on, paren_on, brace_next, brace_on, primary, select, selects_on, selects_step, selected, operand_on, operand_step, climb_on, climb_step, binary_step, expression_on, expression_step, run}
 use Rattle.vast_literal.specs.StatementParser.{key_code, after_key_on, after_key}
 use Rattle.vast_literal.specs.DeclarationParser.{many_on, many}
 use Rattle.vast_literal.specs.MemberParser.{bound_of, loop_at, keyed, member_on, members_on, members}
 use Rattle.vast_literal.specs.FileParser.{parameters_on, ports_on, module_at, item_at, is_more, file_at}
+use Rattle.vast_literal.specs.WorkedTexts.{HasNoFile}
 use Rattle.vast_literal.proofs.FilesParse.{file_parses}
 
 -- Thirty of fuel, and more.
@@ -35,7 +35,7 @@ unfolding ◌>>=◌ lead code after key_at prefix word_at number_at enclosed cas
 never n = refl
 
 -- A loop goes on while a name is less than something, and not while a disjunction holds.
-pub no_disjunction : (u : NormalFile) → DerivesFile (codes "module m; for (genvar i = 0; i < a || b; i = i + 1) begin end endmodule") u → ⊥
+pub no_disjunction : HasNoFile (codes "module m; for (genvar i = 0; i < a || b; i = i + 1) begin end endmodule")
 no_disjunction u x =
     let e : x.parts ≡ loop_tokens = same_Some _ _ (sym x.has_parts ∙ loop_text) in
     let g = file_parses loop_tokens u (subst (λ (ts : List Token). IsFile ts u) e x.spelled) in

@@ -11,7 +11,7 @@ use Rattle.vast_literal.specs.ExprTokens.{spelled_level, is_reduction, is_right_
 use Rattle.vast_literal.specs.WellFormed.{is_well_formed, is_well_formed_type}
 use Rattle.vast_literal.specs.NormalTree.{kind_key, normal_declaration, result_kind, normal_declared, normal_label, parameter_key, normal_parameter_name, normal_arguments, normal_macro, normal_connection, normal_connections, normal_event, normal_events, normal_always, normal_inputs, normal_locals, normal_function, normal_member_before, normal_members}
 use Rattle.vast_literal.specs.FileTokens.{declared_tokens, assignment_tokens, separated, parameter_name_tokens, semicolon_tokens, value_tokens, connection_tokens, each_connection, given_tokens, instance_tokens, more_event_tokens, event_tokens, always_tokens, each_input, local_tokens, function_tokens, loop_label_tokens, member_tokens, members_tokens}
-use Rattle.vast_literal.specs.PlainFile.{is_plain_value, is_plain_maybe, is_left_side, is_plain_declaration, is_plain_declared, are_plain_declared, are_plain_statements, are_plain_alternates, is_plain_event, are_plain_events, is_plain_parameter_name, are_plain_connections, is_plain_instance, is_plain_function, is_plain_label, is_plain_member, are_plain_members}
+use Rattle.vast_literal.specs.PlainFile.{is_plain_value, is_plain_maybe, is_left_side, is_plain_declaration, is_plain_declared, are_plain_declared, are_plain_statements, are_plain_alternates, is_plain_event, are_plain_events, are_plain_awaited, is_plain_parameter_name, are_plain_connections, is_plain_instance, is_plain_function, is_plain_label, is_plain_member, are_plain_members}
 use Rattle.vast_literal.specs.WellFormedFile.{is_well_formed_maybe, is_own_kind, is_local_word, is_macro, are_well_formed_statements, are_well_formed_alternates, is_well_formed_event, are_well_formed_events, is_well_formed_parameter_name, are_well_formed_connections, is_given, are_given, are_well_formed_inputs, are_well_formed_locals, is_well_formed_function, is_well_formed_member, are_well_formed_members}
 use Rattle.vast_literal.proofs.ScanLaws.{and_left, and_right}
 use Rattle.vast_literal.proofs.Sound.{lower}
@@ -100,7 +100,7 @@ unfolding event_tokens normal_events
 events_spelled NoExprs p w = empty
 events_spelled (MoreExprs e es) p w = full (more_events_spelled es (event_spelled e (and_left _ _ p) (and_left _ _ w)) (and_right (is_plain_event e) (are_plain_events es) p) (and_right (is_well_formed_event e) (are_well_formed_events es) w))
 
-always_spelled : (word : AlwaysWord) (es : Exprs) {bs : List Token} {b : NormalStatements} → are_plain_events es ≡ true → are_well_formed_events es ≡ true → IsStatements bs b → IsMember (always_tokens word es (Reserved BeginKey ∷ bs)) (normal_always word es b)
+always_spelled : (word : AlwaysWord) (es : Exprs) {bs : List Token} {b : NormalStatements} → are_plain_awaited word es ≡ true → are_well_formed_events es ≡ true → IsStatements bs b → IsMember (always_tokens word es (Reserved BeginKey ∷ bs)) (normal_always word es b)
 unfolding always_tokens normal_always is_clocked
 always_spelled AlwaysFFWord es p w h = clocked AlwaysFFKey refl (events_spelled es p w) h
 always_spelled AlwaysAtWord es p w h = clocked AlwaysKey refl (events_spelled es p w) h
@@ -228,7 +228,7 @@ mutual
   before_spelled dialect (MacroMember e s) p w rest = and_member (macro_spelled e s p w) rest
   before_spelled dialect (InstanceMember i) p w rest = and_member (instance_spelled i p w) rest
   before_spelled dialect (AlwaysMember word es b) p w rest =
-      and_member (always_spelled word es (and_left _ _ p) (and_left _ _ w) (statements_spelled b (and_right (are_plain_events es) (are_plain_statements b) p) (and_right (are_well_formed_events es) (are_well_formed_statements b) w))) rest
+      and_member (always_spelled word es (and_left _ _ p) (and_left _ _ w) (statements_spelled b (and_right (are_plain_awaited word es) (are_plain_statements b) p) (and_right (are_well_formed_events es) (are_well_formed_statements b) w))) rest
   before_spelled dialect (ConditionalMember c b alternates) p w rest =
       let p1 = and_right (is_plain_value c) (are_plain_statements b && are_plain_alternates alternates) p in
       let w1 = and_right (is_well_formed c) (are_well_formed_statements b && are_well_formed_alternates alternates) w in

@@ -28,3 +28,4 @@ pub mod NormalTree
 pub mod FileTokens
 pub mod PlainFile
 pub mod WellFormedFile
+pub mod WorkedTexts

@@ -114,7 +114,9 @@ integer_sign true = None
 integer_sign false = Some UnsignedKey
 
 unfoldable mutual
-  -- The normal expression of a tree. An edge is no expression; what is missing is a name of no bytes.
+  -- The normal expression of a tree. Where the tree's names are plain and it has no edges, the grammar derives it from the
+  -- tree's text; of any other tree it says nothing, and is there only so that each tree has one: an edge, which is no
+  -- expression, has that of its operand, and what is missing is a name of no bytes.
   pub normal : ExprTree → NormalExpr
   normal (NameTree name type) = Name name
   normal (LiteralTree text value) = normal_literal text
@@ -145,7 +147,7 @@ unfoldable mutual
   normal_cast (IntTree signed) operand = normal_word_cast (integer_sign signed) IntKey operand
   normal_cast (ExternalTree name) operand = Cast (Name name) operand
   normal_cast (PackageTree package_name name) operand = PackageCast package_name name operand
-  -- No cast is to an array.
+  -- No cast is to an array or to a missing type: these say nothing.
   normal_cast (PackedTree element dimensions) operand = operand
   normal_cast (UnpackedTree element dimensions) operand = operand
   normal_cast MissingType operand = operand

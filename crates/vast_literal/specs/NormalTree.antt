@@ -1,4 +1,5 @@
--- The normal form of a file's tree: what of it the tokens of its text tell.
+-- The normal form of a file's tree: what of it the tokens of its text tell. It tells of plain files alone (`is_plain_file`): in
+-- others an inline text, which may stand for anything, is left out, and a name that is no identifier stands as it is written.
 use Rattle.std.specs.Prelude.{ℕ, ℤ, pos, ◌-ℤ◌, Bool, true, false, List, [], ◌∷◌, ◌++◌, codes, Option, Some, None, cond}
 use Rattle.std.specs.Fmt.{signed_decimal}
 use Rattle.vast_literal.specs.Tokens.{Minus, Key, CaseKey, CasezKey, CasexKey, WireKey, RegKey, LogicKey, IntegerKey, IntKey, GenvarKey, ParameterKey, LocalparamKey, AlwaysCombKey, AlwaysFFKey, AlwaysKey, PosedgeKey, NegedgeKey, InputKey, OutputKey, InOutKey}
@@ -193,7 +194,7 @@ unfoldable pub normal_arguments : MaybeExprs → Option NormalExprs
 normal_arguments NoArguments = None
 normal_arguments (SomeArguments arguments) = Some (normals arguments)
 
--- A macro that stands as a member.
+-- A macro that stands as a member. Nothing else stands there in a well-formed file: a macro of no bytes says nothing.
 unfoldable pub normal_macro : ExprTree → (semicolon : Bool) → NormalMember
 normal_macro (MacroTree name arguments) semicolon = MacroPart name (normal_arguments arguments) semicolon
 normal_macro _ semicolon = MacroPart [] None semicolon
@@ -205,7 +206,7 @@ unfoldable pub normal_connections : List Connection → List NormalConnection
 normal_connections [] = []
 normal_connections (c ∷ cs) = normal_connection c ∷ normal_connections cs
 
--- An event is an edge of an expression or a name.
+-- An event is an edge of an expression or a name. No other stands in a well-formed file: a name of no bytes says nothing.
 unfoldable pub normal_event : ExprTree → Event
 normal_event (PosEdgeTree operand) = EdgeEvent PosedgeKey (normal operand)
 normal_event (NegEdgeTree operand) = EdgeEvent NegedgeKey (normal operand)
@@ -293,6 +294,6 @@ unfoldable pub normal_items : Dialect → List FileItemTree → List NormalItem
 normal_items dialect [] = []
 normal_items dialect (item ∷ items) = normal_item_before dialect item (normal_items dialect items)
 
--- The normal form of a file.
+-- The normal form of a file. Of a file that is not plain or not well formed it says nothing.
 unfoldable pub normal_file : FileTree → NormalFile
 normal_file f = record { items = normal_items f.dialect f.items }

@@ -3,7 +3,7 @@ use Rattle.std.specs.Prelude.{ℕ, List, [], ◌∷◌, Bool, true, false, not, 
 use Rattle.vast_literal.specs.Tree.{ExprTree, NameTree, IndexTree, SliceTree, PartSelectTree, ConcatTree, PosEdgeTree, NegEdgeTree, TypeTree}
 use Rattle.vast_literal.specs.Tree.{MaybeExpr, NoExpr, SomeExpr, Exprs, NoExprs, MoreExprs, MaybeType, Untyped, Typed, Declaration}
 use Rattle.vast_literal.specs.Tree.{StatementTree, AssignTree, CommentTree, BlankTree, InlineTree, ConditionalTree, CaseTree, Statements, NoStatements, MoreStatements, Alternates, NoElse, ElseIf, Else, CaseArms, NoCaseArms, CaseArm}
-use Rattle.vast_literal.specs.Tree.{ParameterName, PlainParameter, IntParameter, DefinedParameter, Connection, InstanceTree, FunctionTree}
+use Rattle.vast_literal.specs.Tree.{AlwaysWord, AlwaysFFWord, AlwaysAtWord, AlwaysCombWord, ParameterName, PlainParameter, IntParameter, DefinedParameter, Connection, InstanceTree, FunctionTree}
 use Rattle.vast_literal.specs.Tree.{MemberTree, DeclarationMember, AssignMember, ParameterMember, CommentMember, BlankMember, InlineMember, MacroMember, InstanceMember, AlwaysMember, ConditionalMember, FunctionMember, LoopMember, Members, NoMembers, MoreMembers}
 use Rattle.vast_literal.specs.Tree.{PortTree, ParameterPortTree, ModuleTree, FileItemTree, ModuleItem, IncludeItem, CommentItem, BlankItem, FileTree}
 use Rattle.vast_literal.specs.LiteralToken.{every}
@@ -72,6 +72,12 @@ abbrev pub are_plain_events : Exprs → Bool
 are_plain_events NoExprs = true
 are_plain_events (MoreExprs event events) = is_plain_event event && are_plain_events events
 
+-- The events that are printed are plain; a combinational block prints none.
+abbrev pub are_plain_awaited : AlwaysWord → Exprs → Bool
+are_plain_awaited AlwaysFFWord events = are_plain_events events
+are_plain_awaited AlwaysAtWord events = are_plain_events events
+are_plain_awaited AlwaysCombWord events = true
+
 abbrev pub is_plain_parameter_name : ParameterName → Bool
 is_plain_parameter_name (PlainParameter name) = is_plain_name name
 is_plain_parameter_name (IntParameter name) = is_plain_name name
@@ -101,7 +107,7 @@ abbrev mutual
   is_plain_member (InlineMember text) = false
   is_plain_member (MacroMember call semicolon) = is_plain_value call
   is_plain_member (InstanceMember i) = is_plain_instance i
-  is_plain_member (AlwaysMember word events body) = are_plain_events events && are_plain_statements body
+  is_plain_member (AlwaysMember word events body) = are_plain_awaited word events && are_plain_statements body
   is_plain_member (ConditionalMember condition consequent alternates) = is_plain_value condition && (are_plain_statements consequent && are_plain_alternates alternates)
   is_plain_member (FunctionMember f) = is_plain_function f
   is_plain_member (LoopMember genvar start end label members) = (is_plain_name genvar && is_plain_label label) && ((is_plain_value start && is_plain_value end) && are_plain_members members)
@@ -137,6 +143,7 @@ are_plain_items (CommentItem text ∷ items) = are_plain_items items
 are_plain_items (BlankItem ∷ items) = are_plain_items items
 
 -- The names of the file's modules, instances, ports, connections, parameters, labels, packages, types and macros are plain, no
--- inline text stands in it, edges stand only in the lists of events, and left sides are names, selects and concatenations.
+-- inline text stands in it, edges stand only in the lists of events, and left sides are names, selects and concatenations. What
+-- isn't printed is not asked: the types of names, and events that a combinational block has.
 abbrev pub is_plain_file : FileTree → Bool
 is_plain_file f = are_plain_items f.items

@@ -184,7 +184,7 @@ emits-line p k text h e = let w = line-text p k h in (w.0, e ∙ w.1)
 refuses : (text : List ℕ) (fault : Option Refusal) (ink : Ink) (new : Draft) (f : PrintFault) (answer : VastFault) →
     ((r : Refusal) → ink ≡ Stopped r → fault ≡ Some r) → Writes ink new (Err f) → Faults f answer → Answers text fault (Err answer)
 refuses text fault ink new (Refused r) (RefusedBy e) k w h = rw (k r w) (ap Some (sym h))
-refuses text fault ink new Memory (RefusedBy e) k w h = absurd h
+refuses text fault ink new (Memory error) (RefusedBy e) k w h = absurd h
 refuses text fault ink new f (NoMemory e) k w h = tt
 
 pub refuses-page : (p : Page) (start new : Draft) (f : PrintFault) (answer : VastFault) → start ≡ unwritten → Writes (hang 0 (Wet start) p) new (Err f) → Faults f answer → Answers (print p) p.fault (Err answer)

@@ -6,7 +6,7 @@ use Rattle.vast_literal.specs.Tree.{AlwaysWord, AlwaysFFWord, AlwaysAtWord, Alwa
 use Rattle.vast_literal.specs.Tree.{Statements}
 use Rattle.vast_literal.specs.Scan.{scan}
 use Rattle.vast_literal.specs.Plain.{is_plain_name}
-use Rattle.vast_literal.specs.PlainFile.{is_plain_event, are_plain_events, are_plain_connections, is_plain_instance}
+use Rattle.vast_literal.specs.PlainFile.{is_plain_event, are_plain_events, are_plain_awaited, are_plain_connections, is_plain_instance}
 use Rattle.vast_literal.specs.WellFormedFile.{is_well_formed_event, are_well_formed_events, are_well_formed_connections, are_given}
 use Rattle.vast_literal.specs.ExprTokens.{expr_tokens}
 use Rattle.vast_literal.specs.FileTokens.{block_tokens, statements_tokens, separated, connection_tokens, each_connection, given_tokens, instance_tokens, more_event_tokens, event_tokens, always_tokens}
@@ -163,7 +163,7 @@ always_fine AlwaysFFWord es f n = (both_fine _ (events_text es) ((both_fine _ _ 
 always_fine AlwaysAtWord es f n = (both_fine _ (events_text es) ((both_fine _ _ f).0)).1
 always_fine AlwaysCombWord es f n = absurd (n refl)
 
-pub always_open : (word : AlwaysWord) (es : Exprs) (b : Statements) → are_plain_events es ≡ true → are_well_formed_events es ≡ true → (always_text word es).fault ≡ None → Open (block_page b) (block_tokens (statements_tokens b)) →
+pub always_open : (word : AlwaysWord) (es : Exprs) (b : Statements) → are_plain_awaited word es ≡ true → are_well_formed_events es ≡ true → (always_text word es).fault ≡ None → Open (block_page b) (block_tokens (statements_tokens b)) →
     Open (beside (written (always_text word es)) (block_page b)) (always_tokens word es (block_tokens (statements_tokens b)))
 unfolding always_text always_tokens ◌⊕◌ plain_text key_text
 always_open AlwaysFFWord es b p w f h = same_open (regroup_always AlwaysFFKey (event_tokens es) (block_tokens (statements_tokens b)))

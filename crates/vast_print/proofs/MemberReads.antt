@@ -5,7 +5,7 @@ use Rattle.vast_literal.specs.Tree.{Dialect, ExprTree, Exprs, Declaration}
 use Rattle.vast_literal.specs.Tree.{AlwaysWord, ParameterName, PlainParameter, IntParameter, DefinedParameter, InstanceTree, FunctionTree}
 use Rattle.vast_literal.specs.Tree.{Continuous, AssignTree, ConditionalTree, Statements}
 use Rattle.vast_literal.specs.Plain.{is_plain_name}
-use Rattle.vast_literal.specs.PlainFile.{is_plain_value, are_plain_statements, are_plain_events, is_plain_parameter_name, is_plain_label}
+use Rattle.vast_literal.specs.PlainFile.{is_plain_value, are_plain_statements, are_plain_awaited, is_plain_parameter_name, is_plain_label}
 use Rattle.vast_literal.specs.WellFormed.{is_well_formed, is_well_formed_type}
 use Rattle.vast_literal.specs.WellFormedFile.{are_well_formed_statements, are_well_formed_events, is_well_formed_parameter_name}
 use Rattle.vast_literal.specs.ExprTokens.{expr_tokens}
@@ -182,7 +182,7 @@ mutual
   member_whole dialect (MacroMember e s) p w f = macro_told dialect e s (value_reads e p (and_right (is_macro e) (is_well_formed e) w) (macro_fine dialect e s f))
   member_whole dialect (InstanceMember i) p w f = instance_same dialect i (instance_whole i p w (instance_fault dialect i f))
   member_whole dialect (AlwaysMember word es b) p w f = let (x, y) = always_fault dialect word es b f in
-      always_told dialect word es b (always_open word es b (and_left _ _ p) (and_left _ _ w) x (block_open b (statements_whole b (and_right (are_plain_events es) (are_plain_statements b) p) (and_right (are_well_formed_events es) (are_well_formed_statements b) w) y)))
+      always_told dialect word es b (always_open word es b (and_left _ _ p) (and_left _ _ w) x (block_open b (statements_whole b (and_right (are_plain_awaited word es) (are_plain_statements b) p) (and_right (are_well_formed_events es) (are_well_formed_statements b) w) y)))
   member_whole dialect (ConditionalMember c b rest) p w f = conditional_same dialect c b rest (statement_whole (ConditionalTree c b rest) p w (conditional_fault dialect c b rest f))
   member_whole dialect (FunctionMember g) p w f = function_same dialect g (function_whole dialect g p w (function_fault dialect g f))
   member_whole dialect (LoopMember i s e l ms) p w f =

@@ -38,7 +38,28 @@ PrintedExpressions = (e : ExprTree) → PrintsPlainly e → DerivesOnly (expr_te
 abbrev pub EqualTexts : Type 0
 EqualTexts = (a b : ExprTree) → PrintsPlainly a → PrintsPlainly b → (expr_text a).text ≡ (expr_text b).text → normal a ≡ normal b
 
--- The text of every plain file that nothing refuses derives its normal form, and no other.
-pub record PrintedFiles : Type 0 where
-  pub derived : (f : FileTree) → is_plain_file f ≡ true → is_well_formed_file f ≡ true → (layout f).fault ≡ None → DerivesFile (print (layout f)) (normal_file f)
-  pub no_other : (f : FileTree) (t : NormalFile) → is_plain_file f ≡ true → is_well_formed_file f ≡ true → (layout f).fault ≡ None → DerivesFile (print (layout f)) t → t ≡ normal_file f
+-- The text derives the normal form of the file, and no other tree.
+pub record FileDerivesOnly (text : List ℕ) (f : FileTree) : Type 0 where
+  pub derived : DerivesFile text (normal_file f)
+  pub no_other : (t : NormalFile) → DerivesFile text t → t ≡ normal_file f
+
+-- That, where the file is plain.
+abbrev pub FileDerivesIfPlain : List ℕ → FileTree → Type 0
+FileDerivesIfPlain text f = is_plain_file f ≡ true → FileDerivesOnly text f
+
+-- Nothing refuses the file, it is plain, and it is well formed, as each file is that was built.
+pub record FilePrintsPlainly (f : FileTree) : Type 0 where
+  pub plain : is_plain_file f ≡ true
+  pub well_formed : is_well_formed_file f ≡ true
+  pub printed : (layout f).fault ≡ None
+
+-- The printed layout of each such file derives its normal form, and no other.
+abbrev pub PrintedFiles : Type 0
+PrintedFiles = (f : FileTree) → FilePrintsPlainly f → FileDerivesOnly (print (layout f)) f
+
+-- Files of equal text have equal normal forms, whatever their dialects.
+pub record EqualFiles : Type 0 where
+  -- Of trees: both are plain and well formed, and nothing refuses them.
+  pub of_trees : (a b : FileTree) → FilePrintsPlainly a → FilePrintsPlainly b → print (layout a) ≡ print (layout b) → normal_file a ≡ normal_file b
+  -- Of two files that were printed, where each answer says so much of its text: both are plain.
+  pub of_answers : (text : List ℕ) (a b : FileTree) → FileDerivesIfPlain text a → FileDerivesIfPlain text b → is_plain_file a ≡ true → is_plain_file b ≡ true → normal_file a ≡ normal_file b

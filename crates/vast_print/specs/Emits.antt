@@ -31,5 +31,5 @@ EmitsText p r = Answers p.text p.fault r
 -- a refusal keeps its words, unless memory for them was refused
 abbrev pub Faults : PrintFault → VastFault → Type 0
 Faults (Refused r) (RefusedBy e) = string_bytes e.0 ≡ refusal_text r
-Faults Memory (RefusedBy e) = ⊥
+Faults (Memory error) (RefusedBy e) = ⊥
 Faults fault (NoMemory e) = Unit {0}

@@ -56,4 +56,4 @@ pour d k p = stop (pour_lines d k p.lines) p.fault
 abbrev pub Writes : Ink → Draft → Result (Unit {0}) PrintFault → Type 0
 Writes ink new (Ok _) = ink ≡ Wet new
 Writes ink new (Err (Refused r)) = ink ≡ Stopped r
-Writes ink new (Err Memory) = Unit {0}
+Writes ink new (Err (Memory error)) = Unit {0}

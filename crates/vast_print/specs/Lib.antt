@@ -15,3 +15,5 @@ pub mod Pieces
 pub mod Fits
 pub mod Bodies
 pub mod Derived
+pub mod WorkedTexts
+pub mod WorkedPages

@@ -95,4 +95,4 @@ Begins b d old new before after p weight (Ok _) =
     × (pieces_weight b after < pieces_weight b before + weight)
     × PiecesOwned b after
 Begins b d old new before after p weight (Err (Refused r)) = pour d (Wet old) (written p) ≡ Stopped r
-Begins b d old new before after p weight (Err Memory) = Unit {0}
+Begins b d old new before after p weight (Err (Memory error)) = Unit {0}

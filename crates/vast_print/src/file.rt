@@ -8,7 +8,7 @@ ghost use Rattle.vast_core.specs.Sound.{EntrySound};
 ghost use Rattle.vast_core.specs.FileTree.{tree, item_tree};
 ghost use Rattle.vast_core.specs.View.{bench};
 ghost use Rattle.vast_literal.specs.Tree.{IncludeItem};
-ghost use Rattle.vast_print.specs.Derived.{DerivesIfPlain};
+ghost use Rattle.vast_print.specs.Derived.{DerivesIfPlain, FileDerivesIfPlain};
 ghost use Rattle.vast_print.specs.Emits.{Emits, EmitsText, Faults};
 ghost use Rattle.vast_print.specs.Ink.{Writes, Wet, hang, pour, next};
 ghost use Rattle.vast_print.specs.Page.{written};
@@ -20,7 +20,7 @@ use crate::module::print_module;
 use crate::refusal::PrintFault;
 use crate::words;
 use crate::writer::Writer;
-use std::alloc::{AllocError, Global};
+use std::alloc::Global;
 use vast_core::{Ast, Expr, FileItem};
 use vast_literal::{VastError, VastFault};
 
@@ -69,17 +69,20 @@ fn fault_of(alloc: Global, fault: PrintFault) -> VastFault
             Ok(text) => VastFault::Refused(VastError(text)),
             Err(error) => VastFault::Memory(error),
         },
-        PrintFault::Memory => VastFault::Memory(AllocError),
+        PrintFault::Memory(error) => VastFault::Memory(error),
     }
 }
 
-/// The text of a file: the printed layout of its tree.
+/// The text of a file: the printed layout of its tree. Where the file is plain, the grammar derives its normal form from
+/// the text, and no other tree.
 ///
 /// # Errors
 /// The first refusal in the order of the text, a wrong select of a named scalar; or want of memory.
 pub fn print_file(ast: &Ast) -> Result<String, VastFault>
-    ensures { Emits (layout (tree (bench ast.now))) result }
+    ensures text { Emits (layout (tree (bench ast.now))) result }
+    ensures derived { IfOk result (λ text. FileDerivesIfPlain (string_bytes text) (tree (bench ast.now))) }
 {
+    ast.file_is_well_formed();
     let alloc = ast.allocator();
     let mut out = Writer::new(alloc);
     match print_items(ast, &mut out) {

@@ -2,7 +2,9 @@
 //! over all token lists, over the grammar alone.
 
 ghost use Rattle.vast_literal.specs.Grammar.{OneExpression};
-ghost use Rattle.vast_print.specs.Derived.{PrintedExpressions, EqualTexts, PrintedFiles};
+ghost use Rattle.vast_print.specs.Derived.{PrintedExpressions, EqualTexts, PrintedFiles, EqualFiles};
+ghost use Rattle.vast_print.specs.WorkedTexts.{WorkedTexts};
+ghost use Rattle.vast_print.specs.WorkedPages.{WorkedPages};
 ghost use Rattle.vast_literal.specs.FileGrammar.{OneDeclaration, OneStatement, OneMember, OneFile};
 
 /// A token list spells at most one expression.
@@ -30,17 +32,31 @@ pub fn one_file()
     ensures { OneFile }
 {}
 
-/// The text of a plain expression derives its normal form, and no other.
+/// The text of an expression derives its normal form, and no other, where nothing refuses it, the names that it prints are
+/// plain, it has no edges, and it is well formed.
 pub fn printed_expressions()
     ensures { PrintedExpressions }
 {}
 
-/// Plain expressions of equal text have equal normal forms.
+/// Two such expressions of equal text have equal normal forms.
 pub fn equal_texts()
     ensures { EqualTexts }
 {}
 
-/// The printed layout of a plain file derives its normal form, and no other.
+/// The printed layout of a file derives its normal form, and no other, where nothing refuses the file, it is plain and
+/// well formed.
 pub fn printed_files()
     ensures { PrintedFiles }
+{}
+
+/// Two such files of equal text have equal normal forms, whatever their dialects; so have two plain files for which
+/// [`crate::print_file`] answered equal texts.
+pub fn equal_files()
+    ensures { EqualFiles }
+{}
+
+/// What some expressions, declarations, members and files are printed as.
+pub fn worked_texts()
+    ensures texts { WorkedTexts }
+    ensures pages { WorkedPages }
 {}

@@ -33,14 +33,14 @@ impl Refusal {
 pub enum PrintFault {
     /// The tree has no text: the first refusal in the order of the text.
     Refused(Refusal),
-    /// A growth of the text was refused.
-    Memory,
+    /// A growth of the text was refused: the allocator's error.
+    Memory(AllocError),
 }
 
 impl From<AllocError> for PrintFault {
-    ghost from_gives = { λ _ fault. fault ≡ Memory };
+    ghost from_gives = { λ error fault. fault ≡ Memory error };
 
-    fn from(_error: AllocError) -> PrintFault {
-        PrintFault::Memory
+    fn from(error: AllocError) -> PrintFault {
+        PrintFault::Memory(error)
     }
 }

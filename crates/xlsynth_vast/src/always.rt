@@ -3,6 +3,7 @@
 
 ghost use Rattle.std.specs.Prelude.{◌≡◌, Ok, All, [], IfOk, IfErr, Some, map, string_bytes, codes};
 ghost use Rattle.vast_literal.specs.Fault.{RefusedBy};
+ghost use Rattle.vast_core.specs.declared.kind.AlwaysKind.TheVariants.{AlwaysFF, AlwaysAt, AlwaysComb};
 ghost use Rattle.vast_core.specs.Bench.{OwnsModule, OwnsLoop, OwnsExpr, OwnsBlock, OwnsAlways};
 ghost use Rattle.vast_core.specs.Sound.{EventSound};
 ghost use Rattle.vast_core.specs.Loops.{next_always};
@@ -13,7 +14,7 @@ ghost use Rattle.xlsynth_vast.specs.Inspections.{block_at};
 
 use crate::file::VastFile;
 use std::alloc::{AllocError, Global};
-use vast_core::{AlwaysKind, Expr, GenerateLoop, VastAlwaysBase, VastModule, VastStatementBlock};
+use vast_core::{Expr, GenerateLoop, Scope, VastAlwaysBase, VastModule, VastStatementBlock};
 use vast_literal::{VastError, VastFault};
 
 /// The words that refuse the event at this place of a list, for an always block that begins with the word.
@@ -55,10 +56,10 @@ impl VastFile {
     ) -> Result<VastAlwaysBase, VastFault>
         requires owner { OwnsModule (bench self.old) owner }
         requires events { All (λ e. OwnsExpr (bench self.old) e.now) sensitivity_list.now }
-        ensures { MayBuild (bench self.old) (bench self.new) result (unless_wrong_event (codes "always_ff") (bench self.old) (map (λ e. e.now) sensitivity_list.now)) (next_always (bench self.old)) (λ _. with_always_member owner AlwaysKind.AlwaysFF (map (λ e. e.now) sensitivity_list.now) (bench self.old)) }
+        ensures { MayBuild (bench self.old) (bench self.new) result (unless_wrong_event (codes "always_ff") (bench self.old) (map (λ e. e.now) sensitivity_list.now)) (next_always (bench self.old)) (λ _. with_always_member owner AlwaysFF (map (λ e. e.now) sensitivity_list.now) (bench self.old)) }
     {
         let events = self.events("always_ff", sensitivity_list)?;
-        Ok(self.ast.push_always(owner, AlwaysKind::AlwaysFF, events)?)
+        Ok(self.ast.push_always_ff(Scope::Module(owner), events)?)
     }
 
     /// An `always @` with these events and an empty block, as the module's last member; there may be no events.
@@ -72,10 +73,10 @@ impl VastFile {
     ) -> Result<VastAlwaysBase, VastFault>
         requires owner { OwnsModule (bench self.old) owner }
         requires events { All (λ e. OwnsExpr (bench self.old) e.now) sensitivity_list.now }
-        ensures { MayBuild (bench self.old) (bench self.new) result (unless_wrong_event (codes "always @") (bench self.old) (map (λ e. e.now) sensitivity_list.now)) (next_always (bench self.old)) (λ _. with_always_member owner AlwaysKind.AlwaysAt (map (λ e. e.now) sensitivity_list.now) (bench self.old)) }
+        ensures { MayBuild (bench self.old) (bench self.new) result (unless_wrong_event (codes "always @") (bench self.old) (map (λ e. e.now) sensitivity_list.now)) (next_always (bench self.old)) (λ _. with_always_member owner AlwaysAt (map (λ e. e.now) sensitivity_list.now) (bench self.old)) }
     {
         let events = self.events("always @", sensitivity_list)?;
-        Ok(self.ast.push_always(owner, AlwaysKind::AlwaysAt, events)?)
+        Ok(self.ast.push_always_at(Scope::Module(owner), events)?)
     }
 
     /// An `always_comb` with an empty block, as the module's last member.
@@ -84,10 +85,9 @@ impl VastFile {
     /// `Memory` where a growth was refused; the file is unchanged. It is never `Refused`.
     pub fn add_always_comb(&mut self, owner: VastModule) -> Result<VastAlwaysBase, VastFault>
         requires { OwnsModule (bench self.old) owner }
-        ensures { MayBuild (bench self.old) (bench self.new) result no_refusal (next_always (bench self.old)) (λ _. with_always_member owner AlwaysKind.AlwaysComb [] (bench self.old)) }
+        ensures { MayBuild (bench self.old) (bench self.new) result no_refusal (next_always (bench self.old)) (λ _. with_always_member owner AlwaysComb [] (bench self.old)) }
     {
-        let events = Vec::new(self.ast.allocator());
-        Ok(self.ast.push_always(owner, AlwaysKind::AlwaysComb, events)?)
+        Ok(self.ast.push_always_comb(Scope::Module(owner))?)
     }
 
     /// The block of the always block, which is the file's.
@@ -110,13 +110,10 @@ impl VastFile {
     ) -> Result<VastAlwaysBase, VastFault>
         requires generate { OwnsLoop (bench self.old) generate }
         requires events { All (λ e. OwnsExpr (bench self.old) e.now) sensitivity_list.now }
-        ensures { MayBuild (bench self.old) (bench self.new) result (unless_wrong_event (codes "always_ff") (bench self.old) (map (λ e. e.now) sensitivity_list.now)) (next_always (bench self.old)) (λ _. with_loop_always generate AlwaysKind.AlwaysFF (map (λ e. e.now) sensitivity_list.now) (bench self.old)) }
+        ensures { MayBuild (bench self.old) (bench self.new) result (unless_wrong_event (codes "always_ff") (bench self.old) (map (λ e. e.now) sensitivity_list.now)) (next_always (bench self.old)) (λ _. with_loop_always generate AlwaysFF (map (λ e. e.now) sensitivity_list.now) (bench self.old)) }
     {
         let events = self.events("always_ff", sensitivity_list)?;
-        Ok(
-            self.ast
-                .append_loop_always(generate, AlwaysKind::AlwaysFF, events)?,
-        )
+        Ok(self.ast.push_always_ff(Scope::Loop(generate), events)?)
     }
 
     /// An `always @` with these events and an empty block, as the loop's last member; there may be no events.
@@ -130,13 +127,10 @@ impl VastFile {
     ) -> Result<VastAlwaysBase, VastFault>
         requires generate { OwnsLoop (bench self.old) generate }
         requires events { All (λ e. OwnsExpr (bench self.old) e.now) sensitivity_list.now }
-        ensures { MayBuild (bench self.old) (bench self.new) result (unless_wrong_event (codes "always @") (bench self.old) (map (λ e. e.now) sensitivity_list.now)) (next_always (bench self.old)) (λ _. with_loop_always generate AlwaysKind.AlwaysAt (map (λ e. e.now) sensitivity_list.now) (bench self.old)) }
+        ensures { MayBuild (bench self.old) (bench self.new) result (unless_wrong_event (codes "always @") (bench self.old) (map (λ e. e.now) sensitivity_list.now)) (next_always (bench self.old)) (λ _. with_loop_always generate AlwaysAt (map (λ e. e.now) sensitivity_list.now) (bench self.old)) }
     {
         let events = self.events("always @", sensitivity_list)?;
-        Ok(
-            self.ast
-                .append_loop_always(generate, AlwaysKind::AlwaysAt, events)?,
-        )
+        Ok(self.ast.push_always_at(Scope::Loop(generate), events)?)
     }
 
     /// An `always_comb` with an empty block, as the loop's last member.
@@ -148,12 +142,8 @@ impl VastFile {
         generate: GenerateLoop,
     ) -> Result<VastAlwaysBase, VastFault>
         requires { OwnsLoop (bench self.old) generate }
-        ensures { MayBuild (bench self.old) (bench self.new) result no_refusal (next_always (bench self.old)) (λ _. with_loop_always generate AlwaysKind.AlwaysComb [] (bench self.old)) }
+        ensures { MayBuild (bench self.old) (bench self.new) result no_refusal (next_always (bench self.old)) (λ _. with_loop_always generate AlwaysComb [] (bench self.old)) }
     {
-        let events = Vec::new(self.ast.allocator());
-        Ok(
-            self.ast
-                .append_loop_always(generate, AlwaysKind::AlwaysComb, events)?,
-        )
+        Ok(self.ast.push_always_comb(Scope::Loop(generate))?)
     }
 }

@@ -11,7 +11,7 @@ ghost use Rattle.vast_core.specs.View.{bench};
 
 use crate::file::VastFile;
 use std::alloc::AllocError;
-use vast_core::{Expr, VastStatement, VastStatementBlock};
+use vast_core::{Expr, Statement, VastStatement, VastStatementBlock};
 
 impl VastFile {
     /// The assignment `lhs = rhs`, as the block's last statement.
@@ -80,7 +80,8 @@ impl VastFile {
         requires { OwnsBlock (bench self.old) block }
         ensures { Builds (bench self.old) (bench self.new) result tt (with_statement block (CommentStatement text.now) (bench self.old)) }
     {
-        self.ast.append_block_comment(block, text)
+        let text = String::from_str(self.ast.allocator(), text)?;
+        self.ast.append_statement(block, Statement::Comment(text))
     }
 
     /// A text that is written as it is, as the block's last statement.
@@ -95,7 +96,8 @@ impl VastFile {
         requires { OwnsBlock (bench self.old) block }
         ensures { Builds (bench self.old) (bench self.new) result tt (with_statement block (InlineStatement text.now) (bench self.old)) }
     {
-        self.ast.append_block_inline(block, text)
+        let text = String::from_str(self.ast.allocator(), text)?;
+        self.ast.append_statement(block, Statement::Inline(text))
     }
 
     /// A blank line, as the block's last statement.
@@ -106,6 +108,6 @@ impl VastFile {
         requires { OwnsBlock (bench self.old) block }
         ensures { Builds (bench self.old) (bench self.new) result tt (with_statement block BlankStatement (bench self.old)) }
     {
-        self.ast.append_block_blank_line(block)
+        self.ast.append_statement(block, Statement::BlankLine)
     }
 }

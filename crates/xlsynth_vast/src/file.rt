@@ -4,7 +4,7 @@ ghost use Rattle.std.specs.Prelude.{◌≡◌, ◌+◌, ◌↔◌, IsTrue, IsErr
 ghost use Rattle.vast_core.specs.Bench.{start, tree_of, OwnsExpr};
 ghost use Rattle.vast_core.specs.FileTree.{tree};
 ghost use Rattle.vast_core.specs.View.{bench};
-ghost use Rattle.vast_print.specs.Derived.{DerivesIfPlain};
+ghost use Rattle.vast_print.specs.Derived.{DerivesIfPlain, FileDerivesIfPlain};
 ghost use Rattle.vast_print.specs.Emits.{Emits, EmitsText};
 ghost use Rattle.vast_print.specs.Text.{expr_text};
 ghost use Rattle.vast_print.specs.Layout.{layout};
@@ -85,13 +85,15 @@ impl VastFile {
         print_expr(&self.ast, *e)
     }
 
-    /// The text of the file: the printed layout of its tree.
+    /// The text of the file: the printed layout of its tree. Where the file is plain, the grammar derives its normal form
+    /// from the text, and no other tree.
     ///
     /// # Errors
     /// `Refused` exactly where the tree has no text, with the first refusal in the order of the text: a printed index
     /// or slice of a named scalar with a bound that is no literal of value zero. `Memory` where a growth was refused.
     pub fn emit(&self) -> Result<String, VastFault>
-        ensures { Emits (layout (tree (bench self.now))) result }
+        ensures text { Emits (layout (tree (bench self.now))) result }
+        ensures derived { IfOk result (λ text. FileDerivesIfPlain (string_bytes text) (tree (bench self.now))) }
     {
         print_file(&self.ast)
     }

@@ -17,7 +17,8 @@ use crate::file::VastFile;
 use std::alloc::{AllocError, Global};
 use vast_core::{
     Comment, Conditional, Def, Expr, GenerateLoop, InlineVerilogStatement, Instantiation,
-    LocalparamRef, LogicRef, MacroStatement, VastModule, VastStatement,
+    LocalparamRef, LogicRef, MacroStatement, Member, ParameterForm, Scope, VastModule,
+    VastStatement,
 };
 
 /// The label as a text of its own, if there is one.
@@ -50,7 +51,8 @@ impl VastFile {
         ensures { Builds (bench self.old) (bench self.new) result (next_loop (bench self.old)) (with_member owner (LoopEntry (next_loop (bench self.old))) (with_loop name.now start.now end.now (option_copied label.entry) (bench self.old))) }
     {
         let label = own_label(self.ast.allocator(), label)?;
-        self.ast.push_loop(owner, name, *start, *end, label)
+        self.ast
+            .push_loop(Scope::Module(owner), name, *start, *end, label)
     }
 
     /// A generate loop without members, as the last member of the loop `parent`; otherwise as
@@ -72,7 +74,8 @@ impl VastFile {
         ensures { Builds (bench self.old) (bench self.new) result (next_loop (bench self.old)) (with_loop_member parent (LoopEntry (next_loop (bench self.old))) (with_loop name.now start.now end.now (option_copied label.entry) (bench self.old))) }
     {
         let label = own_label(self.ast.allocator(), label)?;
-        self.ast.append_loop_loop(parent, name, *start, *end, label)
+        self.ast
+            .push_loop(Scope::Loop(parent), name, *start, *end, label)
     }
 
     /// The loop's variable as an expression, which is the file's.
@@ -98,7 +101,8 @@ impl VastFile {
         requires rhs { OwnsExpr (bench self.old) rhs.now }
         ensures { Builds (bench self.old) (bench self.new) result (next_localparam_ref (bench self.old)) (with_plain_loop_parameter generate name.now rhs.now (bench self.old)) }
     {
-        self.ast.append_loop_localparam(generate, name, *rhs)
+        let form = ParameterForm::Plain(String::from_str(self.ast.allocator(), name)?);
+        self.ast.push_localparam(Scope::Loop(generate), form, *rhs)
     }
 
     /// A local parameter with the definition's kind, type and name, as the loop's last member; answers its name.
@@ -116,8 +120,8 @@ impl VastFile {
         requires rhs { OwnsExpr (bench self.old) rhs.now }
         ensures { Builds (bench self.old) (bench self.new) result (next_localparam_ref (bench self.old)) (with_defined_loop_parameter generate definition.now rhs.now (bench self.old)) }
     {
-        self.ast
-            .append_loop_localparam_with_def(generate, *definition, *rhs)
+        let form = ParameterForm::Defined(*definition);
+        self.ast.push_localparam(Scope::Loop(generate), form, *rhs)
     }
 
     /// The assignment `assign lhs = rhs`, as the loop's last member.
@@ -135,7 +139,8 @@ impl VastFile {
         requires rhs { OwnsExpr (bench self.old) rhs.now }
         ensures { Builds (bench self.old) (bench self.new) result (next_statement (bench self.old)) (with_loop_member generate (AssignmentEntry (next_continuous (bench self.old))) (with_assignment (record { lhs = lhs.now; rhs = rhs.now; nonblocking = false }) (bench self.old))) }
     {
-        self.ast.append_loop_assignment(generate, *lhs, *rhs)
+        self.ast
+            .append_assignment(Scope::Loop(generate), *lhs, *rhs)
     }
 
     /// A conditional with an empty block, as the loop's last member.
@@ -151,7 +156,7 @@ impl VastFile {
         requires condition { OwnsExpr (bench self.old) condition.now }
         ensures { Builds (bench self.old) (bench self.new) result (next_conditional (bench self.old)) (with_loop_member generate (ConditionalEntry (next_conditional (bench self.old))) (with_conditional condition.now (bench self.old))) }
     {
-        self.ast.append_loop_conditional(generate, *condition)
+        self.ast.push_conditional(Scope::Loop(generate), *condition)
     }
 
     /// A blank line, as the loop's last member.
@@ -162,7 +167,8 @@ impl VastFile {
         requires { OwnsLoop (bench self.old) generate }
         ensures { Builds (bench self.old) (bench self.new) result tt (with_loop_member generate BlankEntry (bench self.old)) }
     {
-        self.ast.append_loop_blank_line(generate)
+        self.ast
+            .append_member(Scope::Loop(generate), Member::BlankLine)
     }
 
     /// The comment, as the loop's last member.
@@ -178,7 +184,8 @@ impl VastFile {
         requires comment { OwnsComment (bench self.old) comment.now }
         ensures { Builds (bench self.old) (bench self.new) result tt (with_loop_member generate (CommentEntry comment.now) (bench self.old)) }
     {
-        self.ast.append_loop_comment(generate, *comment)
+        self.ast
+            .append_member(Scope::Loop(generate), Member::Comment(*comment))
     }
 
     /// The instantiation, as the loop's last member.
@@ -194,7 +201,7 @@ impl VastFile {
         requires instantiation { OwnsInstantiation (bench self.old) instantiation.now }
         ensures { Builds (bench self.old) (bench self.new) result tt (with_loop_member generate (InstanceEntry instantiation.now) (bench self.old)) }
     {
-        self.ast.append_loop_instantiation(generate, *instantiation)
+        self.ast.append_member(Scope::Loop(generate), Member::Instantiation(*instantiation))
     }
 
     /// The text, as the loop's last member.
@@ -210,7 +217,8 @@ impl VastFile {
         requires statement { OwnsInline (bench self.old) statement.now }
         ensures { Builds (bench self.old) (bench self.new) result tt (with_loop_member generate (InlineEntry statement.now) (bench self.old)) }
     {
-        self.ast.append_loop_inline(generate, *statement)
+        self.ast
+            .append_member(Scope::Loop(generate), Member::Inline(*statement))
     }
 
     /// The use of a macro, as the loop's last member.
@@ -226,6 +234,7 @@ impl VastFile {
         requires statement { OwnsMacroStatement (bench self.old) statement.now }
         ensures { Builds (bench self.old) (bench self.new) result tt (with_loop_member generate (MacroEntry statement.now) (bench self.old)) }
     {
-        self.ast.append_loop_macro_statement(generate, *statement)
+        self.ast
+            .append_member(Scope::Loop(generate), Member::Macro(*statement))
     }
 }

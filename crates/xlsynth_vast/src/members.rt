@@ -10,7 +10,7 @@ use crate::file::VastFile;
 use std::alloc::AllocError;
 use vast_core::{
     BlankLine, Comment, ContinuousAssignment, InlineVerilogStatement, Instantiation,
-    MacroStatement, VastModule,
+    MacroStatement, Member, Scope, VastModule,
 };
 
 impl VastFile {
@@ -27,7 +27,8 @@ impl VastFile {
         requires instantiation { OwnsInstantiation (bench self.old) instantiation }
         ensures { Builds (bench self.old) (bench self.new) result tt (with_member owner (InstanceEntry instantiation) (bench self.old)) }
     {
-        self.ast.append_instantiation(owner, instantiation)
+        self.ast
+            .append_member(Scope::Module(owner), Member::Instantiation(instantiation))
     }
 
     /// The assignment, as the module's last member.
@@ -43,7 +44,10 @@ impl VastFile {
         requires assignment { OwnsContinuous (bench self.old) assignment }
         ensures { Builds (bench self.old) (bench self.new) result tt (with_member owner (AssignmentEntry assignment) (bench self.old)) }
     {
-        self.ast.append_continuous(owner, assignment)
+        self.ast.append_member(
+            Scope::Module(owner),
+            Member::ContinuousAssignment(assignment),
+        )
     }
 
     /// A blank line, as the module's last member.
@@ -59,7 +63,8 @@ impl VastFile {
         requires blank { OwnsBlankLine (bench self.old) blank }
         ensures { Builds (bench self.old) (bench self.new) result tt (with_member owner BlankEntry (bench self.old)) }
     {
-        self.ast.append_blank_line(owner, blank)
+        self.ast
+            .append_member(Scope::Module(owner), Member::BlankLine)
     }
 
     /// The comment, as the module's last member.
@@ -75,7 +80,8 @@ impl VastFile {
         requires comment { OwnsComment (bench self.old) comment }
         ensures { Builds (bench self.old) (bench self.new) result tt (with_member owner (CommentEntry comment) (bench self.old)) }
     {
-        self.ast.append_comment(owner, comment)
+        self.ast
+            .append_member(Scope::Module(owner), Member::Comment(comment))
     }
 
     /// The text, as the module's last member.
@@ -91,7 +97,8 @@ impl VastFile {
         requires statement { OwnsInline (bench self.old) statement }
         ensures { Builds (bench self.old) (bench self.new) result tt (with_member owner (InlineEntry statement) (bench self.old)) }
     {
-        self.ast.append_inline(owner, statement)
+        self.ast
+            .append_member(Scope::Module(owner), Member::Inline(statement))
     }
 
     /// The use of a macro, as the module's last member.
@@ -107,6 +114,7 @@ impl VastFile {
         requires statement { OwnsMacroStatement (bench self.old) statement }
         ensures { Builds (bench self.old) (bench self.new) result tt (with_member owner (MacroEntry statement) (bench self.old)) }
     {
-        self.ast.append_macro_statement(owner, statement)
+        self.ast
+            .append_member(Scope::Module(owner), Member::Macro(statement))
     }
 }

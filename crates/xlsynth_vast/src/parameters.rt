@@ -10,7 +10,10 @@ ghost use Rattle.vast_core.specs.View.{bench};
 
 use crate::file::VastFile;
 use std::alloc::AllocError;
-use vast_core::{Def, Expr, LocalparamRef, LogicRef, ParameterRef, VastDataType, VastModule};
+use vast_core::{
+    Def, Expr, LocalparamRef, LogicRef, ParameterForm, ParameterRef, Scope, VastDataType,
+    VastModule,
+};
 
 impl VastFile {
     /// A parameter without a type, as the last of the module's header; answers its name as an expression.
@@ -64,7 +67,8 @@ impl VastFile {
         requires rhs { OwnsExpr (bench self.old) rhs.now }
         ensures { Builds (bench self.old) (bench self.new) result (next_parameter_ref (bench self.old)) (with_plain_parameter owner false name.now rhs.now (bench self.old)) }
     {
-        self.ast.push_parameter(owner, name, *rhs)
+        let form = ParameterForm::Plain(String::from_str(self.ast.allocator(), name)?);
+        self.ast.push_parameter(owner, form, *rhs)
     }
 
     /// A parameter with the definition's kind, type and name, as the module's last member; answers its name.
@@ -82,7 +86,8 @@ impl VastFile {
         requires rhs { OwnsExpr (bench self.old) rhs.now }
         ensures { Builds (bench self.old) (bench self.new) result (next_parameter_ref (bench self.old)) (with_defined_parameter owner false definition.now rhs.now (bench self.old)) }
     {
-        self.ast.push_parameter_with_def(owner, *definition, *rhs)
+        let form = ParameterForm::Defined(*definition);
+        self.ast.push_parameter(owner, form, *rhs)
     }
 
     /// `localparam NAME = VALUE`, as the module's last member; answers its name.
@@ -99,7 +104,8 @@ impl VastFile {
         requires rhs { OwnsExpr (bench self.old) rhs.now }
         ensures { Builds (bench self.old) (bench self.new) result (next_localparam_ref (bench self.old)) (with_plain_parameter owner true name.now rhs.now (bench self.old)) }
     {
-        self.ast.push_localparam(owner, name, *rhs)
+        let form = ParameterForm::Plain(String::from_str(self.ast.allocator(), name)?);
+        self.ast.push_localparam(Scope::Module(owner), form, *rhs)
     }
 
     /// `localparam int NAME = VALUE`, as the module's last member; answers its name.
@@ -116,7 +122,8 @@ impl VastFile {
         requires rhs { OwnsExpr (bench self.old) rhs.now }
         ensures { Builds (bench self.old) (bench self.new) result (next_localparam_ref (bench self.old)) (with_int_parameter owner true name.now rhs.now (bench self.old)) }
     {
-        self.ast.push_int_localparam(owner, name, *rhs)
+        let form = ParameterForm::Int(String::from_str(self.ast.allocator(), name)?);
+        self.ast.push_localparam(Scope::Module(owner), form, *rhs)
     }
 
     /// A local parameter with the definition's kind, type and name, as the module's last member; answers its name.
@@ -134,6 +141,7 @@ impl VastFile {
         requires rhs { OwnsExpr (bench self.old) rhs.now }
         ensures { Builds (bench self.old) (bench self.new) result (next_localparam_ref (bench self.old)) (with_defined_parameter owner true definition.now rhs.now (bench self.old)) }
     {
-        self.ast.push_localparam_with_def(owner, *definition, *rhs)
+        let form = ParameterForm::Defined(*definition);
+        self.ast.push_localparam(Scope::Module(owner), form, *rhs)
     }
 }

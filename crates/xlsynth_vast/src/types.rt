@@ -15,7 +15,7 @@ ghost use Rattle.xlsynth_vast.specs.Widths.{declared_width, flat_bits};
 use crate::file::VastFile;
 use crate::refusals::{count_exceeds, no_declared_width, no_known_width, no_literal};
 use std::alloc::AllocError;
-use vast_core::{BitCountFault, Expr, VastDataType, WidthFault};
+use vast_core::{BitCountFault, Expr, TypeNode, VastDataType, WidthFault};
 use vast_literal::VastFault;
 
 impl VastFile {
@@ -26,7 +26,7 @@ impl VastFile {
     pub fn make_scalar_type(&mut self) -> Result<VastDataType, AllocError>
         ensures { Builds (bench self.old) (bench self.new) result (next_type (bench self.old)) (with_type (bench self.old) (ScalarTree false)) }
     {
-        self.ast.push_scalar(false)
+        self.ast.push_type(TypeNode::Scalar(false))
     }
 
     /// The type of `bit_count` bits; of one bit it is a scalar.
@@ -42,7 +42,7 @@ impl VastFile {
         ensures { Builds (bench self.old) (bench self.new) result (next_bit_vector bit_count (bench self.old)) (with_bit_vector bit_count signed (bench self.old)) }
     {
         if bit_count == 1 {
-            self.ast.push_scalar(signed)
+            self.ast.push_type(TypeNode::Scalar(signed))
         } else {
             self.ast.push_vector(bit_count, signed)
         }
@@ -61,7 +61,8 @@ impl VastFile {
         requires usable { IsUsableWidth (tree_of (bench self.old) width.now) }
         ensures { Builds (bench self.old) (bench self.new) result (next_type (bench self.old)) (with_vector_expr width.now signed (bench self.old)) }
     {
-        self.ast.push_vector_expr(*width, signed)
+        let value = self.ast.expr(*width).literal_value();
+        self.ast.push_type(TypeNode::Vector(*width, value, signed))
     }
 
     /// Verilog's `integer`.
@@ -71,7 +72,7 @@ impl VastFile {
     pub fn make_integer_type(&mut self, signed: bool) -> Result<VastDataType, AllocError>
         ensures { Builds (bench self.old) (bench self.new) result (next_type (bench self.old)) (with_type (bench self.old) (IntegerTree signed)) }
     {
-        self.ast.push_integer(signed)
+        self.ast.push_type(TypeNode::Integer(signed))
     }
 
     /// SystemVerilog's `int`.
@@ -81,7 +82,7 @@ impl VastFile {
     pub fn make_int_type(&mut self, signed: bool) -> Result<VastDataType, AllocError>
         ensures { Builds (bench self.old) (bench self.new) result (next_type (bench self.old)) (with_type (bench self.old) (IntTree signed)) }
     {
-        self.ast.push_int(signed)
+        self.ast.push_type(TypeNode::Int(signed))
     }
 
     /// A type of this name that is declared elsewhere.
@@ -91,7 +92,8 @@ impl VastFile {
     pub fn make_extern_type(&mut self, name: &str) -> Result<VastDataType, AllocError>
         ensures { Builds (bench self.old) (bench self.new) result (next_type (bench self.old)) (with_type (bench self.old) (ExternalTree name.now)) }
     {
-        self.ast.push_external(name)
+        let name = String::from_str(self.ast.allocator(), name)?;
+        self.ast.push_type(TypeNode::External(name))
     }
 
     /// A type of this name that is declared in a package, `package::name`.
@@ -105,7 +107,9 @@ impl VastFile {
     ) -> Result<VastDataType, AllocError>
         ensures { Builds (bench self.old) (bench self.new) result (next_type (bench self.old)) (with_type (bench self.old) (PackageTree package_name.now name.now)) }
     {
-        self.ast.push_package(package_name, name)
+        let package_name = String::from_str(self.ast.allocator(), package_name)?;
+        let name = String::from_str(self.ast.allocator(), name)?;
+        self.ast.push_type(TypeNode::Package(package_name, name))
     }
 
     /// The packed array of elements of a type, with its dimensions from the outermost;
@@ -123,7 +127,8 @@ impl VastFile {
         requires dimensions { AreDimensions dimensions.now }
         ensures { Builds (bench self.old) (bench self.new) result (next_type (bench self.old)) (with_packed element dimensions.now (bench self.old)) }
     {
-        self.ast.push_packed(element, dimensions)
+        let dimensions = Vec::from_slice(self.ast.allocator(), dimensions)?;
+        self.ast.push_type(TypeNode::Packed(element, dimensions))
     }
 
     /// The unpacked array of elements of a type, with its dimensions from the outermost.
@@ -139,7 +144,8 @@ impl VastFile {
         requires dimensions { AreDimensions dimensions.now }
         ensures { Builds (bench self.old) (bench self.new) result (next_type (bench self.old)) (with_unpacked element dimensions.now (bench self.old)) }
     {
-        self.ast.push_unpacked(element, dimensions)
+        let dimensions = Vec::from_slice(self.ast.allocator(), dimensions)?;
+        self.ast.push_type(TypeNode::Unpacked(element, dimensions))
     }
 
     /// Whether the expression may be a vector's width: it isn't a literal with a value below 1.

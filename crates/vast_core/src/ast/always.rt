@@ -1,38 +1,37 @@
 //! Always blocks.
 
-ghost use Rattle.std.specs.Prelude.{◌≡◌, All, None, Some, slice_get};
+ghost use Rattle.std.specs.Prelude.{◌≡◌, All, None, Some, [], slice_get};
+ghost use Rattle.vast_core.specs.declared.kind.AlwaysKind.TheVariants.{AlwaysFF, AlwaysAt, AlwaysComb};
 ghost use Rattle.vast_core.specs.Handles.{always_index};
 ghost use Rattle.vast_core.specs.Records.{AlwaysEntry};
 ghost use Rattle.vast_core.specs.Nests.{always_record};
-ghost use Rattle.vast_core.specs.Bench.{OwnsModule, OwnsLoop, OwnsAlways, OwnsBlock};
+ghost use Rattle.vast_core.specs.Bench.{OwnsAlways, OwnsBlock};
 ghost use Rattle.vast_core.specs.Sound.{EventSound};
-ghost use Rattle.vast_core.specs.Growth.{Builds, with_member};
-ghost use Rattle.vast_core.specs.Loops.{next_always, with_always, with_loop_member};
+ghost use Rattle.vast_core.specs.Growth.{Builds};
+ghost use Rattle.vast_core.specs.Loops.{next_always, with_always};
+ghost use Rattle.vast_core.specs.Unattached.{with_always_over};
+ghost use Rattle.vast_core.specs.Scopes.{OwnsScope, IsOlder, with_scope_member};
 ghost use Rattle.vast_core.specs.View.{bench};
 
 use crate::ast::Ast;
-use crate::ast::growth::{Arrivals, Entry, Place};
-use crate::handle::{Expr, GenerateLoop, VastAlwaysBase, VastModule, VastStatementBlock};
+use crate::ast::growth::Arrivals;
+use crate::ast::scope::Scope;
+use crate::handle::{Expr, VastAlwaysBase, VastStatementBlock};
 use crate::kind::AlwaysKind;
 use crate::node::{AlwaysBlock, Member};
 use std::alloc::AllocError;
 
 impl Ast {
-    /// Adds an always block as the module's last member, with these events and an empty block. Each event is an edge
-    /// or a name.
-    ///
-    /// # Errors
-    /// `AllocError` where a growth was refused; nothing changed.
-    #[tactic(auto, using(crate::proofs::EntersMembers::enters_members))]
-    pub fn push_always(
+    #[tactic(auto, using(crate::proofs::EntersScopes::enters_scopes))]
+    fn push_always(
         &mut self,
-        owner: VastModule,
+        scope: Scope,
         kind: AlwaysKind,
         events: Vec<Expr>,
     ) -> Result<VastAlwaysBase, AllocError>
-        requires owner { OwnsModule (bench self.old) owner }
+        requires scope { OwnsScope (bench self.old) scope }
         requires events { All (EventSound (bench self.old)) events.items }
-        ensures { Builds (bench self.old) (bench self.new) result (next_always (bench self.old)) (with_member owner (AlwaysEntry (next_always (bench self.old))) (with_always kind events.items (bench self.old))) }
+        ensures { Builds (bench self.old) (bench self.new) result (next_always (bench self.old)) (with_scope_member scope (AlwaysEntry (next_always (bench self.old))) (with_always kind events.items (bench self.old))) }
     {
         let always_block = VastAlwaysBase {
             id: self.next_always_block(),
@@ -40,8 +39,9 @@ impl Ast {
         let block = VastStatementBlock {
             id: self.next_nest(),
         };
-        self.grow(
-            Place::Module(owner, Member::Always(always_block), None),
+        self.grow_in(
+            scope,
+            Member::Always(always_block),
             Arrivals {
                 block: true,
                 always_block: Some(AlwaysBlock {
@@ -55,37 +55,83 @@ impl Ast {
         Ok(always_block)
     }
 
-    /// Adds an always block as the loop's last member, with these events and an empty block. Each event is an edge or
-    /// a name.
+    /// Adds an `always_ff` block as the scope's last member, with these events and an empty block. Each event is an edge
+    /// or a name ([`Ast::first_wrong_event`]).
     ///
     /// # Errors
     /// `AllocError` where a growth was refused; nothing changed.
-    #[tactic(auto, using(crate::proofs::EntersMembers::enters_members))]
-    pub fn append_loop_always(
+    pub fn push_always_ff(
         &mut self,
-        owner: GenerateLoop,
-        kind: AlwaysKind,
+        scope: Scope,
         events: Vec<Expr>,
     ) -> Result<VastAlwaysBase, AllocError>
-        requires owner { OwnsLoop (bench self.old) owner }
+        requires scope { OwnsScope (bench self.old) scope }
         requires events { All (EventSound (bench self.old)) events.items }
-        ensures { Builds (bench self.old) (bench self.new) result (next_always (bench self.old)) (with_loop_member owner (AlwaysEntry (next_always (bench self.old))) (with_always kind events.items (bench self.old))) }
+        ensures { Builds (bench self.old) (bench self.new) result (next_always (bench self.old)) (with_scope_member scope (AlwaysEntry (next_always (bench self.old))) (with_always AlwaysFF events.items (bench self.old))) }
     {
+        self.push_always(scope, AlwaysKind::AlwaysFF, events)
+    }
+
+    /// Adds an `always` block as the scope's last member, with these events and an empty block. Each event is an edge or
+    /// a name ([`Ast::first_wrong_event`]).
+    ///
+    /// # Errors
+    /// `AllocError` where a growth was refused; nothing changed.
+    pub fn push_always_at(
+        &mut self,
+        scope: Scope,
+        events: Vec<Expr>,
+    ) -> Result<VastAlwaysBase, AllocError>
+        requires scope { OwnsScope (bench self.old) scope }
+        requires events { All (EventSound (bench self.old)) events.items }
+        ensures { Builds (bench self.old) (bench self.new) result (next_always (bench self.old)) (with_scope_member scope (AlwaysEntry (next_always (bench self.old))) (with_always AlwaysAt events.items (bench self.old))) }
+    {
+        self.push_always(scope, AlwaysKind::AlwaysAt, events)
+    }
+
+    /// Adds an `always_comb` block as the scope's last member, with an empty block.
+    ///
+    /// # Errors
+    /// `AllocError` where a growth was refused; nothing changed.
+    pub fn push_always_comb(&mut self, scope: Scope) -> Result<VastAlwaysBase, AllocError>
+        requires { OwnsScope (bench self.old) scope }
+        ensures { Builds (bench self.old) (bench self.new) result (next_always (bench self.old)) (with_scope_member scope (AlwaysEntry (next_always (bench self.old))) (with_always AlwaysComb [] (bench self.old))) }
+    {
+        let events = Vec::new(self.alloc);
+        self.push_always(scope, AlwaysKind::AlwaysComb, events)
+    }
+
+    /// Adds an `always_ff` block as the scope's last member, with these events, over the file's spare block
+    /// ([`Ast::spare_block`]), which a loop must be older than. Each event is an edge or a name.
+    ///
+    /// # Errors
+    /// `AllocError` where a growth was refused; nothing changed.
+    pub fn push_always_ff_over(
+        &mut self,
+        scope: Scope,
+        events: Vec<Expr>,
+        block: VastStatementBlock,
+    ) -> Result<VastAlwaysBase, AllocError>
+        requires scope { OwnsScope (bench self.old) scope }
+        requires events { All (EventSound (bench self.old)) events.items }
+        requires spare { (bench self.old).spare ≡ Some block }
+        requires older { IsOlder scope block }
+        ensures { Builds (bench self.old) (bench self.new) result (next_always (bench self.old)) (with_scope_member scope (AlwaysEntry (next_always (bench self.old))) (with_always_over AlwaysFF events.items block (bench self.old))) }
+    {
+        self.file_is_sound();
         let always_block = VastAlwaysBase {
             id: self.next_always_block(),
         };
-        let block = VastStatementBlock {
-            id: self.next_nest(),
-        };
-        self.grow(
-            Place::Nest(owner.id.index, Entry::Member(Member::Always(always_block))),
+        self.grow_in(
+            scope,
+            Member::Always(always_block),
             Arrivals {
-                block: true,
                 always_block: Some(AlwaysBlock {
-                    kind,
+                    kind: AlwaysKind::AlwaysFF,
                     events,
                     block,
                 }),
+                takes_spare: true,
                 ..Arrivals::none()
             },
         )?;

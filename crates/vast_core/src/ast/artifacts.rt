@@ -4,6 +4,7 @@ ghost use Rattle.std.specs.Prelude.{◌≡◌, All, Some, length, slice_get, map
 ghost use Rattle.vast_core.specs.Handles.{definition_index, comment_index, inline_index, macro_statement_index, instantiation_index};
 ghost use Rattle.vast_core.specs.Records.{artifact_record, definition_record, connection_record, instance_record, BlankLineRecord, CommentRecord, InlineRecord, MacroRecord};
 ghost use Rattle.vast_core.specs.Bench.{OwnsType, OwnsMacroRef, OwnsDef, OwnsComment, OwnsInline, OwnsMacroStatement, OwnsInstantiation};
+ghost use Rattle.vast_core.specs.WrittenKinds.{HasValue};
 ghost use Rattle.vast_core.specs.Sound.{ArtifactSound, ConnectionSound};
 ghost use Rattle.vast_core.specs.Growth.{Builds};
 ghost use Rattle.vast_core.specs.Artifacts.{next_def, with_definition, next_artifact, next_blank_line, next_comment, next_inline, next_macro_statement, with_artifact, next_instantiation, with_instance};
@@ -117,7 +118,7 @@ impl Ast {
         Ok(MacroStatement { id })
     }
 
-    /// Adds an instantiation of a module, which no list holds yet.
+    /// Adds an instantiation of a module, which no list holds yet. Each parameter has a value.
     ///
     /// # Errors
     /// `AllocError` where a growth was refused; nothing changed.
@@ -130,6 +131,7 @@ impl Ast {
         connections: Vec<Connection>,
     ) -> Result<Instantiation, AllocError>
         requires parameters { All (λ c. ConnectionSound (bench self.old) (connection_record c)) parameters.items }
+        requires values { All (λ c. HasValue (connection_record c)) parameters.items }
         requires connections { All (λ c. ConnectionSound (bench self.old) (connection_record c)) connections.items }
         ensures { Builds (bench self.old) (bench self.new) result (next_instantiation (bench self.old)) (with_instance (record { module_name = module_name.now; instance_name = instance_name.now; parameters = map connection_record parameters.items; connections = map connection_record connections.items }) (bench self.old)) }
     {

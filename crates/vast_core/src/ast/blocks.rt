@@ -2,7 +2,7 @@
 
 ghost use Rattle.std.specs.Prelude.{[], ◌≡◌, ◌<◌, ◌^◌, false, All, Some, map, slice_get};
 ghost use Rattle.vast_core.specs.Handles.{block_index};
-ghost use Rattle.vast_core.specs.Nests.{statement_entry, BlockRecord, AssignStatement, ContinuousStatement, BlankStatement, CommentStatement, InlineStatement};
+ghost use Rattle.vast_core.specs.Nests.{statement_entry, BlockRecord, AssignStatement, ContinuousStatement};
 ghost use Rattle.vast_core.specs.Parents.{held_by_statement};
 ghost use Rattle.vast_core.specs.Bench.{OwnsBlock, OwnsExpr};
 ghost use Rattle.vast_core.specs.Sound.{StatementSound};
@@ -19,8 +19,12 @@ use crate::node::{Assignment, Nest, Statement};
 use std::alloc::AllocError;
 
 impl Ast {
+    /// Appends a statement to the block: an assignment, a comment, a text or a blank line.
+    ///
+    /// # Errors
+    /// `AllocError` where a growth was refused; nothing changed.
     #[tactic(auto, using(crate::proofs::Enters::enters))]
-    fn append_statement(
+    pub fn append_statement(
         &mut self,
         owner: VastStatementBlock,
         statement: Statement,
@@ -34,49 +38,6 @@ impl Ast {
             Place::Nest(owner.id.index, Entry::Statement(statement)),
             Arrivals::none(),
         )
-    }
-
-    /// Appends a comment to the block.
-    ///
-    /// # Errors
-    /// `AllocError` where a growth was refused; nothing changed.
-    pub fn append_block_comment(
-        &mut self,
-        owner: VastStatementBlock,
-        text: &str,
-    ) -> Result<(), AllocError>
-        requires { OwnsBlock (bench self.old) owner }
-        ensures { Builds (bench self.old) (bench self.new) result tt (with_statement owner (CommentStatement text.now) (bench self.old)) }
-    {
-        let text = String::from_str(self.alloc, text)?;
-        self.append_statement(owner, Statement::Comment(text))
-    }
-
-    /// Appends a text that is written as it is to the block.
-    ///
-    /// # Errors
-    /// `AllocError` where a growth was refused; nothing changed.
-    pub fn append_block_inline(
-        &mut self,
-        owner: VastStatementBlock,
-        text: &str,
-    ) -> Result<(), AllocError>
-        requires { OwnsBlock (bench self.old) owner }
-        ensures { Builds (bench self.old) (bench self.new) result tt (with_statement owner (InlineStatement text.now) (bench self.old)) }
-    {
-        let text = String::from_str(self.alloc, text)?;
-        self.append_statement(owner, Statement::Inline(text))
-    }
-
-    /// Appends a blank line to the block.
-    ///
-    /// # Errors
-    /// `AllocError` where a growth was refused; nothing changed.
-    pub fn append_block_blank_line(&mut self, owner: VastStatementBlock) -> Result<(), AllocError>
-        requires { OwnsBlock (bench self.old) owner }
-        ensures { Builds (bench self.old) (bench self.new) result tt (with_statement owner BlankStatement (bench self.old)) }
-    {
-        self.append_statement(owner, Statement::BlankLine)
     }
 
     /// Appends an assignment to the block, `lhs <= rhs` where it is nonblocking.

@@ -10,15 +10,18 @@ ghost use Rattle.vast_core.specs.FileTree.{BranchFamily, SwitchFamily, families,
 ghost use Rattle.vast_core.specs.Kinds.{case_word};
 ghost use Rattle.vast_literal.specs.Tree.{CaseTree};
 ghost use Rattle.vast_core.specs.Growth.{Builds};
-ghost use Rattle.vast_core.specs.Containers.{InNest, GrowthSound, fresh_block, with_nest_entry, with_block, with_statement, next_conditional, with_conditional, next_case, with_case, next_block, with_else_if, with_else, with_case_arm, has_else, with_unique, with_case_unique};
+ghost use Rattle.vast_core.specs.Containers.{InNest, GrowthSound, new_conditional, fresh_block, with_nest_entry, with_block, with_statement, next_conditional, with_conditional, next_case, with_case, next_block, with_else_if, with_else, with_case_arm, has_else, with_unique, with_case_unique};
 ghost use Rattle.vast_core.specs.Arrivals.{entry_of};
+ghost use Rattle.vast_core.specs.Records.{ConditionalEntry};
+ghost use Rattle.vast_core.specs.Scopes.{OwnsScope, with_scope_member};
 ghost use Rattle.vast_core.specs.View.{bench};
 
 use crate::ast::Ast;
 use crate::ast::growth::{Arrivals, Entry, Place};
+use crate::ast::scope::Scope;
 use crate::handle::{CaseStatement, Conditional, Expr, VastStatementBlock};
 use crate::kind::CaseKind;
-use crate::node::{CaseArm, CaseNode, ConditionalNode, ElseIf, Nest, Statement};
+use crate::node::{CaseArm, CaseNode, ConditionalNode, ElseIf, Member, Nest, Statement};
 use std::alloc::AllocError;
 
 impl Nest {
@@ -41,6 +44,50 @@ impl Ast {
         target.set_unique(unique);
     }
 
+    /// Adds a conditional as the scope's last member, with an empty block as its first arm.
+    ///
+    /// # Errors
+    /// `AllocError` where a growth was refused; nothing changed.
+    #[tactic(auto, using(crate::proofs::EntersScopes::enters_scopes))]
+    pub fn push_conditional(
+        &mut self,
+        scope: Scope,
+        condition: Expr,
+    ) -> Result<Conditional, AllocError>
+        requires scope { OwnsScope (bench self.old) scope }
+        requires condition { OwnsExpr (bench self.old) condition }
+        ensures { Builds (bench self.old) (bench self.new) result (next_conditional (bench self.old)) (with_scope_member scope (ConditionalEntry (next_conditional (bench self.old))) (with_conditional condition (bench self.old))) }
+    {
+        let conditional = Conditional {
+            id: self.next_nest(),
+        };
+        let node = self.new_conditional(condition);
+        self.grow_in(
+            scope,
+            Member::Conditional(conditional),
+            Arrivals {
+                container: Some(node),
+                block: true,
+                ..Arrivals::none()
+            },
+        )?;
+        Ok(conditional)
+    }
+
+    /// A conditional whose first arm is the block behind the next container.
+    fn new_conditional(&self, condition: Expr) -> Nest
+        ensures { nest_record result ≡ new_conditional (bench self.now) condition }
+    {
+        Nest::Conditional(ConditionalNode {
+            condition,
+            consequent: VastStatementBlock {
+                id: self.second_nest(),
+            },
+            else_ifs: Vec::new(self.alloc),
+            otherwise: None,
+        })
+    }
+
     /// Appends a conditional to the block, with an empty block as its first arm.
     ///
     /// # Errors
@@ -58,22 +105,14 @@ impl Ast {
         let conditional = Conditional {
             id: self.next_nest(),
         };
-        let consequent = VastStatementBlock {
-            id: self.second_nest(),
-        };
-        let node = ConditionalNode {
-            condition,
-            consequent,
-            else_ifs: Vec::new(self.alloc),
-            otherwise: None,
-        };
+        let node = self.new_conditional(condition);
         self.grow(
             Place::Nest(
                 owner.id.index,
                 Entry::Statement(Statement::Conditional(conditional)),
             ),
             Arrivals {
-                container: Some(Nest::Conditional(node)),
+                container: Some(node),
                 block: true,
                 ..Arrivals::none()
             },

@@ -6,7 +6,6 @@ ghost use Rattle.vast_core.specs.Nests.{nest_record, statement_entry, function_r
 ghost use Rattle.vast_core.specs.Functions.{with_listed_variable};
 ghost use Rattle.vast_core.specs.Containers.{StatementEnters, ElseIfEnters, ElseEnters, CaseArmEnters, MemberEnters, with_entry, with_listed, listed_modules, listed_nests, listed_functions, listed_items, listed_spare, spare_left, added, with_empty_block, count_of, block_count, GrowthSound, HasRoom, after_growth};
 ghost use Rattle.vast_core.specs.Arrivals.{entry_of, name_of, listing_of, fresh_of, no_arrivals, ListingThere};
-ghost use Rattle.vast_core.specs.Scopes.{listing_in};
 ghost use Rattle.vast_core.specs.Growth.{Builds};
 ghost use Rattle.vast_core.specs.View.{bench};
 
@@ -26,13 +25,6 @@ pub(crate) enum Entry {
     Else(VastStatementBlock),
     CaseArm(CaseArm),
     Member(Member),
-}
-
-/// What has members: a module or a generate loop.
-#[derive(Clone, Copy, Debug, PartialEq, Eq)]
-pub enum Scope {
-    Module(VastModule),
-    Loop(GenerateLoop),
 }
 
 /// The list that gains an entry, with the entry; a name is taken from then on.
@@ -67,18 +59,6 @@ pub(crate) struct Arrivals {
     pub(crate) always_block: Option<AlwaysBlock>,
     /// Whether an always block that comes is over the spare block.
     pub(crate) takes_spare: bool,
-}
-
-impl Place {
-    /// At the end of the scope's members, without a name.
-    pub(crate) fn in_scope(scope: Scope, member: Member) -> Place
-        ensures { listing_of result ≡ listing_in scope (member_entry member) }
-    {
-        match scope {
-            Scope::Module(owner) => Place::Module(owner, member, None),
-            Scope::Loop(owner) => Place::Nest(owner.id.index, Entry::Member(member)),
-        }
-    }
 }
 
 impl Arrivals {

@@ -15,8 +15,8 @@ use crate::node::{ExprNode, Port, Term};
 use std::alloc::AllocError;
 
 impl Ast {
-    /// Adds a port to the end of the module's ports, and answers its name as an expression. The module's name set
-    /// gains the name; whether it was free is the caller's to know ([`Module::name_is_free`]).
+    /// Adds a port to the end of the module's ports, and answers its name as an expression. The name is free
+    /// ([`Module::name_is_free`]), and is taken from then on.
     ///
     /// # Errors
     /// `AllocError` where a growth was refused; nothing changed.

@@ -4,7 +4,7 @@ ghost use Rattle.std.specs.Prelude.{◌≡◌, ◌+◌, ◌<◌, ◌≤◌, leng
 ghost use Rattle.vast_core.specs.Handles.{rank, type_rank};
 ghost use Rattle.vast_core.specs.Nodes.{IsNodeAt, ChildrenHold, ExprChildrenHold, TypeChildrenHold, RootFits, term_root, expr_tree, type_tree};
 ghost use Rattle.vast_core.specs.Types.{ExprFits, TypeFits, ExprWellFormed, TypeWellFormed};
-ghost use Rattle.vast_core.specs.Bench.{OwnsExpr, OwnsType, AreWellFormed, tree_of, type_of};
+ghost use Rattle.vast_core.specs.Bench.{OwnsExpr, OwnsType, tree_of, type_of};
 ghost use Rattle.vast_core.specs.Growth.{with_root, with_expr, with_type, next_expr, next_type};
 ghost use Rattle.vast_core.specs.View.{bench, room};
 
@@ -66,13 +66,6 @@ impl Ast {
         VastDataType {
             id: Id { file_id, index },
         }
-    }
-
-    /// Each expression and each type of the file is well formed in all its parts: a law, which computes nothing.
-    pub fn trees_are_well_formed(&self)
-        ensures { AreWellFormed (bench self.now) }
-    {
-        let _ = &self.terms;
     }
 
     pub(crate) fn node(&self, index: usize) -> Option<&Term>

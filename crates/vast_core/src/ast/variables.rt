@@ -5,6 +5,7 @@ ghost use Rattle.vast_core.specs.Records.{IsFree};
 ghost use Rattle.vast_core.specs.Nests.{function_record, variable_record};
 ghost use Rattle.vast_core.specs.Bench.{OwnsFunction, OwnsType, IsFreeInFunction};
 ghost use Rattle.vast_core.specs.Growth.{Builds, next_logic_ref};
+ghost use Rattle.vast_core.specs.WrittenKinds.{IsVariableKind};
 ghost use Rattle.vast_core.specs.Functions.{with_listed_variable, with_variable};
 ghost use Rattle.vast_core.specs.View.{bench};
 
@@ -65,8 +66,8 @@ impl Function {
 }
 
 impl Ast {
-    /// Adds an input, or a local, at the end of the function's, and answers its name as an expression. The name is free
-    /// ([`Function::name_is_free`]), and is taken from then on.
+    /// Adds an input, or a local, at the end of the function's, and answers its name as an expression. A local is a reg or
+    /// logic. The name is free ([`Function::name_is_free`]), and is taken from then on.
     ///
     /// # Errors
     /// `AllocError` where a growth was refused; nothing changed.
@@ -80,6 +81,7 @@ impl Ast {
         data_type: VastDataType,
     ) -> Result<LogicRef, AllocError>
         requires owner { OwnsFunction (bench self.old) owner }
+        requires kind { IsVariableKind local kind }
         requires data_type { OwnsType (bench self.old) data_type }
         requires free { IsFreeInFunction (bench self.old) owner name.now }
         ensures { Builds (bench self.old) (bench self.new) result (next_logic_ref (bench self.old)) (with_variable owner local (record { kind = kind; name = name.now; data_type = data_type }) (bench self.old)) }

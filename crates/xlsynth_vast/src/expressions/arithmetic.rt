@@ -9,7 +9,7 @@ ghost use Rattle.xlsynth_vast.specs.Expressions.{with_binary};
 
 use crate::file::VastFile;
 use std::alloc::AllocError;
-use vast_core::{BinaryOperator, Expr};
+use vast_core::{BinaryOperator, Expr, ExprNode};
 
 impl VastFile {
     /// The sum `a + b`.
@@ -21,7 +21,8 @@ impl VastFile {
         requires rhs { OwnsExpr (bench self.old) rhs.now }
         ensures { Builds (bench self.old) (bench self.new) result (next_expr (bench self.old)) (with_binary AddOp lhs.now rhs.now (bench self.old)) }
     {
-        self.ast.push_binary(BinaryOperator::Add, *lhs, *rhs)
+        self.ast
+            .push_expr(ExprNode::Binary(BinaryOperator::Add, *lhs, *rhs))
     }
 
     /// The difference `a - b`.
@@ -33,7 +34,8 @@ impl VastFile {
         requires rhs { OwnsExpr (bench self.old) rhs.now }
         ensures { Builds (bench self.old) (bench self.new) result (next_expr (bench self.old)) (with_binary SubOp lhs.now rhs.now (bench self.old)) }
     {
-        self.ast.push_binary(BinaryOperator::Sub, *lhs, *rhs)
+        self.ast
+            .push_expr(ExprNode::Binary(BinaryOperator::Sub, *lhs, *rhs))
     }
 
     /// The product `a * b`.
@@ -45,7 +47,8 @@ impl VastFile {
         requires rhs { OwnsExpr (bench self.old) rhs.now }
         ensures { Builds (bench self.old) (bench self.new) result (next_expr (bench self.old)) (with_binary MulOp lhs.now rhs.now (bench self.old)) }
     {
-        self.ast.push_binary(BinaryOperator::Mul, *lhs, *rhs)
+        self.ast
+            .push_expr(ExprNode::Binary(BinaryOperator::Mul, *lhs, *rhs))
     }
 
     /// The quotient `a / b`.
@@ -57,7 +60,8 @@ impl VastFile {
         requires rhs { OwnsExpr (bench self.old) rhs.now }
         ensures { Builds (bench self.old) (bench self.new) result (next_expr (bench self.old)) (with_binary DivOp lhs.now rhs.now (bench self.old)) }
     {
-        self.ast.push_binary(BinaryOperator::Div, *lhs, *rhs)
+        self.ast
+            .push_expr(ExprNode::Binary(BinaryOperator::Div, *lhs, *rhs))
     }
 
     /// The remainder `a % b`.
@@ -69,7 +73,8 @@ impl VastFile {
         requires rhs { OwnsExpr (bench self.old) rhs.now }
         ensures { Builds (bench self.old) (bench self.new) result (next_expr (bench self.old)) (with_binary ModOp lhs.now rhs.now (bench self.old)) }
     {
-        self.ast.push_binary(BinaryOperator::Mod, *lhs, *rhs)
+        self.ast
+            .push_expr(ExprNode::Binary(BinaryOperator::Mod, *lhs, *rhs))
     }
 
     /// The power `a ** b`.
@@ -81,7 +86,8 @@ impl VastFile {
         requires rhs { OwnsExpr (bench self.old) rhs.now }
         ensures { Builds (bench self.old) (bench self.new) result (next_expr (bench self.old)) (with_binary PowerOp lhs.now rhs.now (bench self.old)) }
     {
-        self.ast.push_binary(BinaryOperator::Power, *lhs, *rhs)
+        self.ast
+            .push_expr(ExprNode::Binary(BinaryOperator::Power, *lhs, *rhs))
     }
 
     /// The bitwise AND `a & b`.
@@ -93,7 +99,8 @@ impl VastFile {
         requires rhs { OwnsExpr (bench self.old) rhs.now }
         ensures { Builds (bench self.old) (bench self.new) result (next_expr (bench self.old)) (with_binary BitwiseAndOp lhs.now rhs.now (bench self.old)) }
     {
-        self.ast.push_binary(BinaryOperator::BitwiseAnd, *lhs, *rhs)
+        self.ast
+            .push_expr(ExprNode::Binary(BinaryOperator::BitwiseAnd, *lhs, *rhs))
     }
 
     /// The bitwise OR `a | b`.
@@ -105,7 +112,8 @@ impl VastFile {
         requires rhs { OwnsExpr (bench self.old) rhs.now }
         ensures { Builds (bench self.old) (bench self.new) result (next_expr (bench self.old)) (with_binary BitwiseOrOp lhs.now rhs.now (bench self.old)) }
     {
-        self.ast.push_binary(BinaryOperator::BitwiseOr, *lhs, *rhs)
+        self.ast
+            .push_expr(ExprNode::Binary(BinaryOperator::BitwiseOr, *lhs, *rhs))
     }
 
     /// The bitwise XOR `a ^ b`.
@@ -117,7 +125,8 @@ impl VastFile {
         requires rhs { OwnsExpr (bench self.old) rhs.now }
         ensures { Builds (bench self.old) (bench self.new) result (next_expr (bench self.old)) (with_binary BitwiseXorOp lhs.now rhs.now (bench self.old)) }
     {
-        self.ast.push_binary(BinaryOperator::BitwiseXor, *lhs, *rhs)
+        self.ast
+            .push_expr(ExprNode::Binary(BinaryOperator::BitwiseXor, *lhs, *rhs))
     }
 
     /// The logical shift to the left, `a << b`.
@@ -129,7 +138,8 @@ impl VastFile {
         requires rhs { OwnsExpr (bench self.old) rhs.now }
         ensures { Builds (bench self.old) (bench self.new) result (next_expr (bench self.old)) (with_binary ShllOp lhs.now rhs.now (bench self.old)) }
     {
-        self.ast.push_binary(BinaryOperator::Shll, *lhs, *rhs)
+        self.ast
+            .push_expr(ExprNode::Binary(BinaryOperator::Shll, *lhs, *rhs))
     }
 
     /// The arithmetic shift to the right, `a >>> b`.
@@ -141,7 +151,8 @@ impl VastFile {
         requires rhs { OwnsExpr (bench self.old) rhs.now }
         ensures { Builds (bench self.old) (bench self.new) result (next_expr (bench self.old)) (with_binary ShraOp lhs.now rhs.now (bench self.old)) }
     {
-        self.ast.push_binary(BinaryOperator::Shra, *lhs, *rhs)
+        self.ast
+            .push_expr(ExprNode::Binary(BinaryOperator::Shra, *lhs, *rhs))
     }
 
     /// The logical shift to the right, `a >> b`.
@@ -153,6 +164,7 @@ impl VastFile {
         requires rhs { OwnsExpr (bench self.old) rhs.now }
         ensures { Builds (bench self.old) (bench self.new) result (next_expr (bench self.old)) (with_binary ShrlOp lhs.now rhs.now (bench self.old)) }
     {
-        self.ast.push_binary(BinaryOperator::Shrl, *lhs, *rhs)
+        self.ast
+            .push_expr(ExprNode::Binary(BinaryOperator::Shrl, *lhs, *rhs))
     }
 }

@@ -9,7 +9,7 @@ ghost use Rattle.xlsynth_vast.specs.Expressions.{with_width_cast, with_type_cast
 
 use crate::file::VastFile;
 use std::alloc::AllocError;
-use vast_core::{Expr, VastDataType};
+use vast_core::{Expr, ExprNode, VastDataType};
 
 impl VastFile {
     /// The value, cast to a width: `w'(v)`.
@@ -21,7 +21,7 @@ impl VastFile {
         requires value { OwnsExpr (bench self.old) value.now }
         ensures { Builds (bench self.old) (bench self.new) result (next_expr (bench self.old)) (with_width_cast width.now value.now (bench self.old)) }
     {
-        self.ast.push_width_cast(*width, *value)
+        self.ast.push_expr(ExprNode::WidthCast(*width, *value))
     }
 
     /// The value, cast to a type that is no array; [`VastFile::type_can_be_cast`] is the test.
@@ -38,6 +38,6 @@ impl VastFile {
         requires value { OwnsExpr (bench self.old) value.now }
         ensures { Builds (bench self.old) (bench self.new) result (next_expr (bench self.old)) (with_type_cast data_type.now value.now (bench self.old)) }
     {
-        self.ast.push_type_cast(*data_type, *value)
+        self.ast.push_expr(ExprNode::TypeCast(*data_type, *value))
     }
 }

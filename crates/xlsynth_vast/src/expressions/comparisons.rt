@@ -9,7 +9,7 @@ ghost use Rattle.xlsynth_vast.specs.Expressions.{with_binary, with_ternary};
 
 use crate::file::VastFile;
 use std::alloc::AllocError;
-use vast_core::{BinaryOperator, Expr};
+use vast_core::{BinaryOperator, Expr, ExprNode};
 
 impl VastFile {
     /// The inequality `a != b`.
@@ -21,7 +21,8 @@ impl VastFile {
         requires rhs { OwnsExpr (bench self.old) rhs.now }
         ensures { Builds (bench self.old) (bench self.new) result (next_expr (bench self.old)) (with_binary NeOp lhs.now rhs.now (bench self.old)) }
     {
-        self.ast.push_binary(BinaryOperator::Ne, *lhs, *rhs)
+        self.ast
+            .push_expr(ExprNode::Binary(BinaryOperator::Ne, *lhs, *rhs))
     }
 
     /// The inequality with unknown bits compared too, `a !== b`.
@@ -33,7 +34,8 @@ impl VastFile {
         requires rhs { OwnsExpr (bench self.old) rhs.now }
         ensures { Builds (bench self.old) (bench self.new) result (next_expr (bench self.old)) (with_binary CaseNeOp lhs.now rhs.now (bench self.old)) }
     {
-        self.ast.push_binary(BinaryOperator::CaseNe, *lhs, *rhs)
+        self.ast
+            .push_expr(ExprNode::Binary(BinaryOperator::CaseNe, *lhs, *rhs))
     }
 
     /// The equality `a == b`.
@@ -45,7 +47,8 @@ impl VastFile {
         requires rhs { OwnsExpr (bench self.old) rhs.now }
         ensures { Builds (bench self.old) (bench self.new) result (next_expr (bench self.old)) (with_binary EqOp lhs.now rhs.now (bench self.old)) }
     {
-        self.ast.push_binary(BinaryOperator::Eq, *lhs, *rhs)
+        self.ast
+            .push_expr(ExprNode::Binary(BinaryOperator::Eq, *lhs, *rhs))
     }
 
     /// The equality with unknown bits compared too, `a === b`.
@@ -57,7 +60,8 @@ impl VastFile {
         requires rhs { OwnsExpr (bench self.old) rhs.now }
         ensures { Builds (bench self.old) (bench self.new) result (next_expr (bench self.old)) (with_binary CaseEqOp lhs.now rhs.now (bench self.old)) }
     {
-        self.ast.push_binary(BinaryOperator::CaseEq, *lhs, *rhs)
+        self.ast
+            .push_expr(ExprNode::Binary(BinaryOperator::CaseEq, *lhs, *rhs))
     }
 
     /// The comparison `a >= b`.
@@ -69,7 +73,8 @@ impl VastFile {
         requires rhs { OwnsExpr (bench self.old) rhs.now }
         ensures { Builds (bench self.old) (bench self.new) result (next_expr (bench self.old)) (with_binary GeOp lhs.now rhs.now (bench self.old)) }
     {
-        self.ast.push_binary(BinaryOperator::Ge, *lhs, *rhs)
+        self.ast
+            .push_expr(ExprNode::Binary(BinaryOperator::Ge, *lhs, *rhs))
     }
 
     /// The comparison `a > b`.
@@ -81,7 +86,8 @@ impl VastFile {
         requires rhs { OwnsExpr (bench self.old) rhs.now }
         ensures { Builds (bench self.old) (bench self.new) result (next_expr (bench self.old)) (with_binary GtOp lhs.now rhs.now (bench self.old)) }
     {
-        self.ast.push_binary(BinaryOperator::Gt, *lhs, *rhs)
+        self.ast
+            .push_expr(ExprNode::Binary(BinaryOperator::Gt, *lhs, *rhs))
     }
 
     /// The comparison `a <= b`.
@@ -93,7 +99,8 @@ impl VastFile {
         requires rhs { OwnsExpr (bench self.old) rhs.now }
         ensures { Builds (bench self.old) (bench self.new) result (next_expr (bench self.old)) (with_binary LeOp lhs.now rhs.now (bench self.old)) }
     {
-        self.ast.push_binary(BinaryOperator::Le, *lhs, *rhs)
+        self.ast
+            .push_expr(ExprNode::Binary(BinaryOperator::Le, *lhs, *rhs))
     }
 
     /// The comparison `a < b`.
@@ -105,7 +112,8 @@ impl VastFile {
         requires rhs { OwnsExpr (bench self.old) rhs.now }
         ensures { Builds (bench self.old) (bench self.new) result (next_expr (bench self.old)) (with_binary LtOp lhs.now rhs.now (bench self.old)) }
     {
-        self.ast.push_binary(BinaryOperator::Lt, *lhs, *rhs)
+        self.ast
+            .push_expr(ExprNode::Binary(BinaryOperator::Lt, *lhs, *rhs))
     }
 
     /// The logical AND `a && b`.
@@ -117,7 +125,8 @@ impl VastFile {
         requires rhs { OwnsExpr (bench self.old) rhs.now }
         ensures { Builds (bench self.old) (bench self.new) result (next_expr (bench self.old)) (with_binary LogicalAndOp lhs.now rhs.now (bench self.old)) }
     {
-        self.ast.push_binary(BinaryOperator::LogicalAnd, *lhs, *rhs)
+        self.ast
+            .push_expr(ExprNode::Binary(BinaryOperator::LogicalAnd, *lhs, *rhs))
     }
 
     /// The logical OR `a || b`.
@@ -129,7 +138,8 @@ impl VastFile {
         requires rhs { OwnsExpr (bench self.old) rhs.now }
         ensures { Builds (bench self.old) (bench self.new) result (next_expr (bench self.old)) (with_binary LogicalOrOp lhs.now rhs.now (bench self.old)) }
     {
-        self.ast.push_binary(BinaryOperator::LogicalOr, *lhs, *rhs)
+        self.ast
+            .push_expr(ExprNode::Binary(BinaryOperator::LogicalOr, *lhs, *rhs))
     }
 
     /// The inequality with an unknown value, written `a !== b`.
@@ -141,7 +151,8 @@ impl VastFile {
         requires rhs { OwnsExpr (bench self.old) rhs.now }
         ensures { Builds (bench self.old) (bench self.new) result (next_expr (bench self.old)) (with_binary NeXOp lhs.now rhs.now (bench self.old)) }
     {
-        self.ast.push_binary(BinaryOperator::NeX, *lhs, *rhs)
+        self.ast
+            .push_expr(ExprNode::Binary(BinaryOperator::NeX, *lhs, *rhs))
     }
 
     /// The equality with an unknown value, written `a === b`.
@@ -153,7 +164,8 @@ impl VastFile {
         requires rhs { OwnsExpr (bench self.old) rhs.now }
         ensures { Builds (bench self.old) (bench self.new) result (next_expr (bench self.old)) (with_binary EqXOp lhs.now rhs.now (bench self.old)) }
     {
-        self.ast.push_binary(BinaryOperator::EqX, *lhs, *rhs)
+        self.ast
+            .push_expr(ExprNode::Binary(BinaryOperator::EqX, *lhs, *rhs))
     }
 
     /// The choice `c ? a : b`.
@@ -171,6 +183,7 @@ impl VastFile {
         requires alternate { OwnsExpr (bench self.old) alternate.now }
         ensures { Builds (bench self.old) (bench self.new) result (next_expr (bench self.old)) (with_ternary condition.now consequent.now alternate.now (bench self.old)) }
     {
-        self.ast.push_ternary(*condition, *consequent, *alternate)
+        self.ast
+            .push_expr(ExprNode::Ternary(*condition, *consequent, *alternate))
     }
 }

@@ -8,7 +8,7 @@ ghost use Rattle.xlsynth_vast.specs.Expressions.{with_concat, with_replication, 
 
 use crate::file::VastFile;
 use std::alloc::AllocError;
-use vast_core::{Expr, MacroRef};
+use vast_core::{Expr, ExprNode, MacroRef};
 
 impl VastFile {
     /// The handles behind the references, which are the file's own as those are.
@@ -29,7 +29,7 @@ impl VastFile {
         ensures { Builds (bench self.old) (bench self.new) result (next_expr (bench self.old)) (with_concat (map (λ e. e.now) expressions.now) (bench self.old)) }
     {
         let parts = self.handles(expressions)?;
-        self.ast.push_concat(None, &parts)
+        self.ast.push_expr(ExprNode::Concat(None, parts))
     }
 
     /// The replicated concatenation `{n{a, b}}`.
@@ -46,7 +46,8 @@ impl VastFile {
         ensures { Builds (bench self.old) (bench self.new) result (next_expr (bench self.old)) (with_replication replication.now (map (λ e. e.now) elements.now) (bench self.old)) }
     {
         let parts = self.handles(elements)?;
-        self.ast.push_concat(Some(*replication), &parts)
+        self.ast
+            .push_expr(ExprNode::Concat(Some(*replication), parts))
     }
 
     /// The replicated concatenation by a number, for which a literal is made too.
@@ -74,7 +75,7 @@ impl VastFile {
         ensures { Builds (bench self.old) (bench self.new) result (next_expr (bench self.old)) (with_pattern (map (λ e. e.now) elements.now) (bench self.old)) }
     {
         let parts = self.handles(elements)?;
-        self.ast.push_pattern(&parts)
+        self.ast.push_expr(ExprNode::Pattern(parts))
     }
 
     /// The call `f(a, b)` of a function of this name.
@@ -91,7 +92,8 @@ impl VastFile {
         ensures { Builds (bench self.old) (bench self.new) result (next_expr (bench self.old)) (with_call name.now (map (λ e. e.now) arguments.now) (bench self.old)) }
     {
         let parts = self.handles(arguments)?;
-        self.ast.push_call(name, &parts)
+        let name = String::from_str(self.ast.allocator(), name)?;
+        self.ast.push_expr(ExprNode::Call(name, parts))
     }
 
     /// The use of a macro without arguments, `` `M ``.
@@ -101,7 +103,8 @@ impl VastFile {
     pub fn make_macro_ref(&mut self, name: &str) -> Result<MacroRef, AllocError>
         ensures { Builds (bench self.old) (bench self.new) result (next_macro_ref (bench self.old)) (with_macro name.now (bench self.old)) }
     {
-        self.ast.push_macro(name)
+        let name = String::from_str(self.ast.allocator(), name)?;
+        self.ast.push_macro(name, None)
     }
 
     /// The use of a macro with arguments, `` `M(a, b) ``; there may be none.
@@ -117,6 +120,7 @@ impl VastFile {
         ensures { Builds (bench self.old) (bench self.new) result (next_macro_ref (bench self.old)) (with_macro_call name.now (map (λ e. e.now) arguments.now) (bench self.old)) }
     {
         let parts = self.handles(arguments)?;
-        self.ast.push_macro_with_args(name, &parts)
+        let name = String::from_str(self.ast.allocator(), name)?;
+        self.ast.push_macro(name, Some(parts))
     }
 }

@@ -10,7 +10,7 @@ ghost use Rattle.xlsynth_vast.specs.Literals.{known_value, literal_in, pattern_l
 
 use crate::file::VastFile;
 use std::alloc::AllocError;
-use vast_core::Expr;
+use vast_core::{Expr, ExprNode};
 use vast_literal::{Literal, LiteralFormat, VastFault, pattern_text, quoted_text};
 
 /// The value of a literal, where it is known: where an `i64` can be it.
@@ -34,7 +34,8 @@ impl VastFile {
         let literal = Literal::parse(alloc, text)?;
         literal.validate_format(alloc, *format)?;
         let text = literal.format(alloc, *format)?;
-        Ok(self.ast.push_literal(&text, known_value(literal.value()))?)
+        let node = ExprNode::Literal(text, known_value(literal.value()));
+        Ok(self.ast.push_expr(node)?)
     }
 
     /// The binary pattern of these digits `0`, `1` and `?`, the most significant first, as wide as they are many.
@@ -46,7 +47,7 @@ impl VastFile {
         ensures { MayBuild (bench self.old) (bench self.new) result (pattern bits_msb.now) (next_expr (bench self.old)) (λ text. with_expr (bench self.old) (pattern_literal text)) }
     {
         let text = pattern_text(self.ast.allocator(), bits_msb)?;
-        Ok(self.ast.push_literal(&text, None)?)
+        Ok(self.ast.push_expr(ExprNode::Literal(text, None))?)
     }
 
     /// The string of this content: it stands between quotes, with escapes where they are needed.
@@ -57,17 +58,20 @@ impl VastFile {
         ensures { Builds (bench self.old) (bench self.new) result (next_expr (bench self.old)) (with_expr (bench self.old) (string_literal value.now)) }
     {
         let text = quoted_text(self.ast.allocator(), value)?;
-        self.ast.push_string(&text)
+        self.ast.push_expr(ExprNode::StringText(text))
     }
 
     /// The number in decimal, without a width; a negative one has its minus.
     ///
     /// # Errors
     /// `AllocError` where a growth was refused; the file is unchanged.
+    #[tactic(auto, using(vast_literal::proofs::NumberLaws::signed_text))]
     pub fn make_unsized_decimal_literal(&mut self, value: i32) -> Result<Expr, AllocError>
         ensures { Builds (bench self.old) (bench self.new) result (next_expr (bench self.old)) (with_expr (bench self.old) (decimal_literal value)) }
     {
-        self.ast.push_decimal(i64::from(value))
+        let text = format!(in self.ast.allocator(); "{value}")?;
+        self.ast
+            .push_expr(ExprNode::Literal(text, Some(i64::from(value))))
     }
 
     /// All ones, `'1`.
@@ -77,7 +81,8 @@ impl VastFile {
     pub fn make_unsized_one_literal(&mut self) -> Result<Expr, AllocError>
         ensures { Builds (bench self.old) (bench self.new) result (next_expr (bench self.old)) (with_expr (bench self.old) (LiteralTree (codes "'1") (Some (pos 1)))) }
     {
-        self.ast.push_literal("'1", Some(1))
+        let text = String::from_str(self.ast.allocator(), "'1")?;
+        self.ast.push_expr(ExprNode::Literal(text, Some(1)))
     }
 
     /// All zeros, `'0`.
@@ -87,7 +92,8 @@ impl VastFile {
     pub fn make_unsized_zero_literal(&mut self) -> Result<Expr, AllocError>
         ensures { Builds (bench self.old) (bench self.new) result (next_expr (bench self.old)) (with_expr (bench self.old) (LiteralTree (codes "'0") (Some (pos 0)))) }
     {
-        self.ast.push_literal("'0", Some(0))
+        let text = String::from_str(self.ast.allocator(), "'0")?;
+        self.ast.push_expr(ExprNode::Literal(text, Some(0)))
     }
 
     /// All bits unknown, `'X`.
@@ -97,6 +103,7 @@ impl VastFile {
     pub fn make_unsized_x_literal(&mut self) -> Result<Expr, AllocError>
         ensures { Builds (bench self.old) (bench self.new) result (next_expr (bench self.old)) (with_expr (bench self.old) (LiteralTree (codes "'X") None)) }
     {
-        self.ast.push_literal("'X", None)
+        let text = String::from_str(self.ast.allocator(), "'X")?;
+        self.ast.push_expr(ExprNode::Literal(text, None))
     }
 }

@@ -12,7 +12,7 @@ ghost use Rattle.xlsynth_vast.specs.Literals.{selector_text};
 
 use crate::file::VastFile;
 use std::alloc::{AllocError, Global};
-use vast_core::{Expr, Index, IndexableExpr, Slice};
+use vast_core::{Expr, ExprNode, Index, IndexableExpr, Slice};
 use vast_literal::{Literal, LiteralFormat};
 
 impl VastFile {
@@ -110,7 +110,8 @@ impl VastFile {
         requires width { pos 1 ≤ℤ width }
         ensures { Builds (bench self.old) (bench self.new) result (next_expr (bench self.old)) (with_part_select subject.now start.now width (bench self.old)) }
     {
-        self.ast.push_part_select(*subject, *start, width)
+        self.ast
+            .push_expr(ExprNode::PartSelect(subject.to_expr(), *start, width))
     }
 }
 

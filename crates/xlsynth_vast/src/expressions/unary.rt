@@ -9,7 +9,7 @@ ghost use Rattle.xlsynth_vast.specs.Expressions.{with_unary, with_pos_edge, with
 
 use crate::file::VastFile;
 use std::alloc::AllocError;
-use vast_core::{Expr, UnaryOperator};
+use vast_core::{Expr, ExprNode, UnaryOperator};
 
 impl VastFile {
     /// The bitwise complement `~a`, as [`VastFile::make_bitwise_not`] makes it.
@@ -31,7 +31,8 @@ impl VastFile {
         requires { OwnsExpr (bench self.old) expression.now }
         ensures { Builds (bench self.old) (bench self.new) result (next_expr (bench self.old)) (with_unary BitwiseNotOp expression.now (bench self.old)) }
     {
-        self.ast.push_unary(UnaryOperator::BitwiseNot, *expression)
+        self.ast
+            .push_expr(ExprNode::Unary(UnaryOperator::BitwiseNot, *expression))
     }
 
     /// The negation `-a`.
@@ -42,7 +43,8 @@ impl VastFile {
         requires { OwnsExpr (bench self.old) expression.now }
         ensures { Builds (bench self.old) (bench self.new) result (next_expr (bench self.old)) (with_unary NegateOp expression.now (bench self.old)) }
     {
-        self.ast.push_unary(UnaryOperator::Negate, *expression)
+        self.ast
+            .push_expr(ExprNode::Unary(UnaryOperator::Negate, *expression))
     }
 
     /// The logical complement `!a`.
@@ -53,7 +55,8 @@ impl VastFile {
         requires { OwnsExpr (bench self.old) expression.now }
         ensures { Builds (bench self.old) (bench self.new) result (next_expr (bench self.old)) (with_unary LogicalNotOp expression.now (bench self.old)) }
     {
-        self.ast.push_unary(UnaryOperator::LogicalNot, *expression)
+        self.ast
+            .push_expr(ExprNode::Unary(UnaryOperator::LogicalNot, *expression))
     }
 
     /// The AND of all bits, `&a`.
@@ -64,7 +67,8 @@ impl VastFile {
         requires { OwnsExpr (bench self.old) expression.now }
         ensures { Builds (bench self.old) (bench self.new) result (next_expr (bench self.old)) (with_unary AndReduceOp expression.now (bench self.old)) }
     {
-        self.ast.push_unary(UnaryOperator::AndReduce, *expression)
+        self.ast
+            .push_expr(ExprNode::Unary(UnaryOperator::AndReduce, *expression))
     }
 
     /// The OR of all bits, `|a`.
@@ -75,7 +79,8 @@ impl VastFile {
         requires { OwnsExpr (bench self.old) expression.now }
         ensures { Builds (bench self.old) (bench self.new) result (next_expr (bench self.old)) (with_unary OrReduceOp expression.now (bench self.old)) }
     {
-        self.ast.push_unary(UnaryOperator::OrReduce, *expression)
+        self.ast
+            .push_expr(ExprNode::Unary(UnaryOperator::OrReduce, *expression))
     }
 
     /// The XOR of all bits, `^a`.
@@ -86,7 +91,8 @@ impl VastFile {
         requires { OwnsExpr (bench self.old) expression.now }
         ensures { Builds (bench self.old) (bench self.new) result (next_expr (bench self.old)) (with_unary XorReduceOp expression.now (bench self.old)) }
     {
-        self.ast.push_unary(UnaryOperator::XorReduce, *expression)
+        self.ast
+            .push_expr(ExprNode::Unary(UnaryOperator::XorReduce, *expression))
     }
 
     /// The event of a rising edge, `posedge a`.
@@ -97,7 +103,7 @@ impl VastFile {
         requires { OwnsExpr (bench self.old) expression.now }
         ensures { Builds (bench self.old) (bench self.new) result (next_expr (bench self.old)) (with_pos_edge expression.now (bench self.old)) }
     {
-        self.ast.push_pos_edge(*expression)
+        self.ast.push_expr(ExprNode::PosEdge(*expression))
     }
 
     /// The event of a falling edge, `negedge a`.
@@ -108,6 +114,6 @@ impl VastFile {
         requires { OwnsExpr (bench self.old) expression.now }
         ensures { Builds (bench self.old) (bench self.new) result (next_expr (bench self.old)) (with_neg_edge expression.now (bench self.old)) }
     {
-        self.ast.push_neg_edge(*expression)
+        self.ast.push_expr(ExprNode::NegEdge(*expression))
     }
 }

@@ -27,4 +27,4 @@ returns c =
     let e5 : bench c.make_continuous_assignment.new.self ≡ with_assignment (record { lhs = logic_ref_to_expr c.in_ok-output.output; rhs = logic_ref_to_expr c.in_ok-input.input; nonblocking = false }) (bench c.add_output.new.self) = search rules in
     let e6 : bench c.add_member_continuous_assignment.new.self ≡ with_member c.in_ok-module.module (AssignmentEntry c.in_ok-assignment.assignment) (bench c.make_continuous_assignment.new.self) = search rules in
     let built : bench c.add_member_continuous_assignment.new.self ≡ passthrough_bench 1 = passthrough_built 1 _ _ _ _ _ _ _ _ _ _ _ _ e0 em e1 et e2 ei e3 eo e4 ea e5 e6 in
-    emitted (bench c.add_member_continuous_assignment.new.self) passthrough_text c.emit.result (rw built (passthrough_printed 1)) c.emit.ensures
+    emitted (bench c.add_member_continuous_assignment.new.self) passthrough_text c.emit.result (rw built (passthrough_printed 1)) c.emit.ensures.text

@@ -13,8 +13,20 @@ pub invariant_of-self : goal.invariant_of-self
 invariant_of-self c =
     sound-still c.args.self.now _ _ c.self.view_is
     (record {
-      file_type = refl; id = refl; terms = refl; assignments = refl; nests = c.in_err-enter.ensures.err_nests; ports = refl; modules = c.in_err-enter.ensures.err_modules;
-      functions = c.in_err-enter.ensures.err_functions; definitions = refl; artifacts = refl; instances = refl; always_blocks = refl; items = c.in_err-enter.ensures.err_items; spare = refl;
+      file_type = refl;
+      id = refl;
+      terms = refl;
+      assignments = refl;
+      nests = c.in_err-enter.ensures.err_nests;
+      ports = refl;
+      modules = c.in_err-enter.ensures.err_modules;
+      functions = c.in_err-enter.ensures.err_functions;
+      definitions = refl;
+      artifacts = refl;
+      instances = refl;
+      always_blocks = refl;
+      items = c.in_err-enter.ensures.err_items;
+      spare = refl;
     }) c.self.invariant
 
 pub returns-in_err-enter : goal.returns-in_err-enter
@@ -22,8 +34,20 @@ returns-in_err-enter c =
     refused _ _ c.from_residual.result _ _ c.from_residual.ensures.0
     (bench-still c.args.self.now _ _ c.self.view_is
     (record {
-      file_type = refl; id = refl; terms = refl; assignments = refl; nests = c.in_err-enter.ensures.err_nests; ports = refl; modules = c.in_err-enter.ensures.err_modules;
-      functions = c.in_err-enter.ensures.err_functions; definitions = refl; artifacts = refl; instances = refl; always_blocks = refl; items = c.in_err-enter.ensures.err_items; spare = refl;
+      file_type = refl;
+      id = refl;
+      terms = refl;
+      assignments = refl;
+      nests = c.in_err-enter.ensures.err_nests;
+      ports = refl;
+      modules = c.in_err-enter.ensures.err_modules;
+      functions = c.in_err-enter.ensures.err_functions;
+      definitions = refl;
+      artifacts = refl;
+      instances = refl;
+      always_blocks = refl;
+      items = c.in_err-enter.ensures.err_items;
+      spare = refl;
     }))
 
 pub invariant_of-self-2 : goal.invariant_of-self-2

@@ -22,8 +22,7 @@ returns c =
     let own : string_bytes c.in_ok-own_name.own_name ≡ c.args.name.now = search rules in
     let taken : string_bytes c.in_ok-taken.taken ≡ c.args.name.now = search rules in
     let first : string_bytes c.in_ok-result_name.result_name ≡ c.args.name.now = search rules in
-    let alone : map string_bytes c.insert.new.self.keys ≡ string_bytes c.in_ok-result_name.result_name ∷ [] = rw (c.in_ok-insert.ensures.keys, c.new-names.ensures.empty) refl in
-    (
+    let alone : map string_bytes c.insert.new.self.keys ≡ string_bytes c.in_ok-result_name.result_name ∷ [] = rw (c.in_ok-insert.ensures.keys, c.new-names.ensures.empty) refl in (
       rw c.next_function.ensures refl,
       c.in_ok-grow.ensures.1
           ∙ rw c.none.ensures (function-grown (bench c.args.self.now) c.args.owner (record { id = c.next_function.result }) c.in_ok-variable.variable c.args.name.now (string_bytes c.in_ok-taken.taken) (string_bytes c.in_ok-own_name.own_name) c.args.result_type

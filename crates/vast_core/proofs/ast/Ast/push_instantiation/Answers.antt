@@ -2,6 +2,7 @@
 use Rattle.std.proofs.Common.{refl, map, string_bytes}
 use Rattle.vast_core.specs.Records.{connection_record}
 use Rattle.vast_core.specs.Sound.{ConnectionSound}
+use Rattle.vast_core.specs.WrittenKinds.{HasValue}
 use Rattle.vast_core.specs.View.{bench}
 use Rattle.vast_core.proofs.Lists.{Each-All}
 use Rattle.vast_core.proofs.EntersRecords.{instance-stands}
@@ -13,4 +14,5 @@ grow-requires c =
     (record {
       parameters = Each-All connection_record (ConnectionSound (bench c.args.self.now)) c.args.parameters.items c.requires.parameters;
       connections = Each-All connection_record (ConnectionSound (bench c.args.self.now)) c.args.connections.items c.requires.connections;
-    }))
+    })
+    (Each-All connection_record HasValue c.args.parameters.items c.requires.values))

@@ -5,4 +5,4 @@ use Rattle.vast_demo.proofs.EncoderSteps.{cases_printed}
 use Rattle.vast_demo.proofs.designs.encoder.cases.Goals as goal
 
 pub returns : goal.returns
-returns c = emitted (bench c.assign_call.new.file) cases_text c.emit.result (rw c.in_ok-assign_call.ensures cases_printed) c.emit.ensures
+returns c = emitted (bench c.assign_call.new.file) cases_text c.emit.result (rw c.in_ok-assign_call.ensures cases_printed) c.emit.ensures.text

@@ -4,4 +4,4 @@ use Rattle.vast_demo.proofs.DesignTexts.{emitted}
 use Rattle.vast_demo.proofs.designs.registers.registers.Goals as goal
 
 pub returns : goal.returns
-returns c = emitted (bench c.add_both.new.file) registers_text c.emit.result c.in_ok-add_both.ensures c.emit.ensures
+returns c = emitted (bench c.add_both.new.file) registers_text c.emit.result c.in_ok-add_both.ensures c.emit.ensures.text

@@ -1,0 +1,188 @@
+-- What a file's records stand for is well formed: expressions, declarations, statements and members, over containers that are.
+use Rattle.std.proofs.Common.{◌≡◌, ℕ, zero, suc, Bool, true, false, IsTrue, List, [], ◌∷◌, length, nat_lt, map, Option, Some, None, slice_get, refl}
+use Rattle.std.specs.Cmp.Derive.{both_true}
+use Rattle.vast_literal.specs.Tree.{ExprTree, NameTree, LiteralTree, StringTree, UnaryTree, BinaryTree, TernaryTree, IndexTree, SliceTree, PartSelectTree, ConcatTree, PatternTree, WidthCastTree, TypeCastTree, PosEdgeTree, NegEdgeTree, MacroTree, CallTree, MissingExpr}
+use Rattle.vast_literal.specs.WellFormed.{is_well_formed, is_well_formed_type}
+use Rattle.vast_literal.specs.WellFormedFile.{is_well_formed_maybe, is_macro, is_well_formed_statement, are_well_formed_statements, are_well_formed_alternates, are_well_formed_arms, is_well_formed_event, are_well_formed_events, is_well_formed_parameter_name, are_well_formed_connections, are_given, are_well_formed_inputs, are_well_formed_locals, is_well_formed_member, are_well_formed_members}
+use Rattle.vast_core.specs.declared.handle.Expr.{Expr}
+use Rattle.vast_core.specs.declared.handle.MacroRef.{MacroRef}
+use Rattle.vast_core.specs.declared.handle.VastDataType.{VastDataType}
+use Rattle.vast_core.specs.declared.handle.VastStatementBlock.{VastStatementBlock}
+use Rattle.vast_core.specs.declared.node.ElseIf.{ElseIf}
+use Rattle.vast_core.specs.declared.node.CaseArm.{CaseArm}
+use Rattle.vast_core.specs.declared.node.Assignment.{Assignment}
+use Rattle.vast_core.specs.Handles.{statement_index, continuous_index, comment_index, inline_index, macro_statement_index, instantiation_index, function_index, always_index, definition_index, block_index, conditional_index, case_index, loop_index, macro_ref_to_expr}
+use Rattle.vast_core.specs.Nodes.{Root, ExprRoot, TypeRoot, OptionHolds, expr_in, expr_of_root, is_expr_root, is_root_of, is_macro as is_macro_root}
+use Rattle.vast_core.specs.Records.{MemberEntry, DeclarationEntry, AssignmentEntry, ParameterEntry, BlankEntry, CommentEntry, InlineEntry, MacroEntry, InstanceEntry, FunctionEntry, AlwaysEntry, ConditionalEntry, LoopEntry, FormEntry, PlainForm, IntForm, DefinedForm, DefinitionRecord, ArtifactRecord, BlankLineRecord, CommentRecord, InlineRecord, MacroRecord, ConnectionRecord, InstanceRecord}
+use Rattle.vast_core.specs.Nests.{StatementEntry, AssignStatement, ContinuousStatement, ConditionalStatement, CasesStatement, BlankStatement, CommentStatement, InlineStatement, NestRecord, BlockRecord, BranchRecord, SwitchRecord, RepeatRecord, VariableRecord, FunctionRecord, AlwaysRecord}
+use Rattle.vast_core.specs.Bench.{Bench, OwnsExpr, OwnsType, OwnsDef, OwnsMacroRef, AreWellFormed, tree_of, type_of, maybe_tree_of, trees_of}
+use Rattle.vast_core.specs.WrittenKinds.{IsGiven, HasOwnKind, HasLocalKind, HasValue}
+use Rattle.vast_core.specs.Sound.{Each, AssignmentSound, ArtifactSound, ConnectionSound, InstanceSound, FormSound, MemberSound, LoopMemberSound, MemberNewer, HoldsBlock, StatementSound, ElseIfSound, CaseArmSound, VariableSound, FunctionSound, EventSound, AlwaysSound, NestSound, RecordsSound, KindsSound, HasLocalKinds, GivesValues, is_event}
+use Rattle.vast_core.specs.FileTree.{Family, BlockFamily, BranchFamily, SwitchFamily, RepeatFamily, NoFamily, block_in, branch_statement, switch_statement, branch_member, repeat_member, assigned_tree, continuous_tree, form_of, statement_in, statements_in, otherwise_in, alternates_in, arms_in, definition_tree, form_tree, assignment_member, artifact_member, connection_tree, instance_member, always_in, variable_tree, function_in, member_in, members_in, family, unfolded}
+use Rattle.vast_core.proofs.WellFormed.{well_formed, type_well_formed}
+
+-- What is read at a place of a list, if it is there.
+pub Each-read : {A : Type 0} (P : A → Type 0) (xs : List A) (i : ℕ) → Each P xs → OptionHolds P (slice_get xs i)
+Each-read P [] i h = tt
+Each-read P (x ∷ xs) zero h = h.0
+Each-read P (x ∷ xs) (suc i) h = Each-read P xs i h.1
+
+-- Expressions and types.
+
+pub expr-good : (b : Bench) → AreWellFormed b → (e : Expr) → OwnsExpr b e → is_well_formed (tree_of b e) ≡ true
+expr-good b w e h = well_formed (tree_of b e) (w.exprs e h)
+
+pub type-good : (b : Bench) → AreWellFormed b → (t : VastDataType) → OwnsType b t → is_well_formed_type (type_of b t) ≡ true
+type-good b w t h = type_well_formed (type_of b t) (w.types t h)
+
+pub maybe-good : (b : Bench) → AreWellFormed b → (e : Option Expr) → OptionHolds (OwnsExpr b) e → is_well_formed_maybe (maybe_tree_of b e) ≡ true
+maybe-good b w None h = refl
+maybe-good b w (Some e) h = expr-good b w e h
+
+-- The expression of a macro is one.
+
+macro-expr : (o : Option Root) → IsTrue (is_root_of is_macro_root o) → IsTrue (is_expr_root o)
+macro-expr None h = h
+macro-expr (Some (ExprRoot e)) h = refl
+macro-expr (Some (TypeRoot t)) h = h
+
+same-macro : (e : ExprTree) → IsTrue (is_macro_root e) → is_macro e ≡ true
+same-macro (MacroTree name given) h = refl
+same-macro (NameTree name type) h = h
+same-macro (LiteralTree text value) h = h
+same-macro (StringTree text) h = h
+same-macro (UnaryTree op operand) h = h
+same-macro (BinaryTree op left right) h = h
+same-macro (TernaryTree condition consequent alternate) h = h
+same-macro (IndexTree subject index) h = h
+same-macro (SliceTree subject high low) h = h
+same-macro (PartSelectTree subject start width) h = h
+same-macro (ConcatTree count parts) h = h
+same-macro (PatternTree parts) h = h
+same-macro (WidthCastTree width operand) h = h
+same-macro (TypeCastTree type operand) h = h
+same-macro (PosEdgeTree operand) h = h
+same-macro (NegEdgeTree operand) h = h
+same-macro (CallTree name arguments) h = h
+same-macro MissingExpr h = h
+
+macro-root : (o : Option Root) → IsTrue (is_root_of is_macro_root o) → is_macro (expr_of_root o) ≡ true
+macro-root None h = h
+macro-root (Some (ExprRoot e)) h = same-macro e h
+macro-root (Some (TypeRoot t)) h = h
+
+pub macro-is : (b : Bench) (call : MacroRef) → OwnsMacroRef b call → is_macro (tree_of b (macro_ref_to_expr call)) ≡ true
+unfolding expr_in
+macro-is b call h = macro-root (slice_get b.nodes.roots call.id.index) h.of_kind
+
+pub macro-good : (b : Bench) → AreWellFormed b → (call : MacroRef) → OwnsMacroRef b call → is_well_formed (tree_of b (macro_ref_to_expr call)) ≡ true
+macro-good b w call h = expr-good b w (macro_ref_to_expr call) (record { of_file = h.of_file; of_kind = macro-expr (slice_get b.nodes.roots call.id.index) h.of_kind })
+
+-- Events.
+
+event-good : (e : ExprTree) → IsTrue (is_event e) → is_well_formed e ≡ true → is_well_formed_event e ≡ true
+event-good (NameTree name type) h k = refl
+event-good (PosEdgeTree operand) h k = k
+event-good (NegEdgeTree operand) h k = k
+event-good (LiteralTree text value) h k = h
+event-good (StringTree text) h k = h
+event-good (UnaryTree op operand) h k = h
+event-good (BinaryTree op left right) h k = h
+event-good (TernaryTree condition consequent alternate) h k = h
+event-good (IndexTree subject index) h k = h
+event-good (SliceTree subject high low) h k = h
+event-good (PartSelectTree subject start width) h k = h
+event-good (ConcatTree count parts) h k = h
+event-good (PatternTree parts) h k = h
+event-good (WidthCastTree width operand) h k = h
+event-good (TypeCastTree type operand) h k = h
+event-good (MacroTree name given) h k = h
+event-good (CallTree name arguments) h k = h
+event-good MissingExpr h k = h
+
+pub events-good : (b : Bench) → AreWellFormed b → (es : List Expr) → Each (EventSound b) es → are_well_formed_events (trees_of b es) ≡ true
+events-good b w [] h = refl
+events-good b w (e ∷ es) h = both_true (event-good (tree_of b e) h.0.1 (expr-good b w e h.0.0)) (events-good b w es h.1)
+
+-- Containers.
+
+abbrev pub IsGood : Family → Type 0
+IsGood (BlockFamily held) = are_well_formed_statements held ≡ true
+IsGood (BranchFamily condition consequent alternates) = (is_well_formed condition ≡ true) × (are_well_formed_statements consequent ≡ true) × (are_well_formed_alternates alternates ≡ true)
+IsGood (SwitchFamily s) = is_well_formed_statement s ≡ true
+IsGood (RepeatFamily m) = is_well_formed_member m ≡ true
+IsGood NoFamily = Unit {0}
+
+pub block-good : (x : Family) → IsGood x → are_well_formed_statements (block_in x) ≡ true
+block-good (BlockFamily held) h = h
+block-good (BranchFamily condition consequent alternates) h = refl
+block-good (SwitchFamily s) h = refl
+block-good (RepeatFamily m) h = refl
+block-good NoFamily h = refl
+
+branch-good : (x : Family) → IsGood x → is_well_formed_statement (branch_statement x) ≡ true
+branch-good (BranchFamily condition consequent alternates) h = both_true h.0 (both_true h.1 h.2)
+branch-good (BlockFamily held) h = refl
+branch-good (SwitchFamily s) h = refl
+branch-good (RepeatFamily m) h = refl
+branch-good NoFamily h = refl
+
+switch-good : (x : Family) → IsGood x → is_well_formed_statement (switch_statement x) ≡ true
+switch-good (SwitchFamily s) h = h
+switch-good (BlockFamily held) h = refl
+switch-good (BranchFamily condition consequent alternates) h = refl
+switch-good (RepeatFamily m) h = refl
+switch-good NoFamily h = refl
+
+pub branch_member-good : (x : Family) → IsGood x → is_well_formed_member (branch_member x) ≡ true
+branch_member-good (BranchFamily condition consequent alternates) h = both_true h.0 (both_true h.1 h.2)
+branch_member-good (BlockFamily held) h = refl
+branch_member-good (SwitchFamily s) h = refl
+branch_member-good (RepeatFamily m) h = refl
+branch_member-good NoFamily h = refl
+
+pub repeat_member-good : (x : Family) → IsGood x → is_well_formed_member (repeat_member x) ≡ true
+repeat_member-good (RepeatFamily m) h = h
+repeat_member-good (BlockFamily held) h = refl
+repeat_member-good (BranchFamily condition consequent alternates) h = refl
+repeat_member-good (SwitchFamily s) h = refl
+repeat_member-good NoFamily h = refl
+
+-- Statements over such containers.
+
+assigned-good : (b : Bench) → AreWellFormed b → (o : Option Assignment) → OptionHolds (AssignmentSound b) o → is_well_formed_statement (assigned_tree b o) ≡ true
+assigned-good b w None h = refl
+assigned-good b w (Some a) h = both_true (expr-good b w a.lhs h.0) (expr-good b w a.rhs h.1)
+
+continuous-good : (b : Bench) → AreWellFormed b → (o : Option Assignment) → OptionHolds (AssignmentSound b) o → is_well_formed_statement (continuous_tree b o) ≡ true
+continuous-good b w None h = refl
+continuous-good b w (Some a) h = both_true (expr-good b w a.lhs h.0) (expr-good b w a.rhs h.1)
+
+statement-good :
+    (b : Bench) → AreWellFormed b → RecordsSound b → (f : ℕ → Family) → ((i : ℕ) → IsGood (f i)) → (s : StatementEntry) → is_well_formed_statement (statement_in b f s) ≡ true
+statement-good b w r f g (AssignStatement s) = assigned-good b w (slice_get b.assignments (statement_index s)) (Each-read (AssignmentSound b) b.assignments (statement_index s) r.assignments)
+statement-good b w r f g (ContinuousStatement s) = continuous-good b w (slice_get b.assignments (statement_index s)) (Each-read (AssignmentSound b) b.assignments (statement_index s) r.assignments)
+statement-good b w r f g (ConditionalStatement c) = branch-good (f (conditional_index c)) (g (conditional_index c))
+statement-good b w r f g (CasesStatement c) = switch-good (f (case_index c)) (g (case_index c))
+statement-good b w r f g BlankStatement = refl
+statement-good b w r f g (CommentStatement text) = refl
+statement-good b w r f g (InlineStatement text) = refl
+
+pub statements-good :
+    (b : Bench) → AreWellFormed b → RecordsSound b → (f : ℕ → Family) → ((i : ℕ) → IsGood (f i)) → (ss : List StatementEntry) → are_well_formed_statements (statements_in b f ss) ≡ true
+statements-good b w r f g [] = refl
+statements-good b w r f g (s ∷ ss) = both_true (statement-good b w r f g s) (statements-good b w r f g ss)
+
+otherwise-good : (f : ℕ → Family) → ((i : ℕ) → IsGood (f i)) → (o : Option VastStatementBlock) → are_well_formed_alternates (otherwise_in f o) ≡ true
+otherwise-good f g None = refl
+otherwise-good f g (Some c) = block-good (f (block_index c)) (g (block_index c))
+
+pub alternates-good :
+    (b : Bench) → AreWellFormed b → (f : ℕ → Family) → ((i : ℕ) → IsGood (f i)) → (n : ℕ) (arms : List ElseIf) (o : Option VastStatementBlock) → Each (ElseIfSound b n) arms →
+    are_well_formed_alternates (alternates_in b f arms o) ≡ true
+alternates-good b w f g n [] o h = otherwise-good f g o
+alternates-good b w f g n (a ∷ arms) o h = both_true (expr-good b w a.condition h.0.0) (both_true (block-good (f (block_index a.block)) (g (block_index a.block))) (alternates-good b w f g n arms o h.1))
+
+pub arms-good : (b : Bench) → AreWellFormed b → (f : ℕ → Family) → ((i : ℕ) → IsGood (f i)) → (n : ℕ) (arms : List CaseArm) → Each (CaseArmSound b n) arms → are_well_formed_arms (arms_in b f arms) ≡ true
+arms-good b w f g n [] h = refl
+arms-good b w f g n (a ∷ arms) h = both_true (maybe-good b w a.label h.0.0) (both_true (block-good (f (block_index a.block)) (g (block_index a.block))) (arms-good b w f g n arms h.1))

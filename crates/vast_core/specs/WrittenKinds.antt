@@ -1,0 +1,42 @@
+-- What the grammar has where a file names a kind or gives a value: a module declares wires, regs and logics, the locals of
+-- a function are regs and logics, and each parameter of an instance has a value.
+use Rattle.std.specs.Prelude.{Bool, true, false, IsTrue, Option, Some, None}
+use Rattle.vast_literal.specs.WellFormedFile.{is_own_kind, is_local_word}
+use Rattle.vast_core.specs.declared.handle.Expr.{Expr}
+use Rattle.vast_core.specs.declared.kind.DataKind.{DataKind}
+use Rattle.vast_core.specs.Kinds.{kind_of}
+use Rattle.vast_core.specs.Records.{MemberEntry, DeclarationEntry, AssignmentEntry, ParameterEntry, BlankEntry, CommentEntry, InlineEntry, MacroEntry, InstanceEntry, FunctionEntry, AlwaysEntry, ConditionalEntry, LoopEntry, ConnectionRecord}
+use Rattle.vast_core.specs.Nests.{VariableRecord}
+
+-- A module declares such: wire, reg or logic.
+abbrev pub IsOwnKind : DataKind → Type 0
+IsOwnKind kind = IsTrue (is_own_kind (kind_of kind))
+
+-- A function's local is such: reg or logic. Of an input's kind nothing is asked.
+abbrev pub IsVariableKind : (local : Bool) → DataKind → Type 0
+IsVariableKind false kind = Unit {0}
+IsVariableKind true kind = IsTrue (is_local_word (kind_of kind))
+
+abbrev pub HasOwnKind : MemberEntry → Type 0
+HasOwnKind (DeclarationEntry kind name data_type) = IsOwnKind kind
+HasOwnKind (AssignmentEntry a) = Unit {0}
+HasOwnKind (ParameterEntry local form value) = Unit {0}
+HasOwnKind BlankEntry = Unit {0}
+HasOwnKind (CommentEntry a) = Unit {0}
+HasOwnKind (InlineEntry a) = Unit {0}
+HasOwnKind (MacroEntry a) = Unit {0}
+HasOwnKind (InstanceEntry i) = Unit {0}
+HasOwnKind (FunctionEntry f) = Unit {0}
+HasOwnKind (AlwaysEntry a) = Unit {0}
+HasOwnKind (ConditionalEntry c) = Unit {0}
+HasOwnKind (LoopEntry l) = Unit {0}
+
+abbrev pub HasLocalKind : VariableRecord → Type 0
+HasLocalKind v = IsVariableKind true v.kind
+
+abbrev pub IsGiven : Option Expr → Type 0
+IsGiven None = ⊥
+IsGiven (Some value) = Unit {0}
+
+abbrev pub HasValue : ConnectionRecord → Type 0
+HasValue c = IsGiven c.value

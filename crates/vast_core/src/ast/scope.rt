@@ -1,0 +1,70 @@
+//! What has members: modules and generate loops.
+
+ghost use Rattle.std.specs.Prelude.{◌≡◌};
+ghost use Rattle.vast_core.specs.Records.{member_entry};
+ghost use Rattle.vast_core.specs.Scopes.{OwnsScope, IsShared, listing_in, with_scope_member};
+ghost use Rattle.vast_core.specs.Arrivals.{listing_of, fresh_of};
+ghost use Rattle.vast_core.specs.Growth.{Builds};
+ghost use Rattle.vast_core.specs.Containers.{GrowthSound, with_fresh};
+ghost use Rattle.vast_core.specs.Sound.{MemberSound};
+ghost use Rattle.vast_core.specs.View.{bench};
+
+use crate::ast::Ast;
+use crate::ast::growth::{Arrivals, Entry, Place};
+use crate::handle::{GenerateLoop, VastModule};
+use crate::node::Member;
+use std::alloc::AllocError;
+
+/// What has members: a module or a generate loop.
+#[derive(Clone, Copy, Debug, PartialEq, Eq)]
+pub enum Scope {
+    /// A module.
+    Module(VastModule),
+    /// A generate loop.
+    Loop(GenerateLoop),
+}
+
+impl Place {
+    /// At the end of the scope's members, without a name.
+    fn in_scope(scope: Scope, member: Member) -> Place
+        ensures { listing_of result ≡ listing_in scope (member_entry member) }
+    {
+        match scope {
+            Scope::Module(owner) => Place::Module(owner, member, None),
+            Scope::Loop(owner) => Place::Nest(owner.id.index, Entry::Member(member)),
+        }
+    }
+}
+
+impl Ast {
+    /// Adds the member at the end of the scope's, and the nodes that come with it.
+    ///
+    /// # Errors
+    /// `AllocError` where a growth was refused; nothing changed.
+    pub(crate) fn grow_in(
+        &mut self,
+        scope: Scope,
+        member: Member,
+        arrivals: Arrivals,
+    ) -> Result<(), AllocError>
+        requires { GrowthSound (bench self.old) (listing_in scope (member_entry member)) (fresh_of arrivals) }
+        ensures { Builds (bench self.old) (bench self.new) result tt (with_scope_member scope (member_entry member) (with_fresh (fresh_of arrivals) (bench self.old))) }
+    {
+        self.grow(Place::in_scope(scope, member), arrivals)
+    }
+
+    /// Appends a member to the scope's: an assignment, a parameter, a blank line, a comment, a text, a use of a macro or
+    /// an instantiation. The same may be appended again, anywhere.
+    ///
+    /// # Errors
+    /// `AllocError` where a growth was refused; nothing changed.
+    #[tactic(auto, using(crate::proofs::EntersScopes::enters_scopes))]
+    pub fn append_member(&mut self, scope: Scope, member: Member) -> Result<(), AllocError>
+        requires scope { OwnsScope (bench self.old) scope }
+        requires member { MemberSound (bench self.old) (member_entry member) }
+        requires shared { IsShared (member_entry member) }
+        ensures { Builds (bench self.old) (bench self.new) result tt (with_scope_member scope (member_entry member) (bench self.old)) }
+    {
+        self.grow_in(scope, member, Arrivals::none())
+    }
+}

@@ -1,0 +1,42 @@
+//! The spare block: one that nothing holds yet, for an always block to take.
+
+ghost use Rattle.std.specs.Prelude.{◌≡◌};
+ghost use Rattle.vast_core.specs.Growth.{Builds};
+ghost use Rattle.vast_core.specs.Containers.{next_block, with_spare_block};
+ghost use Rattle.vast_core.specs.View.{bench};
+
+use crate::ast::Ast;
+use crate::ast::growth::{Arrivals, Place};
+use crate::handle::VastStatementBlock;
+use std::alloc::AllocError;
+
+impl Ast {
+    /// Makes an empty block, which nothing holds yet: the file's spare one from then on.
+    ///
+    /// # Errors
+    /// `AllocError` where a growth was refused; nothing changed.
+    #[tactic(auto, using(crate::proofs::Unattached::enters_over))]
+    pub fn push_block(&mut self) -> Result<VastStatementBlock, AllocError>
+        ensures { Builds (bench self.old) (bench self.new) result (next_block (bench self.old)) (with_spare_block (bench self.old)) }
+    {
+        let block = VastStatementBlock {
+            id: self.next_nest(),
+        };
+        self.grow(
+            Place::Spare(block),
+            Arrivals {
+                block: true,
+                ..Arrivals::none()
+            },
+        )?;
+        Ok(block)
+    }
+
+    /// The file's spare block, where it has one.
+    #[tactic(auto, unfolding(crate::specs::View::bench))]
+    pub fn spare_block(&self) -> Option<VastStatementBlock>
+        ensures { result ≡ (bench self.now).spare }
+    {
+        self.spare
+    }
+}

@@ -1,0 +1,86 @@
+-- Worked declarations, members and files, proved in the law `worked_texts`.
+use Rattle.std.specs.Prelude.{◌≡◌, ℕ, pos, Bool, true, false, List, [], ◌∷◌, Some, None, codes}
+use Rattle.vast_literal.specs.Tree.{VerilogDialect, SystemVerilogDialect, LogicalOrOp, LiteralTree, BinaryTree}
+use Rattle.vast_literal.specs.Tree.{TypeTree, ScalarTree, VectorTree, PackedTree, UnpackedTree, WireKind, RegKind}
+use Rattle.vast_literal.specs.Tree.{Blocking, CaseZ, AssignTree, CommentTree, ConditionalTree, CaseTree, Statements, NoStatements, MoreStatements, ElseIf, Else, NoCaseArms, CaseArm, NoExpr, SomeExpr}
+use Rattle.vast_literal.specs.Tree.{DeclarationMember, BlankMember, InstanceMember, AlwaysMember, FunctionMember, LoopMember, AlwaysCombWord, NoExprs, Members, NoMembers, MoreMembers, InputDirection, PortTree, ModuleItem, IncludeItem, BlankItem, CommentItem, FileTree}
+use Rattle.vast_literal.specs.WorkedTexts.{passthrough_file}
+use Rattle.vast_print.specs.Printed.{plain_text}
+use Rattle.vast_print.specs.Declaration.{declaration_text}
+use Rattle.vast_print.specs.Page.{print}
+use Rattle.vast_print.specs.Members.{member_page}
+use Rattle.vast_print.specs.Layout.{layout}
+use Rattle.vast_print.specs.Derived.{FilePrintsPlainly}
+use Rattle.vast_print.specs.WorkedTexts.{name, number}
+
+abbrev pub bits : ℕ → Bool → List ℕ → TypeTree
+bits n signed w = VectorTree (LiteralTree w (Some (pos n))) (Some (pos n)) signed
+
+abbrev pub scalar_port : List ℕ → PortTree
+scalar_port n = record { direction = InputDirection; declaration = record { kind = WireKind; type = ScalarTree false; name = n } }
+
+abbrev pub module_file : List ℕ → List PortTree → Members → FileTree
+module_file n ports members = record { dialect = SystemVerilogDialect; items = ModuleItem (record { name = n; parameters = []; ports = ports; members = members }) ∷ [] }
+
+abbrev pub assigned : List ℕ → List ℕ → Statements
+assigned l r = MoreStatements (AssignTree Blocking (name l) (name r)) NoStatements
+
+pub record WorkedPages : Type 0 where
+  -- Packed dimensions stand before the base's own bits, outermost first.
+  pub packed_declaration :
+      declaration_text SystemVerilogDialect WireKind (PackedTree (bits 8 true (codes "8")) (pos 2 ∷ pos 3 ∷ [])) (codes "p") ≡ plain_text (codes "wire signed [1:0][2:0][7:0] p")
+  -- In Verilog an array of four has the range from 0 to 3.
+  pub verilog_array :
+      declaration_text VerilogDialect RegKind (UnpackedTree (bits 8 false (codes "8")) (pos 4 ∷ [])) (codes "m") ≡ plain_text (codes "reg [7:0] m[0:3]")
+  -- A width without a value is written less one, in parentheses where its sign is weaker.
+  pub symbolic_limit :
+      declaration_text SystemVerilogDialect WireKind (VectorTree (BinaryTree LogicalOrOp (name (codes "a")) (name (codes "b"))) None false) (codes "v") ≡ plain_text (codes "wire [(a || b) - 1:0] v")
+  -- The name part of a declaration always stands.
+  pub nameless : declaration_text SystemVerilogDialect WireKind (ScalarTree false) [] ≡ plain_text (codes "wire ")
+  -- A file without items has no text.
+  pub no_items : print (layout (record { dialect = SystemVerilogDialect; items = [] })) ≡ []
+  -- A module without members has one blank line, as one with a blank line has.
+  pub empty_module : print (layout (module_file (codes "m") [] NoMembers)) ≡ codes "module m;\n\nendmodule\n"
+  pub blank_member : print (layout (module_file (codes "m") [] (MoreMembers BlankMember NoMembers))) ≡ codes "module m;\n\nendmodule\n"
+  -- Items stand on lines of their own; a comment has its mark before each of its lines.
+  pub file_items :
+      print (layout (record { dialect = SystemVerilogDialect; items = IncludeItem (codes "defs.svh") ∷ BlankItem ∷ CommentItem (codes "one\n\ntwo") ∷ [] }))
+      ≡ codes "`include \"defs.svh\"\n\n// one\n//\n// two\n"
+  -- The module of the README, which is plain and well formed and which nothing refuses.
+  pub passthrough : print (layout passthrough_file) ≡ codes "module passthrough(\n  input wire [7:0] input_data,\n  output wire [7:0] output_data\n);\n  assign output_data = input_data;\nendmodule\n"
+  pub passthrough_prints_plainly : FilePrintsPlainly passthrough_file
+  -- A line break inside a name goes on at the depth of the construct.
+  pub broken_names :
+      print (layout (module_file (codes "a\nb") (scalar_port (codes "x\ny") ∷ []) (MoreMembers (DeclarationMember (record { kind = WireKind; type = ScalarTree false; name = codes "p\nq" })) NoMembers)))
+      ≡ codes "module a\nb(\n  input wire x\ny\n);\n  wire p\n  q;\nendmodule\n"
+  -- An instance without connections has one blank line, one with them a line for each.
+  pub unconnected : print (member_page SystemVerilogDialect (InstanceMember (record { module_name = codes "sub"; instance_name = codes "u0"; parameters = []; connections = [] }))) ≡ codes "sub u0 (\n\n);\n"
+  pub connected :
+      print (member_page SystemVerilogDialect (InstanceMember (record {
+        module_name = codes "sub";
+        instance_name = codes "u0";
+        parameters = record { name = codes "W"; value = SomeExpr (number (codes "8") (pos 8)) } ∷ [];
+        connections = record { name = codes "a"; value = SomeExpr (name (codes "x")) } ∷ record { name = codes "b"; value = NoExpr } ∷ [];
+      })))
+      ≡ codes "sub #(\n  .W(8)\n) u0 (\n  .a(x),\n  .b()\n);\n"
+  -- A loop's end is the right child of a comparison.
+  pub loop :
+      print (member_page VerilogDialect (LoopMember (codes "i") (number (codes "0") (pos 0)) (BinaryTree LogicalOrOp (name (codes "a")) (name (codes "b"))) None NoMembers))
+      ≡ codes "for (genvar i = 0; i < (a || b); i = i + 1) begin\nend\n"
+  -- An empty block stands on the line of its condition.
+  pub conditional :
+      print (member_page SystemVerilogDialect (AlwaysMember AlwaysCombWord NoExprs (MoreStatements
+      (ConditionalTree (name (codes "a")) (assigned (codes "x") (codes "1")) (ElseIf (name (codes "b")) NoStatements (Else (assigned (codes "x") (codes "0"))))) NoStatements)))
+      ≡ codes "always_comb begin\n  if (a) begin\n    x = 1;\n  end else if (b) begin end else begin\n    x = 0;\n  end\nend\n"
+  -- A function whose body is one casez has it bare, and its arms are bare where they are one assignment.
+  pub casez_function :
+      print (member_page SystemVerilogDialect (FunctionMember (record {
+        name = codes "f";
+        result = bits 2 false (codes "2");
+        inputs = record { kind = RegKind; type = bits 4 false (codes "4"); name = codes "s" } ∷ [];
+        locals = [];
+        body = MoreStatements (CaseTree true CaseZ (name (codes "s"))
+            (CaseArm (SomeExpr (LiteralTree (codes "4'b1???") None)) (assigned (codes "f") (codes "2"))
+            (CaseArm NoExpr (MoreStatements (CommentTree (codes "none")) (assigned (codes "f") (codes "0"))) NoCaseArms))) NoStatements;
+      })))
+      ≡ codes "function automatic logic [1:0] f (input reg [3:0] s);\n  unique casez (s)\n    4'b1???: f = 2;\n    default: begin\n      // none\n      f = 0;\n    end\n  endcase\nendfunction\n"
