@@ -7,6 +7,7 @@ use Rattle.vast_core.specs.Nodes.{OptionHolds}
 use Rattle.vast_core.specs.Records.{connection_record}
 use Rattle.vast_core.specs.Bench.{Bench, OwnsExpr}
 use Rattle.vast_core.specs.Sound.{Each, ConnectionSound}
+use Rattle.vast_core.specs.WrittenKinds.{HasValue}
 use Rattle.vast_core.proofs.Lists.{All-Each, All-head, All-tail}
 use Rattle.xlsynth_vast.specs.Instances.{connected}
 
@@ -38,6 +39,16 @@ each-connected b (name ∷ names) (value ∷ values) h = (h.0, each-connected b 
 
 pub connected-sound : (b : Bench) (names : List (List ℕ)) (values : List (Option Expr)) (made : List Connection) → map connection_record made ≡ connected names values → Each (OptionHolds (OwnsExpr b)) values → All (λ c. ConnectionSound b (connection_record c)) made
 connected-sound b names values made e h = All-Each connection_record (ConnectionSound b) made (rw e (each-connected b names values h))
+
+-- Each parameter that it gives has a value.
+
+each-valued : {B : Type 0} (f : B → Expr) (names : List (List ℕ)) (values : List B) → Each HasValue (connected names (map (λ v. Some (f v)) values))
+each-valued f [] values = tt
+each-valued f (name ∷ names) [] = tt
+each-valued f (name ∷ names) (value ∷ values) = (tt, each-valued f names values)
+
+pub connected-valued : {B : Type 0} (f : B → Expr) (names : List (List ℕ)) (values : List B) (made : List Connection) → map connection_record made ≡ connected names (map (λ v. Some (f v)) values) → All (λ c. HasValue (connection_record c)) made
+connected-valued f names values made e = All-Each connection_record HasValue made (rw e (each-valued f names values))
 
 some-owned : (b : Bench) (e : Option (Bor Expr)) → IfSome e (λ x. OwnsExpr b x.now) → OptionHolds (OwnsExpr b) (option_copied e)
 some-owned b None h = tt
