@@ -18,7 +18,7 @@ use crate::file::VastFile;
 use crate::helpers::records_are_sound;
 use crate::refusals::refusal;
 use std::alloc::AllocError;
-use vast_core::{AlwaysKind, Expr, GenerateLoop, VastModule, VastStatementBlock};
+use vast_core::{Expr, GenerateLoop, Scope, VastModule, VastStatementBlock};
 use vast_literal::VastFault;
 
 /// The signal that resets registers.
@@ -235,12 +235,14 @@ fn attach(
 {
     let mut events = Vec::new(file.allocator());
     events.push(event)?;
-    let kind = AlwaysKind::AlwaysFF;
     match scope {
-        RegisterScope::Module(owner) => file.ast.push_always_over(owner, kind, events, block)?,
+        RegisterScope::Module(owner) => {
+            file.ast
+                .push_always_ff_over(Scope::Module(owner), events, block)?
+        }
         RegisterScope::GenerateLoop(owner) => {
             file.ast
-                .append_loop_always_over(owner, kind, events, block)?
+                .push_always_ff_over(Scope::Loop(owner), events, block)?
         }
     };
     Ok(())
