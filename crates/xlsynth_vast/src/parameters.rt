@@ -86,8 +86,8 @@ impl VastFile {
         requires rhs { OwnsExpr (bench self.old) rhs.now }
         ensures { Builds (bench self.old) (bench self.new) result (next_parameter_ref (bench self.old)) (with_defined_parameter owner false definition.now rhs.now (bench self.old)) }
     {
-        let form = ParameterForm::Defined(*definition);
-        self.ast.push_parameter(owner, form, *rhs)
+        let defined = ParameterForm::Defined(*definition);
+        self.ast.push_parameter(owner, defined, *rhs)
     }
 
     /// `localparam NAME = VALUE`, as the module's last member; answers its name.
@@ -122,8 +122,9 @@ impl VastFile {
         requires rhs { OwnsExpr (bench self.old) rhs.now }
         ensures { Builds (bench self.old) (bench self.new) result (next_localparam_ref (bench self.old)) (with_int_parameter owner true name.now rhs.now (bench self.old)) }
     {
-        let form = ParameterForm::Int(String::from_str(self.ast.allocator(), name)?);
-        self.ast.push_localparam(Scope::Module(owner), form, *rhs)
+        let int_form = ParameterForm::Int(String::from_str(self.ast.allocator(), name)?);
+        self.ast
+            .push_localparam(Scope::Module(owner), int_form, *rhs)
     }
 
     /// A local parameter with the definition's kind, type and name, as the module's last member; answers its name.
@@ -141,7 +142,8 @@ impl VastFile {
         requires rhs { OwnsExpr (bench self.old) rhs.now }
         ensures { Builds (bench self.old) (bench self.new) result (next_localparam_ref (bench self.old)) (with_defined_parameter owner true definition.now rhs.now (bench self.old)) }
     {
-        let form = ParameterForm::Defined(*definition);
-        self.ast.push_localparam(Scope::Module(owner), form, *rhs)
+        let defined = ParameterForm::Defined(*definition);
+        self.ast
+            .push_localparam(Scope::Module(owner), defined, *rhs)
     }
 }
