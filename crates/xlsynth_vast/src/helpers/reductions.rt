@@ -12,7 +12,7 @@ ghost use Rattle.xlsynth_vast.specs.Reductions.{MakesTree, MakesJoined, bit_lite
 use crate::file::VastFile;
 use crate::helpers::records_are_sound;
 use std::alloc::AllocError;
-use vast_core::Expr;
+use vast_core::{Expr, ExprNode};
 use vast_literal::VastFault;
 
 /// The values joined from the left by a call that makes an expression of two; `None` where there are no values.
@@ -40,9 +40,11 @@ fn make_bit(set: bool, file: &mut VastFile) -> Result<Expr, AllocError>
     ensures { Builds (bench file.old) (bench file.new) result (next_expr (bench file.old)) (with_expr (bench file.old) (bit_literal set)) }
 {
     if set {
-        file.ast.push_literal("1'h1", Some(1))
+        let text = String::from_str(file.ast.allocator(), "1'h1")?;
+        file.ast.push_expr(ExprNode::Literal(text, Some(1)))
     } else {
-        file.ast.push_literal("1'h0", Some(0))
+        let text = String::from_str(file.ast.allocator(), "1'h0")?;
+        file.ast.push_expr(ExprNode::Literal(text, Some(0)))
     }
 }
 
