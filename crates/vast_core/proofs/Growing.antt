@@ -411,9 +411,6 @@ swapped-functions (InModule owner entry name) m n fs o h = refl
 swapped-functions (InNest place entry) m n fs o h = refl
 swapped-functions (AsSpare x) m n fs o h = refl
 
-swapped-spare : (l : Listing) (takes : Bool) (o : Option VastStatementBlock) → (takes ≡ false) → spare_left takes (listed_spare l o) ≡ listed_spare l (spare_left takes o)
-swapped-spare l takes o h = rw h refl
-
 -- What the arenas hold once the code is done: those of b, with the entry and the nodes.
 pub record Admitted (b z : Raw) (l : Listing) (f : Fresh) : Type 0 where
   pub there : ListingThere (length b.modules) (length b.nests) (length b.functions) l

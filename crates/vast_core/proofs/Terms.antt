@@ -100,10 +100,6 @@ pub length-assignments : (a b : Raw) → b ≡ a → length (bench a).assignment
 unfolding bench
 length-assignments a b e = rw (← e) refl
 
-pub id-of : (a b : Raw) → b ≡ a → (bench a).nodes.id ≡ b.id
-unfolding bench
-id-of a b e = rw (← e) (built-id (no_nodes b.id) b.terms)
-
 pub refused : {A : Type 0} (old new : Bench) (r : Result A AllocError) (answer : A) (after : Bench) → IsErr r → new ≡ old → Builds old new r answer after
 refused old new (Ok x) answer after h e = cc
 refused old new (Err x) answer after h e = e

@@ -1,5 +1,6 @@
 //! The library's calls with ample memory, and their texts.
 
+mod arena;
 mod bench;
 mod deep;
 mod expressions;

@@ -15,9 +15,6 @@ use Rattle.vast_literal.proofs.Gives as Low
 
 -- lists
 
-abbrev pub ItemParses : {A : Type 0} → (ℕ → List Token → ReadOf A) → List Token → A → (List Token → Type 0) → Type 0
-ItemParses item ts x Q = (rest : List Token) → Q rest → Soon (λ m. item m (ts ++ rest)) (x, rest)
-
 many_more : {A : Type 0} (m : ℕ) (begins : List Token → Bool) (item : ℕ → List Token → ReadOf A) (x : A) (xs : List A) (ts us rest : List Token) → begins ts ≡ true → item m ts ≡ Some (x, us) →
     many m begins item us ≡ Some (xs, rest) → many (suc m) begins item ts ≡ Some (x ∷ xs, rest)
 unfolding many many_on
@@ -101,13 +98,6 @@ groups_follow : (ts : List Token) (gs : List Group) → IsMany IsGroup ts gs →
 groups_follow ts gs no_items rest f = f
 groups_follow ts gs (more_items (one e) ps) rest f = bracket_follows _
 groups_follow ts gs (more_items (range e d) ps) rest f = bracket_follows _
-
--- groups are no word
-groups_no_word : (ts : List Token) (gs : List Group) → IsMany IsGroup ts gs → (rest : List Token) → word_at rest ≡ None → word_at (ts ++ rest) ≡ None
-unfolding word_at
-groups_no_word ts gs no_items rest f = f
-groups_no_word ts gs (more_items (one e) ps) rest f = refl
-groups_no_word ts gs (more_items (range e d) ps) rest f = refl
 
 end_no_word : (q : Punct) (us : List Token) → word_at (Mark q ∷ us) ≡ None
 unfolding word_at

@@ -1,4 +1,4 @@
--- Worked rows, computed from the definitions.
+-- Worked literals, computed from the definitions.
 use Rattle.std.proofs.Common.{◌≡◌, ◌-◌, ◌^◌, [], ◌∷◌, refl, Ok, Err}
 use Rattle.std.specs.Prelude.{codes}
 use Rattle.std.specs.Fmt.{digits}
@@ -8,6 +8,7 @@ use Rattle.vast_literal.specs.Literal.{split_at, typed_parts, without_sign, has_
 use Rattle.vast_literal.specs.LiteralText.{limit_text, limited, taken, is_below_half, signed_text, spelled}
 use Rattle.vast_literal.specs.Pattern.{is_pattern, pattern}
 use Rattle.vast_literal.specs.Quoted.{escaped, quoted}
+use Rattle.vast_literal.specs.WorkedLiterals.{WorkedLiterals}
 
 -- minus 256 in 8 bits is 0
 lowest : literal_of (codes "bits[8]:-256") ≡ Ok (record { width = 8; value = 0 })
@@ -52,3 +53,6 @@ unknown = refl
 escapes : quoted (97 ∷ 34 ∷ 98 ∷ 92 ∷ 10 ∷ 1 ∷ []) ≡ 34 ∷ 97 ∷ 92 ∷ 34 ∷ 98 ∷ 92 ∷ 92 ∷ 92 ∷ 110 ∷ 92 ∷ 48 ∷ 48 ∷ 49 ∷ 34 ∷ []
 unfolding quoted escaped
 escapes = refl
+
+pub worked_literals : WorkedLiterals
+worked_literals = record { lowest = lowest; loose = loose; two_signs = two_signs; large = large; padded = padded; compact = compact; negative = negative; above = above; unknown = unknown; escapes = escapes }

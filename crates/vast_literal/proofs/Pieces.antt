@@ -130,14 +130,6 @@ comma_tail_reads : {xs : List (List ℕ)} {ts : List (List Token)} → EachReads
 comma_tail_reads none = nothing
 comma_tail_reads (more {parts} r e) = free_reads comma.free (reads_reads r (comma_tail_reads e) (tail_stops parts))
 
-pub commas_reads : {xs : List (List ℕ)} {ts : List (List Token)} → EachReads xs ts → Reads (commas xs) (comma_tokens ts)
-commas_reads none = nothing
-commas_reads (more {parts} r e) = reads_reads r (comma_tail_reads e) (tail_stops parts)
-
--- a list of parts between two texts
-pub list_free : {o c : List ℕ} {os cs : List Token} {xs : List (List ℕ)} {ts : List (List Token)} → Divides o os → EachReads xs ts → Divides c cs → Divides (o ++ (commas xs ++ c)) (os ++ (comma_tokens ts ++ cs))
-list_free f e k = enclosed f (commas_reads e) k
-
 -- a unary sign before a text that makes it no longer
 pub opens-append : (tight : Bool) (a b : List ℕ) → opens tight a ≡ true → opens tight (a ++ b) ≡ true
 opens-append tight [] b h = cc

@@ -64,9 +64,6 @@ wide_character : (c : ℕ) → 128 ≤ c → flat_map escaped (encode_utf8 c) �
 unfolding encode
 wide_character c h = rw (le-ltb c 128 h) (wide_cases c (ltb c 2048) (ltb c 65536))
 
-plain_range : (c : ℕ) → is_ascii_control c ≡ false → (32 ≤ c) × (c ≢ 127)
-plain_range c h = grind (arith, nat_tests)
-
 plain_ascii : (c : ℕ) → c ≢ 34 → c ≢ 92 → c ≢ 10 → c ≢ 13 → c ≢ 9 → is_ascii_control c ≡ false → c < 128 → flat_map escaped (encode_utf8 c) ≡ encode_utf8 c
 unfolding escaped encode
 plain_ascii c q b n r t h k = rw (lt-ltb c 128 k, ne_eqb c 34 q, ne_eqb c 92 b, ne_eqb c 10 n, ne_eqb c 13 r, ne_eqb c 9 t, h)

@@ -30,9 +30,6 @@ unique_spelled : (u : Bool) → IsUnique (unique_tokens u) u
 unique_spelled true = unique
 unique_spelled false = not_unique
 
-assign_spelled : (b : Bool) {ls rs : List Token} {l r : NormalExpr} → Spells 13 ls l → Spells 0 rs r → IsAssign (ls ++ (arrow b ∷ (rs ++ (Mark Semicolon ∷ [])))) (assignment b l r)
-assign_spelled b l r = assigns b l r
-
 -- the three forms of assignments
 assignment_spelled : (form : AssignForm) {ls rs : List Token} {l r : NormalExpr} → Spells 13 ls l → Spells 0 rs r → IsStatement (assignment_tokens form ls rs) (normal_assignment form l r)
 unfolding assignment_tokens normal_assignment arrow assignment

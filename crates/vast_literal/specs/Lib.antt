@@ -29,3 +29,4 @@ pub mod FileTokens
 pub mod PlainFile
 pub mod WellFormedFile
 pub mod WorkedTexts
+pub mod WorkedLiterals

@@ -159,22 +159,6 @@ pour-arm-bare b i d k CaseZ (x ∷ []) s h sound = pour-bare-entry b i d k (stat
 pour-arm-bare b i d k CaseZ (x ∷ y ∷ xs) s h sound = cc
 pour-arm-bare b i d k CaseX xs s h sound = cc
 
-pub bare-owned : (b : Bench) (i : ℕ) (w : CaseWord) (xs : List Statement) (s : VastStatement) → Some s ≡ bare_assignment w (map statement_entry xs) → All (λ x. StatementSound b i (statement_entry x)) xs → OwnsStatement b s
-bare-owned b i CaseExact xs s h sound = absurd cc
-bare-owned b i CaseZ [] s h sound = absurd cc
-bare-owned b i CaseZ (x ∷ []) s h sound = go (statement_entry x) h (sound 0 x (omega arith))
-  where
-    go : (e : StatementEntry) → Some s ≡ assignment_of e → StatementSound b i e → OwnsStatement b s
-    go (AssignStatement t) g own = let same : s ≡ t = cc in rw same own
-    go (ContinuousStatement t) g own = absurd cc
-    go (ConditionalStatement c) g own = absurd cc
-    go (CasesStatement c) g own = absurd cc
-    go BlankStatement g own = absurd cc
-    go (CommentStatement text) g own = absurd cc
-    go (InlineStatement text) g own = absurd cc
-bare-owned b i CaseZ (x ∷ y ∷ xs) s h sound = absurd cc
-bare-owned b i CaseX xs s h sound = absurd cc
-
 -- a statement that is no assignment
 abbrev IsOther : StatementTree → Type 0
 IsOther t = is_one_assignment (MoreStatements t NoStatements) ≡ false
@@ -279,31 +263,10 @@ no-locals-left dialect b d k xs i h = rw (variables-map b (drop i xs)) (locals-e
 
 -- blocks that are one casez
 
-pub casez-alone : (b : Bench) (xs : List Statement) (x : Statement) → length xs ≡ 1 → x ≡ get_or xs 0 x →
-    is_one_casez (statements_tree b (map statement_entry xs)) ≡ is_casez (statement_in b (families b) (statement_entry x))
-casez-alone b [] x h e = absurd (omega arith)
-casez-alone b (y ∷ []) x h e = rw e refl
-casez-alone b (y ∷ z ∷ xs) x h e = absurd (omega arith)
-
 pub casez-among : (b : Bench) (xs : List Statement) → (length xs ≡ 1 → ⊥) → is_one_casez (statements_tree b (map statement_entry xs)) ≡ false
 casez-among b [] h = refl
 casez-among b (y ∷ []) h = absurd (h refl)
 casez-among b (y ∷ z ∷ xs) h = refl
-
-pub no-casez-assigned : (b : Bench) (o : Option Assignment) → is_casez (assigned_tree b o) ≡ false
-no-casez-assigned b None = refl
-no-casez-assigned b (Some a) = refl
-
-pub no-casez-continuous : (b : Bench) (o : Option Assignment) → is_casez (continuous_tree b o) ≡ false
-no-casez-continuous b None = refl
-no-casez-continuous b (Some a) = refl
-
-pub no-casez-branch : (f : Family) → is_casez (branch_statement f) ≡ false
-no-casez-branch (BlockFamily held) = refl
-no-casez-branch (BranchFamily c s rest) = refl
-no-casez-branch (SwitchFamily s) = refl
-no-casez-branch (RepeatFamily m) = refl
-no-casez-branch NoFamily = refl
 
 pub ruleset functions = (hang-function-member, hang-function, hang-local, hang-body-block, hang-body-casez, pour-input-text, declarations)
 

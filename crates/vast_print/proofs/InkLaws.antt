@@ -5,7 +5,7 @@ use Rattle.vast_print.specs.Printed.{Printed, first_fault, plain_text, refused, 
 use Rattle.vast_print.specs.Page.{Page, print, print_lines, no_lines, line, one_line, inner, lead, above, beside, written, written_lines, note, commented, commented_lines}
 use Rattle.vast_print.specs.Draft.{Draft, whole, unwritten}
 use Rattle.vast_print.specs.Ink.{Ink, Wet, Stopped, word, next, stop, hang_lines, pour_lines, hang, pour}
-use Rattle.vast_print.proofs.Lines.{word-word, word-nothing, word-stopped, next-stopped, stop-none, stop-stopped, stop-some, stop-stop, next-stop, hang-lines-stop, pour-lines-stop, hang-lines-stopped, pour-lines-stopped, hang-lines-above, pour-lines-beside, hang-lines-inner, hang-flush, hang-flush-on, lead-flush, Flush-written, written-append, Unbroken, written-unbroken, unbroken, written-one-line, written-break, commented-lines-above, whole-print, flat, pour-flat}
+use Rattle.vast_print.proofs.Lines.{word-word, word-nothing, word-stopped, next-stopped, stop-stopped, stop-some, stop-stop, next-stop, hang-lines-stop, pour-lines-stop, hang-lines-stopped, pour-lines-stopped, hang-lines-above, pour-lines-beside, hang-lines-inner, hang-flush, hang-flush-on, lead-flush, Flush-written, written-append, Unbroken, written-unbroken, unbroken, written-one-line, written-break, commented-lines-above, whole-print, flat, pour-flat}
 
 -- lines
 

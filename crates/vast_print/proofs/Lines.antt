@@ -29,10 +29,6 @@ pub next-stopped : (d : ℕ) (r : Refusal) → next d (Stopped r) ≡ Stopped r
 unfolding next
 next-stopped d r = refl
 
-pub stop-none : (k : Ink) → stop k None ≡ k
-unfolding stop
-stop-none k = refl
-
 pub stop-stopped : (r : Refusal) (f : Option Refusal) → stop (Stopped r) f ≡ Stopped r
 unfolding stop
 stop-stopped r None = refl
@@ -91,10 +87,6 @@ pub hang-lines-above : (d : ℕ) (k : Ink) (p q : List Line) → hang_lines d k 
 unfolding hang_lines
 hang-lines-above d k [] q = refl
 hang-lines-above d k (l ∷ p) q = hang-lines-above d (word (next (d + l.depth) k) l.bytes) p q
-
-pub pour-lines-above : (d : ℕ) (k : Ink) (l : Line) (p q : List Line) → pour_lines d k ((l ∷ p) ++ q) ≡ hang_lines d (pour_lines d k (l ∷ p)) q
-unfolding pour_lines
-pour-lines-above d k l p q = hang-lines-above d (word k l.bytes) p q
 
 pub hang-lines-on : (d : ℕ) (k : Ink) (l : Line) (p q : List Line) → hang_lines d k (beside_lines (l ∷ p) q) ≡ pour_lines d (hang_lines d k (l ∷ p)) q
 unfolding hang_lines pour_lines beside_lines

@@ -150,40 +150,11 @@ filled-beside (l ∷ []) [] h = refl
 filled-beside (l ∷ []) (m ∷ q) h = refl
 filled-beside (l ∷ m ∷ p) q h = refl
 
--- a text, and a page that hangs on it
-pub prefix_hangs : {w : List ℕ} {p : List Line} {ts us : List Token} → Free w ts → Hangs p us → Hangs (beside_lines (one_line w) p) (ts ++ us)
-unfolding body
-prefix_hangs {w} {p} f g = record { some = filled-beside (one_line w) p refl; at = rw (body-beside (one_line w) p) (free_reads f g.at) }
-
--- two pages with a text between that stops the first
-pub beside_hangs : {p q : List Line} {w : List ℕ} {ts us vs : List Token} → Hangs p ts → Divides w us → Hangs q vs → Hangs (beside_lines p (beside_lines (one_line w) q)) (ts ++ (us ++ vs))
-unfolding body
-beside_hangs {p} {q} {w} f g k = record {
-  some = filled-beside p (beside_lines (one_line w) q) f.some;
-  at = rw (body-beside p (beside_lines (one_line w) q), body-beside (one_line w) q) (reads_sep f.at g k.at);
-}
-
-pub suffix_hangs : {p : List Line} {w : List ℕ} {ts us : List Token} → Hangs p ts → Divides w us → Hangs (beside_lines p (one_line w)) (ts ++ us)
-unfolding body
-suffix_hangs {p} {w} f g = record { some = filled-beside p (one_line w) f.some; at = rw (body-beside p (one_line w)) (as_reads (reads_end f.at g)) }
-
 -- lines, then a one_line that may go on
 onto-last : (v : List ℕ) (p : List Line) (w : List ℕ) → onto v (p ++ one_line w) ≡ v ++ (10 ∷ (flat p ++ w))
 unfolding flat
 onto-last v [] w = refl
 onto-last v (l ∷ p) w = ap (λ x. v ++ (10 ∷ x)) (onto-last l.bytes p w ∙ sym (append_assoc l.bytes (10 ∷ flat p) w))
-
-body-last : (p : List Line) (w : List ℕ) → body (p ++ one_line w) ≡ flat p ++ w
-unfolding body flat
-body-last [] w = refl
-body-last (l ∷ p) w = onto-last l.bytes p w ∙ sym (append_assoc l.bytes (10 ∷ flat p) w)
-
-filled-last : (p : List Line) (w : List ℕ) → filled (p ++ one_line w) ≡ true
-filled-last [] w = refl
-filled-last (l ∷ p) w = refl
-
-pub lines_hang : {p : List Line} {w : List ℕ} {ts us : List Token} → Lines p ts → Reads w us → Hangs (p ++ one_line w) (ts ++ us)
-lines_hang {p} {w} f g = record { some = filled-last p w; at = rw (body-last p w) (free_reads f.at g) }
 
 -- a comment, which runs to the end of its one_line
 comment_on : (w rest : List ℕ) → every (λ c. not (eqb c 10)) w ≡ true → scan InComment (w ++ (10 ∷ rest)) ≡ scan Gap rest
@@ -282,9 +253,3 @@ behind_divides m {q} f g = record { at = λ p vs h. record { some = filled-besid
 -- the same with a page that may be nothing behind it
 pub behind_hangs : {q : List Line} {p : List Line} {ts us : List Token} → Hangs p ts → Behind q us → Hangs (beside_lines p q) (ts ++ us)
 behind_hangs {p = p} {ts = ts} f g = g.at p ts f
-
-pub same_hangs : {p : List Line} {ts us : List Token} → ts ≡ us → Hangs p ts → Hangs p us
-same_hangs e f = rw (sym e) f
-
-pub same_lines : {p : List Line} {ts us : List Token} → ts ≡ us → Lines p ts → Lines p us
-same_lines e f = rw (sym e) f

@@ -27,18 +27,6 @@ pour-list : (d : ℕ) (k : Ink) (e : ExprTree) (es : Exprs) → pour d k (writte
 unfolding list_text more_text expr_text
 pour-list d k e es = simp pour-then
 
-pour-no-more : (d : ℕ) (k : Ink) → pour d k (written (more_text NoExprs)) ≡ k
-unfolding more_text
-pour-no-more d k = pour-empty d k
-
-pour-no-list : (d : ℕ) (k : Ink) → pour d k (written (list_text NoExprs)) ≡ k
-unfolding list_text
-pour-no-list d k = pour-empty d k
-
-pub list-end : {A : Type 0} (f : List A → Exprs) → f [] ≡ NoExprs → (d : ℕ) (k : Ink) (xs : List A) (i : ℕ) → length xs ≤ i → pour d k (written (rest_text i (f (drop i xs)))) ≡ k
-list-end f e d k xs zero h = ap (λ x. pour d k (written (list_text (f x)))) (drop_all zero xs h) ∙ (ap (λ x. pour d k (written (list_text x))) e ∙ pour-no-list d k)
-list-end f e d k xs (suc i) h = ap (λ x. pour d k (written (more_text (f x)))) (drop_all (suc i) xs h) ∙ (ap (λ x. pour d k (written (more_text x))) e ∙ pour-no-more d k)
-
 more-step :
     {A : Type 0} (f : List A → Exprs) (v : A → ExprTree) → ((x : A) (xs : List A) → f (x ∷ xs) ≡ MoreExprs (v x) (f xs)) →
     (d : ℕ) (k : Ink) (xs : List A) (i : ℕ) (x : A) → i < length xs → x ≡ get_or xs i x →

@@ -159,9 +159,6 @@ bare_same CaseExact b = refl
 bare_same CaseZ b = single_same b
 bare_same CaseX b = refl
 
-nothing_free : Free [] []
-nothing_free = record { at = λ rest. refl }
-
 case_free : (u : Bool) (word : CaseWord) → Free (unique_word u ++ case_word word) (unique_tokens u ++ (Reserved (case_key word) ∷ Mark OpenParen ∷ []))
 unfolding case_key key_text
 case_free true CaseExact = free_free (key_space UniqueKey) (key_open CaseKey)
@@ -188,10 +185,6 @@ case_told : (u : Bool) (word : CaseWord) (e : ExprTree) (arms : CaseArms) → Re
 unfolding statement_page statement_tokens ◌⊕◌ plain_text key_text
 case_told u word e arms r h = rw (arms_ended word arms) (same_whole (regroup_case (unique_tokens u) (expr_tokens e) (open_arms word arms) (case_key word))
     (whole_above (whole (open_written (plain_text (unique_word u) ⊕ plain_text (case_word word) ⊕ expr_text e ⊕ plain_text (codes ")")) (head_reads (case_free u word) r))) (whole_above (whole_inner h) (whole (open_line (codes "endcase") (key_reads EndCaseKey))))))
-
-label_fine : (l : MaybeExpr) (e : ExprTree) → l ≡ SomeExpr e → (label_text l).fault ≡ None → (expr_text e).fault ≡ None
-label_fine NoExpr e h f = absurd (cc h)
-label_fine (SomeExpr d) e h f = let k : d ≡ e = cc h in subst (λ (x : ExprTree). (expr_text x).fault ≡ None) k f
 
 label_reads : (l : MaybeExpr) → is_plain_maybe l ≡ true → is_well_formed_maybe l ≡ true → (label_text l).fault ≡ None → Reads (label_text l).text (label_tokens l)
 unfolding label_tokens plain_text key_text

@@ -195,9 +195,6 @@ pub record Leveled (start now : Bench) (dimension : ℤ) (arrays : List Expr) (i
 pub leveled-start : (start : Bench) (dimension : ℤ) (arrays before : List Expr) → All (OwnsExpr start) before → Leveled start start dimension arrays 0 before before
 leveled-start start dimension arrays before h = record { owned = h; trees = sym (append-nil (map (tree_of start) before)); more = more-none start }
 
-pub level-array : (start now : Bench) (arrays : List Expr) (i : ℕ) (array : Expr) → HasMoreNodes start now → All (OwnsExpr start) arrays → i < length arrays → array ≡ get_or arrays i array → OwnsExpr now array
-level-array start now arrays i array more h below is = more_owned start now more array (All-at (OwnsExpr start) arrays i array h below is)
-
 pub leveled-step :
     (start now after : Bench) (dimension : ℤ) (arrays : List Expr) (i : ℕ) (array : Expr) (before made longer : List Expr) →
     Leveled start now dimension arrays i before made → All (OwnsExpr start) arrays → i < length arrays → array ≡ get_or arrays i array →

@@ -86,9 +86,6 @@ pub refused_in_function :
     unless_taken_in_function kind name b f ≡ Err (declared_in_function kind name r.name r.names)
 refused_in_function kind name b f r e h = rw e (taken-case (declared_in_function kind name r.name r.names) name r.names (is_among r.names name) refl h)
 
-pub free_in_function : (name : List ℕ) (b : Bench) (f : VastFunction) (r : FunctionRecord) → slice_get b.functions (function_index f) ≡ Some r → IsFree name r.names → IsFreeInFunction b f name
-free_in_function name b f r e h = rw e h
-
 -- Where the words of a refusal could not be made, there was a refusal.
 pub only_memory : {A : Type 0} (r : Result A VastFault) (good : A → Type 0) (rule : Result (Unit {0}) (List ℕ)) (words : List ℕ) → rule ≡ Err words → IsErrAnd r (λ fault. fault ≡ Memory alloc_error) → MatchResult r good (OnlyRefusedBy rule)
 only_memory (Ok x) good rule words e h = absurd h
