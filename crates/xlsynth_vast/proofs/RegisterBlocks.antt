@@ -4,79 +4,49 @@ use Rattle.std.specs.Option.{option_map}
 use Rattle.std.proofs.Math.Seq.{take-suc}
 use Rattle.vast_literal.specs.Tree.{ExprTree, StatementTree, TernaryTree, AssignTree, Nonblocking}
 use Rattle.vast_core.specs.declared.handle.Expr.{Expr}
-use Rattle.vast_core.specs.declared.handle.VastStatement.{VastStatement}
 use Rattle.vast_core.specs.declared.handle.VastStatementBlock.{VastStatementBlock}
 use Rattle.vast_core.specs.declared.node.Assignment.{Assignment}
-use Rattle.vast_core.specs.Handles.{block_index, statement_index}
+use Rattle.vast_core.specs.Handles.{block_index}
 use Rattle.vast_core.specs.Nodes.{OptionHolds, ExprRoot}
 use Rattle.vast_core.specs.Nests.{StatementEntry, AssignStatement, NestRecord, BlockRecord}
 use Rattle.vast_core.specs.Bench.{Bench, OwnsExpr, tree_of}
 use Rattle.vast_core.specs.Growth.{with_assignment}
 use Rattle.vast_core.specs.Artifacts.{next_statement}
 use Rattle.vast_core.specs.Containers.{StatementEnters, with_entry}
-use Rattle.vast_core.specs.FileTree.{assigned_tree}
+use Rattle.vast_core.specs.FileTree.{Family, statement_in, statements_in}
 use Rattle.vast_core.proofs.Laws.{next_owned, next_tree}
 use Rattle.vast_core.proofs.Lists.{All-head, All-tail, slice_get-seam}
 use Rattle.xlsynth_vast.specs.declared.helpers.registers.RegisterDefinition.{RegisterDefinition}
 use Rattle.xlsynth_vast.specs.declared.helpers.registers.Share.{Share}
 use Rattle.xlsynth_vast.specs.declared.helpers.registers.Share.TheVariants.{Unreset, AtReset, OutsideReset}
 use Rattle.xlsynth_vast.specs.Reductions.{IsTree}
-use Rattle.xlsynth_vast.specs.Registers.{RegisterTree, enabled_value, unreset_value, value_at_reset, value_outside_reset, given, assigned_all, register_tree, register_trees, OwnsRegister}
+use Rattle.xlsynth_vast.specs.Registers.{RegisterTree, block_of, enabled_value, unreset_value, value_at_reset, value_outside_reset, given, assigned_all, register_tree, register_trees, OwnsRegister}
 use Rattle.xlsynth_vast.specs.AddedRegisters.{is_resettable, enabled_expr, with_enabled, running_expr, with_running, value_expr, with_value, with_given, with_assigned, with_all_assigned}
-use Rattle.xlsynth_vast.proofs.RegisterParts.{Wider, wider_owned, wider_tree, registers-owned, registers-kept, get-changed, Changes, changes-none, changes-then, changes-root, changes-assignment, changes-entry}
+use Rattle.xlsynth_vast.proofs.RegisterParts.{Wider, wider-wider, wider_owned, wider_tree, registers-owned, registers-kept, get-changed, Changes, changes-none, changes-then, changes-root, changes-assignment, changes-entry}
 
--- Statements that are assignments of these trees.
+-- Container i is a block of statements that read so, as long as the file's expressions and assignments stay.
 
-pub record IsAssigned (b : Bench) (s : StatementEntry) (t : StatementTree) : Type 0 where
-  pub handle : VastStatement
-  pub is : s ≡ AssignStatement handle
-  pub assignment : Assignment
-  pub there : slice_get b.assignments (statement_index handle) ≡ Some assignment
-  pub left : OwnsExpr b assignment.lhs
-  pub right : OwnsExpr b assignment.rhs
-  pub tree : t ≡ assigned_tree b (Some assignment)
+abbrev pub Reads : Bench → List StatementEntry → List StatementTree → Type 0
+Reads b statements trees = (c : Bench) → Wider b c → (f : ℕ → Family) → statements_in c f statements ≡ block_of trees
 
-abbrev pub AreAssigned : Bench → List StatementEntry → List StatementTree → Type 0
-AreAssigned b [] [] = Unit {0}
-AreAssigned b [] (t ∷ ts) = ⊥
-AreAssigned b (s ∷ ss) [] = ⊥
-AreAssigned b (s ∷ ss) (t ∷ ts) = IsAssigned b s t × AreAssigned b ss ts
-
-is-kept : (b c : Bench) → Wider b c → (s : StatementEntry) (t : StatementTree) → IsAssigned b s t → IsAssigned c s t
-is-kept b c w s t h =
-    record {
-      handle = h.handle;
-      is = h.is;
-      assignment = h.assignment;
-      there = w.assignments _ h.assignment h.there;
-      left = wider_owned b c w h.assignment.lhs h.left;
-      right = wider_owned b c w h.assignment.rhs h.right;
-      tree = rw (wider_tree b c w h.assignment.lhs h.left, wider_tree b c w h.assignment.rhs h.right) h.tree;
-    }
-
-pub are-kept : (b c : Bench) → Wider b c → (ss : List StatementEntry) (ts : List StatementTree) → AreAssigned b ss ts → AreAssigned c ss ts
-are-kept b c w [] [] h = tt
-are-kept b c w [] (t ∷ ts) h = h
-are-kept b c w (s ∷ ss) [] h = h
-are-kept b c w (s ∷ ss) (t ∷ ts) h = (is-kept b c w s t h.0, are-kept b c w ss ts h.1)
-
-are-more : (b : Bench) (ss more : List StatementEntry) (ts others : List StatementTree) → AreAssigned b ss ts → AreAssigned b more others → AreAssigned b (ss ++ more) (ts ++ others)
-are-more b [] more [] others h k = k
-are-more b [] more (t ∷ ts) others h k = absurd h
-are-more b (s ∷ ss) more [] others h k = absurd h
-are-more b (s ∷ ss) more (t ∷ ts) others h k = (h.0, are-more b ss more ts others h.1 k)
-
--- Container i is a block of assignments of these trees.
 pub record Stands (b : Bench) (i : ℕ) (trees : List StatementTree) : Type 0 where
   pub statements : List StatementEntry
   pub there : slice_get b.nests i ≡ Some (BlockRecord statements)
-  pub read : AreAssigned b statements trees
-
-pub stands-still : (b c : Bench) (i : ℕ) (trees : List StatementTree) → Wider b c → ((n : NestRecord) → slice_get b.nests i ≡ Some n → slice_get c.nests i ≡ Some n) → Stands b i trees → Stands c i trees
-stands-still b c i trees w keep h = record { statements = h.statements; there = keep (BlockRecord h.statements) h.there; read = are-kept b c w h.statements trees h.read }
+  pub reads : Reads b statements trees
 
 pub stands-kept : (i j : ℕ) (b c : Bench) (trees : List StatementTree) → Changes j b c → i ≢ j → Stands b i trees → Stands c i trees
-stands-kept i j b c trees k other h = stands-still b c i trees k.wider (λ n e. k.containers i n other e) h
+stands-kept i j b c trees k other h = record { statements = h.statements; there = k.containers i _ other h.there; reads = λ d w f. h.reads d (wider-wider b c d k.wider w) f }
+
+pub statements-append :
+    (d : Bench) (f : ℕ → Family) (ss more : List StatementEntry) (ts others : List StatementTree) → statements_in d f ss ≡ block_of ts → statements_in d f more ≡ block_of others →
+    statements_in d f (ss ++ more) ≡ block_of (ts ++ others)
+statements-append d f [] more [] others h k = k
+statements-append d f [] more (t ∷ ts) others h k = cc
+statements-append d f (s ∷ ss) more [] others h k = cc
+statements-append d f (s ∷ ss) more (t ∷ ts) others h k =
+    let first : statement_in d f s ≡ t = cc in
+    let rest : statements_in d f ss ≡ block_of ts = cc in
+    rw (first, statements-append d f ss more ts others rest k) refl
 
 -- Values.
 
@@ -156,12 +126,12 @@ given-stands block target (Some value) t b trees h k s =
     let x : StatementEntry = AssignStatement (next_statement b) in
     let c : Bench = with_given block target (Some value) b in
     let w : Wider b c = (given-changes block target (Some value) b).wider in
-    let one : IsAssigned c x (AssignTree Nonblocking (tree_of b target) (tree_of b value)) =
-    record { handle = next_statement b; is = refl; assignment = a; there = slice_get-seam b.assignments a; left = h; right = k.0; tree = refl } in
+    let one : Reads c (x ∷ []) (AssignTree Nonblocking (tree_of b target) (tree_of b value) ∷ []) =
+    λ d v f. rw (v.assignments (length b.assignments) a (slice_get-seam b.assignments a), wider_tree c d v target h, wider_tree c d v value k.0) refl in
     rw k.1 (record {
       statements = s.statements ++ x ∷ [];
       there = get-changed (with_entry (StatementEnters x)) b.nests (block_index block) (BlockRecord s.statements) s.there;
-      read = are-more c s.statements (x ∷ []) trees (AssignTree Nonblocking (tree_of b target) (tree_of b value) ∷ []) (are-kept b c w s.statements trees s.read) (one, tt);
+      reads = λ d v f. statements-append d f s.statements (x ∷ []) trees (AssignTree Nonblocking (tree_of b target) (tree_of b value) ∷ []) (s.reads d (wider-wider b c d w v) f) (one d v f);
     })
 
 assigned-stands :

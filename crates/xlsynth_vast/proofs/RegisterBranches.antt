@@ -1,5 +1,5 @@
 -- Laws of the conditional of a reset, and of the block that it ends.
-use Rattle.std.proofs.Common.{◌≡◌, ◌≢◌, ℕ, suc, ◌<◌, ◌≤◌, Bool, true, false, List, [], ◌∷◌, ◌++◌, length, All, Option, Some, None, slice_get, refl, ◌∙◌, inl, inr, arith, append-nil, length-append}
+use Rattle.std.proofs.Common.{◌≡◌, ◌≢◌, ℕ, suc, ◌-◌, ◌<◌, ◌≤◌, Bool, true, false, List, [], ◌∷◌, ◌++◌, length, All, Option, Some, None, slice_get, refl, ◌∙◌, inl, inr, arith, append-nil, length-append}
 use Rattle.std.specs.List.{list_any}
 use Rattle.vast_literal.specs.Tree.{StatementTree, ConditionalTree, Else, UnaryTree, LogicalNotOp}
 use Rattle.vast_core.specs.declared.handle.Expr.{Expr}
@@ -10,6 +10,7 @@ use Rattle.vast_core.specs.Nodes.{OptionHolds, ExprRoot}
 use Rattle.vast_core.specs.Nests.{StatementEntry, ConditionalStatement, NestRecord, BlockRecord, BranchRecord}
 use Rattle.vast_core.specs.Bench.{Bench, OwnsExpr, OwnsBlock, OwnsConditional, tree_of}
 use Rattle.vast_core.specs.Containers.{NestedEntry, StatementEnters, ElseEnters, with_entry, with_nest, with_block, with_conditional, new_conditional, next_conditional, next_block, has_else}
+use Rattle.vast_core.specs.FileTree.{Family, block_in, branch_statement, statements_in, unfolded, families}
 use Rattle.vast_core.proofs.Lists.{slice_get-append, slice_get-seam, length-changed_at}
 use Rattle.vast_core.proofs.Laws.{next_owned, next_tree}
 use Rattle.vast_core.proofs.Enters.{block-place, next_block_owned, next_conditional_owned}
@@ -21,8 +22,8 @@ use Rattle.xlsynth_vast.specs.Inspections.{then_block_at}
 use Rattle.xlsynth_vast.specs.Reductions.{IsTree}
 use Rattle.xlsynth_vast.specs.Registers.{register_trees, reset_tree, maybe_reset_tree, active_tree, assigned_all, value_at_reset, value_outside_reset, block_of, by_reset, OwnsRegister, OwnsReset}
 use Rattle.xlsynth_vast.specs.AddedRegisters.{is_resettable, active_expr, with_active, with_if, with_if_else, first_block, second_block, with_all_assigned, with_branches, with_reset, with_maybe_reset}
-use Rattle.xlsynth_vast.proofs.RegisterParts.{any-tree, Wider, wider_owned, wider_tree, registers-owned, registers-kept, get-changed, get-unchanged, Changes, changes-none, changes-then, changes-root, changes-nest, changes-entry}
-use Rattle.xlsynth_vast.proofs.RegisterBlocks.{AreAssigned, are-kept, Stands, stands-kept, if-changes, all-assigned-changes, all-assigned-stands}
+use Rattle.xlsynth_vast.proofs.RegisterParts.{any-tree, Wider, wider-wider, wider_owned, wider_tree, registers-owned, registers-kept, get-changed, get-unchanged, get-within, Changes, changes-none, changes-then, changes-root, changes-nest, changes-entry}
+use Rattle.xlsynth_vast.proofs.RegisterBlocks.{Stands, stands-kept, statements-append, if-changes, all-assigned-changes, all-assigned-stands}
 
 -- The condition.
 
@@ -121,7 +122,7 @@ both-else condition block b k x other e =
 
 first-empty : (condition : Expr) (block : VastStatementBlock) (b : Bench) → OwnsBlock b block → Stands (with_if_else condition block b) (suc (length b.nests)) []
 first-empty condition block b h =
-    record { statements = []; there = both-else condition block b (suc (length b.nests)) (BlockRecord []) (λ e. absurd (omega (arith, e))) (opened-first condition block b h); read = tt }
+    record { statements = []; there = both-else condition block b (suc (length b.nests)) (BlockRecord []) (λ e. absurd (omega (arith, e))) (opened-first condition block b h); reads = λ d w f. refl }
 
 second-empty : (condition : Expr) (block : VastStatementBlock) (b : Bench) → Stands (with_if_else condition block b) (block_index (second_block condition block b)) []
 second-empty condition block b =
@@ -130,7 +131,7 @@ second-empty condition block b =
     record {
       statements = [];
       there = get-unchanged (with_entry (ElseEnters (next_block c))) (with_block c).nests (length c.nests) (length b.nests) (λ e. absurd (omega (arith, e, count))) ∙ slice_get-seam c.nests (BlockRecord []);
-      read = tt;
+      reads = λ d w f. refl;
     }
 
 pub second-place : (condition : Expr) (block : VastStatementBlock) (b : Bench) → block_index (second_block condition block b) ≡ suc (suc (length b.nests))
@@ -170,119 +171,114 @@ branches-keep condition registers block b k x low e =
     (all-assigned-changes OutsideReset second registers (with_all_assigned AtReset first registers c)).containers k x (λ s. absurd (omega (arith, low, place, s)))
     ((all-assigned-changes AtReset first registers c).containers k x (λ s. absurd (omega (arith, low, s))) e)
 
--- Container i is a conditional of two blocks, the containers behind it, and reads so.
-pub record Branched (b : Bench) (i : ℕ) (trees : List StatementTree) : Type 0 where
-  pub condition : Expr
-  pub first : VastStatementBlock
-  pub second : VastStatementBlock
-  pub at_reset : List StatementTree
-  pub outside : List StatementTree
-  pub there : slice_get b.nests i ≡ Some (BranchRecord (record { condition = condition; consequent = first; else_ifs = []; otherwise = Some second }))
-  pub first_place : block_index first ≡ suc i
-  pub second_place : block_index second ≡ suc (suc i)
-  pub owned : OwnsExpr b condition
-  pub first_stands : Stands b (block_index first) at_reset
-  pub second_stands : Stands b (block_index second) outside
-  pub is : trees ≡ ConditionalTree (tree_of b condition) (block_of at_reset) (Else (block_of outside)) ∷ []
+-- A later file has the containers from i on.
+pub record StaysFrom (i : ℕ) (b c : Bench) : Type 0 where
+  pub wider : Wider b c
+  pub containers : (k : ℕ) (n : NestRecord) → i ≤ k → slice_get b.nests k ≡ Some n → slice_get c.nests k ≡ Some n
+
+-- Container i reads as a block of these trees, in each later file.
+abbrev pub IsBlockOf : Bench → ℕ → List StatementTree → Type 0
+IsBlockOf b i trees = (d : Bench) → StaysFrom i b d → block_in (families d i) ≡ block_of trees
+
+stands-read : (b d : Bench) (m i k : ℕ) (trees : List StatementTree) → Stands b k trees → i ≤ k → StaysFrom i b d → block_in (unfolded d (suc m) k) ≡ block_of trees
+stands-read b d m i k trees s past w = rw (w.containers k _ past s.there) (s.reads d w.wider (unfolded d m))
 
 branches-stand :
-    (condition : Expr) (registers : List RegisterDefinition) (block : VastStatementBlock) (b : Bench) (trees : List StatementTree) → OwnsExpr b condition → All (OwnsRegister b) registers → OwnsBlock b block →
-    trees ≡ ConditionalTree (tree_of b condition) (block_of (assigned_all value_at_reset (register_trees b registers))) (Else (block_of (assigned_all value_outside_reset (register_trees b registers)))) ∷ [] →
-    Branched (with_branches condition registers block b) (length b.nests) trees
+    (condition : Expr) (registers : List RegisterDefinition) (block : VastStatementBlock) (b : Bench) → All (OwnsRegister b) registers → OwnsBlock b block →
+    Stands (with_branches condition registers block b) (suc (length b.nests)) (assigned_all value_at_reset (register_trees b registers))
+    × Stands (with_branches condition registers block b) (block_index (second_block condition block b)) (assigned_all value_outside_reset (register_trees b registers))
 unfolding with_branches
-branches-stand condition registers block b trees h all own is =
+branches-stand condition registers block b all own =
     let first : VastStatementBlock = first_block b in
     let second : VastStatementBlock = second_block condition block b in
     let place = second-place condition block b in
     let c : Bench = with_if_else condition block b in
     let d : Bench = with_all_assigned AtReset first registers c in
-    let e : Bench = with_all_assigned OutsideReset second registers d in
     let v : Wider b c = (both-changes condition block b).wider in
     let k : Changes (block_index first) c d = all-assigned-changes AtReset first registers c in
-    let l : Changes (block_index second) d e = all-assigned-changes OutsideReset second registers d in
-    let w : Wider b e = (branches-changes condition registers block b).wider in
+    let l = all-assigned-changes OutsideReset second registers d in
     let in-c : All (OwnsRegister c) registers = registers-owned b c v registers all in
-    let in-d : All (OwnsRegister d) registers = registers-owned c d k.wider registers in-c in
     let trees-c : register_trees c registers ≡ register_trees b registers = registers-kept b c v registers all in
     let trees-d : register_trees d registers ≡ register_trees b registers = registers-kept c d k.wider registers in-c ∙ trees-c in
     let one : Stands d (block_index first) (assigned_all value_at_reset (register_trees b registers)) = rw trees-c at (all-assigned-stands AtReset first registers c [] in-c (first-empty condition block b own)) in
-    let empty : Stands d (block_index second) [] = stands-kept (block_index second) (block_index first) c d [] k (λ s. absurd (omega (arith, place, s))) (second-empty condition block b) in
-    record {
-      condition = condition;
-      first = first;
-      second = second;
-      at_reset = assigned_all value_at_reset (register_trees b registers);
-      outside = assigned_all value_outside_reset (register_trees b registers);
-      there = branches-keep condition registers block b (length b.nests) (branch_of condition block b) (omega arith) (both-there condition block b own);
-      first_place = refl;
-      second_place = place;
-      owned = wider_owned b e w condition h;
-      first_stands = stands-kept (block_index first) (block_index second) d e (assigned_all value_at_reset (register_trees b registers)) l (λ s. absurd (omega (arith, place, s))) one;
-      second_stands = rw trees-d at (all-assigned-stands OutsideReset second registers d [] in-d empty);
-      is = rw (wider_tree b e w condition h) is;
-    }
+    let empty : Stands d (block_index second) [] = stands-kept (block_index second) (block_index first) c d [] k (λ e. absurd (omega (arith, place, e))) (second-empty condition block b) in (
+      stands-kept (block_index first) (block_index second) d _ _ l (λ e. absurd (omega (arith, place, e))) one,
+      rw trees-d at (all-assigned-stands OutsideReset second registers d [] (registers-owned c d k.wider registers in-c) empty),
+    )
+
+branches-read :
+    (condition : Expr) (registers : List RegisterDefinition) (block : VastStatementBlock) (b d : Bench) (i m : ℕ) → i ≤ length b.nests → OwnsExpr b condition → All (OwnsRegister b) registers → OwnsBlock b block →
+    StaysFrom i (with_branches condition registers block b) d →
+    branch_statement (unfolded d (suc (suc m)) (length b.nests))
+    ≡ ConditionalTree (tree_of b condition) (block_of (assigned_all value_at_reset (register_trees b registers))) (Else (block_of (assigned_all value_outside_reset (register_trees b registers))))
+branches-read condition registers block b d i m low h all own s =
+    let e : Bench = with_branches condition registers block b in
+    let w : Wider b d = wider-wider b e d (branches-changes condition registers block b).wider s.wider in
+    let both = branches-stand condition registers block b all own in
+    let place = second-place condition block b in
+    let there = s.containers (length b.nests) (branch_of condition block b) low (branches-keep condition registers block b (length b.nests) (branch_of condition block b) (omega arith) (both-there condition block b own)) in
+    rw (
+      there,
+      wider_tree b d w condition h,
+      stands-read e d m i (suc (length b.nests)) _ both.0 (omega (arith, low)) s,
+      stands-read e d m i (block_index (second_block condition block b)) _ both.1 (omega (arith, low, place)) s,
+    ) refl
 
 -- A block of assignments, and behind them perhaps a conditional.
 
-abbrev pub last_entry : Option Conditional → List StatementEntry
-last_entry None = []
-last_entry (Some c) = ConditionalStatement c ∷ []
-
-abbrev pub LastReads : Bench → (i : ℕ) → Option Conditional → List StatementTree → Type 0
-LastReads b i None trees = trees ≡ []
-LastReads b i (Some c) trees = i < conditional_index c × Branched b (conditional_index c) trees
-
-pub record Ends (b : Bench) (i : ℕ) (trees others : List StatementTree) : Type 0 where
-  pub statements : List StatementEntry
-  pub last : Option Conditional
-  pub there : slice_get b.nests i ≡ Some (BlockRecord (statements ++ last_entry last))
-  pub read : AreAssigned b statements trees
-  pub last_read : LastReads b i last others
-
-plain-ends : (b : Bench) (i : ℕ) (trees others : List StatementTree) → others ≡ [] → Stands b i trees → Ends b i trees others
-plain-ends b i trees others none s = record { statements = s.statements; last = None; there = rw (append-nil s.statements) s.there; read = s.read; last_read = none }
+plain-read : (b : Bench) (i : ℕ) (trees : List StatementTree) → Stands b i trees → IsBlockOf b i trees
+unfolding families
+plain-read b i trees s d w =
+    let there = w.containers i _ (omega arith) s.there in
+    let below = get-within d.nests i _ there in
+    let depth : length d.nests ≡ suc (length d.nests - 1) = omega (arith, below) in
+    rw depth (stands-read b d (length d.nests - 1) i i trees s (omega arith) w)
 
 pub reset-changes : (reset : Reset) (registers : List RegisterDefinition) (block : VastStatementBlock) (b : Bench) → Changes (block_index block) b (with_reset reset registers block b)
 reset-changes reset registers block b =
     let i : ℕ = block_index block in
     changes-then i i b (with_active reset b) (with_reset reset registers block b) (active-changes i reset b) (branches-changes (active_expr reset b) registers block (with_active reset b)) (inl refl)
 
-reset-ends :
+reset-read :
     (reset : Reset) (registers : List RegisterDefinition) (block : VastStatementBlock) (b : Bench) (trees : List StatementTree) → list_any is_resettable registers ≡ true →
     OwnsReset b reset → All (OwnsRegister b) registers → OwnsBlock b block → Stands b (block_index block) trees →
-    Ends (with_reset reset registers block b) (block_index block) trees (by_reset (Some (reset_tree b reset)) (register_trees b registers))
-reset-ends reset registers block b trees any h all own s =
+    IsBlockOf (with_reset reset registers block b) (block_index block) (trees ++ by_reset (Some (reset_tree b reset)) (register_trees b registers))
+unfolding families
+reset-read reset registers block b trees any h all own s d w =
     let i : ℕ = block_index block in
     let c : Bench = with_active reset b in
     let condition : Expr = active_expr reset b in
-    let d : Bench = with_branches condition registers block c in
+    let e : Bench = with_branches condition registers block c in
     let k : Changes (suc i) b c = active-changes (suc i) reset b in
-    let here : Stands c i trees = stands-kept i (suc i) b c trees k (λ e. absurd (omega (arith, e))) s in
+    let here : Stands c i trees = stands-kept i (suc i) b c trees k (λ q. absurd (omega (arith, q))) s in
     let owned : OwnsBlock c block = k.blocks block own in
     let below : i < length c.nests = block-place c block owned in
     let made = active-made reset b h in
     let same : register_trees c registers ≡ register_trees b registers = registers-kept b c k.wider registers all in
-    record {
-      statements = here.statements;
-      last = Some (next_conditional c);
-      there = branches-keep condition registers block c i _ (omega (arith, below)) (both-else condition block c i _ (λ e. absurd (omega (arith, below, e))) (opened-block condition block c here.statements here.there));
-      read = are-kept c d (branches-changes condition registers block c).wider here.statements trees here.read;
-      last_read = (below, branches-stand condition registers block c _ made.0 (registers-owned b c k.wider registers all) owned (rw (any-tree b registers, any, made.1, same) refl));
-    }
+    let there = w.containers i _ (omega arith) (branches-keep condition registers block c i _ (omega (arith, below)) (both-else condition block c i _ (λ q. absurd (omega (arith, below, q))) (opened-block condition block c here.statements here.there))) in
+    let in-c : All (OwnsRegister c) registers = registers-owned b c k.wider registers all in
+    let place = second-place condition block c in
+    let deep = get-within d.nests _ _ (w.containers (block_index (second_block condition block c)) _ (omega (arith, below, place)) (branches-stand condition registers block c in-c owned).1.there) in
+    let m : ℕ = length d.nests - 3 in
+    let depth : length d.nests ≡ suc (suc (suc m)) = omega (arith, deep, place) in
+    let branch = rw (made.1, same) at (branches-read condition registers block c d i m (omega (arith, below)) made.0 in-c owned w) in
+    let last : statements_in d (unfolded d (suc (suc m))) (ConditionalStatement (next_conditional c) ∷ []) ≡ block_of (by_reset (Some (reset_tree b reset)) (register_trees b registers)) =
+    rw (any-tree b registers, any, branch) refl in
+    rw (depth, there) (statements-append d (unfolded d (suc (suc m))) here.statements _ trees _ (here.reads d (wider-wider c e d (branches-changes condition registers block c).wider w.wider) (unfolded d (suc (suc m)))) last)
 
 pub maybe-reset-changes : (reset : Option Reset) (registers : List RegisterDefinition) (block : VastStatementBlock) (b : Bench) → Changes (block_index block) b (with_maybe_reset reset registers block b)
 maybe-reset-changes None registers block b = changes-none (block_index block) b
 maybe-reset-changes (Some reset) registers block b = if-changes (block_index block) b (with_reset reset registers block b) b (list_any is_resettable registers) (reset-changes reset registers block b) (changes-none (block_index block) b)
 
-ends-case :
+read-case :
     (reset : Reset) (registers : List RegisterDefinition) (block : VastStatementBlock) (b : Bench) (trees : List StatementTree) (t : Bool) → list_any is_resettable registers ≡ t →
     OwnsReset b reset → All (OwnsRegister b) registers → OwnsBlock b block → Stands b (block_index block) trees →
-    Ends (with_maybe_reset (Some reset) registers block b) (block_index block) trees (by_reset (Some (reset_tree b reset)) (register_trees b registers))
-ends-case reset registers block b trees true e h all own s = let x = reset-ends reset registers block b trees e h all own s in rw e x
-ends-case reset registers block b trees false e h all own s = rw e (plain-ends b (block_index block) trees _ (rw (any-tree b registers, e) refl) s)
+    IsBlockOf (with_maybe_reset (Some reset) registers block b) (block_index block) (trees ++ by_reset (Some (reset_tree b reset)) (register_trees b registers))
+read-case reset registers block b trees true e h all own s = let x = reset-read reset registers block b trees e h all own s in rw e x
+read-case reset registers block b trees false e h all own s = rw (any-tree b registers, e, append-nil trees) (plain-read b (block_index block) trees s)
 
-pub maybe-reset-ends :
+pub maybe-reset-read :
     (reset : Option Reset) (registers : List RegisterDefinition) (block : VastStatementBlock) (b : Bench) (trees : List StatementTree) → OptionHolds (OwnsReset b) reset → All (OwnsRegister b) registers → OwnsBlock b block →
-    Stands b (block_index block) trees → Ends (with_maybe_reset reset registers block b) (block_index block) trees (by_reset (maybe_reset_tree b reset) (register_trees b registers))
-maybe-reset-ends None registers block b trees h all own s = plain-ends b (block_index block) trees [] refl s
-maybe-reset-ends (Some reset) registers block b trees h all own s = ends-case reset registers block b trees (list_any is_resettable registers) refl h all own s
+    Stands b (block_index block) trees → IsBlockOf (with_maybe_reset reset registers block b) (block_index block) (trees ++ by_reset (maybe_reset_tree b reset) (register_trees b registers))
+maybe-reset-read None registers block b trees h all own s = rw (append-nil trees) (plain-read b (block_index block) trees s)
+maybe-reset-read (Some reset) registers block b trees h all own s = read-case reset registers block b trees (list_any is_resettable registers) refl h all own s

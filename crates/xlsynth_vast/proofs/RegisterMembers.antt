@@ -34,12 +34,12 @@ use Rattle.xlsynth_vast.specs.Registers.{block_of, unreset_value, assigned_all, 
 use Rattle.xlsynth_vast.specs.AddedRegisters.{with_all_assigned, with_register_block, with_clocked_at, with_registers, MayAddRegisters}
 use Rattle.xlsynth_vast.specs.RegisterSteps.{IsOlderScope}
 use Rattle.xlsynth_vast.proofs.RegisterParts.{Wider, wider-wider, wider_owned, wider_tree, registers-owned, registers-kept, get-unchanged, get-within, unused-none, unused-block, unused-wider, Changes, changes-then, changes-root}
-use Rattle.xlsynth_vast.proofs.RegisterBlocks.{AreAssigned, are-kept, Stands, stands-still, all-assigned-changes, all-assigned-stands}
-use Rattle.xlsynth_vast.proofs.RegisterBranches.{Branched, last_entry, LastReads, Ends, maybe-reset-changes, maybe-reset-ends}
+use Rattle.xlsynth_vast.proofs.RegisterBlocks.{Stands, all-assigned-changes, all-assigned-stands}
+use Rattle.xlsynth_vast.proofs.RegisterBranches.{StaysFrom, IsBlockOf, maybe-reset-changes, maybe-reset-read}
 
 -- The block of the registers.
 
-abbrev filled : List RegisterDefinition → Bench → Bench
+abbrev pub filled : List RegisterDefinition → Bench → Bench
 filled registers b = with_all_assigned Unreset (next_block b) registers (with_spare_block b)
 
 pub block-changes : (reset : Option Reset) (registers : List RegisterDefinition) (b : Bench) → Changes (length b.nests) (with_spare_block b) (with_register_block reset registers b)
@@ -61,6 +61,9 @@ spare-registers b registers h = registers-owned b (with_spare_block b) (unused-w
 pub filled-wider : (b : Bench) (registers : List RegisterDefinition) → Wider b (filled registers b)
 filled-wider b registers = wider-wider b (with_spare_block b) (filled registers b) (unused-wider b (with_spare_block b) (unused-block b)) ((all-assigned-changes Unreset (next_block b) registers (with_spare_block b)).wider)
 
+pub filled-owned : (b : Bench) (registers : List RegisterDefinition) → OwnsBlock (filled registers b) (next_block b)
+filled-owned b registers = (all-assigned-changes Unreset (next_block b) registers (with_spare_block b)).blocks (next_block b) (spare-owned b)
+
 maybe-reset-owned : (b c : Bench) → Wider b c → (reset : Option Reset) → OptionHolds (OwnsReset b) reset → OptionHolds (OwnsReset c) reset
 maybe-reset-owned b c w None h = tt
 maybe-reset-owned b c w (Some reset) h = wider_owned b c w reset.signal h
@@ -69,21 +72,24 @@ maybe-reset-kept : (b c : Bench) → Wider b c → (reset : Option Reset) → Op
 maybe-reset-kept b c w None h = refl
 maybe-reset-kept b c w (Some reset) h = rw (wider_tree b c w reset.signal h) refl
 
-block-ends :
+block-read :
     (reset : Option Reset) (registers : List RegisterDefinition) (b : Bench) → OptionHolds (OwnsReset b) reset → All (OwnsRegister b) registers →
-    Ends (with_register_block reset registers b) (length b.nests) (assigned_all unreset_value (register_trees b registers)) (by_reset (maybe_reset_tree b reset) (register_trees b registers))
+    IsBlockOf (with_register_block reset registers b) (length b.nests) (assigned_all unreset_value (register_trees b registers) ++ by_reset (maybe_reset_tree b reset) (register_trees b registers))
 unfolding with_register_block
-block-ends reset registers b h all =
+block-read reset registers b h all =
     let c : Bench = with_spare_block b in
     let d : Bench = filled registers b in
     let w : Wider b c = unused-wider b c (unused-block b) in
     let v : Wider b d = filled-wider b registers in
-    let empty : Stands c (length b.nests) [] = record { statements = []; there = slice_get-seam b.nests (BlockRecord []); read = tt } in
+    let empty : Stands c (length b.nests) [] = record { statements = []; there = slice_get-seam b.nests (BlockRecord []); reads = λ x k f. refl } in
     let in-c : All (OwnsRegister c) registers = registers-owned b c w registers all in
     let one : Stands d (length b.nests) (assigned_all unreset_value (register_trees b registers)) = rw (registers-kept b c w registers all) at (all-assigned-stands Unreset (next_block b) registers c [] in-c empty) in
     rw (maybe-reset-kept b d v reset h, registers-kept b d v registers all) at
-    (maybe-reset-ends reset registers (next_block b) d (assigned_all unreset_value (register_trees b registers)) (maybe-reset-owned b d v reset h) (registers-owned b d v registers all)
-    ((all-assigned-changes Unreset (next_block b) registers c).blocks (next_block b) (spare-owned b)) one)
+    (maybe-reset-read reset registers (next_block b) d (assigned_all unreset_value (register_trees b registers)) (maybe-reset-owned b d v reset h) (registers-owned b d v registers all)
+    (filled-owned b registers) one)
+
+pub block-clock : (reset : Option Reset) (registers : List RegisterDefinition) (b : Bench) (clk : Expr) → OwnsExpr b clk → OwnsExpr (with_register_block reset registers b) clk
+block-clock reset registers b clk h = wider_owned b _ (unused-wider b _ (block-unused reset registers b)) clk h
 
 -- It can be attached, at an edge of the clock.
 
@@ -106,77 +112,6 @@ scope-owned old now (LoopScope owner) h k = rw h.after (record { of_file = k.of_
 pub scope-older : (b : Bench) (scope : RegisterScope) → OwnsScope b scope → IsOlderScope scope (next_block b)
 scope-older b (ModuleScope owner) k = tt
 scope-older b (LoopScope owner) k = loop-place b owner k
-
--- The tree of a block.
-
-statements-read :
-    (d : Bench) (f : ℕ → Family) (ss more : List StatementEntry) (ts others : List StatementTree) → AreAssigned d ss ts → statements_in d f more ≡ block_of others →
-    statements_in d f (ss ++ more) ≡ block_of (ts ++ others)
-statements-read d f [] more [] others h e = e
-statements-read d f [] more (t ∷ ts) others h e = absurd h
-statements-read d f (s ∷ ss) more [] others h e = absurd h
-statements-read d f (s ∷ ss) more (t ∷ ts) others h e =
-    rw (h.0.is, h.0.there, ← h.0.tree) (ap (λ x. MoreStatements t x) (statements-read d f ss more ts others h.1 e))
-
-stands-read : (d : Bench) (m i : ℕ) (ts : List StatementTree) → Stands d i ts → block_in (unfolded d (suc m) i) ≡ block_of ts
-stands-read d m i ts s =
-    rw s.there (rw (append-nil s.statements, append-nil ts) at (statements-read d (unfolded d m) s.statements [] ts [] s.read refl))
-
-branched-read : (d : Bench) (m i : ℕ) (trees : List StatementTree) → (x : Branched d i trees) → MoreStatements (branch_statement (unfolded d (suc (suc m)) i)) NoStatements ≡ block_of trees
-branched-read d m i trees x =
-    rw (x.is, x.there) (rw (stands-read d m (block_index x.first) x.at_reset x.first_stands, stands-read d m (block_index x.second) x.outside x.second_stands) refl)
-
-ends-deep :
-    (d : Bench) (depth i : ℕ) (ss : List StatementEntry) (last : Option Conditional) (ts others : List StatementTree) → length d.nests ≤ depth →
-    slice_get d.nests i ≡ Some (BlockRecord (ss ++ last_entry last)) → AreAssigned d ss ts → LastReads d i last others → block_in (unfolded d depth i) ≡ block_of (ts ++ others)
-ends-deep d zero i ss last ts others deep e h k = let below = get-within d.nests i _ e in absurd (omega (arith, below, deep))
-ends-deep d (suc m) i ss None ts others deep e h k = rw (e, k) (statements-read d (unfolded d m) ss [] ts [] h refl)
-ends-deep d (suc zero) i ss (Some c) ts others deep e h k = let below = get-within d.nests _ _ k.1.there in absurd (omega (arith, below, deep, k.0))
-ends-deep d (suc (suc zero)) i ss (Some c) ts others deep e h k = let below = get-within d.nests _ _ k.1.first_stands.there in let place = k.1.first_place in absurd (omega (arith, below, deep, place, k.0))
-ends-deep d (suc (suc (suc m))) i ss (Some c) ts others deep e h k =
-    rw e (statements-read d (unfolded d (suc (suc m))) ss (last_entry (Some c)) ts others h (branched-read d m (conditional_index c) others k.1))
-
-ends-read : (d : Bench) (i : ℕ) (ts others : List StatementTree) → Ends d i ts others → block_in (families d i) ≡ block_of (ts ++ others)
-unfolding families
-ends-read d i ts others x = ends-deep d (length d.nests) i x.statements x.last ts others (omega arith) x.there x.read x.last_read
-
--- A block is read alike where the containers from it on stay.
-pub record StaysFrom (i : ℕ) (b c : Bench) : Type 0 where
-  pub wider : Wider b c
-  pub containers : (k : ℕ) (n : NestRecord) → i ≤ k → slice_get b.nests k ≡ Some n → slice_get c.nests k ≡ Some n
-
-branched-stays : (i j : ℕ) (b c : Bench) (trees : List StatementTree) → i ≤ j → StaysFrom i b c → Branched b j trees → Branched c j trees
-branched-stays i j b c trees past s x =
-    let one = x.first_place in
-    let two = x.second_place in
-    record {
-      condition = x.condition;
-      first = x.first;
-      second = x.second;
-      at_reset = x.at_reset;
-      outside = x.outside;
-      there = s.containers j _ past x.there;
-      first_place = x.first_place;
-      second_place = x.second_place;
-      owned = wider_owned b c s.wider x.condition x.owned;
-      first_stands = stands-still b c (block_index x.first) x.at_reset s.wider (λ n e. s.containers (block_index x.first) n (omega (arith, past, one)) e) x.first_stands;
-      second_stands = stands-still b c (block_index x.second) x.outside s.wider (λ n e. s.containers (block_index x.second) n (omega (arith, past, two)) e) x.second_stands;
-      is = rw (wider_tree b c s.wider x.condition x.owned) x.is;
-    }
-
-last-stays : (i : ℕ) (b c : Bench) (last : Option Conditional) (trees : List StatementTree) → StaysFrom i b c → LastReads b i last trees → LastReads c i last trees
-last-stays i b c None trees s h = h
-last-stays i b c (Some x) trees s h = let later = h.0 in (h.0, branched-stays i (conditional_index x) b c trees (omega (arith, later)) s h.1)
-
-ends-stays : (i : ℕ) (b c : Bench) (ts others : List StatementTree) → StaysFrom i b c → Ends b i ts others → Ends c i ts others
-ends-stays i b c ts others s x =
-    record {
-      statements = x.statements;
-      last = x.last;
-      there = s.containers i _ (omega arith) x.there;
-      read = are-kept b c s.wider x.statements ts x.read;
-      last_read = last-stays i b c x.last others s x.last_read;
-    }
 
 -- The member.
 
@@ -211,7 +146,7 @@ member-read scope clk reset registers b owned own h all =
     let there = clocked-there scope clk (next_block b) b c (ap (λ (x : Bench). x.always_blocks) u.after) in
     let event = clocked-event scope clk (next_block b) c in
     let clock = wider_tree b c (unused-wider b c u) clk own in
-    let body = ends-read d (length b.nests) _ _ (ends-stays (length b.nests) c d _ _ (clocked-stays scope clk (next_block b) (length b.nests) c (scope-older b scope owned) refl) (block-ends reset registers b h all)) in
+    let body = block-read reset registers b h all d (clocked-stays scope clk (next_block b) (length b.nests) c (scope-older b scope owned) refl) in
     rw (there, body, event, clock) refl
 
 -- What the call answers.

@@ -26,7 +26,7 @@ use Rattle.xlsynth_vast.specs.RegisterSteps.{StaysUnused, MayFill, MayMakeBlock,
 use Rattle.xlsynth_vast.proofs.RegisterParts.{wider_owned, registers-owned, unused-none, unused-block, unused-count, unused-wider, Changes, changes-then}
 use Rattle.xlsynth_vast.proofs.RegisterBlocks.{value-changes, value-made, all-assigned-changes}
 use Rattle.xlsynth_vast.proofs.RegisterBranches.{active-changes, active-made, opened-changes, opened-owned, opened-then, opened-else, both-changes, first-owned, second-owned, second-place}
-use Rattle.xlsynth_vast.proofs.RegisterMembers.{spare-owned, filled-wider, block-unused, block-spare, edge-sound, edge-unused, scope-owned, scope-older, registers-added}
+use Rattle.xlsynth_vast.proofs.RegisterMembers.{filled, edge-sound}
 
 -- Where memory was refused.
 
@@ -166,90 +166,41 @@ pub block-refused : (old new : Bench) (r : Result VastStatementBlock AllocError)
 block-refused old new (Ok x) reset registers e h = absurd cc
 block-refused old new (Err x) reset registers e h = h
 
--- The spare block, with the assignments of the registers that have no reset value.
-pub record Started (old now : Bench) (block : VastStatementBlock) (registers : List RegisterDefinition) : Type 0 where
-  pub is : block ≡ next_block old
-  pub after : now ≡ with_all_assigned Unreset (next_block old) registers (with_spare_block old)
-
-pub started :
-    (old b now : Bench) (block : VastStatementBlock) (registers : List RegisterDefinition) → (block ≡ next_block old) × (b ≡ with_spare_block old) → now ≡ with_all_assigned Unreset block registers b → Started old now block registers
-started old b now block registers e f = record { is = e.0; after = f ∙ rw (e.0, e.1) refl }
-
 pub start-unused : (old b new : Bench) (block : VastStatementBlock) → (block ≡ next_block old) × (b ≡ with_spare_block old) → StaysUnused block b new → HasUnused old new
 start-unused old b new block e h = h old (rw e.1 (unused-block old)) (rw e.0 (omega arith))
 
-pub started-unused : (old now new : Bench) (block : VastStatementBlock) (registers : List RegisterDefinition) → Started old now block registers → StaysUnused block now new → HasUnused old new
-started-unused old now new block registers s h =
+pub filled-unused : (old now new : Bench) (block : VastStatementBlock) (registers : List RegisterDefinition) → block ≡ next_block old → now ≡ filled registers old → StaysUnused block now new → HasUnused old new
+filled-unused old now new block registers e f h =
     let k = all-assigned-changes Unreset (next_block old) registers (with_spare_block old) in
-    h old (rw s.after (k.unused old (unused-block old) (omega arith))) (rw s.is (omega arith))
+    h old (rw f (k.unused old (unused-block old) (omega arith))) (rw e (omega arith))
 
-pub started-reset : (old now : Bench) (block : VastStatementBlock) (registers : List RegisterDefinition) (reset : Reset) → Started old now block registers → OwnsReset old reset → OwnsReset now reset
-started-reset old now block registers reset s h = rw s.after (wider_owned old _ (filled-wider old registers) reset.signal h)
-
-pub started-registers : (old now : Bench) (block : VastStatementBlock) (registers : List RegisterDefinition) → Started old now block registers → All (OwnsRegister old) registers → All (OwnsRegister now) registers
-started-registers old now block registers s h = rw s.after (registers-owned old _ (filled-wider old registers) registers h)
-
-pub started-block : (old now : Bench) (block : VastStatementBlock) (registers : List RegisterDefinition) → Started old now block registers → OwnsBlock now block
-started-block old now block registers s = rw (s.is, s.after) ((all-assigned-changes Unreset (next_block old) registers (with_spare_block old)).blocks (next_block old) (spare-owned old))
+pub filled-is : (old b now : Bench) (block : VastStatementBlock) (registers : List RegisterDefinition) → (block ≡ next_block old) × (b ≡ with_spare_block old) → now ≡ with_all_assigned Unreset block registers b → now ≡ filled registers old
+filled-is old b now block registers e f = f ∙ rw (e.0, e.1) refl
 
 pub block-plain :
-    (old now : Bench) (block : VastStatementBlock) (reset : Option Reset) (registers : List RegisterDefinition) → list_any is_resettable registers ≡ false → Started old now block registers → MayMakeBlock old now (Ok block) reset registers
+    (old now : Bench) (block : VastStatementBlock) (reset : Option Reset) (registers : List RegisterDefinition) → list_any is_resettable registers ≡ false → block ≡ next_block old → now ≡ filled registers old →
+    MayMakeBlock old now (Ok block) reset registers
 unfolding with_register_block
-block-plain old now block None registers none s = (s.is, s.after)
-block-plain old now block (Some reset) registers none s = (s.is, rw none s.after)
+block-plain old now block None registers none e f = (e, f)
+block-plain old now block (Some reset) registers none e f = (e, rw none f)
 
-pub block-bare : (old now : Bench) (block : VastStatementBlock) (registers : List RegisterDefinition) → Started old now block registers → MayMakeBlock old now (Ok block) None registers
+pub block-bare : (old now : Bench) (block : VastStatementBlock) (registers : List RegisterDefinition) → block ≡ next_block old → now ≡ filled registers old → MayMakeBlock old now (Ok block) None registers
 unfolding with_register_block
-block-bare old now block registers s = (s.is, s.after)
+block-bare old now block registers e f = (e, f)
 
 pub block-branched :
-    (old now new : Bench) (block : VastStatementBlock) (reset : Reset) (registers : List RegisterDefinition) → list_any is_resettable registers ≡ true → Started old now block registers →
+    (old now new : Bench) (block : VastStatementBlock) (reset : Reset) (registers : List RegisterDefinition) → list_any is_resettable registers ≡ true → block ≡ next_block old → now ≡ filled registers old →
     new ≡ with_reset reset registers block now → MayMakeBlock old new (Ok block) (Some reset) registers
 unfolding with_register_block
-block-branched old now new block reset registers any s e = (s.is, rw any (e ∙ rw (s.is, s.after) refl))
+block-branched old now new block reset registers any e f after = (e, rw any (after ∙ rw (e, f) refl))
 
--- The block is there, and then the edge of the clock.
-
-pub made-unused : (old b : Bench) (block : VastStatementBlock) (reset : Option Reset) (registers : List RegisterDefinition) → (block ≡ next_block old) × (b ≡ with_register_block reset registers old) → HasUnused old b
-made-unused old b block reset registers e = rw e.1 (block-unused reset registers old)
-
-pub made-clock :
-    (old b : Bench) (block : VastStatementBlock) (reset : Option Reset) (registers : List RegisterDefinition) (clk : Expr) → (block ≡ next_block old) × (b ≡ with_register_block reset registers old) → OwnsExpr old clk → OwnsExpr b clk
-made-clock old b block reset registers clk e h = wider_owned old b (unused-wider old b (made-unused old b block reset registers e)) clk h
-
-pub edged-unused :
-    (old b c : Bench) (block : VastStatementBlock) (reset : Option Reset) (registers : List RegisterDefinition) (clk event : Expr) → (block ≡ next_block old) × (b ≡ with_register_block reset registers old) →
-    (event ≡ next_expr b) × (c ≡ with_pos_edge clk b) → HasUnused old c
-edged-unused old b c block reset registers clk event e f = rw f.1 (edge-unused old b clk (made-unused old b block reset registers e))
+-- The member.
 
 pub edged-event : (b c : Bench) (clk event : Expr) → (event ≡ next_expr b) × (c ≡ with_pos_edge clk b) → EventSound c event
 edged-event b c clk event f = rw (f.0, f.1) (edge-sound b clk)
 
-pub edged-scope :
-    (old b c : Bench) (block : VastStatementBlock) (reset : Option Reset) (registers : List RegisterDefinition) (clk event : Expr) (scope : RegisterScope) → (block ≡ next_block old) × (b ≡ with_register_block reset registers old) →
-    (event ≡ next_expr b) × (c ≡ with_pos_edge clk b) → OwnsScope old scope → OwnsScope c scope
-edged-scope old b c block reset registers clk event scope e f h = scope-owned old c scope (edged-unused old b c block reset registers clk event e f) h
-
-pub edged-spare :
-    (old b c : Bench) (block : VastStatementBlock) (reset : Option Reset) (registers : List RegisterDefinition) (clk event : Expr) → (block ≡ next_block old) × (b ≡ with_register_block reset registers old) →
-    (event ≡ next_expr b) × (c ≡ with_pos_edge clk b) → c.spare ≡ Some block
-edged-spare old b c block reset registers clk event e f = rw (f.1, e.0, e.1) (block-spare reset registers old)
-
-pub edged-older :
-    (old b : Bench) (block : VastStatementBlock) (reset : Option Reset) (registers : List RegisterDefinition) (scope : RegisterScope) → (block ≡ next_block old) × (b ≡ with_register_block reset registers old) →
-    OwnsScope old scope → IsOlderScope scope block
-edged-older old b block reset registers scope e h = rw e.0 (scope-older old scope h)
-
-is-added :
+pub is-added :
     (old b c new : Bench) (block : VastStatementBlock) (clk event : Expr) (reset : Option Reset) (registers : List RegisterDefinition) (scope : RegisterScope) →
     (block ≡ next_block old) × (b ≡ with_register_block reset registers old) → (event ≡ next_expr b) × (c ≡ with_pos_edge clk b) → new ≡ with_clocked scope event block c → new ≡ with_registers clk reset registers scope old
 unfolding with_registers
 is-added old b c new block clk event reset registers scope e f after = after ∙ rw (f.0, f.1, e.0, e.1) refl
-
-pub attached :
-    (old b c new : Bench) (block : VastStatementBlock) (clk event : Expr) (reset : Option Reset) (registers : List RegisterDefinition) (scope : RegisterScope) → OwnsScope old scope → OwnsExpr old clk →
-    OptionHolds (OwnsReset old) reset → All (OwnsRegister old) registers → 0 < length registers → unless_unresettable (maybe_reset_tree old reset) (register_trees old registers) ≡ Ok tt →
-    (block ≡ next_block old) × (b ≡ with_register_block reset registers old) → (event ≡ next_expr b) × (c ≡ with_pos_edge clk b) → new ≡ with_clocked scope event block c →
-    MayAddRegisters old new (Ok tt) clk reset registers scope
-attached old b c new block clk event reset registers scope owned own h all some rule e f after =
-    registers-added old new clk reset registers scope owned own h all some rule (is-added old b c new block clk event reset registers scope e f after)

@@ -1,9 +1,9 @@
 -- proofs/helpers/registers/make_block/Answers.antt
 use Rattle.std.proofs.Common.{sym}
 use Rattle.vast_core.specs.View.{bench}
-use Rattle.xlsynth_vast.proofs.RegisterParts.{unused-none}
-use Rattle.xlsynth_vast.proofs.RegisterMembers.{spare-owned, spare-registers}
-use Rattle.xlsynth_vast.proofs.RegisterSteps.{block-refused, started, start-unused, started-unused, started-reset, started-registers, started-block, block-plain, block-bare, block-branched}
+use Rattle.xlsynth_vast.proofs.RegisterParts.{wider_owned, registers-owned, unused-none}
+use Rattle.xlsynth_vast.proofs.RegisterMembers.{spare-owned, spare-registers, filled-wider, filled-owned}
+use Rattle.xlsynth_vast.proofs.RegisterSteps.{block-refused, start-unused, filled-unused, filled-is, block-plain, block-bare, block-branched}
 use Rattle.xlsynth_vast.proofs.helpers.registers.make_block.Goals as goal
 
 pub returns-in_err-block : goal.returns-in_err-block
@@ -21,33 +21,34 @@ returns-in_err-assign_all c =
 
 pub returns-then-not-any_resettable : goal.returns-then-not-any_resettable
 returns-then-not-any_resettable c =
-    block-plain (bench c.args.file.now) _ c.in_ok-block.block c.args.reset c.args.registers.now (sym c.if-not-any_resettable.ensures)
-    (started (bench c.args.file.now) _ _ c.in_ok-block.block c.args.registers.now c.in_ok-block.ensures c.in_ok-assign_all.ensures)
+    block-plain (bench c.args.file.now) _ c.in_ok-block.block c.args.reset c.args.registers.now (sym c.if-not-any_resettable.ensures) c.in_ok-block.ensures.0
+    (filled-is (bench c.args.file.now) _ _ c.in_ok-block.block c.args.registers.now c.in_ok-block.ensures c.in_ok-assign_all.ensures)
 
 pub branch-reset-requires-clause-reset : goal.branch-reset-requires-clause-reset
 branch-reset-requires-clause-reset c =
-    started-reset (bench c.args.file.now) _ c.in_ok-block.block c.args.registers.now c.in-Some.reset
-    (started (bench c.args.file.now) _ _ c.in_ok-block.block c.args.registers.now c.in_ok-block.ensures c.in_ok-assign_all.ensures) (rw c.in-Some.is at c.requires.reset)
+    rw (filled-is (bench c.args.file.now) _ _ c.in_ok-block.block c.args.registers.now c.in_ok-block.ensures c.in_ok-assign_all.ensures)
+    (wider_owned (bench c.args.file.now) _ (filled-wider (bench c.args.file.now) c.args.registers.now) c.in-Some.reset.signal (rw c.in-Some.is at c.requires.reset))
 
 pub branch-reset-requires-clause-registers : goal.branch-reset-requires-clause-registers
 branch-reset-requires-clause-registers c =
-    started-registers (bench c.args.file.now) _ c.in_ok-block.block c.args.registers.now
-    (started (bench c.args.file.now) _ _ c.in_ok-block.block c.args.registers.now c.in_ok-block.ensures c.in_ok-assign_all.ensures) c.requires.registers
+    rw (filled-is (bench c.args.file.now) _ _ c.in_ok-block.block c.args.registers.now c.in_ok-block.ensures c.in_ok-assign_all.ensures)
+    (registers-owned (bench c.args.file.now) _ (filled-wider (bench c.args.file.now) c.args.registers.now) c.args.registers.now c.requires.registers)
 
 pub branch-reset-requires-clause-block : goal.branch-reset-requires-clause-block
 branch-reset-requires-clause-block c =
-    started-block (bench c.args.file.now) _ c.in_ok-block.block c.args.registers.now (started (bench c.args.file.now) _ _ c.in_ok-block.block c.args.registers.now c.in_ok-block.ensures c.in_ok-assign_all.ensures)
+    rw (filled-is (bench c.args.file.now) _ _ c.in_ok-block.block c.args.registers.now c.in_ok-block.ensures c.in_ok-assign_all.ensures, c.in_ok-block.ensures.0) (filled-owned (bench c.args.file.now) c.args.registers.now)
 
 pub returns-in_err-branch-in-Some : goal.returns-in_err-branch-in-Some
 returns-in_err-branch-in-Some c =
     block-refused _ _ c.from_residual-in_err-branch-in-Some.result c.args.reset c.args.registers.now c.from_residual-in_err-branch-in-Some.ensures.0
-    (started-unused (bench c.args.file.now) _ _ c.in_ok-block.block c.args.registers.now (started (bench c.args.file.now) _ _ c.in_ok-block.block c.args.registers.now c.in_ok-block.ensures c.in_ok-assign_all.ensures) c.in_err-branch-in-Some.ensures)
+    (filled-unused (bench c.args.file.now) _ _ c.in_ok-block.block c.args.registers.now c.in_ok-block.ensures.0 (filled-is (bench c.args.file.now) _ _ c.in_ok-block.block c.args.registers.now c.in_ok-block.ensures c.in_ok-assign_all.ensures) c.in_err-branch-in-Some.ensures)
 
 pub returns-in_ok-branch-in-Some : goal.returns-in_ok-branch-in-Some
 returns-in_ok-branch-in-Some c =
-    rw c.in-Some.is (block-branched (bench c.args.file.now) _ _ c.in_ok-block.block c.in-Some.reset c.args.registers.now (sym c.if-not-any_resettable.ensures)
-    (started (bench c.args.file.now) _ _ c.in_ok-block.block c.args.registers.now c.in_ok-block.ensures c.in_ok-assign_all.ensures) c.in_ok-branch-in-Some.ensures)
+    rw c.in-Some.is (block-branched (bench c.args.file.now) _ _ c.in_ok-block.block c.in-Some.reset c.args.registers.now (sym c.if-not-any_resettable.ensures) c.in_ok-block.ensures.0
+    (filled-is (bench c.args.file.now) _ _ c.in_ok-block.block c.args.registers.now c.in_ok-block.ensures c.in_ok-assign_all.ensures) c.in_ok-branch-in-Some.ensures)
 
 pub returns-in-None : goal.returns-in-None
 returns-in-None c =
-    rw c.in-None.is (block-bare (bench c.args.file.now) _ c.in_ok-block.block c.args.registers.now (started (bench c.args.file.now) _ _ c.in_ok-block.block c.args.registers.now c.in_ok-block.ensures c.in_ok-assign_all.ensures))
+    rw c.in-None.is (block-bare (bench c.args.file.now) _ c.in_ok-block.block c.args.registers.now c.in_ok-block.ensures.0
+    (filled-is (bench c.args.file.now) _ _ c.in_ok-block.block c.args.registers.now c.in_ok-block.ensures c.in_ok-assign_all.ensures))
