@@ -1,10 +1,10 @@
 -- Some texts of modules and their normal files.
 use Rattle.std.proofs.Common.{◌≡◌, ℕ, ◌≤◌, List, [], ◌∷◌, ◌++◌, true, false, codes, Some, None, refl, arith}
 use Rattle.vast_literal.specs.Keyword.{is_keyword}
-use Rattle.vast_literal.specs.Tokens.{LessEqual, level, OpenParen, CloseParen, Colon, Semicolon, Assign, CasezKey, EndCaseKey, DefaultKey, WireKey, ModuleKey, EndModuleKey, AlwaysCombKey, key_text, reserved_keys, Token, Reserved, Word, Number, Mark, word_token}
+use Rattle.vast_literal.specs.Tokens.{LessEqual, level, OpenParen, CloseParen, Colon, Semicolon, Assign, CasezKey, EndCaseKey, DefaultKey, WireKey, ModuleKey, EndModuleKey, key_text, reserved_keys, Token, Reserved, Word, Number, Mark, word_token}
 use Rattle.vast_literal.specs.Scan.{tokens}
-use Rattle.vast_literal.specs.NormalExpr.{Name, Literal, Binary, Ternary}
-use Rattle.vast_literal.specs.NormalFile.{BlockingStatement, NonblockingStatement, CaseStatement, Done, Then, NoLabels, Label, Range, NormalMember, DeclarationPart, AlwaysPart, FunctionPart, NoParts, MoreParts, ModulePart, NormalFile}
+use Rattle.vast_literal.specs.NormalExpr.{Name, Literal}
+use Rattle.vast_literal.specs.NormalFile.{BlockingStatement, CaseStatement, Done, Then, NoLabels, Label, NormalMember, NormalFile}
 use Rattle.vast_literal.specs.Grammar.{Spells, ternary, binary, name, number}
 use Rattle.vast_literal.specs.FileGrammar.{no_items, more_items, empty, arrow, assignment, not_unique, casez_word, simple, cases, IsCases, cased, assigns, done, then, no_labels, label, default, bare, is_kind, range, absent, present, no_type, own_type, declares, is_member_kind, declared, block_body, casez_body, IsMember, declaration, combinational, function, closed, and_member, no_header_parameters, no_ports, module_item, IsFile, file, DerivesFile}
 use Rattle.vast_literal.specs.WorkedTexts.{HasOneFile, module_of, given_comparison, ternary_label, typed_wire, wire_array, casez_function}

@@ -1,5 +1,5 @@
 -- Worked statements: those of the other files, and the normal forms of some trees.
-use Rattle.std.proofs.Common.{◌≡◌, negsuc, ℕ, pos, true, Some, refl, codes}
+use Rattle.std.proofs.Common.{◌≡◌, negsuc, true, Some, refl, codes}
 use Rattle.vast_literal.specs.Keyword.{is_keyword}
 use Rattle.vast_literal.specs.Tokens.{Minus, Power}
 use Rattle.vast_literal.specs.Tree.{SubOp, PowerOp, LiteralTree, BinaryTree, WidthCastTree, TypeCastTree, ExternalTree}

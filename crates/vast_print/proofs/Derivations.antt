@@ -4,7 +4,6 @@ use Rattle.std.specs.declared.alloc.Global.{Global}
 use Rattle.vast_literal.specs.Tree.{ExprTree, FileTree}
 use Rattle.vast_literal.specs.NormalExpr.{normal}
 use Rattle.vast_literal.specs.NormalTree.{normal_file}
-use Rattle.vast_literal.specs.PlainFile.{is_plain_file}
 use Rattle.vast_literal.specs.WellFormedFile.{is_well_formed_file}
 use Rattle.vast_literal.specs.Grammar.{DerivesExpression}
 use Rattle.vast_literal.specs.FileGrammar.{DerivesFile}

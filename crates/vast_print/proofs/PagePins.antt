@@ -1,5 +1,5 @@
 -- Worked declarations, members and files.
-use Rattle.std.proofs.Common.{◌≡◌, true, None, refl}
+use Rattle.std.proofs.Common.{◌≡◌, None, refl}
 use Rattle.vast_print.specs.Declaration.{declaration_text, name_text, type_text, based_text, base_of, packed_text, packed_ranges, unpacked_text, limit_text, joined, unpacked_ranges, is_external}
 use Rattle.vast_print.specs.Printed.{spaced, plain_text, ◌⊕◌, wrapped}
 use Rattle.std.specs.Fmt.{digits}
@@ -10,8 +10,6 @@ use Rattle.vast_print.specs.Members.{members_page, member_page, entries_page, in
 use Rattle.vast_print.specs.Statements.{statement_page, statements_page, block_page, alternates_page, begin_end, arms_page}
 use Rattle.vast_literal.specs.Keyword.{is_keyword}
 use Rattle.vast_literal.specs.WorkedTexts.{passthrough_file}
-use Rattle.vast_literal.specs.PlainFile.{is_plain_file}
-use Rattle.vast_literal.specs.WellFormedFile.{is_well_formed_file}
 use Rattle.vast_print.specs.Derived.{FilePrintsPlainly}
 use Rattle.vast_print.specs.WorkedPages.{WorkedPages}
 
