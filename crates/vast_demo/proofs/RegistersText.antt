@@ -1,19 +1,14 @@
 -- The printed text of the design `registers`.
-use Rattle.std.proofs.Common.{◌≡◌, ℕ, pos, true, false, List, [], ◌∷◌, Some, Result, Ok, Err, IfOk, refl, sym, ap, ◌∙◌, codes}
+use Rattle.std.proofs.Common.{◌≡◌, ℕ, pos, true, false, List, [], ◌∷◌, Some, Result, Ok, Err, IfOk, refl, codes}
 use Rattle.std.specs.Fmt.{digits}
 use Rattle.vast_literal.specs.Tree.{LiteralTree, TypeTree, ScalarTree, VectorTree, SystemVerilogDialect, LogicKind, WireKind, InputDirection, PortTree, MemberTree, DeclarationMember, NoMembers, MoreMembers, ModuleItem, FileTree}
 use Rattle.vast_literal.specs.declared.error.VastFault.{VastFault}
 use Rattle.vast_core.specs.declared.handle.Expr.{Expr}
 use Rattle.vast_core.specs.declared.handle.VastModule.{VastModule}
-use Rattle.vast_core.specs.declared.handle.VastStatementBlock.{VastStatementBlock}
-use Rattle.vast_core.specs.declared.node.Assignment.{Assignment}
 use Rattle.vast_core.specs.Handles.{logic_ref_to_expr}
-use Rattle.vast_core.specs.Nodes.{Root, expr_in, type_in}
-use Rattle.vast_core.specs.Records.{AlwaysEntry}
-use Rattle.vast_core.specs.Nests.{NestRecord}
+use Rattle.vast_core.specs.Nodes.{expr_in, type_in}
 use Rattle.vast_core.specs.Bench.{Bench, tree_of}
-use Rattle.vast_core.specs.Loops.{next_always}
-use Rattle.vast_core.specs.FileTree.{tree, member_tree}
+use Rattle.vast_core.specs.FileTree.{tree, families}
 use Rattle.vast_print.specs.Printed.{plain_text, ◌⊕◌, spaced, wrapped}
 use Rattle.vast_print.specs.Text.{expr_text}
 use Rattle.vast_print.specs.Statements.{begin_end, statement_page, statements_page, block_page}
@@ -24,7 +19,8 @@ use Rattle.vast_print.specs.Layout.{port_text, ports_page, opening_page, header_
 use Rattle.xlsynth_vast.specs.declared.helpers.registers.Reset.{Reset}
 use Rattle.xlsynth_vast.specs.declared.helpers.registers.RegisterDefinition.{RegisterDefinition}
 use Rattle.xlsynth_vast.specs.declared.helpers.registers.RegisterScope.TheVariants.{Module as ModuleScope}
-use Rattle.xlsynth_vast.specs.Registers.{with_unused, with_clocked, AddsMember, registers_member, maybe_reset_tree, register_trees, MayAddRegisters}
+use Rattle.xlsynth_vast.specs.Registers.{registers_member, maybe_reset_tree, register_trees}
+use Rattle.xlsynth_vast.specs.AddedRegisters.{with_assigned, with_if, with_branches, with_register_block, with_registers, AddsRegisters, MayAddRegisters}
 use Rattle.vast_demo.specs.DesignTexts.{registers_text}
 use Rattle.vast_demo.specs.RegistersFile.{the_module, clock, reset, the_signals, the_state, the_values, enabled, plain, signals_made, state_made, values_made}
 
@@ -52,30 +48,16 @@ design_with last =
           }) ∷ [];
     }
 
--- Whatever else the file has that no list names: it isn't in the tree.
-abbrev after : List Root → List Assignment → List NestRecord → Expr → VastStatementBlock → Bench
-after roots assignments containers event block = with_clocked (ModuleScope the_module) event block (with_unused roots assignments containers values_made)
-
-whole :
-    (roots : List Root) (assignments : List Assignment) (containers : List NestRecord) (event : Expr) (block : VastStatementBlock) →
-    tree (after roots assignments containers event block) ≡ design_with (member_tree (after roots assignments containers event block) (AlwaysEntry (next_always values_made)))
-unfolding tree expr_in type_in design_with digits signals_made state_made values_made
-whole roots assignments containers event block = refl
-
-tree_after : (c : Bench) (member : MemberTree) → AddsMember values_made c (ModuleScope the_module) member → tree c ≡ design_with member
-tree_after c member h =
-    let u = h.unused in
-    let e : c ≡ after u.roots u.assignments u.containers h.event h.block = h.after ∙ ap (λ (x : Bench). with_clocked (ModuleScope the_module) h.event h.block x) u.after in
-    ap tree e
-    ∙ whole u.roots u.assignments u.containers h.event h.block
-    ∙ ap design_with (ap (λ (x : Bench). member_tree x (AlwaysEntry (next_always values_made))) (sym e) ∙ h.tree)
-
 abbrev the_reset : Reset
 the_reset = record { signal = logic_ref_to_expr reset; active_low = true }
 
 -- The registers' always block, as a tree.
 abbrev the_member : MemberTree
 the_member = registers_member (tree_of values_made (logic_ref_to_expr clock)) (maybe_reset_tree values_made (Some the_reset)) (register_trees values_made (enabled the_signals the_state the_values ∷ plain the_state the_values ∷ []))
+
+whole : tree (with_registers (logic_ref_to_expr clock) (Some the_reset) (enabled the_signals the_state the_values ∷ plain the_state the_values ∷ []) (ModuleScope the_module) values_made) ≡ design_with the_member
+unfolding tree families expr_in type_in design_with digits signals_made state_made values_made with_registers with_register_block with_branches with_if with_assigned
+whole = refl
 
 registers_printed : print (layout (design_with the_member)) ≡ registers_text
 unfolding registers_text design_with signals_made state_made values_made expr_in type_in print print_lines layout items_page item_page module_page header_page opening_page ports_page port_text entries_page body_page members_page member_page always_text events_text more_events_text begin_end statement_page statements_page block_page expr_text declaration_text name_text type_text based_text base_of is_external packed_text unpacked_text limit_text joined spaced wrapped inner inner_lines lead lead_lines no_lines line above beside beside_lines written written_lines plain_text ◌⊕◌ digits
@@ -89,6 +71,6 @@ pub registers-added :
     MayAddRegisters b c result x (Some (record { signal = s; active_low = true })) (r ∷ q ∷ []) (ModuleScope m) →
     IfOk result (λ _. print (layout (tree c)) ≡ registers_text)
 registers-added b c (Ok done) x s r q m e ex es er eq em h =
-    let added : AddsMember values_made c (ModuleScope the_module) the_member = simp (e, ex, es, er, eq, em) at h.1 in
-    rw (tree_after c the_member added) registers_printed
+    let added : AddsRegisters values_made c (logic_ref_to_expr clock) (Some the_reset) (enabled the_signals the_state the_values ∷ plain the_state the_values ∷ []) (ModuleScope the_module) = simp (e, ex, es, er, eq, em) at h in
+    rw (added.after, whole) registers_printed
 registers-added b c (Err fault) x s r q m e ex es er eq em h = tt

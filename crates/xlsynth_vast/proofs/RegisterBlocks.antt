@@ -8,7 +8,7 @@ use Rattle.vast_core.specs.declared.handle.VastStatementBlock.{VastStatementBloc
 use Rattle.vast_core.specs.declared.node.Assignment.{Assignment}
 use Rattle.vast_core.specs.Handles.{block_index}
 use Rattle.vast_core.specs.Nodes.{OptionHolds, ExprRoot}
-use Rattle.vast_core.specs.Nests.{StatementEntry, AssignStatement, NestRecord, BlockRecord}
+use Rattle.vast_core.specs.Nests.{StatementEntry, AssignStatement, BlockRecord}
 use Rattle.vast_core.specs.Bench.{Bench, OwnsExpr, tree_of}
 use Rattle.vast_core.specs.Growth.{with_assignment}
 use Rattle.vast_core.specs.Artifacts.{next_statement}

@@ -3,14 +3,13 @@ use Rattle.std.proofs.Common.{◌≡◌, ◌≢◌, ℕ, suc, ◌-◌, ◌<◌, 
 use Rattle.std.specs.List.{list_any}
 use Rattle.vast_literal.specs.Tree.{StatementTree, ConditionalTree, Else, UnaryTree, LogicalNotOp}
 use Rattle.vast_core.specs.declared.handle.Expr.{Expr}
-use Rattle.vast_core.specs.declared.handle.Conditional.{Conditional}
 use Rattle.vast_core.specs.declared.handle.VastStatementBlock.{VastStatementBlock}
-use Rattle.vast_core.specs.Handles.{block_index, conditional_index}
+use Rattle.vast_core.specs.Handles.{block_index}
 use Rattle.vast_core.specs.Nodes.{OptionHolds, ExprRoot}
 use Rattle.vast_core.specs.Nests.{StatementEntry, ConditionalStatement, NestRecord, BlockRecord, BranchRecord}
 use Rattle.vast_core.specs.Bench.{Bench, OwnsExpr, OwnsBlock, OwnsConditional, tree_of}
 use Rattle.vast_core.specs.Containers.{NestedEntry, StatementEnters, ElseEnters, with_entry, with_nest, with_block, with_conditional, new_conditional, next_conditional, next_block, has_else}
-use Rattle.vast_core.specs.FileTree.{Family, block_in, branch_statement, statements_in, unfolded, families}
+use Rattle.vast_core.specs.FileTree.{block_in, branch_statement, statements_in, unfolded, families}
 use Rattle.vast_core.proofs.Lists.{slice_get-append, slice_get-seam, length-changed_at}
 use Rattle.vast_core.proofs.Laws.{next_owned, next_tree}
 use Rattle.vast_core.proofs.Enters.{block-place, next_block_owned, next_conditional_owned}
@@ -22,7 +21,7 @@ use Rattle.xlsynth_vast.specs.Inspections.{then_block_at}
 use Rattle.xlsynth_vast.specs.Reductions.{IsTree}
 use Rattle.xlsynth_vast.specs.Registers.{register_trees, reset_tree, maybe_reset_tree, active_tree, assigned_all, value_at_reset, value_outside_reset, block_of, by_reset, OwnsRegister, OwnsReset}
 use Rattle.xlsynth_vast.specs.AddedRegisters.{is_resettable, active_expr, with_active, with_if, with_if_else, first_block, second_block, with_all_assigned, with_branches, with_reset, with_maybe_reset}
-use Rattle.xlsynth_vast.proofs.RegisterParts.{any-tree, Wider, wider-wider, wider_owned, wider_tree, registers-owned, registers-kept, get-changed, get-unchanged, get-within, Changes, changes-none, changes-then, changes-root, changes-nest, changes-entry}
+use Rattle.xlsynth_vast.proofs.RegisterParts.{any-tree, Wider, wider-wider, wider_tree, registers-owned, registers-kept, get-changed, get-unchanged, get-within, Changes, changes-none, changes-then, changes-root, changes-nest, changes-entry}
 use Rattle.xlsynth_vast.proofs.RegisterBlocks.{Stands, stands-kept, statements-append, if-changes, all-assigned-changes, all-assigned-stands}
 
 -- The condition.

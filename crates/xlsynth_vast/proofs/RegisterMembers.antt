@@ -1,24 +1,23 @@
 -- Laws of the member that registers become: the block that it takes, and its tree.
-use Rattle.std.proofs.Common.{◌≡◌, ℕ, suc, zero, ◌<◌, ◌≤◌, List, [], ◌∷◌, ◌++◌, length, All, Option, Some, None, slice_get, Ok, Err, refl, ap, ◌∙◌, inl, arith, append-nil}
-use Rattle.vast_literal.specs.Tree.{StatementTree, PosEdgeTree, MoreStatements, NoStatements}
+use Rattle.std.proofs.Common.{◌≡◌, ℕ, ◌<◌, List, [], ◌∷◌, ◌++◌, length, All, Option, Some, None, slice_get, Ok, Err, refl, ap, ◌∙◌, inl, arith}
+use Rattle.vast_literal.specs.Tree.{PosEdgeTree}
 use Rattle.vast_literal.specs.declared.error.VastFault.{VastFault}
 use Rattle.vast_literal.specs.declared.error.VastFault.TheVariants.{Refused, Memory}
 use Rattle.vast_literal.specs.Fault.{RefusedBy}
 use Rattle.vast_core.specs.declared.handle.Expr.{Expr}
-use Rattle.vast_core.specs.declared.handle.Conditional.{Conditional}
 use Rattle.vast_core.specs.declared.handle.VastStatementBlock.{VastStatementBlock}
 use Rattle.vast_core.specs.declared.kind.AlwaysKind.TheVariants.{AlwaysFF}
-use Rattle.vast_core.specs.Handles.{block_index, conditional_index, loop_index}
+use Rattle.vast_core.specs.Handles.{block_index, loop_index}
 use Rattle.vast_core.specs.Nodes.{OptionHolds, ExprRoot}
 use Rattle.vast_core.specs.Records.{AlwaysEntry}
-use Rattle.vast_core.specs.Nests.{StatementEntry, NestRecord, BlockRecord}
+use Rattle.vast_core.specs.Nests.{BlockRecord}
 use Rattle.vast_core.specs.Bench.{Bench, OwnsExpr, OwnsBlock, tree_of}
 use Rattle.vast_core.specs.Sound.{EventSound}
 use Rattle.vast_core.specs.Growth.{next_expr}
 use Rattle.vast_core.specs.Containers.{MemberEnters, with_entry, next_block, with_spare_block}
 use Rattle.vast_core.specs.Loops.{next_always}
 use Rattle.vast_core.specs.Unattached.{always_over}
-use Rattle.vast_core.specs.FileTree.{Family, block_in, branch_statement, statements_in, unfolded, families, member_tree}
+use Rattle.vast_core.specs.FileTree.{member_tree}
 use Rattle.vast_core.proofs.Lists.{slice_get-seam}
 use Rattle.vast_core.proofs.NodeLaws.{Extends-root}
 use Rattle.vast_core.proofs.Nests.{get-before}
@@ -30,10 +29,10 @@ use Rattle.xlsynth_vast.specs.declared.helpers.registers.RegisterScope.{Register
 use Rattle.xlsynth_vast.specs.declared.helpers.registers.RegisterScope.TheVariants.{Module as ModuleScope, GenerateLoop as LoopScope}
 use Rattle.xlsynth_vast.specs.declared.helpers.registers.Share.TheVariants.{Unreset}
 use Rattle.xlsynth_vast.specs.Expressions.{with_pos_edge}
-use Rattle.xlsynth_vast.specs.Registers.{block_of, unreset_value, assigned_all, by_reset, registers_member, OwnsScope, OwnsReset, OwnsRegister, HasUnused, unless_unresettable, maybe_reset_tree, register_trees}
+use Rattle.xlsynth_vast.specs.Registers.{unreset_value, assigned_all, by_reset, registers_member, OwnsScope, OwnsReset, OwnsRegister, HasUnused, unless_unresettable, maybe_reset_tree, register_trees}
 use Rattle.xlsynth_vast.specs.AddedRegisters.{with_all_assigned, with_register_block, with_clocked_at, with_registers, MayAddRegisters}
 use Rattle.xlsynth_vast.specs.RegisterSteps.{IsOlderScope}
-use Rattle.xlsynth_vast.proofs.RegisterParts.{Wider, wider-wider, wider_owned, wider_tree, registers-owned, registers-kept, get-unchanged, get-within, unused-none, unused-block, unused-wider, Changes, changes-then, changes-root}
+use Rattle.xlsynth_vast.proofs.RegisterParts.{Wider, wider-wider, wider_owned, wider_tree, registers-owned, registers-kept, get-unchanged, unused-none, unused-block, unused-wider, Changes, changes-then, changes-root}
 use Rattle.xlsynth_vast.proofs.RegisterBlocks.{Stands, all-assigned-changes, all-assigned-stands}
 use Rattle.xlsynth_vast.proofs.RegisterBranches.{StaysFrom, IsBlockOf, maybe-reset-changes, maybe-reset-read}
 

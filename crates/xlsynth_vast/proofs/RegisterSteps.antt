@@ -1,12 +1,11 @@
 -- What the steps answer by which the block of registers is made: each leaves what its equation says, or leaves unused what was.
-use Rattle.std.proofs.Common.{◌≡◌, ℕ, ◌<◌, ◌≤◌, ◌⊎◌, true, false, List, length, All, Option, Some, None, slice_get, Result, Ok, Err, IsErr, refl, sym, ◌∙◌, inl, inr, arith}
+use Rattle.std.proofs.Common.{◌≡◌, ℕ, ◌≤◌, ◌⊎◌, true, false, List, length, Option, Some, None, slice_get, Result, Ok, Err, IsErr, refl, sym, ◌∙◌, inl, inr, arith}
 use Rattle.std.specs.List.{list_any}
 use Rattle.std.specs.declared.alloc.AllocError.{AllocError}
 use Rattle.vast_core.specs.declared.handle.Expr.{Expr}
 use Rattle.vast_core.specs.declared.handle.Conditional.{Conditional}
 use Rattle.vast_core.specs.declared.handle.VastStatementBlock.{VastStatementBlock}
 use Rattle.vast_core.specs.Handles.{block_index, conditional_index}
-use Rattle.vast_core.specs.Nodes.{OptionHolds}
 use Rattle.vast_core.specs.Nests.{AssignStatement, ConditionalStatement}
 use Rattle.vast_core.specs.Bench.{Bench, OwnsExpr, OwnsBlock, OwnsConditional}
 use Rattle.vast_core.specs.Sound.{EventSound}
@@ -20,10 +19,10 @@ use Rattle.xlsynth_vast.specs.declared.helpers.registers.Share.TheVariants.{Unre
 use Rattle.xlsynth_vast.specs.declared.helpers.registers.RegisterScope.{RegisterScope}
 use Rattle.xlsynth_vast.specs.Expressions.{with_pos_edge}
 use Rattle.xlsynth_vast.specs.Inspections.{then_block_at}
-use Rattle.xlsynth_vast.specs.Registers.{unless_unresettable, maybe_reset_tree, register_trees, OwnsRegister, OwnsReset, OwnsScope, HasUnused}
-use Rattle.xlsynth_vast.specs.AddedRegisters.{is_resettable, value_expr, with_value, with_assigned, with_all_assigned, active_expr, with_active, with_if, with_if_else, first_block, second_block, with_branches, with_reset, with_register_block, with_clocked, with_registers, MayAddRegisters}
-use Rattle.xlsynth_vast.specs.RegisterSteps.{StaysUnused, MayFill, MayMakeBlock, IsOlderScope}
-use Rattle.xlsynth_vast.proofs.RegisterParts.{wider_owned, registers-owned, unused-none, unused-block, unused-count, unused-wider, Changes, changes-then}
+use Rattle.xlsynth_vast.specs.Registers.{OwnsRegister, OwnsReset, HasUnused}
+use Rattle.xlsynth_vast.specs.AddedRegisters.{is_resettable, value_expr, with_value, with_assigned, with_all_assigned, active_expr, with_active, with_if, with_if_else, first_block, second_block, with_branches, with_reset, with_register_block, with_clocked, with_registers}
+use Rattle.xlsynth_vast.specs.RegisterSteps.{StaysUnused, MayFill, MayMakeBlock}
+use Rattle.xlsynth_vast.proofs.RegisterParts.{unused-none, unused-block, unused-count, Changes, changes-then}
 use Rattle.xlsynth_vast.proofs.RegisterBlocks.{value-changes, value-made, all-assigned-changes}
 use Rattle.xlsynth_vast.proofs.RegisterBranches.{active-changes, active-made, opened-changes, opened-owned, opened-then, opened-else, both-changes, first-owned, second-owned, second-place}
 use Rattle.xlsynth_vast.proofs.RegisterMembers.{filled, edge-sound}
