@@ -27,6 +27,7 @@ pub mod FileParser
 pub mod Settled
 pub mod Nexts
 pub mod SettledDeclarations
+pub mod SettledMembers
 pub mod NormalTree
 pub mod FileTokens
 pub mod PlainFile
