@@ -50,3 +50,4 @@ pub mod SettledLists
 pub mod SettledDeclarations
 pub mod SettledMemberParts
 pub mod SettledMembers
+pub mod SettledFiles
