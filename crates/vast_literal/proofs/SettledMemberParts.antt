@@ -123,11 +123,11 @@ plain_agree n (_ ∷ us) h = nothing
 
 -- functions
 
-input_agree : (n : ℕ) (ts : List Token) → 5 * length ts + 0 < n → Agree (length ts) (input_at n ts) (settled_input ts)
+pub input_agree : (n : ℕ) (ts : List Token) → 5 * length ts + 0 < n → Agree (length ts) (input_at n ts) (settled_input ts)
 unfolding input_at settled_input
 input_agree n ts h = behind_key InputKey ts (λ us l. wide (omega arith) (declaration_agree n us (omega arith)))
 
-inputs_agree : (n : ℕ) (ts : List Token) → 5 * length ts + 1 < n → Agree (length ts) (inputs_at n ts) (settled_inputs ts)
+pub inputs_agree : (n : ℕ) (ts : List Token) → 5 * length ts + 1 < n → Agree (length ts) (inputs_at n ts) (settled_inputs ts)
 unfolding inputs_at settled_inputs
 inputs_agree n ts h = listed_agree (after Comma) settled_input (shorter_mark Comma) CloseParen input_at 0 (λ m us k. wide (omega arith) (input_agree m us k)) n ts h
 
@@ -135,7 +135,7 @@ pub local_agree : (n : ℕ) (ts : List Token) → 5 * length ts + 1 < n → Agre
 unfolding local_at settled_local
 local_agree n ts h = chain (declaration_agree n ts h) (λ d s. behind Semicolon d.1 (λ us l. ready (d.0, us) (omega arith)))
 
-locals_agree : (n : ℕ) (ts : List Token) → 5 * length ts + 2 < n → Agree (suc (length ts)) (locals_at n ts) (settled_locals ts)
+pub locals_agree : (n : ℕ) (ts : List Token) → 5 * length ts + 2 < n → Agree (suc (length ts)) (locals_at n ts) (settled_locals ts)
 unfolding locals_at settled_locals
 locals_agree n ts h = many_of_agree is_local settled_local local_at 1 local_agree n ts h
 
