@@ -98,7 +98,7 @@ unfolding loop_at
 loop_agree n rest ts r q = meets (behind OpenParen ts (λ a l1. behind_key GenvarKey a (λ b l2. read (word_at b) (fewer_word b) (λ i l3. behind Assign i.1 (λ c l4.
     chain (closed_agree n Semicolon c (omega arith)) (λ x l5. chain (closed_agree n Semicolon x.1 (omega arith)) (λ d l6. given (bound_of i.0 d.0) (λ e. skipped (same_word i.0 d.1) (same_word_shorter i.0 d.1) (λ f l7.
     behind Assign f (λ g l8. skipped (same_word i.0 g) (same_word_shorter i.0 g) (λ h l9. skipped (step_word h) (step_shorter h) (λ j l10. behind CloseParen j (λ k l11.
-    wide (omega arith) (block_agree n rest (length ts) r i.0 x.0 e k (omega arith)))))))))))))))  (loop_split ts)
+    wide (omega arith) (block_agree n rest (length ts) r i.0 x.0 e k (omega arith))))))))))))))) (loop_split ts)
 
 -- members by their keyword
 
