@@ -1,9 +1,9 @@
 -- The settled parser of files as the reader goes through it.
-use Rattle.std.proofs.Common.{◌≡◌, ℕ, suc, ◌+◌, ◌*◌, ◌<◌, Bool, true, false, cond, eqb, bytes_eq, codes, List, [], ◌∷◌, ◌++◌, length, Option, Some, None, refl, sym, arith, ◌≢◌}
+use Rattle.std.proofs.Common.{◌≡◌, ℕ, suc, ◌*◌, ◌<◌, Bool, true, false, cond, eqb, bytes_eq, codes, List, [], ◌∷◌, ◌++◌, length, Option, Some, None, refl, arith, ◌≢◌}
 use Rattle.std.proofs.lemmas.Slice.Eq.{bytes_eq-Decides}
 use Rattle.std.proofs.lemmas.Bool.Decides.{nat_tests}
-use Rattle.vast_literal.specs.Tokens.{Key, ModuleKey, EndModuleKey, ParameterKey, OpenParen, CloseParen, Comma, Semicolon, Hash, Assign, Token, MacroWord, Quoted, Mark}
-use Rattle.vast_literal.specs.NormalFile.{NormalParameter, NormalPort, NormalItem, ModulePart, IncludePart, NormalFile}
+use Rattle.vast_literal.specs.Tokens.{ModuleKey, EndModuleKey, ParameterKey, OpenParen, CloseParen, Comma, Semicolon, Hash, Assign, Token, MacroWord, Quoted, Mark}
+use Rattle.vast_literal.specs.NormalFile.{NormalParameter, NormalPort, NormalItem, ModulePart, IncludePart}
 use Rattle.vast_literal.specs.FileGrammar.{is_direction}
 use Rattle.vast_literal.specs.Parser.{◌>>=◌, after, word_at}
 use Rattle.vast_literal.specs.StatementParser.{ReadOf, after_key}

@@ -1,10 +1,10 @@
 -- The lists in members as the reader goes through them: what is joined by commas or `or`, item by item.
-use Rattle.std.proofs.Common.{◌≡◌, ℕ, suc, ◌+◌, ◌*◌, Bool, true, false, List, [], ◌∷◌, ◌++◌, length, Option, Some, None, refl, arith, ◌∙◌}
-use Rattle.vast_literal.specs.Tokens.{CloseParen, Comma, OrKey, Token, Reserved, Mark}
+use Rattle.std.proofs.Common.{◌≡◌, suc, ◌+◌, ◌*◌, true, false, List, [], ◌∷◌, ◌++◌, length, Some, None, refl, arith, ◌∙◌}
+use Rattle.vast_literal.specs.Tokens.{CloseParen, Comma, OrKey, Token, Reserved}
 use Rattle.vast_literal.specs.NormalFile.{NormalDeclaration, Event, NormalConnection}
 use Rattle.vast_literal.specs.FileGrammar.{is_local_kind}
 use Rattle.vast_literal.specs.Parser.{◌>>=◌, after, key_at}
-use Rattle.vast_literal.specs.StatementParser.{ReadOf, after_key}
+use Rattle.vast_literal.specs.StatementParser.{after_key}
 use Rattle.vast_literal.specs.DeclarationParser.{many_on}
 use Rattle.vast_literal.specs.MemberParser.{local_on, is_local}
 use Rattle.vast_literal.specs.Settled.{either}

@@ -1,9 +1,9 @@
 -- The settled parser of members as the reader goes through it.
-use Rattle.std.proofs.Common.{◌≡◌, ℕ, Bool, true, false, cond, bytes_eq, codes, List, [], ◌∷◌, ◌++◌, Option, Some, None, refl, sym, ap, ◌∙◌}
+use Rattle.std.proofs.Common.{◌≡◌, ℕ, Bool, true, false, cond, bytes_eq, codes, List, [], ◌∷◌, Option, Some, None, refl, sym, ap, ◌∙◌}
 use Rattle.std.proofs.lemmas.Slice.Eq.{bytes_eq-Decides}
 use Rattle.vast_literal.specs.Tokens.{Op, Less, Punct, OpenParen, CloseParen, Colon, Semicolon, Dot, Hash, At, Assign, Key, IfKey, CasezKey, UniqueKey, BeginKey, EndKey, AssignKey, GenvarKey, AlwaysCombKey, FunctionKey, AutomaticKey, EndFunctionKey, InputKey, ForKey, Token, Reserved, Word, Keyword, SystemWord, MacroWord, Number, Based, Quoted, Operator, Mark}
 use Rattle.vast_literal.specs.NormalExpr.{NormalExpr, Name, Binary, NormalExprs}
-use Rattle.vast_literal.specs.NormalFile.{NormalStatement, ChoiceStatement, NormalStatements, Done, Then, NormalDeclaration, Event, EdgeEvent, NameEvent, NormalConnection, NormalMember, DeclarationPart, AssignPart, ParameterPart, MacroPart, InstancePart, AlwaysPart, ConditionalPart, FunctionPart, LoopPart, NormalMembers, NoParts, MoreParts}
+use Rattle.vast_literal.specs.NormalFile.{Done, Then, NormalDeclaration, EdgeEvent, NameEvent, NormalConnection, NormalMember, DeclarationPart, AssignPart, ParameterPart, MacroPart, InstancePart, AlwaysPart, ConditionalPart, FunctionPart, LoopPart, NormalMembers, NoParts, MoreParts}
 use Rattle.vast_literal.specs.FileGrammar.{is_member_kind, is_parameter_word, is_clocked, is_edge}
 use Rattle.vast_literal.specs.Parser.{◌>>=◌, after, word_at, number_at, enclosed, arguments, selected}
 use Rattle.vast_literal.specs.StatementParser.{ReadOf, after_key, block_at, cases_at}
@@ -12,7 +12,7 @@ use Rattle.vast_literal.specs.Settled.{either, settled, settled_reader}
 use Rattle.vast_literal.specs.Nexts.{key_in, key_with, begins_with, sign_with, is_plus}
 use Rattle.vast_literal.specs.SettledDeclarations.{settled_declaration}
 use Rattle.vast_literal.specs.SettledMembers.{settled_members, settled_event, settled_events, connection_value, settled_connection, settled_given, settled_connections, settled_givens, instance_end, given_parameters, settled_instance, macro_ending, settled_macro, plain_part, loop_start, loop_bound, number_one, loop_step, loop_label, loop_block, loop_end, settled_loop, settled_input, settled_inputs, settled_local, settled_locals, lone_case, function_block, function_ending, settled_function, assign_part, combinational_part, conditional_part, parameter_part, clocked_part, declaration_part, settled_member}
-use Rattle.vast_literal.proofs.SettledMembers.{next_members, members_settled}
+use Rattle.vast_literal.proofs.SettledMembers.{members_settled}
 use Rattle.vast_read.specs.Steps.{in_parens}
 use Rattle.vast_read.specs.StatementParts.{arms_in}
 use Rattle.vast_read.specs.StatementSteps.{is_casez, choice_statement, cases_of, block}
