@@ -42,3 +42,7 @@ pub mod DerivedOnce
 pub mod FilePins
 pub mod LoopPin
 pub mod TokenTexts
+pub mod SoundLists
+pub mod SoundStatements
+pub mod SoundDeclarations
+pub mod SoundMemberParts

@@ -1,5 +1,5 @@
 -- What a sound parser of lists answers: a front of the tokens and the items that it spells.
-use Rattle.std.proofs.Common.{◌≡◌, ℕ, zero, suc, Bool, true, false, List, [], ◌∷◌, ◌++◌, get_or, Option, Some, None, refl, sym, subst, ap, append_assoc, eqb-true}
+use Rattle.std.proofs.Common.{◌≡◌, ℕ, zero, suc, Bool, true, false, cond, List, [], ◌∷◌, ◌++◌, get_or, Option, Some, None, refl, sym, subst, ap, append_assoc, eqb-true}
 use Rattle.std.proofs.lemmas.Option.{same_Some, cond_some}
 use Rattle.vast_literal.specs.Tokens.{Punct, Key, IfKey, reserved_keys, Token, Reserved, Mark}
 use Rattle.vast_literal.specs.FileGrammar.{IsMany, no_items, more_items, IsJoined, last_item, next_item, IsList, empty, full}
@@ -24,6 +24,16 @@ answers {P = P} {ts = ts} front p w e = subst (λ v. Fronted P ts v) (same_Some 
 
 pub moved : {A : Type 0} {P : List Token → A → Type 0} {ts us : List Token} {r : A × List Token} → ts ≡ us → Fronted P us r → Fronted P ts r
 moved {P = P} {r = r} w x = subst (λ v. Fronted P v r) (sym w) x
+
+-- what a test lets through
+pub passed : {A : Type 0} (b : Bool) (o : Option A) (r : A) → cond b o None ≡ Some r → (b ≡ true) × (o ≡ Some r)
+passed true o r e = (refl, e)
+passed false o r e = absurd (cc e)
+
+-- by the two ways of a test
+pub either_way : {A Q : Type 0} (b : Bool) (x y z : A) → cond b x y ≡ z → (b ≡ true → x ≡ z → Q) → (b ≡ false → y ≡ z → Q) → Q
+either_way true x y z e f g = f refl e
+either_way false x y z e f g = g refl e
 
 -- keywords
 

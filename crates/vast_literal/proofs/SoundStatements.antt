@@ -51,7 +51,7 @@ record Headed (ts : List Token) (c : NormalExpr) (b : NormalStatements) (us : Li
 
 module _ (q : Reader) (s : SoundReader q) where
   -- a block, with its `begin`
-  block_sound : (ts : List Token) (r : NormalStatements × List Token) → block_at q ts ≡ Some r →
+  pub block_sound : (ts : List Token) (r : NormalStatements × List Token) → block_at q ts ≡ Some r →
       (front : List Token) × (ts ≡ (Reserved BeginKey ∷ (front ++ r.1))) × IsStatements front r.0
   unfolding block_at
   block_sound ts r e =
