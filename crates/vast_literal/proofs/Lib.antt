@@ -46,3 +46,4 @@ pub mod SoundLists
 pub mod SoundStatements
 pub mod SoundDeclarations
 pub mod SoundMemberParts
+pub mod SoundMembers
