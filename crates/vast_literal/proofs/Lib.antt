@@ -47,3 +47,4 @@ pub mod SoundStatements
 pub mod SoundDeclarations
 pub mod SoundMemberParts
 pub mod SoundMembers
+pub mod SoundFiles

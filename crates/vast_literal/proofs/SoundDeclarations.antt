@@ -1,14 +1,13 @@
 -- The parser of groups and declarations is sound: a front of the tokens spells each declaration that it answers.
-use Rattle.std.proofs.Common.{◌≡◌, ℕ, ◌⊎◌, inl, inr, Bool, true, false, cond, List, [], ◌∷◌, ◌++◌, Option, Some, None, refl, sym, subst, ap, append_assoc, IsTrue}
-use Rattle.std.proofs.lemmas.Option.{same_Some}
-use Rattle.vast_literal.specs.Tokens.{Punct, OpenBracket, CloseBracket, Colon, DoubleColon, Key, SignedKey, UnsignedKey, Token, Reserved, Word, Mark}
+use Rattle.std.proofs.Common.{◌≡◌, ℕ, Bool, true, false, cond, List, [], ◌∷◌, ◌++◌, Option, Some, None, refl, sym, subst, ap, append_assoc, IsTrue}
+use Rattle.vast_literal.specs.Tokens.{OpenBracket, CloseBracket, Colon, DoubleColon, Key, SignedKey, UnsignedKey, Token, Reserved, Word, Mark}
 use Rattle.vast_literal.specs.NormalExpr.{NormalExpr}
-use Rattle.vast_literal.specs.NormalFile.{Group, One, Range, NormalDeclaration}
+use Rattle.vast_literal.specs.NormalFile.{Group, NormalDeclaration}
 use Rattle.vast_literal.specs.Grammar.{Spells}
 use Rattle.vast_literal.specs.FileGrammar.{IsMany, no_items, more_items, is_kind, is_sign, IsGroup, one, range, IsMaybe, absent, present, IsTypeName, no_type, own_type, packaged, IsDeclaration, declares}
-use Rattle.vast_literal.specs.Parser.{◌>>=◌, Parser, Lead, Closes, Colons, lead, after, key_at, word_at}
+use Rattle.vast_literal.specs.Parser.{Parser, Lead, Closes, Colons, lead, after, key_at, word_at}
 use Rattle.vast_literal.specs.DeclarationParser.{group_on, group_at, is_bracket, Fueled, groups_at, maybe_on, maybe_at, signed_at, sign_on, named_on, unscoped, worded, typed_on, kinded, declaration_at}
-use Rattle.vast_literal.proofs.Sound.{bind_some, chosen, after_is, word_is, lead_is, Sound}
+use Rattle.vast_literal.proofs.Sound.{bind_some, after_is, word_is, lead_is, Sound}
 use Rattle.vast_literal.proofs.SoundPrimary.{enclosed_sound}
 use Rattle.vast_literal.proofs.SoundLists.{Fronted, answers, moved, key_is, many_sound}
 

@@ -1,12 +1,12 @@
 -- The parsers of a member's parts are sound: events, connections, inputs, locals, labels and the bodies of functions.
-use Rattle.std.proofs.Common.{◌≡◌, ℕ, Bool, true, false, List, [], ◌∷◌, ◌++◌, Option, Some, None, refl, subst, ap, append_assoc, IsTrue, codes}
+use Rattle.std.proofs.Common.{◌≡◌, ℕ, Bool, true, false, List, [], ◌∷◌, ◌++◌, Option, Some, None, refl, append_assoc, IsTrue, codes}
 use Rattle.std.proofs.lemmas.Option.{same_Some}
 use Rattle.std.proofs.lemmas.Slice.Eq.{bytes_eq-Decides}
 use Rattle.vast_literal.specs.Tokens.{Less, Plus, OpenParen, CloseParen, Comma, Colon, Semicolon, Dot, Key, WireKey, RegKey, LogicKey, CasezKey, UniqueKey, BeginKey, OrKey, InputKey, Token, Reserved, Word, Number, Operator, Mark}
 use Rattle.vast_literal.specs.NormalExpr.{NormalExpr, Name, Binary}
 use Rattle.vast_literal.specs.NormalFile.{NormalStatement, NormalStatements, NormalDeclaration, Event, NormalConnection}
-use Rattle.vast_literal.specs.FileGrammar.{IsUnique, unique, not_unique, IsCases, IsStatements, IsMany, IsJoined, IsList, is_kind, is_member_kind, is_local_kind, is_edge, IsEvent, edge, plain, IsInput, input, IsDeclared, declared, IsGiven, given, IsConnection, connected, unconnected, IsSemicolon, with_one, without, IsLabel, no_label, labelled, IsFunctionBody, block_body, casez_body}
-use Rattle.vast_literal.specs.Parser.{◌>>=◌, Parser, after, key_at, word_at, number_at, enclosed, run}
+use Rattle.vast_literal.specs.FileGrammar.{unique, not_unique, IsCases, IsStatements, IsMany, IsJoined, IsList, is_kind, is_member_kind, is_local_kind, is_edge, IsEvent, edge, plain, IsInput, input, IsDeclared, declared, IsGiven, given, IsConnection, connected, unconnected, IsSemicolon, with_one, without, IsLabel, no_label, labelled, IsFunctionBody, block_body, casez_body}
+use Rattle.vast_literal.specs.Parser.{◌>>=◌, Parser, after, key_at, enclosed, run}
 use Rattle.vast_literal.specs.StatementParser.{ReadOf, after_key, block_at, cases_at, read_with}
 use Rattle.vast_literal.specs.DeclarationParser.{listed, declaration_at}
 use Rattle.vast_literal.specs.MemberParser.{event_on, event_at, connection_on, connection_at, given_at, connections_at, givens_at, semicolon_on, block_with, bound_of, same_word, step_word, label_on, input_at, inputs_at, local_on, is_local, local_at, locals_at, casez_alone, function_body}
@@ -14,7 +14,7 @@ use Rattle.vast_literal.proofs.Sound.{bind_some, after_is, word_is, number_is, S
 use Rattle.vast_literal.proofs.SoundPrimary.{enclosed_sound}
 use Rattle.vast_literal.proofs.SoundLevels.{sound}
 use Rattle.vast_literal.proofs.SoundLists.{Fronted, FrontedBy, answers, moved, passed, key_is, after_key_is, many_sound, joined_sound, listed_sound}
-use Rattle.vast_literal.proofs.SoundStatements.{SoundReader, cases_sound, block_sound, reader_sound}
+use Rattle.vast_literal.proofs.SoundStatements.{cases_sound, block_sound, reader_sound}
 use Rattle.vast_literal.proofs.SoundDeclarations.{declaration_sound, kind_of_word}
 
 -- events and connections

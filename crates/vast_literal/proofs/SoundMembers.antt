@@ -1,14 +1,14 @@
 -- The parser of members is sound: a front of the tokens spells each member that it answers.
-use Rattle.std.proofs.Common.{◌≡◌, ℕ, zero, suc, true, cond, List, [], ◌∷◌, ◌++◌, Option, Some, None, refl, subst, append_assoc, IsTrue, codes}
+use Rattle.std.proofs.Common.{◌≡◌, ℕ, zero, suc, cond, List, [], ◌∷◌, ◌++◌, Option, Some, None, refl, subst, append_assoc, IsTrue, codes}
 use Rattle.vast_literal.specs.Tokens.{Less, Plus, OpenParen, CloseParen, Comma, Semicolon, Hash, At, Assign, Key, IfKey, BeginKey, EndKey, AssignKey, GenvarKey, AlwaysCombKey, OrKey, FunctionKey, AutomaticKey, EndFunctionKey, ForKey, Token, Reserved, Word, MacroWord, Number, Operator, Mark}
-use Rattle.vast_literal.specs.NormalExpr.{NormalExpr, Name, Binary, NormalExprs}
-use Rattle.vast_literal.specs.NormalFile.{NormalDeclaration, NormalConnection, NormalMember, DeclarationPart, AssignPart, ParameterPart, MacroPart, AlwaysPart, ConditionalPart, LoopPart, NormalMembers}
+use Rattle.vast_literal.specs.NormalExpr.{NormalExpr, Name, Binary}
+use Rattle.vast_literal.specs.NormalFile.{NormalDeclaration, NormalConnection, NormalMember, DeclarationPart, AssignPart, ParameterPart, AlwaysPart, ConditionalPart, NormalMembers}
 use Rattle.vast_literal.specs.Grammar.{Spells}
-use Rattle.vast_literal.specs.FileGrammar.{IsDeclaration, IsList, IsInput, is_member_kind, is_parameter_word, is_clocked, IsGivenList, no_parameters, with_parameters, IsSemicolon, IsMember, declaration, continuous, parameter, macro, macro_with, instance, combinational, clocked, conditional, function, loop, IsMembers, closed, and_member}
+use Rattle.vast_literal.specs.FileGrammar.{IsDeclaration, IsList, IsInput, is_member_kind, is_parameter_word, is_clocked, IsGivenList, no_parameters, with_parameters, IsMember, declaration, continuous, parameter, macro, macro_with, instance, combinational, clocked, conditional, function, loop, IsMembers, closed, and_member}
 use Rattle.vast_literal.specs.Parser.{◌>>=◌, after, key_at, enclosed, selected, run}
 use Rattle.vast_literal.specs.StatementParser.{ReadOf, after_key, read_with}
 use Rattle.vast_literal.specs.DeclarationParser.{listed, declaration_at}
-use Rattle.vast_literal.specs.MemberParser.{event_at, instance_at, instance_on, semicolon_on, macro_end, macro_member, plain_member, block_with, bound_of, same_word, step_word, loop_body, loop_at, function_end, function_at, keyed, member_on, members_on, members}
+use Rattle.vast_literal.specs.MemberParser.{event_at, instance_at, instance_on, macro_end, macro_member, plain_member, block_with, bound_of, same_word, step_word, loop_body, loop_at, function_end, function_at, keyed, member_on, members_on, members}
 use Rattle.vast_literal.proofs.Sound.{bind_some, after_is, word_is}
 use Rattle.vast_literal.proofs.SoundPrimary.{enclosed_sound, arguments_sound}
 use Rattle.vast_literal.proofs.SoundLevels.{selected_sound, sound}
@@ -82,7 +82,7 @@ function_end_sound n d i ds is ts us r id ii k e =
     let v = x.whole in
     let u = after_key_is EndFunctionKey b.0.1 c.0 c.1 in
     answers (Reserved FunctionKey ∷ (Reserved AutomaticKey ∷ (ds ++ (Mark OpenParen ∷ (is ++ (Mark CloseParen ∷ (Mark Semicolon ∷ (l.front ++ (x.front ++ (Reserved EndFunctionKey ∷ []))))))))))
-        (function id ii l.spelled x.spelled) (simp append_assoc (cc (k, w, v, u))) c.2
+    (function id ii l.spelled x.spelled) (simp append_assoc (cc (k, w, v, u))) c.2
 
 function_sound : (n : ℕ) (ts : List Token) (r : NormalMember × List Token) → function_at n ts ≡ Some r → Fronted IsMember (Reserved FunctionKey ∷ ts) r
 unfolding function_at
@@ -119,7 +119,7 @@ module _ (rest : Key → List Token → ReadOf NormalMembers) (rest_sound : (c :
       let v = l.whole in
       let u = m.whole in
       answers (Reserved ForKey ∷ (Mark OpenParen ∷ (Reserved GenvarKey ∷ (Word i ∷ (Mark Assign ∷ (xs ++ (Mark Semicolon ∷ (cs ++ (Mark Semicolon ∷ (Word i ∷ (Mark Assign ∷ (Word i ∷ (Operator Plus ∷ (Number (codes "1") ∷ (Mark CloseParen ∷ (Reserved BeginKey ∷ (l.front ++ m.front)))))))))))))))))
-          (loop i ex ec l.spelled m.spelled) (simp append_assoc (cc (k, w, v, u))) c.2
+      (loop i ex ec l.spelled m.spelled) (simp append_assoc (cc (k, w, v, u))) c.2
 
   -- from behind the bound
   loop_step_sound : (i : List ℕ) (x e : NormalExpr) (xs cs ts us : List Token) (r : NormalMember × List Token) → Spells 0 xs x → Spells 0 cs (Binary Less (Name i) e) →
@@ -236,7 +236,7 @@ module _ (rest : Key → List Token → ReadOf NormalMembers) (rest_sound : (c :
   keyed_sound n FunctionKey ts us r w e = moved w (function_sound n us r e)
   keyed_sound n k ts us r w e = word_sound n k ts us r w e
 
-  member_on_sound : (n : ℕ) (ts : List Token) (o : Option (Key × List Token)) (r : NormalMember × List Token) → key_at ts ≡ o → member_on n rest ts o ≡ Some r → Fronted IsMember ts r
+  pub member_on_sound : (n : ℕ) (ts : List Token) (o : Option (Key × List Token)) (r : NormalMember × List Token) → key_at ts ≡ o → member_on n rest ts o ≡ Some r → Fronted IsMember ts r
   unfolding member_on
   member_on_sound n ts None r h e = plain_member_sound n ts r e
   member_on_sound n ts (Some v) r h e = keyed_sound n v.0 ts v.1 r (key_is ts v h) e
