@@ -75,7 +75,8 @@ pub(crate) fn apostrophe<'t>(text: &'t str) -> Front<'t>
     }
 }
 
-/// How many bytes go into a string at a byte that is no quote and the one behind it; none where no string goes on.
+/// How many bytes go into a string at a byte that is no quote, by it and the byte behind it: two at
+/// a backslash, none where the line ends.
 fn string_part(byte: u8, next: u8) -> usize
     ensures { result ≡ string_part byte next }
 {

@@ -1,8 +1,8 @@
 //! Operators and marks.
 
-ghost use Rattle.std.specs.Prelude.{◌≡◌, ◌<◌, true, get_or, option_map, IfSome};
-ghost use Rattle.vast_literal.specs.Scan.{InComment, keep, whole_signs, find_sign, start_sign, grown};
-ghost use Rattle.vast_literal.specs.Tokens.{Operator};
+ghost use Rattle.std.specs.Prelude.{◌≡◌, ◌<◌, true, cond, eqb, get_or, [], ◌∷◌, Some, None, option_map, IfSome};
+ghost use Rattle.vast_literal.specs.Scan.{InComment, Pending, keep, give, whole_signs, find_sign, start_sign, grown};
+ghost use Rattle.vast_literal.specs.Tokens.{Operator, Greater, Less, Plus, Divide};
 ghost use Rattle.vast_literal.specs.Tokens as spec;
 ghost use Rattle.vast_read.specs.TokenView.{token_view, sign_view, mark_view};
 ghost use Rattle.vast_read.specs.Scanner.{Fronts, growth_step, growth_or_fail, starts_sign, Reaches};
@@ -60,6 +60,86 @@ fn first_sign<'t>(byte: u8) -> Option<Growth<'t>>
     }
 }
 
+/// An operator that one byte, and it alone, makes longer, and none makes longer again.
+fn closed_by<'t>(wanted: u8, longer: Sign, byte: u8) -> Option<Growth<'t>>
+    requires { (32 < wanted) × (wanted < 128) }
+    ensures growth { option_map growth_step result
+        ≡ cond (eqb byte wanted) (Some (give (Operator (sign_view longer) ∷ []))) None }
+    ensures byte { IfSome result (λ _. (32 < byte) × (byte < 128)) }
+{
+    if byte == wanted {
+        Some(Growth::Closed(Token::Operator(longer)))
+    } else {
+        None
+    }
+}
+
+/// An operator that one byte, and it alone, makes longer.
+fn open_by<'t>(wanted: u8, longer: Sign, byte: u8) -> Option<Growth<'t>>
+    requires { (32 < wanted) × (wanted < 128) }
+    ensures growth { option_map growth_step result
+        ≡ cond (eqb byte wanted) (Some (keep (Pending (Operator (sign_view longer))))) None }
+    ensures byte { IfSome result (λ _. (32 < byte) × (byte < 128)) }
+{
+    if byte == wanted {
+        Some(Growth::Open(Token::Operator(longer)))
+    } else {
+        None
+    }
+}
+
+/// What a byte makes of `>`.
+#[tactic(auto, unfolding(crate::specs::TokenView::sign_view))]
+fn grown_greater<'t>(byte: u8) -> Option<Growth<'t>>
+    ensures growth { option_map growth_step result ≡ grown (Operator Greater) byte }
+    ensures byte { IfSome result (λ _. (32 < byte) × (byte < 128)) }
+{
+    if byte == b'=' {
+        Some(Growth::Closed(Token::Operator(Sign::GreaterEqual)))
+    } else {
+        open_by(b'>', Sign::ShiftRight, byte)
+    }
+}
+
+/// What a byte makes of `<`.
+#[tactic(auto, unfolding(crate::specs::TokenView::sign_view))]
+fn grown_less<'t>(byte: u8) -> Option<Growth<'t>>
+    ensures growth { option_map growth_step result ≡ grown (Operator Less) byte }
+    ensures byte { IfSome result (λ _. (32 < byte) × (byte < 128)) }
+{
+    if byte == b'=' {
+        Some(Growth::Closed(Token::Operator(Sign::LessEqual)))
+    } else {
+        closed_by(b'<', Sign::ShiftLeft, byte)
+    }
+}
+
+/// What a byte makes of `+`.
+#[tactic(auto, unfolding(crate::specs::TokenView::sign_view))]
+fn grown_plus<'t>(byte: u8) -> Option<Growth<'t>>
+    ensures growth { option_map growth_step result ≡ grown (Operator Plus) byte }
+    ensures byte { IfSome result (λ _. (32 < byte) × (byte < 128)) }
+{
+    if byte == b':' {
+        Some(Growth::Closed(Token::Mark(Mark::PlusColon)))
+    } else {
+        None
+    }
+}
+
+/// What a byte makes of `/`.
+#[tactic(auto, unfolding(crate::specs::TokenView::sign_view))]
+fn grown_slash<'t>(byte: u8) -> Option<Growth<'t>>
+    ensures growth { option_map growth_step result ≡ grown (Operator Divide) byte }
+    ensures byte { IfSome result (λ _. (32 < byte) × (byte < 128)) }
+{
+    if byte == b'/' {
+        Some(Growth::Comment)
+    } else {
+        None
+    }
+}
+
 /// What a byte makes of an operator.
 #[tactic(auto, unfolding(crate::specs::TokenView::sign_view))]
 fn grown_operator<'t>(sign: Sign, byte: u8) -> Option<Growth<'t>>
@@ -69,76 +149,28 @@ fn grown_operator<'t>(sign: Sign, byte: u8) -> Option<Growth<'t>>
     match sign {
         Sign::LogicOr => None,
         Sign::LogicAnd => None,
-        Sign::BitOr => if byte == b'|' {
-            Some(Growth::Closed(Token::Operator(Sign::LogicOr)))
-        } else {
-            None
-        },
+        Sign::BitOr => closed_by(b'|', Sign::LogicOr, byte),
         Sign::BitXor => None,
-        Sign::BitAnd => if byte == b'&' {
-            Some(Growth::Closed(Token::Operator(Sign::LogicAnd)))
-        } else {
-            None
-        },
-        Sign::NotEqual => if byte == b'=' {
-            Some(Growth::Closed(Token::Operator(Sign::CaseNotEqual)))
-        } else {
-            None
-        },
+        Sign::BitAnd => closed_by(b'&', Sign::LogicAnd, byte),
+        Sign::NotEqual => closed_by(b'=', Sign::CaseNotEqual, byte),
         Sign::CaseNotEqual => None,
-        Sign::Equal => if byte == b'=' {
-            Some(Growth::Closed(Token::Operator(Sign::CaseEqual)))
-        } else {
-            None
-        },
+        Sign::Equal => closed_by(b'=', Sign::CaseEqual, byte),
         Sign::CaseEqual => None,
         Sign::GreaterEqual => None,
-        Sign::Greater => if byte == b'=' {
-            Some(Growth::Closed(Token::Operator(Sign::GreaterEqual)))
-        } else if byte == b'>' {
-            Some(Growth::Open(Token::Operator(Sign::ShiftRight)))
-        } else {
-            None
-        },
+        Sign::Greater => grown_greater(byte),
         Sign::LessEqual => None,
-        Sign::Less => if byte == b'=' {
-            Some(Growth::Closed(Token::Operator(Sign::LessEqual)))
-        } else if byte == b'<' {
-            Some(Growth::Closed(Token::Operator(Sign::ShiftLeft)))
-        } else {
-            None
-        },
+        Sign::Less => grown_less(byte),
         Sign::ShiftLeft => None,
         Sign::ShiftRightSigned => None,
-        Sign::ShiftRight => if byte == b'>' {
-            Some(Growth::Closed(Token::Operator(Sign::ShiftRightSigned)))
-        } else {
-            None
-        },
-        Sign::Plus => if byte == b':' {
-            Some(Growth::Closed(Token::Mark(Mark::PlusColon)))
-        } else {
-            None
-        },
+        Sign::ShiftRight => closed_by(b'>', Sign::ShiftRightSigned, byte),
+        Sign::Plus => grown_plus(byte),
         Sign::Minus => None,
-        Sign::Times => if byte == b'*' {
-            Some(Growth::Closed(Token::Operator(Sign::Power)))
-        } else {
-            None
-        },
-        Sign::Divide => if byte == b'/' {
-            Some(Growth::Comment)
-        } else {
-            None
-        },
+        Sign::Times => closed_by(b'*', Sign::Power, byte),
+        Sign::Divide => grown_slash(byte),
         Sign::Modulo => None,
         Sign::Power => None,
         Sign::BitNot => None,
-        Sign::LogicNot => if byte == b'=' {
-            Some(Growth::Open(Token::Operator(Sign::NotEqual)))
-        } else {
-            None
-        },
+        Sign::LogicNot => open_by(b'=', Sign::NotEqual, byte),
     }
 }
 
