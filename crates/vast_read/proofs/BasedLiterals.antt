@@ -23,13 +23,13 @@ module _ (text : List ℕ) (tick : ℕ) (is : IsTick text tick) (opened : opens_
   -- the sign stands first
   sign_on : get_or text (tick + 1) 10 ≡ 115 → At (InSigned (take (tick + 2) text)) text (tick + 2)
   sign_on e =
-      let at = advance (AfterTick (take tick text)) (InSigned (take tick text ++ (39 ∷ 115 ∷ []))) text (tick + 1) second is.so (rw e refl) in
+      let at = advance (AfterTick (take tick text)) (InSigned (take tick text ++ (39 ∷ 115 ∷ []))) text (tick + 1) second is.scanned (rw e refl) in
       rw (both, e, ← next) at
 
   -- the radix stands first
   radix_on : is_radix (get_or text (tick + 1) 10) ≡ true → At (InRadix (take (tick + 2) text)) text (tick + 2)
   radix_on h =
-      let at = advance (AfterTick (take tick text)) (InRadix (take tick text ++ (39 ∷ get_or text (tick + 1) 10 ∷ []))) text (tick + 1) second is.so (rw h refl) in
+      let at = advance (AfterTick (take tick text)) (InRadix (take tick text ++ (39 ∷ get_or text (tick + 1) 10 ∷ []))) text (tick + 1) second is.scanned (rw h refl) in
       rw (both, ← next) at
 
   radix_by : (sign : Bool) (place : ℕ) → eqb (get_or text (tick + 1) 10) 115 ≡ sign → place ≡ cond sign (tick + 2) (tick + 1) → is_radix (get_or text place 10) ≡ true → At (InRadix (take (place + 1) text)) text (place + 1)

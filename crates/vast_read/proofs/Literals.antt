@@ -4,7 +4,7 @@ use Rattle.std.specs.List.{prefix_len}
 use Rattle.std.proofs.lemmas.List.{get_or-drop}
 use Rattle.std.proofs.lemmas.Bool.Decides.{nat_tests}
 use Rattle.vast_literal.specs.Tokens.{Number, Based, Mark, Apostrophe, OpenParen, OpenBrace}
-use Rattle.vast_literal.specs.Scan.{is_letter, is_digit, is_radix, is_filler, Gap, InNumber, AfterTick, cons_token, join_tokens, give, fail, before_tick, scan}
+use Rattle.vast_literal.specs.Scan.{is_letter, is_digit, is_radix, is_filler, Gap, InNumber, AfterTick, cons_token, join_tokens, keep, give, fail, before_tick, step, scan}
 use Rattle.vast_literal.proofs.ScanLaws.{and_left, and_right}
 use Rattle.vast_read.specs.Scanner.{opens_based, is_based_tick, opens_mark, IsTick}
 use Rattle.vast_read.proofs.Lexemes.{At, head_at, one_more, advance, run, run_stops, ends_by}
@@ -22,11 +22,14 @@ number_on (c ∷ cs) h = rw (digit_letter c h, h) refl
 pub digits_on : (text : List ℕ) (n : ℕ) → is_digit (get_or text 0 10) ≡ true → n ≡ 1 + prefix_len is_digit (drop 1 text) → At (InNumber (take n text)) text n
 digits_on text n h e = run InNumber is_digit (λ w c g. rw g refl) text 1 n (number_on text h) e
 
+tick_step : (d : List ℕ) (c : ℕ) → c ≡ 39 → step (InNumber d) c ≡ keep (AfterTick d)
+tick_step d c e = rw e refl
+
 -- an apostrophe behind them
 pub digits_tick : (text : List ℕ) (n : ℕ) → At (InNumber (take n text)) text n → get_or text n 10 ≡ 39 → IsTick text n
 digits_tick text n at e =
     let within = other_within text n (λ b. absurd (omega arith)) in
-    record { so = advance (InNumber (take n text)) (AfterTick (take n text)) text n within at (rw e refl); within = within; here = e }
+    record { scanned = advance (InNumber (take n text)) (AfterTick (take n text)) text n within at (tick_step (take n text) (get_or text n 10) e); within = within; here = e }
 
 -- an apostrophe that opens no based literal stands apart from the number before it
 marks_apart : (d : ℕ) (ds : List ℕ) (filler paren brace : Bool) (x : ℕ) (xs : List ℕ) →
@@ -78,7 +81,7 @@ number_front (c ∷ cs) n h e f =
 pub tick_on : (text : List ℕ) → get_or text 0 10 ≡ 39 → IsTick text 0
 unfolding scan
 tick_on [] e = absurd (omega arith)
-tick_on (c ∷ cs) e = record { so = rw e refl; within = omega arith; here = e }
+tick_on (c ∷ cs) e = record { scanned = rw e refl; within = omega arith; here = e }
 
 pub filler_front : (text : List ℕ) → get_or text 0 10 ≡ 39 → opens_based (get_or text 1 10) ≡ false → is_filler (get_or text 1 10) ≡ true → scan Gap text ≡ cons_token (Based (take 2 text)) (scan Gap (drop 2 text))
 unfolding scan

@@ -40,7 +40,7 @@ pub first_reaches : (text : List ℕ) (first : Step) → IsUtf8 text → starts_
     first ≡ start_sign (find_sign whole_signs (get_or text 0 10)) (get_or text 0 10) → Reaches text 1 first
 first_reaches text first utf8 h small e =
     let within = passed_within starts_sign text 0 refl h in
-    record { so = first_step text first h e; moved = omega arith; utf8 = utf8; boundary = cut_behind text 0 1 utf8 within small refl }
+    record { scanned = first_step text first h e; moved = omega arith; utf8 = utf8; boundary = cut_behind text 0 1 utf8 within small refl }
 
 pub sign_none : (text : List ℕ) → starts_sign (get_or text 0 10) ≡ true → fail ≡ start_sign (find_sign whole_signs (get_or text 0 10)) (get_or text 0 10) → scan Gap text ≡ None
 sign_none text h e = first_step text fail h e
@@ -54,10 +54,10 @@ pub grown_reaches : (text : List ℕ) (place : ℕ) (t : Token) (more : Step) �
     32 < get_or text place 10 → get_or text place 10 < 128 → Reaches text (place + 1) more
 grown_reaches text place t more r e large small =
     let within = passed_within within_line text place refl (grind (arith, nat_tests)) in
-    record { so = r.so ∙ (rw (drop-cons text place 10 within, add-one) (grown_step t _ _ more e)); moved = omega arith; utf8 = r.utf8; boundary = cut_behind text place (place + 1) r.utf8 within small refl }
+    record { scanned = r.scanned ∙ (rw (drop-cons text place 10 within, add-one) (grown_step t _ _ more e)); moved = omega arith; utf8 = r.utf8; boundary = cut_behind text place (place + 1) r.utf8 within small refl }
 
 pub sign_ends : (text : List ℕ) (place : ℕ) (t : Token) → Reaches text place (keep (Pending t)) → grown t (get_or text place 10) ≡ None → scan Gap text ≡ cons_token t (scan Gap (drop place text))
-sign_ends text place t r e = ends (Pending t) t text place r.so refl (rw e refl)
+sign_ends text place t r e = ends (Pending t) t text place r.scanned refl (rw e refl)
 
 -- a comment to the end of its line
 line_step : (c k : ℕ) (cs : List ℕ) (b : Bool) → eqb c 10 ≡ b → scan InComment cs ≡ scan Gap (drop k cs) → scan InComment (c ∷ cs) ≡ scan Gap (drop (cond (not b) (1 + k) 0) (c ∷ cs))
@@ -71,7 +71,7 @@ line_run [] = refl
 line_run (c ∷ cs) = line_step c (prefix_len within_line cs) cs (eqb c 10) refl (line_run cs)
 
 pub comment_gap : (text : List ℕ) (place n : ℕ) → Reaches text place (keep InComment) → n ≡ place + prefix_len within_line (drop place text) → scan Gap text ≡ scan Gap (drop n text)
-comment_gap text place n r e = r.so ∙ (line_run (drop place text) ∙ (rw (drop-drop, e) refl))
+comment_gap text place n r e = r.scanned ∙ (line_run (drop place text) ∙ (rw (drop-drop, e) refl))
 
 -- where the comment ends
 pub comment_cut : (text : List ℕ) (place n : ℕ) → n ≡ place + prefix_len within_line (drop place text) → n ≤ length text → IsCharBoundary text n

@@ -80,4 +80,4 @@ pub string_ends : (text : List ℕ) (place : ℕ) → place < length text → At
 string_ends text place within at e =
     let here : place + 1 - 1 ≡ place = omega arith in
     let rest = drop-cons text place 10 within in
-    record { so = at ∙ (rw (rest, take_more text place 10 within, add-one) (closes (take place text) (drop (suc place) text) _ e)); moved = omega arith; within = omega arith; closed = rw (here, e) refl }
+    record { scanned = at ∙ (rw (rest, take_more text place 10 within, add-one) (closes (take place text) (drop (suc place) text) _ e)); moved = omega arith; within = omega arith; closed = rw (here, e) refl }

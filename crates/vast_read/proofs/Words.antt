@@ -1,19 +1,21 @@
 -- The words at the front of a text.
 use Rattle.std.proofs.Common.{◌≡◌, suc, ℕ, ◌+◌, ◌-◌, ◌<◌, ◌≤◌, List, [], ◌∷◌, ◌++◌, length, take, drop, get_or, Bool, true, false, Some, None, refl, sym, ap, ◌∙◌, arith, lt_of_not-le}
 use Rattle.std.specs.List.{prefix_len}
+use Rattle.std.specs.Str.{IsUtf8, IsCharBoundary}
 use Rattle.std.proofs.lemmas.List.{get_or_past}
 use Rattle.std.proofs.lemmas.Bool.Decides.{nat_tests}
 use Rattle.vast_literal.specs.Tokens.{Token, SystemWord, MacroWord, word_token}
 use Rattle.vast_literal.specs.Scan.{is_letter, is_digit, is_word_byte, is_based_digit, State, Gap, InWord, InSystemWord, InMacroWord, cons_token, keep, follow, start, step, flush, system_token, scan}
+use Rattle.vast_read.proofs.Cuts.{run_cut}
 use Rattle.vast_read.proofs.Lexemes.{At, head_at, goes, stop, run, run_stops, ends, ends_by}
 
-pub letter_small : (c : ℕ) → is_letter c ≡ true → c < 128
+letter_small : (c : ℕ) → is_letter c ≡ true → c < 128
 letter_small c h = grind (arith, nat_tests)
 
 pub digit_small : (c : ℕ) → is_digit c ≡ true → c < 128
 digit_small c h = grind (arith, nat_tests)
 
-pub word_small : (c : ℕ) → is_word_byte c ≡ true → c < 128
+word_small : (c : ℕ) → is_word_byte c ≡ true → c < 128
 word_small c h = grind (arith, nat_tests)
 
 pub based_small : (c : ℕ) → is_based_digit c ≡ true → c < 128
@@ -22,6 +24,12 @@ based_small c h = grind (arith, nat_tests)
 -- a byte that passes a test stands within the text, where behind its end none does
 pub passed_within : (test : ℕ → Bool) (text : List ℕ) (place : ℕ) → test 10 ≡ false → test (get_or text place 10) ≡ true → place < length text
 passed_within test text place last h = lt_of_not-le (λ (past : length text ≤ place). let e = get_or_past text place 10 past in cc)
+
+-- behind the bytes of a word whose letter stands before `from`
+pub word_cut : (text : List ℕ) (from n : ℕ) → IsUtf8 text → 0 < from → is_letter (get_or text (from - 1) 10) ≡ true → n ≡ from + prefix_len is_word_byte (drop from text) → IsCharBoundary text n
+word_cut text from n utf8 some letter e =
+    let within = passed_within is_letter text (from - 1) refl letter in
+    run_cut is_word_byte word_small text from n utf8 some (omega arith) (letter_small _ letter) e
 
 word_on : (text : List ℕ) → is_letter (get_or text 0 10) ≡ true → At (InWord (take 1 text)) text 1
 unfolding scan

@@ -13,6 +13,10 @@ use Rattle.vast_read.specs.declared.scanner.front.Front.TheVariants as front
 use Rattle.vast_read.specs.declared.scanner.sign.Growth.{Growth}
 use Rattle.vast_read.specs.declared.scanner.sign.Growth.TheVariants as growth
 
+-- The byte at a place; behind the end a line feed, which goes into no lexeme.
+abbrev pub byte_at : List ℕ → ℕ → ℕ
+byte_at text place = get_or text place 10
+
 -- Whether a byte may stand in a run.
 abbrev pub passes : Class → ℕ → Bool
 passes class.Word c = is_word_byte c
@@ -20,7 +24,7 @@ passes class.Digit c = is_digit c
 passes class.BasedDigit c = is_based_digit c
 passes class.Line c = not (eqb c 10)
 
--- The front of a text and what follows it have the tokens of the text.
+-- The tokens of a text are the token at its front and those behind it, those behind a gap, or none; what is behind is shorter.
 abbrev pub Fronts : Front → List ℕ → Type 0
 Fronts (front.Token t rest) text = (scan Gap text ≡ cons_token (token_view t) (scan Gap rest.now)) × (length rest.now < length text)
 Fronts (front.Gap rest) text = (scan Gap text ≡ scan Gap rest.now) × (length rest.now < length text)
@@ -36,13 +40,14 @@ growth_step (growth.Open t) = keep (Pending (token_view t))
 growth_step (growth.Closed t) = give (token_view t ∷ [])
 growth_step growth.Comment = keep InComment
 
+-- The step at the first byte of a sign, where one begins so.
 abbrev pub growth_or_fail : Option Growth → Step
 growth_or_fail None = fail
 growth_or_fail (Some g) = growth_step g
 
--- The scan of the bytes before a place, where a text may be cut, ends by this step.
+-- The scan of the bytes before a place ends by this step, and the text may be cut there.
 pub record Reaches (text : List ℕ) (place : ℕ) (last : Step) : Type 0 where
-  pub so : scan Gap text ≡ join_tokens last.out (scan last.state (drop place text))
+  pub scanned : scan Gap text ≡ join_tokens last.out (scan last.state (drop place text))
   pub moved : 0 < place
   pub utf8 : IsUtf8 text
   pub boundary : IsCharBoundary text place
@@ -53,7 +58,7 @@ opens_based c = is_radix c || eqb c 115
 
 -- Whether a based literal goes on at a place: an apostrophe, and behind it a radix or a sign.
 abbrev pub is_based_tick : List ℕ → ℕ → Bool
-is_based_tick text tick = eqb (get_or text tick 10) 39 && opens_based (get_or text (tick + 1) 10)
+is_based_tick text tick = eqb (byte_at text tick) 39 && opens_based (byte_at text (tick + 1))
 
 -- What stands behind the apostrophe of a cast or a pattern: `(` or `{`.
 abbrev pub opens_mark : ℕ → Bool
@@ -65,20 +70,20 @@ radix_place next tick = cond (eqb next 115) (tick + 2) (tick + 1)
 
 -- An apostrophe stands at a place, behind digits or none.
 pub record IsTick (text : List ℕ) (tick : ℕ) : Type 0 where
-  pub so : scan Gap text ≡ scan (AfterTick (take tick text)) (drop (tick + 1) text)
+  pub scanned : scan Gap text ≡ scan (AfterTick (take tick text)) (drop (tick + 1) text)
   pub within : tick < length text
-  pub here : get_or text tick 10 ≡ 39
+  pub here : byte_at text tick ≡ 39
 
--- How many bytes go into a string: two at a backslash, none where the line ends.
+-- How many bytes go into a string at a byte that is no quote, by it and the byte behind it: two at a backslash, none where the line ends.
 abbrev pub string_part : ℕ → ℕ → ℕ
 string_part c d = cond (eqb c 10) 0 (cond (eqb c 92) (cond (eqb d 10) 0 2) 1)
 
 -- The string at the front of a text ends at a place, behind its quote.
 pub record EndsString (text : List ℕ) (end : ℕ) : Type 0 where
-  pub so : scan Gap text ≡ cons_token (to.Quoted (take end text)) (scan Gap (drop end text))
+  pub scanned : scan Gap text ≡ cons_token (to.Quoted (take end text)) (scan Gap (drop end text))
   pub moved : 0 < end
   pub within : end ≤ length text
-  pub closed : get_or text (end - 1) 10 ≡ 34
+  pub closed : byte_at text (end - 1) ≡ 34
 
 -- What the scan of a text answered.
 abbrev pub Scans : Option (Vec Token Global) → Option (List to.Token) → Type 0

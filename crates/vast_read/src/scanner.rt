@@ -1,6 +1,6 @@
 //! The scan of a text into tokens.
 
-ghost use Rattle.std.specs.Prelude.{◌≡◌, ◌<◌, IfOk, length};
+ghost use Rattle.std.specs.Prelude.{◌<◌, IfOk, length};
 ghost use Rattle.vast_literal.specs.Scan.{tokens};
 ghost use Rattle.vast_read.specs.Scanner.{Fronts, Scans};
 

@@ -1,8 +1,8 @@
 //! Literals: numbers, based literals and strings.
 
-ghost use Rattle.std.specs.Prelude.{◌≡◌, ◌+◌, ◌<◌, ◌≤◌, ◌^◌, true, false, List, ℕ, get_or, take, drop, length, MatchOption, MatchBool};
-ghost use Rattle.vast_literal.specs.Scan.{is_digit, Gap, AfterTick, InString, scan};
-ghost use Rattle.vast_read.specs.Scanner.{Fronts, opens_based, is_based_tick, radix_place, IsTick, EndsString, string_part};
+ghost use Rattle.std.specs.Prelude.{◌≡◌, ◌+◌, ◌<◌, ◌≤◌, ◌^◌, true, length, MatchOption, None};
+ghost use Rattle.vast_literal.specs.Scan.{is_digit, Gap, scan};
+ghost use Rattle.vast_read.specs.Scanner.{byte_at, Fronts, opens_based, is_based_tick, radix_place, IsTick, EndsString, string_part};
 
 use crate::scanner::class::{Class, is_based_digit, is_filler, is_radix, opens_mark};
 use crate::scanner::front::Front;
@@ -29,7 +29,7 @@ fn radix_place(next: u8, tick: usize) -> usize
 /// A based literal, whose digits before the apostrophe, where it has some, end at `tick`.
 fn based<'t>(text: &'t str, tick: usize) -> Front<'t>
     requires tick { IsTick text.now tick }
-    requires open { opens_based (get_or text.now (tick + 1) 10) ≡ true }
+    requires open { opens_based (byte_at text.now (tick + 1)) ≡ true }
     ensures { Fronts result text.now }
 {
     let radix = radix_place(byte_at(text, tick + 1), tick);
@@ -45,7 +45,7 @@ fn based<'t>(text: &'t str, tick: usize) -> Front<'t>
 
 /// A number, or a based literal with its width, at a digit.
 pub(crate) fn number<'t>(text: &'t str) -> Front<'t>
-    requires { is_digit (get_or text.now 0 10) ≡ true }
+    requires { is_digit (byte_at text.now 0) ≡ true }
     ensures { Fronts result text.now }
 {
     let end = run_end(text, 1, Class::Digit);
@@ -58,7 +58,7 @@ pub(crate) fn number<'t>(text: &'t str) -> Front<'t>
 
 /// What an apostrophe begins: a based literal, a filler, or the mark of a cast or a pattern.
 pub(crate) fn apostrophe<'t>(text: &'t str) -> Front<'t>
-    requires { get_or text.now 0 10 ≡ 39 }
+    requires { byte_at text.now 0 ≡ 39 }
     ensures { Fronts result text.now }
 {
     let next = byte_at(text, 1);
@@ -91,7 +91,7 @@ fn string_part(byte: u8, next: u8) -> usize
 
 /// The place behind the closing quote of a string, where it has one.
 fn string_end(text: &str) -> Option<usize>
-    requires { get_or text.now 0 10 ≡ 34 }
+    requires { byte_at text.now 0 ≡ 34 }
     ensures { MatchOption result (scan Gap text.now ≡ None) (EndsString text.now) }
 {
     let mut place = 1;
@@ -111,7 +111,7 @@ fn string_end(text: &str) -> Option<usize>
 
 /// A string, at its quote.
 pub(crate) fn quoted<'t>(text: &'t str) -> Front<'t>
-    requires { get_or text.now 0 10 ≡ 34 }
+    requires { byte_at text.now 0 ≡ 34 }
     ensures { Fronts result text.now }
 {
     match string_end(text) {

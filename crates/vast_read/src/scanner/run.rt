@@ -1,14 +1,14 @@
 //! Where a run of bytes ends.
 
-ghost use Rattle.std.specs.Prelude.{◌≡◌, ◌+◌, ◌≤◌, length, drop, get_or};
+ghost use Rattle.std.specs.Prelude.{◌≡◌, ◌+◌, ◌≤◌, length, drop};
 ghost use Rattle.std.specs.List.{prefix_len};
-ghost use Rattle.vast_read.specs.Scanner.{passes};
+ghost use Rattle.vast_read.specs.Scanner.{byte_at, passes};
 
 use crate::scanner::class::Class;
 
 /// The byte at a place; behind the end a line feed, which goes into no lexeme.
 pub(crate) fn byte_at(text: &str, place: usize) -> u8
-    ensures { result ≡ get_or text.now place 10 }
+    ensures { result ≡ byte_at text.now place }
 {
     let bytes = text.as_bytes();
     if place < bytes.len() {

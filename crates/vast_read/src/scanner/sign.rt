@@ -1,11 +1,11 @@
 //! Operators and marks.
 
-ghost use Rattle.std.specs.Prelude.{◌≡◌, ◌<◌, true, cond, eqb, get_or, [], ◌∷◌, Some, None, option_map, IfSome};
+ghost use Rattle.std.specs.Prelude.{◌≡◌, ◌<◌, true, cond, eqb, [], ◌∷◌, Some, None, option_map, IfSome};
 ghost use Rattle.vast_literal.specs.Scan.{InComment, Pending, keep, give, whole_signs, find_sign, start_sign, grown};
 ghost use Rattle.vast_literal.specs.Tokens.{Operator, Greater, Less, Plus, Divide};
 ghost use Rattle.vast_literal.specs.Tokens as spec;
 ghost use Rattle.vast_read.specs.TokenView.{token_view, sign_view, mark_view};
-ghost use Rattle.vast_read.specs.Scanner.{Fronts, growth_step, growth_or_fail, starts_sign, Reaches};
+ghost use Rattle.vast_read.specs.Scanner.{byte_at, Fronts, growth_step, growth_or_fail, starts_sign, Reaches};
 
 use crate::scanner::class::Class;
 use crate::scanner::front::Front;
@@ -254,7 +254,7 @@ fn sign_from<'t>(text: &'t str, place: usize, growth: Growth<'t>) -> Front<'t>
 
 /// A sign or a comment.
 pub(crate) fn sign<'t>(text: &'t str) -> Front<'t>
-    requires { starts_sign (get_or text.now 0 10) ≡ true }
+    requires { starts_sign (byte_at text.now 0) ≡ true }
     ensures { Fronts result text.now }
 {
     match first_sign(byte_at(text, 0)) {

@@ -1,10 +1,10 @@
 //! Words: names, keywords, system words and macro words.
 
-ghost use Rattle.std.specs.Prelude.{◌≡◌, true, get_or, option_map, map};
+ghost use Rattle.std.specs.Prelude.{◌≡◌, true, option_map, map};
 ghost use Rattle.vast_literal.specs.Scan.{is_letter};
 ghost use Rattle.vast_literal.specs.Tokens.{word_token, key_written, reserved_keys};
 ghost use Rattle.vast_read.specs.TokenView.{key_view, token_view};
-ghost use Rattle.vast_read.specs.Scanner.{Fronts};
+ghost use Rattle.vast_read.specs.Scanner.{byte_at, Fronts};
 
 use crate::scanner::class::{Class, is_letter};
 use crate::scanner::front::Front;
@@ -87,7 +87,7 @@ fn word_token<'t>(word: &'t str) -> Token<'t>
 
 /// A word, at a letter.
 pub(crate) fn word<'t>(text: &'t str) -> Front<'t>
-    requires { is_letter (get_or text.now 0 10) ≡ true }
+    requires { is_letter (byte_at text.now 0) ≡ true }
     ensures { Fronts result text.now }
 {
     let end = run_end(text, 1, Class::Word);
@@ -95,12 +95,19 @@ pub(crate) fn word<'t>(text: &'t str) -> Front<'t>
     Front::Token(word_token(word), rest)
 }
 
+/// Whether a letter stands at a place.
+fn is_letter_at(text: &str, place: usize) -> bool
+    ensures { result ≡ is_letter (byte_at text.now place) }
+{
+    is_letter(byte_at(text, place))
+}
+
 /// A system word, at its `$`.
 pub(crate) fn system_word<'t>(text: &'t str) -> Front<'t>
-    requires { get_or text.now 0 10 ≡ 36 }
+    requires { byte_at text.now 0 ≡ 36 }
     ensures { Fronts result text.now }
 {
-    if !is_letter(byte_at(text, 1)) {
+    if !is_letter_at(text, 1) {
         return Front::Unspelled;
     }
     let (word, rest) = text.split_at(run_end(text, 2, Class::Word));
@@ -109,10 +116,10 @@ pub(crate) fn system_word<'t>(text: &'t str) -> Front<'t>
 
 /// A macro word, at its backtick.
 pub(crate) fn macro_word<'t>(text: &'t str) -> Front<'t>
-    requires { get_or text.now 0 10 ≡ 96 }
+    requires { byte_at text.now 0 ≡ 96 }
     ensures { Fronts result text.now }
 {
-    if !is_letter(byte_at(text, 1)) {
+    if !is_letter_at(text, 1) {
         return Front::Unspelled;
     }
     let end = run_end(text, 2, Class::Word);
