@@ -1,6 +1,6 @@
 //! Words: names, keywords, system words and macro words.
 
-ghost use Rattle.std.specs.Prelude.{◌≡◌, true, option_map, map};
+ghost use Rattle.std.specs.Prelude.{◌≡◌, true, option_map};
 ghost use Rattle.vast_literal.specs.Scan.{is_letter};
 ghost use Rattle.vast_literal.specs.Tokens.{word_token, key_written, reserved_keys};
 ghost use Rattle.vast_read.specs.TokenView.{key_view, token_view};
@@ -12,63 +12,50 @@ use crate::scanner::keyword::is_keyword;
 use crate::scanner::run::{byte_at, run_end};
 use crate::token::{Key, Token};
 
-/// The keywords that the grammar uses.
-static KEYS: [Key; 36] = [
-    Key::If,
-    Key::Else,
-    Key::Case,
-    Key::Casez,
-    Key::Casex,
-    Key::EndCase,
-    Key::Default,
-    Key::Unique,
-    Key::Begin,
-    Key::End,
-    Key::Assign,
-    Key::Wire,
-    Key::Reg,
-    Key::Logic,
-    Key::Integer,
-    Key::Int,
-    Key::Genvar,
-    Key::Signed,
-    Key::Unsigned,
-    Key::Module,
-    Key::EndModule,
-    Key::Parameter,
-    Key::Localparam,
-    Key::AlwaysComb,
-    Key::AlwaysFF,
-    Key::Always,
-    Key::Posedge,
-    Key::Negedge,
-    Key::Or,
-    Key::Function,
-    Key::Automatic,
-    Key::EndFunction,
-    Key::Input,
-    Key::Output,
-    Key::InOut,
-    Key::For,
-];
-
-/// The keywords that the grammar uses.
-fn keys() -> &'static [Key]
-    ensures { map key_view result.now ≡ reserved_keys }
-{
-    &KEYS
-}
-
 /// The keyword that is written so, of those that the grammar uses.
+#[tactic(auto, unfolding(crate::specs::TokenView::key_view, vast_literal::specs::Tokens::reserved_keys, vast_literal::specs::Tokens::key_text))]
 fn reserved_key(word: &str) -> Option<Key>
     ensures { option_map key_view result ≡ key_written reserved_keys word.now }
 {
-    for key in keys() {
-        if key.text() == word {
-            return Some(*key);
-        }
+    match word {
+        "if" => Some(Key::If),
+        "else" => Some(Key::Else),
+        "case" => Some(Key::Case),
+        "casez" => Some(Key::Casez),
+        "casex" => Some(Key::Casex),
+        "endcase" => Some(Key::EndCase),
+        "default" => Some(Key::Default),
+        "unique" => Some(Key::Unique),
+        "begin" => Some(Key::Begin),
+        "end" => Some(Key::End),
+        "assign" => Some(Key::Assign),
+        "wire" => Some(Key::Wire),
+        "reg" => Some(Key::Reg),
+        "logic" => Some(Key::Logic),
+        "integer" => Some(Key::Integer),
+        "int" => Some(Key::Int),
+        "genvar" => Some(Key::Genvar),
+        "signed" => Some(Key::Signed),
+        "unsigned" => Some(Key::Unsigned),
+        "module" => Some(Key::Module),
+        "endmodule" => Some(Key::EndModule),
+        "parameter" => Some(Key::Parameter),
+        "localparam" => Some(Key::Localparam),
+        "always_comb" => Some(Key::AlwaysComb),
+        "always_ff" => Some(Key::AlwaysFF),
+        "always" => Some(Key::Always),
+        "posedge" => Some(Key::Posedge),
+        "negedge" => Some(Key::Negedge),
+        "or" => Some(Key::Or),
+        "function" => Some(Key::Function),
+        "automatic" => Some(Key::Automatic),
+        "endfunction" => Some(Key::EndFunction),
+        "input" => Some(Key::Input),
+        "output" => Some(Key::Output),
+        "inout" => Some(Key::InOut),
+        "for" => Some(Key::For),
+        _ => None,
     }
-    None
 }
 
 /// The token of a word: a keyword or a name.
