@@ -1,7 +1,7 @@
 use Rattle.std.proofs.Common.{◌≡◌, get_or, true, false, refl, sym, ap, ◌∙◌, arith}
 use Rattle.vast_literal.specs.Scan.{is_letter, is_digit, is_space}
-use Rattle.vast_read.proofs.Cuts.{cut_behind}
-use Rattle.vast_read.proofs.Signs.{space_small, space_gap}
+use Rattle.vast_read.proofs.scanner.Cuts.{cut_behind}
+use Rattle.vast_read.proofs.scanner.Signs.{space_small, space_gap}
 use Rattle.vast_read.proofs.scanner.front_of.Goals as goal
 
 pub split_at-requires : goal.split_at-requires

@@ -1,7 +1,7 @@
 use Rattle.std.proofs.Common.{◌≡◌, rules, length, eqb-true, sym, ap, ◌∙◌}
 use Rattle.vast_literal.specs.Scan.{Gap, add_tokens, scan}
 use Rattle.vast_read.specs.TokenView.{token_view, tokens_view}
-use Rattle.vast_read.proofs.Tokens.{found_none, found_more, found_fails, found_all}
+use Rattle.vast_read.proofs.scanner.Tokens.{found_none, found_more, found_fails, found_all}
 use Rattle.vast_read.proofs.scanner.scan_tokens.Goals as goal
 
 pub loop-rest-init : goal.loop-rest-init

@@ -1,5 +1,5 @@
 use Rattle.std.proofs.Common.{◌∙◌}
-use Rattle.vast_read.proofs.KeywordTable.{searched}
+use Rattle.vast_read.proofs.scanner.KeywordTable.{searched}
 use Rattle.vast_read.proofs.scanner.keyword.is_keyword.Goals as goal
 
 pub returns : goal.returns

@@ -1,8 +1,8 @@
 use Rattle.std.proofs.Common.{refl, sym, ◌∙◌, arith}
 use Rattle.vast_literal.specs.Scan.{is_digit}
-use Rattle.vast_read.proofs.Cuts.{run_cut}
-use Rattle.vast_read.proofs.Words.{digit_small, passed_within}
-use Rattle.vast_read.proofs.Literals.{digits_on, digits_tick, number_front, based_tick}
+use Rattle.vast_read.proofs.scanner.Cuts.{run_cut}
+use Rattle.vast_read.proofs.scanner.Words.{digit_small, passed_within}
+use Rattle.vast_read.proofs.scanner.Literals.{digits_on, digits_tick, number_front, based_tick}
 use Rattle.vast_read.proofs.scanner.literal.number.Goals as goal
 
 pub based-requires-clause-tick : goal.based-requires-clause-tick

@@ -1,6 +1,6 @@
 use Rattle.std.proofs.Common.{◌-◌, arith}
 use Rattle.vast_read.specs.Scanner.{EndsString}
-use Rattle.vast_read.proofs.Cuts.{cut_behind}
+use Rattle.vast_read.proofs.scanner.Cuts.{cut_behind}
 use Rattle.vast_read.proofs.scanner.literal.quoted.Goals as goal
 
 pub split_at-requires : goal.split_at-requires

@@ -1,6 +1,6 @@
 use Rattle.std.proofs.Common.{◌-◌, ◌≤◌, length, take}
 use Rattle.vast_literal.specs.Scan.{InString}
-use Rattle.vast_read.proofs.Lexemes.{At}
+use Rattle.vast_read.proofs.scanner.Lexemes.{At}
 use Rattle.vast_read.proofs.scanner.literal.string_end.Given as goal
 
 abbrev pub invariant-loop-place : goal.invariant-loop-place

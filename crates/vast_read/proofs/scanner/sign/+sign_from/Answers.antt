@@ -2,8 +2,8 @@ use Rattle.std.proofs.Common.{◌≡◌, ◌<◌, get_or, Some, None, sym, ap, �
 use Rattle.vast_literal.specs.Scan.{keep, Pending, grown}
 use Rattle.vast_read.specs.TokenView.{token_view}
 use Rattle.vast_read.specs.Scanner.{growth_step, Reaches}
-use Rattle.vast_read.proofs.Strings.{other_within}
-use Rattle.vast_read.proofs.Signs.{grown_reaches, sign_ends}
+use Rattle.vast_read.proofs.scanner.Strings.{other_within}
+use Rattle.vast_read.proofs.scanner.Signs.{grown_reaches, sign_ends}
 use Rattle.vast_read.proofs.scanner.sign.+sign_from.Goals as goal
 
 pub sign_from-requires : goal.sign_from-requires

@@ -1,5 +1,5 @@
 use Rattle.std.proofs.Common.{arith}
-use Rattle.vast_read.proofs.Signs.{comment_gap, comment_cut}
+use Rattle.vast_read.proofs.scanner.Signs.{comment_gap, comment_cut}
 use Rattle.vast_read.proofs.scanner.sign.comment.Goals as goal
 
 pub range_from-requires : goal.range_from-requires

@@ -1,5 +1,5 @@
 use Rattle.std.proofs.Common.{sym, ◌∙◌, arith}
-use Rattle.vast_read.proofs.Words.{word_cut, macro_front, macro_none}
+use Rattle.vast_read.proofs.scanner.Words.{word_cut, macro_front, macro_none}
 use Rattle.vast_read.proofs.scanner.word.macro_word.Goals as goal
 
 pub returns-then-not-is_letter_at : goal.returns-then-not-is_letter_at

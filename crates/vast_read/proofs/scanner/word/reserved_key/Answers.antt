@@ -1,5 +1,5 @@
 use Rattle.vast_literal.specs.Tokens.{key_text, reserved_keys}
-use Rattle.vast_read.proofs.Keys.{other_word}
+use Rattle.vast_read.proofs.scanner.Keys.{other_word}
 use Rattle.vast_read.proofs.scanner.word.reserved_key.Goals as goal
 
 pub returns-in_default : goal.returns-in_default

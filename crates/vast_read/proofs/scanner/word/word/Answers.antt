@@ -1,5 +1,5 @@
 use Rattle.std.proofs.Common.{arith}
-use Rattle.vast_read.proofs.Words.{word_cut, word_front}
+use Rattle.vast_read.proofs.scanner.Words.{word_cut, word_front}
 use Rattle.vast_read.proofs.scanner.word.word.Goals as goal
 
 pub split_at-requires : goal.split_at-requires

@@ -6,9 +6,9 @@ use Rattle.std.proofs.lemmas.Bool.Decides.{nat_tests}
 use Rattle.vast_literal.specs.Tokens.{Based}
 use Rattle.vast_literal.specs.Scan.{is_based_digit, is_radix, Gap, AfterTick, InSigned, InRadix, InBased, cons_token, scan}
 use Rattle.vast_read.specs.Scanner.{opens_based, radix_place, IsTick}
-use Rattle.vast_read.proofs.Lexemes.{At, advance, fails, run, run_stops, ends}
-use Rattle.vast_read.proofs.Strings.{two_taken}
-use Rattle.vast_read.proofs.Words.{passed_within}
+use Rattle.vast_read.proofs.scanner.Lexemes.{At, advance, fails, run, run_stops, ends}
+use Rattle.vast_read.proofs.scanner.Strings.{two_taken}
+use Rattle.vast_read.proofs.scanner.Words.{passed_within}
 
 module _ (text : List ℕ) (tick : ℕ) (is : IsTick text tick) (opened : opens_based (get_or text (tick + 1) 10) ≡ true) where
   second : tick + 1 < length text

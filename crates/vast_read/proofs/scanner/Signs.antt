@@ -10,9 +10,9 @@ use Rattle.std.proofs.lemmas.Str.{IsCharBoundary-end, IsCharBoundary-before_asci
 use Rattle.vast_literal.specs.Tokens.{Token}
 use Rattle.vast_literal.specs.Scan.{is_letter, is_digit, is_space, Gap, Pending, InComment, Step, cons_token, join_tokens, keep, fail, whole_signs, find_sign, start_sign, start, grown, scan}
 use Rattle.vast_read.specs.Scanner.{starts_sign, Reaches}
-use Rattle.vast_read.proofs.Cuts.{cut_behind}
-use Rattle.vast_read.proofs.Lexemes.{one_more, run_stops, ends}
-use Rattle.vast_read.proofs.Words.{passed_within}
+use Rattle.vast_read.proofs.scanner.Cuts.{cut_behind}
+use Rattle.vast_read.proofs.scanner.Lexemes.{one_more, run_stops, ends}
+use Rattle.vast_read.proofs.scanner.Words.{passed_within}
 
 -- a byte that does not end a line
 abbrev within_line : ℕ → Bool

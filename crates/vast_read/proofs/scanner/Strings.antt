@@ -6,7 +6,7 @@ use Rattle.std.proofs.lemmas.Bool.Decides.{nat_tests}
 use Rattle.vast_literal.specs.Tokens.{Quoted}
 use Rattle.vast_literal.specs.Scan.{Gap, InString, InEscape, cons_token, scan}
 use Rattle.vast_read.specs.Scanner.{string_part, EndsString}
-use Rattle.vast_read.proofs.Lexemes.{At, advance, fails}
+use Rattle.vast_read.proofs.scanner.Lexemes.{At, advance, fails}
 
 -- a byte other than a line feed stands within the text
 pub other_within : (text : List ℕ) (place : ℕ) → (get_or text place 10 ≡ 10 → ⊥) → place < length text

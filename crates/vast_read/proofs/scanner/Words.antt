@@ -6,8 +6,8 @@ use Rattle.std.proofs.lemmas.List.{get_or_past}
 use Rattle.std.proofs.lemmas.Bool.Decides.{nat_tests}
 use Rattle.vast_literal.specs.Tokens.{Token, SystemWord, MacroWord, word_token}
 use Rattle.vast_literal.specs.Scan.{is_letter, is_digit, is_word_byte, is_based_digit, State, Gap, InWord, InSystemWord, InMacroWord, cons_token, keep, follow, start, step, flush, system_token, scan}
-use Rattle.vast_read.proofs.Cuts.{run_cut}
-use Rattle.vast_read.proofs.Lexemes.{At, head_at, goes, stop, run, run_stops, ends, ends_by}
+use Rattle.vast_read.proofs.scanner.Cuts.{run_cut}
+use Rattle.vast_read.proofs.scanner.Lexemes.{At, head_at, goes, stop, run, run_stops, ends, ends_by}
 
 letter_small : (c : ℕ) → is_letter c ≡ true → c < 128
 letter_small c h = grind (arith, nat_tests)
