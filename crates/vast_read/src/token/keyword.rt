@@ -1,0 +1,116 @@
+//! Keywords.
+
+ghost use Rattle.std.specs.Prelude.{◌≡◌, IfOk, option_map};
+ghost use Rattle.vast_literal.specs.Tokens.{key_text, reserved_keys};
+ghost use Rattle.vast_literal.specs.Grammar.{is_cast_word};
+ghost use Rattle.vast_read.specs.Texts.{key_of};
+ghost use Rattle.vast_read.specs.TokenView.{key_view};
+
+use crate::token::Key;
+use crate::word::Word;
+use std::alloc::{AllocError, Global};
+
+impl Key {
+    /// How it is written.
+    #[tactic(auto, unfolding(crate::specs::TokenView::key_view, crate::specs::Texts::key_of, vast_literal::specs::Tokens::reserved_keys, vast_literal::specs::Tokens::key_text))]
+    pub fn text(self) -> &'static str
+        ensures { key_of result.now ≡ key_view self }
+    {
+        match self {
+            Key::If => "if",
+            Key::Else => "else",
+            Key::Case => "case",
+            Key::Casez => "casez",
+            Key::Casex => "casex",
+            Key::EndCase => "endcase",
+            Key::Default => "default",
+            Key::Unique => "unique",
+            Key::Begin => "begin",
+            Key::End => "end",
+            Key::Assign => "assign",
+            Key::Wire => "wire",
+            Key::Reg => "reg",
+            Key::Logic => "logic",
+            Key::Integer => "integer",
+            Key::Int => "int",
+            Key::Genvar => "genvar",
+            Key::Signed => "signed",
+            Key::Unsigned => "unsigned",
+            Key::Module => "module",
+            Key::EndModule => "endmodule",
+            Key::Parameter => "parameter",
+            Key::Localparam => "localparam",
+            Key::AlwaysComb => "always_comb",
+            Key::AlwaysFF => "always_ff",
+            Key::Always => "always",
+            Key::Posedge => "posedge",
+            Key::Negedge => "negedge",
+            Key::Or => "or",
+            Key::Function => "function",
+            Key::Automatic => "automatic",
+            Key::EndFunction => "endfunction",
+            Key::Input => "input",
+            Key::Output => "output",
+            Key::InOut => "inout",
+            Key::For => "for",
+        }
+    }
+
+    /// Whether it heads a cast.
+    #[tactic(auto, unfolding(crate::specs::TokenView::key_view, vast_literal::specs::Grammar::is_cast_word))]
+    pub fn is_cast_word(self) -> bool
+        ensures { result ≡ is_cast_word (key_view self) }
+    {
+        match self {
+            Key::If => false,
+            Key::Else => false,
+            Key::Case => false,
+            Key::Casez => false,
+            Key::Casex => false,
+            Key::EndCase => false,
+            Key::Default => false,
+            Key::Unique => false,
+            Key::Begin => false,
+            Key::End => false,
+            Key::Assign => false,
+            Key::Wire => false,
+            Key::Reg => false,
+            Key::Logic => true,
+            Key::Integer => true,
+            Key::Int => true,
+            Key::Genvar => false,
+            Key::Signed => true,
+            Key::Unsigned => true,
+            Key::Module => false,
+            Key::EndModule => false,
+            Key::Parameter => false,
+            Key::Localparam => false,
+            Key::AlwaysComb => false,
+            Key::AlwaysFF => false,
+            Key::Always => false,
+            Key::Posedge => false,
+            Key::Negedge => false,
+            Key::Or => false,
+            Key::Function => false,
+            Key::Automatic => false,
+            Key::EndFunction => false,
+            Key::Input => false,
+            Key::Output => false,
+            Key::InOut => false,
+            Key::For => false,
+        }
+    }
+
+    /// The word of a keyword, where there is one.
+    pub(crate) fn maybe_word(alloc: Global, key: Option<Key>) -> Result<Option<Word>, AllocError>
+        ensures { IfOk result (λ w. option_map key_of w ≡ option_map key_view key) }
+    {
+        match key {
+            None => Ok(None),
+            Some(key) => {
+                let word = Word::new(alloc, key.text())?;
+                Ok(Some(word))
+            }
+        }
+    }
+}
