@@ -42,3 +42,7 @@ pub mod DerivedOnce
 pub mod FilePins
 pub mod LoopPin
 pub mod TokenTexts
+pub mod Same
+pub mod SettledExpressions
+pub mod Agree
+pub mod SettledStatements

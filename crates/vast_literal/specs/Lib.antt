@@ -24,6 +24,7 @@ pub mod StatementParser
 pub mod DeclarationParser
 pub mod MemberParser
 pub mod FileParser
+pub mod Settled
 pub mod NormalTree
 pub mod FileTokens
 pub mod PlainFile

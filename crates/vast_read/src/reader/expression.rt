@@ -4,7 +4,7 @@ ghost use Rattle.std.specs.Prelude.{◌≡◌, ℕ, ◌≤◌, length};
 ghost use Rattle.vast_literal.specs.Tokens.{Comma, CloseBrace, CloseParen};
 ghost use Rattle.vast_literal.specs.NormalExpr.{Name, Call, Cast};
 ghost use Rattle.vast_literal.specs.Parser.{after, lead, enclosed, arguments, list_on, word_on, number_on, macro_on, brace_on, selected, primary, applied, cast};
-ghost use Rattle.vast_read.specs.Settled.{settled};
+ghost use Rattle.vast_literal.specs.Settled.{settled};
 ghost use Rattle.vast_read.specs.Steps.{one_select, select_end, part_at, in_parens, choice_at, package_at, replicated_at, concat_at, system_at, pattern_at, grouped, key_cast, marked_at};
 ghost use Rattle.vast_read.specs.Answers.{Reads, ReadsList};
 ghost use Rattle.vast_read.specs.View.{view, listed};
