@@ -1,8 +1,9 @@
 //! Keywords.
 
-ghost use Rattle.std.specs.Prelude.{◌≡◌, IfOk, option_map};
+ghost use Rattle.std.specs.Prelude.{◌≡◌, IfOk, nat_eq, option_map};
 ghost use Rattle.vast_literal.specs.Tokens.{key_text, reserved_keys};
 ghost use Rattle.vast_literal.specs.Grammar.{is_cast_word};
+ghost use Rattle.vast_literal.specs.StatementParser.{key_code};
 ghost use Rattle.vast_read.specs.Texts.{key_of};
 ghost use Rattle.vast_read.specs.TokenView.{key_view};
 
@@ -112,5 +113,57 @@ impl Key {
                 Ok(Some(word))
             }
         }
+    }
+
+    /// A number that tells it from the others.
+    #[tactic(auto, unfolding(vast_literal::specs::StatementParser::key_code))]
+    pub(crate) fn code(self) -> u8
+        ensures { result ≡ key_code (key_view self) }
+    {
+        match self {
+            Key::If => 0,
+            Key::Else => 1,
+            Key::Case => 2,
+            Key::Casez => 3,
+            Key::Casex => 4,
+            Key::EndCase => 5,
+            Key::Default => 6,
+            Key::Unique => 7,
+            Key::Begin => 8,
+            Key::End => 9,
+            Key::Assign => 10,
+            Key::Wire => 11,
+            Key::Reg => 12,
+            Key::Logic => 13,
+            Key::Integer => 14,
+            Key::Int => 15,
+            Key::Genvar => 16,
+            Key::Signed => 17,
+            Key::Unsigned => 18,
+            Key::Module => 19,
+            Key::EndModule => 20,
+            Key::Parameter => 21,
+            Key::Localparam => 22,
+            Key::AlwaysComb => 23,
+            Key::AlwaysFF => 24,
+            Key::Always => 25,
+            Key::Posedge => 26,
+            Key::Negedge => 27,
+            Key::Or => 28,
+            Key::Function => 29,
+            Key::Automatic => 30,
+            Key::EndFunction => 31,
+            Key::Input => 32,
+            Key::Output => 33,
+            Key::InOut => 34,
+            Key::For => 35,
+        }
+    }
+
+    /// Whether it is the other.
+    pub(crate) fn is(self, other: Key) -> bool
+        ensures { result ≡ nat_eq (key_code (key_view self)) (key_code (key_view other)) }
+    {
+        self.code() == other.code()
     }
 }

@@ -1,6 +1,6 @@
 //! Statements of procedural blocks.
 
-ghost use Rattle.std.specs.Prelude.{◌≡◌, IfOk, IfErr, Some, None};
+ghost use Rattle.std.specs.Prelude.{◌≡◌, IfOk, IfErr, option_map};
 ghost use Rattle.vast_literal.specs.NormalFile.{AssignStatement, ChoiceStatement, CaseStatement};
 ghost use Rattle.vast_literal.specs.FileGrammar.{assignment};
 ghost use Rattle.vast_read.specs.declared.fault.Fault.TheVariants.{Memory};
@@ -126,26 +126,24 @@ impl Arm {
 }
 
 impl CaseArm {
-    /// An arm with a label.
-    pub(crate) fn labelled(
+    /// An arm, of a label or the default.
+    pub(crate) fn new(
         alloc: Global,
-        label: NormalExpr,
+        label: Option<NormalExpr>,
         block: Children<NormalStatement>,
     ) -> Result<CaseArm, Fault>
-        ensures ok { IfOk result (λ a. label_view a ≡ (Some (view label), block_view block)) }
+        ensures ok { IfOk result (λ a. label_view a ≡ (option_map view label, block_view block)) }
         ensures err { IfErr result (λ e. e ≡ Memory) }
     {
-        let label = Box::new(alloc, label)?;
-        Ok(CaseArm {
-            label: Some(label),
-            block,
-        })
-    }
-
-    /// The default arm.
-    pub(crate) fn unlabelled(block: Children<NormalStatement>) -> CaseArm
-        ensures { label_view result ≡ (None, block_view block) }
-    {
-        CaseArm { label: None, block }
+        match label {
+            None => Ok(CaseArm { label: None, block }),
+            Some(label) => {
+                let label = Box::new(alloc, label)?;
+                Ok(CaseArm {
+                    label: Some(label),
+                    block,
+                })
+            }
+        }
     }
 }
