@@ -45,6 +45,17 @@ chain {o = o} {u = u} {b = b} {c = c} {f = f} {g = g} s h = subst (λ v. Agree c
 pub through : {A : Type 0} {o u v : Option (A × List Token)} {b : ℕ} → Agree b o v → Agree b u v → Agree b o u
 through x y = record { same = x.same ∙ sym y.same; fewer = x.fewer }
 
+-- either reading restated
+pub begun : {A : Type 0} {o u v : Option (A × List Token)} {b : ℕ} → o ≡ u → Agree b u v → Agree b o v
+begun {b = b} e x = record { same = e ∙ x.same; fewer = subst (λ w. FewerIn b w) (sym e) x.fewer }
+
+pub meets : {A : Type 0} {o u v : Option (A × List Token)} {b : ℕ} → Agree b o u → u ≡ v → Agree b o v
+meets x e = record { same = x.same ∙ e; fewer = x.fewer }
+
+pub some_then : {A B : Type 0} (x : A) (f : A → Option B) → (Some x >>= f) ≡ f x
+unfolding ◌>>=◌
+some_then x f = refl
+
 -- the second reading by itself
 pub second : {A : Type 0} {o u : Option (A × List Token)} {b : ℕ} → Agree b o u → Agree b u u
 second {b = b} x = record { same = refl; fewer = subst (λ v. FewerIn b v) x.same x.fewer }

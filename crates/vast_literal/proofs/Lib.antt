@@ -46,3 +46,5 @@ pub mod Same
 pub mod SettledExpressions
 pub mod Agree
 pub mod SettledStatements
+pub mod SettledLists
+pub mod SettledDeclarations

@@ -25,6 +25,8 @@ pub mod DeclarationParser
 pub mod MemberParser
 pub mod FileParser
 pub mod Settled
+pub mod Nexts
+pub mod SettledDeclarations
 pub mod NormalTree
 pub mod FileTokens
 pub mod PlainFile
