@@ -5,7 +5,7 @@ use Rattle.vast_literal.specs.Parser.{after, code, key_at}
 use Rattle.vast_literal.specs.StatementParser.{key_code, after_key_on, after_key, arrow_at}
 use Rattle.vast_literal.specs.Settled.{either}
 use Rattle.vast_read.specs.Steps.{sign_in}
-use Rattle.vast_read.specs.StatementSteps.{key_in, key_with, sign_with, is_less_equal}
+use Rattle.vast_literal.specs.Nexts.{key_in, key_with, sign_with, is_less_equal}
 use Rattle.std.proofs.lemmas.Bool.Decides.{nat_tests}
 
 key_is : (t : Token) (k : Key) → key_in t ≡ Some k → t ≡ Reserved k

@@ -11,7 +11,8 @@ use Rattle.vast_literal.specs.Settled.{either, settled, settled_reader}
 use Rattle.vast_literal.proofs.SettledStatements.{statement_settled, statements_settled, choice_settled, labels_settled}
 use Rattle.vast_read.specs.Steps.{in_parens}
 use Rattle.vast_read.specs.StatementParts.{ChoicePart, LabelPart, arms_before, last_arm, arms_of, join_block, join_labels}
-use Rattle.vast_read.specs.StatementSteps.{key_with, is_case_word, is_casez, assign_at, choice_statement, cases_of, unique_case, block, with_block, choice_arm, more_arms, else_arm, arms_end, label_at, bare_body, body_at, label_arm, with_labels}
+use Rattle.vast_literal.specs.Nexts.{key_with}
+use Rattle.vast_read.specs.StatementSteps.{is_case_word, is_casez, assign_at, choice_statement, cases_of, unique_case, block, with_block, choice_arm, more_arms, else_arm, arms_end, label_at, bare_body, body_at, label_arm, with_labels}
 use Rattle.vast_read.proofs.Steps.{then_some, then_none, either_some, either_none}
 
 pub chained : {A B C : Type 0} (o : Option A) (f : A → Option B) (g : B → Option C) → ((o >>= f) >>= g) ≡ (o >>= λ x. f x >>= g)

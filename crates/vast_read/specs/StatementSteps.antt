@@ -1,38 +1,14 @@
 -- What each function of the reader of statements reads, over the settled parser.
-use Rattle.std.specs.Prelude.{ℕ, List, [], ◌∷◌, Bool, true, false, cond, Option, Some, None}
-use Rattle.vast_literal.specs.Tokens.{Op, LessEqual, Plus, Key, IfKey, ElseKey, CaseKey, CasezKey, CasexKey, DefaultKey, BeginKey, Colon, Semicolon, Assign, Token, Reserved, Operator}
+use Rattle.std.specs.Prelude.{List, Bool, true, false, cond, Option, Some, None}
+use Rattle.vast_literal.specs.Tokens.{Key, IfKey, ElseKey, CaseKey, CasezKey, CasexKey, DefaultKey, BeginKey, Colon, Semicolon, Assign, Token}
 use Rattle.vast_literal.specs.NormalExpr.{NormalExpr}
 use Rattle.vast_literal.specs.NormalFile.{NormalStatement, AssignStatement, ChoiceStatement, CaseStatement, NormalStatements, Done, Then, Arms, Labels}
-use Rattle.vast_literal.specs.Parser.{◌>>=◌, after, key_at, enclosed, selected}
+use Rattle.vast_literal.specs.Parser.{◌>>=◌, after, enclosed, selected}
 use Rattle.vast_literal.specs.StatementParser.{ReadOf, after_key, simple_at}
+use Rattle.vast_literal.specs.Nexts.{key_with}
 use Rattle.vast_literal.specs.Settled.{either, settled, settled_reader}
 use Rattle.vast_read.specs.Steps.{in_parens}
 use Rattle.vast_read.specs.StatementParts.{ChoicePart, LabelPart, arms_before, arms_of, join_block, join_labels}
-
--- The keyword that a token is.
-unfoldable pub key_in : Token → Option Key
-key_in (Reserved k) = Some k
-key_in _ = None
-
--- The next keyword, where it passes the test.
-unfoldable pub key_with : (Key → Bool) → List Token → Option (Key × List Token)
-key_with test [] = None
-key_with test (Reserved k ∷ us) = cond (test k) (Some (k, us)) None
-key_with test (_ ∷ us) = None
-
--- What is behind the next sign, where it passes the test.
-unfoldable pub sign_with : (Op → Bool) → List Token → Option (List Token)
-sign_with test [] = None
-sign_with test (Operator op ∷ us) = cond (test op) (Some us) None
-sign_with test (_ ∷ us) = None
-
-unfoldable pub is_less_equal : Op → Bool
-is_less_equal LessEqual = true
-is_less_equal _ = false
-
-unfoldable pub is_plus : Op → Bool
-is_plus Plus = true
-is_plus _ = false
 
 unfoldable pub is_case_word : Key → Bool
 is_case_word CaseKey = true
@@ -103,3 +79,19 @@ label_arm z ts = label_at ts >>= λ x. body_at z x.1 >>= λ b. Some ((x.0, b.0),
 -- Labels before what is read behind them.
 unfoldable pub with_labels : Labels → ReadOf Labels → ReadOf Labels
 with_labels xs o = o >>= λ ys. Some (join_labels xs ys.0, ys.1)
+
+-- What is behind `else if`.
+unfoldable pub else_if : List Token → Option (List Token)
+else_if ts = after_key ElseKey ts >>= λ us. after_key IfKey us
+
+-- The block of the last `else`, where there is one.
+unfoldable pub last_block : List Token → ReadOf (Option NormalStatements)
+last_block ts = either (after_key ElseKey ts) (λ us. block us >>= λ d. Some (Some d.0, d.1)) (Some (None, ts))
+
+-- The conditional whose first arms are these.
+unfoldable pub choice_behind : List ChoicePart → List Token → ReadOf NormalStatement
+choice_behind ps ts = arms_end ps ts >>= λ a. Some (ChoiceStatement a.0, a.1)
+
+-- A case, or an assignment.
+unfoldable pub case_or_simple : List Token → ReadOf NormalStatement
+case_or_simple ts = either (key_with is_case_word ts) (λ k. cases_of false k.0 k.1) (simple_at settled ts)
