@@ -56,6 +56,11 @@ pub some_then : {A B : Type 0} (x : A) (f : A → Option B) → (Some x >>= f) �
 unfolding ◌>>=◌
 some_then x f = refl
 
+pub chained : {A B C : Type 0} (o : Option A) (f : A → Option B) (g : B → Option C) → ((o >>= f) >>= g) ≡ (o >>= λ x. f x >>= g)
+unfolding ◌>>=◌
+chained None f g = refl
+chained (Some x) f g = refl
+
 -- the second reading by itself
 pub second : {A : Type 0} {o u : Option (A × List Token)} {b : ℕ} → Agree b o u → Agree b u u
 second {b = b} x = record { same = refl; fewer = subst (λ v. FewerIn b v) x.same x.fewer }

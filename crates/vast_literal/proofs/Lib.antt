@@ -48,3 +48,6 @@ pub mod Agree
 pub mod SettledStatements
 pub mod SettledLists
 pub mod SettledDeclarations
+pub mod SettledMemberParts
+pub mod SettledMembers
+pub mod SettledFiles

@@ -27,6 +27,8 @@ pub mod FileParser
 pub mod Settled
 pub mod Nexts
 pub mod SettledDeclarations
+pub mod SettledMembers
+pub mod SettledFiles
 pub mod NormalTree
 pub mod FileTokens
 pub mod PlainFile

@@ -13,6 +13,12 @@ key_with test [] = None
 key_with test (Reserved k ∷ us) = cond (test k) (Some (k, us)) None
 key_with test (_ ∷ us) = None
 
+-- Whether a keyword that passes the test stands next.
+unfoldable pub begins_with : (Key → Bool) → List Token → Bool
+begins_with test [] = false
+begins_with test (Reserved k ∷ us) = test k
+begins_with test (_ ∷ us) = false
+
 -- What is behind the next sign, where it passes the test.
 unfoldable pub sign_with : (Op → Bool) → List Token → Option (List Token)
 sign_with test [] = None

@@ -1,9 +1,12 @@
 -- The normal declarations that declarations of the reader stand for.
 use Rattle.std.specs.Prelude.{ℕ, List, Option, Some, None, option_map, map}
 use Rattle.vast_literal.specs.NormalExpr.{NormalExpr}
-use Rattle.vast_literal.specs.Tokens.{Key}
+use Rattle.vast_literal.specs.Tokens.{Key, Token}
 use Rattle.vast_literal.specs.NormalFile as normal
 use Rattle.vast_literal.specs.NormalFile.{One, Range}
+use Rattle.vast_literal.specs.StatementParser.{ReadOf}
+use Rattle.vast_literal.specs.SettledDeclarations.{named_end}
+
 use Rattle.vast_read.specs.Texts.{key_of}
 use Rattle.vast_read.specs.TokenView.{key_view}
 use Rattle.vast_read.specs.View.{view}
@@ -49,3 +52,7 @@ head_view h = record { kind = option_map key_view h.kind; scope = option_map (λ
 -- The declaration of these parts.
 abbrev pub with_head : HeadParts → List normal.Group → List ℕ → List normal.Group → normal.NormalDeclaration
 with_head h gs w after = record { kind = h.kind; package_name = h.scope; type_name = h.type_name; sign = h.sign; groups = gs; name = w; behind = after }
+
+-- What stands behind these parts.
+abbrev pub headed : HeadParts → List Token → ReadOf normal.NormalDeclaration
+headed h ts = named_end h.kind h.scope h.type_name h.sign ts
