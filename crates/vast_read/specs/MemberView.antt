@@ -3,9 +3,10 @@ use Rattle.std.specs.Prelude.{ℕ, List, [], ◌∷◌, Option, Some, None, opti
 use Rattle.vast_literal.specs.NormalExpr as expression
 use Rattle.vast_literal.specs.NormalExpr.{Name}
 use Rattle.vast_literal.specs.NormalFile as normal
-use Rattle.vast_literal.specs.NormalFile.{Done, Arms, Only, ChoiceStatement, Event, EdgeEvent, NameEvent, NormalMembers, NoParts, MoreParts}
+use Rattle.vast_literal.specs.NormalFile.{Event, EdgeEvent, NameEvent, NormalMembers, NoParts, MoreParts}
 use Rattle.vast_read.specs.Texts.{key_of}
 use Rattle.vast_read.specs.View.{view, listed}
+use Rattle.vast_read.specs.StatementParts.{arms_in}
 use Rattle.vast_read.specs.StatementView.{statement_view, block_view}
 use Rattle.vast_read.specs.DeclarationView.{declaration_view, declarations_view}
 use Rattle.vast_read.specs.declared.tree.member.Event.{Event as CodeEvent}
@@ -37,11 +38,6 @@ connections_view cs = map connection_view cs
 -- What is given by a name.
 abbrev pub given : List ℕ → Option expression.NormalExpr → normal.NormalConnection
 given w x = record { name = w; value = x }
-
--- The arms of a conditional; what a conditional construct holds is always one.
-abbrev pub arms_in : normal.NormalStatement → Arms
-arms_in (ChoiceStatement a) = a
-arms_in _ = Only (Name []) Done
 
 abbrev pub members_of : List normal.NormalMember → NormalMembers
 members_of [] = NoParts

@@ -113,6 +113,18 @@ impl<'t> Reader<'t> {
         }
     }
 
+    /// Reads `+`.
+    pub(crate) fn expect_plus(&mut self) -> Result<(), Fault>
+        ensures found { MatchResult result (λ _. sign_with is_plus self.old ≡ Some self.new) (λ _. sign_with is_plus self.old ≡ None) }
+        ensures fewer { length self.new ≤ length self.old }
+    {
+        if self.eat_plus() {
+            Ok(())
+        } else {
+            Err(Fault::Underived)
+        }
+    }
+
     /// Reads the sign of an assignment: whether it is that of a blocking one.
     #[tactic(auto, using(crate::proofs::StatementLaws::arrows))]
     pub(crate) fn arrow(&mut self) -> Result<bool, Fault>
