@@ -1,7 +1,6 @@
 -- Two readings that agree, and leave fewer tokens than a bound.
-use Rattle.std.proofs.Common.{◌≡◌, ℕ, suc, ◌+◌, ◌*◌, ◌≤◌, ◌<◌, true, false, cond, nat_eq, List, [], ◌∷◌, length, Option, Some, None, refl, sym, ap, ◌∙◌, subst, arith}
+use Rattle.std.proofs.Common.{◌≡◌, ℕ, suc, ◌+◌, ◌*◌, ◌≤◌, ◌<◌, true, false, cond, nat_eq, List, [], ◌∷◌, length, Option, Some, None, refl, sym, ◌∙◌, subst, arith}
 use Rattle.vast_literal.specs.Tokens.{LessEqual, Punct, Assign, Key, Token, Reserved, Operator, Mark}
-use Rattle.vast_literal.specs.NormalExpr.{NormalExpr}
 use Rattle.vast_literal.specs.Parser.{◌>>=◌, Parser, after, key_at, enclosed}
 use Rattle.vast_literal.specs.StatementParser.{key_code, after_key_on, after_key, arrow_at}
 use Rattle.vast_literal.proofs.Sound.{after_is}

@@ -51,3 +51,4 @@ pub mod SettledDeclarations
 pub mod SettledMemberParts
 pub mod SettledMembers
 pub mod SettledFiles
+pub mod SettledFewer

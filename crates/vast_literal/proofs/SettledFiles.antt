@@ -1,23 +1,21 @@
 -- The parser of files agrees, with fuel enough, with the settled one, which so decides what tokens spell.
-use Rattle.std.proofs.Common.{◌≡◌, ℕ, suc, ◌+◌, ◌*◌, ◌≤◌, ◌<◌, Bool, true, false, cond, bytes_eq, codes, List, [], ◌∷◌, length, Option, Some, None, refl, sym, ap, arith, ◌∙◌}
+use Rattle.std.proofs.Common.{◌≡◌, ℕ, suc, ◌+◌, ◌*◌, ◌<◌, Bool, true, false, cond, bytes_eq, codes, List, [], ◌∷◌, length, Option, Some, None, refl, sym, ap, arith, ◌∙◌}
 use Rattle.vast_literal.specs.Tokens.{Key, ModuleKey, EndModuleKey, ParameterKey, OpenParen, CloseParen, Comma, Semicolon, Hash, Assign, Token, Reserved, MacroWord, Quoted, Mark}
-use Rattle.vast_literal.specs.NormalFile.{NormalParameter, NormalPort, NormalItem, ModulePart, IncludePart, NormalFile}
+use Rattle.vast_literal.specs.NormalFile.{NormalPort, ModulePart, IncludePart, NormalFile}
 use Rattle.vast_literal.specs.FileGrammar.{is_direction, IsFile}
 use Rattle.vast_literal.specs.Parser.{◌>>=◌, after, key_at, word_at, run}
 use Rattle.vast_literal.specs.StatementParser.{ReadOf, key_code, after_key_on, after_key}
 use Rattle.vast_literal.specs.DeclarationParser.{many_on, declaration_at}
 use Rattle.vast_literal.specs.MemberParser.{members}
 use Rattle.vast_literal.specs.FileParser.{parameter_at, port_on, port_at, header_parameters_at, header_ports_at, parameters_on, ports_on, module_at, path_of, include_on, item_at, is_more, file_at}
-use Rattle.vast_literal.specs.Settled.{either, settled}
+use Rattle.vast_literal.specs.Settled.{either}
 use Rattle.vast_literal.specs.Nexts.{key_with}
-use Rattle.vast_literal.specs.SettledDeclarations.{settled_declaration}
-use Rattle.vast_literal.specs.SettledMembers.{settled_members}
 use Rattle.vast_literal.specs.SettledFiles.{settled_parameter, settled_port, joined_parameters, joined_ports, parameter_list, settled_parameters, port_list, settled_ports, settled_module, include_at, settled_item, settled_items, settled_file}
 use Rattle.vast_literal.proofs.Soon.{Soon, one_result}
 use Rattle.vast_literal.proofs.FilesParse.{file_parses}
 use Rattle.vast_literal.proofs.Same.{FewerIn, fewer_word}
 use Rattle.vast_literal.proofs.SettledExpressions.{run_settled}
-use Rattle.vast_literal.proofs.Agree.{Agree, nothing, ready, wide, of_same, chain, begun, second, read, shorter_mark, shorter_key, behind, behind_key}
+use Rattle.vast_literal.proofs.Agree.{Agree, ready, wide, of_same, chain, begun, second, read, shorter_mark, shorter_key, behind, behind_key}
 use Rattle.vast_literal.proofs.SettledLists.{choose_past, many_of_agree, many_reads, joined_of_agree}
 use Rattle.vast_literal.proofs.SettledDeclarations.{key_with_fewer, declaration_agree}
 use Rattle.vast_literal.proofs.SettledMembers.{members_agree}

@@ -1,5 +1,5 @@
 -- The settled parsers of lists: what they read item by item, and that those by fuel agree with them.
-use Rattle.std.proofs.Common.{◌≡◌, ℕ, zero, suc, ◌+◌, ◌*◌, ◌≤◌, ◌<◌, Bool, true, false, List, [], ◌∷◌, length, Option, Some, None, refl, arith}
+use Rattle.std.proofs.Common.{◌≡◌, ℕ, zero, suc, ◌+◌, ◌*◌, ◌<◌, Bool, true, false, List, [], ◌∷◌, length, Option, Some, None, refl, arith}
 use Rattle.vast_literal.specs.Tokens.{Punct, Token}
 use Rattle.vast_literal.specs.Parser.{◌>>=◌, after}
 use Rattle.vast_literal.specs.StatementParser.{ReadOf}

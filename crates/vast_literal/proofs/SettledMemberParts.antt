@@ -1,21 +1,19 @@
 -- The parsers of what a module's members hold agree, with fuel enough, with the settled ones.
-use Rattle.std.proofs.Common.{◌≡◌, ℕ, suc, ◌+◌, ◌*◌, ◌≤◌, ◌<◌, Bool, true, false, cond, bytes_eq, codes, List, [], ◌∷◌, length, Option, Some, None, refl, sym, arith}
-use Rattle.vast_literal.specs.Tokens.{Op, Less, Plus, OpenParen, CloseParen, Comma, Colon, Semicolon, Dot, Hash, Assign, Key, CasezKey, UniqueKey, BeginKey, GenvarKey, OrKey, AutomaticKey, EndFunctionKey, InputKey, Token, Reserved, Word, MacroWord, Operator, Mark}
-use Rattle.vast_literal.specs.NormalExpr.{NormalExpr, NormalExprs}
-use Rattle.vast_literal.specs.NormalFile.{NormalStatement, NormalStatements, Done, Then, NormalDeclaration, Event, EdgeEvent, NameEvent, NormalConnection, NormalMember, MacroPart, InstancePart, FunctionPart}
+use Rattle.std.proofs.Common.{◌≡◌, ℕ, suc, ◌+◌, ◌*◌, ◌<◌, Bool, true, false, cond, List, [], ◌∷◌, length, Option, Some, None, refl, arith}
+use Rattle.vast_literal.specs.Tokens.{OpenParen, CloseParen, Comma, Semicolon, Dot, Hash, Key, CasezKey, UniqueKey, BeginKey, AutomaticKey, EndFunctionKey, InputKey, Token, Reserved, Word, MacroWord, Mark}
+use Rattle.vast_literal.specs.NormalExpr.{NormalExprs}
+use Rattle.vast_literal.specs.NormalFile.{Done, Then, NormalDeclaration, Event, EdgeEvent, NameEvent, NormalConnection, MacroPart, InstancePart, FunctionPart}
 use Rattle.vast_literal.specs.FileGrammar.{is_edge}
-use Rattle.vast_literal.specs.Parser.{◌>>=◌, Parser, after, key_at, word_at, number_at, enclosed, arguments, run}
-use Rattle.vast_literal.specs.StatementParser.{ReadOf, key_code, after_key_on, after_key, block_at, cases_at, read_with}
-use Rattle.vast_literal.specs.DeclarationParser.{declaration_at}
-use Rattle.vast_literal.specs.MemberParser.{event_on, event_at, connection_on, connection_at, given_at, connections_at, givens_at, instance_at, instance_on, semicolon_on, macro_end, macro_member, plain_member, block_with, label_on, input_at, inputs_at, is_local, local_at, locals_at, casez_alone, function_body, function_end, function_at, same_word, step_word}
+use Rattle.vast_literal.specs.Parser.{◌>>=◌, Parser, after, key_at, word_at, enclosed, arguments, run}
+use Rattle.vast_literal.specs.StatementParser.{key_code, after_key_on, after_key, cases_at, read_with}
+use Rattle.vast_literal.specs.MemberParser.{event_on, event_at, connection_on, connection_at, given_at, connections_at, givens_at, instance_at, instance_on, semicolon_on, macro_end, macro_member, plain_member, input_at, inputs_at, is_local, local_at, locals_at, casez_alone, function_body, function_end, function_at}
 use Rattle.vast_literal.specs.Settled.{either, settled, settled_reader}
-use Rattle.vast_literal.specs.Nexts.{key_with, sign_with, is_plus}
-use Rattle.vast_literal.specs.SettledDeclarations.{settled_declaration}
-use Rattle.vast_literal.specs.SettledMembers.{settled_event, settled_events, connection_value, settled_connection, settled_given, settled_connections, settled_givens, instance_end, given_parameters, settled_instance, macro_ending, settled_macro, plain_part, number_one, loop_label, settled_input, settled_inputs, settled_local, settled_locals, lone_case, function_block, function_ending, settled_function}
-use Rattle.vast_literal.proofs.Same.{FewerIn, fewer_word, fewer_number}
-use Rattle.vast_literal.proofs.SettledExpressions.{Both, run_settled, arguments_same}
-use Rattle.vast_literal.proofs.SettledStatements.{ReadersAgree, reader_settled, block_agree, cases_agree}
-use Rattle.vast_literal.proofs.Agree.{Agree, nothing, ready, wide, of_same, chain, begun, meets, chained, some_then, second, read, Shorter, shorter_mark, shorter_key, skipped, behind, behind_key, enclosed_agree}
+use Rattle.vast_literal.specs.Nexts.{key_with}
+use Rattle.vast_literal.specs.SettledMembers.{settled_event, connection_value, settled_connection, settled_given, settled_connections, settled_givens, instance_end, given_parameters, settled_instance, macro_ending, settled_macro, plain_part, settled_input, settled_inputs, settled_local, settled_locals, lone_case, function_block, function_ending, settled_function}
+use Rattle.vast_literal.proofs.Same.{fewer_word}
+use Rattle.vast_literal.proofs.SettledExpressions.{run_settled, arguments_same}
+use Rattle.vast_literal.proofs.SettledStatements.{reader_settled, cases_agree}
+use Rattle.vast_literal.proofs.Agree.{Agree, nothing, ready, wide, of_same, chain, begun, meets, chained, some_then, read, shorter_mark, shorter_key, behind, behind_key, enclosed_agree}
 use Rattle.vast_literal.proofs.SettledLists.{choose, choose_past, many_of_agree, joined_of_agree, listed_agree}
 use Rattle.vast_literal.proofs.SettledDeclarations.{key_with_fewer, declaration_agree}
 

@@ -1,24 +1,24 @@
 -- The parser of a module's members agrees, with fuel enough, with the settled one.
-use Rattle.std.proofs.Common.{◌≡◌, ℕ, zero, suc, ◌+◌, ◌*◌, ◌≤◌, ◌<◌, Bool, true, false, cond, bytes_eq, codes, List, [], ◌∷◌, length, Option, Some, None, refl, sym, arith}
+use Rattle.std.proofs.Common.{◌≡◌, ℕ, zero, suc, ◌+◌, ◌*◌, ◌<◌, Bool, true, false, cond, bytes_eq, codes, List, [], ◌∷◌, length, Option, Some, None, refl, arith}
 use Rattle.vast_literal.specs.Tokens.{Op, Plus, OpenParen, CloseParen, Colon, Semicolon, At, Assign, Key, IfKey, BeginKey, EndKey, AssignKey, GenvarKey, AlwaysCombKey, OrKey, FunctionKey, ForKey, Token, Reserved, Operator, Mark}
 use Rattle.vast_literal.specs.NormalExpr.{NormalExpr}
-use Rattle.vast_literal.specs.NormalFile.{NormalStatements, Event, NormalMember, DeclarationPart, AssignPart, ParameterPart, AlwaysPart, ConditionalPart, LoopPart, NormalMembers, NoParts, MoreParts}
+use Rattle.vast_literal.specs.NormalFile.{DeclarationPart, AssignPart, ParameterPart, AlwaysPart, ConditionalPart, LoopPart, NormalMembers, NoParts, MoreParts}
 use Rattle.vast_literal.specs.FileGrammar.{is_member_kind, is_parameter_word, is_clocked}
 use Rattle.vast_literal.specs.Parser.{◌>>=◌, after, key_at, word_at, number_at, enclosed, selected, run}
 use Rattle.vast_literal.specs.StatementParser.{ReadOf, key_code, after_key_on, after_key, block_at, read_with}
 use Rattle.vast_literal.specs.DeclarationParser.{listed, declaration_at}
 use Rattle.vast_literal.specs.MemberParser.{event_at, plain_member, block_with, bound_of, same_word, step_word, label_on, loop_body, loop_at, function_at, keyed, member_on, members_on, members}
-use Rattle.vast_literal.specs.Settled.{either, fuel, settled, settled_reader}
+use Rattle.vast_literal.specs.Settled.{either, settled, settled_reader}
 use Rattle.vast_literal.specs.Nexts.{key_with, begins_with, sign_with, is_plus}
 use Rattle.vast_literal.specs.SettledDeclarations.{settled_declaration}
-use Rattle.vast_literal.specs.SettledMembers.{settled_members, settled_event, settled_events, plain_part, loop_start, loop_bound, number_one, loop_step, loop_label, loop_block, loop_end, settled_loop, settled_local, settled_function, assign_part, combinational_part, conditional_part, parameter_part, clocked_part, declaration_part, settled_member}
+use Rattle.vast_literal.specs.SettledMembers.{settled_members, settled_event, settled_events, plain_part, loop_start, loop_bound, number_one, loop_step, loop_label, loop_block, loop_end, settled_loop, settled_local, assign_part, combinational_part, conditional_part, parameter_part, clocked_part, declaration_part, settled_member}
 use Rattle.vast_literal.proofs.Same.{FewerIn, fewer_word, fewer_number}
 use Rattle.vast_literal.proofs.SettledExpressions.{run_settled, selected_same}
 use Rattle.vast_literal.proofs.SettledStatements.{reader_settled}
 use Rattle.vast_literal.proofs.Agree.{Agree, ready, wide, of_same, chain, begun, meets, chained, some_then, through, second, read, Shorter, shorter_mark, shorter_key, skipped, behind, behind_key}
 use Rattle.vast_literal.proofs.SettledLists.{choose, choose_past, listed_agree}
 use Rattle.vast_literal.proofs.SettledDeclarations.{key_with_fewer, declaration_agree}
-use Rattle.vast_literal.proofs.SettledMemberParts.{closed_agree, event_agree, plain_agree, local_agree, function_agree}
+use Rattle.vast_literal.proofs.SettledMemberParts.{closed_agree, event_agree, plain_agree, function_agree}
 
 -- loops
 
@@ -98,7 +98,7 @@ unfolding loop_at
 loop_agree n rest ts r q = meets (behind OpenParen ts (λ a l1. behind_key GenvarKey a (λ b l2. read (word_at b) (fewer_word b) (λ i l3. behind Assign i.1 (λ c l4.
     chain (closed_agree n Semicolon c (omega arith)) (λ x l5. chain (closed_agree n Semicolon x.1 (omega arith)) (λ d l6. given (bound_of i.0 d.0) (λ e. skipped (same_word i.0 d.1) (same_word_shorter i.0 d.1) (λ f l7.
     behind Assign f (λ g l8. skipped (same_word i.0 g) (same_word_shorter i.0 g) (λ h l9. skipped (step_word h) (step_shorter h) (λ j l10. behind CloseParen j (λ k l11.
-    wide (omega arith) (block_agree n rest (length ts) r i.0 x.0 e k (omega arith)))))))))))))))  (loop_split ts)
+    wide (omega arith) (block_agree n rest (length ts) r i.0 x.0 e k (omega arith))))))))))))))) (loop_split ts)
 
 -- members by their keyword
 

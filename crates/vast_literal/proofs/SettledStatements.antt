@@ -1,11 +1,11 @@
 -- The settled parser of statements is its own step.
-use Rattle.std.proofs.Common.{◌≡◌, ℕ, zero, suc, ◌+◌, ◌*◌, ◌≤◌, ◌<◌, Bool, true, false, cond, List, [], length, Option, Some, None, sym, subst, arith}
+use Rattle.std.proofs.Common.{◌≡◌, ℕ, zero, suc, ◌+◌, ◌*◌, ◌≤◌, ◌<◌, Bool, true, false, cond, List, length, Option, Some, None, sym, subst, arith}
 use Rattle.vast_literal.specs.Tokens.{OpenParen, CloseParen, Colon, Semicolon, Assign, Key, IfKey, ElseKey, CaseKey, CasezKey, CasexKey, EndCaseKey, DefaultKey, UniqueKey, BeginKey, EndKey, AssignKey, Token}
 use Rattle.vast_literal.specs.NormalExpr.{NormalExpr}
-use Rattle.vast_literal.specs.NormalFile.{NormalStatement, AssignStatement, ChoiceStatement, CaseStatement, NormalStatements, Done, Then, Arms, Only, Otherwise, Or, Labels, NoLabels, Label}
+use Rattle.vast_literal.specs.NormalFile.{AssignStatement, ChoiceStatement, CaseStatement, NormalStatements, Done, Then, Only, Otherwise, Or, NoLabels, Label}
 use Rattle.vast_literal.specs.Grammar.{is_cast_word}
 use Rattle.vast_literal.specs.FileGrammar.{assignment}
-use Rattle.vast_literal.specs.Parser.{◌>>=◌, Parser, after, key_at, enclosed, selected}
+use Rattle.vast_literal.specs.Parser.{Parser, key_at, enclosed}
 use Rattle.vast_literal.specs.StatementParser.{Reader, after_key, arrow_at, simple_at, block_at, cases_at, case_of, statement_on, statement_step, statements_on, statements_step, tail_on, choice_on, choice_step, body_on, arm_at, labels_on, labels_step, reader_step, read_with}
 use Rattle.vast_literal.specs.Settled.{settled, settled_reader}
 use Rattle.vast_literal.proofs.ReaderGives.{low_is}

@@ -1,5 +1,5 @@
 -- What the parsers of lists and of declarations answer once they have fuel enough.
-use Rattle.std.specs.Prelude.{ℕ, suc, List, [], ◌∷◌, length, Bool, Option, Some, None}
+use Rattle.std.specs.Prelude.{ℕ, suc, List, [], length, Bool, Option, Some, None}
 use Rattle.vast_literal.specs.Tokens.{Key, Punct, OpenBracket, CloseBracket, Colon, DoubleColon, Token}
 use Rattle.vast_literal.specs.NormalExpr.{NormalExpr}
 use Rattle.vast_literal.specs.NormalFile.{Group, One, Range, NormalDeclaration}

@@ -1,5 +1,5 @@
 -- What the parser of modules and files answers once it has fuel enough.
-use Rattle.std.specs.Prelude.{List, [], ◌∷◌, Option, Some, None}
+use Rattle.std.specs.Prelude.{List, [], ◌∷◌, Some, None}
 use Rattle.vast_literal.specs.Tokens.{ModuleKey, EndModuleKey, ParameterKey, OpenParen, CloseParen, Comma, Semicolon, Hash, Assign, Token, MacroWord}
 use Rattle.vast_literal.specs.NormalFile.{NormalParameter, NormalPort, NormalItem, ModulePart, NormalFile}
 use Rattle.vast_literal.specs.FileGrammar.{is_direction}

@@ -2,7 +2,7 @@
 use Rattle.std.specs.Prelude.{ℕ, List, [], ◌∷◌, Bool, true, false, cond, bytes_eq, codes, Option, Some, None}
 use Rattle.vast_literal.specs.Tokens.{OpenParen, CloseParen, Comma, Colon, Semicolon, Dot, Hash, At, Assign, Key, IfKey, CasezKey, UniqueKey, BeginKey, EndKey, AssignKey, GenvarKey, AlwaysCombKey, OrKey, FunctionKey, AutomaticKey, EndFunctionKey, InputKey, ForKey, Token, Word, MacroWord}
 use Rattle.vast_literal.specs.NormalExpr.{NormalExpr, NormalExprs}
-use Rattle.vast_literal.specs.NormalFile.{NormalStatements, Done, Then, NormalDeclaration, Event, EdgeEvent, NameEvent, NormalConnection, NormalMember, DeclarationPart, AssignPart, ParameterPart, MacroPart, InstancePart, AlwaysPart, ConditionalPart, FunctionPart, LoopPart, NormalMembers, NoParts, MoreParts}
+use Rattle.vast_literal.specs.NormalFile.{NormalStatements, Done, Then, NormalDeclaration, Event, EdgeEvent, NameEvent, NormalConnection, NormalMember, DeclarationPart, AssignPart, ParameterPart, MacroPart, InstancePart, AlwaysPart, ConditionalPart, FunctionPart, LoopPart, NormalMembers}
 use Rattle.vast_literal.specs.FileGrammar.{is_member_kind, is_parameter_word, is_clocked, is_edge}
 use Rattle.vast_literal.specs.Parser.{◌>>=◌, after, word_at, number_at, enclosed, arguments, selected}
 use Rattle.vast_literal.specs.StatementParser.{ReadOf, after_key, block_at, cases_at}

@@ -2,7 +2,7 @@
 use Rattle.std.proofs.Common.{◌≡◌, ℕ, Bool, true, false, cond, List, [], ◌∷◌, ◌++◌, Option, Some, None, refl}
 use Rattle.vast_literal.specs.Tokens.{Key, OpenBracket, CloseBracket, Colon, DoubleColon, Token, Reserved, Mark}
 use Rattle.vast_literal.specs.NormalExpr.{NormalExpr}
-use Rattle.vast_literal.specs.NormalFile.{Group, One, Range, NormalDeclaration}
+use Rattle.vast_literal.specs.NormalFile.{Group, One, Range}
 use Rattle.vast_literal.specs.FileGrammar.{is_kind, is_sign}
 use Rattle.vast_literal.specs.Parser.{◌>>=◌, code, after, key_at, word_at, enclosed}
 use Rattle.vast_literal.specs.DeclarationParser.{is_bracket, maybe_on, maybe_at}

@@ -1,5 +1,5 @@
 -- What the functions of the reader of declarations read, beside the settled parser's own.
-use Rattle.std.specs.Prelude.{List, Option}
+use Rattle.std.specs.Prelude.{List}
 use Rattle.vast_literal.specs.Tokens.{Token}
 use Rattle.vast_literal.specs.NormalFile.{Group}
 use Rattle.vast_literal.specs.Parser.{◌>>=◌}

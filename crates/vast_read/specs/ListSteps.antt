@@ -1,5 +1,5 @@
 -- Lists as the loops of the reader go through them.
-use Rattle.std.specs.Prelude.{List, ◌++◌, Option, Some}
+use Rattle.std.specs.Prelude.{List, ◌++◌, Some}
 use Rattle.vast_literal.specs.Parser.{◌>>=◌}
 use Rattle.vast_literal.specs.StatementParser.{ReadOf}
 

@@ -1,5 +1,5 @@
 -- What the functions of the reader of members read, beside the settled parser's own.
-use Rattle.std.specs.Prelude.{List, Option, Some, cond}
+use Rattle.std.specs.Prelude.{List, Some, cond}
 use Rattle.vast_literal.specs.Tokens.{Comma, OrKey, Token}
 use Rattle.vast_literal.specs.NormalFile.{NormalDeclaration, Event, NormalConnection, NormalMember, NormalMembers, NoParts, MoreParts}
 use Rattle.vast_literal.specs.FileGrammar.{is_member_kind, is_parameter_word, is_clocked}
