@@ -6,7 +6,7 @@ use Rattle.vast_literal.specs.NormalExpr.{NormalExpr, NormalExprs, Name, Binary}
 use Rattle.vast_literal.specs.MemberParser.{bound_of}
 use Rattle.vast_read.specs.Texts.{signs, sign_written, sign_of}
 use Rattle.vast_read.specs.View.{with_arguments}
-use Rattle.vast_read.specs.Bounds.{is_name_of, is_less}
+use Rattle.vast_read.specs.Bounds.{is_name_of, is_less, is_bounded}
 
 differs : (v w : List ℕ) → (v ≡ w → ⊥) → bytes_eq v w ≡ false
 differs v w d = go (bytes_eq v w) refl
@@ -44,7 +44,7 @@ unfolding bound_of
 bound_other n Less l r e = absurd (cc)
 bound_other n _ l r e = refl
 
-pub bound_sign : (n w : List ℕ) (l r : NormalExpr) → bytes_eq w (codes "<") ≡ false → bound_of n (Binary (sign_of w) l r) ≡ None
+bound_sign : (n w : List ℕ) (l r : NormalExpr) → bytes_eq w (codes "<") ≡ false → bound_of n (Binary (sign_of w) l r) ≡ None
 bound_sign n w l r d = bound_other n (sign_of w) l r (not_less w d)
 
 less_name : (n : List ℕ) (l r : NormalExpr) → bound_of n (Binary Less l r) ≡ cond (is_name_of n l) (Some r) None
@@ -56,10 +56,10 @@ less_of : (w : List ℕ) → bytes_eq w (codes "<") ≡ true → sign_of w ≡ L
 unfolding sign_of
 less_of w e = rw ((bytes_eq-Decides w (codes "<")).0 e)
 
-pub bound_name : (n w : List ℕ) (l r : NormalExpr) → bytes_eq w (codes "<") ≡ true → is_name_of n l ≡ false → bound_of n (Binary (sign_of w) l r) ≡ None
+bound_name : (n w : List ℕ) (l r : NormalExpr) → bytes_eq w (codes "<") ≡ true → is_name_of n l ≡ false → bound_of n (Binary (sign_of w) l r) ≡ None
 bound_name n w l r e h = rw (less_of w e, less_name n l r, h)
 
-pub bound_less : (n w : List ℕ) (l r : NormalExpr) → bytes_eq w (codes "<") ≡ true → is_name_of n l ≡ true → bound_of n (Binary (sign_of w) l r) ≡ Some r
+bound_less : (n w : List ℕ) (l r : NormalExpr) → bytes_eq w (codes "<") ≡ true → is_name_of n l ≡ true → bound_of n (Binary (sign_of w) l r) ≡ Some r
 bound_less n w l r e h = rw (less_of w e, less_name n l r, h)
 
 pub bound_macro : (n w : List ℕ) (xs : Option NormalExprs) → bound_of n (with_arguments w xs) ≡ None
@@ -69,4 +69,28 @@ bound_macro n w (Some xs) = refl
 
 pub ruleset names = (name_same, name_other, macro_no_name)
 
-pub ruleset bounds = (bound_sign, bound_name, bound_less, bound_macro)
+pub test_sign : (n w : List ℕ) (l : NormalExpr) → bytes_eq w (codes "<") ≡ false → is_bounded n w l ≡ false
+unfolding is_bounded
+test_sign n w l e = rw e
+
+pub test_name : (n w : List ℕ) (l : NormalExpr) → bytes_eq w (codes "<") ≡ true → is_bounded n w l ≡ is_name_of n l
+unfolding is_bounded
+test_name n w l e = rw e
+
+pub bound_given : (n w : List ℕ) (l r : NormalExpr) → is_bounded n w l ≡ true → bound_of n (Binary (sign_of w) l r) ≡ Some r
+bound_given n w l r e = go (bytes_eq w (codes "<")) refl
+  where
+    go : (b : Bool) → bytes_eq w (codes "<") ≡ b → bound_of n (Binary (sign_of w) l r) ≡ Some r
+    go true h = bound_less n w l r h (sym (test_name n w l h) ∙ e)
+    go false h = absurd (cc (e, test_sign n w l h))
+
+pub bound_missing : (n w : List ℕ) (l r : NormalExpr) → is_bounded n w l ≡ false → bound_of n (Binary (sign_of w) l r) ≡ None
+bound_missing n w l r e = go (bytes_eq w (codes "<")) refl
+  where
+    go : (b : Bool) → bytes_eq w (codes "<") ≡ b → bound_of n (Binary (sign_of w) l r) ≡ None
+    go true h = bound_name n w l r h (sym (test_name n w l h) ∙ e)
+    go false h = bound_sign n w l r h
+
+pub ruleset tests = (test_sign, test_name)
+
+pub ruleset bounds = (bound_given, bound_missing, bound_macro)

@@ -2,10 +2,23 @@
 
 ghost use Rattle.std.specs.Prelude.{◌≡◌, MatchOption, Some, None};
 ghost use Rattle.vast_literal.specs.MemberParser.{bound_of};
-ghost use Rattle.vast_read.specs.Bounds.{is_name_of};
+ghost use Rattle.vast_read.specs.Bounds.{is_name_of, is_bounded};
 ghost use Rattle.vast_read.specs.View.{view};
 
 use crate::tree::expression::NormalExpr;
+use crate::word::Word;
+
+/// Whether a comparison by this sign with this left side bounds the name.
+#[tactic(auto, using(crate::proofs::Bounds::tests))]
+fn is_bounded(sign: &Word, left: &NormalExpr, name: &str) -> bool
+    ensures { result ≡ is_bounded name.now sign.now (view left.now) }
+{
+    if sign.as_str() == "<" {
+        left.is_name(name)
+    } else {
+        false
+    }
+}
 
 impl NormalExpr {
     /// Whether it is this name.
@@ -47,12 +60,8 @@ impl NormalExpr {
     {
         match self {
             NormalExpr::Binary(sign, left, right) => {
-                if sign.as_str() == "<" {
-                    if left.is_name(name) {
-                        Some(Box::into_inner(right))
-                    } else {
-                        None
-                    }
+                if is_bounded(&sign, &left, name) {
+                    Some(Box::into_inner(right))
                 } else {
                     None
                 }

@@ -20,8 +20,8 @@ decreases-member l = 10 * length l.self.now + 5
 abbrev pub decreases-members : goal.decreases-members
 decreases-members l = 10 * length l.self.now + 6
 
-abbrev pub invariant-members-loop-self : goal.invariant-members-loop-self
-invariant-members-loop-self l = record { reads : settled_members (key_view l.fn.close) l.fn.self ≡ with_members (members_view l.members) (settled_members (key_view l.close) l.self); fewer : length l.self ≤ length l.fn.self }
+abbrev pub invariant-members-loop-close : goal.invariant-members-loop-close
+invariant-members-loop-close l = record { reads : settled_members (key_view l.fn.close) l.fn.self ≡ with_members (members_view l.members) (settled_members (key_view l.close) l.self); fewer : length l.self ≤ length l.fn.self }
 
-abbrev pub decreases-members-loop-self : goal.decreases-members-loop-self
-decreases-members-loop-self l = length l.self
+abbrev pub decreases-members-loop-close : goal.decreases-members-loop-close
+decreases-members-loop-close l = length l.self
