@@ -1,7 +1,7 @@
 //! Modules and files.
 
 ghost use Rattle.std.specs.Prelude.{◌≡◌, IfOk, IfErr};
-ghost use Rattle.vast_literal.specs.NormalFile.{IncludePart};
+ghost use Rattle.vast_literal.specs.NormalFile.{ModulePart, IncludePart};
 ghost use Rattle.vast_read.specs.declared.fault.Fault.TheVariants.{Memory};
 ghost use Rattle.vast_read.specs.DeclarationView.{declaration_view};
 ghost use Rattle.vast_read.specs.FileView.{parameter_view, parameters_view, port_view, ports_view, module_view, item_view, parameter_of, port_of, module_of};
@@ -114,6 +114,21 @@ impl NormalModule {
 }
 
 impl NormalItem {
+    /// A module of these parts.
+    pub(crate) fn module_of(
+        alloc: Global,
+        name: &str,
+        parameters: Children<Parameter>,
+        ports: Children<Port>,
+        members: Children<NormalMember>,
+    ) -> Result<NormalItem, Fault>
+        ensures ok { IfOk result (λ i. item_view i ≡ ModulePart (module_of name.now (parameters_view parameters) (ports_view ports) (members_view members))) }
+        ensures err { IfErr result (λ e. e ≡ Memory) }
+    {
+        let module = NormalModule::new(alloc, name, parameters, ports, members)?;
+        Ok(NormalItem::Module(module))
+    }
+
     /// An include of this path.
     pub(crate) fn include(alloc: Global, path: &str) -> Result<NormalItem, Fault>
         ensures ok { IfOk result (λ i. item_view i ≡ IncludePart path.now) }
