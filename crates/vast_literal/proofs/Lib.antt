@@ -52,3 +52,9 @@ pub mod SettledMemberParts
 pub mod SettledMembers
 pub mod SettledFiles
 pub mod SettledFewer
+pub mod SoundLists
+pub mod SoundStatements
+pub mod SoundDeclarations
+pub mod SoundMemberParts
+pub mod SoundMembers
+pub mod SoundFiles
