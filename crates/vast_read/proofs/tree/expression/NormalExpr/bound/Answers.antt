@@ -1,6 +1,5 @@
-use Rattle.std.proofs.Common.{◌≡◌, true, false, Some, None, sym, ap, ◌∙◌}
+use Rattle.std.proofs.Common.{◌≡◌, true, false, sym, ap, ◌∙◌}
 use Rattle.vast_literal.specs.NormalExpr.{NormalExpr, Binary}
-use Rattle.vast_literal.specs.MemberParser.{bound_of}
 use Rattle.vast_read.specs.Bounds.{is_bounded}
 use Rattle.vast_read.specs.Texts.{sign_of}
 use Rattle.vast_read.specs.View.{view, view_step}
