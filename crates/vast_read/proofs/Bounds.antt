@@ -1,10 +1,10 @@
 -- When an expression bounds a name.
-use Rattle.std.proofs.Common.{◌≡◌, ℕ, Bool, true, false, cond, bytes_eq, codes, List, [], ◌∷◌, Option, Some, None, refl, sym, ◌∙◌}
+use Rattle.std.proofs.Common.{◌≡◌, ℕ, Bool, true, false, cond, bytes_eq, codes, List, Option, Some, None, refl, sym, ◌∙◌}
 use Rattle.std.proofs.lemmas.Slice.Eq.{bytes_eq-Decides}
 use Rattle.vast_literal.specs.Tokens.{Op, Less}
 use Rattle.vast_literal.specs.NormalExpr.{NormalExpr, NormalExprs, Name, Binary}
 use Rattle.vast_literal.specs.MemberParser.{bound_of}
-use Rattle.vast_read.specs.Texts.{signs, sign_written, sign_of}
+use Rattle.vast_read.specs.Texts.{sign_of}
 use Rattle.vast_read.specs.View.{with_arguments}
 use Rattle.vast_read.specs.Bounds.{is_name_of, is_less, is_bounded}
 

@@ -1,5 +1,5 @@
 -- The laws that the functions of the reader of declarations are proved by.
-use Rattle.std.proofs.Common.{◌≡◌, List, [], ◌∷◌, ◌++◌, map, refl, ap}
+use Rattle.std.proofs.Common.{◌≡◌, List, [], ◌∷◌, ◌++◌, refl, ap}
 use Rattle.vast_read.specs.DeclarationView.{group_view, groups_view, declaration_view, declarations_view}
 use Rattle.vast_read.specs.declared.tree.declaration.Group.{Group}
 use Rattle.vast_read.specs.declared.tree.declaration.NormalDeclaration.{NormalDeclaration}

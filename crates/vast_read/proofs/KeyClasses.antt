@@ -1,6 +1,6 @@
 -- Each class of keywords by its members.
 use Rattle.std.proofs.Common.{◌≡◌, nat_eq, ◌||◌, refl}
-use Rattle.vast_literal.specs.Tokens.{Key, IfKey, ElseKey, CaseKey, CasezKey, CasexKey, EndCaseKey, DefaultKey, UniqueKey, BeginKey, EndKey, AssignKey, WireKey, RegKey, LogicKey, IntegerKey, IntKey, GenvarKey, SignedKey, UnsignedKey, ModuleKey, EndModuleKey, ParameterKey, LocalparamKey, AlwaysCombKey, AlwaysFFKey, AlwaysKey, PosedgeKey, NegedgeKey, OrKey, FunctionKey, AutomaticKey, EndFunctionKey, InputKey, OutputKey, InOutKey, ForKey}
+use Rattle.vast_literal.specs.Tokens.{Key, CaseKey, CasezKey, CasexKey, WireKey, RegKey, LogicKey, IntegerKey, IntKey, GenvarKey, SignedKey, UnsignedKey, ParameterKey, LocalparamKey, AlwaysFFKey, AlwaysKey, PosedgeKey, NegedgeKey, InputKey, OutputKey, InOutKey}
 use Rattle.vast_literal.specs.FileGrammar.{is_kind, is_sign, is_member_kind, is_local_kind, is_parameter_word, is_clocked, is_edge, is_direction}
 use Rattle.vast_literal.specs.StatementParser.{key_code}
 use Rattle.vast_read.specs.StatementSteps.{is_case_word, is_casez}

@@ -1,6 +1,6 @@
 -- Which keyword or sign stands next.
-use Rattle.std.proofs.Common.{◌≡◌, ℕ, true, false, cond, nat_eq, Bool, List, [], ◌∷◌, Option, Some, None, refl, sym, arith, ◌≢◌, eq-eqb}
-use Rattle.vast_literal.specs.Tokens.{Op, LessEqual, Punct, OpenParen, Assign, Key, Token, Reserved, Operator, Mark}
+use Rattle.std.proofs.Common.{◌≡◌, true, false, cond, nat_eq, Bool, List, [], ◌∷◌, Some, None, refl, arith, ◌≢◌, eq-eqb}
+use Rattle.vast_literal.specs.Tokens.{Op, LessEqual, Assign, Key, Token, Reserved, Operator, Mark}
 use Rattle.vast_literal.specs.Parser.{after, code, key_at}
 use Rattle.vast_literal.specs.StatementParser.{key_code, after_key_on, after_key, arrow_at}
 use Rattle.vast_literal.specs.Settled.{either}

@@ -1,11 +1,11 @@
 -- The laws that the functions of the reader of members are proved by.
-use Rattle.std.proofs.Common.{◌≡◌, ℕ, true, false, List, [], ◌∷◌, ◌++◌, map, Some, None, bytes_eq, codes, refl, ap}
+use Rattle.std.proofs.Common.{◌≡◌, ℕ, true, false, List, [], ◌∷◌, ◌++◌, Some, None, bytes_eq, codes, refl, ap}
 use Rattle.std.proofs.lemmas.Slice.Eq.{bytes_eq-Decides}
 use Rattle.vast_literal.specs.Tokens.{Token}
 use Rattle.vast_literal.specs.Parser.{word_at, number_at}
 use Rattle.vast_literal.specs.MemberParser.{same_word}
 use Rattle.vast_literal.specs.SettledMembers.{number_one}
-use Rattle.vast_literal.specs.NormalFile.{NormalMembers, NoParts, MoreParts}
+use Rattle.vast_literal.specs.NormalFile.{NoParts, MoreParts}
 use Rattle.vast_read.specs.MemberSteps.{join_members}
 use Rattle.vast_read.specs.MemberView.{event_view, events_view, connection_view, connections_view, member_view, members_view}
 use Rattle.vast_read.specs.declared.tree.member.Event.{Event}

@@ -1,13 +1,13 @@
 -- The settled parser of statements as the loops of the reader go through it.
-use Rattle.std.proofs.Common.{◌≡◌, false, List, [], ◌∷◌, ◌++◌, map, Option, Some, None, refl, sym, ap, ◌∙◌}
-use Rattle.vast_literal.specs.Tokens.{IfKey, ElseKey, UniqueKey, AssignKey, Colon, Token}
-use Rattle.vast_literal.specs.NormalFile.{NormalStatement, ChoiceStatement, NormalStatements, Done, Then, Arms, Labels, NoLabels, Label}
-use Rattle.vast_literal.specs.Parser.{◌>>=◌, after}
+use Rattle.std.proofs.Common.{◌≡◌, false, List, [], ◌∷◌, ◌++◌, map, Option, Some, None, refl, ap}
+use Rattle.vast_literal.specs.Tokens.{IfKey, ElseKey, UniqueKey, AssignKey, Token}
+use Rattle.vast_literal.specs.NormalFile.{NormalStatement, ChoiceStatement, NormalStatements, Done, Then, Arms, NoLabels, Label}
+use Rattle.vast_literal.specs.Parser.{◌>>=◌}
 use Rattle.vast_literal.specs.StatementParser.{ReadOf, after_key, simple_at}
 use Rattle.vast_literal.specs.Nexts.{key_with}
 use Rattle.vast_literal.specs.Settled.{either, settled, settled_reader}
 use Rattle.vast_read.specs.StatementParts.{ChoicePart, arms_of, join_block, join_labels}
-use Rattle.vast_read.specs.StatementSteps.{is_case_word, assign_at, choice_statement, cases_of, unique_case, block, choice_arm, more_arms, else_arm, arms_end, else_if, last_block, choice_behind, case_or_simple, label_at}
+use Rattle.vast_read.specs.StatementSteps.{is_case_word, assign_at, choice_statement, cases_of, unique_case, block, choice_arm, more_arms, else_arm, arms_end, else_if, last_block, choice_behind, case_or_simple}
 use Rattle.vast_read.specs.StatementView.{statement_view, arm_view, label_view, block_view, labels_view}
 use Rattle.vast_read.specs.declared.tree.statement.NormalStatement.{NormalStatement as Tree}
 use Rattle.vast_read.specs.declared.tree.statement.Arm.{Arm}

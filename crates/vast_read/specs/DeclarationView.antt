@@ -6,7 +6,6 @@ use Rattle.vast_literal.specs.NormalFile as normal
 use Rattle.vast_literal.specs.NormalFile.{One, Range}
 use Rattle.vast_literal.specs.StatementParser.{ReadOf}
 use Rattle.vast_literal.specs.SettledDeclarations.{named_end}
-
 use Rattle.vast_read.specs.Texts.{key_of}
 use Rattle.vast_read.specs.TokenView.{key_view}
 use Rattle.vast_read.specs.View.{view}

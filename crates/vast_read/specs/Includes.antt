@@ -1,5 +1,5 @@
 -- What an include holds.
-use Rattle.std.specs.Prelude.{ℕ, List, Option, Some}
+use Rattle.std.specs.Prelude.{ℕ, List, Some}
 use Rattle.vast_literal.specs.Tokens.{Token}
 use Rattle.vast_literal.specs.NormalFile.{NormalItem, IncludePart}
 use Rattle.vast_literal.specs.Parser.{◌>>=◌}

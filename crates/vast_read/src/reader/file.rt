@@ -9,8 +9,8 @@ ghost use Rattle.vast_read.specs.FileView.{parameter_view, parameters_view, port
 
 use crate::children::Children;
 use crate::fault::Fault;
-use crate::reader::path::path_of;
 use crate::reader::Reader;
+use crate::reader::path::path_of;
 use crate::token::{Key, KeyClass, Mark};
 use crate::tree::{NormalFile, NormalItem, NormalModule, Parameter, Port};
 

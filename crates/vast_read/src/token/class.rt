@@ -70,7 +70,12 @@ impl Key {
     pub(crate) fn is_kind(self) -> bool
         ensures { result ≡ is_kind (key_view self) }
     {
-        self.is(Key::Wire) || self.is(Key::Reg) || self.is(Key::Logic) || self.is(Key::Integer) || self.is(Key::Int) || self.is(Key::Genvar)
+        self.is(Key::Wire)
+            || self.is(Key::Reg)
+            || self.is(Key::Logic)
+            || self.is(Key::Integer)
+            || self.is(Key::Int)
+            || self.is(Key::Genvar)
     }
 
     /// Whether it is the sign of a type.

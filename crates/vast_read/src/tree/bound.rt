@@ -27,13 +27,7 @@ impl NormalExpr {
         ensures { result ≡ is_name_of name.now (view self.now) }
     {
         match self {
-            NormalExpr::Name(word) => {
-                if word.as_str() == name {
-                    true
-                } else {
-                    false
-                }
-            }
+            NormalExpr::Name(word) => { if word.as_str() == name { true } else { false } }
             NormalExpr::Literal(_) => false,
             NormalExpr::Text(_) => false,
             NormalExpr::Unary(_, _) => false,

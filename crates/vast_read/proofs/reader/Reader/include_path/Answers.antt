@@ -1,4 +1,4 @@
-use Rattle.std.proofs.Common.{◌≡◌, false, Some, None, bytes_eq, codes, sym}
+use Rattle.std.proofs.Common.{◌≡◌, false, bytes_eq, codes, sym}
 use Rattle.vast_read.proofs.FileRules.{include_no}
 use Rattle.vast_read.proofs.reader.Reader.include_path.Goals as goal
 
