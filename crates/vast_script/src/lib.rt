@@ -1,0 +1,23 @@
+//! Lists of builder calls as values, and their replay on a file.
+//!
+//! A [`Step`] is one call, whose handles are the numbers of earlier steps. [`replay`] makes the calls in order and
+//! stops at the first that is at fault.
+#![tactic(auto)]
+
+mod answer;
+mod answers;
+mod arguments;
+mod conditions;
+mod fault;
+mod kinds;
+mod lists;
+mod open_lists;
+mod operators;
+mod step;
+mod types;
+
+pub use answer::Answer;
+pub use fault::ScriptFault;
+pub use step::{
+    ArtifactStep, ExpressionStep, LoopStep, ModuleStep, OperatorStep, StatementStep, Step, TypeStep,
+};
