@@ -5,3 +5,6 @@ pub mod Arguments
 pub mod Conditions
 pub mod Operators
 pub mod Types
+pub mod Expressions
+pub mod Modules
+pub mod Artifacts

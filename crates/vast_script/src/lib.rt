@@ -7,10 +7,15 @@
 mod answer;
 mod answers;
 mod arguments;
+mod artifacts;
 mod conditions;
+mod expression_lists;
+mod expressions;
 mod fault;
+mod instances;
 mod kinds;
 mod lists;
+mod modules;
 mod open_lists;
 mod operators;
 mod step;
