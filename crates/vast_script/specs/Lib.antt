@@ -8,3 +8,6 @@ pub mod Types
 pub mod Expressions
 pub mod Modules
 pub mod Artifacts
+pub mod Statements
+pub mod Loops
+pub mod Script

@@ -15,14 +15,18 @@ mod fault;
 mod instances;
 mod kinds;
 mod lists;
+mod loops;
 mod modules;
 mod open_lists;
 mod operators;
+mod script;
+mod statements;
 mod step;
 mod types;
 
 pub use answer::Answer;
 pub use fault::ScriptFault;
+pub use script::replay;
 pub use step::{
     ArtifactStep, ExpressionStep, LoopStep, ModuleStep, OperatorStep, StatementStep, Step, TypeStep,
 };
