@@ -7,7 +7,12 @@ use crate::answer::Answer;
 use crate::fault::StepFault;
 use std::alloc::AllocError;
 use vast_literal::VastFault;
-use xlsynth_vast::{BlankLine, CaseStatement, Comment, Conditional, ContinuousAssignment, Def, Expr, GenerateLoop, Index, InlineVerilogStatement, Instantiation, LocalparamRef, LogicRef, MacroRef, MacroStatement, ParameterRef, Slice, VastAlwaysBase, VastDataType, VastFunction, VastModule, VastStatement, VastStatementBlock};
+use xlsynth_vast::{
+    BlankLine, CaseStatement, Comment, Conditional, ContinuousAssignment, Def, Expr, GenerateLoop,
+    Index, InlineVerilogStatement, Instantiation, LocalparamRef, LogicRef, MacroRef,
+    MacroStatement, ParameterRef, Slice, VastAlwaysBase, VastDataType, VastFunction, VastModule,
+    VastStatement, VastStatementBlock,
+};
 
 /// An expression that a call made, as an answer.
 pub(crate) fn expression(made: Result<Expr, AllocError>) -> Result<Answer, StepFault>
@@ -80,7 +85,9 @@ pub(crate) fn statement(made: Result<VastStatement, AllocError>) -> Result<Answe
 }
 
 /// A continuous assignment that a call made, as an answer.
-pub(crate) fn continuous(made: Result<ContinuousAssignment, AllocError>) -> Result<Answer, StepFault>
+pub(crate) fn continuous(
+    made: Result<ContinuousAssignment, AllocError>,
+) -> Result<Answer, StepFault>
     ensures { Wraps made result (λ x. Answer.ContinuousAssignment x) }
 {
     Ok(Answer::ContinuousAssignment(made?))

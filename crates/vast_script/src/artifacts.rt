@@ -72,7 +72,9 @@ pub(crate) fn replay_artifact(
             nothing(file.add_member_instantiation(owner, part))
         }
         ArtifactStep::AddMemberContinuousAssignment(owner, part) => {
-            let (owner, part): (VastModule, ContinuousAssignment) = two(file, answers, *owner, *part)?;
+            let (owner, part): (VastModule, ContinuousAssignment) = two(
+                file, answers, *owner, *part,
+            )?;
             nothing(file.add_member_continuous_assignment(owner, part))
         }
         ArtifactStep::AddMemberBlankLine(owner, part) => {
@@ -84,7 +86,9 @@ pub(crate) fn replay_artifact(
             nothing(file.add_member_comment(owner, part))
         }
         ArtifactStep::AddMemberInlineStatement(owner, part) => {
-            let (owner, part): (VastModule, InlineVerilogStatement) = two(file, answers, *owner, *part)?;
+            let (owner, part): (VastModule, InlineVerilogStatement) = two(
+                file, answers, *owner, *part,
+            )?;
             nothing(file.add_member_inline_statement(owner, part))
         }
         ArtifactStep::AddMemberMacroStatement(owner, part) => {

@@ -7,7 +7,7 @@ ghost use Rattle.vast_core.specs.Types.{AreDimensions};
 ghost use Rattle.vast_script.specs.Conditions.{is_named, are_dimensions};
 
 /// Whether the name is not empty.
-#[tactic(auto, using(crate::proofs::Tests::named_there))]
+#[tactic(auto, using(crate::proofs::Tested::named_there))]
 pub(crate) fn is_named(name: &str) -> bool
     ensures test { result ≡ is_named name.now }
     ensures named { IsTrue result → name.now ≢ [] }

@@ -94,9 +94,7 @@ pub(crate) fn replay_expression(
         ExpressionStep::MakeUnsizedDecimalLiteral(value) => {
             expression(file.make_unsized_decimal_literal(*value))
         }
-        ExpressionStep::MakeStringLiteral(value) => {
-            expression(file.make_string_literal(value))
-        }
+        ExpressionStep::MakeStringLiteral(value) => { expression(file.make_string_literal(value)) }
         ExpressionStep::MakeUnsizedOneLiteral => expression(file.make_unsized_one_literal()),
         ExpressionStep::MakeUnsizedZeroLiteral => expression(file.make_unsized_zero_literal()),
         ExpressionStep::MakeUnsizedXLiteral => expression(file.make_unsized_x_literal()),
@@ -107,9 +105,7 @@ pub(crate) fn replay_expression(
         ExpressionStep::MakeSlice(subject, high, low) => {
             slice_of(file, answers, *subject, *high, *low)
         }
-        ExpressionStep::MakeIndex(subject, place) => {
-            index_of(file, answers, *subject, *place)
-        }
+        ExpressionStep::MakeIndex(subject, place) => { index_of(file, answers, *subject, *place) }
         ExpressionStep::MakeSliceExpr(subject, high, low) => {
             let (subject, high, low): (IndexableExpr, Expr, Expr) = three(
                 file, answers, *subject, *high, *low,
@@ -138,7 +134,11 @@ pub(crate) fn replay_expression(
         }
         ExpressionStep::MakeTernary(condition, consequent, alternate) => {
             let (condition, consequent, alternate): (Expr, Expr, Expr) = three(
-                file, answers, *condition, *consequent, *alternate,
+                file,
+                answers,
+                *condition,
+                *consequent,
+                *alternate,
             )?;
             expression(file.make_ternary(&condition, &consequent, &alternate))
         }
@@ -157,9 +157,7 @@ pub(crate) fn replay_expression(
             let operand: Expr = one(file, answers, *operand)?;
             expression(file.make_neg_edge(&operand))
         }
-        ExpressionStep::MakeMacroRef(name) => {
-            macro_ref(file.make_macro_ref(name))
-        }
+        ExpressionStep::MakeMacroRef(name) => { macro_ref(file.make_macro_ref(name)) }
         ExpressionStep::MakeMacroRefWithArgs(name, arguments) => {
             macro_ref_with_args(file, answers, name, arguments)
         }

@@ -2,7 +2,11 @@
 
 use crate::answer::Answer;
 use crate::arguments::Argument;
-use xlsynth_vast::{BlankLine, CaseStatement, Comment, Conditional, ContinuousAssignment, Def, Expr, GenerateLoop, IndexableExpr, InlineVerilogStatement, Instantiation, MacroRef, MacroStatement, VastAlwaysBase, VastDataType, VastFunction, VastModule, VastStatementBlock};
+use xlsynth_vast::{
+    BlankLine, CaseStatement, Comment, Conditional, ContinuousAssignment, Def, Expr, GenerateLoop,
+    IndexableExpr, InlineVerilogStatement, Instantiation, MacroRef, MacroStatement, VastAlwaysBase,
+    VastDataType, VastFunction, VastModule, VastStatementBlock,
+};
 
 impl Argument for VastModule {
     ghost use Rattle.vast_script.specs.Kinds.{a_module};

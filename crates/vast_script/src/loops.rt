@@ -98,7 +98,11 @@ pub(crate) fn replay_loop(
         }
         LoopStep::GenerateAddTypedLocalparam(owner, definition, value) => {
             let (owner, definition, value): (GenerateLoop, Def, Expr) = three(
-                file, answers, *owner, *definition, *value,
+                file,
+                answers,
+                *owner,
+                *definition,
+                *value,
             )?;
             localparam(file.generate_add_typed_localparam(owner, &definition, &value))
         }
@@ -125,7 +129,9 @@ pub(crate) fn replay_loop(
             nothing(file.generate_add_instantiation(owner, &part))
         }
         LoopStep::GenerateAddInlineStatement(owner, part) => {
-            let (owner, part): (GenerateLoop, InlineVerilogStatement) = two(file, answers, *owner, *part)?;
+            let (owner, part): (GenerateLoop, InlineVerilogStatement) = two(
+                file, answers, *owner, *part,
+            )?;
             nothing(file.generate_add_inline_statement(owner, &part))
         }
         LoopStep::GenerateAddMacroStatement(owner, part) => {

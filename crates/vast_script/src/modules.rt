@@ -1,5 +1,7 @@
 //! Calls of the file's items, and of modules with their ports, declarations and parameters.
 
+ghost use Rattle.vast_core.specs.declared.kind.ModulePortDirection.TheVariants.{Input, Output, InOut};
+ghost use Rattle.vast_core.specs.declared.kind.DataKind.TheVariants.{Wire, Logic};
 ghost use Rattle.vast_script.specs.Outcome.{Replays};
 ghost use Rattle.vast_script.specs.Modules.{add_port, add_wire, hoist_module_declarations, module_call};
 
@@ -8,9 +10,7 @@ use crate::answers::{localparam, logic_ref, module, nothing, parameter, refusabl
 use crate::arguments::{one, three, two};
 use crate::fault::StepFault;
 use crate::step::ModuleStep;
-use xlsynth_vast::{
-    BlankLine, DataKind, Def, Expr, ModulePortDirection, VastDataType, VastFile, VastModule,
-};
+use xlsynth_vast::{BlankLine, Def, Expr, VastDataType, VastFile, VastModule};
 
 fn add_input(
     file: &mut VastFile,
@@ -19,7 +19,7 @@ fn add_input(
     name: &str,
     data_type: usize,
 ) -> Result<Answer, StepFault>
-    ensures { Replays file.old file.new answers.now result (add_port ModulePortDirection.Input DataKind.Wire owner name.now data_type) }
+    ensures { Replays file.old file.new answers.now result (add_port Input Wire owner name.now data_type) }
 {
     let (owner, data_type): (VastModule, VastDataType) = two(file, answers, owner, data_type)?;
     if !file.name_is_free(owner, name) {
@@ -35,7 +35,7 @@ fn add_output(
     name: &str,
     data_type: usize,
 ) -> Result<Answer, StepFault>
-    ensures { Replays file.old file.new answers.now result (add_port ModulePortDirection.Output DataKind.Wire owner name.now data_type) }
+    ensures { Replays file.old file.new answers.now result (add_port Output Wire owner name.now data_type) }
 {
     let (owner, data_type): (VastModule, VastDataType) = two(file, answers, owner, data_type)?;
     if !file.name_is_free(owner, name) {
@@ -51,7 +51,7 @@ fn add_inout(
     name: &str,
     data_type: usize,
 ) -> Result<Answer, StepFault>
-    ensures { Replays file.old file.new answers.now result (add_port ModulePortDirection.InOut DataKind.Wire owner name.now data_type) }
+    ensures { Replays file.old file.new answers.now result (add_port InOut Wire owner name.now data_type) }
 {
     let (owner, data_type): (VastModule, VastDataType) = two(file, answers, owner, data_type)?;
     if !file.name_is_free(owner, name) {
@@ -67,7 +67,7 @@ fn add_logic_input(
     name: &str,
     data_type: usize,
 ) -> Result<Answer, StepFault>
-    ensures { Replays file.old file.new answers.now result (add_port ModulePortDirection.Input DataKind.Logic owner name.now data_type) }
+    ensures { Replays file.old file.new answers.now result (add_port Input Logic owner name.now data_type) }
 {
     let (owner, data_type): (VastModule, VastDataType) = two(file, answers, owner, data_type)?;
     if !file.name_is_free(owner, name) {
@@ -83,7 +83,7 @@ fn add_logic_output(
     name: &str,
     data_type: usize,
 ) -> Result<Answer, StepFault>
-    ensures { Replays file.old file.new answers.now result (add_port ModulePortDirection.Output DataKind.Logic owner name.now data_type) }
+    ensures { Replays file.old file.new answers.now result (add_port Output Logic owner name.now data_type) }
 {
     let (owner, data_type): (VastModule, VastDataType) = two(file, answers, owner, data_type)?;
     if !file.name_is_free(owner, name) {
@@ -158,11 +158,15 @@ pub(crate) fn replay_module(
             add_wire(file, answers, *owner, name, *data_type)
         }
         ModuleStep::AddReg(owner, name, data_type) => {
-            let (owner, data_type): (VastModule, VastDataType) = two(file, answers, *owner, *data_type)?;
+            let (owner, data_type): (VastModule, VastDataType) = two(
+                file, answers, *owner, *data_type,
+            )?;
             refusable_logic_ref(file.add_reg(owner, name, &data_type))
         }
         ModuleStep::AddLogic(owner, name, data_type) => {
-            let (owner, data_type): (VastModule, VastDataType) = two(file, answers, *owner, *data_type)?;
+            let (owner, data_type): (VastModule, VastDataType) = two(
+                file, answers, *owner, *data_type,
+            )?;
             refusable_logic_ref(file.add_logic(owner, name, &data_type))
         }
         ModuleStep::AddParameterPort(owner, name, value) => {
@@ -181,7 +185,11 @@ pub(crate) fn replay_module(
         }
         ModuleStep::AddParameterWithDef(owner, definition, value) => {
             let (owner, definition, value): (VastModule, Def, Expr) = three(
-                file, answers, *owner, *definition, *value,
+                file,
+                answers,
+                *owner,
+                *definition,
+                *value,
             )?;
             parameter(file.add_parameter_with_def(owner, &definition, &value))
         }
@@ -195,7 +203,11 @@ pub(crate) fn replay_module(
         }
         ModuleStep::AddTypedLocalparam(owner, definition, value) => {
             let (owner, definition, value): (VastModule, Def, Expr) = three(
-                file, answers, *owner, *definition, *value,
+                file,
+                answers,
+                *owner,
+                *definition,
+                *value,
             )?;
             localparam(file.add_typed_localparam(owner, &definition, &value))
         }

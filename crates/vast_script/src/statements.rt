@@ -84,23 +84,33 @@ pub(crate) fn replay_statement(
 {
     match step {
         StatementStep::AddFunction(owner, name, data_type) => {
-            let (owner, data_type): (VastModule, VastDataType) = two(file, answers, *owner, *data_type)?;
+            let (owner, data_type): (VastModule, VastDataType) = two(
+                file, answers, *owner, *data_type,
+            )?;
             refusable_function(file.add_function(owner, name, &data_type))
         }
         StatementStep::FunctionAddInput(function, name, data_type) => {
-            let (function, data_type): (VastFunction, VastDataType) = two(file, answers, *function, *data_type)?;
+            let (function, data_type): (VastFunction, VastDataType) = two(
+                file, answers, *function, *data_type,
+            )?;
             refusable_logic_ref(file.function_add_input(function, name, &data_type))
         }
         StatementStep::FunctionAddLogicInput(function, name, data_type) => {
-            let (function, data_type): (VastFunction, VastDataType) = two(file, answers, *function, *data_type)?;
+            let (function, data_type): (VastFunction, VastDataType) = two(
+                file, answers, *function, *data_type,
+            )?;
             refusable_logic_ref(file.function_add_logic_input(function, name, &data_type))
         }
         StatementStep::FunctionAddReg(function, name, data_type) => {
-            let (function, data_type): (VastFunction, VastDataType) = two(file, answers, *function, *data_type)?;
+            let (function, data_type): (VastFunction, VastDataType) = two(
+                file, answers, *function, *data_type,
+            )?;
             refusable_logic_ref(file.function_add_reg(function, name, &data_type))
         }
         StatementStep::FunctionAddLogic(function, name, data_type) => {
-            let (function, data_type): (VastFunction, VastDataType) = two(file, answers, *function, *data_type)?;
+            let (function, data_type): (VastFunction, VastDataType) = two(
+                file, answers, *function, *data_type,
+            )?;
             refusable_logic_ref(file.function_add_logic(function, name, &data_type))
         }
         StatementStep::FunctionBody(function) => {
@@ -156,7 +166,9 @@ pub(crate) fn replay_statement(
             conditional(file.add_conditional(owner, &condition))
         }
         StatementStep::BlockAddCond(owner, condition) => {
-            let (owner, condition): (VastStatementBlock, Expr) = two(file, answers, *owner, *condition)?;
+            let (owner, condition): (VastStatementBlock, Expr) = two(
+                file, answers, *owner, *condition,
+            )?;
             conditional(file.block_add_cond(owner, &condition))
         }
         StatementStep::ConditionalThenBlock(owner) => {
@@ -168,15 +180,21 @@ pub(crate) fn replay_statement(
         }
         StatementStep::ConditionalAddElse(owner) => add_else(file, answers, *owner),
         StatementStep::BlockAddCase(owner, selector) => {
-            let (owner, selector): (VastStatementBlock, Expr) = two(file, answers, *owner, *selector)?;
+            let (owner, selector): (VastStatementBlock, Expr) = two(
+                file, answers, *owner, *selector,
+            )?;
             case(file.block_add_case(owner, &selector))
         }
         StatementStep::BlockAddCasez(owner, selector) => {
-            let (owner, selector): (VastStatementBlock, Expr) = two(file, answers, *owner, *selector)?;
+            let (owner, selector): (VastStatementBlock, Expr) = two(
+                file, answers, *owner, *selector,
+            )?;
             case(file.block_add_casez(owner, &selector))
         }
         StatementStep::BlockAddCasex(owner, selector) => {
-            let (owner, selector): (VastStatementBlock, Expr) = two(file, answers, *owner, *selector)?;
+            let (owner, selector): (VastStatementBlock, Expr) = two(
+                file, answers, *owner, *selector,
+            )?;
             case(file.block_add_casex(owner, &selector))
         }
         StatementStep::CaseAddItem(owner, pattern) => {
