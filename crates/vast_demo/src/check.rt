@@ -17,7 +17,8 @@ use vast_read::read_normal;
 /// # Errors
 /// Those of [`read_input`].
 pub(crate) fn check<R: Read>(alloc: Global, input: &mut R) -> Result<bool, InputFault>
-    ensures { IfOk result (λ answer. (bytes : List ℕ) × GivesAll (R.remaining input.old) (R.remaining input.new) bytes
+    ensures { IfOk result (λ answer. (bytes : List ℕ)
+        × GivesAll (R.remaining input.old) (R.remaining input.new) bytes
         × (IsTrue answer ↔ IsDerived bytes)) }
 {
     let bytes = read_input(alloc, input)?;

@@ -35,8 +35,10 @@ impl From<AllocError> for InputFault {
 /// # Errors
 /// A failed read, more than 16,777,216 bytes, want of memory.
 pub(crate) fn read_input<R: Read>(alloc: Global, input: &mut R) -> Result<Vec<u8>, InputFault>
-    ensures all { IfOk result (λ bytes. GivesAll (R.remaining input.old) (R.remaining input.new) bytes.items) }
-    ensures long { IsErrOf result InputFault.Length → IfSome (R.remaining input.old) (λ bytes. 2 ^ 24 < length bytes) }
+    ensures all { IfOk result (λ bytes.
+        GivesAll (R.remaining input.old) (R.remaining input.new) bytes.items) }
+    ensures long { IsErrOf result InputFault.Length →
+        IfSome (R.remaining input.old) (λ bytes. 2 ^ 24 < length bytes) }
 {
     let mut bytes = Vec::new(alloc);
     let mut buffer = [0; BUFFER_BYTES];

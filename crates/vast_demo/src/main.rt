@@ -1,4 +1,4 @@
-//! Prints designs, and checks texts: `vast_demo passthrough`, `cases`, `registers`, `vast_demo check`.
+//! Prints designs, `vast_demo passthrough`, `cases` or `registers`, and checks texts, `vast_demo check`.
 #![tactic(auto)]
 
 mod check;

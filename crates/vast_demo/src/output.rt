@@ -10,7 +10,10 @@ use std::io::{ErrorKind, Write};
 #[derive(Drop)]
 pub(crate) struct WriteFault;
 
-/// Writes the whole line, and tries an interrupted write again, as `write_all` does; a failed write leaves a part.
+/// Writes the whole line, and tries an interrupted write again, as `write_all` does.
+///
+/// # Errors
+/// A failed write, which leaves a front of the line.
 pub(crate) fn write_line<W: Write>(line: &[u8], out: &mut W) -> Result<(), WriteFault>
     ensures whole { OnOk result (Appends (W.contents out.old) (W.contents out.new) line.now) }
     ensures part { OnErr result (AppendsPart (W.contents out.old) (W.contents out.new) line.now) }

@@ -33,8 +33,8 @@ pub fn run<R: Read, W: Write, E: Write>(
     ensures unknown { IsNone (design_text words.now) → is_check words.now ≡ false → result ≡ 2 }
     ensures known { IsSome (design_text words.now) → result ≤ 1 }
     ensures printed { IfSome (design_text words.now) (λ text. result ≡ 0 → Appends (W.contents out.old) (W.contents out.new) text) }
-    ensures checked { is_check words.now ≡ true → CheckEnds (R.remaining input.old) (R.remaining input.new)
-        (W.contents out.old) (W.contents out.new) result }
+    ensures checked { is_check words.now ≡ true →
+        CheckEnds (R.remaining input.old) (R.remaining input.new) (W.contents out.old) (W.contents out.new) result }
 {
     match words {
         [word] => {
@@ -51,7 +51,8 @@ pub fn run<R: Read, W: Write, E: Write>(
 fn print_named<W: Write, E: Write>(alloc: Global, name: &str, out: &mut W, err: &mut E) -> u8
     ensures unknown { IsNone (text_of name.now) → result ≡ 2 }
     ensures known { IsSome (text_of name.now) → result ≤ 1 }
-    ensures printed { IfSome (text_of name.now) (λ text. result ≡ 0 → Appends (W.contents out.old) (W.contents out.new) text) }
+    ensures printed { IfSome (text_of name.now) (λ text. result ≡ 0 →
+        Appends (W.contents out.old) (W.contents out.new) text) }
 {
     if name == "passthrough" {
         print_design(passthrough(alloc), out, err)
@@ -92,7 +93,8 @@ fn print_answer<R: Read, W: Write, E: Write>(
     err: &mut E,
 ) -> u8
     ensures status { result ≤ 1 }
-    ensures ends { CheckEnds (R.remaining input.old) (R.remaining input.new) (W.contents out.old) (W.contents out.new) result }
+    ensures ends { CheckEnds (R.remaining input.old) (R.remaining input.new)
+        (W.contents out.old) (W.contents out.new) result }
 {
     match check(alloc, input) {
         Ok(true) => match write_line(b"derived\n", out) {
