@@ -11,3 +11,4 @@ pub mod Artifacts
 pub mod Statements
 pub mod Loops
 pub mod Script
+pub mod Laws

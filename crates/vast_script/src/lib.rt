@@ -14,6 +14,7 @@ mod expressions;
 mod fault;
 mod instances;
 mod kinds;
+pub mod laws;
 mod lists;
 mod loops;
 mod modules;
