@@ -43,7 +43,7 @@ within : (i m n : ℕ) → m ≤ n → IsTrue (nat_lt i m) → IsTrue (nat_lt i 
 within i m n le h = let below : i < m = lt-of i m h in lt-test i n (omega arith)
 
 -- An element that was found is found again.
-test-kept :
+pub test-kept :
     {A : Type 0} (test : Option A → Bool) (xs ys : List A) (i : ℕ) (o : Option A) → slice_get xs i ≡ o →
     ((x : A) → slice_get xs i ≡ Some x → slice_get ys i ≡ Some x) → (IsTrue (test None) → ⊥) → IsTrue (test o) → IsTrue (test (slice_get ys i))
 test-kept test xs ys i None e k n h = absurd (n h)
@@ -74,7 +74,7 @@ found : {A : Type 0} (xs ys : List A) (i : ℕ) (o : Option A) → slice_get xs 
 found xs ys i None e k h = absurd (omega (arith, none-past xs i e))
 found xs ys i (Some x) e k h = slice_get_within ys i x (k x e)
 
-found-kept :
+pub found-kept :
     {A : Type 0} (b c : Bench) (id : Id) (xs ys : List A) → Grows b c → ((i : ℕ) (x : A) → slice_get xs i ≡ Some x → slice_get ys i ≡ Some x) →
     IsOwned b.nodes.id id (nat_lt id.index (length xs)) → IsOwned c.nodes.id id (nat_lt id.index (length ys))
 found-kept b c id xs ys g k h =

@@ -1,3 +1,4 @@
+pub mod Check
 pub mod DesignTexts
 pub mod Encoder
 pub mod RegistersFile

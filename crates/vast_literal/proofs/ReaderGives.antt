@@ -46,7 +46,7 @@ pub one_result : {A : Type 0} {f : Reader → Option A} {a b : A} → ReaderGive
 one_result {f = f} {a = a} {b = b} x y = let e : f (read_with (x.from + y.from)) ≡ Some a = x.holds _ (omega arith) in
     let d : f (read_with (x.from + y.from)) ≡ Some b = y.holds _ (omega arith) in cc
 
-low_is : (m : ℕ) → (read_with m).low ≡ run m
+pub low_is : (m : ℕ) → (read_with m).low ≡ run m
 unfolding read_with run silent_reader
 low_is zero = refl
 low_is (suc m) = ap step (low_is m)

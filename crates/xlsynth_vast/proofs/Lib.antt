@@ -1,6 +1,7 @@
 pub mod Selectors
 pub mod Widths
 pub mod Taken
+pub mod Tests
 pub mod WrongEvents
 pub mod Hoisted
 pub mod Connected

@@ -11,7 +11,7 @@ use Rattle.vast_literal.specs.Fault.{OnlyRefusedBy}
 use Rattle.vast_core.specs.declared.handle.VastModule.{VastModule}
 use Rattle.vast_core.specs.declared.handle.VastFunction.{VastFunction}
 use Rattle.vast_core.specs.Handles.{module_index, function_index}
-use Rattle.vast_core.specs.Bench.{Bench, IsFreeInFunction}
+use Rattle.vast_core.specs.Bench.{Bench}
 use Rattle.vast_core.specs.Records.{ModuleRecord, IsFree}
 use Rattle.vast_core.specs.Nests.{FunctionRecord}
 use Rattle.vast_core.proofs.Lists.{All-cons, All-head, All-tail}
@@ -34,7 +34,7 @@ unequal-case : (a b : List ℕ) (t : Bool) → bytes_eq a b ≡ t → a ≢ b �
 unequal-case a b true e h = absurd (h ((bytes_eq-Decides a b).0 e))
 unequal-case a b false e h = e
 
-not-among : (name : List ℕ) (names : List (List ℕ)) → IsFree name names → is_among names name ≡ false
+pub not-among : (name : List ℕ) (names : List (List ℕ)) → IsFree name names → is_among names name ≡ false
 not-among name [] h = refl
 not-among name (x ∷ xs) h = rw (unequal-case x name (bytes_eq x name) refl (All-head (λ taken. taken ≢ name) x xs h)) (not-among name xs (All-tail (λ taken. taken ≢ name) x xs h))
 
@@ -54,6 +54,13 @@ among-none name [] h = λ k d below. absurd (omega arith)
 among-none name (x ∷ xs) h =
     let other : (x ≡ name) → ⊥ = λ e. true-not-false (sym ((bytes_eq-Decides x name).1 e) ∙ left-false (bytes_eq x name) (is_among xs name) h)
     in All-cons (λ taken. taken ≢ name) x xs other (among-none name xs (right-false (bytes_eq x name) (is_among xs name) h))
+
+among-case : (name : List ℕ) (names : List (List ℕ)) (t : Bool) → is_among names name ≡ t → (IsFree name names → ⊥) → is_among names name ≡ true
+among-case name names true e h = e
+among-case name names false e h = absurd (h (among-none name names e))
+
+pub among : (name : List ℕ) (names : List (List ℕ)) → (IsFree name names → ⊥) → is_among names name ≡ true
+among name names h = among-case name names (is_among names name) refl h
 
 pub free-allowed : (kind name : List ℕ) (names : List (List ℕ)) → IsFree name names → unless_taken kind name names ≡ Ok tt
 free-allowed kind name names h = rw (not-among name names h) refl

@@ -16,3 +16,4 @@ pub mod ArrayReduction
 pub mod Registers
 pub mod AddedRegisters
 pub mod RegisterSteps
+pub mod Conditions

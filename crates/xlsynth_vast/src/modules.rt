@@ -4,6 +4,7 @@ ghost use Rattle.std.specs.Prelude.{◌≡◌, ◌↔◌, IsTrue, IfOk, string_b
 ghost use Rattle.vast_core.specs.Bench.{OwnsModule, NameIsFree};
 ghost use Rattle.vast_core.specs.Growth.{Builds, next_module, with_module};
 ghost use Rattle.vast_core.specs.View.{bench};
+ghost use Rattle.xlsynth_vast.specs.Conditions.{is_free};
 ghost use Rattle.xlsynth_vast.specs.Equations.{name_of};
 
 use crate::file::VastFile;
@@ -37,7 +38,8 @@ impl VastFile {
     /// declare one.
     pub fn name_is_free(&self, owner: VastModule, name: &str) -> bool
         requires { OwnsModule (bench self.now) owner }
-        ensures { IsTrue result ↔ NameIsFree (bench self.now) owner name.now }
+        ensures free { IsTrue result ↔ NameIsFree (bench self.now) owner name.now }
+        ensures test { result ≡ is_free (bench self.now) owner name.now }
     {
         let module = self.ast.module(owner);
         module.name_is_free(name)

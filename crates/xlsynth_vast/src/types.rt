@@ -7,6 +7,7 @@ ghost use Rattle.vast_core.specs.Nodes.{OptionHolds};
 ghost use Rattle.vast_core.specs.Bench.{OwnsExpr, OwnsType, tree_of, maybe_tree_of, type_of};
 ghost use Rattle.vast_core.specs.Growth.{Builds, next_type, with_type};
 ghost use Rattle.vast_core.specs.View.{bench};
+ghost use Rattle.xlsynth_vast.specs.Conditions.{is_usable_width};
 ghost use Rattle.xlsynth_vast.specs.Equations.{next_bit_vector, with_bit_vector};
 ghost use Rattle.xlsynth_vast.specs.Refusals.{AnswersBy};
 ghost use Rattle.xlsynth_vast.specs.Types.{with_vector_expr, with_packed, with_unpacked};
@@ -151,7 +152,8 @@ impl VastFile {
     /// Whether the expression may be a vector's width: it isn't a literal with a value below 1.
     pub fn width_is_usable(&self, width: &Expr) -> bool
         requires { OwnsExpr (bench self.now) width.now }
-        ensures { IsTrue result ↔ IsUsableWidth (tree_of (bench self.now) width.now) }
+        ensures usable { IsTrue result ↔ IsUsableWidth (tree_of (bench self.now) width.now) }
+        ensures test { result ≡ is_usable_width (tree_of (bench self.now) width.now) }
     {
         self.ast.width_is_usable(*width)
     }

@@ -1,0 +1,194 @@
+-- What a file keeps as it grows.
+use Rattle.std.proofs.Common.{◌≡◌, ℕ, zero, suc, ◌<◌, ◌≤◌, Bool, true, false, IsTrue, List, [], ◌∷◌, ◌++◌, length, nat_lt, cond, Option, Some, None, slice_get, refl, sym, ap, ◌∙◌, arith}
+use Rattle.std.proofs.lemmas.Option.{slice_get_within}
+use Rattle.vast_core.specs.declared.handle.Id.{Id}
+use Rattle.vast_core.specs.Nodes.{Root, IsOwned, is_name, is_index, is_slice, is_macro}
+use Rattle.vast_core.specs.Records.{ModuleRecord, changed_at}
+use Rattle.vast_core.specs.Nests.{NestRecord, BlockRecord, BranchRecord, SwitchRecord, RepeatRecord, nest_kind, is_block_kind, is_conditional_kind, is_case_kind, is_loop_kind}
+use Rattle.vast_core.specs.Bench.{Bench, is_blank_line, is_comment, is_inline, is_macro_statement}
+use Rattle.vast_core.specs.Growth.{with_root}
+use Rattle.vast_core.specs.Containers.{Listing, with_listing, Fresh, with_fresh, with_unique}
+use Rattle.vast_core.proofs.NodeLaws.{Extends-same, Extends-root, HasExpr-kept, HasType-kept, shape-kept, expr_in-kept, type_in-kept}
+use Rattle.vast_core.proofs.Nests.{kind-changed}
+use Rattle.vast_core.proofs.Sound.{Grows, index-kept, artifact-kept, nest-kept, continuous-kept, OwnsPort-kept, never}
+use Rattle.vast_core.proofs.Growing.{Grows-fresh, Grows-listing}
+use Rattle.vast_core.proofs.Hoists.{Grows-changed}
+use Rattle.vast_script.specs.Laws.{Keeps}
+
+-- A list that has all elements of another is as long.
+
+lt-of : (a b : ℕ) → IsTrue (nat_lt a b) → a < b
+lt-of a b h = grind arith
+
+lt-test : (a b : ℕ) → a < b → IsTrue (nat_lt a b)
+lt-test a b h = grind arith
+
+none-past : {A : Type 0} (xs : List A) (i : ℕ) → slice_get xs i ≡ None → length xs ≤ i
+none-past [] i e = omega arith
+none-past (x ∷ xs) zero e = cc
+none-past (x ∷ xs) (suc i) e = omega (arith, none-past xs i e)
+
+found : {A : Type 0} (xs ys : List A) (i : ℕ) (o : Option A) → slice_get xs i ≡ o → ((x : A) → slice_get xs i ≡ Some x → slice_get ys i ≡ Some x) → i < length xs → i < length ys
+found xs ys i None e k h = absurd (omega (arith, none-past xs i e))
+found xs ys i (Some x) e k h = slice_get_within ys i x (k x e)
+
+found-kept :
+    {A : Type 0} (b c : Bench) (id : Id) (xs ys : List A) → Grows b c → ((i : ℕ) (x : A) → slice_get xs i ≡ Some x → slice_get ys i ≡ Some x) →
+    IsOwned b.nodes.id id (nat_lt id.index (length xs)) → IsOwned c.nodes.id id (nat_lt id.index (length ys))
+found-kept b c id xs ys g k h =
+    record { of_file = h.of_file ∙ sym g.nodes.same_id; of_kind = lt-test id.index (length ys) (found xs ys id.index (slice_get xs id.index) refl (k id.index) (lt-of id.index (length xs) h.of_kind)) }
+
+-- What grows keeps what it has.
+
+pub keeps-grown : (b c : Bench) → Grows b c → c.file_type ≡ b.file_type → Keeps b c
+keeps-grown b c g same =
+    record {
+      file_type = same;
+      id = g.nodes.same_id;
+      exprs = λ x h. HasExpr-kept b.nodes c.nodes g.nodes x h;
+      trees = λ x h. expr_in-kept b.nodes c.nodes g.nodes x h;
+      types = λ x h. HasType-kept b.nodes c.nodes g.nodes x h;
+      type_trees = λ x h. type_in-kept b.nodes c.nodes g.nodes x h;
+      logic_refs = λ x h. record { of_file = h.of_file ∙ sym g.nodes.same_id; of_kind = shape-kept is_name b.nodes c.nodes g.nodes x.id.index h.of_kind };
+      parameters = λ x h. record { of_file = h.of_file ∙ sym g.nodes.same_id; of_kind = shape-kept is_name b.nodes c.nodes g.nodes x.id.index h.of_kind };
+      localparams = λ x h. record { of_file = h.of_file ∙ sym g.nodes.same_id; of_kind = shape-kept is_name b.nodes c.nodes g.nodes x.id.index h.of_kind };
+      indexes = λ x h. record { of_file = h.of_file ∙ sym g.nodes.same_id; of_kind = shape-kept is_index b.nodes c.nodes g.nodes x.id.index h.of_kind };
+      slices = λ x h. record { of_file = h.of_file ∙ sym g.nodes.same_id; of_kind = shape-kept is_slice b.nodes c.nodes g.nodes x.id.index h.of_kind };
+      macro_refs = λ x h. record { of_file = h.of_file ∙ sym g.nodes.same_id; of_kind = shape-kept is_macro b.nodes c.nodes g.nodes x.id.index h.of_kind };
+      indexables = λ x h. HasExpr-kept b.nodes c.nodes g.nodes (record { id = x.id }) h;
+      modules = λ x h. index-kept b c x.id (length b.modules) (length c.modules) g g.modules h;
+      ports = λ x h. OwnsPort-kept b c g x h;
+      functions = λ x h. index-kept b c x.id (length b.functions) (length c.functions) g g.functions h;
+      instantiations = λ x h. index-kept b c x.id (length b.instances) (length c.instances) g g.instances h;
+      always_blocks = λ x h. found-kept b c x.id b.always_blocks c.always_blocks g g.always_blocks h;
+      definitions = λ x h. index-kept b c x.id (length b.definitions) (length c.definitions) g g.definitions h;
+      statements = λ x h. found-kept b c x.id b.assignments c.assignments g g.assignments h;
+      continuous = λ x h. continuous-kept b c g x h;
+      blank_lines = λ x h. artifact-kept is_blank_line b c x.id g never h;
+      comments = λ x h. artifact-kept is_comment b c x.id g never h;
+      inlines = λ x h. artifact-kept is_inline b c x.id g never h;
+      macro_statements = λ x h. artifact-kept is_macro_statement b c x.id g never h;
+      blocks = λ x h. nest-kept is_block_kind b c x.id g never h;
+      conditionals = λ x h. nest-kept is_conditional_kind b c x.id g never h;
+      cases = λ x h. nest-kept is_case_kind b c x.id g never h;
+      loops = λ x h. nest-kept is_loop_kind b c x.id g never h;
+    }
+
+pub keeps-same : (b : Bench) → Keeps b b
+keeps-same b =
+    record {
+      file_type = refl;
+      id = refl;
+      exprs = λ x o. o;
+      trees = λ x o. refl;
+      types = λ x o. o;
+      type_trees = λ x o. refl;
+      logic_refs = λ x o. o;
+      parameters = λ x o. o;
+      localparams = λ x o. o;
+      indexes = λ x o. o;
+      slices = λ x o. o;
+      macro_refs = λ x o. o;
+      indexables = λ x o. o;
+      modules = λ x o. o;
+      ports = λ x o. o;
+      functions = λ x o. o;
+      instantiations = λ x o. o;
+      always_blocks = λ x o. o;
+      definitions = λ x o. o;
+      statements = λ x o. o;
+      continuous = λ x o. o;
+      blank_lines = λ x o. o;
+      comments = λ x o. o;
+      inlines = λ x o. o;
+      macro_statements = λ x o. o;
+      blocks = λ x o. o;
+      conditionals = λ x o. o;
+      cases = λ x o. o;
+      loops = λ x o. o;
+    }
+
+pub keeps-then : (b c d : Bench) → Keeps b c → Keeps c d → Keeps b d
+keeps-then b c d h k =
+    record {
+      file_type = k.file_type ∙ h.file_type;
+      id = k.id ∙ h.id;
+      exprs = λ x o. k.exprs x (h.exprs x o);
+      trees = λ x o. k.trees x (h.exprs x o) ∙ h.trees x o;
+      types = λ x o. k.types x (h.types x o);
+      type_trees = λ x o. k.type_trees x (h.types x o) ∙ h.type_trees x o;
+      logic_refs = λ x o. k.logic_refs x (h.logic_refs x o);
+      parameters = λ x o. k.parameters x (h.parameters x o);
+      localparams = λ x o. k.localparams x (h.localparams x o);
+      indexes = λ x o. k.indexes x (h.indexes x o);
+      slices = λ x o. k.slices x (h.slices x o);
+      macro_refs = λ x o. k.macro_refs x (h.macro_refs x o);
+      indexables = λ x o. k.indexables x (h.indexables x o);
+      modules = λ x o. k.modules x (h.modules x o);
+      ports = λ x o. k.ports x (h.ports x o);
+      functions = λ x o. k.functions x (h.functions x o);
+      instantiations = λ x o. k.instantiations x (h.instantiations x o);
+      always_blocks = λ x o. k.always_blocks x (h.always_blocks x o);
+      definitions = λ x o. k.definitions x (h.definitions x o);
+      statements = λ x o. k.statements x (h.statements x o);
+      continuous = λ x o. k.continuous x (h.continuous x o);
+      blank_lines = λ x o. k.blank_lines x (h.blank_lines x o);
+      comments = λ x o. k.comments x (h.comments x o);
+      inlines = λ x o. k.inlines x (h.inlines x o);
+      macro_statements = λ x o. k.macro_statements x (h.macro_statements x o);
+      blocks = λ x o. k.blocks x (h.blocks x o);
+      conditionals = λ x o. k.conditionals x (h.conditionals x o);
+      cases = λ x o. k.cases x (h.cases x o);
+      loops = λ x o. k.loops x (h.loops x o);
+    }
+
+-- Single growths.
+
+pub keeps-root : (b : Bench) (r : Root) → Keeps b (with_root b r)
+keeps-root b r =
+    keeps-grown b (with_root b r) (record {
+      nodes = Extends-root b.nodes r;
+      ports = omega arith;
+      assignments = λ i a h. h;
+      modules = omega arith;
+      definitions = omega arith;
+      artifacts = λ i a h. h;
+      instances = omega arith;
+      nests = λ i below. refl;
+      functions = omega arith;
+      always_blocks = λ i a h. h;
+    }) refl
+
+pub keeps-fresh : (b : Bench) (f : Fresh) → Keeps b (with_fresh f b)
+keeps-fresh b f = keeps-grown b (with_fresh f b) (Grows-fresh b f) refl
+
+pub keeps-listing : (b : Bench) (l : Listing) → Keeps b (with_listing l b)
+keeps-listing b l = keeps-grown b (with_listing l b) (Grows-listing b l) refl
+
+pub keeps-changed : (b : Bench) (i : ℕ) (f : ModuleRecord → ModuleRecord) → Keeps b (record b { modules = changed_at i f b.modules })
+keeps-changed b i f = keeps-grown b (record b { modules = changed_at i f b.modules }) (Grows-changed b i f) refl
+
+unique-kind : (unique : Bool) (n : NestRecord) → nest_kind (Some (with_unique unique n)) ≡ nest_kind (Some n)
+unique-kind unique (BlockRecord statements) = refl
+unique-kind unique (BranchRecord c) = refl
+unique-kind unique (SwitchRecord c) = refl
+unique-kind unique (RepeatRecord l) = refl
+
+pub keeps-unique : (b : Bench) (i : ℕ) (unique : Bool) → Keeps b (record b { nests = changed_at i (with_unique unique) b.nests })
+keeps-unique b i unique =
+    keeps-grown b (record b { nests = changed_at i (with_unique unique) b.nests }) (record {
+      nodes = Extends-same b.nodes;
+      ports = omega arith;
+      assignments = λ i a h. h;
+      modules = omega arith;
+      definitions = omega arith;
+      artifacts = λ i a h. h;
+      instances = omega arith;
+      nests = λ j below. kind-changed (with_unique unique) (unique-kind unique) b.nests i j;
+      functions = omega arith;
+      always_blocks = λ i a h. h;
+    }) refl
+
+pub keeps-cond : (b c d : Bench) (t : Bool) → Keeps b c → Keeps b d → Keeps b (cond t c d)
+keeps-cond b c d true h k = h
+keeps-cond b c d false h k = k

@@ -1,0 +1,97 @@
+-- The arguments of a call: answers of earlier steps, looked at in order; then whether they are the file's.
+use Rattle.std.specs.Prelude.{◌≡◌, ℕ, Bool, true, false, ◌&&◌, List, [], ◌∷◌, Vec, Option, Some, None, slice_get, Result, Ok, Err, ⊤}
+use Rattle.std.specs.List.{list_all}
+use Rattle.std.specs.declared.alloc.Global.{Global}
+use Rattle.vast_core.specs.Bench.{Bench}
+use Rattle.vast_script.specs.declared.answer.Answer.{Answer}
+use Rattle.vast_script.specs.declared.fault.StepFault.{StepFault}
+use Rattle.vast_script.specs.Outcome.{Cause, Missing, OtherKind, NotMet, cause_of}
+use Rattle.vast_script.specs.Kinds.{Kind}
+
+-- The code found what there is to find, or memory was refused.
+abbrev pub IsCause : {A : Type 0} → Option Cause → Result A Cause → Type 0
+IsCause None looked = ⊤
+IsCause (Some cause) looked = looked ≡ Err cause
+
+abbrev pub Finds : {A : Type 0} → Result A StepFault → Result A Cause → Type 0
+Finds (Ok x) looked = looked ≡ Ok x
+Finds (Err fault) looked = IsCause (cause_of fault) looked
+
+abbrev pub of_kind : {H : Type 0} → Option H → Result H Cause
+of_kind None = Err OtherKind
+of_kind (Some h) = Ok h
+
+abbrev pub as_kind : {H : Type 0} → Kind H → Option Answer → Result H Cause
+as_kind k None = Err Missing
+as_kind k (Some a) = of_kind (k.of_answer a)
+
+-- The answer of this number, as a handle of the kind.
+unfoldable pub found : {H : Type 0} → Kind H → List Answer → ℕ → Result H Cause
+found k answers n = as_kind k (slice_get answers n)
+
+abbrev pub then_look : {A B : Type 0} → Result A Cause → (A → Result B Cause) → Result B Cause
+then_look (Err cause) next = Err cause
+then_look (Ok x) next = next x
+
+abbrev pub if_own : {A : Type 0} → Bool → A → Result A Cause
+if_own false x = Err NotMet
+if_own true x = Ok x
+
+-- One argument, two, and three; they are the file's.
+unfoldable pub one : {A : Type 0} → Kind A → Bench → List Answer → ℕ → Result A Cause
+one k b answers n = then_look (found k answers n) (λ x. if_own (k.is_own b x) x)
+
+unfoldable pub two : {A B : Type 0} → Kind A → Kind B → Bench → List Answer → ℕ → ℕ → Result (A × B) Cause
+two j k b answers n m = then_look (found j answers n) (λ x. then_look (found k answers m) (λ y. if_own (j.is_own b x && k.is_own b y) (x, y)))
+
+unfoldable pub three : {A B C : Type 0} → Kind A → Kind B → Kind C → Bench → List Answer → ℕ → ℕ → ℕ → Result (A × B × C) Cause
+three i j k b answers n m o =
+    then_look (found i answers n) (λ x. then_look (found j answers m) (λ y. then_look (found k answers o) (λ z.
+    if_own (i.is_own b x && (j.is_own b y && k.is_own b z)) (x, y, z))))
+
+-- The answers of these numbers, looked at in their order.
+abbrev pub put_first : {A : Type 0} → A → Result (List A) Cause → Result (List A) Cause
+put_first x (Err cause) = Err cause
+put_first x (Ok xs) = Ok (x ∷ xs)
+
+abbrev pub all_found : {H : Type 0} → Kind H → List Answer → List ℕ → Result (List H) Cause
+all_found k answers [] = Ok []
+all_found k answers (n ∷ ns) = then_look (found k answers n) (λ x. put_first x (all_found k answers ns))
+
+-- A list of arguments, and an argument with a list of them.
+unfoldable pub many : {A : Type 0} → Kind A → Bench → List Answer → List ℕ → Result (List A) Cause
+many k b answers ns = then_look (all_found k answers ns) (λ xs. if_own (list_all (k.is_own b) xs) xs)
+
+unfoldable pub one_and_many : {A B : Type 0} → Kind A → Kind B → Bench → List Answer → ℕ → List ℕ → Result (A × List B) Cause
+one_and_many j k b answers n ms = then_look (found j answers n) (λ x. then_look (all_found k answers ms) (λ ys. if_own (j.is_own b x && list_all (k.is_own b) ys) (x, ys)))
+
+-- The same of code that answers vectors.
+abbrev pub FindsAll : {A : Type 0} → Result (Vec A Global) StepFault → Result (List A) Cause → Type 0
+FindsAll (Ok xs) looked = looked ≡ Ok xs.items
+FindsAll (Err fault) looked = IsCause (cause_of fault) looked
+
+abbrev pub FindsWithAll : {A B : Type 0} → Result (A × Vec B Global) StepFault → Result (A × List B) Cause → Type 0
+FindsWithAll (Ok p) looked = looked ≡ Ok (p.0, p.1.items)
+FindsWithAll (Err fault) looked = IsCause (cause_of fault) looked
+
+-- An argument that may be left out, and a list of such.
+abbrev pub found_if : {H : Type 0} → Kind H → List Answer → Option ℕ → Result (Option H) Cause
+found_if k answers None = Ok None
+found_if k answers (Some n) = then_look (found k answers n) (λ x. Ok (Some x))
+
+abbrev pub all_found_if : {H : Type 0} → Kind H → List Answer → List (Option ℕ) → Result (List (Option H)) Cause
+all_found_if k answers [] = Ok []
+all_found_if k answers (n ∷ ns) = then_look (found_if k answers n) (λ x. put_first x (all_found_if k answers ns))
+
+abbrev pub is_own_if : {H : Type 0} → Kind H → Bench → Option H → Bool
+is_own_if k b None = true
+is_own_if k b (Some h) = k.is_own b h
+
+-- A list of arguments, and one of arguments that may be left out.
+unfoldable pub many_and_open : {A : Type 0} → Kind A → Bench → List Answer → List ℕ → List (Option ℕ) → Result (List A × List (Option A)) Cause
+many_and_open k b answers ns ms =
+    then_look (all_found k answers ns) (λ xs. then_look (all_found_if k answers ms) (λ ys. if_own (list_all (k.is_own b) xs && list_all (is_own_if k b) ys) (xs, ys)))
+
+abbrev pub FindsOpen : {A : Type 0} → Result (Vec A Global × Vec (Option A) Global) StepFault → Result (List A × List (Option A)) Cause → Type 0
+FindsOpen (Ok p) looked = looked ≡ Ok (p.0.items, p.1.items)
+FindsOpen (Err fault) looked = IsCause (cause_of fault) looked

@@ -1,0 +1,14 @@
+pub mod Outcome
+pub mod Kinds
+pub mod Owned
+pub mod Arguments
+pub mod Conditions
+pub mod Operators
+pub mod Types
+pub mod Expressions
+pub mod Modules
+pub mod Artifacts
+pub mod Statements
+pub mod Loops
+pub mod Script
+pub mod Laws

@@ -1,0 +1,152 @@
+-- What becomes of a call of functions, always blocks, conditionals and statements.
+use Rattle.std.specs.Prelude.{ℕ, Bool, true, false, not, List, [], Some, None, codes, string_bytes, slice_get}
+use Rattle.vast_core.specs.declared.kind.DataKind.{DataKind}
+use Rattle.vast_core.specs.declared.kind.DataKind.TheVariants.{Reg, Logic}
+use Rattle.vast_core.specs.declared.kind.AlwaysKind.{AlwaysKind}
+use Rattle.vast_core.specs.declared.kind.AlwaysKind.TheVariants.{AlwaysFF, AlwaysAt, AlwaysComb}
+use Rattle.vast_core.specs.declared.kind.CaseKind.{CaseKind}
+use Rattle.vast_core.specs.declared.kind.CaseKind.TheVariants.{Case, CaseZ, CaseX}
+use Rattle.vast_core.specs.Handles.{conditional_index}
+use Rattle.vast_core.specs.Records.{ConditionalEntry}
+use Rattle.vast_core.specs.Nests.{StatementEntry, AssignStatement, ContinuousStatement, ConditionalStatement, CasesStatement, BlankStatement, CommentStatement, InlineStatement}
+use Rattle.vast_core.specs.Bench.{Bench, type_of}
+use Rattle.vast_core.specs.Growth.{next_logic_ref, with_member, with_assignment}
+use Rattle.vast_core.specs.Artifacts.{next_statement}
+use Rattle.vast_core.specs.Functions.{with_variable}
+use Rattle.vast_core.specs.Containers.{next_block, next_conditional, next_case, with_conditional, with_case, with_statement, with_else_if, with_else, has_else, with_case_arm, with_case_unique}
+use Rattle.vast_core.specs.Loops.{next_always, next_function}
+use Rattle.xlsynth_vast.specs.AlwaysBlocks.{unless_wrong_event, with_always_member}
+use Rattle.xlsynth_vast.specs.Cases.{may_be_unique}
+use Rattle.xlsynth_vast.specs.Declarations.{names_in}
+use Rattle.xlsynth_vast.specs.Functions.{may_be_function, with_function_member, unless_taken_in_function}
+use Rattle.xlsynth_vast.specs.Inspections.{block_at, then_block_at, body_at, result_at}
+use Rattle.vast_script.specs.declared.answer.Answer.{Answer}
+use Rattle.vast_script.specs.declared.answer.Answer.TheVariants.{VastFunction, LogicRef, VastAlwaysBase, VastStatementBlock, VastStatement, Conditional, CaseStatement, Nothing}
+use Rattle.vast_script.specs.declared.step.StatementStep.{StatementStep}
+use Rattle.vast_script.specs.declared.step.StatementStep.TheVariants.{AddFunction, FunctionAddInput, FunctionAddLogicInput, FunctionAddReg, FunctionAddLogic, FunctionBody, FunctionResult, AddAlwaysFf, AddAlwaysAt, AddAlwaysComb, StatementBlock, BlockAddBlockingAssignment, BlockAddNonblockingAssignment, BlockAddContinuousAssignment, BlockAddCommentText, BlockAddInlineText, BlockAddBlankLine, AddConditional, BlockAddCond, ConditionalThenBlock, ConditionalAddElseIf, ConditionalAddElse, BlockAddCase, BlockAddCasez, BlockAddCasex, CaseAddItem, CaseAddDefault, CaseSetUnique}
+use Rattle.vast_script.specs.Outcome.{Outcome, Call, Made, given, provided, allowed, holding}
+use Rattle.vast_script.specs.Kinds.{a_module, a_function, a_type, an_expr, an_always, a_block, a_conditional, a_case}
+use Rattle.vast_script.specs.Arguments.{one, two, three, one_and_many}
+
+-- Functions.
+
+abbrev pub add_function : ℕ → List ℕ → ℕ → Call
+add_function owner name type b answers =
+    given (two a_module a_type b answers owner type) (λ (owner, type). allowed (may_be_function (type_of b type) name (names_in b owner)) (λ _.
+    Made (VastFunction (next_function b)) (with_function_member owner name type b)))
+
+abbrev pub function_add_variable : (local : Bool) → DataKind → (word : List ℕ) → ℕ → List ℕ → ℕ → Call
+function_add_variable local kind word function name type b answers =
+    given (two a_function a_type b answers function type) (λ (function, type). allowed (unless_taken_in_function word name b function) (λ _.
+    Made (LogicRef (next_logic_ref b)) (with_variable function local (record { kind = kind; name = name; data_type = type }) b)))
+
+abbrev pub function_body : ℕ → Call
+function_body function b answers =
+    given (one a_function b answers function) (λ function. holding (body_at b function) (λ block. Made (VastStatementBlock block) b))
+
+abbrev pub function_result : ℕ → Call
+function_result function b answers = given (one a_function b answers function) (λ function. holding (result_at b function) (λ name. Made (LogicRef name) b))
+
+-- Always blocks.
+
+abbrev pub add_always : AlwaysKind → (word : List ℕ) → ℕ → List ℕ → Call
+add_always kind word owner events b answers =
+    given (one_and_many a_module an_expr b answers owner events) (λ (owner, events). allowed (unless_wrong_event word b events) (λ _.
+    Made (VastAlwaysBase (next_always b)) (with_always_member owner kind events b)))
+
+abbrev pub add_always_comb : ℕ → Call
+add_always_comb owner b answers = given (one a_module b answers owner) (λ owner. Made (VastAlwaysBase (next_always b)) (with_always_member owner AlwaysComb [] b))
+
+abbrev pub statement_block : ℕ → Call
+statement_block always b answers = given (one an_always b answers always) (λ always. holding (block_at b always) (λ block. Made (VastStatementBlock block) b))
+
+-- Statements.
+
+abbrev pub block_add_assignment : (nonblocking : Bool) → (block left right : ℕ) → Call
+block_add_assignment nonblocking block left right b answers =
+    given (three a_block an_expr an_expr b answers block left right) (λ (block, left, right).
+    Made (VastStatement (next_statement b)) (with_statement block (AssignStatement (next_statement b)) (with_assignment (record { lhs = left; rhs = right; nonblocking = nonblocking }) b)))
+
+abbrev pub block_add_continuous_assignment : (block left right : ℕ) → Call
+block_add_continuous_assignment block left right b answers =
+    given (three a_block an_expr an_expr b answers block left right) (λ (block, left, right).
+    Made (VastStatement (next_statement b)) (with_statement block (ContinuousStatement (next_statement b)) (with_assignment (record { lhs = left; rhs = right; nonblocking = false }) b)))
+
+-- A statement that holds no handle.
+abbrev pub block_add : StatementEntry → ℕ → Call
+block_add entry block b answers = given (one a_block b answers block) (λ block. Made Nothing (with_statement block entry b))
+
+-- Conditionals.
+
+abbrev pub add_conditional : (owner condition : ℕ) → Call
+add_conditional owner condition b answers =
+    given (two a_module an_expr b answers owner condition) (λ (owner, condition).
+    Made (Conditional (next_conditional b)) (with_member owner (ConditionalEntry (next_conditional b)) (with_conditional condition b)))
+
+abbrev pub block_add_cond : (block condition : ℕ) → Call
+block_add_cond block condition b answers =
+    given (two a_block an_expr b answers block condition) (λ (block, condition).
+    Made (Conditional (next_conditional b)) (with_statement block (ConditionalStatement (next_conditional b)) (with_conditional condition b)))
+
+abbrev pub conditional_then_block : ℕ → Call
+conditional_then_block conditional b answers =
+    given (one a_conditional b answers conditional) (λ conditional. holding (then_block_at b conditional) (λ block. Made (VastStatementBlock block) b))
+
+abbrev pub conditional_add_else_if : (conditional condition : ℕ) → Call
+conditional_add_else_if conditional condition b answers =
+    given (two a_conditional an_expr b answers conditional condition) (λ (conditional, condition).
+    provided (not (has_else (slice_get b.nests (conditional_index conditional))))
+    (Made (VastStatementBlock (next_block b)) (with_else_if conditional condition b)))
+
+abbrev pub conditional_add_else : ℕ → Call
+conditional_add_else conditional b answers =
+    given (one a_conditional b answers conditional) (λ conditional. provided (not (has_else (slice_get b.nests (conditional_index conditional))))
+    (Made (VastStatementBlock (next_block b)) (with_else conditional b)))
+
+-- Case statements.
+
+abbrev pub block_add_case : CaseKind → (block selector : ℕ) → Call
+block_add_case kind block selector b answers =
+    given (two a_block an_expr b answers block selector) (λ (block, selector).
+    Made (CaseStatement (next_case b)) (with_statement block (CasesStatement (next_case b)) (with_case kind selector b)))
+
+abbrev pub case_add_item : (case_number value : ℕ) → Call
+case_add_item case_number value b answers =
+    given (two a_case an_expr b answers case_number value) (λ (cases, value). Made (VastStatementBlock (next_block b)) (with_case_arm cases (Some value) b))
+
+abbrev pub case_add_default : ℕ → Call
+case_add_default case_number b answers = given (one a_case b answers case_number) (λ cases. Made (VastStatementBlock (next_block b)) (with_case_arm cases None b))
+
+abbrev pub case_set_unique : ℕ → Bool → Call
+case_set_unique case_number unique b answers =
+    given (one a_case b answers case_number) (λ cases. allowed (may_be_unique b.file_type unique) (λ _. Made Nothing (with_case_unique cases unique b)))
+
+abbrev pub statement_call : StatementStep → Call
+statement_call (AddFunction owner name type) = add_function owner (string_bytes name) type
+statement_call (FunctionAddInput function name type) = function_add_variable false Reg (codes "input") function (string_bytes name) type
+statement_call (FunctionAddLogicInput function name type) = function_add_variable false Logic (codes "input") function (string_bytes name) type
+statement_call (FunctionAddReg function name type) = function_add_variable true Reg (codes "reg") function (string_bytes name) type
+statement_call (FunctionAddLogic function name type) = function_add_variable true Logic (codes "logic") function (string_bytes name) type
+statement_call (FunctionBody function) = function_body function
+statement_call (FunctionResult function) = function_result function
+statement_call (AddAlwaysFf owner events) = add_always AlwaysFF (codes "always_ff") owner events.items
+statement_call (AddAlwaysAt owner events) = add_always AlwaysAt (codes "always @") owner events.items
+statement_call (AddAlwaysComb owner) = add_always_comb owner
+statement_call (StatementBlock always) = statement_block always
+statement_call (BlockAddBlockingAssignment block left right) = block_add_assignment false block left right
+statement_call (BlockAddNonblockingAssignment block left right) = block_add_assignment true block left right
+statement_call (BlockAddContinuousAssignment block left right) = block_add_continuous_assignment block left right
+statement_call (BlockAddCommentText block text) = block_add (CommentStatement (string_bytes text)) block
+statement_call (BlockAddInlineText block text) = block_add (InlineStatement (string_bytes text)) block
+statement_call (BlockAddBlankLine block) = block_add BlankStatement block
+statement_call (AddConditional owner condition) = add_conditional owner condition
+statement_call (BlockAddCond block condition) = block_add_cond block condition
+statement_call (ConditionalThenBlock conditional) = conditional_then_block conditional
+statement_call (ConditionalAddElseIf conditional condition) = conditional_add_else_if conditional condition
+statement_call (ConditionalAddElse conditional) = conditional_add_else conditional
+statement_call (BlockAddCase block selector) = block_add_case Case block selector
+statement_call (BlockAddCasez block selector) = block_add_case CaseZ block selector
+statement_call (BlockAddCasex block selector) = block_add_case CaseX block selector
+statement_call (CaseAddItem cases value) = case_add_item cases value
+statement_call (CaseAddDefault cases) = case_add_default cases
+statement_call (CaseSetUnique cases unique) = case_set_unique cases unique

@@ -1,0 +1,50 @@
+-- What becomes of a call that makes a type.
+use Rattle.std.specs.Prelude.{ℕ, ℤ, pos, int_le, Bool, false, ◌&&◌, List, string_bytes}
+use Rattle.vast_literal.specs.Tree.{TypeTree, ScalarTree, IntegerTree, IntTree, ExternalTree, PackageTree}
+use Rattle.vast_core.specs.Types.{is_packable}
+use Rattle.vast_core.specs.Bench.{Bench, tree_of, type_of}
+use Rattle.vast_core.specs.Growth.{next_type, with_type}
+use Rattle.xlsynth_vast.specs.Conditions.{is_usable_width}
+use Rattle.xlsynth_vast.specs.Equations.{next_bit_vector, with_bit_vector}
+use Rattle.xlsynth_vast.specs.Types.{with_vector_expr, with_packed, with_unpacked}
+use Rattle.vast_script.specs.declared.answer.Answer.{Answer}
+use Rattle.vast_script.specs.declared.answer.Answer.TheVariants.{VastDataType}
+use Rattle.vast_script.specs.declared.step.TypeStep.{TypeStep}
+use Rattle.vast_script.specs.declared.step.TypeStep.TheVariants.{MakeScalarType, MakeIntegerType, MakeIntType, MakeExternType, MakeExternPackageType, MakeBitVectorType, MakeBitVectorTypeExpr, MakePackedArrayType, MakeUnpackedArrayType}
+use Rattle.vast_script.specs.Outcome.{Outcome, Call, Made, given, provided}
+use Rattle.vast_script.specs.Kinds.{a_type, an_expr}
+use Rattle.vast_script.specs.Arguments.{one}
+use Rattle.vast_script.specs.Conditions.{are_dimensions}
+
+-- A type that is made of no other.
+abbrev pub make_type : TypeTree → Call
+make_type tree b answers = Made (VastDataType (next_type b)) (with_type b tree)
+
+abbrev pub make_bit_vector_type : ℤ → Bool → Call
+make_bit_vector_type bits signed b answers = provided (int_le (pos 1) bits) (Made (VastDataType (next_bit_vector bits b)) (with_bit_vector bits signed b))
+
+abbrev pub make_bit_vector_type_expr : ℕ → Bool → Call
+make_bit_vector_type_expr width signed b answers =
+    given (one an_expr b answers width) (λ width. provided (is_usable_width (tree_of b width))
+    (Made (VastDataType (next_type b)) (with_vector_expr width signed b)))
+
+abbrev pub make_packed_array_type : ℕ → List ℤ → Call
+make_packed_array_type element dimensions b answers =
+    given (one a_type b answers element) (λ element. provided (is_packable (type_of b element) && are_dimensions dimensions)
+    (Made (VastDataType (next_type b)) (with_packed element dimensions b)))
+
+abbrev pub make_unpacked_array_type : ℕ → List ℤ → Call
+make_unpacked_array_type element dimensions b answers =
+    given (one a_type b answers element) (λ element. provided (are_dimensions dimensions)
+    (Made (VastDataType (next_type b)) (with_unpacked element dimensions b)))
+
+abbrev pub type_call : TypeStep → Call
+type_call MakeScalarType = make_type (ScalarTree false)
+type_call (MakeIntegerType signed) = make_type (IntegerTree signed)
+type_call (MakeIntType signed) = make_type (IntTree signed)
+type_call (MakeExternType name) = make_type (ExternalTree (string_bytes name))
+type_call (MakeExternPackageType package_name name) = make_type (PackageTree (string_bytes package_name) (string_bytes name))
+type_call (MakeBitVectorType bits signed) = make_bit_vector_type bits signed
+type_call (MakeBitVectorTypeExpr width signed) = make_bit_vector_type_expr width signed
+type_call (MakePackedArrayType element dimensions) = make_packed_array_type element dimensions.items
+type_call (MakeUnpackedArrayType element dimensions) = make_unpacked_array_type element dimensions.items

@@ -1,0 +1,35 @@
+//! Lists of builder calls as values, and their replay on a file.
+//!
+//! A [`Step`] is one call, whose handles are the numbers of earlier steps. [`replay`] makes the calls in order and
+//! stops at the first that is at fault.
+#![tactic(auto)]
+
+mod answer;
+mod answers;
+mod arguments;
+mod artifacts;
+mod conditions;
+mod expression_lists;
+mod expressions;
+mod fault;
+mod instances;
+mod kinds;
+pub mod laws;
+mod lists;
+mod loops;
+mod modules;
+mod open_lists;
+mod operators;
+mod script;
+mod statements;
+mod step;
+#[cfg(test)]
+mod tests;
+mod types;
+
+pub use answer::Answer;
+pub use fault::ScriptFault;
+pub use script::replay;
+pub use step::{
+    ArtifactStep, ExpressionStep, LoopStep, ModuleStep, OperatorStep, StatementStep, Step, TypeStep,
+};

@@ -1,0 +1,218 @@
+//! Calls of the file's items, and of modules with their ports, declarations and parameters.
+
+ghost use Rattle.vast_core.specs.declared.kind.ModulePortDirection.TheVariants.{Input, Output, InOut};
+ghost use Rattle.vast_core.specs.declared.kind.DataKind.TheVariants.{Wire, Logic};
+ghost use Rattle.vast_script.specs.Outcome.{Replays};
+ghost use Rattle.vast_script.specs.Modules.{add_port, add_wire, hoist_module_declarations, module_call};
+
+use crate::answer::Answer;
+use crate::answers::{localparam, logic_ref, module, nothing, parameter, refusable_logic_ref};
+use crate::arguments::{one, three, two};
+use crate::fault::StepFault;
+use crate::step::ModuleStep;
+use xlsynth_vast::{BlankLine, Def, Expr, VastDataType, VastFile, VastModule};
+
+fn add_input(
+    file: &mut VastFile,
+    answers: &[Answer],
+    owner: usize,
+    name: &str,
+    data_type: usize,
+) -> Result<Answer, StepFault>
+    ensures { Replays file.old file.new answers.now result (add_port Input Wire owner name.now data_type) }
+{
+    let (owner, data_type): (VastModule, VastDataType) = two(file, answers, owner, data_type)?;
+    if !file.name_is_free(owner, name) {
+        return Err(StepFault::Condition);
+    }
+    logic_ref(file.add_input(owner, name, &data_type))
+}
+
+fn add_output(
+    file: &mut VastFile,
+    answers: &[Answer],
+    owner: usize,
+    name: &str,
+    data_type: usize,
+) -> Result<Answer, StepFault>
+    ensures { Replays file.old file.new answers.now result (add_port Output Wire owner name.now data_type) }
+{
+    let (owner, data_type): (VastModule, VastDataType) = two(file, answers, owner, data_type)?;
+    if !file.name_is_free(owner, name) {
+        return Err(StepFault::Condition);
+    }
+    logic_ref(file.add_output(owner, name, &data_type))
+}
+
+fn add_inout(
+    file: &mut VastFile,
+    answers: &[Answer],
+    owner: usize,
+    name: &str,
+    data_type: usize,
+) -> Result<Answer, StepFault>
+    ensures { Replays file.old file.new answers.now result (add_port InOut Wire owner name.now data_type) }
+{
+    let (owner, data_type): (VastModule, VastDataType) = two(file, answers, owner, data_type)?;
+    if !file.name_is_free(owner, name) {
+        return Err(StepFault::Condition);
+    }
+    logic_ref(file.add_inout(owner, name, &data_type))
+}
+
+fn add_logic_input(
+    file: &mut VastFile,
+    answers: &[Answer],
+    owner: usize,
+    name: &str,
+    data_type: usize,
+) -> Result<Answer, StepFault>
+    ensures { Replays file.old file.new answers.now result (add_port Input Logic owner name.now data_type) }
+{
+    let (owner, data_type): (VastModule, VastDataType) = two(file, answers, owner, data_type)?;
+    if !file.name_is_free(owner, name) {
+        return Err(StepFault::Condition);
+    }
+    logic_ref(file.add_logic_input(owner, name, &data_type))
+}
+
+fn add_logic_output(
+    file: &mut VastFile,
+    answers: &[Answer],
+    owner: usize,
+    name: &str,
+    data_type: usize,
+) -> Result<Answer, StepFault>
+    ensures { Replays file.old file.new answers.now result (add_port Output Logic owner name.now data_type) }
+{
+    let (owner, data_type): (VastModule, VastDataType) = two(file, answers, owner, data_type)?;
+    if !file.name_is_free(owner, name) {
+        return Err(StepFault::Condition);
+    }
+    logic_ref(file.add_logic_output(owner, name, &data_type))
+}
+
+fn add_wire(
+    file: &mut VastFile,
+    answers: &[Answer],
+    owner: usize,
+    name: &str,
+    data_type: usize,
+) -> Result<Answer, StepFault>
+    ensures { Replays file.old file.new answers.now result (add_wire owner name.now data_type) }
+{
+    let (owner, data_type): (VastModule, VastDataType) = two(file, answers, owner, data_type)?;
+    if !file.name_is_free(owner, name) {
+        return Err(StepFault::Condition);
+    }
+    logic_ref(file.add_wire(owner, name, &data_type))
+}
+
+fn hoist_declarations(
+    file: &mut VastFile,
+    answers: &[Answer],
+    owner: usize,
+    start: usize,
+) -> Result<Answer, StepFault>
+    ensures { Replays file.old file.new answers.now result (hoist_module_declarations owner start) }
+{
+    let owner: VastModule = one(file, answers, owner)?;
+    if start > file.module_member_count(owner) {
+        return Err(StepFault::Condition);
+    }
+    nothing(file.hoist_module_declarations(owner, start))
+}
+
+/// Makes the call, over the answers so far.
+pub(crate) fn replay_module(
+    file: &mut VastFile,
+    answers: &[Answer],
+    step: &ModuleStep,
+) -> Result<Answer, StepFault>
+    ensures { Replays file.old file.new answers.now result (module_call step.now) }
+{
+    match step {
+        ModuleStep::AddInclude(path) => nothing(file.add_include(path)),
+        ModuleStep::AddBlankLine(blank) => {
+            let blank: BlankLine = one(file, answers, *blank)?;
+            nothing(file.add_blank_line(blank))
+        }
+        ModuleStep::AddCommentText(text) => nothing(file.add_comment_text(text)),
+        ModuleStep::AddModule(name) => module(file.add_module(name)),
+        ModuleStep::AddInput(owner, name, data_type) => {
+            add_input(file, answers, *owner, name, *data_type)
+        }
+        ModuleStep::AddOutput(owner, name, data_type) => {
+            add_output(file, answers, *owner, name, *data_type)
+        }
+        ModuleStep::AddInout(owner, name, data_type) => {
+            add_inout(file, answers, *owner, name, *data_type)
+        }
+        ModuleStep::AddLogicInput(owner, name, data_type) => {
+            add_logic_input(file, answers, *owner, name, *data_type)
+        }
+        ModuleStep::AddLogicOutput(owner, name, data_type) => {
+            add_logic_output(file, answers, *owner, name, *data_type)
+        }
+        ModuleStep::AddWire(owner, name, data_type) => {
+            add_wire(file, answers, *owner, name, *data_type)
+        }
+        ModuleStep::AddReg(owner, name, data_type) => {
+            let (owner, data_type): (VastModule, VastDataType) = two(
+                file, answers, *owner, *data_type,
+            )?;
+            refusable_logic_ref(file.add_reg(owner, name, &data_type))
+        }
+        ModuleStep::AddLogic(owner, name, data_type) => {
+            let (owner, data_type): (VastModule, VastDataType) = two(
+                file, answers, *owner, *data_type,
+            )?;
+            refusable_logic_ref(file.add_logic(owner, name, &data_type))
+        }
+        ModuleStep::AddParameterPort(owner, name, value) => {
+            let (owner, value): (VastModule, Expr) = two(file, answers, *owner, *value)?;
+            logic_ref(file.add_parameter_port(owner, name, &value))
+        }
+        ModuleStep::AddTypedParameterPort(owner, name, data_type, value) => {
+            let (owner, data_type, value): (VastModule, VastDataType, Expr) = three(
+                file, answers, *owner, *data_type, *value,
+            )?;
+            logic_ref(file.add_typed_parameter_port(owner, name, &data_type, &value))
+        }
+        ModuleStep::AddParameter(owner, name, value) => {
+            let (owner, value): (VastModule, Expr) = two(file, answers, *owner, *value)?;
+            parameter(file.add_parameter(owner, name, &value))
+        }
+        ModuleStep::AddParameterWithDef(owner, definition, value) => {
+            let (owner, definition, value): (VastModule, Def, Expr) = three(
+                file,
+                answers,
+                *owner,
+                *definition,
+                *value,
+            )?;
+            parameter(file.add_parameter_with_def(owner, &definition, &value))
+        }
+        ModuleStep::AddLocalparam(owner, name, value) => {
+            let (owner, value): (VastModule, Expr) = two(file, answers, *owner, *value)?;
+            localparam(file.add_localparam(owner, name, &value))
+        }
+        ModuleStep::AddIntLocalparam(owner, name, value) => {
+            let (owner, value): (VastModule, Expr) = two(file, answers, *owner, *value)?;
+            localparam(file.add_int_localparam(owner, name, &value))
+        }
+        ModuleStep::AddTypedLocalparam(owner, definition, value) => {
+            let (owner, definition, value): (VastModule, Def, Expr) = three(
+                file,
+                answers,
+                *owner,
+                *definition,
+                *value,
+            )?;
+            localparam(file.add_typed_localparam(owner, &definition, &value))
+        }
+        ModuleStep::HoistModuleDeclarations(owner, start) => {
+            hoist_declarations(file, answers, *owner, *start)
+        }
+    }
+}
