@@ -52,7 +52,6 @@ pub mod SettledDeclarations
 pub mod SettledMemberParts
 pub mod SettledMembers
 pub mod SettledFiles
-pub mod SettledFewer
 pub mod SoundLists
 pub mod SoundStatements
 pub mod SoundDeclarations

@@ -15,7 +15,7 @@ use Rattle.vast_literal.specs.SettledMembers.{settled_members, settled_event, se
 use Rattle.vast_literal.proofs.Same.{FewerIn, fewer_word, fewer_number}
 use Rattle.vast_literal.proofs.SettledExpressions.{run_settled, selected_same}
 use Rattle.vast_literal.proofs.SettledStatements.{reader_settled}
-use Rattle.vast_literal.proofs.Agree.{Agree, ready, wide, of_same, chain, begun, meets, chained, some_then, through, second, read, Shorter, shorter_mark, shorter_key, skipped, behind, behind_key}
+use Rattle.vast_literal.proofs.Agree.{Agree, ready, wide, of_same, chain, begun, meets, chained, some_then, through, read, Shorter, shorter_mark, shorter_key, skipped, behind, behind_key}
 use Rattle.vast_literal.proofs.SettledLists.{choose, choose_past, listed_agree}
 use Rattle.vast_literal.proofs.SettledDeclarations.{key_with_fewer, declaration_agree}
 use Rattle.vast_literal.proofs.SettledMemberParts.{closed_agree, event_agree, plain_agree, function_agree}
@@ -200,6 +200,3 @@ members_agree n c ts h = short_agree (suc (length ts)) n c ts (omega arith) h
 pub members_settled : (c : Key) (ts : List Token) → settled_members c ts ≡ next_members c ts
 unfolding settled_members
 members_settled c ts = (step_agree (5 * length ts + 2) c ts (λ d us l. members_agree (5 * length ts + 2) d us (omega arith)) (omega arith)).same
-
-pub member_fewer : (ts : List Token) → Agree (length ts) (settled_member ts) (settled_member ts)
-member_fewer ts = second (member_agree (5 * length ts + 2) (λ k us. members (5 * length ts + 2) k us) ts (λ d us l. members_agree (5 * length ts + 2) d us (omega arith)) (omega arith))
