@@ -32,7 +32,8 @@ pub fn run<R: Read, W: Write, E: Write>(
 ) -> u8
     ensures unknown { IsNone (design_text words.now) → is_check words.now ≡ false → result ≡ 2 }
     ensures known { IsSome (design_text words.now) → result ≤ 1 }
-    ensures printed { IfSome (design_text words.now) (λ text. result ≡ 0 → Appends (W.contents out.old) (W.contents out.new) text) }
+    ensures printed { IfSome (design_text words.now) (λ text. result ≡ 0 →
+        Appends (W.contents out.old) (W.contents out.new) text) }
     ensures checked { is_check words.now ≡ true →
         CheckEnds (R.remaining input.old) (R.remaining input.new) (W.contents out.old) (W.contents out.new) result }
 {
@@ -78,8 +79,8 @@ fn print_design<F: Display + Drop, W: Write, E: Write>(
     err: &mut E,
 ) -> u8
     ensures status { result ≤ 1 }
-    ensures written { result ≡ 0 →
-        MatchResult text (λ t. Appends (W.contents out.old) (W.contents out.new) (string_bytes t)) (λ _. ⊥) }
+    ensures written { result ≡ 0 → MatchResult text
+        (λ t. Appends (W.contents out.old) (W.contents out.new) (string_bytes t)) (λ _. ⊥) }
 {
     match text {
         Ok(text) => match out.write_all(text.as_bytes()) {
