@@ -1,6 +1,6 @@
+pub mod CallLists
 pub mod Checking
 pub mod DesignTexts
-pub mod EncoderSteps
 pub mod Naming
 pub mod RegistersSteps
 pub mod RegistersText

@@ -10,12 +10,12 @@ use crate::designs::{cases, passthrough, registers};
 use crate::input::InputFault;
 use crate::output::{WriteFault, write_line};
 use std::alloc::Global;
+use std::fmt::Display;
 use std::io::{Read, Write};
-use xlsynth_vast::{VastError, VastFault};
 
 /// Prints the design that the one word names to `out`, or checks `input`, and answers the status.
 ///
-/// `passthrough`, `cases` and `registers` are printed with status 0. A refusal or want of memory prints its text to
+/// `passthrough`, `cases` and `registers` are printed with status 0. A fault or want of memory prints its text to
 /// `err`, status 1; a failed write prints `write fault` there, status 1. No word, another word or more than one prints
 /// `unknown design` there, status 2. Every text on `err` has a line break behind it; a failed write there changes no
 /// status. No design reads `input`.
@@ -32,7 +32,8 @@ pub fn run<R: Read, W: Write, E: Write>(
 ) -> u8
     ensures unknown { IsNone (design_text words.now) → is_check words.now ≡ false → result ≡ 2 }
     ensures known { IsSome (design_text words.now) → result ≤ 1 }
-    ensures printed { IfSome (design_text words.now) (λ text. result ≡ 0 → Appends (W.contents out.old) (W.contents out.new) text) }
+    ensures printed { IfSome (design_text words.now) (λ text. result ≡ 0 →
+        Appends (W.contents out.old) (W.contents out.new) text) }
     ensures checked { is_check words.now ≡ true →
         CheckEnds (R.remaining input.old) (R.remaining input.new) (W.contents out.old) (W.contents out.new) result }
 {
@@ -72,17 +73,21 @@ fn unknown<E: Write>(err: &mut E) -> u8
     2
 }
 
-fn print_design<W: Write, E: Write>(text: Result<String, VastFault>, out: &mut W, err: &mut E) -> u8
+fn print_design<F: Display + Drop, W: Write, E: Write>(
+    text: Result<String, F>,
+    out: &mut W,
+    err: &mut E,
+) -> u8
     ensures status { result ≤ 1 }
-    ensures written { result ≡ 0 → MatchResult text (λ t. Appends (W.contents out.old) (W.contents out.new) (string_bytes t)) (λ _. ⊥) }
+    ensures written { result ≡ 0 → MatchResult text
+        (λ t. Appends (W.contents out.old) (W.contents out.new) (string_bytes t)) (λ _. ⊥) }
 {
     match text {
         Ok(text) => match out.write_all(text.as_bytes()) {
             Ok(()) => 0,
             Err(_) => fail("write fault", err),
         },
-        Err(VastFault::Refused(VastError(text))) => fail(&text, err),
-        Err(VastFault::Memory(_)) => fail("out of memory", err),
+        Err(fault) => fail(fault, err),
     }
 }
 
@@ -110,11 +115,10 @@ fn print_answer<R: Read, W: Write, E: Write>(
     }
 }
 
-fn fail<E: Write>(text: &str, err: &mut E) -> u8
+fn fail<F: Display + Drop, E: Write>(fault: F, err: &mut E) -> u8
     ensures { result ≡ 1 }
 {
-    let _ = err.write_all(text.as_bytes());
-    let _ = err.write_all(b"\n");
+    let _ = writeln!(err, "{fault}");
     1
 }
 

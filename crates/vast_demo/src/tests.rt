@@ -5,6 +5,7 @@ mod bench;
 mod deep;
 mod expressions;
 mod files;
+mod first_program;
 mod functions;
 mod keywords;
 mod literals;

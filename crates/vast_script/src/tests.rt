@@ -1,8 +1,8 @@
 //! Replays with ample memory: the faults that are answered, and what the files hold after them.
 
 use crate::{
-    Answer, ExpressionStep, ModuleStep, OperatorStep, ScriptFault, StatementStep, Step, TypeStep,
-    replay,
+    Answer, ArtifactStep, ExpressionStep, ModuleStep, OperatorStep, ScriptFault, StatementStep,
+    Step, TypeStep, replay,
 };
 use std::alloc::{AllocError, Global};
 use std::test::Fail;
@@ -33,6 +33,51 @@ fn words(alloc: Global, replayed: Result<Vec<Answer>, ScriptFault>) -> Result<St
         Ok(_) => Ok(String::new(alloc)),
         Err(fault) => format!(in alloc; "{fault}"),
     }
+}
+
+/// A module whose output is its input.
+fn passthrough_steps(alloc: Global) -> Result<Vec<Step>, AllocError> {
+    let output = String::from_str(alloc, "output_data")?;
+    let steps = vec![in alloc;
+        module(alloc, "passthrough")?,
+        Step::Types(TypeStep::MakeBitVectorType(8, false)),
+        input(alloc, 0, "input_data", 1)?,
+        Step::Modules(ModuleStep::AddOutput(0, output, 1)),
+        Step::Artifacts(ArtifactStep::MakeContinuousAssignment(3, 2)),
+        Step::Artifacts(ArtifactStep::AddMemberContinuousAssignment(0, 4)),
+    ]?;
+    Ok(steps)
+}
+
+/// Whether these are what the steps of the module answer, each of its kind.
+fn are_passthrough_answers(answers: &[Answer]) -> bool {
+    matches!(
+        answers,
+        [
+            Answer::VastModule(_),
+            Answer::VastDataType(_),
+            Answer::LogicRef(_),
+            Answer::LogicRef(_),
+            Answer::ContinuousAssignment(_),
+            Answer::Nothing,
+        ]
+    )
+}
+
+#[test]
+fn six_steps_make_a_module(rt: HostRuntime) -> Result<(), Fail> {
+    let alloc = rt.alloc();
+    let mut file = empty_file(alloc);
+    let steps = passthrough_steps(alloc)?;
+    match replay(&mut file, &steps) {
+        Ok(answers) => assert!(rt; are_passthrough_answers(&answers)),
+        Err(_) => assert!(rt; false),
+    }
+    assert_eq!(rt;
+        file.emit()?.as_str(),
+        "module passthrough(\n  input wire [7:0] input_data,\n  output wire [7:0] output_data\n);\n  assign output_data = input_data;\nendmodule\n"
+    );
+    Ok(())
 }
 
 #[test]
