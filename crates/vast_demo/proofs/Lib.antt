@@ -1,7 +1,4 @@
 pub mod CallLists
-pub mod Checking
 pub mod DesignTexts
-pub mod Naming
 pub mod RegistersSteps
 pub mod RegistersText
-pub mod Streams

@@ -1,4 +1,3 @@
-pub mod Check
 pub mod DesignCalls
 pub mod DesignTexts
 pub mod RegistersFile
