@@ -1,7 +1,6 @@
-//! What no list of calls can show: handles of other files, ids, tests of conditions, words of errors, deep nests.
+//! What no list of calls can show: handles of other files, ids, words of errors, deep nests.
 
 mod arena;
-mod conditions;
 mod deep;
 mod errors;
 mod handles;
