@@ -1,8 +1,8 @@
-//! Deep nests and shared nodes.
+//! Deep nests, shared nodes and long texts.
 
 use std::alloc::Global;
 use std::test::Fail;
-use xlsynth_vast::{FileIds, VastFile, VastFileType};
+use xlsynth_vast::{FileIds, LiteralFormat, VastFile, VastFileType};
 
 fn empty_file(alloc: Global) -> VastFile {
     VastFile::new(alloc, VastFileType::SystemVerilog, &mut FileIds::new()).unwrap()
@@ -53,5 +53,16 @@ fn counts_the_bits_of_a_deep_array(rt: HostRuntime) -> Result<(), Fail> {
     }
     assert!(rt; file.owns(&array));
     assert_eq!(rt; file.type_flat_bit_count_as_int64(array)?, 1);
+    Ok(())
+}
+
+#[test]
+fn prints_the_widest_literal(rt: HostRuntime) -> Result<(), Fail> {
+    let mut file = empty_file(rt.alloc());
+    let wide = file.make_literal("bits[1048576]:1", &LiteralFormat::Hex)?;
+    assert!(rt; file.owns(&wide));
+    let text = file.emit_expression(&wide)?;
+    assert_eq!(rt; text.len(), 327_688);
+    assert!(rt; text.as_str().ends_with("_0001"));
     Ok(())
 }

@@ -143,3 +143,18 @@ fn handles_of_conditionals_cases_and_loops(rt: HostRuntime) -> Result<(), Fail> 
     assert!(rt; is_of_the_first(&files, &lanes));
     Ok(())
 }
+
+#[test]
+fn handles_of_equal_ids_are_told_by_what_the_files_hold(rt: HostRuntime) -> Result<(), Fail> {
+    let mut one = VastFile::new(rt.alloc(), VastFileType::Verilog, &mut FileIds::new()).unwrap();
+    let mut other = VastFile::new(rt.alloc(), VastFileType::Verilog, &mut FileIds::new()).unwrap();
+    let m = one.add_module("m")?;
+    assert!(rt; !other.owns(&m));
+    other.add_module("n")?;
+    assert!(rt; other.owns(&m));
+    let comment = one.make_comment("note")?;
+    let blank = other.make_blank_line()?;
+    assert!(rt; other.owns(&blank));
+    assert!(rt; !other.owns(&comment));
+    Ok(())
+}
