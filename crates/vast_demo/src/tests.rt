@@ -1,19 +1,8 @@
-//! The library's calls with ample memory, and their texts.
+//! What no list of calls can show: handles of other files, ids, words of errors, deep nests.
 
 mod arena;
-mod bench;
 mod deep;
-mod expressions;
-mod files;
+mod errors;
 mod first_program;
-mod functions;
-mod keywords;
-mod literals;
-mod loops;
-mod members;
-mod parameters;
-mod ports;
-mod reductions;
-mod registers;
-mod statements;
-mod types;
+mod handles;
+mod ids;
