@@ -1,4 +1,4 @@
-//! What no list of calls can show: handles of other files, ids, words of errors, deep nests.
+//! What no list of calls as text can show: handles of other files, ids, words of errors, deep nests, replays' answers.
 
 mod arena;
 mod deep;
@@ -6,3 +6,4 @@ mod errors;
 mod first_program;
 mod handles;
 mod ids;
+mod replay;

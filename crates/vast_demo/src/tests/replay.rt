@@ -1,11 +1,11 @@
 //! Replays with ample memory: the faults that are answered, and what the files hold after them.
 
-use crate::{
+use std::alloc::{AllocError, Global};
+use std::test::Fail;
+use vast_script::{
     Answer, ArtifactStep, ExpressionStep, ModuleStep, OperatorStep, ScriptFault, StatementStep,
     Step, TypeStep, replay,
 };
-use std::alloc::{AllocError, Global};
-use std::test::Fail;
 use xlsynth_vast::{FileIds, LiteralFormat, VastFile, VastFileType};
 
 fn empty_file(alloc: Global) -> VastFile {
