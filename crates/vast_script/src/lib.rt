@@ -28,6 +28,7 @@ mod tests;
 mod types;
 
 pub use answer::Answer;
+pub use arguments::Argument;
 pub use fault::ScriptFault;
 pub use script::replay;
 pub use step::{
