@@ -1,9 +1,9 @@
 //! One list: its dialect, its steps and its questions.
 
 use crate::arguments::{Arguments, Names};
-use crate::calls::step;
+use crate::calls::make_step;
 use crate::problem::Problem;
-use crate::questions::{Question, question};
+use crate::questions::{Question, make_question};
 use crate::taken::is_name;
 use std::alloc::Global;
 use std::str;
@@ -78,7 +78,7 @@ fn read_line<'a>(
 ) -> Result<(), Problem> {
     let (word, rest) = split_word(text_of(line)?);
     if word.starts_with('?') || word.starts_with('!') {
-        let question = question(word, Arguments::new(alloc, names, rest))?;
+        let question = make_question(word, Arguments::new(alloc, names, rest))?;
         list.questions.push((word, question))?;
         return Ok(());
     }
@@ -87,12 +87,12 @@ fn read_line<'a>(
     }
     match named_call(rest) {
         None => {
-            list.steps.push(step(word, Arguments::new(alloc, names, rest))?)?;
+            list.steps.push(make_step(word, Arguments::new(alloc, names, rest))?)?;
             Ok(())
         }
         Some(call) => {
             let (call, rest) = split_word(call);
-            list.steps.push(step(call, Arguments::new(alloc, names, rest))?)?;
+            list.steps.push(make_step(call, Arguments::new(alloc, names, rest))?)?;
             name_step(alloc, word, list.steps.len() - 1, names)
         }
     }

@@ -3,7 +3,7 @@
 use crate::input::ListLines;
 use crate::list::{BadLine, read_list};
 use crate::problem::Problem;
-use crate::report::{Entry, Report, report};
+use crate::report::{Entry, Report, report_on};
 use std::alloc::{AllocError, Global};
 use std::str;
 
@@ -41,7 +41,7 @@ pub(crate) fn list_output(alloc: Global, list: &ListLines<'_>) -> Result<String,
     match list.title {
         None => {
             let read = read_list(alloc, list.number, &list.lines)?;
-            design(report(alloc, read)?)
+            design(report_on(alloc, read)?)
         }
         Some(title) => {
             let number = list.number;
@@ -50,7 +50,7 @@ pub(crate) fn list_output(alloc: Global, list: &ListLines<'_>) -> Result<String,
                 return Err(ListFault::Line(BadLine { number, problem }));
             };
             let read = read_list(alloc, number, &list.lines)?;
-            Ok(titled(alloc, title, &report(alloc, read)?)?)
+            Ok(titled(alloc, title, &report_on(alloc, read)?)?)
         }
     }
 }

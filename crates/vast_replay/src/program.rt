@@ -3,6 +3,9 @@
 ghost use Rattle.std.specs.Prelude.{◌≡◌, ◌≤◌};
 ghost use Rattle.std.specs.Io.KnownBytes.{IsAtEnd};
 
+#[cfg(test)]
+mod tests;
+
 use crate::input::{ListLines, split_lists};
 use crate::list::BadLine;
 use crate::output::{ListFault, list_output};

@@ -39,7 +39,7 @@ pub(crate) struct Report {
 ///
 /// # Errors
 /// Want of memory.
-pub(crate) fn report(alloc: Global, list: List<'_>) -> Result<Report, AllocError> {
+pub(crate) fn report_on(alloc: Global, list: List<'_>) -> Result<Report, AllocError> {
     let List { dialect, steps, questions } = list;
     let mut entries = Vec::new(alloc);
     let (mut file, answers) = make(alloc, dialect, steps, &mut entries)?;
