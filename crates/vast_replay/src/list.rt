@@ -40,7 +40,10 @@ pub(crate) fn read_list<'a>(
         let problem = Problem::NoDialect;
         return Err(BadLine { number, problem });
     };
-    let dialect = dialect(first).map_err(|problem| BadLine { number: *number, problem })?;
+    let dialect = dialect(first).map_err(|problem| BadLine {
+        number: *number,
+        problem,
+    })?;
     let mut list = List {
         dialect,
         steps: Vec::new(alloc),
@@ -49,8 +52,10 @@ pub(crate) fn read_list<'a>(
     let mut names = Names::new(alloc);
     for (number, line) in lines {
         let number = *number;
-        read_line(alloc, line, &mut names, &mut list)
-            .map_err(|problem| BadLine { number, problem })?;
+        read_line(alloc, line, &mut names, &mut list).map_err(|problem| BadLine {
+            number,
+            problem,
+        })?;
     }
     Ok(list)
 }
@@ -87,12 +92,14 @@ fn read_line<'a>(
     }
     match named_call(rest) {
         None => {
-            list.steps.push(make_step(word, Arguments::new(alloc, names, rest))?)?;
+            list.steps
+                .push(make_step(word, Arguments::new(alloc, names, rest))?)?;
             Ok(())
         }
         Some(call) => {
             let (call, rest) = split_word(call);
-            list.steps.push(make_step(call, Arguments::new(alloc, names, rest))?)?;
+            list.steps
+                .push(make_step(call, Arguments::new(alloc, names, rest))?)?;
             name_step(alloc, word, list.steps.len() - 1, names)
         }
     }

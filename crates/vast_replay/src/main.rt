@@ -18,6 +18,11 @@ use program::run;
 use std::process::ExitCode;
 
 fn main(rt: HostRuntime) -> ExitCode {
-    let status = run(rt.alloc(), &mut rt.stdin(), &mut rt.stdout(), &mut rt.stderr());
+    let status = run(
+        rt.alloc(),
+        &mut rt.stdin(),
+        &mut rt.stdout(),
+        &mut rt.stderr(),
+    );
     ExitCode::from(status)
 }

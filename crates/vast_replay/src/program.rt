@@ -45,12 +45,7 @@ pub fn run<R: Read, W: Write, E: Write>(
     }
 }
 
-fn answer_lists<W: Write, E: Write>(
-    alloc: Global,
-    input: &[u8],
-    out: &mut W,
-    err: &mut E,
-) -> u8
+fn answer_lists<W: Write, E: Write>(alloc: Global, input: &[u8], out: &mut W, err: &mut E) -> u8
     ensures status { result ≤ 2 }
     ensures silent { result ≡ 0 → E.contents err.new ≡ E.contents err.old }
 {

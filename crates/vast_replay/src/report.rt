@@ -40,7 +40,11 @@ pub(crate) struct Report {
 /// # Errors
 /// Want of memory.
 pub(crate) fn report_on(alloc: Global, list: List<'_>) -> Result<Report, AllocError> {
-    let List { dialect, steps, questions } = list;
+    let List {
+        dialect,
+        steps,
+        questions,
+    } = list;
     let mut entries = Vec::new(alloc);
     let (mut file, answers) = make(alloc, dialect, steps, &mut entries)?;
     for (name, question) in &questions {

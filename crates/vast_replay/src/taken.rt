@@ -29,7 +29,11 @@ pub(crate) fn is_name(word: &str) -> bool {
     let is_word = word
         .bytes()
         .all(|byte| byte.is_ascii_alphanumeric() || byte == b'_');
-    is_word && word.bytes().next().is_some_and(|byte| !byte.is_ascii_digit())
+    is_word
+        && word
+            .bytes()
+            .next()
+            .is_some_and(|byte| !byte.is_ascii_digit())
 }
 
 /// The number of a step, or the name of one.

@@ -45,12 +45,32 @@ fn one_list_is_a_design(rt: HostRuntime) {
 #[test]
 fn a_fault_is_told_in_place_of_a_design(rt: HostRuntime) {
     let faults: [(&[u8], u8, &str); 8] = [
-        (b"verilog\nAddModule \"m\"\nMakeNot 0", 1, "refused: step 1: answer of another kind\n"),
-        (b"verilog\n?ModuleName 0", 1, "?ModuleName: refused: no such answer\n"),
-        (b"verilog\nMakeScalarType\n\n\n\n\nMakeNot 0", 2, "line 3: unknown call\n"),
-        (b"verilog\nMakeNot a", 2, "line 2: no earlier step has the name\n"),
+        (
+            b"verilog\nAddModule \"m\"\nMakeNot 0",
+            1,
+            "refused: step 1: answer of another kind\n",
+        ),
+        (
+            b"verilog\n?ModuleName 0",
+            1,
+            "?ModuleName: refused: no such answer\n",
+        ),
+        (
+            b"verilog\nMakeScalarType\n\n\n\n\nMakeNot 0",
+            2,
+            "line 3: unknown call\n",
+        ),
+        (
+            b"verilog\nMakeNot a",
+            2,
+            "line 2: no earlier step has the name\n",
+        ),
         (b"verilog\nMakeNot -1", 2, "line 2: number out of range\n"),
-        (b"verilog\nMakeConcat [ [ [ [ [", 2, "line 2: number expected\n"),
+        (
+            b"verilog\nMakeConcat [ [ [ [ [",
+            2,
+            "line 2: number expected\n",
+        ),
         (b"verilog\nAddModule \"\xff\"", 2, "line 2: not UTF-8\n"),
         (b"", 2, "line 1: `verilog` or `systemverilog` expected\n"),
     ];

@@ -55,7 +55,10 @@ pub(crate) fn answer_helper(
         }
         HelperQuestion::BitwiseOrReduceArrayElements(value, dimensions) => {
             let value: IndexableExpr = handle(file, answers, *value)?;
-            made_text(helpers::bitwise_or_reduce_array_elements(&value, dimensions, file), file)
+            made_text(
+                helpers::bitwise_or_reduce_array_elements(&value, dimensions, file),
+                file,
+            )
         }
         HelperQuestion::LogicalAndReduce(values, invert) => {
             let values: Vec<Expr> = handles(file, answers, values)?;

@@ -94,7 +94,10 @@ fn port_lines(file: &VastFile, ports: &[ModulePort]) -> Result<String, Refusal>
         let width = file.port_width(*port);
         let is_signed = file.type_is_signed(file.port_data_type(*port));
         let reference = file.logic_ref_name(file.port_logic_ref(*port))?;
-        write!(lines, "\n{name} {direction} {width} {is_signed} {reference}")?;
+        write!(
+            lines,
+            "\n{name} {direction} {width} {is_signed} {reference}"
+        )?;
     }
     Ok(lines)
 }

@@ -143,11 +143,7 @@ fn handle_if(
     }
 }
 
-fn scope_of(
-    file: &VastFile,
-    answers: &[Answer],
-    number: usize,
-) -> Result<RegisterScope, Refusal>
+fn scope_of(file: &VastFile, answers: &[Answer], number: usize) -> Result<RegisterScope, Refusal>
     ensures { IfOk result (λ scope. OwnsScope (bench file.now) scope) }
 {
     match answers.get(number) {

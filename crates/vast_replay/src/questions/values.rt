@@ -74,7 +74,10 @@ pub(crate) fn answer_value(
         }
         ValueQuestion::TypeFlatBitCountAsInt64(data_type) => {
             let data_type: VastDataType = handle(file, answers, *data_type)?;
-            Ok(file.type_flat_bit_count_as_int64(data_type)?.to_string(alloc)?)
+            Ok(
+                file.type_flat_bit_count_as_int64(data_type)?
+                    .to_string(alloc)?,
+            )
         }
         ValueQuestion::TypeIsSigned(data_type) => {
             let data_type: VastDataType = handle(file, answers, *data_type)?;
