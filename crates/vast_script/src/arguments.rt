@@ -10,7 +10,7 @@ use vast_core::Handle;
 use xlsynth_vast::VastFile;
 
 /// A kind of handle that a call takes.
-pub(crate) trait Argument: Handle + Copy {
+pub trait Argument: Handle + Copy {
     ghost use Rattle.std.specs.Prelude.{◌≡◌, ◌↔◌, IsTrue};
     ghost use Rattle.vast_core.specs.Bench.{Bench};
     ghost use Rattle.vast_script.specs.Kinds.{Kind};

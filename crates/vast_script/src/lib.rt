@@ -26,6 +26,7 @@ mod step;
 mod types;
 
 pub use answer::Answer;
+pub use arguments::Argument;
 pub use fault::ScriptFault;
 pub use script::replay;
 pub use step::{

@@ -1,0 +1,49 @@
+//! Calls by their names.
+
+mod artifacts;
+mod expressions;
+mod loops;
+mod modules;
+mod operators;
+mod statements;
+mod types;
+
+use crate::arguments::Arguments;
+use crate::problem::Problem;
+use artifacts::artifact_step;
+use expressions::expression_step;
+use loops::generate_loop_step;
+use modules::module_step;
+use operators::operator_step;
+use statements::statement_step;
+use types::data_type_step;
+use vast_script::Step;
+
+/// The call of the name over the arguments.
+///
+/// # Errors
+/// Where no call has the name or the arguments are not those of the call, and want of memory.
+pub(crate) fn make_step(name: &str, arguments: Arguments<'_>) -> Result<Step, Problem> {
+    if let Some(made) = operator_step(name, arguments) {
+        return Ok(Step::Operators(made?));
+    }
+    if let Some(made) = expression_step(name, arguments) {
+        return Ok(Step::Expressions(made?));
+    }
+    if let Some(made) = data_type_step(name, arguments) {
+        return Ok(Step::Types(made?));
+    }
+    if let Some(made) = module_step(name, arguments) {
+        return Ok(Step::Modules(made?));
+    }
+    if let Some(made) = generate_loop_step(name, arguments) {
+        return Ok(Step::Loops(made?));
+    }
+    if let Some(made) = statement_step(name, arguments) {
+        return Ok(Step::Statements(made?));
+    }
+    match artifact_step(name, arguments) {
+        Some(made) => Ok(Step::Artifacts(made?)),
+        None => Err(Problem::UnknownCall),
+    }
+}

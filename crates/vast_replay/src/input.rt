@@ -1,0 +1,50 @@
+//! The lists of an input, each by its lines.
+
+use std::alloc::{AllocError, Global};
+
+/// What begins the line before a list.
+const HEADER: &[u8] = b"== ";
+
+/// The lines of one list.
+#[derive(Drop)]
+pub(crate) struct ListLines<'a> {
+    /// What stands behind `== ` in the line before the list.
+    pub(crate) title: Option<&'a [u8]>,
+    /// The number of that line, from 1; 1 where there is none.
+    pub(crate) number: usize,
+    /// Each with its number in the input.
+    pub(crate) lines: Vec<(usize, &'a [u8])>,
+}
+
+/// The lists of the input, in order: where the first line is a header each header begins one, else there is one list
+/// without a header. The last line's break may be left out.
+///
+/// # Errors
+/// Want of memory.
+pub(crate) fn split_lists(alloc: Global, input: &[u8]) -> Result<Vec<ListLines<'_>>, AllocError> {
+    let mut lists = Vec::new(alloc);
+    let has_headers = input.starts_with(HEADER);
+    if !has_headers {
+        lists.push(ListLines {
+            title: None,
+            number: 1,
+            lines: Vec::new(alloc),
+        })?;
+    }
+    let lines = input.strip_suffix(b"\n").unwrap_or(input);
+    for (number, line) in (1usize..).zip(lines.split(|byte| *byte == b'\n')) {
+        match line.strip_prefix(HEADER) {
+            Some(title) if has_headers => lists.push(ListLines {
+                title: Some(title),
+                number,
+                lines: Vec::new(alloc),
+            })?,
+            _ => {
+                if let Some(list) = lists.last_mut() {
+                    list.lines.push((number, line))?;
+                }
+            }
+        }
+    }
+    Ok(lists)
+}

@@ -1,0 +1,159 @@
+//! The helper that adds registers.
+
+ghost use Rattle.std.specs.Prelude.{All, IfOk};
+ghost use Rattle.vast_core.specs.Nodes.{OptionHolds};
+ghost use Rattle.vast_core.specs.Bench.{OwnsExpr};
+ghost use Rattle.vast_core.specs.View.{bench};
+ghost use Rattle.xlsynth_vast.specs.Registers.{OwnsRegister, OwnsReset, OwnsScope};
+
+use crate::arguments::{Arguments, Taken};
+use crate::handles::handle;
+use crate::problem::Problem;
+use crate::refusal::Refusal;
+use vast_script::Answer;
+use xlsynth_vast::helpers::{RegisterDefinition, RegisterScope, Reset};
+use xlsynth_vast::{Expr, GenerateLoop, VastFile, VastModule, helpers};
+
+/// A reset, `[ signal active_low ]`.
+#[derive(Clone, Copy)]
+pub(crate) struct ResetNumbers {
+    signal: usize,
+    active_low: bool,
+}
+
+/// A register, `[ reg next reset_value? enable? ]`.
+#[derive(Clone, Copy)]
+pub(crate) struct RegisterNumbers {
+    reg: usize,
+    next: usize,
+    reset_value: Option<usize>,
+    enable: Option<usize>,
+}
+
+impl Taken for ResetNumbers {
+    fn take(arguments: &mut Arguments<'_>) -> Result<ResetNumbers, Problem> {
+        arguments.open()?;
+        let signal = usize::take(arguments)?;
+        let active_low = bool::take(arguments)?;
+        arguments.close()?;
+        Ok(ResetNumbers { signal, active_low })
+    }
+}
+
+impl Taken for RegisterNumbers {
+    fn take(arguments: &mut Arguments<'_>) -> Result<RegisterNumbers, Problem> {
+        arguments.open()?;
+        let reg = usize::take(arguments)?;
+        let next = usize::take(arguments)?;
+        let reset_value = <Option<usize> as Taken>::take(arguments)?;
+        let enable = <Option<usize> as Taken>::take(arguments)?;
+        arguments.close()?;
+        Ok(RegisterNumbers {
+            reg,
+            next,
+            reset_value,
+            enable,
+        })
+    }
+}
+
+/// Adds the registers to the scope, a module or a loop.
+///
+/// # Errors
+/// Where a number is no such answer, and where the helper refuses.
+pub(crate) fn add_registers(
+    file: &mut VastFile,
+    answers: &[Answer],
+    clk: usize,
+    reset: &Option<ResetNumbers>,
+    registers: &[RegisterNumbers],
+    scope: usize,
+) -> Result<(), Refusal> {
+    let clk: Expr = handle(file, answers, clk)?;
+    let reset = reset_of(file, answers, *reset)?;
+    let registers = definitions(file, answers, registers)?;
+    let scope = scope_of(file, answers, scope)?;
+    Ok(helpers::add_registers(&clk, reset, &registers, scope, file)?)
+}
+
+fn reset_of(
+    file: &VastFile,
+    answers: &[Answer],
+    reset: Option<ResetNumbers>,
+) -> Result<Option<Reset>, Refusal>
+    ensures { IfOk result (λ reset. OptionHolds (OwnsReset (bench file.now)) reset) }
+{
+    match reset {
+        None => Ok(None),
+        Some(reset) => {
+            let signal: Expr = handle(file, answers, reset.signal)?;
+            let active_low = reset.active_low;
+            Ok(Some(Reset { signal, active_low }))
+        }
+    }
+}
+
+fn definitions(
+    file: &VastFile,
+    answers: &[Answer],
+    registers: &[RegisterNumbers],
+) -> Result<Vec<RegisterDefinition>, Refusal>
+    ensures { IfOk result (λ made. All (OwnsRegister (bench file.now)) made.items) }
+{
+    let mut made = Vec::new(file.allocator());
+    for register in registers {
+        let register = definition(file, answers, *register)?;
+        made.push(register)?;
+    }
+    Ok(made)
+}
+
+fn definition(
+    file: &VastFile,
+    answers: &[Answer],
+    register: RegisterNumbers,
+) -> Result<RegisterDefinition, Refusal>
+    ensures { IfOk result (λ made. OwnsRegister (bench file.now) made) }
+{
+    let reg: Expr = handle(file, answers, register.reg)?;
+    let next: Expr = handle(file, answers, register.next)?;
+    let reset_value = handle_if(file, answers, register.reset_value)?;
+    let enable = handle_if(file, answers, register.enable)?;
+    Ok(RegisterDefinition {
+        reg,
+        next,
+        reset_value,
+        enable,
+    })
+}
+
+fn handle_if(
+    file: &VastFile,
+    answers: &[Answer],
+    number: Option<usize>,
+) -> Result<Option<Expr>, Refusal>
+    ensures { IfOk result (λ made. OptionHolds (OwnsExpr (bench file.now)) made) }
+{
+    match number {
+        None => Ok(None),
+        Some(number) => {
+            let expression: Expr = handle(file, answers, number)?;
+            Ok(Some(expression))
+        }
+    }
+}
+
+fn scope_of(file: &VastFile, answers: &[Answer], number: usize) -> Result<RegisterScope, Refusal>
+    ensures { IfOk result (λ scope. OwnsScope (bench file.now) scope) }
+{
+    match answers.get(number) {
+        Some(Answer::GenerateLoop(_)) => {
+            let owner: GenerateLoop = handle(file, answers, number)?;
+            Ok(RegisterScope::GenerateLoop(owner))
+        }
+        _ => {
+            let owner: VastModule = handle(file, answers, number)?;
+            Ok(RegisterScope::Module(owner))
+        }
+    }
+}

@@ -1,0 +1,102 @@
+//! Questions of expressions, types and words.
+
+use crate::arguments::Arguments;
+use crate::handles::handle;
+use crate::problem::Problem;
+use crate::refusal::Refusal;
+use vast_script::Answer;
+use xlsynth_vast::{Conditional, Expr, VastDataType, VastFile, is_system_verilog_keyword};
+
+/// A question of an expression, a type, a conditional or a word.
+#[derive(Drop)]
+pub(crate) enum ValueQuestion {
+    ConditionalHasElse(usize),
+    EmitExpression(usize),
+    IsSystemVerilogKeyword(String),
+    TypeCanBeCast(usize),
+    TypeCanBePacked(usize),
+    TypeFlatBitCountAsInt64(usize),
+    TypeIsSigned(usize),
+    TypeWidthAsInt64(usize),
+    TypeWidthExpr(usize),
+    WidthIsUsable(usize),
+}
+
+/// The question of the name over the arguments; `None` where no such question has the name.
+pub(crate) fn value_question(
+    name: &str,
+    arguments: Arguments<'_>,
+) -> Option<Result<ValueQuestion, Problem>> {
+    Some(match name {
+        "?ConditionalHasElse" => arguments.one(ValueQuestion::ConditionalHasElse),
+        "?EmitExpression" => arguments.one(ValueQuestion::EmitExpression),
+        "?IsSystemVerilogKeyword" => arguments.one(ValueQuestion::IsSystemVerilogKeyword),
+        "?TypeCanBeCast" => arguments.one(ValueQuestion::TypeCanBeCast),
+        "?TypeCanBePacked" => arguments.one(ValueQuestion::TypeCanBePacked),
+        "?TypeFlatBitCountAsInt64" => arguments.one(ValueQuestion::TypeFlatBitCountAsInt64),
+        "?TypeIsSigned" => arguments.one(ValueQuestion::TypeIsSigned),
+        "?TypeWidthAsInt64" => arguments.one(ValueQuestion::TypeWidthAsInt64),
+        "?TypeWidthExpr" => arguments.one(ValueQuestion::TypeWidthExpr),
+        "?WidthIsUsable" => arguments.one(ValueQuestion::WidthIsUsable),
+        _ => return None,
+    })
+}
+
+/// The answer to the question.
+///
+/// # Errors
+/// Where the question is refused.
+pub(crate) fn answer_value(
+    file: &VastFile,
+    answers: &[Answer],
+    question: &ValueQuestion,
+) -> Result<String, Refusal> {
+    let alloc = file.allocator();
+    match question {
+        ValueQuestion::ConditionalHasElse(conditional) => {
+            let conditional: Conditional = handle(file, answers, *conditional)?;
+            Ok(file.conditional_has_else(conditional).to_string(alloc)?)
+        }
+        ValueQuestion::EmitExpression(expression) => {
+            let expression: Expr = handle(file, answers, *expression)?;
+            Ok(file.emit_expression(&expression)?)
+        }
+        ValueQuestion::IsSystemVerilogKeyword(word) => {
+            Ok(is_system_verilog_keyword(word).to_string(alloc)?)
+        }
+        ValueQuestion::TypeCanBeCast(data_type) => {
+            let data_type: VastDataType = handle(file, answers, *data_type)?;
+            Ok(file.type_can_be_cast(data_type).to_string(alloc)?)
+        }
+        ValueQuestion::TypeCanBePacked(data_type) => {
+            let data_type: VastDataType = handle(file, answers, *data_type)?;
+            Ok(file.type_can_be_packed(data_type).to_string(alloc)?)
+        }
+        ValueQuestion::TypeFlatBitCountAsInt64(data_type) => {
+            let data_type: VastDataType = handle(file, answers, *data_type)?;
+            Ok(
+                file.type_flat_bit_count_as_int64(data_type)?
+                    .to_string(alloc)?,
+            )
+        }
+        ValueQuestion::TypeIsSigned(data_type) => {
+            let data_type: VastDataType = handle(file, answers, *data_type)?;
+            Ok(file.type_is_signed(data_type).to_string(alloc)?)
+        }
+        ValueQuestion::TypeWidthAsInt64(data_type) => {
+            let data_type: VastDataType = handle(file, answers, *data_type)?;
+            Ok(file.type_width_as_int64(data_type)?.to_string(alloc)?)
+        }
+        ValueQuestion::TypeWidthExpr(data_type) => {
+            let data_type: VastDataType = handle(file, answers, *data_type)?;
+            match file.type_width_expr(data_type) {
+                Some(width) => Ok(file.emit_expression(&width)?),
+                None => Ok(String::from_str(alloc, "-")?),
+            }
+        }
+        ValueQuestion::WidthIsUsable(width) => {
+            let width: Expr = handle(file, answers, *width)?;
+            Ok(file.width_is_usable(&width).to_string(alloc)?)
+        }
+    }
+}
