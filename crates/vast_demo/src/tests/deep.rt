@@ -5,7 +5,8 @@ use std::test::Fail;
 use xlsynth_vast::{FileIds, LiteralFormat, VastFile, VastFileType};
 
 fn empty_file(alloc: Global) -> VastFile {
-    VastFile::new(alloc, VastFileType::SystemVerilog, &mut FileIds::new()).unwrap()
+    let mut ids = FileIds::new();
+    VastFile::new(alloc, VastFileType::SystemVerilog, &mut ids).unwrap()
 }
 
 #[test]
@@ -31,7 +32,9 @@ fn prints_a_doubled_sum(rt: HostRuntime) -> Result<(), Fail> {
     let mut file = empty_file(rt.alloc());
     let m = file.add_module("m")?;
     let bit = file.make_scalar_type()?;
-    assert!(rt; file.owns(&m) && file.owns(&bit) && file.name_is_free(m, "a"));
+    assert!(rt; file.owns(&m));
+    assert!(rt; file.owns(&bit));
+    assert!(rt; file.name_is_free(m, "a"));
     let mut sum = file.add_input(m, "a", &bit)?.to_expr();
     for _ in 0..16 {
         assert!(rt; file.owns(&sum));

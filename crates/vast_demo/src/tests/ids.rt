@@ -20,17 +20,6 @@ fn the_last_id_makes_a_file_and_none_is_behind_it(rt: HostRuntime) {
 }
 
 #[test]
-fn spent_ids_are_said_in_words(rt: HostRuntime) -> Result<(), Fail> {
-    let mut ids = FileIds::after(u64::MAX);
-    match VastFile::new(rt.alloc(), VastFileType::Verilog, &mut ids) {
-        Ok(_) => assert!(rt; false),
-        Err(spent) => assert_eq!(rt; spent.to_string(rt.alloc())?.as_str(), "file ids are spent"),
-    }
-    assert!(rt; ids.is_spent());
-    Ok(())
-}
-
-#[test]
 fn a_file_has_its_dialect_and_allocator(rt: HostRuntime) -> Result<(), Fail> {
     let mut ids = FileIds::new();
     for dialect in [VastFileType::Verilog, VastFileType::SystemVerilog] {
