@@ -1,9 +1,8 @@
 -- What calls know that make a record, or that add to a file, a module's lists or a function's: what comes, and the entry
 -- that names it, are the file's.
-use Rattle.std.proofs.Common.{◌≡◌, ℕ, Bool, false, List, [], ◌∷◌, ◌++◌, length, Option, Some, None, All, String, string_bytes, refl, arith, length-append}
+use Rattle.std.proofs.Common.{◌≡◌, ℕ, Bool, List, [], ◌∷◌, length, Option, Some, String, string_bytes, refl, length-append}
 use Rattle.std.specs.declared.alloc.Global.{Global}
-use Rattle.vast_literal.specs.Tree.{NameTree, MaybeType, Typed}
-use Rattle.vast_core.specs.declared.handle.Expr.{Expr}
+use Rattle.vast_literal.specs.Tree.{NameTree, Typed}
 use Rattle.vast_core.specs.declared.handle.LogicRef.{LogicRef}
 use Rattle.vast_core.specs.declared.handle.ModulePort.{ModulePort}
 use Rattle.vast_core.specs.declared.handle.VastModule.{VastModule}
@@ -13,19 +12,17 @@ use Rattle.vast_core.specs.declared.kind.DataKind.{DataKind}
 use Rattle.vast_core.specs.declared.kind.ModulePortDirection.{ModulePortDirection}
 use Rattle.vast_core.specs.declared.node.Assignment.{Assignment}
 use Rattle.vast_core.specs.Nodes.{Root, ExprRoot, OptionHolds, with_root as with_node}
-use Rattle.vast_core.specs.Records.{PortRecord, ParameterPortRecord, ModuleRecord, MemberEntry, DeclarationEntry, ParameterEntry, FormEntry, ModuleEntry, FileEntry, DefinitionRecord, ArtifactRecord, InstanceRecord, new_module}
+use Rattle.vast_core.specs.Records.{PortRecord, ParameterPortRecord, DeclarationEntry, FileEntry, DefinitionRecord, ArtifactRecord, InstanceRecord}
 use Rattle.vast_core.specs.Nests.{VariableRecord}
-use Rattle.vast_core.specs.Bench.{Bench, OwnsExpr, OwnsType, OwnsModule, OwnsFunction, OwnsPort, OwnsLogicRef, NameIsFree, IsFreeInFunction, type_of}
-use Rattle.vast_core.specs.Growth.{next_module, next_port, next_logic_ref}
-use Rattle.vast_core.specs.DeclaredNames.{names_by_member, names_by_port}
-use Rattle.vast_core.specs.Parents.{held_by_member}
-use Rattle.vast_core.specs.Sound.{AssignmentSound, MemberSound, EntrySound, DefinitionSound, ArtifactSound, InstanceSound, FormSound, ParameterPortSound, GivesValues}
-use Rattle.vast_core.specs.WrittenKinds.{IsOwnKind, IsVariableKind, HasOwnKind}
+use Rattle.vast_core.specs.Bench.{Bench, OwnsExpr, OwnsType, OwnsModule, OwnsFunction, NameIsFree, IsFreeInFunction, type_of}
+use Rattle.vast_core.specs.Growth.{next_port, next_logic_ref}
+use Rattle.vast_core.specs.Sound.{AssignmentSound, EntrySound, DefinitionSound, ArtifactSound, InstanceSound, GivesValues}
+use Rattle.vast_core.specs.WrittenKinds.{IsOwnKind, IsVariableKind}
 use Rattle.vast_core.specs.Containers.{Nowhere, InFile, InHeader, InPorts, InModule, InFunction, GrowthSound, FreshSound, Fresh, no_fresh, fresh_assignment, with_fresh}
 use Rattle.vast_core.specs.Loops.{fresh_name, name_term}
 use Rattle.vast_core.proofs.Lists.{slice_get-seam}
-use Rattle.vast_core.proofs.NodeLaws.{Extends-root, HasExpr-kept, HasType-kept}
-use Rattle.vast_core.proofs.Sound.{MemberSound-kept, ParameterPortSound-kept, DefinitionSound-kept, ArtifactSound-kept, InstanceSound-kept}
+use Rattle.vast_core.proofs.NodeLaws.{Extends-root, HasType-kept}
+use Rattle.vast_core.proofs.Sound.{MemberSound-kept, ParameterPortSound-kept, ArtifactSound-kept, InstanceSound-kept}
 use Rattle.vast_core.proofs.Growing.{Grows-fresh}
 use Rattle.vast_core.proofs.Terms.{last-test}
 use Rattle.vast_core.proofs.Enters.{nothing-comes}
@@ -62,32 +59,6 @@ instance-stands b i h k =
 
 pub item-enters : (b : Bench) (e : FileEntry) → EntrySound b e → GrowthSound b (InFile e) no_fresh
 item-enters b e h = record { fresh = nothing-comes b b; listing = h; placed = refl }
-
-pub module-enters : (b : Bench) (name : List ℕ) → GrowthSound b (InFile (ModuleEntry (next_module b))) (record no_fresh { fresh_module = Some (new_module name) })
-module-enters b name =
-    record {
-      fresh = record {
-        term = tt;
-        assignment = tt;
-        container = tt;
-        port = tt;
-        fresh_module = record { sound = record { parameters = tt; ports = tt; members = tt }; names = record { taken = λ n. refl; once = λ n. omega arith }; parts = refl; kinds = tt };
-        function = tt;
-        definition = tt;
-        artifact = tt;
-        instance = tt;
-        always_block = tt;
-      };
-      listing = record { of_file = refl; of_kind = rw (length-append b.modules (new_module name ∷ [])) (last-test (length b.modules)) };
-      placed = refl;
-    }
-
-pub module-enters-as :
-    (b : Bench) (h : VastModule) (name : List ℕ) (ps : List ParameterPortRecord) (qs : List ModulePort) (ms : List MemberEntry) (names : List (List ℕ)) → h ≡ next_module b → ps ≡ [] → qs ≡ [] → ms ≡ [] → names ≡ [] →
-    GrowthSound b (InFile (ModuleEntry h)) (record no_fresh { fresh_module = Some (record { name = name; parameters = ps; ports = qs; members = ms; names = names }) })
-module-enters-as b h name ps qs ms names e f g k l = rw (e, f, g, k, l) (module-enters b name)
-
--- A name that comes.
 
 name-comes : (b : Bench) (name : String Global) (type : Option VastDataType) → OptionHolds (OwnsType b) type → FreshSound b (with_fresh (fresh_name name type) b) (fresh_name name type)
 name-comes b name type h = record { term = (h, tt); assignment = tt; container = tt; port = tt; fresh_module = tt; function = tt; definition = tt; artifact = tt; instance = tt; always_block = tt }

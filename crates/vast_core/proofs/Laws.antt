@@ -16,7 +16,7 @@ use Rattle.vast_core.specs.Nodes.{Root, ExprRoot, TypeRoot, IsOwned, is_expr_roo
 use Rattle.vast_core.specs.Bench.{Bench, OwnsExpr, OwnsIndexable, OwnsType, OwnsIndex, OwnsSlice, OwnsMacroRef, OwnsLogicRef, OwnsParameterRef, OwnsLocalparamRef, has_root, tree_of, trees_of, type_of}
 use Rattle.vast_core.specs.Growth.{with_root, with_expr, with_type, next_expr, next_type, next_index, next_slice, next_macro_ref, next_logic_ref}
 use Rattle.vast_core.proofs.Lists.{slice_get-seam, All-implies}
-use Rattle.vast_core.proofs.NodeLaws.{Extends-root, HasExpr-kept, HasType-kept, shape-kept, expr_in-kept, type_in-kept, exprs-kept}
+use Rattle.vast_core.proofs.NodeLaws.{Extends-root, HasExpr-kept, HasType-kept, expr_in-kept, type_in-kept, exprs-kept}
 
 pub next_owned : (b : Bench) (e : ExprTree) → OwnsExpr (with_expr b e) (next_expr b)
 next_owned b e = record { of_file = refl; of_kind = rw (slice_get-seam b.nodes.roots (ExprRoot e)) refl }
@@ -82,6 +82,7 @@ next_logic_ref_owned b name type = record { of_file = refl; of_kind = rw (slice_
 pub next_logic_ref_tree : (b : Bench) (e : ExprTree) → tree_of (with_expr b e) (logic_ref_to_expr (next_logic_ref b)) ≡ e
 next_logic_ref_tree b e = next_tree b e
 
+-- For callers: what a call answers is the file's then.
 pub ruleset next_handles = (next_index_owned, next_index_tree, next_slice_owned, next_slice_tree, next_macro_ref_owned, next_macro_ref_tree, next_logic_ref_owned, next_logic_ref_tree)
 
 -- A handle of a kind of its own is one of an expression.
@@ -130,29 +131,3 @@ parameter_ref_is_indexable b r h = as_expr is_name b r.id h
 pub ruleset conversions = (indexable_is_expr, expr_is_indexable, index_is_expr, slice_is_expr, macro_ref_is_expr, logic_ref_is_expr, parameter_ref_is_expr, localparam_ref_is_expr, index_is_indexable, logic_ref_is_indexable, parameter_ref_is_indexable)
 
 -- Handles of a kind of their own stay the file's.
-
-old_shape : (shape : ExprTree → Bool) (b : Bench) (r : Root) (id : Id) → IsOwned b.nodes.id id (has_root shape b id.index) → IsOwned (with_root b r).nodes.id id (has_root shape (with_root b r) id.index)
-old_shape shape b r id h = record { of_file = h.of_file; of_kind = shape-kept shape b.nodes (with_root b r).nodes (Extends-root b.nodes r) id.index h.of_kind }
-
-pub old_indexable_owned : (b : Bench) (r : Root) (h : IndexableExpr) → OwnsIndexable b h → OwnsIndexable (with_root b r) h
-old_indexable_owned b r h k = old_owned b r (indexable_expr_to_expr h) k
-
-pub old_index_owned : (b : Bench) (r : Root) (h : Index) → OwnsIndex b h → OwnsIndex (with_root b r) h
-old_index_owned b r h k = old_shape is_index b r h.id k
-
-pub old_slice_owned : (b : Bench) (r : Root) (h : Slice) → OwnsSlice b h → OwnsSlice (with_root b r) h
-old_slice_owned b r h k = old_shape is_slice b r h.id k
-
-pub old_macro_ref_owned : (b : Bench) (r : Root) (h : MacroRef) → OwnsMacroRef b h → OwnsMacroRef (with_root b r) h
-old_macro_ref_owned b r h k = old_shape is_macro b r h.id k
-
-pub old_logic_ref_owned : (b : Bench) (r : Root) (h : LogicRef) → OwnsLogicRef b h → OwnsLogicRef (with_root b r) h
-old_logic_ref_owned b r h k = old_shape is_name b r h.id k
-
-pub old_parameter_ref_owned : (b : Bench) (r : Root) (h : ParameterRef) → OwnsParameterRef b h → OwnsParameterRef (with_root b r) h
-old_parameter_ref_owned b r h k = old_shape is_name b r h.id k
-
-pub old_localparam_ref_owned : (b : Bench) (r : Root) (h : LocalparamRef) → OwnsLocalparamRef b h → OwnsLocalparamRef (with_root b r) h
-old_localparam_ref_owned b r h k = old_shape is_name b r h.id k
-
-pub ruleset older_handles = (old_indexable_owned, old_index_owned, old_slice_owned, old_macro_ref_owned, old_logic_ref_owned, old_parameter_ref_owned, old_localparam_ref_owned)

@@ -82,6 +82,9 @@ Grows-both b c d g h =
 pub Grows-growth : (b : Bench) (l : Listing) (f : Fresh) → Grows b (after_growth l f b)
 Grows-growth b l f = Grows-both b (with_fresh f b) (after_growth l f b) (Grows-fresh b f) (Grows-listing (with_fresh f b) l)
 
+-- For callers: what one growth leaves, or one behind another.
+pub ruleset growths = (Grows-growth, Grows-both)
+
 -- Expressions and types.
 
 pub expr_stays : (b c : Bench) → Grows b c → (e : Expr) → OwnsExpr b e → OwnsExpr c e
@@ -174,4 +177,5 @@ case_stays b c g h k = nest-kept is_case_kind b c h.id g never k
 pub loop_stays : (b c : Bench) → Grows b c → (h : GenerateLoop) → OwnsLoop b h → OwnsLoop c h
 loop_stays b c g h k = nest-kept is_loop_kind b c h.id g never k
 
+-- For callers: what was the file's stays the file's.
 pub ruleset stays = (expr_stays, tree_stays, type_stays, type_tree_stays, indexable_stays, logic_ref_stays, parameter_ref_stays, localparam_ref_stays, index_stays, slice_stays, macro_ref_stays, module_stays, port_stays, function_stays, instantiation_stays, def_stays, always_stays, statement_stays, continuous_stays, blank_line_stays, comment_stays, inline_stays, macro_statement_stays, block_stays, conditional_stays, case_stays, loop_stays)

@@ -1,7 +1,4 @@
-pub mod Checking
+pub mod CallLists
 pub mod DesignTexts
-pub mod EncoderSteps
-pub mod Naming
 pub mod RegistersSteps
 pub mod RegistersText
-pub mod Streams

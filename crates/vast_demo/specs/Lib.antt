@@ -1,5 +1,4 @@
-pub mod Check
+pub mod DesignCalls
 pub mod DesignTexts
-pub mod Encoder
 pub mod RegistersFile
 pub mod Words

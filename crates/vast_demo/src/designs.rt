@@ -1,30 +1,47 @@
 //! The designs that the program prints.
+//!
+//! `passthrough` and `cases` are lists of steps, which are replayed; `registers` makes its calls itself.
 
-ghost use Rattle.std.specs.Prelude.{◌≡◌, IfOk, string_bytes};
-ghost use Rattle.vast_demo.specs.DesignTexts.{passthrough_text};
+ghost use Rattle.std.specs.Prelude.{◌≡◌, IfOk, map, string_bytes};
+ghost use Rattle.vast_script.specs.Script.{call_of};
+ghost use Rattle.vast_demo.specs.DesignCalls.{calls_text};
 
 mod encoder;
 mod registers;
+mod wires;
 
 pub(crate) use encoder::cases;
 pub(crate) use registers::registers;
-use std::alloc::Global;
+use std::alloc::{AllocError, Global};
+use thiserror::Error;
+use vast_script::{ScriptFault, Step, replay};
+pub(crate) use wires::passthrough;
 use xlsynth_vast::{FileIds, VastFault, VastFile, VastFileType};
 
-/// A module whose output is its input.
+/// Why a list of steps has no text.
+#[derive(Debug, Drop, Error)]
+pub(crate) enum DesignFault {
+    /// A step is at fault.
+    #[error(transparent)]
+    Script(#[from] ScriptFault),
+    /// The text was refused.
+    #[error(transparent)]
+    Text(#[from] VastFault),
+    /// The memory for the steps was refused.
+    #[error("out of memory")]
+    Memory(#[from(alloc)] AllocError),
+}
+
+/// The text of the file that the steps build.
 ///
 /// # Errors
-/// Want of memory.
-pub(crate) fn passthrough(alloc: Global) -> Result<String, VastFault>
-    ensures { IfOk result (λ text. string_bytes text ≡ passthrough_text) }
+/// The first step at fault, a refused text, or want of memory.
+fn design_text(alloc: Global, steps: &[Step]) -> Result<String, DesignFault>
+    ensures { IfOk result (λ text. string_bytes text ≡ calls_text (map call_of steps.now)) }
 {
     let mut ids = FileIds::new();
     let mut file = VastFile::new(alloc, VastFileType::SystemVerilog, &mut ids).unwrap();
-    let module = file.add_module("passthrough")?;
-    let data_type = file.make_bit_vector_type(8, false)?;
-    let input = file.add_input(module, "input_data", &data_type)?;
-    let output = file.add_output(module, "output_data", &data_type)?;
-    let assignment = file.make_continuous_assignment(&output.to_expr(), &input.to_expr())?;
-    file.add_member_continuous_assignment(module, assignment)?;
-    file.emit()
+    let _answers = replay(&mut file, steps)?;
+    let text = file.emit()?;
+    Ok(text)
 }

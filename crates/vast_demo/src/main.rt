@@ -1,10 +1,7 @@
-//! Prints designs, `vast_demo passthrough`, `cases` or `registers`, and checks texts, `vast_demo check`.
+//! Prints designs: `vast_demo passthrough`, `vast_demo cases`, `vast_demo registers`.
 #![tactic(auto)]
 
-mod check;
 mod designs;
-mod input;
-mod output;
 mod program;
 #[cfg(test)]
 mod tests;

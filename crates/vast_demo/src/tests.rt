@@ -1,18 +1,9 @@
-//! The library's calls with ample memory, and their texts.
+//! What no list of calls as text can show: handles of other files, ids, words of errors, deep nests, replays' answers.
 
 mod arena;
-mod bench;
 mod deep;
-mod expressions;
-mod files;
-mod functions;
-mod keywords;
-mod literals;
-mod loops;
-mod members;
-mod parameters;
-mod ports;
-mod reductions;
-mod registers;
-mod statements;
-mod types;
+mod errors;
+mod first_program;
+mod handles;
+mod ids;
+mod replay;

@@ -172,10 +172,6 @@ unfolding after
 sign_scope ss s absent rest h = h
 sign_scope ss s (present k ok) rest h = refl
 
-sign_word : (k : Key) (us : List Token) → word_at (Reserved k ∷ us) ≡ None
-unfolding word_at
-sign_word k us = refl
-
 -- from the own_type on
 word_first : (f : Fueled) (m : ℕ) (k : Option Key) (w : List ℕ) (ts : List Token) (x : NormalDeclaration × List Token) → after DoubleColon ts ≡ None → unscoped f m k w (maybe_at is_sign ts) ≡ Some x → typed_on f m k (Word w ∷ ts) (word_at (Word w ∷ ts)) ≡ Some x
 unfolding typed_on worded

@@ -7,23 +7,14 @@ use Rattle.vast_literal.specs.NormalExpr.{unary_sign}
 use Rattle.vast_literal.specs.Spelling.{op_text}
 use Rattle.vast_literal.specs.LiteralToken.{is_number}
 use Rattle.vast_literal.specs.Plain.{is_identifier}
-use Rattle.vast_literal.specs.ExprTokens.{wrapped_tokens, comma_tail_tokens, comma_tokens}
+use Rattle.vast_literal.specs.ExprTokens.{wrapped_tokens}
 use Rattle.vast_literal.proofs.TokenReads.{stops, opens, Free, Divides, Reads}
-use Rattle.vast_literal.proofs.ScanLaws.{add_tokens-append, and_left, scan_word, scan_word_cast, scan_number, scan_number_cast, scan_operator, scan_not, scan_and, scan_or, scan_colon, opens_letter, opens_digit}
+use Rattle.vast_literal.proofs.ScanLaws.{add_tokens-append, scan_word, scan_word_cast, scan_number, scan_number_cast, scan_operator, scan_not, scan_and, scan_or, scan_colon}
 
 -- A text in parentheses where `wrapped`.
 abbrev pub paren : (wrapped : Bool) → List ℕ → List ℕ
 paren true a = 40 ∷ (a ++ (41 ∷ []))
 paren false a = a
-
--- Parts with a comma and a space between them.
-abbrev pub comma_tail : List (List ℕ) → List ℕ
-comma_tail [] = []
-comma_tail (a ∷ parts) = 44 ∷ 32 ∷ (a ++ comma_tail parts)
-
-abbrev pub commas : List (List ℕ) → List ℕ
-commas [] = []
-commas (a ∷ parts) = a ++ comma_tail parts
 
 -- A width stands bare before the apostrophe of a cast where its text is a number or a word.
 abbrev pub head_wrapped : List ℕ → Bool
@@ -110,25 +101,9 @@ cast_open : Free (39 ∷ 40 ∷ []) (Mark Apostrophe ∷ Mark OpenParen ∷ [])
 unfolding scan
 cast_open = record { at = λ rest. refl }
 
-nothing : Reads [] []
-nothing = record { at = λ rest h. refl }
-
 pub paren_reads : (b : Bool) {a : List ℕ} {ts : List Token} → Reads a ts → Reads (paren b a) (wrapped_tokens b ts)
 paren_reads true f = as_reads (enclosed open_paren f close_paren).free
 paren_reads false f = f
-
--- parts and their tokens, one by one
-pub data EachReads : List (List ℕ) → List (List Token) → Type 0 where
-  none : EachReads [] []
-  more : {a : List ℕ} {t : List Token} {parts : List (List ℕ)} {ts : List (List Token)} → Reads a t → EachReads parts ts → EachReads (a ∷ parts) (t ∷ ts)
-
-tail_stops : (xs : List (List ℕ)) (rest : List ℕ) → stops rest ≡ true → stops (comma_tail xs ++ rest) ≡ true
-tail_stops [] rest h = h
-tail_stops (x ∷ xs) rest h = refl
-
-comma_tail_reads : {xs : List (List ℕ)} {ts : List (List Token)} → EachReads xs ts → Reads (comma_tail xs) (comma_tail_tokens ts)
-comma_tail_reads none = nothing
-comma_tail_reads (more {parts} r e) = free_reads comma.free (reads_reads r (comma_tail_reads e) (tail_stops parts))
 
 -- a unary sign before a text that makes it no longer
 pub opens-append : (tight : Bool) (a b : List ℕ) → opens tight a ≡ true → opens tight (a ++ b) ≡ true
@@ -143,11 +118,6 @@ sign_reads XorReduceOp a k f = record { at = λ rest h. ap (cons_token (Operator
 sign_reads LogicalNotOp a k f = record { at = λ rest h. scan_not (a ++ rest) (opens-append true a rest k) ∙ ap (cons_token (Operator LogicNot)) (f.at rest h) }
 sign_reads AndReduceOp a k f = record { at = λ rest h. scan_and (a ++ rest) (opens-append true a rest k) ∙ ap (cons_token (Operator BitAnd)) (f.at rest h) }
 sign_reads OrReduceOp a k f = record { at = λ rest h. scan_or (a ++ rest) (opens-append true a rest k) ∙ ap (cons_token (Operator BitOr)) (f.at rest h) }
-
-pub sign_opens : (o : UnaryOp) (a : List ℕ) → opens false (op_text (unary_sign o) ++ a) ≡ true
-unfolding unary_sign
-sign_opens NegateOp a = refl
-sign_opens _ a = refl
 
 -- an infix sign between two spaces
 pub operator_divides : (op : Op) → Divides (32 ∷ (op_text op ++ (32 ∷ []))) (Operator op ∷ [])
@@ -188,19 +158,3 @@ head_cases a ts false f e = bare_free a ts (is_number a) (is_identifier a) f ref
 
 pub head_free : (a : List ℕ) {ts : List Token} → Reads a ts → Free (paren (head_wrapped a) a ++ (39 ∷ 40 ∷ [])) (wrapped_tokens (head_wrapped a) ts ++ (Mark Apostrophe ∷ Mark OpenParen ∷ []))
 head_free a {ts} f = head_cases a ts (head_wrapped a) f refl
-
--- the first byte of a bare head
-bare_opens : (tight : Bool) (a : List ℕ) (n p : Bool) → is_number a ≡ n → is_identifier a ≡ p → not (n || p) ≡ false → opens tight a ≡ true
-bare_opens tight [] n p en ep h = cc
-bare_opens tight (c ∷ cs) true p en ep h = opens_digit tight c cs (and_left _ _ en)
-bare_opens tight (c ∷ cs) false true en ep h = opens_letter tight c cs (and_left _ _ ep)
-bare_opens tight (c ∷ cs) false false en ep h = cc
-
--- a wrapped text begins by a parenthesis
-pub paren_opens : (tight b : Bool) (a : List ℕ) → (b ≡ false → opens tight a ≡ true) → opens tight (paren b a) ≡ true
-paren_opens true true a f = refl
-paren_opens false true a f = refl
-paren_opens tight false a f = f refl
-
-pub head_opens : (tight : Bool) (a : List ℕ) → opens tight (paren (head_wrapped a) a) ≡ true
-head_opens tight a = paren_opens tight (head_wrapped a) a (λ e. bare_opens tight a (is_number a) (is_identifier a) refl refl e)

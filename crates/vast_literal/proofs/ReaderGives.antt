@@ -18,9 +18,6 @@ stepped h r n e (suc m) small = e m (omega arith)
 pub now : {A : Type 0} {h : Reader → Option A} {r : A} → ((p : Reader) → h (reader_step p) ≡ Some r) → ReaderGives h r
 now {h = h} {r = r} e = record { from = suc zero; holds = stepped h r zero (λ m _. e (read_with m)) }
 
-pub at_once : {A : Type 0} {h : Reader → Option A} {r : A} → ((p : Reader) → h p ≡ Some r) → ReaderGives h r
-at_once {h = h} {r = r} e = record { from = zero; holds = λ m _. e (read_with m) }
-
 pub same : {A B : Type 0} {f : Reader → Option A} {h : Reader → Option B} {a : A} {r : B} →
     ((p : Reader) → f p ≡ Some a → h p ≡ Some r) → ReaderGives f a → ReaderGives h r
 same e x = record { from = x.from; holds = λ m small. e (read_with m) (x.holds m small) }

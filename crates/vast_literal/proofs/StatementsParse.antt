@@ -82,9 +82,6 @@ pub record Assigns (ts : List Token) (s : NormalStatement) : Type 0 where
   pub key : (rest : List Token) → CastOnly (key_at (ts ++ rest))
   pub parses : (rest : List Token) → Gives (λ p. simple_at p (ts ++ rest)) (s, rest)
 
-NoElse : List Token → Type 0
-NoElse ts = after_key ElseKey ts ≡ None
-
 pub record StatementParses (ts : List Token) (s : NormalStatement) : Type 0 where
   pub begins : Begins ts
   pub parses : (rest : List Token) → after_key ElseKey rest ≡ None → ReaderGives (λ q. q.statement (ts ++ rest)) (s, rest)

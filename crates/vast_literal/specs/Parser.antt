@@ -215,11 +215,3 @@ silent = record {
 unfoldable pub run : ℕ → Parser
 run zero = silent
 run (suc fuel) = step (run fuel)
-
-unfoldable pub all_of : NormalExpr → List Token → Option NormalExpr
-all_of t [] = Some t
-all_of t (_ ∷ _) = None
-
--- the one tree of all the tokens
-unfoldable pub parse : ℕ → List Token → Option NormalExpr
-parse fuel ts = (run fuel).expression_at ts >>= λ x. all_of x.0 x.1

@@ -1,19 +1,18 @@
 -- Laws of writing declarations.
-use Rattle.std.proofs.Common.{◌≡◌, ℕ, ℤ, pos, Bool, true, false, List, [], ◌∷◌, ◌++◌, Option, Some, None, refl, sym, ◌∙◌, ap, codes}
+use Rattle.std.proofs.Common.{◌≡◌, ℕ, ℤ, pos, Bool, true, false, List, [], ◌∷◌, ◌++◌, Some, None, refl, sym, ◌∙◌, ap, codes}
 use Rattle.std.specs.Prelude.{◌-ℤ◌}
 use Rattle.std.specs.Fmt.{signed_decimal}
-use Rattle.vast_literal.specs.Tree.{Dialect, ExprTree, TypeTree, ScalarTree, VectorTree, IntegerTree, IntTree, ExternalTree, PackageTree, Kind, RegKind, WireKind, LogicKind, IntegerKind, IntKind, UserKind, UntypedEnumKind, GenvarKind, PortTree, PortDirection, InputDirection, OutputDirection, InOutDirection, Untyped, Typed}
+use Rattle.vast_literal.specs.Tree.{Dialect, ExprTree, TypeTree, Kind, RegKind, WireKind, LogicKind, IntegerKind, IntKind, UserKind, UntypedEnumKind, GenvarKind, PortTree, PortDirection, InputDirection, OutputDirection, InOutDirection, Untyped, Typed}
 use Rattle.vast_print.specs.Printed.{Printed, plain_text, ◌⊕◌, gapped, spaced, wrapped}
 use Rattle.vast_print.specs.Page.{written, written_lines, beside_lines}
 use Rattle.vast_print.specs.Ink.{Ink, word, pour, pour_lines, hang_lines, stop}
 use Rattle.vast_print.specs.Levels.{limit_wraps}
 use Rattle.vast_print.specs.Text.{expr_text, package_text}
-use Rattle.vast_print.specs.Declaration.{base_of, packed_text, unpacked_text, limit_text, signed_word, unsigned_word, joined, based_text, type_text, name_text, kind_word, declaration_text, port_declaration_text, base_kind}
+use Rattle.vast_print.specs.Declaration.{base_of, unpacked_text, limit_text, signed_word, unsigned_word, joined, type_text, name_text, kind_word, declaration_text, port_declaration_text, base_kind}
 use Rattle.vast_print.specs.Layout.{port_text, parameter_port_text, direction_word}
 use Rattle.vast_print.specs.Words.{has_text, kind_opening, signed_opening, unsigned_opening, parameter_opening}
 use Rattle.vast_print.proofs.InkLaws.{pour-then, pour-empty, pour-word}
 use Rattle.vast_print.proofs.WordLaws.{words}
-use Rattle.vast_print.proofs.Lines.{word-word}
 
 pub plain-append : (a b : List ℕ) → plain_text (a ++ b) ≡ plain_text a ⊕ plain_text b
 unfolding plain_text ◌⊕◌
@@ -111,43 +110,6 @@ pour-joined d k p (c ∷ ds) =
     ap (λ x. pour d k (written x)) (spaced-then (spaced p) c ds)
     ∙ (a ∙ sym (ap (λ x. pour d (pour d k (written (spaced p))) (written x)) (spaced-plain c ds) ∙ b))
 
-pub pour-scalar-type : (d : ℕ) (k : Ink) (t : TypeTree) (signed : Bool) → base_of t ≡ ScalarTree signed →
-    pour d k (written (spaced (type_text t))) ≡ pour d (word k (signed_opening signed)) (written (spaced (plain_text (packed_text t))))
-unfolding type_text based_text
-pour-scalar-type d k t signed e =
-    rw e (pour-joined d k (plain_text (signed_word signed)) (packed_text t) ∙ ap (λ j. pour d j (written (spaced (plain_text (packed_text t))))) (pour-signed-word d k signed))
-
-pub pour-integer-type : (d : ℕ) (k : Ink) (t : TypeTree) (signed : Bool) → base_of t ≡ IntegerTree signed →
-    pour d k (written (spaced (type_text t))) ≡ pour d (word k (unsigned_opening signed)) (written (spaced (plain_text (packed_text t))))
-unfolding type_text based_text
-pour-integer-type d k t signed e =
-    rw e (pour-joined d k (plain_text (unsigned_word signed)) (packed_text t) ∙ ap (λ j. pour d j (written (spaced (plain_text (packed_text t))))) (pour-unsigned-word d k signed))
-
-pub pour-int-type : (d : ℕ) (k : Ink) (t : TypeTree) (signed : Bool) → base_of t ≡ IntTree signed →
-    pour d k (written (spaced (type_text t))) ≡ pour d (word k (unsigned_opening signed)) (written (spaced (plain_text (packed_text t))))
-unfolding type_text based_text
-pour-int-type d k t signed e =
-    rw e (pour-joined d k (plain_text (unsigned_word signed)) (packed_text t) ∙ ap (λ j. pour d j (written (spaced (plain_text (packed_text t))))) (pour-unsigned-word d k signed))
-
-pub pour-external-type : (d : ℕ) (k : Ink) (t : TypeTree) (name : List ℕ) → base_of t ≡ ExternalTree name →
-    pour d k (written (spaced (type_text t))) ≡ pour d (pour d k (written (spaced (plain_text name)))) (written (spaced (plain_text (packed_text t))))
-unfolding type_text based_text
-pour-external-type d k t name e = rw e (pour-joined d k (plain_text name) (packed_text t))
-
-pub pour-package-type : (d : ℕ) (k : Ink) (t : TypeTree) (scope name : List ℕ) → base_of t ≡ PackageTree scope name →
-    pour d k (written (spaced (type_text t)))
-    ≡ pour d (word (pour d (word (pour d k (written (plain_text scope))) (codes "::")) (written (plain_text name))) (codes " ")) (written (spaced (plain_text (packed_text t))))
-unfolding type_text based_text
-pour-package-type d k t scope name e =
-    rw e (pour-joined d k (package_text scope name) (packed_text t)
-    ∙ ap (λ j. pour d j (written (spaced (plain_text (packed_text t))))) (ap (λ x. pour d k (written x)) (spaced-package scope name) ∙ simp (package_then, pour-then, words)))
-
-pub pour-vector-type : (d : ℕ) (k : Ink) (t : TypeTree) (w : ExprTree) (v : Option ℤ) (signed : Bool) → base_of t ≡ VectorTree w v signed →
-    pour d k (written (spaced (type_text t)))
-    ≡ word (pour d (word (pour d (word k (signed_opening signed)) (written (plain_text (packed_text t)))) (codes "[")) (written (limit_text w v))) (codes ":0] ")
-unfolding type_text based_text
-pour-vector-type d k t w v signed e = rw e (simp (spaced-then, pour-then, pour-signed-word, words, word-word))
-
 -- a part with the space behind it, where it isn't empty
 pub pour-spaced : (d : ℕ) (k : Ink) (w : List ℕ) → has_text w ≡ true → pour d k (written (spaced (plain_text w))) ≡ word (pour d k (written (plain_text w))) (codes " ")
 pour-spaced d k [] h = absurd (cc (h))
@@ -156,9 +118,6 @@ pour-spaced d k (c ∷ w) h = ap (λ x. pour d k (written x)) (spaced-plain c w)
 pub pour-spaced-none : (d : ℕ) (k : Ink) (w : List ℕ) → has_text w ≡ false → pour d k (written (spaced (plain_text w))) ≡ k
 pour-spaced-none d k [] h = ap (λ x. pour d k (written x)) spaced-empty ∙ pour-empty d k
 pour-spaced-none d k (c ∷ w) h = absurd (cc (h))
-
-pub pour-spaced-empty : (d : ℕ) (k : Ink) → pour d k (written (spaced (plain_text []))) ≡ k
-pour-spaced-empty d k = pour-spaced-none d k [] refl
 
 -- limits of vectors
 
@@ -169,5 +128,3 @@ pour-limit-value d k w v = refl
 pub pour-limit : (d : ℕ) (k : Ink) (w : ExprTree) → pour d k (written (limit_text w None)) ≡ word (pour d k (written (wrapped (limit_wraps w) (expr_text w)))) (codes " - 1")
 unfolding limit_text
 pour-limit d k w = simp (pour-then, words)
-
-pub ruleset declarations = (pour-declaration, pour-port, pour-untyped-parameter, pour-typed-parameter, pour-scalar-type, pour-integer-type, pour-int-type, pour-external-type, pour-package-type, pour-vector-type, pour-spaced, pour-spaced-none, pour-spaced-empty, pour-limit-value, pour-limit)

@@ -5,7 +5,7 @@ use Rattle.vast_print.specs.Printed.{Printed, first_fault, plain_text, refused, 
 use Rattle.vast_print.specs.Page.{Page, print, print_lines, no_lines, line, one_line, inner, lead, above, beside, written, written_lines, note, commented, commented_lines}
 use Rattle.vast_print.specs.Draft.{Draft, whole, unwritten}
 use Rattle.vast_print.specs.Ink.{Ink, Wet, Stopped, word, next, stop, hang_lines, pour_lines, hang, pour}
-use Rattle.vast_print.proofs.Lines.{word-word, word-nothing, word-stopped, next-stopped, stop-stopped, stop-some, stop-stop, next-stop, hang-lines-stop, pour-lines-stop, hang-lines-stopped, pour-lines-stopped, hang-lines-above, pour-lines-beside, hang-lines-inner, hang-flush, hang-flush-on, lead-flush, Flush-written, written-append, Unbroken, written-unbroken, unbroken, written-one-line, written-break, commented-lines-above, whole-print, flat, pour-flat}
+use Rattle.vast_print.proofs.Lines.{word-word, word-nothing, word-stopped, next-stopped, stop-stopped, stop-some, stop-stop, hang-lines-stop, pour-lines-stop, hang-lines-stopped, pour-lines-stopped, hang-lines-above, pour-lines-beside, hang-lines-inner, hang-flush, hang-flush-on, lead-flush, Flush-written, written-append, Unbroken, written-unbroken, unbroken, written-one-line, written-break, commented-lines-above, whole-print, flat, pour-flat}
 
 -- lines
 
@@ -207,6 +207,3 @@ line-fault p r h = go p.fault h
     go (Some s) e = let b : stop (Wet (flat p.text poured.0)) (Some s) ≡ Stopped r = ap (λ x. stop x (Some s)) (sym poured.1) ∙ e in cc (b)
 
 pub ruleset comments = (commented-line, hang-line, word-word, word-stopped, next-stopped)
-
--- writing pages part by part
-pub ruleset flows = (hang-line, pour-line, hang-none, pour-none, hang-stopped, pour-stopped, word-stopped, next-stopped, word-word, hang-above, pour-above, pour-beside, hang-inner, hang-written, hang-lead, hang-beside, pour-then, pour-empty, pour-refused)

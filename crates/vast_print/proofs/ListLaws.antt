@@ -3,13 +3,13 @@ use Rattle.std.proofs.Common.{◌≡◌, ◌<◌, ◌≤◌, ℕ, zero, suc, ◌
 use Rattle.std.proofs.lemmas.List.{drop_all}
 use Rattle.std.proofs.lemmas.Bool.{lt-ltb}
 use Rattle.std.proofs.lemmas.Bool.Decides.{nat_tests}
-use Rattle.vast_literal.specs.Tree.{Dialect, Declaration, ExprTree, StatementTree, Statements, NoStatements, MoreStatements, Alternates, ElseIf, CaseWord, MaybeExpr, CaseArms, NoCaseArms, CaseArm, MemberTree, Members, NoMembers, MoreMembers}
+use Rattle.vast_literal.specs.Tree.{Dialect, Declaration, ExprTree, StatementTree, Statements, NoStatements, MoreStatements, Alternates, ElseIf, CaseWord, MaybeExpr, CaseArms, NoCaseArms, CaseArm}
 use Rattle.vast_print.specs.Printed.{Printed, plain_text, ◌⊕◌}
 use Rattle.vast_print.specs.Page.{lead, written}
 use Rattle.vast_print.specs.Ink.{Ink, word, next, hang, pour}
 use Rattle.vast_print.specs.Text.{expr_text}
 use Rattle.vast_print.specs.Statements.{statement_page, statements_page, block_page, alternates_page, arms_page, arm_page}
-use Rattle.vast_print.specs.Members.{entries_page, member_page, members_page, local_page, locals_page}
+use Rattle.vast_print.specs.Members.{entries_page, local_page, locals_page}
 use Rattle.vast_print.specs.Words.{comma, else_if_opening}
 use Rattle.vast_print.proofs.Lines.{word-nothing}
 use Rattle.vast_print.proofs.InkLaws.{hang-none, hang-above, hang-lead, pour-then}
@@ -57,20 +57,6 @@ statements-step f v e d k [] i x h g = absurd (omega arith)
 statements-step f v e d k (y ∷ xs) zero x h g =
     rw g (ap (λ p. hang d k (statements_page p)) (e y xs) ∙ hang-above d k (statement_page (v y)) (statements_page (f xs)))
 statements-step f v e d k (y ∷ xs) (suc i) x h g = rw (add-one (suc i)) (rw (add-one i) at (statements-step f v e d k xs i x (omega arith) g))
-
-pub members-end : {A : Type 0} (dialect : Dialect) (f : List A → Members) → f [] ≡ NoMembers → (d : ℕ) (k : Ink) (xs : List A) (i : ℕ) → length xs ≤ i → hang d k (members_page dialect (f (drop i xs))) ≡ k
-unfolding members_page
-members-end dialect f e d k xs i h = ap (λ x. hang d k (members_page dialect (f x))) (drop_all i xs h) ∙ (ap (λ x. hang d k (members_page dialect x)) e ∙ hang-none d k)
-
-pub members-step :
-    {A : Type 0} (dialect : Dialect) (f : List A → Members) (v : A → MemberTree) → ((x : A) (xs : List A) → f (x ∷ xs) ≡ MoreMembers (v x) (f xs)) →
-    (d : ℕ) (k : Ink) (xs : List A) (i : ℕ) (x : A) → i < length xs → x ≡ get_or xs i x →
-    hang d k (members_page dialect (f (drop i xs))) ≡ hang d (hang d k (member_page dialect (v x))) (members_page dialect (f (drop (i + 1) xs)))
-unfolding members_page member_page
-members-step dialect f v e d k [] i x h g = absurd (omega arith)
-members-step dialect f v e d k (y ∷ xs) zero x h g =
-    rw g (ap (λ p. hang d k (members_page dialect p)) (e y xs) ∙ hang-above d k (member_page dialect (v y)) (members_page dialect (f xs)))
-members-step dialect f v e d k (y ∷ xs) (suc i) x h g = rw (add-one (suc i)) (rw (add-one i) at (members-step dialect f v e d k xs i x (omega arith) g))
 
 pub locals-end : {A : Type 0} (dialect : Dialect) (v : A → Declaration) (d : ℕ) (k : Ink) (xs : List A) (i : ℕ) → length xs ≤ i → hang d k (locals_page dialect (map v (drop i xs))) ≡ k
 unfolding locals_page

@@ -1,7 +1,7 @@
 -- Laws of writing files and modules.
 use Rattle.std.proofs.Common.{◌≡◌, ◌<◌, ◌≤◌, ℕ, zero, suc, ◌+◌, ltb, List, [], ◌∷◌, length, get_or, map, drop, refl, ◌∙◌, ap, codes, arith, add-one}
 use Rattle.std.proofs.lemmas.List.{drop_all}
-use Rattle.vast_literal.specs.Tree.{Dialect, Members, NoMembers, MoreMembers, MemberTree, PortTree, ParameterPortTree, ModuleTree, FileItemTree, ModuleItem, IncludeItem, CommentItem, BlankItem}
+use Rattle.vast_literal.specs.Tree.{Dialect, Members, NoMembers, MoreMembers, MemberTree, PortTree, ParameterPortTree, ModuleTree, FileItemTree, IncludeItem, CommentItem, BlankItem}
 use Rattle.vast_print.specs.Printed.{plain_text}
 use Rattle.vast_print.specs.Page.{written, commented}
 use Rattle.vast_print.specs.Ink.{Ink, word, next, hang, pour}
@@ -44,10 +44,6 @@ hang-comment-item d k dialect text = refl
 pub hang-blank-item : (d : ℕ) (k : Ink) (dialect : Dialect) → hang d k (item_page dialect BlankItem) ≡ next d k
 unfolding item_page
 hang-blank-item d k dialect = hang-blank d k
-
-pub hang-module-item : (d : ℕ) (k : Ink) (dialect : Dialect) (m : ModuleTree) → hang d k (item_page dialect (ModuleItem m)) ≡ hang d k (module_page dialect m)
-unfolding item_page
-hang-module-item d k dialect m = refl
 
 -- a module: its header, its members, its end
 pub hang-module : (d : ℕ) (k : Ink) (dialect : Dialect) (m : ModuleTree) →
@@ -118,5 +114,3 @@ pub parameters-step :
     ≡ hang d (word (pour d (next (d + 1) k) (written (parameter_port_text dialect (v x)))) (comma (ltb (i + 1) (length xs)))) (parameter_ports_page dialect (map v (drop (i + 1) xs)))
 unfolding parameter_ports_page
 parameters-step dialect v d k xs i x h e = entries-step (parameter_port_text dialect) v d k xs i x h e
-
-pub ruleset modules = (hang-include, hang-comment-item, hang-blank-item, hang-module-item, hang-module, hang-body-none, hang-body, hang-header-bare, hang-header-ports, hang-header-parameters, hang-header-both, hang-items-none)

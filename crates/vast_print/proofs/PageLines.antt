@@ -5,7 +5,7 @@ use Rattle.vast_literal.specs.Scan.{State, scan, tokens, join_tokens, step, Gap,
 use Rattle.vast_literal.specs.LiteralToken.{every}
 use Rattle.vast_literal.proofs.TokenReads.{Free, Divides, Reads}
 use Rattle.vast_literal.proofs.ScanLaws.{not_true, and_left, and_right}
-use Rattle.vast_literal.proofs.Pieces.{add_tokens-nil, free_reads, free_free, reads_end, as_reads, reads_sep}
+use Rattle.vast_literal.proofs.Pieces.{add_tokens-nil, free_reads, free_free, reads_end, reads_sep}
 use Rattle.vast_print.specs.Page.{Line, indent, print_lines, one_line, inner_lines, beside_lines, written_lines, lead_lines}
 
 -- the lines without their depths
@@ -23,11 +23,6 @@ body [] = []
 body (l ∷ p) = onto l.bytes p
 
 -- bytes
-
-pub print-above : (p q : List Line) → print_lines (p ++ q) ≡ print_lines p ++ print_lines q
-unfolding print_lines
-print-above [] q = refl
-print-above (l ∷ p) q = simp (print-above p q, append_assoc)
 
 pub flat-above : (p q : List Line) → flat (p ++ q) ≡ flat p ++ flat q
 unfolding flat
@@ -149,12 +144,6 @@ filled-beside [] q h = cc
 filled-beside (l ∷ []) [] h = refl
 filled-beside (l ∷ []) (m ∷ q) h = refl
 filled-beside (l ∷ m ∷ p) q h = refl
-
--- lines, then a one_line that may go on
-onto-last : (v : List ℕ) (p : List Line) (w : List ℕ) → onto v (p ++ one_line w) ≡ v ++ (10 ∷ (flat p ++ w))
-unfolding flat
-onto-last v [] w = refl
-onto-last v (l ∷ p) w = ap (λ x. v ++ (10 ∷ x)) (onto-last l.bytes p w ∙ sym (append_assoc l.bytes (10 ∷ flat p) w))
 
 -- a comment, which runs to the end of its one_line
 comment_on : (w rest : List ℕ) → every (λ c. not (eqb c 10)) w ≡ true → scan InComment (w ++ (10 ∷ rest)) ≡ scan Gap rest

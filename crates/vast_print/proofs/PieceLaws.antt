@@ -16,7 +16,7 @@ use Rattle.vast_print.specs.Text.{expr_text, list_text, more_text, type_cast}
 use Rattle.vast_print.specs.Words.{separator, scalar_cast_closing, number_cast_closing}
 use Rattle.vast_print.specs.Pieces.{piece_text, piece_weight, PieceOwned, pieces_text, pieces_weight, PiecesOwned, exprs_weight, expr_weight}
 use Rattle.vast_print.proofs.InkLaws.{pour-then, pour-empty, pour-word, pour-stopped}
-use Rattle.vast_print.proofs.TextLaws.{pour-wrapped, pour-bare, pour-name, pour-literal, pour-string, pour-unary, pour-ternary, pour-index, pour-slice, pour-scalar-index, pour-scalar-slice, pour-refused-index, pour-refused-slice, pour-part-select, pour-concat, pour-parts, pour-replicated, pour-pattern-list, pour-macro, pour-no-arguments, pour-arguments, pour-call, pour-rising, pour-falling, pour-type-cast, pour-width-cast, pour-scalar-cast, pour-vector-cast, pour-integer-cast, pour-int-cast, pour-external-cast, pour-package-cast}
+use Rattle.vast_print.proofs.TextLaws.{pour-wrapped, pour-bare, pour-name, pour-literal, pour-string, pour-unary, pour-ternary, pour-index, pour-scalar-index, pour-scalar-slice, pour-refused-index, pour-refused-slice, pour-concat, pour-parts, pour-replicated, pour-pattern-list, pour-macro, pour-no-arguments, pour-arguments, pour-call, pour-rising, pour-falling, pour-type-cast, pour-width-cast, pour-scalar-cast, pour-vector-cast, pour-integer-cast, pour-int-cast, pour-external-cast, pour-package-cast}
 use Rattle.vast_print.proofs.WordLaws.{pour-question, pour-alternative, pour-bracket, pour-close-bracket, pour-colon, pour-part, pour-brace, pour-close-brace, pour-close, pour-cast}
 use Rattle.vast_print.proofs.NumberLaws.{pour-number}
 use Rattle.vast_print.proofs.SeparatedLaws.{rest_text}

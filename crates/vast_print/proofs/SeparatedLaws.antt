@@ -19,31 +19,6 @@ abbrev pub rest_text : ℕ → Exprs → Printed
 rest_text zero es = list_text es
 rest_text (suc i) es = more_text es
 
-pour-more : (d : ℕ) (k : Ink) (e : ExprTree) (es : Exprs) → pour d k (written (more_text (MoreExprs e es))) ≡ pour d (pour d (word k (codes ", ")) (written (expr_text e))) (written (more_text es))
-unfolding more_text expr_text
-pour-more d k e es = simp (pour-then, words)
-
-pour-list : (d : ℕ) (k : Ink) (e : ExprTree) (es : Exprs) → pour d k (written (list_text (MoreExprs e es))) ≡ pour d (pour d k (written (expr_text e))) (written (more_text es))
-unfolding list_text more_text expr_text
-pour-list d k e es = simp pour-then
-
-more-step :
-    {A : Type 0} (f : List A → Exprs) (v : A → ExprTree) → ((x : A) (xs : List A) → f (x ∷ xs) ≡ MoreExprs (v x) (f xs)) →
-    (d : ℕ) (k : Ink) (xs : List A) (i : ℕ) (x : A) → i < length xs → x ≡ get_or xs i x →
-    pour d k (written (more_text (f (drop i xs)))) ≡ pour d (pour d (word k (codes ", ")) (written (expr_text (v x)))) (written (more_text (f (drop (i + 1) xs))))
-more-step f v e d k [] i x h g = absurd (omega arith)
-more-step f v e d k (y ∷ xs) zero x h g = rw g (ap (λ p. pour d k (written (more_text p))) (e y xs) ∙ pour-more d k (v y) (f xs))
-more-step f v e d k (y ∷ xs) (suc i) x h g = rw (add-one (suc i)) (rw (add-one i) at (more-step f v e d k xs i x (omega arith) g))
-
-pub list-step :
-    {A : Type 0} (f : List A → Exprs) (v : A → ExprTree) → ((x : A) (xs : List A) → f (x ∷ xs) ≡ MoreExprs (v x) (f xs)) →
-    (d : ℕ) (k : Ink) (xs : List A) (i : ℕ) (x : A) → i < length xs → x ≡ get_or xs i x →
-    pour d k (written (rest_text i (f (drop i xs)))) ≡ pour d (pour d (word k (separator i (codes ", "))) (written (expr_text (v x)))) (written (rest_text (i + 1) (f (drop (i + 1) xs))))
-list-step f v e d k [] i x h g = absurd (omega arith)
-list-step f v e d k (y ∷ xs) zero x h g =
-    rw (g, word-nothing k) (ap (λ p. pour d k (written (list_text p))) (e y xs) ∙ pour-list d k (v y) (f xs))
-list-step f v e d k (y ∷ xs) (suc i) x h g = rw (add-one (suc i)) (rw (add-one (suc i)) at (more-step f v e d k (y ∷ xs) (suc i) x h g))
-
 -- events joined by `or`
 
 -- what a list of events prints once i of its parts are printed

@@ -1,24 +1,21 @@
 -- Laws of writing expressions, one for each case.
 use Rattle.std.proofs.Common.{◌≡◌, ℕ, ℤ, Bool, true, false, not, List, refl, ◌∙◌, ap, codes, Option}
 use Rattle.std.specs.Prelude.{◌&&◌}
-use Rattle.std.specs.Fmt.{signed_decimal}
 use Rattle.vast_literal.specs.Tree.{UnaryOp, NegateOp, BitwiseNotOp, LogicalNotOp, AndReduceOp, OrReduceOp, XorReduceOp}
-use Rattle.vast_literal.specs.Tree.{BinaryOp, AddOp, SubOp, MulOp, DivOp, ModOp, PowerOp, BitwiseAndOp, BitwiseOrOp, BitwiseXorOp, ShllOp, ShraOp, ShrlOp, NeOp, CaseNeOp, EqOp, CaseEqOp, GeOp, GtOp, LeOp, LtOp, LogicalAndOp, LogicalOrOp, NeXOp, EqXOp}
-use Rattle.vast_literal.specs.Tree.{ExprTree, NameTree, LiteralTree, StringTree, UnaryTree, BinaryTree, TernaryTree, IndexTree, SliceTree, PartSelectTree, ConcatTree, PatternTree, WidthCastTree, TypeCastTree, PosEdgeTree, NegEdgeTree, MacroTree, CallTree, MissingExpr}
+use Rattle.vast_literal.specs.Tree.{ExprTree, NameTree, LiteralTree, StringTree, UnaryTree, TernaryTree, IndexTree, SliceTree, ConcatTree, PatternTree, WidthCastTree, TypeCastTree, PosEdgeTree, NegEdgeTree, MacroTree, CallTree}
 use Rattle.vast_literal.specs.Tree.{TypeTree, ScalarTree, VectorTree, IntegerTree, IntTree, ExternalTree, PackageTree, MaybeType, MaybeExpr, NoExpr, SomeExpr, Exprs, MaybeExprs, NoArguments, SomeArguments}
 use Rattle.vast_print.specs.declared.refusal.Refusal.TheVariants.{ScalarIndex, ScalarSlice}
 use Rattle.vast_print.specs.Printed.{Printed, plain_text, wrapped}
 use Rattle.vast_print.specs.Page.{written}
 use Rattle.vast_print.specs.Draft.{Draft}
 use Rattle.vast_print.specs.Ink.{Ink, Wet, Stopped, word, pour}
-use Rattle.vast_print.specs.Levels.{unary_sign_text, binary_sign_text, is_scalar_name, is_zero, unary_wraps, left_child_wraps, right_child_wraps, ternary_wraps, select_wraps}
+use Rattle.vast_print.specs.Levels.{unary_sign_text, is_scalar_name, is_zero, unary_wraps, ternary_wraps, select_wraps}
 use Rattle.vast_print.specs.Bare.{is_bare, is_bare_head}
 use Rattle.vast_print.specs.Text.{elided, cast_to, width_cast, package_text, expr_text, arguments_text, replicated, list_text, type_cast}
 use Rattle.vast_print.specs.Words.{cast_sign_word, scalar_cast_opening, scalar_cast_closing, number_cast_opening, number_cast_closing}
 use Rattle.vast_print.proofs.InkLaws.{pour-then, pour-empty, pour-word, pour-refused}
 use Rattle.vast_print.proofs.Lines.{word-word}
 use Rattle.vast_print.proofs.WordLaws.{words}
-use Rattle.vast_print.proofs.NumberLaws.{pour-number}
 use Rattle.vast_print.proofs.BareLaws.{bare-head}
 
 -- parentheses
@@ -62,38 +59,6 @@ pour-unary d k o e =
     pour-then d k (plain_text (unary_sign_text o)) (wrapped (unary_wraps e) (expr_text e))
     ∙ ap (λ j. pour d j (written (wrapped (unary_wraps e) (expr_text e)))) (pour-unary-sign d k o)
 
-pour-binary-sign : (d : ℕ) (k : Ink) (o : BinaryOp) → pour d k (written (plain_text (binary_sign_text o))) ≡ word k (binary_sign_text o)
-pour-binary-sign d k AddOp = pour-word d k (codes " + ") refl
-pour-binary-sign d k SubOp = pour-word d k (codes " - ") refl
-pour-binary-sign d k MulOp = pour-word d k (codes " * ") refl
-pour-binary-sign d k DivOp = pour-word d k (codes " / ") refl
-pour-binary-sign d k ModOp = pour-word d k (codes " % ") refl
-pour-binary-sign d k PowerOp = pour-word d k (codes " ** ") refl
-pour-binary-sign d k BitwiseAndOp = pour-word d k (codes " & ") refl
-pour-binary-sign d k BitwiseOrOp = pour-word d k (codes " | ") refl
-pour-binary-sign d k BitwiseXorOp = pour-word d k (codes " ^ ") refl
-pour-binary-sign d k ShllOp = pour-word d k (codes " << ") refl
-pour-binary-sign d k ShraOp = pour-word d k (codes " >>> ") refl
-pour-binary-sign d k ShrlOp = pour-word d k (codes " >> ") refl
-pour-binary-sign d k NeOp = pour-word d k (codes " != ") refl
-pour-binary-sign d k CaseNeOp = pour-word d k (codes " !== ") refl
-pour-binary-sign d k EqOp = pour-word d k (codes " == ") refl
-pour-binary-sign d k CaseEqOp = pour-word d k (codes " === ") refl
-pour-binary-sign d k GeOp = pour-word d k (codes " >= ") refl
-pour-binary-sign d k GtOp = pour-word d k (codes " > ") refl
-pour-binary-sign d k LeOp = pour-word d k (codes " <= ") refl
-pour-binary-sign d k LtOp = pour-word d k (codes " < ") refl
-pour-binary-sign d k LogicalAndOp = pour-word d k (codes " && ") refl
-pour-binary-sign d k LogicalOrOp = pour-word d k (codes " || ") refl
-pour-binary-sign d k NeXOp = pour-word d k (codes " !== ") refl
-pour-binary-sign d k EqXOp = pour-word d k (codes " === ") refl
-
-pub pour-binary : (d : ℕ) (k : Ink) (o : BinaryOp) (l r : ExprTree) →
-    pour d k (written (expr_text (BinaryTree o l r)))
-    ≡ pour d (word (pour d k (written (wrapped (left_child_wraps o l) (expr_text l)))) (binary_sign_text o)) (written (wrapped (right_child_wraps o r) (expr_text r)))
-unfolding expr_text
-pour-binary d k o l r = simp (pour-then, pour-binary-sign)
-
 pub pour-ternary : (d : ℕ) (k : Ink) (c l r : ExprTree) →
     pour d k (written (expr_text (TernaryTree c l r)))
     ≡ pour d (word (pour d (word (pour d k (written (wrapped (ternary_wraps c) (expr_text c)))) (codes " ? ")) (written (wrapped (ternary_wraps l) (expr_text l)))) (codes " : ")) (written (wrapped (ternary_wraps r) (expr_text r)))
@@ -107,12 +72,6 @@ pub pour-index : (d : ℕ) (k : Ink) (s i : ExprTree) → is_scalar_name s ≡ f
     ≡ word (pour d (word (pour d k (written (wrapped (select_wraps s) (expr_text s)))) (codes "[")) (written (expr_text i))) (codes "]")
 unfolding expr_text
 pour-index d k s i h = rw h (simp (pour-then, words))
-
-pub pour-slice : (d : ℕ) (k : Ink) (s h l : ExprTree) → is_scalar_name s ≡ false →
-    pour d k (written (expr_text (SliceTree s h l)))
-    ≡ word (pour d (word (pour d (word (pour d k (written (wrapped (select_wraps s) (expr_text s)))) (codes "[")) (written (expr_text h))) (codes ":")) (written (expr_text l))) (codes "]")
-unfolding expr_text
-pour-slice d k s h l e = rw e (simp (pour-then, words))
 
 pub pour-scalar-index : (d : ℕ) (k : Ink) (s i : ExprTree) → is_scalar_name s ≡ true → is_zero i ≡ true → pour d k (written (expr_text (IndexTree s i))) ≡ pour d k (written (expr_text s))
 unfolding expr_text elided
@@ -129,12 +88,6 @@ pour-refused-index d k s i h z = rw h (rw z (pour-refused d k ScalarIndex (expr_
 pub pour-refused-slice : (d : ℕ) (k : Draft) (s h l : ExprTree) → is_scalar_name s ≡ true → (is_zero h && is_zero l) ≡ false → pour d (Wet k) (written (expr_text (SliceTree s h l))) ≡ Stopped ScalarSlice
 unfolding expr_text elided
 pour-refused-slice d k s h l e z = rw e (rw z (pour-refused d k ScalarSlice (expr_text s)))
-
-pub pour-part-select : (d : ℕ) (k : Ink) (s i : ExprTree) (w : ℤ) →
-    pour d k (written (expr_text (PartSelectTree s i w)))
-    ≡ word (word (word (pour d (word (pour d k (written (wrapped (select_wraps s) (expr_text s)))) (codes "[")) (written (expr_text i))) (codes " +: ")) (signed_decimal w)) (codes "]")
-unfolding expr_text
-pour-part-select d k s i w = simp (pour-then, words, pour-number)
 
 -- lists
 
@@ -183,10 +136,6 @@ pour-rising d k e = simp (pour-then, words)
 pub pour-falling : (d : ℕ) (k : Ink) (e : ExprTree) → pour d k (written (expr_text (NegEdgeTree e))) ≡ pour d (word k (codes "negedge ")) (written (expr_text e))
 unfolding expr_text
 pour-falling d k e = simp (pour-then, words)
-
-pub pour-missing : (d : ℕ) (k : Ink) → pour d k (written (expr_text MissingExpr)) ≡ k
-unfolding expr_text
-pour-missing d k = pour-empty d k
 
 -- casts
 
@@ -250,7 +199,3 @@ pub pour-package-cast : (d : ℕ) (k : Ink) (scope name : List ℕ) (p : Printed
     ≡ word (pour d (word (pour d (word (pour d k (written (plain_text scope))) (codes "::")) (written (plain_text name))) (codes "'(")) (written p)) (codes ")")
 unfolding type_cast package_text
 pour-package-cast d k scope name p = simp (pour-cast-to, pour-then, words)
-
-pub ruleset texts = (pour-wrapped, pour-bare, pour-name, pour-literal, pour-string, pour-unary, pour-binary, pour-ternary, pour-index, pour-slice, pour-scalar-index, pour-scalar-slice, pour-refused-index, pour-refused-slice, pour-part-select, pour-concat, pour-parts, pour-replicated, pour-pattern-list, pour-macro, pour-no-arguments, pour-arguments, pour-call, pour-rising, pour-falling, pour-missing, pour-width-cast, pour-type-cast, pour-number)
-
-pub ruleset casts = (pour-scalar-cast, pour-vector-cast, pour-integer-cast, pour-int-cast, pour-external-cast, pour-package-cast)

@@ -162,5 +162,3 @@ pour-verilog-range d k x = pour-range d k (codes "[0:") (codes "]") (x -ℤ pos 
 pub pour-system-range : (d : ℕ) (k : Ink) (x : ℤ) →
     pour d k (written (plain_text (unpacked_range SystemVerilogDialect x))) ≡ word (word (word k (codes "[")) (signed_decimal x)) (codes "]")
 pour-system-range d k x = pour-range d k (codes "[") (codes "]") x refl refl
-
-pub ruleset types = (base-scalar, packed-scalar, unpacked-scalar, base-vector, packed-vector, unpacked-vector, base-integer, packed-integer, unpacked-integer, base-int, packed-int, unpacked-int, base-external, packed-external, unpacked-external, base-package, packed-package, unpacked-package, base-packed, base-unpacked, packed-packed, packed-unpacked, unpacked-packed, unpacked-unpacked, pour-append, pour-verilog-range, pour-system-range)

@@ -71,11 +71,6 @@ abbrev pub unsigned_word : Bool → List ℕ
 unsigned_word true = []
 unsigned_word false = codes "unsigned"
 
--- two words with a space between, where neither is empty
-abbrev pub gap : List ℕ → List ℕ
-gap [] = []
-gap (c ∷ w) = codes " "
-
 unfoldable pub joined : Printed → List ℕ → Printed
 joined p [] = p
 joined p (c ∷ w) = spaced p ⊕ plain_text (c ∷ w)

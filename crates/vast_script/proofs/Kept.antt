@@ -13,6 +13,7 @@ use Rattle.vast_core.proofs.Nests.{kind-changed}
 use Rattle.vast_core.proofs.Sound.{Grows, index-kept, artifact-kept, nest-kept, continuous-kept, OwnsPort-kept, never}
 use Rattle.vast_core.proofs.Growing.{Grows-fresh, Grows-listing}
 use Rattle.vast_core.proofs.Hoists.{Grows-changed}
+use Rattle.vast_print.specs.Text.{expr_text}
 use Rattle.vast_script.specs.Laws.{Keeps}
 
 -- A list that has all elements of another is as long.
@@ -47,6 +48,7 @@ keeps-grown b c g same =
       id = g.nodes.same_id;
       exprs = λ x h. HasExpr-kept b.nodes c.nodes g.nodes x h;
       trees = λ x h. expr_in-kept b.nodes c.nodes g.nodes x h;
+      texts = λ x h. ap expr_text (expr_in-kept b.nodes c.nodes g.nodes x h);
       types = λ x h. HasType-kept b.nodes c.nodes g.nodes x h;
       type_trees = λ x h. type_in-kept b.nodes c.nodes g.nodes x h;
       logic_refs = λ x h. record { of_file = h.of_file ∙ sym g.nodes.same_id; of_kind = shape-kept is_name b.nodes c.nodes g.nodes x.id.index h.of_kind };
@@ -81,6 +83,7 @@ keeps-same b =
       id = refl;
       exprs = λ x o. o;
       trees = λ x o. refl;
+      texts = λ x o. refl;
       types = λ x o. o;
       type_trees = λ x o. refl;
       logic_refs = λ x o. o;
@@ -115,6 +118,7 @@ keeps-then b c d h k =
       id = k.id ∙ h.id;
       exprs = λ x o. k.exprs x (h.exprs x o);
       trees = λ x o. k.trees x (h.exprs x o) ∙ h.trees x o;
+      texts = λ x o. k.texts x (h.exprs x o) ∙ h.texts x o;
       types = λ x o. k.types x (h.types x o);
       type_trees = λ x o. k.type_trees x (h.types x o) ∙ h.type_trees x o;
       logic_refs = λ x o. k.logic_refs x (h.logic_refs x o);

@@ -26,16 +26,18 @@ use Rattle.vast_core.specs.declared.handle.Conditional.{Conditional}
 use Rattle.vast_core.specs.declared.handle.CaseStatement.{CaseStatement}
 use Rattle.vast_core.specs.declared.handle.GenerateLoop.{GenerateLoop}
 use Rattle.vast_core.specs.Bench.{Bench, tree_of, type_of, OwnsExpr, OwnsType, OwnsLogicRef, OwnsParameterRef, OwnsLocalparamRef, OwnsIndex, OwnsSlice, OwnsMacroRef, OwnsIndexable, OwnsModule, OwnsPort, OwnsFunction, OwnsInstantiation, OwnsAlways, OwnsDef, OwnsStatement, OwnsContinuous, OwnsBlankLine, OwnsComment, OwnsInline, OwnsMacroStatement, OwnsBlock, OwnsConditional, OwnsCase, OwnsLoop}
+use Rattle.vast_print.specs.Text.{expr_text}
 use Rattle.vast_script.specs.declared.step.Step.{Step}
 use Rattle.vast_script.specs.Script.{built}
 
--- The file is of the same dialect and has the same id; it owns what it owned, and its expressions and types are what they
--- were.
+-- The file is of the same dialect and has the same id; it owns what it owned; its expressions and types are what they
+-- were, and each of its expressions is printed as the same text, or refused the same.
 pub record Keeps (b c : Bench) : Type 0 where
   pub file_type : c.file_type ≡ b.file_type
   pub id : c.nodes.id ≡ b.nodes.id
   pub exprs : (e : Expr) → OwnsExpr b e → OwnsExpr c e
   pub trees : (e : Expr) → OwnsExpr b e → tree_of c e ≡ tree_of b e
+  pub texts : (e : Expr) → OwnsExpr b e → expr_text (tree_of c e) ≡ expr_text (tree_of b e)
   pub types : (t : VastDataType) → OwnsType b t → OwnsType c t
   pub type_trees : (t : VastDataType) → OwnsType b t → type_of c t ≡ type_of b t
   pub logic_refs : (r : LogicRef) → OwnsLogicRef b r → OwnsLogicRef c r

@@ -23,7 +23,8 @@ pub trait Argument: Handle + Copy {
         ensures { result ≡ kind.of_answer answer };
 
     /// The test says what the file's contracts say.
-    ghost is_own: { (b : Bench) (handle : Self) → IsTrue (kind.is_own b handle) ↔ Self.owned b handle };
+    ghost is_own: { (b : Bench) (handle : Self) →
+        IsTrue (kind.is_own b handle) ↔ Self.owned b handle };
 }
 
 /// The answer of this number, as a handle of the kind.
@@ -83,7 +84,8 @@ pub(crate) fn three<A: Argument, B: Argument, C: Argument>(
     second: usize,
     third: usize,
 ) -> Result<(A, B, C), StepFault>
-    ensures finds { Finds result (three A.kind B.kind C.kind (bench file.now) answers.now first second third) }
+    ensures finds { Finds result
+        (three A.kind B.kind C.kind (bench file.now) answers.now first second third) }
     ensures first { IfOk result (λ p. A.owned (bench file.now) p.0) }
     ensures second { IfOk result (λ p. B.owned (bench file.now) p.1) }
     ensures third { IfOk result (λ p. C.owned (bench file.now) p.2) }

@@ -17,7 +17,8 @@ pub(crate) fn function_call(
     name: &str,
     arguments: &[usize],
 ) -> Result<Answer, StepFault>
-    ensures { Replays file.old file.new answers.now result (make_function_call name.now arguments.now) }
+    ensures { Replays file.old file.new answers.now result
+        (make_function_call name.now arguments.now) }
 {
     let arguments: Vec<Expr> = many(file, answers, arguments)?;
     if !is_named(name) {
@@ -47,7 +48,8 @@ pub(crate) fn replicated_concat(
     count: usize,
     parts: &[usize],
 ) -> Result<Answer, StepFault>
-    ensures { Replays file.old file.new answers.now result (make_replicated_concat count parts.now) }
+    ensures { Replays file.old file.new answers.now result
+        (make_replicated_concat count parts.now) }
 {
     let (count, parts): (Expr, Vec<Expr>) = one_and_many(file, answers, count, parts)?;
     let parts = references(file, &parts)?;
@@ -61,7 +63,8 @@ pub(crate) fn replicated_concat_i64(
     count: i64,
     parts: &[usize],
 ) -> Result<Answer, StepFault>
-    ensures { Replays file.old file.new answers.now result (make_replicated_concat_i64 count parts.now) }
+    ensures { Replays file.old file.new answers.now result
+        (make_replicated_concat_i64 count parts.now) }
 {
     let parts: Vec<Expr> = many(file, answers, parts)?;
     let parts = references(file, &parts)?;
@@ -74,7 +77,8 @@ pub(crate) fn array_assignment_pattern(
     answers: &[Answer],
     parts: &[usize],
 ) -> Result<Answer, StepFault>
-    ensures { Replays file.old file.new answers.now result (make_array_assignment_pattern parts.now) }
+    ensures { Replays file.old file.new answers.now result
+        (make_array_assignment_pattern parts.now) }
 {
     let parts: Vec<Expr> = many(file, answers, parts)?;
     let parts = references(file, &parts)?;
@@ -88,7 +92,8 @@ pub(crate) fn macro_ref_with_args(
     name: &str,
     arguments: &[usize],
 ) -> Result<Answer, StepFault>
-    ensures { Replays file.old file.new answers.now result (make_macro_ref_with_args name.now arguments.now) }
+    ensures { Replays file.old file.new answers.now result
+        (make_macro_ref_with_args name.now arguments.now) }
 {
     let arguments: Vec<Expr> = many(file, answers, arguments)?;
     let arguments = references(file, &arguments)?;

@@ -52,7 +52,8 @@ fn part_select(
     start: usize,
     width: i64,
 ) -> Result<Answer, StepFault>
-    ensures { Replays file.old file.new answers.now result (make_indexed_part_select subject start width) }
+    ensures { Replays file.old file.new answers.now result
+        (make_indexed_part_select subject start width) }
 {
     let (subject, start): (IndexableExpr, Expr) = two(file, answers, subject, start)?;
     if width < 1 {

@@ -30,7 +30,10 @@ fn instance(
     requires ports { length ports.now ≡ length wires.now }
     requires values { All (OwnsExpr (bench file.old)) values.now }
     requires wires { All (λ e. IfSome e (λ x. OwnsExpr (bench file.old) x)) wires.now }
-    ensures { Builds (bench file.old) (bench file.new) result (next_instantiation (bench file.old)) (with_instance (instance module_name.now instance_name.now (map string_bytes parameters.now) values.now (map string_bytes ports.now) wires.now) (bench file.old)) }
+    ensures { Builds (bench file.old) (bench file.new) result
+        (next_instantiation (bench file.old))
+        (with_instance (instance module_name.now instance_name.now (map string_bytes parameters.now)
+        values.now (map string_bytes ports.now) wires.now) (bench file.old)) }
 {
     let parameters = texts(file.allocator(), parameters)?;
     let values = references(file, values)?;
@@ -57,7 +60,9 @@ pub(crate) fn make_instantiation(
     ports: &[String],
     wires: &[Option<usize>],
 ) -> Result<Answer, StepFault>
-    ensures { Replays file.old file.new answers.now result (make_instantiation module_name.now instance_name.now (map string_bytes parameters.now) values.now (map string_bytes ports.now) wires.now) }
+    ensures { Replays file.old file.new answers.now result
+        (make_instantiation module_name.now instance_name.now (map string_bytes parameters.now)
+        values.now (map string_bytes ports.now) wires.now) }
 {
     let (values, wires): (Vec<Expr>, Vec<Option<Expr>>) = many_and_open(
         file, answers, values, wires,

@@ -23,8 +23,6 @@ mod operators;
 mod script;
 mod statements;
 mod step;
-#[cfg(test)]
-mod tests;
 mod types;
 
 pub use answer::Answer;

@@ -35,7 +35,8 @@ fn generate_add_always_ff(
     owner: usize,
     events: &[usize],
 ) -> Result<Answer, StepFault>
-    ensures { Replays file.old file.new answers.now result (generate_add_always AlwaysFF (codes "always_ff") owner events.now) }
+    ensures { Replays file.old file.new answers.now result
+        (generate_add_always AlwaysFF (codes "always_ff") owner events.now) }
 {
     let (owner, events): (GenerateLoop, Vec<Expr>) = one_and_many(file, answers, owner, events)?;
     let events = references(file, &events)?;
@@ -48,7 +49,8 @@ fn generate_add_always_at(
     owner: usize,
     events: &[usize],
 ) -> Result<Answer, StepFault>
-    ensures { Replays file.old file.new answers.now result (generate_add_always AlwaysAt (codes "always @") owner events.now) }
+    ensures { Replays file.old file.new answers.now result
+        (generate_add_always AlwaysAt (codes "always @") owner events.now) }
 {
     let (owner, events): (GenerateLoop, Vec<Expr>) = one_and_many(file, answers, owner, events)?;
     let events = references(file, &events)?;

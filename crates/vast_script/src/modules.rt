@@ -19,7 +19,8 @@ fn add_input(
     name: &str,
     data_type: usize,
 ) -> Result<Answer, StepFault>
-    ensures { Replays file.old file.new answers.now result (add_port Input Wire owner name.now data_type) }
+    ensures { Replays file.old file.new answers.now result
+        (add_port Input Wire owner name.now data_type) }
 {
     let (owner, data_type): (VastModule, VastDataType) = two(file, answers, owner, data_type)?;
     if !file.name_is_free(owner, name) {
@@ -35,7 +36,8 @@ fn add_output(
     name: &str,
     data_type: usize,
 ) -> Result<Answer, StepFault>
-    ensures { Replays file.old file.new answers.now result (add_port Output Wire owner name.now data_type) }
+    ensures { Replays file.old file.new answers.now result
+        (add_port Output Wire owner name.now data_type) }
 {
     let (owner, data_type): (VastModule, VastDataType) = two(file, answers, owner, data_type)?;
     if !file.name_is_free(owner, name) {
@@ -51,7 +53,8 @@ fn add_inout(
     name: &str,
     data_type: usize,
 ) -> Result<Answer, StepFault>
-    ensures { Replays file.old file.new answers.now result (add_port InOut Wire owner name.now data_type) }
+    ensures { Replays file.old file.new answers.now result
+        (add_port InOut Wire owner name.now data_type) }
 {
     let (owner, data_type): (VastModule, VastDataType) = two(file, answers, owner, data_type)?;
     if !file.name_is_free(owner, name) {
@@ -67,7 +70,8 @@ fn add_logic_input(
     name: &str,
     data_type: usize,
 ) -> Result<Answer, StepFault>
-    ensures { Replays file.old file.new answers.now result (add_port Input Logic owner name.now data_type) }
+    ensures { Replays file.old file.new answers.now result
+        (add_port Input Logic owner name.now data_type) }
 {
     let (owner, data_type): (VastModule, VastDataType) = two(file, answers, owner, data_type)?;
     if !file.name_is_free(owner, name) {
@@ -83,7 +87,8 @@ fn add_logic_output(
     name: &str,
     data_type: usize,
 ) -> Result<Answer, StepFault>
-    ensures { Replays file.old file.new answers.now result (add_port Output Logic owner name.now data_type) }
+    ensures { Replays file.old file.new answers.now result
+        (add_port Output Logic owner name.now data_type) }
 {
     let (owner, data_type): (VastModule, VastDataType) = two(file, answers, owner, data_type)?;
     if !file.name_is_free(owner, name) {

@@ -25,7 +25,8 @@ fn add_always_ff(
     owner: usize,
     events: &[usize],
 ) -> Result<Answer, StepFault>
-    ensures { Replays file.old file.new answers.now result (add_always AlwaysFF (codes "always_ff") owner events.now) }
+    ensures { Replays file.old file.new answers.now result
+        (add_always AlwaysFF (codes "always_ff") owner events.now) }
 {
     let (owner, events): (VastModule, Vec<Expr>) = one_and_many(file, answers, owner, events)?;
     let events = references(file, &events)?;
@@ -38,7 +39,8 @@ fn add_always_at(
     owner: usize,
     events: &[usize],
 ) -> Result<Answer, StepFault>
-    ensures { Replays file.old file.new answers.now result (add_always AlwaysAt (codes "always @") owner events.now) }
+    ensures { Replays file.old file.new answers.now result
+        (add_always AlwaysAt (codes "always @") owner events.now) }
 {
     let (owner, events): (VastModule, Vec<Expr>) = one_and_many(file, answers, owner, events)?;
     let events = references(file, &events)?;
@@ -51,7 +53,8 @@ fn add_else_if(
     conditional: usize,
     condition: usize,
 ) -> Result<Answer, StepFault>
-    ensures { Replays file.old file.new answers.now result (conditional_add_else_if conditional condition) }
+    ensures { Replays file.old file.new answers.now result
+        (conditional_add_else_if conditional condition) }
 {
     let (conditional, condition): (Conditional, Expr) = two(file, answers, conditional, condition)?;
     if file.conditional_has_else(conditional) {

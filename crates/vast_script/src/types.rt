@@ -17,7 +17,8 @@ fn vector_of(
     width: usize,
     signed: bool,
 ) -> Result<Answer, StepFault>
-    ensures { Replays file.old file.new answers.now result (make_bit_vector_type_expr width signed) }
+    ensures { Replays file.old file.new answers.now result
+        (make_bit_vector_type_expr width signed) }
 {
     let width: Expr = one(file, answers, width)?;
     if !file.width_is_usable(&width) {
@@ -32,7 +33,8 @@ fn packed_array(
     element: usize,
     dimensions: &[i64],
 ) -> Result<Answer, StepFault>
-    ensures { Replays file.old file.new answers.now result (make_packed_array_type element dimensions.now) }
+    ensures { Replays file.old file.new answers.now result
+        (make_packed_array_type element dimensions.now) }
 {
     let element: VastDataType = one(file, answers, element)?;
     if !(file.type_can_be_packed(element) && are_dimensions(dimensions)) {
@@ -47,7 +49,8 @@ fn unpacked_array(
     element: usize,
     dimensions: &[i64],
 ) -> Result<Answer, StepFault>
-    ensures { Replays file.old file.new answers.now result (make_unpacked_array_type element dimensions.now) }
+    ensures { Replays file.old file.new answers.now result
+        (make_unpacked_array_type element dimensions.now) }
 {
     let element: VastDataType = one(file, answers, element)?;
     if !are_dimensions(dimensions) {

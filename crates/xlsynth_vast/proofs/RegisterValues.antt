@@ -134,10 +134,6 @@ share-value v value (q ∷ rs) (suc i) r before d named e =
 
 -- One register.
 
-either : {A : Type 0} (t : Bool) (x : A) → (if t then x else x) ≡ x
-either true x = refl
-either false x = refl
-
 running : (v : ExprTree → Bool) (r : RegisterTree) (o : Option ExprTree) → r.enable ≡ o → IsTrue (is_name r.target) → settle v (running_value r) ≡ taken_outside v r
 running v r None e named = rw e refl
 running v r (Some enable) e named = rw (e, settle-name v r.target named) refl

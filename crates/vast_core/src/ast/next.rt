@@ -25,62 +25,6 @@ impl Ast {
         self.nests.len()
     }
 
-    #[tactic(auto, using(crate::proofs::Lengths::lengths), unfolding(crate::specs::View::bench))]
-    fn assignment_count(&self) -> usize
-        ensures { result ≡ length (bench self.now).assignments }
-    {
-        self.assignments.len()
-    }
-
-    #[tactic(auto, using(crate::proofs::Lengths::lengths), unfolding(crate::specs::View::bench))]
-    fn function_count(&self) -> usize
-        ensures { result ≡ length (bench self.now).functions }
-    {
-        self.functions.len()
-    }
-
-    #[tactic(auto, using(crate::proofs::Lengths::lengths), unfolding(crate::specs::View::bench))]
-    fn always_block_count(&self) -> usize
-        ensures { result ≡ length (bench self.now).always_blocks }
-    {
-        self.always_blocks.len()
-    }
-
-    #[tactic(auto, using(crate::proofs::Lengths::lengths), unfolding(crate::specs::View::bench))]
-    fn port_count(&self) -> usize
-        ensures { result ≡ length (bench self.now).ports }
-    {
-        self.ports.len()
-    }
-
-    #[tactic(auto, using(crate::proofs::Lengths::lengths), unfolding(crate::specs::View::bench))]
-    fn module_count(&self) -> usize
-        ensures { result ≡ length (bench self.now).modules }
-    {
-        self.modules.len()
-    }
-
-    #[tactic(auto, using(crate::proofs::Lengths::lengths), unfolding(crate::specs::View::bench))]
-    fn definition_count(&self) -> usize
-        ensures { result ≡ length (bench self.now).definitions }
-    {
-        self.definitions.len()
-    }
-
-    #[tactic(auto, using(crate::proofs::Lengths::lengths), unfolding(crate::specs::View::bench))]
-    fn artifact_count(&self) -> usize
-        ensures { result ≡ length (bench self.now).artifacts }
-    {
-        self.artifacts.len()
-    }
-
-    #[tactic(auto, using(crate::proofs::Lengths::lengths), unfolding(crate::specs::View::bench))]
-    fn instance_count(&self) -> usize
-        ensures { result ≡ length (bench self.now).instances }
-    {
-        self.instances.len()
-    }
-
     fn term_count(&self) -> usize
         ensures { result ≡ length (bench self.now).nodes.roots }
     {
@@ -102,22 +46,25 @@ impl Ast {
         self.id_at(self.nest_count() + 1)
     }
 
+    #[tactic(auto, using(crate::proofs::Lengths::lengths), unfolding(crate::specs::View::bench))]
     pub(crate) fn next_assignment(&self) -> Id
         ensures { result ≡ next_id (bench self.now) (length (bench self.now).assignments) }
     {
-        self.id_at(self.assignment_count())
+        self.id_at(self.assignments.len())
     }
 
+    #[tactic(auto, using(crate::proofs::Lengths::lengths), unfolding(crate::specs::View::bench))]
     pub(crate) fn next_function(&self) -> Id
         ensures { result ≡ next_id (bench self.now) (length (bench self.now).functions) }
     {
-        self.id_at(self.function_count())
+        self.id_at(self.functions.len())
     }
 
+    #[tactic(auto, using(crate::proofs::Lengths::lengths), unfolding(crate::specs::View::bench))]
     pub(crate) fn next_always_block(&self) -> Id
         ensures { result ≡ next_id (bench self.now) (length (bench self.now).always_blocks) }
     {
-        self.id_at(self.always_block_count())
+        self.id_at(self.always_blocks.len())
     }
 
     pub(crate) fn next_term(&self) -> Id
@@ -126,33 +73,38 @@ impl Ast {
         self.id_at(self.term_count())
     }
 
+    #[tactic(auto, using(crate::proofs::Lengths::lengths), unfolding(crate::specs::View::bench))]
     pub(crate) fn next_port(&self) -> Id
         ensures { result ≡ next_id (bench self.now) (length (bench self.now).ports) }
     {
-        self.id_at(self.port_count())
+        self.id_at(self.ports.len())
     }
 
+    #[tactic(auto, using(crate::proofs::Lengths::lengths), unfolding(crate::specs::View::bench))]
     pub(crate) fn next_module(&self) -> Id
         ensures { result ≡ next_id (bench self.now) (length (bench self.now).modules) }
     {
-        self.id_at(self.module_count())
+        self.id_at(self.modules.len())
     }
 
+    #[tactic(auto, using(crate::proofs::Lengths::lengths), unfolding(crate::specs::View::bench))]
     pub(crate) fn next_definition(&self) -> Id
         ensures { result ≡ next_id (bench self.now) (length (bench self.now).definitions) }
     {
-        self.id_at(self.definition_count())
+        self.id_at(self.definitions.len())
     }
 
+    #[tactic(auto, using(crate::proofs::Lengths::lengths), unfolding(crate::specs::View::bench))]
     pub(crate) fn next_artifact(&self) -> Id
         ensures { result ≡ next_id (bench self.now) (length (bench self.now).artifacts) }
     {
-        self.id_at(self.artifact_count())
+        self.id_at(self.artifacts.len())
     }
 
+    #[tactic(auto, using(crate::proofs::Lengths::lengths), unfolding(crate::specs::View::bench))]
     pub(crate) fn next_instance(&self) -> Id
         ensures { result ≡ next_id (bench self.now) (length (bench self.now).instances) }
     {
-        self.id_at(self.instance_count())
+        self.id_at(self.instances.len())
     }
 }

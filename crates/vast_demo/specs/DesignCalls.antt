@@ -1,0 +1,59 @@
+-- The designs that are lists of calls, and what a list of calls prints.
+use Rattle.std.specs.Prelude.{ℕ, pos, true, false, List, [], ◌∷◌, codes}
+use Rattle.vast_core.specs.declared.kind.VastFileType.TheVariants.{SystemVerilog}
+use Rattle.vast_core.specs.declared.kind.ModulePortDirection.TheVariants.{Input, Output}
+use Rattle.vast_core.specs.declared.kind.DataKind.TheVariants.{Wire, Reg}
+use Rattle.vast_core.specs.declared.kind.CaseKind.TheVariants.{CaseZ}
+use Rattle.vast_core.specs.Nests.{CommentStatement}
+use Rattle.vast_core.specs.Growth.{decimal_literal}
+use Rattle.vast_core.specs.Bench.{start}
+use Rattle.vast_core.specs.FileTree.{tree}
+use Rattle.vast_print.specs.Page.{print}
+use Rattle.vast_print.specs.Layout.{layout}
+use Rattle.vast_script.specs.Outcome.{Call}
+use Rattle.vast_script.specs.Script.{called}
+use Rattle.vast_script.specs.Types.{make_bit_vector_type}
+use Rattle.vast_script.specs.Expressions.{make_binary_pattern, make_leaf, make_function_call}
+use Rattle.vast_script.specs.Modules.{add_module, add_port}
+use Rattle.vast_script.specs.Artifacts.{make_continuous_assignment, add_member_continuous_assignment}
+use Rattle.vast_script.specs.Statements.{add_function, function_add_variable, function_body, function_result, block_add_case, case_set_unique, case_add_item, case_add_default, block_add_assignment, block_add}
+
+-- The text of the file that the calls build: the first that a program makes, in SystemVerilog.
+unfoldable pub calls_text : List Call → List ℕ
+calls_text calls = print (layout (tree (called (start SystemVerilog 1) calls)))
+
+unfoldable pub passthrough_calls : List Call
+passthrough_calls =
+    add_module (codes "passthrough")
+    ∷ make_bit_vector_type (pos 8) false
+    ∷ add_port Input Wire 0 (codes "input_data") 1
+    ∷ add_port Output Wire 0 (codes "output_data") 1
+    ∷ make_continuous_assignment 3 2
+    ∷ add_member_continuous_assignment 0 4
+    ∷ []
+
+unfoldable pub cases_calls : List Call
+cases_calls =
+    add_module (codes "encoder")
+    ∷ make_bit_vector_type (pos 4) false
+    ∷ make_bit_vector_type (pos 2) false
+    ∷ add_port Input Wire 0 (codes "s") 1
+    ∷ add_port Output Wire 0 (codes "y") 2
+    ∷ add_function 0 (codes "f") 2
+    ∷ function_add_variable false Reg (codes "input") 5 (codes "s") 1
+    ∷ function_body 5
+    ∷ function_result 5
+    ∷ block_add_case CaseZ 7 6
+    ∷ case_set_unique 9 true
+    ∷ make_binary_pattern (codes "1???")
+    ∷ make_leaf (decimal_literal (pos 2))
+    ∷ case_add_item 9 11
+    ∷ block_add_assignment false 13 8 12
+    ∷ make_leaf (decimal_literal (pos 0))
+    ∷ case_add_default 9
+    ∷ block_add (CommentStatement (codes "none")) 16
+    ∷ block_add_assignment false 16 8 15
+    ∷ make_function_call (codes "f") (3 ∷ [])
+    ∷ make_continuous_assignment 4 19
+    ∷ add_member_continuous_assignment 0 20
+    ∷ []
