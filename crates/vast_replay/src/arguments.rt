@@ -36,7 +36,7 @@ impl<'a> Arguments<'a> {
     }
 
     /// The bytes that are left.
-    pub(crate) fn len(&self) -> usize {
+    pub(crate) fn bytes_left(&self) -> usize {
         self.rest.map_or(0, |rest| rest.len())
     }
 
@@ -64,14 +64,11 @@ impl<'a> Arguments<'a> {
     pub(crate) fn skip(&mut self, sign: &str) -> bool {
         let mut behind = *self;
         match behind.word() {
-            Ok(word) => {
-                let is_next = word == sign;
-                if is_next {
-                    *self = behind;
-                }
-                is_next
+            Ok(word) if word == sign => {
+                *self = behind;
+                true
             }
-            Err(_) => false,
+            _ => false,
         }
     }
 

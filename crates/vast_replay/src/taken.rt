@@ -81,7 +81,7 @@ impl<T: Taken> Taken for Vec<T> {
         arguments.open()?;
         let mut items = Vec::new(arguments.allocator());
         // An item takes a word at least.
-        for _ in 0..arguments.len() {
+        for _ in 0..arguments.bytes_left() {
             if arguments.skip("]") {
                 return Ok(items);
             }
