@@ -64,6 +64,7 @@ within-nests b c g i below = kind-there is_some_kind c.nests i no-kind (rw (g.ne
 
 Extends-trans : (b c d : Nodes) → Extends b c → Extends c d → Extends b d
 Extends-trans b c d x y = record { same_id = y.same_id ∙ x.same_id; same_roots = λ i r e. y.same_roots i r (x.same_roots i r e) }
+
 pub Grows-both : (b c d : Bench) → Grows b c → Grows c d → Grows b d
 Grows-both b c d g h =
     record {
