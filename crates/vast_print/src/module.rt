@@ -67,28 +67,28 @@ fn print_opening(name: &str, end: &str, out: &mut Writer) -> Result<(), PrintFau
 
 /// Writes a module's header; a list that is empty isn't written.
 #[tactic(auto, using(crate::proofs::ArenaLaws::modules))]
-fn print_header(ast: &Ast, module: &Module, out: &mut Writer) -> Result<(), PrintFault>
-    requires parameters { All (λ p. ParameterPortSound (bench ast.now) (parameter_port_record p)) module.now.parameters.items }
-    requires ports { All (OwnsPort (bench ast.now)) module.now.ports.items }
-    ensures { Writes (hang 0 (Wet out.old) (header_page (dialect_of (bench ast.now).file_type) (module_record module.now).name (map (parameter_port_tree (bench ast.now)) (map parameter_port_record module.now.parameters.items)) (map (port_tree (bench ast.now)) module.now.ports.items))) out.new result }
+fn print_header(ast: &Ast, node: &Module, out: &mut Writer) -> Result<(), PrintFault>
+    requires parameters { All (λ p. ParameterPortSound (bench ast.now) (parameter_port_record p)) node.now.parameters.items }
+    requires ports { All (OwnsPort (bench ast.now)) node.now.ports.items }
+    ensures { Writes (hang 0 (Wet out.old) (header_page (dialect_of (bench ast.now).file_type) (module_record node.now).name (map (parameter_port_tree (bench ast.now)) (map parameter_port_record node.now.parameters.items)) (map (port_tree (bench ast.now)) node.now.ports.items))) out.new result }
 {
-    if !module.parameters.is_empty() {
-        print_opening(&module.name, " #(", out)?;
-        print_parameter_ports(ast, &module.parameters, 0, out)?;
+    if !node.parameters.is_empty() {
+        print_opening(&node.name, " #(", out)?;
+        print_parameter_ports(ast, &node.parameters, 0, out)?;
         out.next(0)?;
-        if !module.ports.is_empty() {
+        if !node.ports.is_empty() {
             out.word(") (")?;
-            print_ports(ast, &module.ports, 0, out)?;
+            print_ports(ast, &node.ports, 0, out)?;
             out.next(0)?;
         }
         out.word(");")?;
-    } else if !module.ports.is_empty() {
-        print_opening(&module.name, "(", out)?;
-        print_ports(ast, &module.ports, 0, out)?;
+    } else if !node.ports.is_empty() {
+        print_opening(&node.name, "(", out)?;
+        print_ports(ast, &node.ports, 0, out)?;
         out.next(0)?;
         out.word(");")?;
     } else {
-        print_opening(&module.name, ";", out)?;
+        print_opening(&node.name, ";", out)?;
     }
     Ok(())
 }
@@ -109,14 +109,14 @@ fn print_body(ast: &Ast, members: &[Member], out: &mut Writer) -> Result<(), Pri
 
 /// Writes a module: its header, its members and its end.
 #[tactic(auto, using(crate::proofs::ArenaLaws::modules))]
-fn print_parts(ast: &Ast, module: &Module, out: &mut Writer) -> Result<(), PrintFault>
-    requires parameters { All (λ p. ParameterPortSound (bench ast.now) (parameter_port_record p)) module.now.parameters.items }
-    requires ports { All (OwnsPort (bench ast.now)) module.now.ports.items }
-    requires members { All (λ m. MemberSound (bench ast.now) (member_entry m)) module.now.members.items }
-    ensures { Writes (hang 0 (Wet out.old) (module_page (dialect_of (bench ast.now).file_type) (module_tree (bench ast.now) (module_record module.now)))) out.new result }
+fn print_parts(ast: &Ast, node: &Module, out: &mut Writer) -> Result<(), PrintFault>
+    requires parameters { All (λ p. ParameterPortSound (bench ast.now) (parameter_port_record p)) node.now.parameters.items }
+    requires ports { All (OwnsPort (bench ast.now)) node.now.ports.items }
+    requires members { All (λ m. MemberSound (bench ast.now) (member_entry m)) node.now.members.items }
+    ensures { Writes (hang 0 (Wet out.old) (module_page (dialect_of (bench ast.now).file_type) (module_tree (bench ast.now) (module_record node.now)))) out.new result }
 {
-    print_header(ast, module, out)?;
-    print_body(ast, &module.members, out)?;
+    print_header(ast, node, out)?;
+    print_body(ast, &node.members, out)?;
     out.next(0)?;
     out.word(words::endmodule())?;
     Ok(())
