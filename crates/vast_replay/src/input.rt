@@ -3,7 +3,7 @@
 use std::alloc::{AllocError, Global};
 
 /// What begins the line before a list.
-const HEADER: &[u8] = b"== ";
+pub(crate) const HEADER: &[u8] = b"== ";
 
 /// The lines of one list.
 #[derive(Drop)]

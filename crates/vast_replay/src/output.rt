@@ -1,11 +1,10 @@
 //! What is printed of a list.
 
-use crate::input::ListLines;
+use crate::input::{HEADER, ListLines};
 use crate::list::{BadLine, read_list};
 use crate::problem::Problem;
 use crate::report::{Entry, Report, report_on};
 use std::alloc::{AllocError, Global};
-use std::str;
 
 /// Why nothing is printed of a list.
 #[derive(Drop)]
@@ -37,43 +36,37 @@ impl From<AllocError> for ListFault {
 ///
 /// # Errors
 /// A line that is not in the form, a refusal where there is no header, and want of memory.
-pub(crate) fn list_output(alloc: Global, list: &ListLines<'_>) -> Result<String, ListFault> {
+pub(crate) fn list_output(alloc: Global, list: &ListLines<'_>) -> Result<Vec<u8>, ListFault> {
+    let read = read_list(alloc, list.number, &list.lines)?;
+    let report = report_on(alloc, read)?;
     match list.title {
-        None => {
-            let read = read_list(alloc, list.number, &list.lines)?;
-            design(report_on(alloc, read)?)
-        }
-        Some(title) => {
-            let number = list.number;
-            let Ok(title) = str::from_utf8(title) else {
-                let problem = Problem::NotUtf8;
-                return Err(ListFault::Line(BadLine { number, problem }));
-            };
-            let read = read_list(alloc, number, &list.lines)?;
-            Ok(titled(alloc, title, &report_on(alloc, read)?)?)
-        }
+        None => design(report),
+        Some(title) => Ok(titled(alloc, title, &report)?),
     }
 }
 
 /// The file's text, where nothing was refused.
-fn design(report: Report) -> Result<String, ListFault> {
+fn design(report: Report) -> Result<Vec<u8>, ListFault> {
     for entry in report.answers {
         if let Entry::Refusal(refusal) = entry {
             return Err(ListFault::Refused(refusal));
         }
     }
     match report.file {
-        Entry::Text(text) => Ok(text),
+        Entry::Text(text) => Ok(text.into_bytes()),
         Entry::Refusal(refusal) => Err(ListFault::Refused(refusal)),
     }
 }
 
 /// The header and the whole report.
-fn titled(alloc: Global, title: &str, report: &Report) -> Result<String, AllocError> {
-    let mut text = format!(in alloc; "== {title}\n")?;
-    for entry in &report.answers {
-        text.push_str(entry.text())?;
+fn titled(alloc: Global, title: &[u8], report: &Report) -> Result<Vec<u8>, AllocError> {
+    let mut output = Vec::new(alloc);
+    for part in [HEADER, title, b"\n"] {
+        output.extend_from_slice(part)?;
     }
-    text.push_str(report.file.text())?;
-    Ok(text)
+    for entry in &report.answers {
+        output.extend_from_slice(entry.text().as_bytes())?;
+    }
+    output.extend_from_slice(report.file.text().as_bytes())?;
+    Ok(output)
 }

@@ -74,7 +74,7 @@ fn answer_list<W: Write, E: Write>(
     ensures silent { result ≡ 0 → E.contents err.new ≡ E.contents err.old }
 {
     match list_output(alloc, list) {
-        Ok(text) => match out.write_all(text.as_bytes()) {
+        Ok(output) => match out.write_all(&output) {
             Ok(()) => 0,
             Err(_) => fail("write fault", err),
         },

@@ -1,5 +1,9 @@
 //! Helpers, which make expressions or registers on the file.
 
+ghost use Rattle.std.specs.Prelude.{IfOk};
+ghost use Rattle.vast_core.specs.Bench.{OwnsExpr};
+ghost use Rattle.vast_core.specs.View.{bench};
+
 use crate::arguments::{Arguments, Taken};
 use crate::handles::{handle, handles};
 use crate::problem::Problem;
@@ -39,6 +43,7 @@ pub(crate) fn helper_question(
 ///
 /// # Errors
 /// Where the question is refused.
+#[tactic(auto, using(crate::proofs::Made::made_owned))]
 pub(crate) fn answer_helper(
     file: &mut VastFile,
     answers: &[Answer],
@@ -72,7 +77,9 @@ pub(crate) fn answer_helper(
 }
 
 /// The text of the expression that a helper made.
-fn made_text(made: Result<Expr, VastFault>, file: &VastFile) -> Result<String, Refusal> {
+fn made_text(made: Result<Expr, VastFault>, file: &VastFile) -> Result<String, Refusal>
+    requires { IfOk made (λ e. OwnsExpr (bench file.now) e) }
+{
     let expression = made?;
     Ok(file.emit_expression(&expression)?)
 }
