@@ -4,4 +4,4 @@ use Rattle.xlsynth_vast.specs.Registers.{OwnsRegister}
 use Rattle.vast_replay.proofs.questions.registers.definitions.Given as goal
 
 abbrev pub invariant-loop-register : goal.invariant-loop-register
-invariant-loop-register g l = All (OwnsRegister (bench l.file)) l.made.items
+invariant-loop-register l = All (OwnsRegister (bench l.file)) l.made.items
