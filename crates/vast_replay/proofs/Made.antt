@@ -1,5 +1,5 @@
 -- What a helper made is the file's.
-use Rattle.std.proofs.Common.{ℕ, List, Result, Ok, Err, IfOk, tt}
+use Rattle.std.proofs.Common.{ℕ, List, Result, Ok, Err, IfOk}
 use Rattle.vast_literal.specs.Tree.{ExprTree}
 use Rattle.vast_literal.specs.declared.error.VastFault.{VastFault}
 use Rattle.vast_literal.specs.declared.error.VastFault.TheVariants.{Refused, Memory}
