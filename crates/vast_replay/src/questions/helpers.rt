@@ -43,7 +43,6 @@ pub(crate) fn helper_question(
 ///
 /// # Errors
 /// Where the question is refused.
-#[tactic(auto, using(crate::proofs::Made::made_owned))]
 pub(crate) fn answer_helper(
     file: &mut VastFile,
     answers: &[Answer],
