@@ -1,4 +1,7 @@
 pub mod CallLists
+pub mod Checking
 pub mod DesignTexts
+pub mod Naming
 pub mod RegistersSteps
 pub mod RegistersText
+pub mod Streams

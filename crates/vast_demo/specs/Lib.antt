@@ -1,3 +1,4 @@
+pub mod Check
 pub mod DesignCalls
 pub mod DesignTexts
 pub mod RegistersFile
