@@ -27,7 +27,7 @@ text_without_file text ts e n x d = let h = d.has_parts in let c : d.parts ≡ t
 
 pub text_read_back : (text : List ℕ) (o : Option code.NormalFile) → IfSome o (λ x. DerivesFile text (file_view x)) →
     (o ≡ None → (t : NormalFile) → DerivesFile text t → ⊥) → (t : NormalFile) → DerivesFile text t → option_map file_view o ≡ Some t
-text_read_back text (Some x) d n t y = ap Some (file_once text (file_view x) t d y)
+text_read_back text (Some x) d n t y = ap (λ (u : NormalFile). Some u) (file_once text (file_view x) t d y)
 text_read_back text None d n t y = absurd (n refl t y)
 
 pub nothing_read_back : (text : List ℕ) → tokens text ≡ None → (t : NormalFile) → DerivesFile text t → None ≡ Some t
