@@ -3,6 +3,7 @@
 use super::postfix::tree_of;
 use crate::check::read_back::read_back;
 use std::alloc::Global;
+use std::process::Abort;
 use std::test::Fail;
 use vast_read::{
     NormalExpr, NormalFile, NormalItem, NormalMember, NormalStatement, read_normal,
@@ -43,9 +44,17 @@ fn is_read(alloc: Global, text: &str, program: &str) -> Result<bool, Fail> {
     })
 }
 
+/// Checks that each text is read as its program's tree.
+fn check_trees<R: Abort>(rt: &R, alloc: Global, rows: &[(&str, &str)]) -> Result<(), Fail> {
+    for (text, program) in rows {
+        assert!(rt; is_read(alloc, text, program)?, "{text}");
+    }
+    Ok(())
+}
+
 #[test]
-fn expressions(rt: HostRuntime) -> Result<(), Fail> {
-    for (text, program) in [
+fn operators(rt: HostRuntime) -> Result<(), Fail> {
+    let rows = [
         ("a - (b - c)", "a b c - -"),
         ("a - b - c", "a b - c -"),
         ("a-b", "a b -"),
@@ -60,41 +69,53 @@ fn expressions(rt: HostRuntime) -> Result<(), Fail> {
         ("-(-1)", "1 -. -."),
         ("a - -1", "a 1 -. -"),
         ("-1 ** a", "1 -. a **"),
-        ("-8'sd128", "8'sd128 -."),
-        ("128'hffee_ddcc_bbaa_9988_7766_5544_3322_1100", "128'hffee_ddcc_bbaa_9988_7766_5544_3322_1100"),
-        ("4'b1???", "4'b1???"),
-        ("'0 | 'X", "'0 'X |"),
-        ("\"a\\\"b\\\\\\n\\001\u{e9}\"", "\"a\\\"b\\\\\\n\\001\u{e9}\""),
+        ("a>>>b>>c", "a b >>> c >>"),
+        ("~^a!==b", "a ^. ~. b !=="),
+        ("elements[1][0] | elements[1][1]", "elements 1 [] 0 [] elements 1 [] 1 [] |"),
+    ];
+    check_trees(&rt, rt.alloc(), &rows)
+}
+
+#[test]
+fn selects_and_casts(rt: HostRuntime) -> Result<(), Fail> {
+    let rows = [
         ("(-1)[0]", "1 -. 0 []"),
         ("(a + b)[1]", "a b + 1 []"),
         ("s[3]", "s 3 []"),
         ("s[7:0]", "s 7 0 [:]"),
         ("s[0 +: 1]", "s 0 [+:1]"),
         ("v[64'h0000_0000_8000_0000]", "v 64'h0000_0000_8000_0000 []"),
-        ("elements[1][0] | elements[1][1]", "elements 1 [] 0 [] elements 1 [] 1 [] |"),
         ("(8'h08)'(x)", "8'h08 x '"),
         ("8'(x)", "8 x '"),
         ("W'(x)", "W x '"),
         ("(W)'(x)", "W x '"),
+        ("p::T'(x)", "x p::T'"),
         ("-(8'(x))", "8 x ' -."),
         ("unsigned'((-8'sd1)'(a))", "8'sd1 -. a ' unsigned'"),
+    ];
+    check_trees(&rt, rt.alloc(), &rows)
+}
+
+#[test]
+fn literals_and_lists(rt: HostRuntime) -> Result<(), Fail> {
+    let rows = [
+        ("-8'sd128", "8'sd128 -."),
+        ("128'hffee_ddcc_bbaa_9988", "128'hffee_ddcc_bbaa_9988"),
+        ("4'b1???", "4'b1???"),
+        ("'0 | 'X", "'0 'X |"),
+        ("8'hff+'sb0_1", "8'hff 'sb0_1 +"),
+        ("\"a\\\"b\\\\\\n\\001\u{e9}\"", "\"a\\\"b\\\\\\n\\001\u{e9}\""),
+        ("endmodulex // x\r\n", "endmodulex"),
         ("{}", "{}0"),
         ("{a, {b}}", "a b {}1 {}2"),
         ("{a{b}}", "a b x{}1"),
         ("{-1{a}}", "1 -. a x{}1"),
         ("'{a, b}", "a b '{}2"),
         ("$clog2(a)", "a $clog2()1"),
-        ("add_bytes(lhs, rhs)", "lhs rhs add_bytes()2"),
-        ("p::T'(x)", "x p::T'"),
         ("$signed(`W)", "`W $signed()1"),
-        ("a>>>b>>c", "a b >>> c >>"),
-        ("~^a!==b", "a ^. ~. b !=="),
-        ("8'hff+'sb0_1", "8'hff 'sb0_1 +"),
-        ("endmodulex // x\r\n", "endmodulex"),
-    ] {
-        assert!(rt; is_read(rt.alloc(), text, program)?, "{text}");
-    }
-    Ok(())
+        ("add_bytes(lhs, rhs)", "lhs rhs add_bytes()2"),
+    ];
+    check_trees(&rt, rt.alloc(), &rows)
 }
 
 /// Whether a declaration names a type, and how many groups stand before and behind its name.
