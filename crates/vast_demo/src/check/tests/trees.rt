@@ -5,9 +5,7 @@ use crate::check::read_back::read_back;
 use std::alloc::Global;
 use std::process::Abort;
 use std::test::Fail;
-use vast_read::{
-    NormalExpr, NormalFile, NormalItem, NormalMember, NormalStatement, read_normal,
-};
+use vast_read::{NormalExpr, NormalFile, NormalItem, NormalMember, NormalStatement, read_normal};
 use xlsynth_vast::{FileIds, VastFile, VastFileType};
 
 /// No such member was read.
@@ -185,13 +183,17 @@ fn texts_of_one_tree(rt: HostRuntime) -> Result<(), Fail> {
             "function automatic T f (); casez (s) a ? b : c: x = 1; endcase endfunction",
             "function automatic T f (); begin casez (s) a ? b : c: begin x = 1; end endcase end endfunction",
         ),
-        ("sub #(\n    .W(8)\n  ) u0 (\n    .a(x),\n    .b()\n  );", "sub#(.W(8))u0(.a(x),.b());"),
+        (
+            "sub #(\n    .W(8)\n  ) u0 (\n    .a(x),\n    .b()\n  );",
+            "sub#(.W(8))u0(.a(x),.b());",
+        ),
     ] {
         let tree = with_member(alloc, text)?;
         assert!(rt; tree.is_some(), "{text}");
         assert!(rt; tree == with_member(alloc, other)?, "{text}");
     }
-    assert!(rt; with_member(alloc, "assign a = b - (c - d);")? != with_member(alloc, "assign a = b - c - d;")?);
+    let other = with_member(alloc, "assign a = b - c - d;")?;
+    assert!(rt; with_member(alloc, "assign a = b - (c - d);")? != other);
     Ok(())
 }
 
