@@ -3,6 +3,7 @@
 ghost use Rattle.std.specs.Prelude.{◌↔◌, ℕ, List, IsTrue, IfOk};
 ghost use Rattle.vast_demo.specs.Check.{GivesAll, IsDerived};
 
+mod read_back;
 #[cfg(test)]
 mod tests;
 

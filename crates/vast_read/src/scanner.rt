@@ -19,8 +19,6 @@ mod keyword;
 mod literal;
 mod run;
 mod sign;
-#[cfg(test)]
-mod tests;
 mod word;
 
 /// The tokens of a text, where it has some. It takes memory for the tokens alone.

@@ -22,8 +22,11 @@ impl<'t> Reader<'t> {
     /// The name that stands next, where one does; it is then read.
     #[tactic(auto, using(crate::proofs::Nexts::words))]
     pub(crate) fn eat_word(&mut self) -> Option<&'t str>
-        ensures found { MatchOption result ((word_at self.old ≡ None) × (self.new ≡ self.old)) (λ w. word_at self.old ≡ Some (w.now, self.new)) }
-        ensures fewer { MatchOption result (length self.new ≤ length self.old) (λ _. length self.new < length self.old) }
+        ensures found { MatchOption result
+            ((word_at self.old ≡ None) × (self.new ≡ self.old))
+            (λ w. word_at self.old ≡ Some (w.now, self.new)) }
+        ensures fewer { MatchOption result
+            (length self.new ≤ length self.old) (λ _. length self.new < length self.old) }
     {
         match self.peek() {
             None => None,
@@ -40,7 +43,8 @@ impl<'t> Reader<'t> {
     /// The keyword of this class that stands next, or none.
     #[tactic(auto, using(crate::proofs::DeclarationLaws::maybes))]
     pub(crate) fn maybe_key(&mut self, class: KeyClass) -> Option<Key>
-        ensures found { maybe_at (class_test class) self.old ≡ (option_map key_view result, self.new) }
+        ensures found { maybe_at (class_test class) self.old
+            ≡ (option_map key_view result, self.new) }
         ensures fewer { length self.new ≤ length self.old }
     {
         match self.key_in(class) {
@@ -91,7 +95,8 @@ impl<'t> Reader<'t> {
     /// Reads a declaration behind its kind, its type and its sign.
     #[tactic(auto, using(crate::proofs::DeclarationLaws::heads))]
     pub(crate) fn headed(&mut self, head: &Head) -> Result<NormalDeclaration, Fault>
-        ensures reads { ReadsAs declaration_view result self.new (headed (head_view head.now) self.old) }
+        ensures reads { ReadsAs declaration_view result self.new
+            (headed (head_view head.now) self.old) }
         ensures fewer { length self.new ≤ length self.old }
     {
         let groups = self.groups()?;
@@ -108,7 +113,9 @@ impl<'t> Reader<'t> {
         scope: Option<&str>,
         type_name: Option<&str>,
     ) -> Result<NormalDeclaration, Fault>
-        ensures reads { ReadsAs declaration_view result self.new (signed_end (option_map key_view kind) (option_map (λ w. w.now) scope.entry) (option_map (λ w. w.now) type_name.entry) self.old) }
+        ensures reads { ReadsAs declaration_view result self.new
+            (signed_end (option_map key_view kind) (option_map (λ w. w.now) scope.entry)
+            (option_map (λ w. w.now) type_name.entry) self.old) }
         ensures fewer { length self.new ≤ length self.old }
     {
         let sign = self.maybe_key(KeyClass::Sign);
@@ -129,7 +136,8 @@ impl<'t> Reader<'t> {
         word: &str,
         groups: Children<Group>,
     ) -> Result<NormalDeclaration, Fault>
-        ensures reads { ReadsAs declaration_view result self.new (type_or_name (option_map key_view kind) word.now (groups_view groups) self.old) }
+        ensures reads { ReadsAs declaration_view result self.new
+            (type_or_name (option_map key_view kind) word.now (groups_view groups) self.old) }
         ensures fewer { length self.new ≤ length self.old }
     {
         match self.eat_word() {
@@ -163,7 +171,8 @@ impl<'t> Reader<'t> {
         kind: Option<Key>,
         word: &str,
     ) -> Result<NormalDeclaration, Fault>
-        ensures reads { ReadsAs declaration_view result self.new (plain_word (option_map key_view kind) word.now self.old) }
+        ensures reads { ReadsAs declaration_view result self.new
+            (plain_word (option_map key_view kind) word.now self.old) }
         ensures fewer { length self.new ≤ length self.old }
     {
         match self.key_in(KeyClass::Sign) {
@@ -190,7 +199,8 @@ impl<'t> Reader<'t> {
         kind: Option<Key>,
         scope: &str,
     ) -> Result<NormalDeclaration, Fault>
-        ensures reads { ReadsAs declaration_view result self.new (scoped_type (option_map key_view kind) scope.now self.old) }
+        ensures reads { ReadsAs declaration_view result self.new
+            (scoped_type (option_map key_view kind) scope.now self.old) }
         ensures fewer { length self.new ≤ length self.old }
     {
         let name = self.word()?;
@@ -204,7 +214,8 @@ impl<'t> Reader<'t> {
         kind: Option<Key>,
         word: &str,
     ) -> Result<NormalDeclaration, Fault>
-        ensures reads { ReadsAs declaration_view result self.new (behind_word (option_map key_view kind) word.now self.old) }
+        ensures reads { ReadsAs declaration_view result self.new
+            (behind_word (option_map key_view kind) word.now self.old) }
         ensures fewer { length self.new ≤ length self.old }
     {
         if self.eat(Mark::DoubleColon) {
@@ -217,7 +228,8 @@ impl<'t> Reader<'t> {
     /// Reads a declaration behind its kind.
     #[tactic(auto, using(crate::proofs::DeclarationLaws::kinds))]
     pub(crate) fn behind_kind(&mut self, kind: Option<Key>) -> Result<NormalDeclaration, Fault>
-        ensures reads { ReadsAs declaration_view result self.new (behind_kind (option_map key_view kind) self.old) }
+        ensures reads { ReadsAs declaration_view result self.new
+            (behind_kind (option_map key_view kind) self.old) }
         ensures fewer { length self.new ≤ length self.old }
     {
         match self.eat_word() {

@@ -164,7 +164,8 @@ impl<'t> Reader<'t> {
     #[cycle(expressions)]
     #[tactic(auto, using(crate::proofs::Laws::lists))]
     pub(crate) fn more(&mut self, first: NormalExpr) -> Result<Children<NormalExpr>, Fault>
-        ensures reads { ReadsList result self.new (list_on settled (view first) self.old (after Comma self.old)) }
+        ensures reads { ReadsList result self.new
+            (list_on settled (view first) self.old (after Comma self.old)) }
         ensures fewer { length self.new ≤ length self.old }
     {
         let mut parts = Children::new(self.alloc);

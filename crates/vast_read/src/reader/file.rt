@@ -141,7 +141,9 @@ impl<'t> Reader<'t> {
     /// Reads the name of a macro.
     #[tactic(auto, using(crate::proofs::FileRules::macro_names))]
     pub(crate) fn macro_name(&mut self) -> Result<&'t str, Fault>
-        ensures found { MatchResult result (λ m. include_at self.old ≡ include_on m.now self.new) (λ _. include_at self.old ≡ None) }
+        ensures found { MatchResult result
+            (λ m. include_at self.old ≡ include_on m.now self.new)
+            (λ _. include_at self.old ≡ None) }
         ensures fewer { length self.new ≤ length self.old }
         ensures less { IfOk result (λ _. length self.new < length self.old) }
     {

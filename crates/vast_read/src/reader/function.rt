@@ -105,7 +105,8 @@ impl<'t> Reader<'t> {
         output: NormalDeclaration,
         inputs: Children<NormalDeclaration>,
     ) -> Result<NormalMember, Fault>
-        ensures reads { ReadsAs member_view result self.new (function_ending (declaration_view output) (declarations_view inputs) self.old) }
+        ensures reads { ReadsAs member_view result self.new
+            (function_ending (declaration_view output) (declarations_view inputs) self.old) }
         ensures fewer { length self.new ≤ length self.old }
     {
         let locals = self.locals()?;

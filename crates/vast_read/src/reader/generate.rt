@@ -18,7 +18,9 @@ impl<'t> Reader<'t> {
     /// Reads this name.
     #[tactic(auto, using(crate::proofs::MemberRules::same_words))]
     pub(crate) fn same_word(&mut self, word: &str) -> Result<(), Fault>
-        ensures reads { MatchResult result (λ _. same_word word.now self.old ≡ Some self.new) (λ _. same_word word.now self.old ≡ None) }
+        ensures reads { MatchResult result
+            (λ _. same_word word.now self.old ≡ Some self.new)
+            (λ _. same_word word.now self.old ≡ None) }
         ensures fewer { length self.new ≤ length self.old }
     {
         let found = self.word()?;
@@ -32,7 +34,8 @@ impl<'t> Reader<'t> {
     /// Reads the number one.
     #[tactic(auto, using(crate::proofs::MemberRules::ones))]
     pub(crate) fn number_one(&mut self) -> Result<(), Fault>
-        ensures reads { MatchResult result (λ _. number_one self.old ≡ Some self.new) (λ _. number_one self.old ≡ None) }
+        ensures reads { MatchResult result
+            (λ _. number_one self.old ≡ Some self.new) (λ _. number_one self.old ≡ None) }
         ensures fewer { length self.new ≤ length self.old }
     {
         let found = self.number()?;
@@ -73,7 +76,9 @@ impl<'t> Reader<'t> {
     /// Reads the step of a loop, which adds one to its variable.
     #[tactic(auto, using(crate::proofs::MemberRules::loop_steps))]
     pub(crate) fn loop_step(&mut self, variable: &str) -> Result<(), Fault>
-        ensures reads { MatchResult result (λ _. loop_step variable.now self.old ≡ Some self.new) (λ _. loop_step variable.now self.old ≡ None) }
+        ensures reads { MatchResult result
+            (λ _. loop_step variable.now self.old ≡ Some self.new)
+            (λ _. loop_step variable.now self.old ≡ None) }
         ensures fewer { length self.new ≤ length self.old }
     {
         self.same_word(variable)?;
@@ -117,7 +122,8 @@ impl<'t> Reader<'t> {
         variable: &str,
         start: NormalExpr,
     ) -> Result<NormalMember, Fault>
-        ensures reads { ReadsAs member_view result self.new (loop_end variable.now (view start) self.old) }
+        ensures reads { ReadsAs member_view result self.new
+            (loop_end variable.now (view start) self.old) }
         ensures fewer { length self.new ≤ length self.old }
     {
         let end = self.loop_bound(variable)?;
@@ -134,7 +140,8 @@ impl<'t> Reader<'t> {
         start: NormalExpr,
         end: NormalExpr,
     ) -> Result<NormalMember, Fault>
-        ensures reads { ReadsAs member_view result self.new (loop_block variable.now (view start) (view end) self.old) }
+        ensures reads { ReadsAs member_view result self.new
+            (loop_block variable.now (view start) (view end) self.old) }
         ensures fewer { length self.new ≤ length self.old }
     {
         self.expect_key(Key::Begin)?;
@@ -170,7 +177,8 @@ impl<'t> Reader<'t> {
     #[cycle(members)]
     #[tactic(auto, using(crate::proofs::MemberRules::member_lists))]
     pub(crate) fn members(&mut self, close: Key) -> Result<Children<NormalMember>, Fault>
-        ensures reads { ReadsAs members_view result self.new (settled_members (key_view close) self.old) }
+        ensures reads { ReadsAs members_view result self.new
+            (settled_members (key_view close) self.old) }
         ensures fewer { length self.new ≤ length self.old }
     {
         let mut members = Children::new(self.alloc);

@@ -51,7 +51,8 @@ impl<'t> Reader<'t> {
     /// Reads a parameter, behind its word.
     #[tactic(auto, using(crate::proofs::MemberRules::parameters))]
     pub(crate) fn parameter_member(&mut self, key: Key) -> Result<NormalMember, Fault>
-        ensures reads { ReadsAs member_view result self.new (parameter_part (key_view key) self.old) }
+        ensures reads { ReadsAs member_view result self.new
+            (parameter_part (key_view key) self.old) }
         ensures fewer { length self.new ≤ length self.old }
     {
         let declared = self.declaration()?;

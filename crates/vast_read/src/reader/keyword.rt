@@ -15,8 +15,11 @@ impl<'t> Reader<'t> {
     /// Whether this keyword stands next, which is then read.
     #[tactic(auto, using(crate::proofs::KeyNexts::keys))]
     pub(crate) fn eat_key(&mut self, key: Key) -> bool
-        ensures found { MatchBool result (after_key (key_view key) self.old ≡ Some self.new) ((after_key (key_view key) self.old ≡ None) × (self.new ≡ self.old)) }
-        ensures fewer { MatchBool result (length self.new < length self.old) (length self.new ≤ length self.old) }
+        ensures found { MatchBool result
+            (after_key (key_view key) self.old ≡ Some self.new)
+            ((after_key (key_view key) self.old ≡ None) × (self.new ≡ self.old)) }
+        ensures fewer { MatchBool result
+            (length self.new < length self.old) (length self.new ≤ length self.old) }
     {
         match self.peek() {
             None => false,
@@ -36,7 +39,9 @@ impl<'t> Reader<'t> {
 
     /// Reads this keyword.
     pub(crate) fn expect_key(&mut self, key: Key) -> Result<(), Fault>
-        ensures found { MatchResult result (λ _. after_key (key_view key) self.old ≡ Some self.new) (λ _. after_key (key_view key) self.old ≡ None) }
+        ensures found { MatchResult result
+            (λ _. after_key (key_view key) self.old ≡ Some self.new)
+            (λ _. after_key (key_view key) self.old ≡ None) }
         ensures fewer { length self.new ≤ length self.old }
         ensures less { IfOk result (λ _. length self.new < length self.old) }
     {
@@ -50,8 +55,11 @@ impl<'t> Reader<'t> {
     /// The keyword that stands next, where it is of this class; it is then read.
     #[tactic(auto, using(crate::proofs::KeyNexts::kinds))]
     pub(crate) fn key_in(&mut self, class: KeyClass) -> Option<Key>
-        ensures found { MatchOption result ((key_with (class_test class) self.old ≡ None) × (self.new ≡ self.old)) (λ k. key_with (class_test class) self.old ≡ Some (key_view k, self.new)) }
-        ensures fewer { MatchOption result (length self.new ≤ length self.old) (λ _. length self.new < length self.old) }
+        ensures found { MatchOption result
+            ((key_with (class_test class) self.old ≡ None) × (self.new ≡ self.old))
+            (λ k. key_with (class_test class) self.old ≡ Some (key_view k, self.new)) }
+        ensures fewer { MatchOption result
+            (length self.new ≤ length self.old) (λ _. length self.new < length self.old) }
     {
         match self.peek() {
             None => None,
@@ -72,8 +80,11 @@ impl<'t> Reader<'t> {
     /// Whether `<=` stands next, which is then read.
     #[tactic(auto, using(crate::proofs::KeyNexts::signs))]
     pub(crate) fn eat_less_equal(&mut self) -> bool
-        ensures found { MatchBool result (sign_with is_less_equal self.old ≡ Some self.new) ((sign_with is_less_equal self.old ≡ None) × (self.new ≡ self.old)) }
-        ensures fewer { MatchBool result (length self.new < length self.old) (length self.new ≤ length self.old) }
+        ensures found { MatchBool result
+            (sign_with is_less_equal self.old ≡ Some self.new)
+            ((sign_with is_less_equal self.old ≡ None) × (self.new ≡ self.old)) }
+        ensures fewer { MatchBool result
+            (length self.new < length self.old) (length self.new ≤ length self.old) }
     {
         match self.peek() {
             None => false,
@@ -94,8 +105,11 @@ impl<'t> Reader<'t> {
     /// Whether `+` stands next, which is then read.
     #[tactic(auto, using(crate::proofs::KeyNexts::signs))]
     pub(crate) fn eat_plus(&mut self) -> bool
-        ensures found { MatchBool result (sign_with is_plus self.old ≡ Some self.new) ((sign_with is_plus self.old ≡ None) × (self.new ≡ self.old)) }
-        ensures fewer { MatchBool result (length self.new < length self.old) (length self.new ≤ length self.old) }
+        ensures found { MatchBool result
+            (sign_with is_plus self.old ≡ Some self.new)
+            ((sign_with is_plus self.old ≡ None) × (self.new ≡ self.old)) }
+        ensures fewer { MatchBool result
+            (length self.new < length self.old) (length self.new ≤ length self.old) }
     {
         match self.peek() {
             None => false,
@@ -115,7 +129,9 @@ impl<'t> Reader<'t> {
 
     /// Reads `+`.
     pub(crate) fn expect_plus(&mut self) -> Result<(), Fault>
-        ensures found { MatchResult result (λ _. sign_with is_plus self.old ≡ Some self.new) (λ _. sign_with is_plus self.old ≡ None) }
+        ensures found { MatchResult result
+            (λ _. sign_with is_plus self.old ≡ Some self.new)
+            (λ _. sign_with is_plus self.old ≡ None) }
         ensures fewer { length self.new ≤ length self.old }
     {
         if self.eat_plus() {
@@ -128,7 +144,8 @@ impl<'t> Reader<'t> {
     /// Reads the sign of an assignment: whether it is that of a blocking one.
     #[tactic(auto, using(crate::proofs::StatementLaws::arrows))]
     pub(crate) fn arrow(&mut self) -> Result<bool, Fault>
-        ensures found { MatchResult result (λ b. arrow_at self.old ≡ Some (b, self.new)) (λ _. arrow_at self.old ≡ None) }
+        ensures found { MatchResult result
+            (λ b. arrow_at self.old ≡ Some (b, self.new)) (λ _. arrow_at self.old ≡ None) }
         ensures fewer { length self.new ≤ length self.old }
         ensures less { IfOk result (λ _. length self.new < length self.old) }
     {

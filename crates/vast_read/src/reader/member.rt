@@ -82,7 +82,8 @@ impl<'t> Reader<'t> {
     /// Reads what is given to a port, behind its parenthesis.
     #[tactic(auto, using(crate::proofs::MemberRules::connection_values))]
     pub(crate) fn connection_value(&mut self, name: &str) -> Result<Connection, Fault>
-        ensures reads { ReadsAs connection_view result self.new (connection_value name.now self.old) }
+        ensures reads { ReadsAs connection_view result self.new
+            (connection_value name.now self.old) }
         ensures fewer { length self.new ≤ length self.old }
     {
         if self.eat(Mark::CloseParen) {
@@ -183,7 +184,8 @@ impl<'t> Reader<'t> {
         definition: &str,
         parameters: Children<Connection>,
     ) -> Result<NormalMember, Fault>
-        ensures reads { ReadsAs member_view result self.new (instance_end definition.now (connections_view parameters) self.old) }
+        ensures reads { ReadsAs member_view result self.new
+            (instance_end definition.now (connections_view parameters) self.old) }
         ensures fewer { length self.new ≤ length self.old }
     {
         let name = self.word()?;
@@ -196,7 +198,8 @@ impl<'t> Reader<'t> {
     /// Reads an instance, behind the name of its module.
     #[tactic(auto, using(crate::proofs::MemberRules::instances))]
     pub(crate) fn instance(&mut self, definition: &str) -> Result<NormalMember, Fault>
-        ensures reads { ReadsAs member_view result self.new (settled_instance definition.now self.old) }
+        ensures reads { ReadsAs member_view result self.new
+            (settled_instance definition.now self.old) }
         ensures fewer { length self.new ≤ length self.old }
     {
         if self.eat(Mark::Hash) {
@@ -215,7 +218,8 @@ impl<'t> Reader<'t> {
         name: &str,
         parts: Option<Children<NormalExpr>>,
     ) -> Result<NormalMember, Fault>
-        ensures reads { ReadsAs member_view result self.new (macro_ending name.now (option_map listed parts) self.old) }
+        ensures reads { ReadsAs member_view result self.new
+            (macro_ending name.now (option_map listed parts) self.old) }
         ensures fewer { length self.new ≤ length self.old }
     {
         if self.eat(Mark::Semicolon) {

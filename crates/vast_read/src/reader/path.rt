@@ -16,7 +16,8 @@ pub(crate) fn path_of(text: &str) -> Option<&str>
 
 /// What stands behind the quote that begins a text.
 fn behind_quote(text: &str) -> Option<&str>
-    ensures { MatchOption result ((v : List ℕ) → text.now ≢ (34 ∷ v)) (λ v. text.now ≡ (34 ∷ v.now)) }
+    ensures { MatchOption result
+        ((v : List ℕ) → text.now ≢ (34 ∷ v)) (λ v. text.now ≡ (34 ∷ v.now)) }
 {
     text.strip_prefix('"')
 }

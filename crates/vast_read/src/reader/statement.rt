@@ -75,8 +75,10 @@ impl<'t> Reader<'t> {
     /// Whether `else if` stands next, which is then read.
     #[tactic(auto, using(crate::proofs::StatementLoops::else_ifs))]
     pub(crate) fn eat_else_if(&mut self) -> bool
-        ensures found { MatchBool result (else_if self.old ≡ Some self.new) ((else_if self.old ≡ None) × (self.new ≡ self.old)) }
-        ensures fewer { MatchBool result (length self.new < length self.old) (length self.new ≤ length self.old) }
+        ensures found { MatchBool result
+            (else_if self.old ≡ Some self.new) ((else_if self.old ≡ None) × (self.new ≡ self.old)) }
+        ensures fewer { MatchBool result
+            (length self.new < length self.old) (length self.new ≤ length self.old) }
     {
         let before = self.rest;
         if self.eat_key(Key::Else) && self.eat_key(Key::If) {
@@ -137,7 +139,8 @@ impl<'t> Reader<'t> {
     #[cycle(statements)]
     #[tactic(auto, using(crate::proofs::StatementLaws::cases))]
     pub(crate) fn cases(&mut self, is_unique: bool, key: Key) -> Result<NormalStatement, Fault>
-        ensures reads { ReadsAs statement_view result self.new (cases_of is_unique (key_view key) self.old) }
+        ensures reads { ReadsAs statement_view result self.new
+            (cases_of is_unique (key_view key) self.old) }
         ensures fewer { length self.new ≤ length self.old }
     {
         let selector = self.in_parens()?;
@@ -149,7 +152,8 @@ impl<'t> Reader<'t> {
     #[cycle(statements)]
     #[tactic(auto, using(crate::proofs::StatementLoops::label_lists))]
     pub(crate) fn labels(&mut self, is_bare: bool) -> Result<Children<CaseArm>, Fault>
-        ensures reads { ReadsAs labels_view result self.new (settled_reader.labels is_bare self.old) }
+        ensures reads { ReadsAs labels_view result self.new
+            (settled_reader.labels is_bare self.old) }
         ensures fewer { length self.new ≤ length self.old }
     {
         let mut arms = Children::new(self.alloc);

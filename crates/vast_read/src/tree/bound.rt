@@ -50,7 +50,9 @@ impl NormalExpr {
     /// What this name is less than, where it is a comparison of the two by `<`.
     #[tactic(auto, using(crate::proofs::Bounds::bounds), unfolding(vast_literal::specs::MemberParser::bound_of))]
     pub(crate) fn bound(self, name: &str) -> Option<NormalExpr>
-        ensures { MatchOption result (bound_of name.now (view self) ≡ None) (λ e. bound_of name.now (view self) ≡ Some (view e)) }
+        ensures { MatchOption result
+            (bound_of name.now (view self) ≡ None)
+            (λ e. bound_of name.now (view self) ≡ Some (view e)) }
     {
         match self {
             NormalExpr::Binary(sign, left, right) => {

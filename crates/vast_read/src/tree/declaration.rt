@@ -87,7 +87,8 @@ impl NormalDeclaration {
         name: &str,
         after: Children<Group>,
     ) -> Result<NormalDeclaration, Fault>
-        ensures ok { IfOk result (λ d. declaration_view d ≡ with_head (head_view head.now) (groups_view groups) name.now (groups_view after)) }
+        ensures ok { IfOk result (λ d. declaration_view d
+            ≡ with_head (head_view head.now) (groups_view groups) name.now (groups_view after)) }
         ensures err { IfErr result (λ e. e ≡ Memory) }
     {
         let kind = Key::maybe_word(alloc, head.kind)?;

@@ -63,7 +63,8 @@ impl Parameter {
         declared: NormalDeclaration,
         value: NormalExpr,
     ) -> Result<Parameter, Fault>
-        ensures ok { IfOk result (λ p. parameter_view p ≡ parameter_of (declaration_view declared) (view value)) }
+        ensures ok { IfOk result (λ p. parameter_view p
+            ≡ parameter_of (declaration_view declared) (view value)) }
         ensures err { IfErr result (λ e. e ≡ Memory) }
     {
         let declaration = Box::new(alloc, declared)?;
@@ -79,7 +80,8 @@ impl Port {
         direction: Key,
         declared: NormalDeclaration,
     ) -> Result<Port, Fault>
-        ensures ok { IfOk result (λ p. port_view p ≡ port_of (key_view direction) (declaration_view declared)) }
+        ensures ok { IfOk result (λ p. port_view p
+            ≡ port_of (key_view direction) (declaration_view declared)) }
         ensures err { IfErr result (λ e. e ≡ Memory) }
     {
         let direction = Word::new(alloc, direction.text())?;
@@ -100,7 +102,9 @@ impl NormalModule {
         ports: Children<Port>,
         members: Children<NormalMember>,
     ) -> Result<NormalModule, Fault>
-        ensures ok { IfOk result (λ m. module_view m ≡ module_of name.now (parameters_view parameters) (ports_view ports) (members_view members)) }
+        ensures ok { IfOk result (λ m. module_view m
+            ≡ module_of name.now (parameters_view parameters)
+            (ports_view ports) (members_view members)) }
         ensures err { IfErr result (λ e. e ≡ Memory) }
     {
         let name = Word::new(alloc, name)?;
@@ -122,7 +126,9 @@ impl NormalItem {
         ports: Children<Port>,
         members: Children<NormalMember>,
     ) -> Result<NormalItem, Fault>
-        ensures ok { IfOk result (λ i. item_view i ≡ ModulePart (module_of name.now (parameters_view parameters) (ports_view ports) (members_view members))) }
+        ensures ok { IfOk result (λ i. item_view i
+            ≡ ModulePart (module_of name.now (parameters_view parameters)
+            (ports_view ports) (members_view members))) }
         ensures err { IfErr result (λ e. e ≡ Memory) }
     {
         let module = NormalModule::new(alloc, name, parameters, ports, members)?;

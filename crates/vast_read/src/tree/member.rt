@@ -58,7 +58,8 @@ pub enum NormalMember {
         Children<NormalDeclaration>,
         Children<NormalStatement>,
     ),
-    /// A loop generate construct: its variable, the start, the end that it stays below, the label, the members.
+    /// A loop generate construct: its variable, the start, the end that it stays below, the label,
+    /// the members.
     Loop(Word, Box<NormalExpr>, Box<NormalExpr>, Option<Word>, Children<NormalMember>),
 }
 
@@ -120,7 +121,8 @@ impl NormalMember {
         alloc: Global,
         declared: NormalDeclaration,
     ) -> Result<NormalMember, Fault>
-        ensures ok { IfOk result (λ m. member_view m ≡ DeclarationPart (declaration_view declared)) }
+        ensures ok { IfOk result (λ m. member_view m
+            ≡ DeclarationPart (declaration_view declared)) }
         ensures err { IfErr result (λ e. e ≡ Memory) }
     {
         let declared = Box::new(alloc, declared)?;
@@ -148,7 +150,8 @@ impl NormalMember {
         declared: NormalDeclaration,
         value: NormalExpr,
     ) -> Result<NormalMember, Fault>
-        ensures ok { IfOk result (λ m. member_view m ≡ ParameterPart (key_view key) (declaration_view declared) (view value)) }
+        ensures ok { IfOk result (λ m. member_view m
+            ≡ ParameterPart (key_view key) (declaration_view declared) (view value)) }
         ensures err { IfErr result (λ e. e ≡ Memory) }
     {
         let word = Word::new(alloc, key.text())?;
@@ -164,7 +167,8 @@ impl NormalMember {
         arguments: Option<Children<NormalExpr>>,
         has_semicolon: bool,
     ) -> Result<NormalMember, Fault>
-        ensures ok { IfOk result (λ m. member_view m ≡ MacroPart name.now (option_map listed arguments) has_semicolon) }
+        ensures ok { IfOk result (λ m. member_view m
+            ≡ MacroPart name.now (option_map listed arguments) has_semicolon) }
         ensures err { IfErr result (λ e. e ≡ Memory) }
     {
         let name = Word::new(alloc, name)?;
@@ -179,7 +183,9 @@ impl NormalMember {
         name: &str,
         connections: Children<Connection>,
     ) -> Result<NormalMember, Fault>
-        ensures ok { IfOk result (λ m. member_view m ≡ InstancePart definition.now (connections_view parameters) name.now (connections_view connections)) }
+        ensures ok { IfOk result (λ m. member_view m
+            ≡ InstancePart definition.now (connections_view parameters)
+            name.now (connections_view connections)) }
         ensures err { IfErr result (λ e. e ≡ Memory) }
     {
         let definition = Word::new(alloc, definition)?;
@@ -194,7 +200,8 @@ impl NormalMember {
         events: Children<Event>,
         body: Children<NormalStatement>,
     ) -> Result<NormalMember, Fault>
-        ensures ok { IfOk result (λ m. member_view m ≡ AlwaysPart (key_view key) (events_view events) (block_view body)) }
+        ensures ok { IfOk result (λ m. member_view m
+            ≡ AlwaysPart (key_view key) (events_view events) (block_view body)) }
         ensures err { IfErr result (λ e. e ≡ Memory) }
     {
         let word = Word::new(alloc, key.text())?;
@@ -203,7 +210,8 @@ impl NormalMember {
 
     /// A conditional generate construct.
     pub(crate) fn conditional(alloc: Global, choice: NormalStatement) -> Result<NormalMember, Fault>
-        ensures ok { IfOk result (λ m. member_view m ≡ ConditionalPart (arms_in (statement_view choice))) }
+        ensures ok { IfOk result (λ m. member_view m
+            ≡ ConditionalPart (arms_in (statement_view choice))) }
         ensures err { IfErr result (λ e. e ≡ Memory) }
     {
         let choice = Box::new(alloc, choice)?;
@@ -218,7 +226,9 @@ impl NormalMember {
         locals: Children<NormalDeclaration>,
         body: Children<NormalStatement>,
     ) -> Result<NormalMember, Fault>
-        ensures ok { IfOk result (λ m. member_view m ≡ FunctionPart (declaration_view output) (declarations_view inputs) (declarations_view locals) (block_view body)) }
+        ensures ok { IfOk result (λ m. member_view m
+            ≡ FunctionPart (declaration_view output) (declarations_view inputs)
+            (declarations_view locals) (block_view body)) }
         ensures err { IfErr result (λ e. e ≡ Memory) }
     {
         let output = Box::new(alloc, output)?;
@@ -234,7 +244,9 @@ impl NormalMember {
         label: Option<&str>,
         members: Children<NormalMember>,
     ) -> Result<NormalMember, Fault>
-        ensures ok { IfOk result (λ m. member_view m ≡ LoopPart variable.now (view start) (view end) (option_map (λ t. t.now) label.entry) (members_view members)) }
+        ensures ok { IfOk result (λ m. member_view m
+            ≡ LoopPart variable.now (view start) (view end)
+            (option_map (λ t. t.now) label.entry) (members_view members)) }
         ensures err { IfErr result (λ e. e ≡ Memory) }
     {
         let variable = Word::new(alloc, variable)?;

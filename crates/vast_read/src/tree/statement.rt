@@ -57,7 +57,8 @@ impl NormalStatement {
         left: NormalExpr,
         right: NormalExpr,
     ) -> Result<NormalStatement, Fault>
-        ensures ok { IfOk result (λ s. statement_view s ≡ assignment is_blocking (view left) (view right)) }
+        ensures ok { IfOk result (λ s. statement_view s
+            ≡ assignment is_blocking (view left) (view right)) }
         ensures err { IfErr result (λ e. e ≡ Memory) }
     {
         let left = Box::new(alloc, left)?;
@@ -75,7 +76,8 @@ impl NormalStatement {
         left: NormalExpr,
         right: NormalExpr,
     ) -> Result<NormalStatement, Fault>
-        ensures ok { IfOk result (λ s. statement_view s ≡ AssignStatement (view left) (view right)) }
+        ensures ok { IfOk result (λ s. statement_view s
+            ≡ AssignStatement (view left) (view right)) }
         ensures err { IfErr result (λ e. e ≡ Memory) }
     {
         let left = Box::new(alloc, left)?;
@@ -101,7 +103,8 @@ impl NormalStatement {
         selector: NormalExpr,
         arms: Children<CaseArm>,
     ) -> Result<NormalStatement, Fault>
-        ensures ok { IfOk result (λ s. statement_view s ≡ CaseStatement is_unique (key_view key) (view selector) (labels_view arms)) }
+        ensures ok { IfOk result (λ s. statement_view s
+            ≡ CaseStatement is_unique (key_view key) (view selector) (labels_view arms)) }
         ensures err { IfErr result (λ e. e ≡ Memory) }
     {
         let word = Word::new(alloc, key.text())?;
