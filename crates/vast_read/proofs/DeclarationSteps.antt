@@ -86,13 +86,6 @@ pub signed_given : (k : Option Key) (p t : Option (List ℕ)) (s : Option Key) (
 unfolding signed_end
 signed_given k p t s ts us e = rw e
 
-pub signed_reads : (k : Option Key) (p t : Option (List ℕ)) (ts : List Token) → signed_end k p t ts ≡ either (key_with is_sign ts) (λ s. named_end k p t (Some s.0) s.1) (named_end k p t None ts)
-signed_reads k p t ts = go (key_with is_sign ts) refl
-  where
-    go : (o : Option (Key × List Token)) → key_with is_sign ts ≡ o → signed_end k p t ts ≡ either o (λ s. named_end k p t (Some s.0) s.1) (named_end k p t None ts)
-    go None e = rw (signed_given k p t None ts ts (maybe_absent is_sign ts e)) (rw either_none)
-    go (Some s) e = rw (signed_given k p t (Some s.0) ts s.1 (maybe_present is_sign s.0 ts s.1 e)) (rw either_some)
-
 pub type_or_name_reads : (k : Option Key) (w : List ℕ) (g : List Group) (ts : List Token) → type_or_name k w g ts ≡ either (word_at ts)
     (λ v. settled_groups v.1 >>= λ h. Some (record { kind = k; package_name = None; type_name = Some w; sign = None; groups = g; name = v.0; behind = h.0 }, h.1))
     (Some (record { kind = k; package_name = None; type_name = None; sign = None; groups = []; name = w; behind = g }, ts))
@@ -120,25 +113,4 @@ pub declaration_given : (k : Option Key) (ts us : List Token) → maybe_at is_ki
 unfolding settled_declaration
 declaration_given k ts us e = rw e
 
-pub declaration_reads : (ts : List Token) → settled_declaration ts ≡ either (key_with is_kind ts) (λ k. behind_kind (Some k.0) k.1) (behind_kind None ts)
-declaration_reads ts = go (key_with is_kind ts) refl
-  where
-    go : (o : Option (Key × List Token)) → key_with is_kind ts ≡ o → settled_declaration ts ≡ either o (λ k. behind_kind (Some k.0) k.1) (behind_kind None ts)
-    go None e = rw (declaration_given None ts ts (maybe_absent is_kind ts e)) (rw either_none)
-    go (Some k) e = rw (declaration_given (Some k.0) ts k.1 (maybe_present is_kind k.0 ts k.1 e)) (rw either_some)
-
 pub ruleset groups = (then_some, then_none, either_some, either_none, groups_begin, groups_end, groups_go_on, groups_fail)
-
-pub ruleset group_parts = (then_some, then_none, either_some, either_none, group_rest_reads, group_end_reads)
-
-pub ruleset kinds_and_signs = (maybe_present, maybe_absent)
-
-pub ruleset named = (then_some, then_none, either_some, either_none, named_reads)
-
-pub ruleset signed = (then_some, then_none, either_some, either_none, signed_reads, signed_given)
-
-pub ruleset typed = (then_some, then_none, either_some, either_none, type_or_name_reads, plain_word_reads)
-
-pub ruleset scoped = (then_some, then_none, either_some, either_none, scoped_reads, behind_word_reads)
-
-pub ruleset declarations = (then_some, then_none, either_some, either_none, behind_kind_reads, declaration_reads, declaration_given)

@@ -1,7 +1,6 @@
 -- The settled parser of files as the reader goes through it.
-use Rattle.std.proofs.Common.{◌≡◌, ℕ, suc, ◌*◌, ◌<◌, Bool, true, false, cond, eqb, bytes_eq, codes, List, [], ◌∷◌, ◌++◌, length, Option, Some, None, refl, arith, ◌≢◌}
+use Rattle.std.proofs.Common.{◌≡◌, ℕ, suc, ◌*◌, Bool, true, false, cond, bytes_eq, codes, List, [], ◌∷◌, ◌++◌, length, Some, None, refl, arith}
 use Rattle.std.proofs.lemmas.Slice.Eq.{bytes_eq-Decides}
-use Rattle.std.proofs.lemmas.Bool.Decides.{nat_tests}
 use Rattle.vast_literal.specs.Tokens.{ModuleKey, EndModuleKey, ParameterKey, OpenParen, CloseParen, Comma, Semicolon, Hash, Assign, Token, MacroWord, Quoted, Mark}
 use Rattle.vast_literal.specs.NormalFile.{NormalParameter, NormalPort, NormalItem, ModulePart, IncludePart}
 use Rattle.vast_literal.specs.FileGrammar.{is_direction}
@@ -162,34 +161,6 @@ pub path_between : (w p : List ℕ) → w ≡ (34 ∷ (p ++ (34 ∷ []))) → pa
 unfolding path_of
 path_between w p e = rw e (path_end_gives p)
 
-pub path_short : (w : List ℕ) → length w < 2 → path_of w ≡ None
-unfolding path_of path_end
-path_short [] h = refl
-path_short (c ∷ []) h = go (eqb c 34)
-  where
-    go : (b : Bool) → cond {A = Option (List ℕ)} b None None ≡ None
-    go true = refl
-    go false = refl
-path_short (c ∷ d ∷ w) h = absurd (omega arith)
-
-pub path_unopened : (w v : List ℕ) (c : ℕ) → w ≡ (c ∷ v) → (c ≢ 34) → path_of w ≡ None
-unfolding path_of
-path_unopened w v c e h = let f : eqb c 34 ≡ false = grind (arith, nat_tests) in rw (e, f)
-
-path_end_none : (p : List ℕ) (d : ℕ) → (d ≢ 34) → path_end (p ++ (d ∷ [])) ≡ None
-unfolding path_end
-path_end_none [] d h = let f : eqb d 34 ≡ false = grind (arith, nat_tests) in rw f
-path_end_none (c ∷ []) d h = let f : eqb d 34 ≡ false = grind (arith, nat_tests) in rw f (then_none {A = List ℕ} {B = List ℕ} (λ q. Some (c ∷ q)))
-path_end_none (c ∷ x ∷ p) d h = rw (path_end_none (x ∷ p) d h) (then_none {A = List ℕ} {B = List ℕ} (λ q. Some (c ∷ q)))
-
-pub path_unclosed : (w p : List ℕ) (c d : ℕ) → w ≡ (c ∷ (p ++ (d ∷ []))) → (d ≢ 34) → path_of w ≡ None
-unfolding path_of
-path_unclosed w p c d e h = rw (e, path_end_none p d h) (go (eqb c 34))
-  where
-    go : (b : Bool) → cond {A = Option (List ℕ)} b None None ≡ None
-    go true = refl
-    go false = refl
-
 -- items and files
 
 pub item_reads : (ts : List Token) → settled_item ts ≡ either (after_key ModuleKey ts) (λ us. settled_module us) (include_at ts)
@@ -223,26 +194,6 @@ file_reads ts = refl
 
 pub ruleset parameters = (then_some, then_none, parameter_reads)
 
-pub ruleset parameter_lists = (then_some, then_none, either_some, either_none, parameters_join, parameters_end, parameters_go_on, parameters_fail)
-
-pub ruleset header_parameters = (then_some, then_none, either_some, either_none, parameter_list_reads, parameters_read)
-
 pub ruleset ports = (then_some, then_none, port_reads)
 
-pub ruleset port_lists = (then_some, then_none, either_some, either_none, ports_join, ports_end, ports_go_on, ports_fail)
-
-pub ruleset header_ports = (then_some, then_none, either_some, either_none, port_list_reads, ports_read)
-
-pub ruleset modules = (then_some, then_none, module_reads)
-
-pub ruleset includes = (then_some, then_none, include_nothing, include_other, include_macro)
-
-pub ruleset include_paths = (then_some, then_none, path_missing, path_other, path_given, path_elsewhere)
-
-pub ruleset quoted_paths = (path_between, path_short, path_unopened, path_unclosed)
-
 pub ruleset items = (then_some, then_none, either_some, either_none, item_reads)
-
-pub ruleset item_lists = (then_some, then_none, items_begin, items_end, items_go_on, items_fail)
-
-pub ruleset files = (then_some, then_none, file_reads)

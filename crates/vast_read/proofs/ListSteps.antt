@@ -1,5 +1,5 @@
 -- Lists that are read item by item.
-use Rattle.std.proofs.Common.{◌≡◌, Bool, true, false, List, [], ◌∷◌, ◌++◌, Option, Some, None, map, refl, ap, append_assoc, append-nil}
+use Rattle.std.proofs.Common.{◌≡◌, Bool, true, false, List, [], ◌∷◌, ◌++◌, Option, Some, None, refl, append_assoc, append-nil}
 use Rattle.vast_literal.specs.Tokens.{Token}
 use Rattle.vast_literal.specs.Parser.{◌>>=◌}
 use Rattle.vast_literal.specs.StatementParser.{ReadOf}
@@ -7,11 +7,6 @@ use Rattle.vast_literal.specs.DeclarationParser.{many_on}
 use Rattle.vast_literal.specs.SettledDeclarations.{joined_of, others_of}
 use Rattle.vast_read.specs.ListSteps.{with_list}
 use Rattle.vast_read.proofs.Steps.{then_some, then_none, either_some, either_none}
-
--- the views of a list and of one more
-pub map_more : {A B : Type 0} (f : A → B) (xs : List A) (x : A) → map f (xs ++ x ∷ []) ≡ map f xs ++ (f x ∷ [])
-map_more f [] x = refl
-map_more f (y ∷ ys) x = ap (λ zs. f y ∷ zs) (map_more f ys x)
 
 pub list_begin : {A : Type 0} (o : ReadOf (List A)) → o ≡ with_list [] o
 unfolding with_list ◌>>=◌

@@ -140,18 +140,8 @@ locals_go_on xs d ts us e h = many_go_on is_local settled_local settled_locals l
 pub locals_fail : (xs : List NormalDeclaration) (ts : List Token) → begins_with is_local_kind ts ≡ true → settled_local ts ≡ None → with_list xs (settled_locals ts) ≡ None
 locals_fail xs ts e h = many_fail is_local settled_local settled_locals locals_many xs ts (local_is ts ∙ e) h
 
-pub ruleset event_lists = (then_some, then_none, either_some, either_none, events_join, events_end, events_go_on, events_fail)
-
 pub ruleset closed_events = (then_some, then_none, either_some, either_none, events_read)
-
-pub ruleset connection_lists = (then_some, then_none, either_some, either_none, connections_join, connections_end, connections_go_on, connections_fail)
 
 pub ruleset closed_connections = (then_some, then_none, either_some, either_none, connections_read)
 
-pub ruleset given_lists = (then_some, then_none, either_some, either_none, givens_join, givens_end, givens_go_on, givens_fail)
-
-pub ruleset input_lists = (then_some, then_none, either_some, either_none, inputs_join, inputs_end, inputs_go_on, inputs_fail)
-
 pub ruleset closed_inputs = (then_some, then_none, either_some, either_none, inputs_read)
-
-pub ruleset local_lists = (then_some, then_none, either_some, either_none, locals_begin, locals_end, locals_go_on, locals_fail)

@@ -1,8 +1,8 @@
 -- The settled parser of members as the reader goes through it.
 use Rattle.std.proofs.Common.{◌≡◌, ℕ, Bool, true, false, cond, bytes_eq, codes, List, [], ◌∷◌, Option, Some, None, refl, sym, ap, ◌∙◌}
 use Rattle.std.proofs.lemmas.Slice.Eq.{bytes_eq-Decides}
-use Rattle.vast_literal.specs.Tokens.{Op, Less, Punct, OpenParen, CloseParen, Colon, Semicolon, Dot, Hash, At, Assign, Key, IfKey, CasezKey, UniqueKey, BeginKey, EndKey, AssignKey, GenvarKey, AlwaysCombKey, FunctionKey, AutomaticKey, EndFunctionKey, InputKey, ForKey, Token, Reserved, Word, Keyword, SystemWord, MacroWord, Number, Based, Quoted, Operator, Mark}
-use Rattle.vast_literal.specs.NormalExpr.{NormalExpr, Name, Binary, NormalExprs}
+use Rattle.vast_literal.specs.Tokens.{Op, Punct, OpenParen, CloseParen, Colon, Semicolon, Dot, Hash, At, Assign, Key, IfKey, CasezKey, UniqueKey, BeginKey, EndKey, AssignKey, GenvarKey, AlwaysCombKey, FunctionKey, AutomaticKey, EndFunctionKey, InputKey, ForKey, Token, Reserved, Word, Keyword, SystemWord, MacroWord, Number, Based, Quoted, Operator, Mark}
+use Rattle.vast_literal.specs.NormalExpr.{NormalExpr, NormalExprs}
 use Rattle.vast_literal.specs.NormalFile.{Done, Then, NormalDeclaration, EdgeEvent, NameEvent, NormalConnection, NormalMember, DeclarationPart, AssignPart, ParameterPart, MacroPart, InstancePart, AlwaysPart, ConditionalPart, FunctionPart, LoopPart, NormalMembers, NoParts, MoreParts}
 use Rattle.vast_literal.specs.FileGrammar.{is_member_kind, is_parameter_word, is_clocked, is_edge}
 use Rattle.vast_literal.specs.Parser.{◌>>=◌, after, word_at, number_at, enclosed, arguments, selected}
@@ -125,21 +125,6 @@ number_one_none ts e = rw (e, then_none)
 pub loop_start_reads : (ts : List Token) → loop_start ts ≡ (after OpenParen ts >>= λ a. after_key GenvarKey a >>= λ b. word_at b >>= λ i. after Assign i.1 >>= λ c. enclosed settled Semicolon c >>= λ x. Some ((i.0, x.0), x.1))
 unfolding loop_start
 loop_start_reads ts = refl
-
-pub bound_is : (i : List ℕ) (t e : NormalExpr) → t ≡ Binary Less (Name i) e → bound_of i t ≡ Some e
-unfolding bound_of
-bound_is i t e d = rw d (rw ((bytes_eq-Decides i i).1 refl))
-
-pub bound_none : (i : List ℕ) (t : NormalExpr) → ((e : NormalExpr) → t ≡ Binary Less (Name i) e → ⊥) → bound_of i t ≡ None
-unfolding bound_of
-bound_none i (Binary Less (Name j) e) h = go (bytes_eq i j) refl
-  where
-    go : (b : Bool) → bytes_eq i j ≡ b → cond b (Some e) None ≡ None
-    go true d = absurd (h e (ap (λ (k : List ℕ). Binary Less (Name k) e) (sym ((bytes_eq-Decides i j).0 d))))
-    go false d = refl
-bound_none i (Binary Less _ e) h = refl
-bound_none i (Binary _ l e) h = refl
-bound_none i _ h = refl
 
 pub loop_bound_reads : (i : List ℕ) (ts : List Token) → loop_bound i ts ≡ (enclosed settled Semicolon ts >>= λ d. bound_of i d.0 >>= λ e. Some (e, d.1))
 unfolding loop_bound

@@ -13,7 +13,7 @@ use Rattle.vast_read.specs.declared.tree.statement.NormalStatement.{NormalStatem
 use Rattle.vast_read.specs.declared.tree.statement.Arm.{Arm}
 use Rattle.vast_read.specs.declared.tree.statement.CaseArm.{CaseArm}
 use Rattle.vast_read.proofs.Steps.{then_some, then_none, either_some, either_none, enclosed_reads}
-use Rattle.vast_read.proofs.StatementSteps.{chained, choose_then, statement_reads, choice_reads, choice_statement_reads, arms_end_reads, else_reads, more_arms_read, label_reads, bare_reads, statements_begin, statements_end, statements_go_on, statements_fail, labels_begin, labels_end, labels_go_on, labels_fail}
+use Rattle.vast_read.proofs.StatementSteps.{chained, choose_then, statement_reads, choice_reads, choice_statement_reads, more_arms_read, label_reads, bare_reads, statements_begin, statements_end, statements_go_on, statements_fail, labels_begin, labels_end, labels_go_on, labels_fail}
 
 -- lists of trees and of one more
 

@@ -196,14 +196,6 @@ choice_step_reads ts = simp (chained, then_some, choice_end) (rw low_settled)
 pub choice_reads : (ts : List Token) → settled_reader.choice ts ≡ (choice_arm ts >>= λ p. arms_end (p.0 ∷ []) p.1)
 choice_reads ts = choice_settled ts ∙ choice_step_reads ts
 
-pub arms_end_reads : (ps : List ChoicePart) (ts : List Token) → arms_end ps ts ≡ either (after_key ElseKey ts) (λ us. else_arm ps us) (Some (arms_of ps None, ts))
-unfolding arms_end
-arms_end_reads ps ts = refl
-
-pub else_reads : (ps : List ChoicePart) (ts : List Token) → else_arm ps ts ≡ either (after_key IfKey ts) (λ us. more_arms ps us) (block ts >>= λ d. Some (arms_of ps (Some d.0), d.1))
-unfolding else_arm
-else_reads ps ts = refl
-
 one_more : (ps : List ChoicePart) (p : ChoicePart) (last : Option NormalStatements) → arms_before ps (last_arm p last) ≡ arms_of (ps ++ (p ∷ [])) last
 one_more [] p last = refl
 one_more (q ∷ []) p last = refl
