@@ -2,7 +2,7 @@
  *
  * REFUSE_REQUEST=N refuses the N-th call of malloc or realloc, counted from 1 and from the program's start.
  * FAIL_WRITE=N fails the N-th write to standard output or standard error.
- * A byte goes to descriptor 9 where that call was reached.
+ * A byte goes to the descriptor MARK where that call was reached.
  */
 #define _GNU_SOURCE
 #include <dlfcn.h>
@@ -11,6 +11,7 @@
 #include <unistd.h>
 
 static unsigned long wanted_request, wanted_write, requests, writes;
+static int mark;
 static void *(*real_malloc)(size_t);
 static void *(*real_realloc)(void *, size_t);
 static ssize_t (*real_write)(int, const void *, size_t);
@@ -28,6 +29,7 @@ __attribute__((constructor)) static void begin(void)
     real_write = dlsym(RTLD_NEXT, "write");
     wanted_request = number_in("REFUSE_REQUEST");
     wanted_write = number_in("FAIL_WRITE");
+    mark = (int)number_in("MARK");
     requests = 0;
 }
 
@@ -36,7 +38,7 @@ static int is_wanted(unsigned long *count, unsigned long wanted)
     *count += 1;
     if (*count != wanted)
         return 0;
-    real_write(9, "!", 1);
+    real_write(mark, "!", 1);
     return 1;
 }
 
