@@ -21,7 +21,6 @@ use Rattle.xlsynth_vast.specs.Functions.{declared_in_function}
 use Rattle.vast_script.specs.declared.answer.Answer.{Answer}
 use Rattle.vast_script.specs.declared.step.Step.{Step}
 use Rattle.vast_script.specs.Arguments.{found, one, two, three, many}
-use Rattle.vast_script.specs.Outcome.{Call}
 use Rattle.vast_script.specs.Script.{call_of, run, Going, called}
 use Rattle.vast_script.proofs.Calls.{left-called}
 use Rattle.vast_demo.specs.DesignCalls.{calls_text, passthrough_calls, cases_calls}

@@ -1,5 +1,5 @@
 -- The words with which the program is called.
-use Rattle.std.specs.Prelude.{ℕ, List, [], ◌∷◌, Option, Some, None, codes, if◌then◌else◌}
+use Rattle.std.specs.Prelude.{ℕ, Bool, false, List, [], ◌∷◌, Option, Some, None, codes, if◌then◌else◌}
 use Rattle.std.specs.Str.{bytes_eq}
 use Rattle.std.specs.Borrow.{Bor}
 use Rattle.vast_demo.specs.DesignTexts.{passthrough_text, cases_text, registers_text}
@@ -16,3 +16,8 @@ text_of name =
 abbrev pub design_text : List (Bor (List ℕ)) → Option (List ℕ)
 design_text (word ∷ []) = text_of word.now
 design_text _ = None
+
+-- there is one word, and it is `check`
+abbrev pub is_check : List (Bor (List ℕ)) → Bool
+is_check (word ∷ []) = bytes_eq word.now (codes "check")
+is_check _ = false

@@ -1,7 +1,10 @@
-//! Prints designs: `vast_demo passthrough`, `vast_demo cases`, `vast_demo registers`.
+//! Prints designs, `vast_demo passthrough`, `cases` or `registers`, and checks texts, `vast_demo check`.
 #![tactic(auto)]
 
+mod check;
 mod designs;
+mod input;
+mod output;
 mod program;
 #[cfg(test)]
 mod tests;

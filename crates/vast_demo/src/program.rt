@@ -1,45 +1,68 @@
 //! What the program does with its words and its streams.
 
-ghost use Rattle.std.specs.Prelude.{◌≡◌, ◌≤◌, IsNone, IsSome, IfSome, MatchResult, string_bytes};
+ghost use Rattle.std.specs.Prelude.{◌≡◌, ◌≤◌, true, false, IsNone, IsSome, IfSome, MatchResult, string_bytes};
 ghost use Rattle.std.specs.Io.KnownBytes.{Appends};
-ghost use Rattle.vast_demo.specs.Words.{design_text};
+ghost use Rattle.vast_demo.specs.Check.{CheckEnds};
+ghost use Rattle.vast_demo.specs.Words.{text_of, design_text, is_check};
 
+use crate::check::check;
 use crate::designs::{cases, passthrough, registers};
+use crate::input::InputFault;
+use crate::output::{WriteFault, write_line};
 use std::alloc::Global;
 use std::fmt::Display;
 use std::io::{Read, Write};
 
-/// Prints the design that the one word names to `out`, and answers the status.
+/// Prints the design that the one word names to `out`, or checks `input`, and answers the status.
 ///
 /// `passthrough`, `cases` and `registers` are printed with status 0. A fault or want of memory prints its text to
 /// `err`, status 1; a failed write prints `write fault` there, status 1. No word, another word or more than one prints
 /// `unknown design` there, status 2. Every text on `err` has a line break behind it; a failed write there changes no
 /// status. No design reads `input`.
+///
+/// `check` reads `input` to its end and prints `derived`, status 0, where that is the UTF-8 of a text that the grammar
+/// derives, and `not derived`, status 1, where it isn't. A failed read, more than 16,777,216 bytes or no end after
+/// 16,777,217 reads prints `read fault` to `err`, status 1.
 pub fn run<R: Read, W: Write, E: Write>(
     alloc: Global,
     words: &[&str],
-    _input: &mut R,
+    input: &mut R,
     out: &mut W,
     err: &mut E,
 ) -> u8
-    ensures unknown { IsNone (design_text words.now) → result ≡ 2 }
+    ensures unknown { IsNone (design_text words.now) → is_check words.now ≡ false → result ≡ 2 }
     ensures known { IsSome (design_text words.now) → result ≤ 1 }
     ensures printed { IfSome (design_text words.now) (λ text. result ≡ 0 →
         Appends (W.contents out.old) (W.contents out.new) text) }
+    ensures checked { is_check words.now ≡ true →
+        CheckEnds (R.remaining input.old) (R.remaining input.new) (W.contents out.old) (W.contents out.new) result }
 {
     match words {
         [word] => {
-            if *word == "passthrough" {
-                print_design(passthrough(alloc), out, err)
-            } else if *word == "cases" {
-                print_design(cases(alloc), out, err)
-            } else if *word == "registers" {
-                print_design(registers(alloc), out, err)
+            if *word == "check" {
+                print_answer(alloc, input, out, err)
             } else {
-                unknown(err)
+                print_named(alloc, word, out, err)
             }
         }
         _ => unknown(err),
+    }
+}
+
+fn print_named<W: Write, E: Write>(alloc: Global, name: &str, out: &mut W, err: &mut E) -> u8
+    ensures unknown { IsNone (text_of name.now) → result ≡ 2 }
+    ensures known { IsSome (text_of name.now) → result ≤ 1 }
+    ensures printed { IfSome (text_of name.now) (λ text. result ≡ 0 →
+        Appends (W.contents out.old) (W.contents out.new) text) }
+{
+    if name == "passthrough" {
+        print_design(passthrough(alloc), out, err)
+    } else if name == "cases" {
+        print_design(cases(alloc), out, err)
+    } else if name == "registers" {
+        print_design(registers(alloc), out, err)
+    } else {
+        unknown(err)
     }
 }
 
@@ -65,6 +88,30 @@ fn print_design<F: Display + Drop, W: Write, E: Write>(
             Err(_) => fail("write fault", err),
         },
         Err(fault) => fail(fault, err),
+    }
+}
+
+fn print_answer<R: Read, W: Write, E: Write>(
+    alloc: Global,
+    input: &mut R,
+    out: &mut W,
+    err: &mut E,
+) -> u8
+    ensures status { result ≤ 1 }
+    ensures ends { CheckEnds (R.remaining input.old) (R.remaining input.new)
+        (W.contents out.old) (W.contents out.new) result }
+{
+    match check(alloc, input) {
+        Ok(true) => match write_line(b"derived\n", out) {
+            Ok(()) => 0,
+            Err(WriteFault) => fail("write fault", err),
+        },
+        Ok(false) => match write_line(b"not derived\n", out) {
+            Ok(()) => 1,
+            Err(WriteFault) => fail("write fault", err),
+        },
+        Err(InputFault::Read | InputFault::Length) => fail("read fault", err),
+        Err(InputFault::Memory) => fail("out of memory", err),
     }
 }
 

@@ -54,7 +54,7 @@ module _ (p : Parser) (s : Sound p) where
 
   -- unary and infix signs
 
-  selected_sound : (ts : List Token) (r : NormalExpr × List Token) → selected p ts ≡ Some r → From 13 [] ts r
+  pub selected_sound : (ts : List Token) (r : NormalExpr × List Token) → selected p ts ≡ Some r → From 13 [] ts r
   unfolding selected
   selected_sound ts r e =
       let a = bind_some _ _ r e in
@@ -151,10 +151,10 @@ module _ (p : Parser) (s : Sound p) where
       let f = x.from in
       expression_on_sound ts f.front a.0.0 a.0.1 (lead a.0.1) r f.whole f.tree refl a.2
 
-  step_sound : Sound (step p)
+  pub step_sound : Sound (step p)
   step_sound = record { expression_at = expression_sound; binary_at = binary_sound; climb_at = climb_sound; operand_at = operand_sound; selects_at = selects_sound; list_at = list_sound p s }
 
-silent_sound : Sound silent
+pub silent_sound : Sound silent
 unfolding silent
 silent_sound = record {
   expression_at = λ ts r e. absurd (cc e);

@@ -24,6 +24,11 @@ pub mod StatementParser
 pub mod DeclarationParser
 pub mod MemberParser
 pub mod FileParser
+pub mod Settled
+pub mod Nexts
+pub mod SettledDeclarations
+pub mod SettledMembers
+pub mod SettledFiles
 pub mod NormalTree
 pub mod FileTokens
 pub mod PlainFile

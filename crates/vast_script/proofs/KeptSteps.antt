@@ -1,12 +1,12 @@
 -- What lists of steps keep.
-use Rattle.std.proofs.Common.{◌≡◌, List, [], ◌∷◌, ◌++◌, length}
+use Rattle.std.proofs.Common.{List, [], ◌∷◌}
 use Rattle.std.specs.List.{fold}
 use Rattle.vast_core.specs.Bench.{Bench}
 use Rattle.vast_script.specs.declared.answer.Answer.{Answer}
 use Rattle.vast_script.specs.declared.step.Step.{Step}
 use Rattle.vast_script.specs.declared.step.Step.TheVariants.{Operators, Expressions, Types, Modules, Loops, Statements, Artifacts}
 use Rattle.vast_script.specs.Outcome.{Outcome, Made, AtFault}
-use Rattle.vast_script.specs.Script.{call_of, Run, Going, Stopped, gone_on, one_more, run, built, left_by}
+use Rattle.vast_script.specs.Script.{call_of, Run, Going, Stopped, gone_on, one_more, left_by}
 use Rattle.vast_script.specs.Laws.{Keeps, StepsKeepTheFile}
 use Rattle.vast_script.proofs.Kept.{keeps-same, keeps-then}
 use Rattle.vast_script.proofs.KeptOutcomes.{OutcomeKeeps, CallKeeps}

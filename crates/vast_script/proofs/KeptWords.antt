@@ -1,6 +1,5 @@
 -- What a file keeps at each word for what it holds after a call.
-use Rattle.std.proofs.Common.{◌≡◌, ℕ, ℤ, Bool, true, false, List, [], ◌∷◌, Option, Some, None}
-use Rattle.vast_literal.specs.Tree.{ScalarTree}
+use Rattle.std.proofs.Common.{ℕ, ℤ, Bool, true, false, List, Option, Some}
 use Rattle.vast_core.specs.declared.handle.Expr.{Expr}
 use Rattle.vast_core.specs.declared.handle.IndexableExpr.{IndexableExpr}
 use Rattle.vast_core.specs.declared.handle.VastModule.{VastModule}

@@ -3,15 +3,13 @@ use Rattle.std.specs.Prelude.{ℕ, Bool, true, false, nat_eq, ◌&&◌, List, le
 use Rattle.vast_core.specs.declared.handle.Expr.{Expr}
 use Rattle.vast_core.specs.declared.kind.DataKind.{DataKind}
 use Rattle.vast_core.specs.Records.{BlankLineRecord, CommentRecord, InlineRecord, MacroRecord, AssignmentEntry, BlankEntry, CommentEntry, InlineEntry, MacroEntry, InstanceEntry, InstanceRecord}
-use Rattle.vast_core.specs.Bench.{Bench}
 use Rattle.vast_core.specs.Growth.{with_member, next_continuous, with_assignment}
 use Rattle.vast_core.specs.Artifacts.{next_def, with_definition, next_blank_line, next_comment, next_inline, next_macro_statement, with_artifact, next_instantiation, with_instance, next_statement}
 use Rattle.xlsynth_vast.specs.Instances.{connected}
-use Rattle.vast_script.specs.declared.answer.Answer.{Answer}
 use Rattle.vast_script.specs.declared.answer.Answer.TheVariants.{Def, BlankLine, Comment, InlineVerilogStatement, MacroStatement, ContinuousAssignment, VastStatement, Instantiation, Nothing}
 use Rattle.vast_script.specs.declared.step.ArtifactStep.{ArtifactStep}
 use Rattle.vast_script.specs.declared.step.ArtifactStep.TheVariants.{MakeDef, MakeBlankLine, MakeComment, MakeInlineVerilogStatement, MakeMacroStatement, MakeContinuousAssignment, MakeNonblockingAssignment, MakeBlockingAssignment, MakeInstantiation, AddMemberInstantiation, AddMemberContinuousAssignment, AddMemberBlankLine, AddMemberComment, AddMemberInlineStatement, AddMemberMacroStatement}
-use Rattle.vast_script.specs.Outcome.{Outcome, Call, Made, given, provided}
+use Rattle.vast_script.specs.Outcome.{Call, Made, given, provided}
 use Rattle.vast_script.specs.Kinds.{an_expr, a_type, a_module, a_macro_ref, an_instantiation, a_continuous, a_blank_line, a_comment, an_inline, a_macro_statement}
 use Rattle.vast_script.specs.Arguments.{one, two, many_and_open}
 

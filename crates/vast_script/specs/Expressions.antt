@@ -4,16 +4,15 @@ use Rattle.vast_literal.specs.declared.literal.LiteralFormat.{LiteralFormat}
 use Rattle.vast_literal.specs.Tree.{ExprTree, LiteralTree}
 use Rattle.vast_literal.specs.Pattern.{pattern}
 use Rattle.vast_core.specs.Types.{is_castable}
-use Rattle.vast_core.specs.Bench.{Bench, type_of}
+use Rattle.vast_core.specs.Bench.{type_of}
 use Rattle.vast_core.specs.Handles.{expr_to_indexable_expr}
 use Rattle.vast_core.specs.Growth.{next_expr, with_expr, decimal_literal, next_index, next_fixed_index, with_fixed_index, next_slice, next_fixed_slice, with_fixed_slice, next_macro_ref, next_fixed_replication, with_fixed_replication}
 use Rattle.xlsynth_vast.specs.Expressions.{with_index, with_slice, with_part_select, with_ternary, with_width_cast, with_type_cast, with_pos_edge, with_neg_edge, with_concat, with_replication, with_pattern, with_call, with_macro, with_macro_call}
 use Rattle.xlsynth_vast.specs.Literals.{literal_in, pattern_literal, string_literal, selector_text}
-use Rattle.vast_script.specs.declared.answer.Answer.{Answer}
 use Rattle.vast_script.specs.declared.answer.Answer.TheVariants.{Expr, IndexableExpr, Slice, Index, MacroRef}
 use Rattle.vast_script.specs.declared.step.ExpressionStep.{ExpressionStep}
 use Rattle.vast_script.specs.declared.step.ExpressionStep.TheVariants.{MakeLiteral, MakeBinaryPattern, MakeUnsizedDecimalLiteral, MakeStringLiteral, MakeUnsizedOneLiteral, MakeUnsizedZeroLiteral, MakeUnsizedXLiteral, MakeIndexableExpression, MakeSlice, MakeIndex, MakeSliceExpr, MakeIndexExpr, MakeIndexedPartSelect, MakeFunctionCall, MakeConcat, MakeReplicatedConcat, MakeReplicatedConcatI64, MakeArrayAssignmentPattern, MakeTernary, MakeWidthCast, MakeTypeCast, MakePosEdge, MakeNegEdge, MakeMacroRef, MakeMacroRefWithArgs}
-use Rattle.vast_script.specs.Outcome.{Outcome, Call, Made, given, provided, allowed}
+use Rattle.vast_script.specs.Outcome.{Call, Made, given, provided, allowed}
 use Rattle.vast_script.specs.Kinds.{an_expr, an_indexable, a_type}
 use Rattle.vast_script.specs.Arguments.{one, two, three, many, one_and_many}
 use Rattle.vast_script.specs.Conditions.{is_named}

@@ -1,5 +1,5 @@
 -- The kinds of handles: which answers may stand for one, and which are the file's.
-use Rattle.std.specs.Prelude.{ℕ, Bool, ◌&&◌, ◌==◌, nat_lt, length, slice_get, Option, Some, None}
+use Rattle.std.specs.Prelude.{Bool, ◌&&◌, ◌==◌, nat_lt, length, slice_get, Option, Some, None}
 use Rattle.vast_core.specs.declared.handle.Id.{Id}
 use Rattle.vast_core.specs.declared.handle.VastModule.{VastModule as ModuleHandle}
 use Rattle.vast_core.specs.declared.handle.VastFunction.{VastFunction as FunctionHandle}

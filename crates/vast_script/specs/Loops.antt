@@ -4,7 +4,6 @@ use Rattle.vast_core.specs.declared.kind.AlwaysKind.{AlwaysKind}
 use Rattle.vast_core.specs.declared.kind.AlwaysKind.TheVariants.{AlwaysFF, AlwaysAt, AlwaysComb}
 use Rattle.vast_core.specs.Records.{AssignmentEntry, BlankEntry, CommentEntry, InlineEntry, MacroEntry, InstanceEntry, ConditionalEntry, LoopEntry}
 use Rattle.vast_core.specs.Nests.{label_bytes}
-use Rattle.vast_core.specs.Bench.{Bench}
 use Rattle.vast_core.specs.Growth.{with_member, next_continuous, with_assignment}
 use Rattle.vast_core.specs.Artifacts.{next_statement}
 use Rattle.vast_core.specs.Containers.{next_conditional, with_conditional}
@@ -12,11 +11,10 @@ use Rattle.vast_core.specs.Parameters.{next_localparam_ref}
 use Rattle.vast_core.specs.Loops.{next_always, next_loop, with_loop, with_loop_member, with_plain_loop_parameter, with_defined_loop_parameter}
 use Rattle.xlsynth_vast.specs.AlwaysBlocks.{unless_wrong_event, with_loop_always}
 use Rattle.xlsynth_vast.specs.Inspections.{genvar_at}
-use Rattle.vast_script.specs.declared.answer.Answer.{Answer}
 use Rattle.vast_script.specs.declared.answer.Answer.TheVariants.{GenerateLoop, LogicRef, VastAlwaysBase, LocalparamRef, VastStatement, Conditional, Nothing}
 use Rattle.vast_script.specs.declared.step.LoopStep.{LoopStep}
 use Rattle.vast_script.specs.declared.step.LoopStep.TheVariants.{AddGenerateLoop, GenerateAddGenerateLoop, GenerateGenvar, GenerateAddAlwaysComb, GenerateAddAlwaysFf, GenerateAddAlwaysAt, GenerateAddLocalparam, GenerateAddTypedLocalparam, GenerateAddContinuousAssignment, GenerateAddConditional, GenerateAddBlankLine, GenerateAddComment, GenerateAddInstantiation, GenerateAddInlineStatement, GenerateAddMacroStatement}
-use Rattle.vast_script.specs.Outcome.{Outcome, Call, Made, given, allowed, holding}
+use Rattle.vast_script.specs.Outcome.{Call, Made, given, allowed, holding}
 use Rattle.vast_script.specs.Kinds.{a_module, a_loop, an_expr, a_definition, a_comment, an_instantiation, an_inline, a_macro_statement}
 use Rattle.vast_script.specs.Arguments.{one, two, three, one_and_many}
 

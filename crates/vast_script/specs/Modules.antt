@@ -5,18 +5,16 @@ use Rattle.vast_core.specs.declared.kind.ModulePortDirection.TheVariants.{Input,
 use Rattle.vast_core.specs.declared.kind.DataKind.{DataKind}
 use Rattle.vast_core.specs.declared.kind.DataKind.TheVariants.{Wire, Reg, Logic}
 use Rattle.vast_core.specs.Records.{FileEntry, IncludeEntry, FileBlankEntry, FileCommentEntry}
-use Rattle.vast_core.specs.Bench.{Bench}
 use Rattle.vast_core.specs.Growth.{next_module, with_module, with_item, next_logic_ref, with_port, with_declaration}
 use Rattle.vast_core.specs.Parameters.{next_parameter_ref, next_localparam_ref, with_parameter_port, with_plain_parameter, with_int_parameter, with_defined_parameter}
 use Rattle.vast_core.specs.Hoisting.{with_hoisted}
 use Rattle.xlsynth_vast.specs.Conditions.{is_free}
 use Rattle.xlsynth_vast.specs.Declarations.{names_in, unless_taken}
 use Rattle.xlsynth_vast.specs.Inspections.{members_in}
-use Rattle.vast_script.specs.declared.answer.Answer.{Answer}
 use Rattle.vast_script.specs.declared.answer.Answer.TheVariants.{VastModule, LogicRef, ParameterRef, LocalparamRef, Nothing}
 use Rattle.vast_script.specs.declared.step.ModuleStep.{ModuleStep}
 use Rattle.vast_script.specs.declared.step.ModuleStep.TheVariants.{AddInclude, AddBlankLine, AddCommentText, AddModule, AddInput, AddOutput, AddInout, AddLogicInput, AddLogicOutput, AddWire, AddReg, AddLogic, AddParameterPort, AddTypedParameterPort, AddParameter, AddParameterWithDef, AddLocalparam, AddIntLocalparam, AddTypedLocalparam, HoistModuleDeclarations}
-use Rattle.vast_script.specs.Outcome.{Outcome, Call, Made, given, provided, allowed}
+use Rattle.vast_script.specs.Outcome.{Call, Made, given, provided, allowed}
 use Rattle.vast_script.specs.Kinds.{a_module, a_type, an_expr, a_definition, a_blank_line}
 use Rattle.vast_script.specs.Arguments.{one, two, three}
 

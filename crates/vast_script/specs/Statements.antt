@@ -9,7 +9,7 @@ use Rattle.vast_core.specs.declared.kind.CaseKind.TheVariants.{Case, CaseZ, Case
 use Rattle.vast_core.specs.Handles.{conditional_index}
 use Rattle.vast_core.specs.Records.{ConditionalEntry}
 use Rattle.vast_core.specs.Nests.{StatementEntry, AssignStatement, ContinuousStatement, ConditionalStatement, CasesStatement, BlankStatement, CommentStatement, InlineStatement}
-use Rattle.vast_core.specs.Bench.{Bench, type_of}
+use Rattle.vast_core.specs.Bench.{type_of}
 use Rattle.vast_core.specs.Growth.{next_logic_ref, with_member, with_assignment}
 use Rattle.vast_core.specs.Artifacts.{next_statement}
 use Rattle.vast_core.specs.Functions.{with_variable}
@@ -20,11 +20,10 @@ use Rattle.xlsynth_vast.specs.Cases.{may_be_unique}
 use Rattle.xlsynth_vast.specs.Declarations.{names_in}
 use Rattle.xlsynth_vast.specs.Functions.{may_be_function, with_function_member, unless_taken_in_function}
 use Rattle.xlsynth_vast.specs.Inspections.{block_at, then_block_at, body_at, result_at}
-use Rattle.vast_script.specs.declared.answer.Answer.{Answer}
 use Rattle.vast_script.specs.declared.answer.Answer.TheVariants.{VastFunction, LogicRef, VastAlwaysBase, VastStatementBlock, VastStatement, Conditional, CaseStatement, Nothing}
 use Rattle.vast_script.specs.declared.step.StatementStep.{StatementStep}
 use Rattle.vast_script.specs.declared.step.StatementStep.TheVariants.{AddFunction, FunctionAddInput, FunctionAddLogicInput, FunctionAddReg, FunctionAddLogic, FunctionBody, FunctionResult, AddAlwaysFf, AddAlwaysAt, AddAlwaysComb, StatementBlock, BlockAddBlockingAssignment, BlockAddNonblockingAssignment, BlockAddContinuousAssignment, BlockAddCommentText, BlockAddInlineText, BlockAddBlankLine, AddConditional, BlockAddCond, ConditionalThenBlock, ConditionalAddElseIf, ConditionalAddElse, BlockAddCase, BlockAddCasez, BlockAddCasex, CaseAddItem, CaseAddDefault, CaseSetUnique}
-use Rattle.vast_script.specs.Outcome.{Outcome, Call, Made, given, provided, allowed, holding}
+use Rattle.vast_script.specs.Outcome.{Call, Made, given, provided, allowed, holding}
 use Rattle.vast_script.specs.Kinds.{a_module, a_function, a_type, an_expr, an_always, a_block, a_conditional, a_case}
 use Rattle.vast_script.specs.Arguments.{one, two, three, one_and_many}
 

@@ -2,16 +2,15 @@
 use Rattle.std.specs.Prelude.{ℕ, ℤ, pos, int_le, Bool, false, ◌&&◌, List, string_bytes}
 use Rattle.vast_literal.specs.Tree.{TypeTree, ScalarTree, IntegerTree, IntTree, ExternalTree, PackageTree}
 use Rattle.vast_core.specs.Types.{is_packable}
-use Rattle.vast_core.specs.Bench.{Bench, tree_of, type_of}
+use Rattle.vast_core.specs.Bench.{tree_of, type_of}
 use Rattle.vast_core.specs.Growth.{next_type, with_type}
 use Rattle.xlsynth_vast.specs.Conditions.{is_usable_width}
 use Rattle.xlsynth_vast.specs.Equations.{next_bit_vector, with_bit_vector}
 use Rattle.xlsynth_vast.specs.Types.{with_vector_expr, with_packed, with_unpacked}
-use Rattle.vast_script.specs.declared.answer.Answer.{Answer}
 use Rattle.vast_script.specs.declared.answer.Answer.TheVariants.{VastDataType}
 use Rattle.vast_script.specs.declared.step.TypeStep.{TypeStep}
 use Rattle.vast_script.specs.declared.step.TypeStep.TheVariants.{MakeScalarType, MakeIntegerType, MakeIntType, MakeExternType, MakeExternPackageType, MakeBitVectorType, MakeBitVectorTypeExpr, MakePackedArrayType, MakeUnpackedArrayType}
-use Rattle.vast_script.specs.Outcome.{Outcome, Call, Made, given, provided}
+use Rattle.vast_script.specs.Outcome.{Call, Made, given, provided}
 use Rattle.vast_script.specs.Kinds.{a_type, an_expr}
 use Rattle.vast_script.specs.Arguments.{one}
 use Rattle.vast_script.specs.Conditions.{are_dimensions}

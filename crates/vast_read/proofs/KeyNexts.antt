@@ -1,0 +1,108 @@
+-- Which keyword or sign stands next.
+use Rattle.std.proofs.Common.{◌≡◌, true, false, cond, nat_eq, Bool, List, [], ◌∷◌, Some, None, refl, arith, ◌≢◌, eq-eqb}
+use Rattle.vast_literal.specs.Tokens.{Op, LessEqual, Assign, Key, Token, Reserved, Operator, Mark}
+use Rattle.vast_literal.specs.Parser.{after, code, key_at}
+use Rattle.vast_literal.specs.StatementParser.{key_code, after_key_on, after_key, arrow_at}
+use Rattle.vast_literal.specs.Settled.{either}
+use Rattle.vast_read.specs.Steps.{sign_in}
+use Rattle.vast_literal.specs.Nexts.{key_in, key_with, sign_with, is_less_equal}
+use Rattle.std.proofs.lemmas.Bool.Decides.{nat_tests}
+
+key_is : (t : Token) (k : Key) → key_in t ≡ Some k → t ≡ Reserved k
+unfolding key_in
+key_is (Reserved v) k d = let c : v ≡ k = cc in rw c
+key_is (Mark p) k d = absurd (cc)
+key_is _ k d = absurd (cc)
+
+sign_is : (t : Token) (op : Op) → sign_in t ≡ Some op → t ≡ Operator op
+unfolding sign_in
+sign_is (Operator v) op d = let c : v ≡ op = cc in rw c
+sign_is (Mark p) op d = absurd (cc)
+sign_is _ op d = absurd (cc)
+
+-- a keyword
+
+pub after_key_nothing : (k : Key) (ts : List Token) → ts ≡ [] → after_key k ts ≡ None
+unfolding after_key after_key_on key_at
+after_key_nothing k ts e = rw e
+
+pub after_key_other : (k : Key) (ts us : List Token) (t : Token) → ts ≡ (t ∷ us) → key_in t ≡ None → after_key k ts ≡ None
+unfolding after_key after_key_on key_at key_in
+after_key_other k ts us t e d = rw e (go t d)
+  where
+    go : (t : Token) → key_in t ≡ None → after_key k (t ∷ us) ≡ None
+    go (Reserved v) d = absurd (cc)
+    go (Mark p) d = refl
+    go _ d = refl
+
+pub after_key_next : (k v : Key) (ts us : List Token) (t : Token) → ts ≡ (t ∷ us) → key_in t ≡ Some v → after_key k ts ≡ cond (nat_eq (key_code v) (key_code k)) (Some us) None
+unfolding after_key after_key_on key_at
+after_key_next k v ts us t e d = rw (e, key_is t v d)
+
+pub after_key_same : (k v : Key) (ts us : List Token) (t : Token) → ts ≡ (t ∷ us) → key_in t ≡ Some v → key_code v ≡ key_code k → after_key k ts ≡ Some us
+after_key_same k v ts us t e d n = rw (after_key_next k v ts us t e d) (rw (eq-eqb (key_code v) (key_code k) n))
+
+pub after_key_differs : (k v : Key) (ts us : List Token) (t : Token) → ts ≡ (t ∷ us) → key_in t ≡ Some v → (key_code v ≢ key_code k) → after_key k ts ≡ None
+after_key_differs k v ts us t e d n = rw (after_key_next k v ts us t e d) (let f : nat_eq (key_code v) (key_code k) ≡ false = grind (arith, nat_tests) in rw f)
+
+pub ruleset keys = (after_key_nothing, after_key_other, after_key_same, after_key_differs)
+
+-- a keyword of a kind
+
+pub key_with_nothing : (test : Key → Bool) (ts : List Token) → ts ≡ [] → key_with test ts ≡ None
+unfolding key_with
+key_with_nothing test ts e = rw e
+
+pub key_with_other : (test : Key → Bool) (ts us : List Token) (t : Token) → ts ≡ (t ∷ us) → key_in t ≡ None → key_with test ts ≡ None
+unfolding key_with key_in
+key_with_other test ts us t e d = rw e (go t d)
+  where
+    go : (t : Token) → key_in t ≡ None → key_with test (t ∷ us) ≡ None
+    go (Reserved v) d = absurd (cc)
+    go (Mark p) d = refl
+    go _ d = refl
+
+pub key_with_yes : (test : Key → Bool) (k : Key) (ts us : List Token) (t : Token) → ts ≡ (t ∷ us) → key_in t ≡ Some k → test k ≡ true → key_with test ts ≡ Some (k, us)
+unfolding key_with
+key_with_yes test k ts us t e d h = rw (e, key_is t k d) (rw h)
+
+pub key_with_no : (test : Key → Bool) (k : Key) (ts us : List Token) (t : Token) → ts ≡ (t ∷ us) → key_in t ≡ Some k → test k ≡ false → key_with test ts ≡ None
+unfolding key_with
+key_with_no test k ts us t e d h = rw (e, key_is t k d) (rw h)
+
+pub ruleset kinds = (key_with_nothing, key_with_other, key_with_yes, key_with_no)
+
+-- a sign
+
+pub sign_with_nothing : (test : Op → Bool) (ts : List Token) → ts ≡ [] → sign_with test ts ≡ None
+unfolding sign_with
+sign_with_nothing test ts e = rw e
+
+pub sign_with_other : (test : Op → Bool) (ts us : List Token) (t : Token) → ts ≡ (t ∷ us) → sign_in t ≡ None → sign_with test ts ≡ None
+unfolding sign_with sign_in
+sign_with_other test ts us t e d = rw e (go t d)
+  where
+    go : (t : Token) → sign_in t ≡ None → sign_with test (t ∷ us) ≡ None
+    go (Operator v) d = absurd (cc)
+    go (Mark p) d = refl
+    go _ d = refl
+
+pub sign_with_yes : (test : Op → Bool) (op : Op) (ts us : List Token) (t : Token) → ts ≡ (t ∷ us) → sign_in t ≡ Some op → test op ≡ true → sign_with test ts ≡ Some us
+unfolding sign_with
+sign_with_yes test op ts us t e d h = rw (e, sign_is t op d) (rw h)
+
+pub sign_with_no : (test : Op → Bool) (op : Op) (ts us : List Token) (t : Token) → ts ≡ (t ∷ us) → sign_in t ≡ Some op → test op ≡ false → sign_with test ts ≡ None
+unfolding sign_with
+sign_with_no test op ts us t e d h = rw (e, sign_is t op d) (rw h)
+
+pub ruleset signs = (sign_with_nothing, sign_with_other, sign_with_yes, sign_with_no)
+
+-- `=` or `<=`
+pub arrow_reads : (ts : List Token) → arrow_at ts ≡ either (after Assign ts) (λ us. Some (true, us)) (either (sign_with is_less_equal ts) (λ us. Some (false, us)) None)
+unfolding arrow_at after code either sign_with is_less_equal
+arrow_reads [] = refl
+arrow_reads (Mark Assign ∷ us) = refl
+arrow_reads (Mark _ ∷ us) = refl
+arrow_reads (Operator LessEqual ∷ us) = refl
+arrow_reads (Operator _ ∷ us) = refl
+arrow_reads (_ ∷ us) = refl

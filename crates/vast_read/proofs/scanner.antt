@@ -1,0 +1,10 @@
+mod Cuts
+mod Lexemes
+mod Words
+mod Literals
+mod BasedLiterals
+mod Strings
+mod Signs
+mod Tokens
+mod Keys
+mod KeywordTable

@@ -1,0 +1,23 @@
+use Rattle.std.proofs.Common.{◌≡◌, ◌<◌, get_or, Some, None, sym, ap, ◌∙◌, subst, arith}
+use Rattle.vast_literal.specs.Scan.{keep, Pending, grown}
+use Rattle.vast_read.specs.TokenView.{token_view}
+use Rattle.vast_read.specs.Scanner.{growth_step, Reaches}
+use Rattle.vast_read.proofs.scanner.Strings.{other_within}
+use Rattle.vast_read.proofs.scanner.Signs.{grown_reaches, sign_ends}
+use Rattle.vast_read.proofs.scanner.sign.+sign_from.Goals as goal
+
+pub sign_from-requires : goal.sign_from-requires
+sign_from-requires t c =
+    let text = c.args.text.now in
+    let r : Reaches text c.args.place (keep (Pending (token_view c.in-Open.token))) = subst (λ g. Reaches text c.args.place (growth_step g)) c.in-Open.is c.requires.1.1 in
+    let e : grown (token_view c.in-Open.token) (get_or text c.args.place 10) ≡ Some (growth_step c.in-Some.longer) = ap (grown (token_view c.in-Open.token)) (sym c.byte_at.ensures) ∙ sym c.in-Some.ensures.growth in
+    let large : 32 < get_or text c.args.place 10 = omega (arith, c.in-Some.ensures.byte) in
+    let within = other_within text c.args.place (λ b. absurd (omega arith)) in
+    (omega arith, grown_reaches text c.args.place (token_view c.in-Open.token) (growth_step c.in-Some.longer) r e large (omega (arith, c.in-Some.ensures.byte)))
+
+pub returns-in-None : goal.returns-in-None
+returns-in-None t c =
+    let text = c.args.text.now in
+    let r : Reaches text c.args.place (keep (Pending (token_view c.in-Open.token))) = subst (λ g. Reaches text c.args.place (growth_step g)) c.in-Open.is c.requires.1.1 in
+    let e : grown (token_view c.in-Open.token) (get_or text c.args.place 10) ≡ None = ap (grown (token_view c.in-Open.token)) (sym c.byte_at.ensures) ∙ sym c.in-None.ensures.growth in
+    (rw c.range_from-in-None.ensures.value (sign_ends text c.args.place (token_view c.in-Open.token) r e), omega (arith, r.moved, r.boundary.0, c.range_from-in-None.ensures.len))

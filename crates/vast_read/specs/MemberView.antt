@@ -1,0 +1,62 @@
+-- The normal members that members of the reader stand for.
+use Rattle.std.specs.Prelude.{ℕ, List, [], ◌∷◌, Option, Some, None, option_map, map}
+use Rattle.vast_literal.specs.NormalExpr as expression
+use Rattle.vast_literal.specs.NormalExpr.{Name}
+use Rattle.vast_literal.specs.NormalFile as normal
+use Rattle.vast_literal.specs.NormalFile.{Event, EdgeEvent, NameEvent, NormalMembers, NoParts, MoreParts}
+use Rattle.vast_read.specs.Texts.{key_of}
+use Rattle.vast_read.specs.View.{view, listed}
+use Rattle.vast_read.specs.StatementParts.{arms_in}
+use Rattle.vast_read.specs.StatementView.{statement_view, block_view}
+use Rattle.vast_read.specs.DeclarationView.{declaration_view, declarations_view}
+use Rattle.vast_read.specs.declared.tree.member.Event.{Event as CodeEvent}
+use Rattle.vast_read.specs.declared.tree.member.Connection.{Connection}
+use Rattle.vast_read.specs.declared.tree.member.NormalMember.{NormalMember, fold-NormalMember}
+use Rattle.vast_read.specs.declared.tree.member.NormalMember.TheOpen.{NormalMember-F}
+
+-- The name that an expression is; what an event without an edge waits for is always one.
+abbrev pub name_of : expression.NormalExpr → List ℕ
+name_of (Name w) = w
+name_of _ = []
+
+abbrev pub event_of : Option (List ℕ) → expression.NormalExpr → Event
+event_of None x = NameEvent (name_of x)
+event_of (Some word) x = EdgeEvent (key_of word) x
+
+abbrev pub event_view : CodeEvent → Event
+event_view e = event_of e.edge (view e.expression.value)
+
+abbrev pub events_view : List CodeEvent → List Event
+events_view es = map event_view es
+
+abbrev pub connection_view : Connection → normal.NormalConnection
+connection_view c = record { name = c.name; value = option_map (λ x. view x.value) c.value }
+
+abbrev pub connections_view : List Connection → List normal.NormalConnection
+connections_view cs = map connection_view cs
+
+-- What is given by a name.
+abbrev pub given : List ℕ → Option expression.NormalExpr → normal.NormalConnection
+given w x = record { name = w; value = x }
+
+abbrev pub members_of : List normal.NormalMember → NormalMembers
+members_of [] = NoParts
+members_of (m ∷ ms) = MoreParts m (members_of ms)
+
+-- One level, with each member inside already seen.
+abbrev pub member_level : NormalMember-F normal.NormalMember → normal.NormalMember
+member_level (NormalMember-F.Declaration d) = normal.DeclarationPart (declaration_view d.value)
+member_level (NormalMember-F.Assign l r) = normal.AssignPart (view l.value) (view r.value)
+member_level (NormalMember-F.Parameter word d x) = normal.ParameterPart (key_of word) (declaration_view d.value) (view x.value)
+member_level (NormalMember-F.Macro name xs semicolon) = normal.MacroPart name (option_map listed xs) semicolon
+member_level (NormalMember-F.Instance m ps i cs) = normal.InstancePart m (connections_view ps) i (connections_view cs)
+member_level (NormalMember-F.Always word es b) = normal.AlwaysPart (key_of word) (events_view es) (block_view b)
+member_level (NormalMember-F.Conditional s) = normal.ConditionalPart (arms_in (statement_view s.value))
+member_level (NormalMember-F.Function d is ls b) = normal.FunctionPart (declaration_view d.value) (declarations_view is) (declarations_view ls) (block_view b)
+member_level (NormalMember-F.Loop i x e l ms) = normal.LoopPart i (view x.value) (view e.value) l (members_of ms)
+
+abbrev pub member_view : NormalMember → normal.NormalMember
+member_view = fold-NormalMember normal.NormalMember member_level
+
+abbrev pub members_view : List NormalMember → NormalMembers
+members_view ms = members_of (map member_view ms)

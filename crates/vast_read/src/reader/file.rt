@@ -1,0 +1,240 @@
+//! Modules and files.
+
+ghost use Rattle.std.specs.Prelude.{◌≡◌, ℕ, ◌<◌, ◌≤◌, length, IfOk, MatchOption, MatchResult, Some, None};
+ghost use Rattle.vast_literal.specs.FileParser.{include_on};
+ghost use Rattle.vast_literal.specs.SettledFiles.{settled_parameter, settled_port, joined_parameters, joined_ports, parameter_list, settled_parameters, port_list, settled_ports, settled_module, include_at, settled_item, settled_items, settled_file};
+ghost use Rattle.vast_read.specs.Answers.{ReadsAs};
+ghost use Rattle.vast_read.specs.Includes.{include_text};
+ghost use Rattle.vast_read.specs.FileView.{parameter_view, parameters_view, port_view, ports_view, item_view, items_view, file_view};
+
+use crate::children::Children;
+use crate::fault::Fault;
+use crate::reader::Reader;
+use crate::reader::path::path_of;
+use crate::token::{Key, KeyClass, Mark};
+use crate::tree::{NormalFile, NormalItem, NormalModule, Parameter, Port};
+
+impl<'t> Reader<'t> {
+    /// Reads a parameter of a header.
+    #[tactic(auto, using(crate::proofs::FileRules::parameters))]
+    pub(crate) fn parameter(&mut self) -> Result<Parameter, Fault>
+        ensures reads { ReadsAs parameter_view result self.new (settled_parameter self.old) }
+        ensures fewer { length self.new ≤ length self.old }
+    {
+        self.expect_key(Key::Parameter)?;
+        let declared = self.declaration()?;
+        self.expect(Mark::Assign)?;
+        let value = self.expression()?;
+        Parameter::new(self.alloc, declared, value)
+    }
+
+    /// Reads parameters of a header, at least one.
+    #[tactic(auto, using(crate::proofs::FileRules::parameter_lists))]
+    pub(crate) fn joined_parameters(&mut self) -> Result<Children<Parameter>, Fault>
+        ensures reads { ReadsAs parameters_view result self.new (joined_parameters self.old) }
+        ensures fewer { length self.new ≤ length self.old }
+    {
+        let mut items = Children::new(self.alloc);
+        let first = self.parameter()?;
+        items.push(first)?;
+        while self.eat(Mark::Comma) {
+            let item = self.parameter()?;
+            items.push(item)?;
+        }
+        Ok(items)
+    }
+
+    /// Reads the parameters of a header in their parentheses.
+    #[tactic(auto, using(crate::proofs::FileRules::parameters_in_parentheses))]
+    pub(crate) fn parameter_list(&mut self) -> Result<Children<Parameter>, Fault>
+        ensures reads { ReadsAs parameters_view result self.new (parameter_list self.old) }
+        ensures fewer { length self.new ≤ length self.old }
+    {
+        self.expect(Mark::OpenParen)?;
+        let items = self.joined_parameters()?;
+        self.expect(Mark::CloseParen)?;
+        Ok(items)
+    }
+
+    /// Reads the parameters of a header, where there are any.
+    #[tactic(auto, using(crate::proofs::FileRules::header_parameters))]
+    pub(crate) fn parameters(&mut self) -> Result<Children<Parameter>, Fault>
+        ensures reads { ReadsAs parameters_view result self.new (settled_parameters self.old) }
+        ensures fewer { length self.new ≤ length self.old }
+    {
+        if self.eat(Mark::Hash) {
+            self.parameter_list()
+        } else {
+            Ok(Children::new(self.alloc))
+        }
+    }
+
+    /// Reads a port.
+    #[tactic(auto, using(crate::proofs::FileRules::ports))]
+    pub(crate) fn port(&mut self) -> Result<Port, Fault>
+        ensures reads { ReadsAs port_view result self.new (settled_port self.old) }
+        ensures fewer { length self.new ≤ length self.old }
+    {
+        match self.key_in(KeyClass::Direction) {
+            None => Err(Fault::Underived),
+            Some(direction) => {
+                let declared = self.declaration()?;
+                Port::new(self.alloc, direction, declared)
+            }
+        }
+    }
+
+    /// Reads ports, at least one.
+    #[tactic(auto, using(crate::proofs::FileRules::port_lists))]
+    pub(crate) fn joined_ports(&mut self) -> Result<Children<Port>, Fault>
+        ensures reads { ReadsAs ports_view result self.new (joined_ports self.old) }
+        ensures fewer { length self.new ≤ length self.old }
+    {
+        let mut items = Children::new(self.alloc);
+        let first = self.port()?;
+        items.push(first)?;
+        while self.eat(Mark::Comma) {
+            let item = self.port()?;
+            items.push(item)?;
+        }
+        Ok(items)
+    }
+
+    /// Reads ports and the parenthesis behind them.
+    #[tactic(auto, using(crate::proofs::FileRules::closed_ports))]
+    pub(crate) fn port_list(&mut self) -> Result<Children<Port>, Fault>
+        ensures reads { ReadsAs ports_view result self.new (port_list self.old) }
+        ensures fewer { length self.new ≤ length self.old }
+    {
+        let items = self.joined_ports()?;
+        self.expect(Mark::CloseParen)?;
+        Ok(items)
+    }
+
+    /// Reads the ports of a header, where there are any.
+    #[tactic(auto, using(crate::proofs::FileRules::header_ports))]
+    pub(crate) fn ports(&mut self) -> Result<Children<Port>, Fault>
+        ensures reads { ReadsAs ports_view result self.new (settled_ports self.old) }
+        ensures fewer { length self.new ≤ length self.old }
+    {
+        if self.eat(Mark::OpenParen) {
+            self.port_list()
+        } else {
+            Ok(Children::new(self.alloc))
+        }
+    }
+
+    /// Reads a module, behind its keyword.
+    #[tactic(auto, using(crate::proofs::FileRules::modules))]
+    pub(crate) fn module_item(&mut self) -> Result<NormalItem, Fault>
+        ensures reads { ReadsAs item_view result self.new (settled_module self.old) }
+        ensures fewer { length self.new ≤ length self.old }
+    {
+        let name = self.word()?;
+        let parameters = self.parameters()?;
+        let ports = self.ports()?;
+        self.expect(Mark::Semicolon)?;
+        let members = self.members(Key::EndModule)?;
+        NormalItem::module_of(self.alloc, name, parameters, ports, members)
+    }
+
+    /// Reads the name of a macro.
+    #[tactic(auto, using(crate::proofs::FileRules::macro_names))]
+    pub(crate) fn macro_name(&mut self) -> Result<&'t str, Fault>
+        ensures found { MatchResult result
+            (λ m. include_at self.old ≡ include_on m.now self.new)
+            (λ _. include_at self.old ≡ None) }
+        ensures fewer { length self.new ≤ length self.old }
+        ensures less { IfOk result (λ _. length self.new < length self.old) }
+    {
+        match self.next() {
+            None => Err(Fault::Underived),
+            Some(token) => match token.macro_word() {
+                None => Err(Fault::Underived),
+                Some(name) => Ok(name),
+            },
+        }
+    }
+
+    /// An include of the path between the quotes of this string.
+    #[tactic(auto, using(crate::proofs::FileRules::include_texts))]
+    pub(crate) fn include_of(&mut self, text: &str) -> Result<NormalItem, Fault>
+        ensures reads { ReadsAs item_view result self.new (include_text text.now self.old) }
+        ensures fewer { length self.new ≤ length self.old }
+    {
+        match path_of(text) {
+            None => Err(Fault::Underived),
+            Some(path) => NormalItem::include(self.alloc, path),
+        }
+    }
+
+    /// Reads an include, behind its macro.
+    #[tactic(auto, using(crate::proofs::FileRules::include_paths))]
+    pub(crate) fn include_path(&mut self, name: &str) -> Result<NormalItem, Fault>
+        ensures reads { ReadsAs item_view result self.new (include_on name.now self.old) }
+        ensures fewer { length self.new ≤ length self.old }
+    {
+        match self.next() {
+            None => Err(Fault::Underived),
+            Some(token) => match token.quoted() {
+                None => Err(Fault::Underived),
+                Some(text) => {
+                    if name == "include" {
+                        self.include_of(text)
+                    } else {
+                        Err(Fault::Underived)
+                    }
+                }
+            },
+        }
+    }
+
+    /// Reads an include.
+    #[tactic(auto, using(crate::proofs::FileRules::includes))]
+    pub(crate) fn include(&mut self) -> Result<NormalItem, Fault>
+        ensures reads { ReadsAs item_view result self.new (include_at self.old) }
+        ensures fewer { length self.new ≤ length self.old }
+        ensures less { IfOk result (λ _. length self.new < length self.old) }
+    {
+        let name = self.macro_name()?;
+        self.include_path(name)
+    }
+
+    /// Reads an item of a file.
+    #[tactic(auto, using(crate::proofs::FileRules::items))]
+    pub(crate) fn item(&mut self) -> Result<NormalItem, Fault>
+        ensures reads { ReadsAs item_view result self.new (settled_item self.old) }
+        ensures fewer { length self.new ≤ length self.old }
+        ensures less { IfOk result (λ _. length self.new < length self.old) }
+    {
+        if self.eat_key(Key::Module) {
+            self.module_item()
+        } else {
+            self.include()
+        }
+    }
+
+    /// Reads items up to the end of the tokens.
+    #[tactic(auto, using(crate::proofs::FileRules::item_lists))]
+    pub(crate) fn items(&mut self) -> Result<Children<NormalItem>, Fault>
+        ensures reads { ReadsAs items_view result self.new (settled_items self.old) }
+        ensures fewer { length self.new ≤ length self.old }
+    {
+        let mut items = Children::new(self.alloc);
+        while !self.is_done() {
+            let item = self.item()?;
+            items.push(item)?;
+        }
+        Ok(items)
+    }
+
+    /// Reads a file.
+    #[tactic(auto, using(crate::proofs::FileRules::files))]
+    pub(crate) fn file(&mut self) -> Result<NormalFile, Fault>
+        ensures reads { ReadsAs file_view result self.new (settled_file self.old) }
+        ensures fewer { length self.new ≤ length self.old }
+    {
+        let items = self.items()?;
+        Ok(NormalFile { items })
+    }
+}

@@ -1,0 +1,88 @@
+//! Kinds of bytes.
+
+ghost use Rattle.std.specs.Prelude.{◌≡◌};
+ghost use Rattle.vast_literal.specs.Scan.{is_letter, is_digit, is_word_byte, is_based_digit, is_radix, is_filler, is_space};
+ghost use Rattle.vast_read.specs.Scanner.{opens_mark, passes};
+
+/// An ASCII letter or `_`.
+pub(crate) fn is_letter(byte: u8) -> bool
+    ensures { result ≡ is_letter byte }
+{
+    byte.is_ascii_alphabetic() || byte == b'_'
+}
+
+/// An ASCII digit.
+pub(crate) fn is_digit(byte: u8) -> bool
+    ensures { result ≡ is_digit byte }
+{
+    byte.is_ascii_digit()
+}
+
+/// A letter, a digit, `_` or `$`.
+pub(crate) fn is_word_byte(byte: u8) -> bool
+    ensures { result ≡ is_word_byte byte }
+{
+    is_letter(byte) || is_digit(byte) || byte == b'$'
+}
+
+/// A digit of a based literal.
+pub(crate) fn is_based_digit(byte: u8) -> bool
+    ensures { result ≡ is_based_digit byte }
+{
+    is_digit(byte) || (byte >= b'a' && byte <= b'f') || byte == b'_' || byte == b'?'
+}
+
+/// The radix of a based literal: `b`, `d` or `h`.
+pub(crate) fn is_radix(byte: u8) -> bool
+    ensures { result ≡ is_radix byte }
+{
+    byte == b'b' || byte == b'd' || byte == b'h'
+}
+
+/// What fills all bits behind an apostrophe: `0`, `1` or `X`.
+pub(crate) fn is_filler(byte: u8) -> bool
+    ensures { result ≡ is_filler byte }
+{
+    byte == b'0' || byte == b'1' || byte == b'X'
+}
+
+/// What stands behind the apostrophe of a cast or a pattern: `(` or `{`.
+pub(crate) fn opens_mark(byte: u8) -> bool
+    ensures { result ≡ opens_mark byte }
+{
+    byte == b'(' || byte == b'{'
+}
+
+/// A space, a line feed, a tab or a carriage return.
+pub(crate) fn is_space(byte: u8) -> bool
+    ensures { result ≡ is_space byte }
+{
+    byte == b' ' || byte == b'\n' || byte == b'\t' || byte == b'\r'
+}
+
+/// The bytes that may stand in a run.
+#[derive(Clone, Copy)]
+pub(crate) enum Class {
+    /// Bytes of a word behind its first letter.
+    Word,
+    /// Decimal digits.
+    Digit,
+    /// Digits of a based literal.
+    BasedDigit,
+    /// Bytes within one line.
+    Line,
+}
+
+impl Class {
+    /// Whether the byte may stand in the run.
+    pub(crate) fn passes(self, byte: u8) -> bool
+        ensures { result ≡ passes self byte }
+    {
+        match self {
+            Class::Word => is_word_byte(byte),
+            Class::Digit => is_digit(byte),
+            Class::BasedDigit => is_based_digit(byte),
+            Class::Line => byte != b'\n',
+        }
+    }
+}

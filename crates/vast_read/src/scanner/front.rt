@@ -1,0 +1,14 @@
+//! What stands at the front of a text.
+
+use crate::token::Token;
+
+/// What stands at the front of a text, and what follows it.
+#[derive(Clone, Copy)]
+pub(crate) enum Front<'t> {
+    /// A token, and the text behind it.
+    Token(Token<'t>, &'t str),
+    /// White space or a comment, and the text behind it.
+    Gap(&'t str),
+    /// What is no token.
+    Unspelled,
+}

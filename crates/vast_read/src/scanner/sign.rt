@@ -1,0 +1,264 @@
+//! Operators and marks.
+
+ghost use Rattle.std.specs.Prelude.{◌≡◌, ◌<◌, true, cond, eqb, [], ◌∷◌, Some, None, option_map, IfSome};
+ghost use Rattle.vast_literal.specs.Scan.{InComment, Pending, keep, give, whole_signs, find_sign, start_sign, grown};
+ghost use Rattle.vast_literal.specs.Tokens.{Operator, Greater, Less, Plus, Divide};
+ghost use Rattle.vast_literal.specs.Tokens as spec;
+ghost use Rattle.vast_read.specs.TokenView.{token_view, sign_view, mark_view};
+ghost use Rattle.vast_read.specs.Scanner.{byte_at, Fronts, growth_step, growth_or_fail, starts_sign, Reaches};
+
+use crate::scanner::class::Class;
+use crate::scanner::front::Front;
+use crate::scanner::run::{byte_at, run_end};
+use crate::token::{Mark, Sign, Token};
+
+/// What a further byte makes of a sign.
+#[derive(Clone, Copy)]
+pub(crate) enum Growth<'t> {
+    /// A sign that may grow.
+    Open(Token<'t>),
+    /// A sign that no byte makes longer.
+    Closed(Token<'t>),
+    /// The beginning of a comment.
+    Comment,
+}
+
+/// The sign that a byte begins.
+#[tactic(auto, unfolding(crate::specs::TokenView::sign_view))]
+fn first_sign<'t>(byte: u8) -> Option<Growth<'t>>
+    ensures growth { growth_or_fail result ≡ start_sign (find_sign whole_signs byte) byte }
+    ensures byte { IfSome result (λ _. byte < 128) }
+{
+    match byte {
+        b'(' => Some(Growth::Closed(Token::Mark(Mark::OpenParen))),
+        b')' => Some(Growth::Closed(Token::Mark(Mark::CloseParen))),
+        b'[' => Some(Growth::Closed(Token::Mark(Mark::OpenBracket))),
+        b']' => Some(Growth::Closed(Token::Mark(Mark::CloseBracket))),
+        b'{' => Some(Growth::Closed(Token::Mark(Mark::OpenBrace))),
+        b'}' => Some(Growth::Closed(Token::Mark(Mark::CloseBrace))),
+        b',' => Some(Growth::Closed(Token::Mark(Mark::Comma))),
+        b';' => Some(Growth::Closed(Token::Mark(Mark::Semicolon))),
+        b'.' => Some(Growth::Closed(Token::Mark(Mark::Dot))),
+        b'#' => Some(Growth::Closed(Token::Mark(Mark::Hash))),
+        b'@' => Some(Growth::Closed(Token::Mark(Mark::At))),
+        b'?' => Some(Growth::Closed(Token::Mark(Mark::Question))),
+        b'^' => Some(Growth::Closed(Token::Operator(Sign::BitXor))),
+        b'-' => Some(Growth::Closed(Token::Operator(Sign::Minus))),
+        b'%' => Some(Growth::Closed(Token::Operator(Sign::Modulo))),
+        b'~' => Some(Growth::Closed(Token::Operator(Sign::BitNot))),
+        b':' => Some(Growth::Open(Token::Mark(Mark::Colon))),
+        b'=' => Some(Growth::Open(Token::Mark(Mark::Assign))),
+        b'!' => Some(Growth::Open(Token::Operator(Sign::LogicNot))),
+        b'<' => Some(Growth::Open(Token::Operator(Sign::Less))),
+        b'>' => Some(Growth::Open(Token::Operator(Sign::Greater))),
+        b'&' => Some(Growth::Open(Token::Operator(Sign::BitAnd))),
+        b'|' => Some(Growth::Open(Token::Operator(Sign::BitOr))),
+        b'+' => Some(Growth::Open(Token::Operator(Sign::Plus))),
+        b'*' => Some(Growth::Open(Token::Operator(Sign::Times))),
+        b'/' => Some(Growth::Open(Token::Operator(Sign::Divide))),
+        _ => None,
+    }
+}
+
+/// An operator that one byte, and it alone, makes longer, and none makes longer again.
+fn closed_by<'t>(wanted: u8, longer: Sign, byte: u8) -> Option<Growth<'t>>
+    requires { (32 < wanted) × (wanted < 128) }
+    ensures growth { option_map growth_step result
+        ≡ cond (eqb byte wanted) (Some (give (Operator (sign_view longer) ∷ []))) None }
+    ensures byte { IfSome result (λ _. (32 < byte) × (byte < 128)) }
+{
+    if byte == wanted {
+        Some(Growth::Closed(Token::Operator(longer)))
+    } else {
+        None
+    }
+}
+
+/// An operator that one byte, and it alone, makes longer.
+fn open_by<'t>(wanted: u8, longer: Sign, byte: u8) -> Option<Growth<'t>>
+    requires { (32 < wanted) × (wanted < 128) }
+    ensures growth { option_map growth_step result
+        ≡ cond (eqb byte wanted) (Some (keep (Pending (Operator (sign_view longer))))) None }
+    ensures byte { IfSome result (λ _. (32 < byte) × (byte < 128)) }
+{
+    if byte == wanted {
+        Some(Growth::Open(Token::Operator(longer)))
+    } else {
+        None
+    }
+}
+
+/// What a byte makes of `>`.
+#[tactic(auto, unfolding(crate::specs::TokenView::sign_view))]
+fn grown_greater<'t>(byte: u8) -> Option<Growth<'t>>
+    ensures growth { option_map growth_step result ≡ grown (Operator Greater) byte }
+    ensures byte { IfSome result (λ _. (32 < byte) × (byte < 128)) }
+{
+    if byte == b'=' {
+        Some(Growth::Closed(Token::Operator(Sign::GreaterEqual)))
+    } else {
+        open_by(b'>', Sign::ShiftRight, byte)
+    }
+}
+
+/// What a byte makes of `<`.
+#[tactic(auto, unfolding(crate::specs::TokenView::sign_view))]
+fn grown_less<'t>(byte: u8) -> Option<Growth<'t>>
+    ensures growth { option_map growth_step result ≡ grown (Operator Less) byte }
+    ensures byte { IfSome result (λ _. (32 < byte) × (byte < 128)) }
+{
+    if byte == b'=' {
+        Some(Growth::Closed(Token::Operator(Sign::LessEqual)))
+    } else {
+        closed_by(b'<', Sign::ShiftLeft, byte)
+    }
+}
+
+/// What a byte makes of `+`.
+#[tactic(auto, unfolding(crate::specs::TokenView::sign_view))]
+fn grown_plus<'t>(byte: u8) -> Option<Growth<'t>>
+    ensures growth { option_map growth_step result ≡ grown (Operator Plus) byte }
+    ensures byte { IfSome result (λ _. (32 < byte) × (byte < 128)) }
+{
+    if byte == b':' {
+        Some(Growth::Closed(Token::Mark(Mark::PlusColon)))
+    } else {
+        None
+    }
+}
+
+/// What a byte makes of `/`.
+#[tactic(auto, unfolding(crate::specs::TokenView::sign_view))]
+fn grown_slash<'t>(byte: u8) -> Option<Growth<'t>>
+    ensures growth { option_map growth_step result ≡ grown (Operator Divide) byte }
+    ensures byte { IfSome result (λ _. (32 < byte) × (byte < 128)) }
+{
+    if byte == b'/' {
+        Some(Growth::Comment)
+    } else {
+        None
+    }
+}
+
+/// What a byte makes of an operator.
+#[tactic(auto, unfolding(crate::specs::TokenView::sign_view))]
+fn grown_operator<'t>(sign: Sign, byte: u8) -> Option<Growth<'t>>
+    ensures growth { option_map growth_step result ≡ grown (Operator (sign_view sign)) byte }
+    ensures byte { IfSome result (λ _. (32 < byte) × (byte < 128)) }
+{
+    match sign {
+        Sign::LogicOr => None,
+        Sign::LogicAnd => None,
+        Sign::BitOr => closed_by(b'|', Sign::LogicOr, byte),
+        Sign::BitXor => None,
+        Sign::BitAnd => closed_by(b'&', Sign::LogicAnd, byte),
+        Sign::NotEqual => closed_by(b'=', Sign::CaseNotEqual, byte),
+        Sign::CaseNotEqual => None,
+        Sign::Equal => closed_by(b'=', Sign::CaseEqual, byte),
+        Sign::CaseEqual => None,
+        Sign::GreaterEqual => None,
+        Sign::Greater => grown_greater(byte),
+        Sign::LessEqual => None,
+        Sign::Less => grown_less(byte),
+        Sign::ShiftLeft => None,
+        Sign::ShiftRightSigned => None,
+        Sign::ShiftRight => closed_by(b'>', Sign::ShiftRightSigned, byte),
+        Sign::Plus => grown_plus(byte),
+        Sign::Minus => None,
+        Sign::Times => closed_by(b'*', Sign::Power, byte),
+        Sign::Divide => grown_slash(byte),
+        Sign::Modulo => None,
+        Sign::Power => None,
+        Sign::BitNot => None,
+        Sign::LogicNot => open_by(b'=', Sign::NotEqual, byte),
+    }
+}
+
+/// What a byte makes of a mark.
+#[tactic(auto, unfolding(crate::specs::TokenView::sign_view))]
+fn grown_mark<'t>(mark: Mark, byte: u8) -> Option<Growth<'t>>
+    ensures growth { option_map growth_step result ≡ grown (spec.Mark (mark_view mark)) byte }
+    ensures byte { IfSome result (λ _. (32 < byte) × (byte < 128)) }
+{
+    match mark {
+        Mark::OpenParen => None,
+        Mark::CloseParen => None,
+        Mark::OpenBracket => None,
+        Mark::CloseBracket => None,
+        Mark::OpenBrace => None,
+        Mark::CloseBrace => None,
+        Mark::Comma => None,
+        Mark::Colon => if byte == b':' {
+            Some(Growth::Closed(Token::Mark(Mark::DoubleColon)))
+        } else {
+            None
+        },
+        Mark::Semicolon => None,
+        Mark::Dot => None,
+        Mark::Hash => None,
+        Mark::At => None,
+        Mark::Question => None,
+        Mark::DoubleColon => None,
+        Mark::PlusColon => None,
+        Mark::Assign => if byte == b'=' {
+            Some(Growth::Open(Token::Operator(Sign::Equal)))
+        } else {
+            None
+        },
+        Mark::Apostrophe => None,
+    }
+}
+
+/// What a byte makes of a sign.
+fn grown<'t>(sign: Token<'t>, byte: u8) -> Option<Growth<'t>>
+    ensures growth { option_map growth_step result ≡ grown (token_view sign.entry) byte }
+    ensures byte { IfSome result (λ _. (32 < byte) × (byte < 128)) }
+{
+    match sign {
+        Token::Reserved(_) => None,
+        Token::Word(_) => None,
+        Token::Keyword(_) => None,
+        Token::SystemWord(_) => None,
+        Token::MacroWord(_) => None,
+        Token::Number(_) => None,
+        Token::Based(_) => None,
+        Token::Quoted(_) => None,
+        Token::Operator(operator) => grown_operator(operator, byte),
+        Token::Mark(mark) => grown_mark(mark, byte),
+    }
+}
+
+/// A comment, whose two slashes end at a place.
+fn comment<'t>(text: &'t str, place: usize) -> Front<'t>
+    requires { Reaches text.now place (keep InComment) }
+    ensures { Fronts result text.now }
+{
+    let end = run_end(text, place, Class::Line);
+    Front::Gap(&text[end..])
+}
+
+/// The sign, or the comment, that the bytes before a place lead to.
+fn sign_from<'t>(text: &'t str, place: usize, growth: Growth<'t>) -> Front<'t>
+    requires { Reaches text.now place (growth_step growth) }
+    ensures { Fronts result text.now }
+{
+    match growth {
+        Growth::Closed(token) => Front::Token(token, &text[place..]),
+        Growth::Comment => comment(text, place),
+        Growth::Open(token) => match grown(token, byte_at(text, place)) {
+            Some(longer) => sign_from(text, place + 1, longer),
+            None => Front::Token(token, &text[place..]),
+        },
+    }
+}
+
+/// A sign or a comment.
+pub(crate) fn sign<'t>(text: &'t str) -> Front<'t>
+    requires { starts_sign (byte_at text.now 0) ≡ true }
+    ensures { Fronts result text.now }
+{
+    match first_sign(byte_at(text, 0)) {
+        Some(growth) => sign_from(text, 1, growth),
+        None => Front::Unspelled,
+    }
+}

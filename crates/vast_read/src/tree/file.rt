@@ -1,0 +1,146 @@
+//! Modules and files.
+
+ghost use Rattle.std.specs.Prelude.{◌≡◌, IfOk, IfErr};
+ghost use Rattle.vast_literal.specs.NormalFile.{ModulePart, IncludePart};
+ghost use Rattle.vast_read.specs.declared.fault.Fault.TheVariants.{Memory};
+ghost use Rattle.vast_read.specs.DeclarationView.{declaration_view};
+ghost use Rattle.vast_read.specs.FileView.{parameter_view, parameters_view, port_view, ports_view, module_view, item_view, parameter_of, port_of, module_of};
+ghost use Rattle.vast_read.specs.MemberView.{members_view};
+ghost use Rattle.vast_read.specs.TokenView.{key_view};
+ghost use Rattle.vast_read.specs.View.{view};
+
+use crate::children::Children;
+use crate::fault::Fault;
+use crate::token::Key;
+use crate::tree::declaration::NormalDeclaration;
+use crate::tree::expression::NormalExpr;
+use crate::tree::member::NormalMember;
+use crate::word::Word;
+use std::alloc::Global;
+
+/// A parameter of a module's header.
+#[derive(PartialEq, Drop)]
+pub struct Parameter {
+    pub declaration: Box<NormalDeclaration>,
+    pub value: Box<NormalExpr>,
+}
+
+/// A port of a module's header.
+#[derive(PartialEq, Drop)]
+pub struct Port {
+    /// `input`, `output` or `inout`.
+    pub direction: Word,
+    pub declaration: Box<NormalDeclaration>,
+}
+
+/// A module.
+#[derive(PartialEq, Drop)]
+pub struct NormalModule {
+    pub name: Word,
+    pub parameters: Children<Parameter>,
+    pub ports: Children<Port>,
+    pub members: Children<NormalMember>,
+}
+
+/// An item of a file.
+#[derive(PartialEq, Drop)]
+pub enum NormalItem {
+    /// The path of an include, without its quotes.
+    Include(Word),
+    Module(NormalModule),
+}
+
+/// A file: its items, in their order.
+#[derive(PartialEq, Drop)]
+pub struct NormalFile {
+    pub items: Children<NormalItem>,
+}
+
+impl Parameter {
+    /// A parameter and its value.
+    pub(crate) fn new(
+        alloc: Global,
+        declared: NormalDeclaration,
+        value: NormalExpr,
+    ) -> Result<Parameter, Fault>
+        ensures ok { IfOk result (λ p. parameter_view p
+            ≡ parameter_of (declaration_view declared) (view value)) }
+        ensures err { IfErr result (λ e. e ≡ Memory) }
+    {
+        let declaration = Box::new(alloc, declared)?;
+        let value = Box::new(alloc, value)?;
+        Ok(Parameter { declaration, value })
+    }
+}
+
+impl Port {
+    /// A port and its direction.
+    pub(crate) fn new(
+        alloc: Global,
+        direction: Key,
+        declared: NormalDeclaration,
+    ) -> Result<Port, Fault>
+        ensures ok { IfOk result (λ p. port_view p
+            ≡ port_of (key_view direction) (declaration_view declared)) }
+        ensures err { IfErr result (λ e. e ≡ Memory) }
+    {
+        let direction = Word::new(alloc, direction.text())?;
+        let declaration = Box::new(alloc, declared)?;
+        Ok(Port {
+            direction,
+            declaration,
+        })
+    }
+}
+
+impl NormalModule {
+    /// A module of these parts.
+    pub(crate) fn new(
+        alloc: Global,
+        name: &str,
+        parameters: Children<Parameter>,
+        ports: Children<Port>,
+        members: Children<NormalMember>,
+    ) -> Result<NormalModule, Fault>
+        ensures ok { IfOk result (λ m. module_view m
+            ≡ module_of name.now (parameters_view parameters)
+            (ports_view ports) (members_view members)) }
+        ensures err { IfErr result (λ e. e ≡ Memory) }
+    {
+        let name = Word::new(alloc, name)?;
+        Ok(NormalModule {
+            name,
+            parameters,
+            ports,
+            members,
+        })
+    }
+}
+
+impl NormalItem {
+    /// A module of these parts.
+    pub(crate) fn module_of(
+        alloc: Global,
+        name: &str,
+        parameters: Children<Parameter>,
+        ports: Children<Port>,
+        members: Children<NormalMember>,
+    ) -> Result<NormalItem, Fault>
+        ensures ok { IfOk result (λ i. item_view i
+            ≡ ModulePart (module_of name.now (parameters_view parameters)
+            (ports_view ports) (members_view members))) }
+        ensures err { IfErr result (λ e. e ≡ Memory) }
+    {
+        let module = NormalModule::new(alloc, name, parameters, ports, members)?;
+        Ok(NormalItem::Module(module))
+    }
+
+    /// An include of this path.
+    pub(crate) fn include(alloc: Global, path: &str) -> Result<NormalItem, Fault>
+        ensures ok { IfOk result (λ i. item_view i ≡ IncludePart path.now) }
+        ensures err { IfErr result (λ e. e ≡ Memory) }
+    {
+        let path = Word::new(alloc, path)?;
+        Ok(NormalItem::Include(path))
+    }
+}
