@@ -1,20 +1,7 @@
 //! The lists of an input, each by its lines.
 
 use std::alloc::{AllocError, Global};
-
-/// What begins the line before a list.
-pub(crate) const HEADER: &[u8] = b"== ";
-
-/// The lines of one list.
-#[derive(Drop)]
-pub(crate) struct ListLines<'a> {
-    /// What stands behind `== ` in the line before the list.
-    pub(crate) title: Option<&'a [u8]>,
-    /// The number of that line, from 1; 1 where there is none.
-    pub(crate) number: usize,
-    /// Each with its number in the input.
-    pub(crate) lines: Vec<(usize, &'a [u8])>,
-}
+use vast_list::{HEADER, ListLines};
 
 /// The lists of the input, in order: where the first line is a header each header begins one, else there is one list
 /// without a header. The last line's break may be left out.

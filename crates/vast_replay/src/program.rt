@@ -6,11 +6,10 @@ ghost use Rattle.std.specs.Io.KnownBytes.{IsAtEnd};
 #[cfg(test)]
 mod tests;
 
-use crate::input::{ListLines, split_lists};
-use crate::list::BadLine;
-use crate::output::{ListFault, list_output};
+use crate::input::split_lists;
 use std::alloc::Global;
 use std::io::{ErrorKind, Read, Write};
+use vast_list::{BadLine, ListFault, ListLines, list_output};
 
 /// Reads lists of calls to the end of `input`, makes their calls and prints what they give, and answers the status.
 ///

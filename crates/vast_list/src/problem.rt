@@ -5,7 +5,7 @@ use thiserror::Error;
 
 /// Why a line is not in the form, or that memory was refused.
 #[derive(Debug, Drop, Error)]
-pub(crate) enum Problem {
+pub enum Problem {
     #[error("not UTF-8")]
     NotUtf8,
     #[error("`verilog` or `systemverilog` expected")]

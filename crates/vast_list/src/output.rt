@@ -1,6 +1,9 @@
 //! What is printed of a list.
 
-use crate::input::{HEADER, ListLines};
+ghost use Rattle.std.specs.Prelude.{◌≡◌, None, IfOk, IfErr};
+ghost use Rattle.vast_list.specs.Output.{header_line, BeginsWithHeader, IsHeaded, NeedsNoTitle};
+
+use crate::lines::{HEADER, ListLines};
 use crate::list::{BadLine, read_list};
 use crate::problem::Problem;
 use crate::report::{Entry, Report, report_on};
@@ -8,7 +11,7 @@ use std::alloc::{AllocError, Global};
 
 /// Why nothing is printed of a list.
 #[derive(Drop)]
-pub(crate) enum ListFault {
+pub enum ListFault {
     /// A line is not in the form.
     Line(BadLine),
     /// The first refusal of a list without a header.
@@ -36,7 +39,10 @@ impl From<AllocError> for ListFault {
 ///
 /// # Errors
 /// A line that is not in the form, a refusal where there is no header, and want of memory.
-pub(crate) fn list_output(alloc: Global, list: &ListLines<'_>) -> Result<Vec<u8>, ListFault> {
+pub fn list_output(alloc: Global, list: &ListLines<'_>) -> Result<Vec<u8>, ListFault>
+    ensures headed { IfOk result (λ output. IsHeaded list.now.title output.items) }
+    ensures refused { IfErr result (λ fault. NeedsNoTitle fault list.now.title) }
+{
     let read = read_list(alloc, list.number, &list.lines)?;
     let report = report_on(alloc, read)?;
     match list.title {
@@ -59,14 +65,24 @@ fn design(report: Report) -> Result<Vec<u8>, ListFault> {
 }
 
 /// The header and the whole report.
-fn titled(alloc: Global, title: &[u8], report: &Report) -> Result<Vec<u8>, AllocError> {
-    let mut output = Vec::new(alloc);
-    for part in [HEADER, title, b"\n"] {
-        output.extend_from_slice(part)?;
-    }
+fn titled(alloc: Global, title: &[u8], report: &Report) -> Result<Vec<u8>, AllocError>
+    ensures { IfOk result (λ output. BeginsWithHeader title.now output.items) }
+{
+    let mut output = header(alloc, title)?;
     for entry in &report.answers {
         output.extend_from_slice(entry.text().as_bytes())?;
     }
     output.extend_from_slice(report.file.text().as_bytes())?;
     Ok(output)
+}
+
+/// The line before a list.
+fn header(alloc: Global, title: &[u8]) -> Result<Vec<u8>, AllocError>
+    ensures { IfOk result (λ line. line.items ≡ header_line title.now) }
+{
+    let mut line = Vec::new(alloc);
+    line.extend_from_slice(HEADER)?;
+    line.extend_from_slice(title)?;
+    line.push(b'\n')?;
+    Ok(line)
 }

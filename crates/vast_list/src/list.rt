@@ -21,10 +21,11 @@ pub(crate) struct List<'a> {
 
 /// A line that is not in the form.
 #[derive(Drop)]
-pub(crate) struct BadLine {
+pub struct BadLine {
     /// The line's number in the input, from 1.
-    pub(crate) number: usize,
-    pub(crate) problem: Problem,
+    pub number: usize,
+    /// What is wrong with it.
+    pub problem: Problem,
 }
 
 /// Reads a list of its lines, each with its number in the input.
