@@ -26,7 +26,6 @@ pub mod Hoists
 pub mod NestReaders
 pub mod NestLaws
 pub mod FreeNames
-pub mod KeywordTable
 pub mod Unattached
 pub mod EntersScopes
 pub mod WellFormedParts

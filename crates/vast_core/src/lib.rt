@@ -8,7 +8,6 @@ mod ast;
 mod bits;
 mod file_ids;
 mod handle;
-mod keyword;
 mod kind;
 mod node;
 mod operator;
@@ -25,7 +24,6 @@ pub use handle::{
     MacroStatement, ModulePort, ParameterRef, Slice, VastAlwaysBase, VastDataType, VastFunction,
     VastModule, VastStatement, VastStatementBlock,
 };
-pub use keyword::is_system_verilog_keyword;
 pub use kind::{AlwaysKind, CaseKind, DataKind, ModulePortDirection, VastFileType};
 pub use node::{
     AlwaysBlock, Artifact, Assignment, CaseArm, CaseNode, ConditionalNode, Connection, Definition,
@@ -33,3 +31,4 @@ pub use node::{
     ParameterForm, ParameterPort, Port, Statement, TypeNode,
 };
 pub use operator::{BinaryOperator, UnaryOperator};
+pub use vast_literal::is_system_verilog_keyword;

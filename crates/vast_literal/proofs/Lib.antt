@@ -58,3 +58,4 @@ pub mod SoundDeclarations
 pub mod SoundMemberParts
 pub mod SoundMembers
 pub mod SoundFiles
+pub mod KeywordTable

@@ -2,6 +2,7 @@
 #![tactic(auto)]
 
 mod error;
+mod keyword;
 pub mod laws;
 mod literal;
 mod pattern;
@@ -11,6 +12,7 @@ mod refusal;
 mod tests;
 
 pub use error::{VastError, VastFault};
+pub use keyword::is_system_verilog_keyword;
 pub use literal::{Literal, LiteralFormat};
 pub use pattern::pattern_text;
 pub use quoted::quoted_text;

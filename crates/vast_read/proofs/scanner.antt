@@ -7,4 +7,3 @@ mod Strings
 mod Signs
 mod Tokens
 mod Keys
-mod KeywordTable

@@ -15,7 +15,6 @@ use std::alloc::{AllocError, Global};
 
 mod class;
 mod front;
-mod keyword;
 mod literal;
 mod run;
 mod sign;

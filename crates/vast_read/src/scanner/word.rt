@@ -8,9 +8,9 @@ ghost use Rattle.vast_read.specs.Scanner.{byte_at, Fronts};
 
 use crate::scanner::class::{Class, is_letter};
 use crate::scanner::front::Front;
-use crate::scanner::keyword::is_keyword;
 use crate::scanner::run::{byte_at, run_end};
 use crate::token::{Key, Token};
+use vast_literal::is_system_verilog_keyword;
 
 /// The keyword that is written so, of those that the grammar uses.
 #[tactic(auto, unfolding(crate::specs::TokenView::key_view, vast_literal::specs::Tokens::reserved_keys, vast_literal::specs::Tokens::key_text))]
@@ -63,7 +63,7 @@ fn reserved_key(word: &str) -> Option<Key>
 fn word_token<'t>(word: &'t str) -> Token<'t>
     ensures { token_view result ≡ word_token word.now }
 {
-    if !is_keyword(word) {
+    if !is_system_verilog_keyword(word) {
         return Token::Word(word);
     }
     match reserved_key(word) {

@@ -1,6 +1,6 @@
 use Rattle.std.proofs.Common.{refl}
 use Rattle.vast_literal.specs.Keyword.{keywords}
-use Rattle.vast_core.proofs.keyword.table.Goals as goal
+use Rattle.vast_literal.proofs.keyword.table.Goals as goal
 
 pub returns : goal.returns
 unfolding keywords

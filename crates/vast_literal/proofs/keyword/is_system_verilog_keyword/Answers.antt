@@ -1,6 +1,6 @@
 use Rattle.std.proofs.Common.{◌∙◌}
-use Rattle.vast_core.proofs.KeywordTable.{searched}
-use Rattle.vast_core.proofs.keyword.is_system_verilog_keyword.Goals as goal
+use Rattle.vast_literal.proofs.KeywordTable.{searched}
+use Rattle.vast_literal.proofs.keyword.is_system_verilog_keyword.Goals as goal
 
 pub returns : goal.returns
 returns c =
