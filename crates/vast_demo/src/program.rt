@@ -35,7 +35,8 @@ pub fn run<R: Read, W: Write, E: Write>(
     ensures printed { IfSome (design_text words.now) (λ text. result ≡ 0 →
         Appends (W.contents out.old) (W.contents out.new) text) }
     ensures checked { is_check words.now ≡ true →
-        CheckEnds (R.remaining input.old) (R.remaining input.new) (W.contents out.old) (W.contents out.new) result }
+        CheckEnds (R.remaining input.old) (R.remaining input.new)
+            (W.contents out.old) (W.contents out.new) result }
 {
     match words {
         [word] => {

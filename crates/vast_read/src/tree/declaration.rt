@@ -16,6 +16,7 @@ use std::alloc::Global;
 /// What stands between brackets in a declaration: an expression, or a range from one to another.
 #[derive(PartialEq, Drop)]
 pub struct Group {
+    /// The expression, or the high end.
     pub first: Box<NormalExpr>,
     /// The low end, where it is a range.
     pub second: Option<Box<NormalExpr>>,
@@ -28,11 +29,13 @@ pub struct NormalDeclaration {
     pub kind: Option<Word>,
     /// The package of the type, written before `::`.
     pub package: Option<Word>,
+    /// The name of a type that is declared elsewhere.
     pub type_name: Option<Word>,
     /// `signed` or `unsigned`.
     pub sign: Option<Word>,
     /// The packed dimensions, before the name.
     pub groups: Children<Group>,
+    /// What is declared.
     pub name: Word,
     /// The unpacked dimensions, behind the name.
     pub after: Children<Group>,

@@ -21,7 +21,9 @@ use std::alloc::Global;
 /// A parameter of a module's header.
 #[derive(PartialEq, Drop)]
 pub struct Parameter {
+    /// What is declared, without the word `parameter`.
     pub declaration: Box<NormalDeclaration>,
+    /// What it stands for unless an instance gives another value.
     pub value: Box<NormalExpr>,
 }
 
@@ -30,15 +32,20 @@ pub struct Parameter {
 pub struct Port {
     /// `input`, `output` or `inout`.
     pub direction: Word,
+    /// What is declared, without that word.
     pub declaration: Box<NormalDeclaration>,
 }
 
-/// A module.
+/// A module (IEEE Std 1800-2017, clause 23).
 #[derive(PartialEq, Drop)]
 pub struct NormalModule {
+    /// Its name.
     pub name: Word,
+    /// The parameters of its header, first to last.
     pub parameters: Children<Parameter>,
+    /// Its ports, first to last.
     pub ports: Children<Port>,
+    /// Its members, first to last.
     pub members: Children<NormalMember>,
 }
 
@@ -47,12 +54,14 @@ pub struct NormalModule {
 pub enum NormalItem {
     /// The path of an include, without its quotes.
     Include(Word),
+    /// A module.
     Module(NormalModule),
 }
 
 /// A file: its items, in their order.
 #[derive(PartialEq, Drop)]
 pub struct NormalFile {
+    /// Its includes and modules.
     pub items: Children<NormalItem>,
 }
 

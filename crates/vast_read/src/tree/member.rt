@@ -24,17 +24,20 @@ use std::alloc::Global;
 pub struct Event {
     /// `posedge` or `negedge`.
     pub edge: Option<Word>,
+    /// What has the edge, or the name.
     pub expression: Box<NormalExpr>,
 }
 
 /// What an instantiation gives by name to a parameter or a port; an open port has no value.
 #[derive(PartialEq, Drop)]
 pub struct Connection {
+    /// The parameter or the port.
     pub name: Word,
+    /// What is given; none for an open port.
     pub value: Option<Box<NormalExpr>>,
 }
 
-/// A member of a module or of a generate loop.
+/// A member of a module or of a generate loop (IEEE Std 1800-2017, clauses 23.2 and 27).
 #[derive(PartialEq, Drop)]
 pub enum NormalMember {
     /// A declaration of a net or a variable.
@@ -43,13 +46,13 @@ pub enum NormalMember {
     Assign(Box<NormalExpr>, Box<NormalExpr>),
     /// `parameter` or `localparam`, what it declares, and its value.
     Parameter(Word, Box<NormalDeclaration>, Box<NormalExpr>),
-    /// The use of a macro: its name, its arguments, and whether a semicolon ends it.
+    /// The use of a macro: its name without the backtick, its arguments, and whether a semicolon ends it.
     Macro(Word, Option<Children<NormalExpr>>, bool),
     /// An instantiation: the module, its parameters, the instance and its connections.
     Instance(Word, Children<Connection>, Word, Children<Connection>),
     /// `always_ff`, `always` or `always_comb`, what it waits for, and its block.
     Always(Word, Children<Event>, Children<NormalStatement>),
-    /// A conditional generate construct.
+    /// A conditional generate construct, which is a `Choice`.
     Conditional(Box<NormalStatement>),
     /// A function: what it returns and its name, its inputs, its locals and its block.
     Function(

@@ -15,7 +15,7 @@ use crate::tree::expression::NormalExpr;
 use crate::word::Word;
 use std::alloc::Global;
 
-/// A procedural statement.
+/// A procedural statement (IEEE Std 1800-2017, clauses 10.4 and 12).
 #[cycle(statements)]
 #[derive(PartialEq, Drop)]
 pub enum NormalStatement {
@@ -35,7 +35,9 @@ pub enum NormalStatement {
 #[cycle(statements)]
 #[derive(PartialEq, Drop)]
 pub struct Arm {
+    /// What is tested.
     pub condition: Box<NormalExpr>,
+    /// What is done where it holds.
     pub block: Children<NormalStatement>,
 }
 
@@ -45,6 +47,7 @@ pub struct Arm {
 pub struct CaseArm {
     /// None for `default`.
     pub label: Option<Box<NormalExpr>>,
+    /// What is done there.
     pub block: Children<NormalStatement>,
 }
 

@@ -1,4 +1,4 @@
-//! What is read from texts that the printer writes.
+//! What is read from texts in the forms that the printer writes, and in others.
 
 use super::postfix::tree_of;
 use crate::check::read_back::read_back;
