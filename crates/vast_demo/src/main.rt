@@ -12,7 +12,7 @@ mod tests;
 use program::run;
 use std::alloc::{AllocError, Global};
 use std::env;
-use std::io::Write;
+use std::io::{ErrorKind, Write};
 use std::process::ExitCode;
 
 /// The words after the program's name.
@@ -37,7 +37,9 @@ fn main(rt: HostRuntime) -> ExitCode {
             Ok(words) => run(alloc, &words, &mut rt.stdin(), &mut rt.stdout(), &mut err),
             Err(_) => no_memory(&mut err),
         },
-        Err(_) => no_memory(&mut err),
+        Err(error) if error.kind() == ErrorKind::OutOfMemory => no_memory(&mut err),
+        // A word that isn't UTF-8 names no design.
+        Err(_) => run(alloc, &[], &mut rt.stdin(), &mut rt.stdout(), &mut err),
     };
     ExitCode::from(status)
 }

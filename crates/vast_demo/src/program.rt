@@ -36,7 +36,7 @@ pub fn run<R: Read, W: Write, E: Write>(
         Appends (W.contents out.old) (W.contents out.new) text) }
     ensures checked { is_check words.now ≡ true →
         CheckEnds (R.remaining input.old) (R.remaining input.new)
-            (W.contents out.old) (W.contents out.new) result }
+        (W.contents out.old) (W.contents out.new) result }
 {
     match words {
         [word] => {

@@ -1,8 +1,6 @@
 -- What is printed of a list.
 use Rattle.std.specs.Prelude.{◌≡◌, ℕ, List, ◌++◌, codes, Option, Some, None, ⊤}
 use Rattle.std.specs.Borrow.{Bor}
-use Rattle.vast_list.specs.declared.output.ListFault.{ListFault}
-use Rattle.vast_list.specs.declared.output.ListFault.TheVariants.{Refused}
 
 -- the line before a list
 abbrev pub header_line : (title : List ℕ) → List ℕ
@@ -16,8 +14,3 @@ BeginsWithHeader title output = (rest : List ℕ) × (output ≡ header_line tit
 pub IsHeaded : Option (Bor (List ℕ)) → (output : List ℕ) → Type 0
 IsHeaded (Some title) output = BeginsWithHeader title.now output
 IsHeaded None _ = ⊤
-
--- a refusal takes the place of the text only where the list has no title
-pub NeedsNoTitle : ListFault → Option (Bor (List ℕ)) → Type 0
-NeedsNoTitle (Refused _) title = title ≡ None
-NeedsNoTitle _ _ = ⊤

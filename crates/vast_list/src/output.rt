@@ -1,7 +1,7 @@
 //! What is printed of a list.
 
-ghost use Rattle.std.specs.Prelude.{◌≡◌, None, IfOk, IfErr};
-ghost use Rattle.vast_list.specs.Output.{header_line, BeginsWithHeader, IsHeaded, NeedsNoTitle};
+ghost use Rattle.std.specs.Prelude.{◌≡◌, IfOk};
+ghost use Rattle.vast_list.specs.Output.{header_line, BeginsWithHeader, IsHeaded};
 
 use crate::lines::{HEADER, ListLines};
 use crate::list::{BadLine, read_list};
@@ -39,16 +39,17 @@ impl From<AllocError> for ListFault {
 ///
 /// # Errors
 /// A line that is not in the form, a refusal where there is no header, and want of memory.
+#[tactic(auto, using(crate::proofs::Headers::titles))]
 pub fn list_output(alloc: Global, list: &ListLines<'_>) -> Result<Vec<u8>, ListFault>
-    ensures headed { IfOk result (λ output. IsHeaded list.now.title output.items) }
-    ensures refused { IfErr result (λ fault. NeedsNoTitle fault list.now.title) }
+    ensures { IfOk result (λ output. IsHeaded list.now.title output.items) }
 {
     let read = read_list(alloc, list.number, &list.lines)?;
     let report = report_on(alloc, read)?;
-    match list.title {
-        None => design(report),
-        Some(title) => Ok(titled(alloc, title, &report)?),
-    }
+    let output = match list.title {
+        None => design(report)?,
+        Some(title) => titled(alloc, title, &report)?,
+    };
+    Ok(output)
 }
 
 /// The file's text, where nothing was refused.
@@ -65,6 +66,7 @@ fn design(report: Report) -> Result<Vec<u8>, ListFault> {
 }
 
 /// The header and the whole report.
+#[tactic(auto, using(crate::proofs::Headers::headers))]
 fn titled(alloc: Global, title: &[u8], report: &Report) -> Result<Vec<u8>, AllocError>
     ensures { IfOk result (λ output. BeginsWithHeader title.now output.items) }
 {

@@ -47,10 +47,7 @@ fn passthrough_tree(alloc: Global) -> Result<NormalFile, Fail> {
         })?;
     }
     let mut members = Children::new(alloc);
-    members.push(NormalMember::Assign(
-        name(alloc, "output_data")?,
-        name(alloc, "input_data")?,
-    ))?;
+    members.push(NormalMember::Assign(name(alloc, "output_data")?, name(alloc, "input_data")?))?;
     let mut items = Children::new(alloc);
     items.push(NormalItem::Module(NormalModule {
         name: Word::new(alloc, "passthrough")?,

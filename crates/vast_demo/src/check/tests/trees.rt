@@ -69,7 +69,10 @@ fn operators(rt: HostRuntime) -> Result<(), Fail> {
         ("-1 ** a", "1 -. a **"),
         ("a>>>b>>c", "a b >>> c >>"),
         ("~^a!==b", "a ^. ~. b !=="),
-        ("elements[1][0] | elements[1][1]", "elements 1 [] 0 [] elements 1 [] 1 [] |"),
+        (
+            "elements[1][0] | elements[1][1]",
+            "elements 1 [] 0 [] elements 1 [] 1 [] |",
+        ),
     ];
     check_trees(&rt, rt.alloc(), &rows)
 }
@@ -102,7 +105,10 @@ fn literals_and_lists(rt: HostRuntime) -> Result<(), Fail> {
         ("4'b1???", "4'b1???"),
         ("'0 | 'X", "'0 'X |"),
         ("8'hff+'sb0_1", "8'hff 'sb0_1 +"),
-        ("\"a\\\"b\\\\\\n\\001\u{e9}\"", "\"a\\\"b\\\\\\n\\001\u{e9}\""),
+        (
+            "\"a\\\"b\\\\\\n\\001\u{e9}\"",
+            "\"a\\\"b\\\\\\n\\001\u{e9}\"",
+        ),
         ("endmodulex // x\r\n", "endmodulex"),
         ("{}", "{}0"),
         ("{a, {b}}", "a b {}1 {}2"),
@@ -136,7 +142,10 @@ fn declarations(rt: HostRuntime) -> Result<(), Fail> {
         ("logic signed [1:0][2:0] x;", (false, 2, 0)),
     ] {
         let file = with_member(rt.alloc(), text)?.ok_or(NoMember)?;
-        assert!(rt; only_member(&file).and_then(dimensions) == Some(want), "{text}");
+        assert!(rt;
+            only_member(&file).and_then(dimensions) == Some(want),
+            "{text}"
+        );
     }
     Ok(())
 }
