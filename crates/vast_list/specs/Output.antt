@@ -11,6 +11,6 @@ abbrev pub BeginsWithHeader : (title output : List ℕ) → Type 0
 BeginsWithHeader title output = (rest : List ℕ) × (output ≡ header_line title ++ rest)
 
 -- where the list has a title, the output begins with its line
-pub IsHeaded : Option (Bor (List ℕ)) → (output : List ℕ) → Type 0
+abbrev pub IsHeaded : Option (Bor (List ℕ)) → (output : List ℕ) → Type 0
 IsHeaded (Some title) output = BeginsWithHeader title.now output
 IsHeaded None _ = ⊤

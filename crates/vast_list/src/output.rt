@@ -45,11 +45,16 @@ pub fn list_output(alloc: Global, list: &ListLines<'_>) -> Result<Vec<u8>, ListF
 {
     let read = read_list(alloc, list.number, &list.lines)?;
     let report = report_on(alloc, read)?;
-    let output = match list.title {
-        None => design(report)?,
-        Some(title) => titled(alloc, title, &report)?,
-    };
-    Ok(output)
+    match list.title {
+        None => {
+            let output = design(report)?;
+            Ok(output)
+        }
+        Some(title) => {
+            let output = titled(alloc, title, &report)?;
+            Ok(output)
+        }
+    }
 }
 
 /// The file's text, where nothing was refused.
