@@ -11,7 +11,6 @@ use xlsynth_vast::{VastFault, VastFile};
 ///
 /// # Errors
 /// Those of [`VastFile::emit`], and want of memory.
-#[tactic(auto, using(crate::proofs::ReadingBack::plain_read))]
 pub(crate) fn read_back(file: &VastFile) -> Result<Option<NormalFile>, VastFault>
     ensures { ReadsBack (tree (bench file.now)) result }
 {
