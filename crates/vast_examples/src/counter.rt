@@ -1,5 +1,6 @@
 //! A counter of eight bits with a reset: ports, a register, a conditional in an `always_ff`, an assignment.
 
+use crate::clocked::{add_branches, add_clocked, assign_branches};
 use crate::fault::ExampleFault;
 use std::alloc::Global;
 use xlsynth_vast::{Expr, FileIds, LiteralFormat, VastFile, VastFileType, VastModule};
@@ -56,22 +57,18 @@ fn drive(signals: &Signals, file: &mut VastFile) -> Result<(), ExampleFault> {
 
 /// One more at each edge of the clock, 0 at a reset.
 fn add_register(signals: &Signals, file: &mut VastFile) -> Result<(), ExampleFault> {
-    if !file.owns(&signals.module) || !file.owns(&signals.clock) {
-        return Err(ExampleFault::Foreign);
-    }
-    if !file.owns(&signals.reset) || !file.owns(&signals.value) {
-        return Err(ExampleFault::Foreign);
-    }
     let zero = file.make_literal("bits[8]:0", &LiteralFormat::UnsignedDecimal)?;
+    let next = make_next(signals.value, file)?;
+    let body = add_clocked(signals.module, signals.clock, file)?;
+    let branches = add_branches(body, signals.reset, file)?;
+    assign_branches(&branches, signals.value, zero, next, file)
+}
+
+/// One more than the value.
+fn make_next(value: Expr, file: &mut VastFile) -> Result<Expr, ExampleFault> {
+    if !file.owns(&value) {
+        return Err(ExampleFault::Foreign);
+    }
     let one = file.make_literal("bits[8]:1", &LiteralFormat::UnsignedDecimal)?;
-    let next = file.make_add(&signals.value, &one)?;
-    let edge = file.make_pos_edge(&signals.clock)?;
-    let always = file.add_always_ff(signals.module, &[&edge])?;
-    let body = file.statement_block(always);
-    let conditional = file.block_add_cond(body, &signals.reset)?;
-    let at_reset = file.conditional_then_block(conditional);
-    let otherwise = file.conditional_add_else(conditional)?;
-    file.block_add_nonblocking_assignment(at_reset, &signals.value, &zero)?;
-    file.block_add_nonblocking_assignment(otherwise, &signals.value, &next)?;
-    Ok(())
+    Ok(file.make_add(&value, &one)?)
 }

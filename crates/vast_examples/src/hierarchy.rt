@@ -35,17 +35,39 @@ fn add_lane(file: &mut VastFile) -> Result<(), ExampleFault> {
     let module = file.add_module("lane")?;
     let eight = file.make_unsized_decimal_literal(8)?;
     let width = file.add_parameter_port(module, "WIDTH", &eight)?.to_expr();
-    let bit = file.make_scalar_type()?;
-    if !file.width_is_usable(&width) {
+    add_lane_ports(module, width, file)
+}
+
+fn add_lane_ports(
+    module: VastModule,
+    width: Expr,
+    file: &mut VastFile,
+) -> Result<(), ExampleFault> {
+    if !file.owns(&module) || !file.owns(&width) || !file.width_is_usable(&width) {
         return Err(ExampleFault::Foreign);
+    }
+    if !file.name_is_free(module, "data") || !file.name_is_free(module, "result") {
+        return Err(ExampleFault::Taken);
     }
     let word = file.make_bit_vector_type_expr(&width, false)?;
     let data = file.add_input(module, "data", &word)?.to_expr();
     let result = file.add_output(module, "result", &word)?.to_expr();
-    let odd = file.add_output(module, "odd", &bit)?.to_expr();
     let inverse = file.make_bitwise_not(&data)?;
     let drive = file.make_continuous_assignment(&result, &inverse)?;
     file.add_member_continuous_assignment(module, drive)?;
+    add_odd(module, data, file)
+}
+
+/// An output that is the parity of the data.
+fn add_odd(module: VastModule, data: Expr, file: &mut VastFile) -> Result<(), ExampleFault> {
+    if !file.owns(&module) || !file.owns(&data) {
+        return Err(ExampleFault::Foreign);
+    }
+    if !file.name_is_free(module, "odd") {
+        return Err(ExampleFault::Taken);
+    }
+    let bit = file.make_scalar_type()?;
+    let odd = file.add_output(module, "odd", &bit)?.to_expr();
     let parity = file.make_xor_reduce(&data)?;
     let drive = file.make_continuous_assignment(&odd, &parity)?;
     file.add_member_continuous_assignment(module, drive)?;

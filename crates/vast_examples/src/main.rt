@@ -3,6 +3,7 @@
 //! Each example names one set of lemmas, `callers`, and none has a proof of its own.
 #![tactic(auto, using(crate::proofs::Callers::callers))]
 
+mod clocked;
 mod counter;
 mod fault;
 mod hierarchy;

@@ -1,5 +1,6 @@
 //! A pipeline of any number of stages, which are made in a loop.
 
+use crate::clocked::add_clocked;
 use crate::fault::ExampleFault;
 use std::alloc::Global;
 use xlsynth_vast::{
@@ -53,12 +54,7 @@ fn connect(
     stages: &[Expr],
     file: &mut VastFile,
 ) -> Result<Expr, ExampleFault> {
-    if !file.owns(&module) || !file.owns(&clock) {
-        return Err(ExampleFault::Foreign);
-    }
-    let edge = file.make_pos_edge(&clock)?;
-    let always = file.add_always_ff(module, &[&edge])?;
-    let body = file.statement_block(always);
+    let body = add_clocked(module, clock, file)?;
     let mut before = first;
     for stage in stages {
         add_step(body, before, *stage, file)?;

@@ -1,9 +1,10 @@
 //! A machine of four states: a `case` over its state, its register, and an output by a function.
 
+use crate::clocked::{add_branches, add_clocked, assign_branches};
 use crate::fault::ExampleFault;
 use std::alloc::Global;
 use xlsynth_vast::{
-    Expr, FileIds, LiteralFormat, LogicRef, VastDataType, VastFile, VastFileType, VastModule,
+    CaseStatement, Expr, FileIds, LiteralFormat, VastDataType, VastFile, VastFileType, VastModule,
 };
 
 /// The module, its signals, and the type of a state.
@@ -56,63 +57,104 @@ fn add_machine(file: &mut VastFile) -> Result<Machine, ExampleFault> {
 }
 
 
+/// The literals of the four states.
+#[derive(Drop)]
+struct FourStates {
+    idle: Expr,
+    load: Expr,
+    work: Expr,
+    done: Expr,
+}
+
+fn make_states(file: &mut VastFile) -> Result<FourStates, ExampleFault> {
+    let idle = make_state("bits[2]:0", file)?;
+    let load = make_state("bits[2]:1", file)?;
+    let work = make_state("bits[2]:2", file)?;
+    let done = make_state("bits[2]:3", file)?;
+    Ok(FourStates {
+        idle,
+        load,
+        work,
+        done,
+    })
+}
+
+fn make_state(text: &str, file: &mut VastFile) -> Result<Expr, ExampleFault> {
+    Ok(file.make_literal(text, &LiteralFormat::UnsignedDecimal)?)
+}
+
 /// Idle until `go`, and then three states in a row.
 fn add_transitions(machine: &Machine, file: &mut VastFile) -> Result<(), ExampleFault> {
-    if !file.owns(&machine.module) || !file.owns(&machine.go) {
+    let states = make_states(file)?;
+    let start = make_start(machine.go, &states, file)?;
+    let case = add_case(machine, file)?;
+    let next = machine.next;
+    add_arm(case, states.idle, next, start, file)?;
+    add_arm(case, states.load, next, states.work, file)?;
+    add_arm(case, states.work, next, states.done, file)?;
+    add_arm(case, states.done, next, states.idle, file)
+}
+
+/// What follows the idle state.
+fn make_start(go: Expr, states: &FourStates, file: &mut VastFile) -> Result<Expr, ExampleFault> {
+    if !file.owns(&go) || !file.owns(&states.load) || !file.owns(&states.idle) {
         return Err(ExampleFault::Foreign);
     }
-    if !file.owns(&machine.state) || !file.owns(&machine.next) {
+    Ok(file.make_ternary(&go, &states.load, &states.idle)?)
+}
+
+/// The `case` over the state, in an `always_comb`.
+fn add_case(machine: &Machine, file: &mut VastFile) -> Result<CaseStatement, ExampleFault> {
+    if !file.owns(&machine.module) || !file.owns(&machine.state) {
         return Err(ExampleFault::Foreign);
     }
-    let format = LiteralFormat::UnsignedDecimal;
-    let idle = file.make_literal("bits[2]:0", &format)?;
-    let load = file.make_literal("bits[2]:1", &format)?;
-    let work = file.make_literal("bits[2]:2", &format)?;
-    let done = file.make_literal("bits[2]:3", &format)?;
-    let start = file.make_ternary(&machine.go, &load, &idle)?;
     let always = file.add_always_comb(machine.module)?;
     let body = file.statement_block(always);
-    let case = file.block_add_case(body, &machine.state)?;
-    let in_idle = file.case_add_item(case, &idle)?;
-    file.block_add_blocking_assignment(in_idle, &machine.next, &start)?;
-    let in_load = file.case_add_item(case, &load)?;
-    file.block_add_blocking_assignment(in_load, &machine.next, &work)?;
-    let in_work = file.case_add_item(case, &work)?;
-    file.block_add_blocking_assignment(in_work, &machine.next, &done)?;
-    let in_done = file.case_add_item(case, &done)?;
-    file.block_add_blocking_assignment(in_done, &machine.next, &idle)?;
+    Ok(file.block_add_case(body, &machine.state)?)
+}
+
+/// In the state `label`, the signal `next` takes the value.
+fn add_arm(
+    case: CaseStatement,
+    label: Expr,
+    next: Expr,
+    value: Expr,
+    file: &mut VastFile,
+) -> Result<(), ExampleFault> {
+    if !file.owns(&case) || !file.owns(&label) || !file.owns(&next) || !file.owns(&value) {
+        return Err(ExampleFault::Foreign);
+    }
+    let arm = file.case_add_item(case, &label)?;
+    file.block_add_blocking_assignment(arm, &next, &value)?;
     Ok(())
 }
 
 /// The state of the next cycle, idle at a reset.
 fn add_state_register(machine: &Machine, file: &mut VastFile) -> Result<(), ExampleFault> {
-    if !file.owns(&machine.module) || !file.owns(&machine.clock) || !file.owns(&machine.reset) {
+    let idle = make_state("bits[2]:0", file)?;
+    let body = add_clocked(machine.module, machine.clock, file)?;
+    let branches = add_branches(body, machine.reset, file)?;
+    assign_branches(&branches, machine.state, idle, machine.next, file)
+}
+
+/// The output by the function of the state.
+fn add_output(machine: &Machine, file: &mut VastFile) -> Result<(), ExampleFault> {
+    add_is_busy(machine, file)?;
+    if !file.owns(&machine.module) || !file.owns(&machine.state) || !file.owns(&machine.busy) {
         return Err(ExampleFault::Foreign);
     }
-    if !file.owns(&machine.state) || !file.owns(&machine.next) {
-        return Err(ExampleFault::Foreign);
-    }
-    let idle = file.make_literal("bits[2]:0", &LiteralFormat::UnsignedDecimal)?;
-    let edge = file.make_pos_edge(&machine.clock)?;
-    let always = file.add_always_ff(machine.module, &[&edge])?;
-    let body = file.statement_block(always);
-    let conditional = file.block_add_cond(body, &machine.reset)?;
-    let at_reset = file.conditional_then_block(conditional);
-    let otherwise = file.conditional_add_else(conditional)?;
-    file.block_add_nonblocking_assignment(at_reset, &machine.state, &idle)?;
-    file.block_add_nonblocking_assignment(otherwise, &machine.state, &machine.next)?;
+    let call = file.make_function_call("is_busy", &[&machine.state])?;
+    let drive = file.make_continuous_assignment(&machine.busy, &call)?;
+    file.add_member_continuous_assignment(machine.module, drive)?;
     Ok(())
 }
 
-/// The function `is_busy` of a state, and the output by it.
-fn add_output(machine: &Machine, file: &mut VastFile) -> Result<(), ExampleFault> {
-    if !file.owns(&machine.module) || !file.owns(&machine.state_type) {
+/// The function `is_busy` of a state: whether it isn't the idle one.
+fn add_is_busy(machine: &Machine, file: &mut VastFile) -> Result<(), ExampleFault> {
+    let idle = make_state("bits[2]:0", file)?;
+    if !file.owns(&machine.module) || !file.owns(&machine.state_type) || !file.owns(&idle) {
         return Err(ExampleFault::Foreign);
     }
-    if !file.owns(&machine.state) || !file.owns(&machine.busy) {
-        return Err(ExampleFault::Foreign);
-    }
-    let idle = file.make_literal("bits[2]:0", &LiteralFormat::UnsignedDecimal)?;
     let bit = file.make_scalar_type()?;
     let function = file.add_function(machine.module, "is_busy", &bit)?;
     let of = file.function_add_input(function, "of", &machine.state_type)?;
@@ -120,8 +162,5 @@ fn add_output(machine: &Machine, file: &mut VastFile) -> Result<(), ExampleFault
     let differs = file.make_ne(&of.to_expr(), &idle)?;
     let body = file.function_body(function);
     file.block_add_blocking_assignment(body, &answer.to_expr(), &differs)?;
-    let call = file.make_function_call("is_busy", &[&machine.state])?;
-    let drive = file.make_continuous_assignment(&machine.busy, &call)?;
-    file.add_member_continuous_assignment(machine.module, drive)?;
     Ok(())
 }
