@@ -26,7 +26,14 @@ pub(crate) fn hierarchy(alloc: Global) -> Result<String, ExampleFault> {
     let top = add_top(&mut file)?;
     add_instance(&top, "first", top.data, top.middle, None, &mut file)?;
     add_crossing(&top, &mut file)?;
-    add_instance(&top, "second", top.crossed, top.result, Some(&top.odd), &mut file)?;
+    add_instance(
+        &top,
+        "second",
+        top.crossed,
+        top.result,
+        Some(&top.odd),
+        &mut file,
+    )?;
     Ok(file.emit()?)
 }
 
@@ -46,11 +53,14 @@ fn add_lane_ports(
     if !file.owns(&module) || !file.owns(&width) || !file.width_is_usable(&width) {
         return Err(ExampleFault::Foreign);
     }
-    if !file.name_is_free(module, "data") || !file.name_is_free(module, "result") {
+    if !file.name_is_free(module, "data") {
         return Err(ExampleFault::Taken);
     }
     let word = file.make_bit_vector_type_expr(&width, false)?;
     let data = file.add_input(module, "data", &word)?.to_expr();
+    if !file.name_is_free(module, "result") {
+        return Err(ExampleFault::Taken);
+    }
     let result = file.add_output(module, "result", &word)?.to_expr();
     let inverse = file.make_bitwise_not(&data)?;
     let drive = file.make_continuous_assignment(&result, &inverse)?;

@@ -1,7 +1,7 @@
 //! A user's own crate: five designs made by calls, `vast_examples counter states pipeline registers hierarchy`.
 //!
 //! Each example names one set of lemmas, `callers`, and none has a proof of its own.
-#![tactic(auto, using(crate::proofs::Callers::callers))]
+#![tactic(auto, using(xlsynth_vast::proofs::Callers::callers))]
 
 mod clocked;
 mod counter;

@@ -4,7 +4,8 @@ use crate::clocked::{add_branches, add_clocked, assign_branches};
 use crate::fault::ExampleFault;
 use std::alloc::Global;
 use xlsynth_vast::{
-    CaseStatement, Expr, FileIds, LiteralFormat, VastDataType, VastFile, VastFileType, VastModule,
+    CaseStatement, Expr, FileIds, LiteralFormat, VastDataType, VastFile, VastFileType,
+    VastFunction, VastModule,
 };
 
 /// The module, its signals, and the type of a state.
@@ -55,7 +56,6 @@ fn add_machine(file: &mut VastFile) -> Result<Machine, ExampleFault> {
         next,
     })
 }
-
 
 /// The literals of the four states.
 #[derive(Drop)]
@@ -151,16 +151,23 @@ fn add_output(machine: &Machine, file: &mut VastFile) -> Result<(), ExampleFault
 
 /// The function `is_busy` of a state: whether it isn't the idle one.
 fn add_is_busy(machine: &Machine, file: &mut VastFile) -> Result<(), ExampleFault> {
-    let idle = make_state("bits[2]:0", file)?;
-    if !file.owns(&machine.module) || !file.owns(&machine.state_type) || !file.owns(&idle) {
+    if !file.owns(&machine.module) || !file.owns(&machine.state_type) {
         return Err(ExampleFault::Foreign);
     }
     let bit = file.make_scalar_type()?;
     let function = file.add_function(machine.module, "is_busy", &bit)?;
     let of = file.function_add_input(function, "of", &machine.state_type)?;
+    fill_is_busy(function, of.to_expr(), file)
+}
+
+fn fill_is_busy(function: VastFunction, of: Expr, file: &mut VastFile) -> Result<(), ExampleFault> {
+    let idle = make_state("bits[2]:0", file)?;
+    if !file.owns(&function) || !file.owns(&of) || !file.owns(&idle) {
+        return Err(ExampleFault::Foreign);
+    }
     let answer = file.function_result(function);
-    let differs = file.make_ne(&of.to_expr(), &idle)?;
     let body = file.function_body(function);
+    let differs = file.make_ne(&of, &idle)?;
     file.block_add_blocking_assignment(body, &answer.to_expr(), &differs)?;
     Ok(())
 }

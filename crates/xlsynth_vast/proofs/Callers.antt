@@ -2,7 +2,7 @@
 --
 -- A call leaves lists with an element more or with an element changed; so each law is one of a list, at the terms that a
 -- condition reads. A caller names `callers`.
-use Rattle.std.proofs.Common.{◌≡◌, ◌≢◌, ℕ, zero, suc, ◌<◌, Bool, true, false, IsTrue, List, [], ◌∷◌, ◌++◌, length, nat_lt, Option, Some, None, slice_get, refl, ap, arith}
+use Rattle.std.proofs.Common.{◌≡◌, ℕ, zero, suc, ◌<◌, Bool, IsTrue, List, [], ◌∷◌, ◌++◌, length, Option, Some, None, slice_get, refl, ap, arith}
 use Rattle.vast_literal.specs.Tree.{ExprTree}
 use Rattle.vast_core.specs.declared.handle.ModulePort.{ModulePort}
 use Rattle.vast_core.specs.declared.handle.VastStatementBlock.{VastStatementBlock}
@@ -11,7 +11,7 @@ use Rattle.vast_core.specs.declared.node.ElseIf.{ElseIf}
 use Rattle.vast_core.specs.declared.node.CaseArm.{CaseArm}
 use Rattle.vast_core.specs.Nodes.{Root, ExprRoot, TypeRoot, is_expr_root, is_type_root, is_root_of, is_name, is_index, is_slice, is_macro}
 use Rattle.vast_core.specs.Records.{ModuleRecord, MemberEntry, PortRecord, ParameterPortRecord, DefinitionRecord, ArtifactRecord, InstanceRecord, changed_at, with_name, with_port, with_parameter_port, with_member, with_named_member}
-use Rattle.vast_core.specs.Nests.{StatementEntry, NestRecord, BlockRecord, BranchRecord, SwitchRecord, RepeatRecord, NestKind, FunctionRecord, AlwaysRecord, nest_kind, is_block_kind, is_conditional_kind, is_case_kind, is_loop_kind}
+use Rattle.vast_core.specs.Nests.{StatementEntry, NestRecord, BlockRecord, BranchRecord, SwitchRecord, RepeatRecord, FunctionRecord, AlwaysRecord, nest_kind, is_block_kind, is_conditional_kind, is_case_kind, is_loop_kind}
 use Rattle.vast_core.specs.Bench.{is_continuous, is_blank_line, is_comment, is_inline, is_macro_statement, names_of}
 use Rattle.vast_core.specs.Containers.{NestedEntry, StatementEnters, ElseIfEnters, ElseEnters, CaseArmEnters, MemberEnters, with_entry, has_else}
 use Rattle.vast_core.proofs.Lists.{slice_get-seam, length-changed_at}
