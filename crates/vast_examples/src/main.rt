@@ -12,7 +12,7 @@ mod program;
 mod registers;
 mod states;
 
-use program::run;
+use program::{fail, run};
 use std::alloc::{AllocError, Global};
 use std::env;
 use std::process::ExitCode;
@@ -34,11 +34,12 @@ fn slices(alloc: Global, words: &[String]) -> Result<Vec<&str>, AllocError> {
 fn main(rt: HostRuntime) -> ExitCode {
     let alloc = rt.alloc();
     let mut err = rt.stderr();
-    let Ok(words) = arguments(&rt) else {
-        return ExitCode::from(1);
+    let status = match arguments(&rt) {
+        Ok(words) => match slices(alloc, &words) {
+            Ok(words) => run(alloc, &words, &mut rt.stdout(), &mut err),
+            Err(error) => fail(error, &mut err),
+        },
+        Err(error) => fail(error, &mut err),
     };
-    let Ok(words) = slices(alloc, &words) else {
-        return ExitCode::from(1);
-    };
-    ExitCode::from(run(alloc, &words, &mut rt.stdout(), &mut err))
+    ExitCode::from(status)
 }

@@ -48,7 +48,8 @@ fn example(alloc: Global, name: &str) -> Result<String, ExampleFault> {
     }
 }
 
-fn fail<F: Display + Drop, E: Write>(fault: F, err: &mut E) -> u8 {
+/// Says what went wrong, and answers the status of it.
+pub(crate) fn fail<F: Display + Drop, E: Write>(fault: F, err: &mut E) -> u8 {
     let _ = writeln!(err, "{fault}");
     1
 }
