@@ -17,4 +17,3 @@ pub mod RegisterSteps
 pub mod RegisterValues
 pub mod Unseen
 pub mod UnseenNodes
-pub mod Callers

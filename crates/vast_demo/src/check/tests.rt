@@ -1,8 +1,6 @@
 //! The word `check`, run on texts and on readers.
 
 mod designs;
-mod postfix;
-mod trees;
 
 use crate::program::run;
 use std::alloc::Global;
