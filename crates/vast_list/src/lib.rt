@@ -3,6 +3,7 @@
 //! `docs/LISTS.md` has the form. [`list_output`] answers one list, whose lines [`ListLines`] holds.
 #![tactic(auto)]
 
+mod again;
 mod arguments;
 mod calls;
 mod handles;
@@ -15,6 +16,7 @@ mod refusal;
 mod report;
 mod taken;
 
+pub use again::list_output_again;
 pub use lines::{HEADER, ListLines};
 pub use list::BadLine;
 pub use output::{ListFault, list_output};

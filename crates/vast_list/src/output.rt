@@ -58,7 +58,7 @@ pub fn list_output(alloc: Global, list: &ListLines<'_>) -> Result<Vec<u8>, ListF
 }
 
 /// The file's text, where nothing was refused.
-fn design(report: Report) -> Result<Vec<u8>, ListFault> {
+pub(crate) fn design(report: Report) -> Result<Vec<u8>, ListFault> {
     for entry in report.answers {
         if let Entry::Refusal(refusal) = entry {
             return Err(ListFault::Refused(refusal));
@@ -72,7 +72,7 @@ fn design(report: Report) -> Result<Vec<u8>, ListFault> {
 
 /// The header and the whole report.
 #[tactic(auto, using(crate::proofs::Headers::headers))]
-fn titled(alloc: Global, title: &[u8], report: &Report) -> Result<Vec<u8>, AllocError>
+pub(crate) fn titled(alloc: Global, title: &[u8], report: &Report) -> Result<Vec<u8>, AllocError>
     ensures { IfOk result (λ output. BeginsWithHeader title.now output.items) }
 {
     let mut output = header(alloc, title)?;

@@ -48,16 +48,31 @@ pub(crate) fn report_on(alloc: Global, list: List<'_>) -> Result<Report, AllocEr
     let mut entries = Vec::new(alloc);
     let (mut file, answers) = make(alloc, dialect, steps, &mut entries)?;
     for (name, question) in &questions {
-        entries.push(match answer(&mut file, &answers, question) {
-            Ok(text) => Entry::Text(format!(in alloc; "{name}: {text}\n")?),
-            Err(Refusal::Memory) => return Err(AllocError),
-            Err(refusal) => Entry::Refusal(format!(in alloc; "{name}: refused: {refusal}\n")?),
-        })?;
+        let answered = answer(&mut file, &answers, question);
+        entries.push(entry(alloc, name, &answered)?)?;
     }
     Ok(Report {
         answers: entries,
         file: printed(&file)?,
     })
+}
+
+/// The line of a question's answer or of its refusal.
+///
+/// # Errors
+/// Want of memory, the question's too.
+pub(crate) fn entry(
+    alloc: Global,
+    name: &str,
+    answered: &Result<String, Refusal>,
+) -> Result<Entry, AllocError> {
+    match answered {
+        Ok(text) => Ok(Entry::Text(format!(in alloc; "{name}: {text}\n")?)),
+        Err(Refusal::Memory) => Err(AllocError),
+        Err(refusal) => Ok(Entry::Refusal(
+            format!(in alloc; "{name}: refused: {refusal}\n")?,
+        )),
+    }
 }
 
 /// Makes the steps up to the first at fault, which becomes an entry. Answers their file and their answers.
@@ -84,7 +99,7 @@ fn make(
     }
 }
 
-fn empty_file(alloc: Global, dialect: VastFileType) -> VastFile {
+pub(crate) fn empty_file(alloc: Global, dialect: VastFileType) -> VastFile {
     let mut ids = FileIds::new();
     VastFile::new(alloc, dialect, &mut ids).unwrap()
 }
@@ -100,7 +115,8 @@ fn step_at_fault(fault: &ScriptFault) -> Option<usize> {
     }
 }
 
-fn printed(file: &VastFile) -> Result<Entry, AllocError> {
+/// The file's text, or its refusal.
+pub(crate) fn printed(file: &VastFile) -> Result<Entry, AllocError> {
     match file.emit() {
         Ok(text) => Ok(Entry::Text(text)),
         Err(VastFault::Refused(refusal)) => {

@@ -8,8 +8,17 @@ mod tests;
 
 use crate::input::split_lists;
 use std::alloc::Global;
+use std::io;
 use std::io::{ErrorKind, Read, Write};
-use vast_list::{BadLine, ListFault, ListLines, list_output};
+use vast_list::{BadLine, ListFault, ListLines, list_output, list_output_again};
+
+/// How often what was refused memory is tried.
+#[derive(Clone, Copy, PartialEq, Eq)]
+pub(crate) enum Tries {
+    Once,
+    /// Once more, on a file that must be as it was: `list_output_again`.
+    Again,
+}
 
 /// Reads lists of calls to the end of `input`, makes their calls and prints what they give, and answers the status.
 ///
@@ -20,9 +29,13 @@ use vast_list::{BadLine, ListFault, ListLines, list_output};
 /// a failed write (`write fault`) and want of memory (`out of memory`) are told on `err` and end the run, status 1.
 /// Otherwise the status is 0. A failed write to `err` changes no status.
 ///
+/// With `Tries::Again` what was refused memory is tried once more, and a call that was refused must have left the file as
+/// it was: where one request is refused, that run gives what it gives without.
+///
 /// The contract says what a status of 0 promises of the streams; the rest of this is tested, not proved.
 pub fn run<R: Read, W: Write, E: Write>(
     alloc: Global,
+    tries: Tries,
     input: &mut R,
     out: &mut W,
     err: &mut E,
@@ -32,8 +45,12 @@ pub fn run<R: Read, W: Write, E: Write>(
     ensures read { result ≡ 0 → IsAtEnd (R.remaining input.new) }
 {
     let mut bytes = Vec::new(alloc);
-    match input.read_to_end(&mut bytes) {
-        Ok(_) => answer_lists(alloc, &bytes, out, err),
+    let mut read = input.read_to_end(&mut bytes);
+    if tries == Tries::Again && is_memory(&read) {
+        read = input.read_to_end(&mut bytes);
+    }
+    match read {
+        Ok(_) => answer_lists(alloc, tries, &bytes, out, err),
         Err(error) => {
             if error.kind() == ErrorKind::OutOfMemory {
                 fail("out of memory", err)
@@ -44,16 +61,33 @@ pub fn run<R: Read, W: Write, E: Write>(
     }
 }
 
-fn answer_lists<W: Write, E: Write>(alloc: Global, input: &[u8], out: &mut W, err: &mut E) -> u8
+fn is_memory(read: &io::Result<usize>) -> bool {
+    match read {
+        Ok(_) => false,
+        Err(error) => error.kind() == ErrorKind::OutOfMemory,
+    }
+}
+
+fn answer_lists<W: Write, E: Write>(
+    alloc: Global,
+    tries: Tries,
+    input: &[u8],
+    out: &mut W,
+    err: &mut E,
+) -> u8
     ensures status { result ≤ 2 }
     ensures silent { result ≡ 0 → E.contents err.new ≡ E.contents err.old }
 {
-    let Ok(lists) = split_lists(alloc, input) else {
+    let mut lists = split_lists(alloc, input);
+    if tries == Tries::Again && lists.is_err() {
+        lists = split_lists(alloc, input);
+    }
+    let Ok(lists) = lists else {
         return fail("out of memory", err);
     };
     let mut status = 0;
     for list in &lists {
-        match answer_list(alloc, list, out, err) {
+        match answer_list(alloc, tries, list, out, err) {
             0 => {}
             1 => return 1,
             other => status = other,
@@ -65,6 +99,7 @@ fn answer_lists<W: Write, E: Write>(alloc: Global, input: &[u8], out: &mut W, er
 /// Answers one list to `out`, its output in one piece.
 fn answer_list<W: Write, E: Write>(
     alloc: Global,
+    tries: Tries,
     list: &ListLines<'_>,
     out: &mut W,
     err: &mut E,
@@ -72,7 +107,11 @@ fn answer_list<W: Write, E: Write>(
     ensures status { result ≤ 2 }
     ensures silent { result ≡ 0 → E.contents err.new ≡ E.contents err.old }
 {
-    match list_output(alloc, list) {
+    let output = match tries {
+        Tries::Once => list_output(alloc, list),
+        Tries::Again => list_output_again(alloc, list),
+    };
+    match output {
         Ok(output) => match out.write_all(&output) {
             Ok(()) => 0,
             Err(_) => fail("write fault", err),
