@@ -2,7 +2,7 @@
 use Rattle.std.specs.Prelude.{ℕ, Bool, false, List, [], ◌∷◌, Option, Some, None, codes, if◌then◌else◌}
 use Rattle.std.specs.Str.{bytes_eq}
 use Rattle.std.specs.Borrow.{Bor}
-use Rattle.vast_demo.specs.DesignTexts.{passthrough_text, cases_text, registers_text}
+use Rattle.vast_designs.specs.DesignTexts.{passthrough_text, cases_text, registers_text}
 
 -- the text of the design of this name
 abbrev pub text_of : (name : List ℕ) → Option (List ℕ)

@@ -2,7 +2,6 @@
 #![tactic(auto)]
 
 mod check;
-mod designs;
 mod input;
 mod output;
 mod program;

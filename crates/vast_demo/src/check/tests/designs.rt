@@ -1,12 +1,14 @@
-//! The whole tree of a printed design, part by part.
+//! What is read from printed files: the whole tree of a design, part by part, and an empty module.
 
-use crate::designs::passthrough;
+use crate::check::read_back::read_back;
 use std::alloc::Global;
 use std::test::Fail;
+use vast_designs::passthrough;
 use vast_read::{
     Children, Group, NormalDeclaration, NormalExpr, NormalFile, NormalItem, NormalMember,
     NormalModule, Port, Word, read_normal,
 };
+use xlsynth_vast::{FileIds, VastFile, VastFileType};
 
 fn literal(alloc: Global, text: &str) -> Result<Box<NormalExpr>, Fail> {
     let text = Word::new(alloc, text)?;
@@ -66,5 +68,17 @@ fn the_tree_of_passthrough(rt: HostRuntime) -> Result<(), Fail> {
         Err(_) => None,
     };
     assert!(rt; read == Some(passthrough_tree(alloc)?));
+    Ok(())
+}
+
+#[test]
+fn printed_files(rt: HostRuntime) -> Result<(), Fail> {
+    let alloc = rt.alloc();
+    let mut ids = FileIds::new();
+    let mut file = VastFile::new(alloc, VastFileType::Verilog, &mut ids)?;
+    let _ = file.add_module("m")?;
+    let tree = read_back(&file)?;
+    assert!(rt; tree.is_some());
+    assert!(rt; tree == read_normal(alloc, "module m; endmodule")?);
     Ok(())
 }

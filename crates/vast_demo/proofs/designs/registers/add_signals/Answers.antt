@@ -1,9 +1,0 @@
-use Rattle.vast_core.specs.View.{bench}
-use Rattle.vast_demo.proofs.RegistersSteps.{signals-made}
-use Rattle.vast_demo.proofs.designs.registers.add_signals.Goals as goal
-
-pub returns : goal.returns
-returns c =
-    signals-made (bench c.args.file.now) (bench c.add_module.new.self) (bench c.make_scalar_type.new.self) (bench c.add_input.new.self) (bench c.add_input-2.new.self) (bench c.add_input-3.new.self)
-    c.in_ok-owner.owner c.in_ok-bit.bit c.in_ok-clock.clock c.in_ok-reset.reset c.in_ok-enable.enable
-    c.requires c.in_ok-owner.ensures c.in_ok-bit.ensures c.in_ok-clock.ensures c.in_ok-reset.ensures c.in_ok-enable.ensures

@@ -1,7 +1,0 @@
-use Rattle.vast_core.specs.View.{bench}
-use Rattle.vast_demo.specs.DesignTexts.{registers_text}
-use Rattle.vast_demo.proofs.DesignTexts.{emitted}
-use Rattle.vast_demo.proofs.designs.registers.registers.Goals as goal
-
-pub returns : goal.returns
-returns c = emitted (bench c.add_both.new.file) registers_text c.emit.result c.in_ok-add_both.ensures c.emit.ensures.text

@@ -1,5 +1,0 @@
-use Rattle.vast_demo.proofs.DesignTexts.{passthrough_printed}
-use Rattle.vast_demo.proofs.designs.wires.passthrough.Goals as goal
-
-pub returns : goal.returns
-returns c = rw (c.deref.ensures.value, c.in_ok-steps.ensures, passthrough_printed) at c.design_text.ensures

@@ -1,0 +1,4 @@
+pub mod CallLists
+pub mod DesignTexts
+pub mod RegistersSteps
+pub mod RegistersText

@@ -1,0 +1,3 @@
+pub mod DesignCalls
+pub mod DesignTexts
+pub mod RegistersFile
