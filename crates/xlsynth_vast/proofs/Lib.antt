@@ -17,3 +17,4 @@ pub mod RegisterSteps
 pub mod RegisterValues
 pub mod Unseen
 pub mod UnseenNodes
+pub mod Callers

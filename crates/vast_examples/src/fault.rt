@@ -1,0 +1,25 @@
+//! Why an example has no text.
+
+use std::alloc::AllocError;
+use thiserror::Error;
+use xlsynth_vast::VastFault;
+
+/// Why an example has no text.
+#[derive(Debug, Drop, Error)]
+pub(crate) enum ExampleFault {
+    /// No example has the name.
+    #[error("unknown example")]
+    Unknown,
+    /// A handle that was passed in is another file's.
+    #[error("a handle of another file")]
+    Foreign,
+    /// A name that was passed in is taken.
+    #[error("a name that is taken")]
+    Taken,
+    /// A call was refused, or memory was.
+    #[error(transparent)]
+    Refused(#[from] VastFault),
+    /// Memory was refused.
+    #[error("out of memory")]
+    Memory(#[from(alloc)] AllocError),
+}

@@ -1,0 +1,91 @@
+//! A pipeline of any number of stages, which are made in a loop.
+
+use crate::clocked::add_clocked;
+use crate::fault::ExampleFault;
+use std::alloc::Global;
+use xlsynth_vast::{
+    Expr, FileIds, VastDataType, VastFile, VastFileType, VastModule, VastStatementBlock,
+};
+
+/// The text of a pipeline of `count` stages.
+///
+/// # Errors
+/// Want of memory.
+pub(crate) fn pipeline(alloc: Global, count: usize) -> Result<String, ExampleFault> {
+    let mut ids = FileIds::new();
+    let mut file = VastFile::new(alloc, VastFileType::SystemVerilog, &mut ids).unwrap();
+    let module = file.add_module("pipeline")?;
+    let bit = file.make_scalar_type()?;
+    let byte = file.make_bit_vector_type(8, false)?;
+    let clock = file.add_input(module, "clk", &bit)?.to_expr();
+    let first = file.add_input(module, "data_in", &byte)?.to_expr();
+    let last = file.add_output(module, "data_out", &byte)?.to_expr();
+    let stages = add_stages(module, byte, count, &mut file)?;
+    let end = connect(module, clock, first, &stages, &mut file)?;
+    drive(module, last, end, &mut file)?;
+    Ok(file.emit()?)
+}
+
+/// A register for each stage, `stage_0` first.
+fn add_stages(
+    module: VastModule,
+    data_type: VastDataType,
+    count: usize,
+    file: &mut VastFile,
+) -> Result<Vec<Expr>, ExampleFault> {
+    let alloc = file.allocator();
+    let mut stages = Vec::new(alloc);
+    for i in 0..count {
+        let name = format!(in alloc; "stage_{i}")?;
+        if !file.owns(&module) || !file.owns(&data_type) {
+            return Err(ExampleFault::Foreign);
+        }
+        let stage = file.add_logic(module, &name, &data_type)?;
+        stages.push(stage.to_expr())?;
+    }
+    Ok(stages)
+}
+
+/// One `always_ff`, in which each stage takes what the one before it holds; answers the last signal.
+fn connect(
+    module: VastModule,
+    clock: Expr,
+    first: Expr,
+    stages: &[Expr],
+    file: &mut VastFile,
+) -> Result<Expr, ExampleFault> {
+    let body = add_clocked(module, clock, file)?;
+    let mut before = first;
+    for stage in stages {
+        add_step(body, before, *stage, file)?;
+        before = *stage;
+    }
+    Ok(before)
+}
+
+fn add_step(
+    body: VastStatementBlock,
+    before: Expr,
+    stage: Expr,
+    file: &mut VastFile,
+) -> Result<(), ExampleFault> {
+    if !file.owns(&body) || !file.owns(&before) || !file.owns(&stage) {
+        return Err(ExampleFault::Foreign);
+    }
+    file.block_add_nonblocking_assignment(body, &stage, &before)?;
+    Ok(())
+}
+
+fn drive(
+    module: VastModule,
+    last: Expr,
+    end: Expr,
+    file: &mut VastFile,
+) -> Result<(), ExampleFault> {
+    if !file.owns(&module) || !file.owns(&last) || !file.owns(&end) {
+        return Err(ExampleFault::Foreign);
+    }
+    let drive = file.make_continuous_assignment(&last, &end)?;
+    file.add_member_continuous_assignment(module, drive)?;
+    Ok(())
+}

@@ -1,0 +1,173 @@
+//! A machine of four states: a `case` over its state, its register, and an output by a function.
+
+use crate::clocked::{add_branches, add_clocked, assign_branches};
+use crate::fault::ExampleFault;
+use std::alloc::Global;
+use xlsynth_vast::{
+    CaseStatement, Expr, FileIds, LiteralFormat, VastDataType, VastFile, VastFileType,
+    VastFunction, VastModule,
+};
+
+/// The module, its signals, and the type of a state.
+#[derive(Drop)]
+struct Machine {
+    module: VastModule,
+    state_type: VastDataType,
+    clock: Expr,
+    reset: Expr,
+    go: Expr,
+    busy: Expr,
+    state: Expr,
+    next: Expr,
+}
+
+/// The text of the machine.
+///
+/// # Errors
+/// Want of memory.
+pub(crate) fn states(alloc: Global) -> Result<String, ExampleFault> {
+    let mut ids = FileIds::new();
+    let mut file = VastFile::new(alloc, VastFileType::SystemVerilog, &mut ids).unwrap();
+    let machine = add_machine(&mut file)?;
+    add_transitions(&machine, &mut file)?;
+    add_state_register(&machine, &mut file)?;
+    add_output(&machine, &mut file)?;
+    Ok(file.emit()?)
+}
+
+fn add_machine(file: &mut VastFile) -> Result<Machine, ExampleFault> {
+    let module = file.add_module("machine")?;
+    let bit = file.make_scalar_type()?;
+    let state_type = file.make_bit_vector_type(2, false)?;
+    let clock = file.add_input(module, "clk", &bit)?.to_expr();
+    let reset = file.add_input(module, "rst", &bit)?.to_expr();
+    let go = file.add_input(module, "go", &bit)?.to_expr();
+    let busy = file.add_output(module, "busy", &bit)?.to_expr();
+    let state = file.add_logic(module, "state", &state_type)?.to_expr();
+    let next = file.add_logic(module, "next", &state_type)?.to_expr();
+    Ok(Machine {
+        module,
+        state_type,
+        clock,
+        reset,
+        go,
+        busy,
+        state,
+        next,
+    })
+}
+
+/// The literals of the four states.
+#[derive(Drop)]
+struct FourStates {
+    idle: Expr,
+    load: Expr,
+    work: Expr,
+    done: Expr,
+}
+
+fn make_states(file: &mut VastFile) -> Result<FourStates, ExampleFault> {
+    let idle = make_state("bits[2]:0", file)?;
+    let load = make_state("bits[2]:1", file)?;
+    let work = make_state("bits[2]:2", file)?;
+    let done = make_state("bits[2]:3", file)?;
+    Ok(FourStates {
+        idle,
+        load,
+        work,
+        done,
+    })
+}
+
+fn make_state(text: &str, file: &mut VastFile) -> Result<Expr, ExampleFault> {
+    Ok(file.make_literal(text, &LiteralFormat::UnsignedDecimal)?)
+}
+
+/// Idle until `go`, and then three states in a row.
+fn add_transitions(machine: &Machine, file: &mut VastFile) -> Result<(), ExampleFault> {
+    let states = make_states(file)?;
+    let start = make_start(machine.go, &states, file)?;
+    let case = add_case(machine, file)?;
+    let next = machine.next;
+    add_arm(case, states.idle, next, start, file)?;
+    add_arm(case, states.load, next, states.work, file)?;
+    add_arm(case, states.work, next, states.done, file)?;
+    add_arm(case, states.done, next, states.idle, file)
+}
+
+/// What follows the idle state.
+fn make_start(go: Expr, states: &FourStates, file: &mut VastFile) -> Result<Expr, ExampleFault> {
+    if !file.owns(&go) || !file.owns(&states.load) || !file.owns(&states.idle) {
+        return Err(ExampleFault::Foreign);
+    }
+    Ok(file.make_ternary(&go, &states.load, &states.idle)?)
+}
+
+/// The `case` over the state, in an `always_comb`.
+fn add_case(machine: &Machine, file: &mut VastFile) -> Result<CaseStatement, ExampleFault> {
+    if !file.owns(&machine.module) || !file.owns(&machine.state) {
+        return Err(ExampleFault::Foreign);
+    }
+    let always = file.add_always_comb(machine.module)?;
+    let body = file.statement_block(always);
+    Ok(file.block_add_case(body, &machine.state)?)
+}
+
+/// In the state `label`, the signal `next` takes the value.
+fn add_arm(
+    case: CaseStatement,
+    label: Expr,
+    next: Expr,
+    value: Expr,
+    file: &mut VastFile,
+) -> Result<(), ExampleFault> {
+    if !file.owns(&case) || !file.owns(&label) || !file.owns(&next) || !file.owns(&value) {
+        return Err(ExampleFault::Foreign);
+    }
+    let arm = file.case_add_item(case, &label)?;
+    file.block_add_blocking_assignment(arm, &next, &value)?;
+    Ok(())
+}
+
+/// The state of the next cycle, idle at a reset.
+fn add_state_register(machine: &Machine, file: &mut VastFile) -> Result<(), ExampleFault> {
+    let idle = make_state("bits[2]:0", file)?;
+    let body = add_clocked(machine.module, machine.clock, file)?;
+    let branches = add_branches(body, machine.reset, file)?;
+    assign_branches(&branches, machine.state, idle, machine.next, file)
+}
+
+/// The output by the function of the state.
+fn add_output(machine: &Machine, file: &mut VastFile) -> Result<(), ExampleFault> {
+    add_is_busy(machine, file)?;
+    if !file.owns(&machine.module) || !file.owns(&machine.state) || !file.owns(&machine.busy) {
+        return Err(ExampleFault::Foreign);
+    }
+    let call = file.make_function_call("is_busy", &[&machine.state])?;
+    let drive = file.make_continuous_assignment(&machine.busy, &call)?;
+    file.add_member_continuous_assignment(machine.module, drive)?;
+    Ok(())
+}
+
+/// The function `is_busy` of a state: whether it isn't the idle one.
+fn add_is_busy(machine: &Machine, file: &mut VastFile) -> Result<(), ExampleFault> {
+    if !file.owns(&machine.module) || !file.owns(&machine.state_type) {
+        return Err(ExampleFault::Foreign);
+    }
+    let bit = file.make_scalar_type()?;
+    let function = file.add_function(machine.module, "is_busy", &bit)?;
+    let of = file.function_add_input(function, "of", &machine.state_type)?;
+    fill_is_busy(function, of.to_expr(), file)
+}
+
+fn fill_is_busy(function: VastFunction, of: Expr, file: &mut VastFile) -> Result<(), ExampleFault> {
+    let idle = make_state("bits[2]:0", file)?;
+    if !file.owns(&function) || !file.owns(&of) || !file.owns(&idle) {
+        return Err(ExampleFault::Foreign);
+    }
+    let answer = file.function_result(function);
+    let body = file.function_body(function);
+    let differs = file.make_ne(&of, &idle)?;
+    file.block_add_blocking_assignment(body, &answer.to_expr(), &differs)?;
+    Ok(())
+}
