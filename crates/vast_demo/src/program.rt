@@ -37,6 +37,9 @@ pub fn run<R: Read, W: Write, E: Write>(
     ensures checked { is_check words.now ≡ true →
         CheckEnds (R.remaining input.old) (R.remaining input.new)
         (W.contents out.old) (W.contents out.new) result }
+    ensures unread { is_check words.now ≡ false → R.remaining input.new ≡ R.remaining input.old }
+    ensures unwritten { result ≡ 2 → W.contents out.new ≡ W.contents out.old }
+    ensures silent { result ≡ 0 → E.contents err.new ≡ E.contents err.old }
 {
     match words {
         [word] => {
@@ -53,8 +56,10 @@ pub fn run<R: Read, W: Write, E: Write>(
 fn print_named<W: Write, E: Write>(alloc: Global, name: &str, out: &mut W, err: &mut E) -> u8
     ensures unknown { IsNone (text_of name.now) → result ≡ 2 }
     ensures known { IsSome (text_of name.now) → result ≤ 1 }
+    ensures unwritten { result ≡ 2 → W.contents out.new ≡ W.contents out.old }
     ensures printed { IfSome (text_of name.now) (λ text. result ≡ 0 →
         Appends (W.contents out.old) (W.contents out.new) text) }
+    ensures silent { result ≡ 0 → E.contents err.new ≡ E.contents err.old }
 {
     if name == "passthrough" {
         print_design(passthrough(alloc), out, err)
@@ -82,6 +87,7 @@ fn print_design<F: Display + Drop, W: Write, E: Write>(
     ensures status { result ≤ 1 }
     ensures written { result ≡ 0 → MatchResult text
         (λ t. Appends (W.contents out.old) (W.contents out.new) (string_bytes t)) (λ _. ⊥) }
+    ensures silent { result ≡ 0 → E.contents err.new ≡ E.contents err.old }
 {
     match text {
         Ok(text) => match out.write_all(text.as_bytes()) {
@@ -101,6 +107,7 @@ fn print_answer<R: Read, W: Write, E: Write>(
     ensures status { result ≤ 1 }
     ensures ends { CheckEnds (R.remaining input.old) (R.remaining input.new)
         (W.contents out.old) (W.contents out.new) result }
+    ensures silent { result ≡ 0 → E.contents err.new ≡ E.contents err.old }
 {
     match check(alloc, input) {
         Ok(true) => match write_line(b"derived\n", out) {
