@@ -14,9 +14,9 @@ use Rattle.vast_core.specs.Bench.{Bench, start}
 use Rattle.vast_core.specs.Growth.{with_module, with_port, with_declaration, with_expr, with_type}
 use Rattle.xlsynth_vast.specs.declared.helpers.registers.RegisterDefinition.{RegisterDefinition}
 use Rattle.xlsynth_vast.specs.Equations.{with_bit_vector}
-use Rattle.vast_designs.specs.declared.registers.Signals.{Signals}
-use Rattle.vast_designs.specs.declared.registers.State.{State}
-use Rattle.vast_designs.specs.declared.registers.Values.{Values}
+use Rattle.vast_designs.specs.declared.clocked.Signals.{Signals}
+use Rattle.vast_designs.specs.declared.clocked.State.{State}
+use Rattle.vast_designs.specs.declared.clocked.Values.{Values}
 
 -- The handles that the calls answer, in a file of id 1.
 

@@ -7,12 +7,12 @@ ghost use Rattle.std.specs.Prelude.{◌≡◌, IfOk, map, string_bytes};
 ghost use Rattle.vast_script.specs.Script.{call_of};
 ghost use Rattle.vast_designs.specs.DesignCalls.{calls_text};
 
+mod clocked;
 mod encoder;
-mod registers;
 mod wires;
 
+pub use clocked::registers;
 pub use encoder::cases;
-pub use registers::registers;
 use std::alloc::{AllocError, Global};
 use thiserror::Error;
 use vast_script::{ScriptFault, Step, replay};

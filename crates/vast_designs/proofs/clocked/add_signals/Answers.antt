@@ -1,6 +1,6 @@
 use Rattle.vast_core.specs.View.{bench}
 use Rattle.vast_designs.proofs.RegistersSteps.{signals-made}
-use Rattle.vast_designs.proofs.registers.add_signals.Goals as goal
+use Rattle.vast_designs.proofs.clocked.add_signals.Goals as goal
 
 pub returns : goal.returns
 returns c =

@@ -1,8 +1,8 @@
 use Rattle.std.proofs.Common.{refl, ap}
 use Rattle.vast_core.specs.View.{bench}
-use Rattle.vast_designs.specs.declared.registers.Signals.{Signals}
+use Rattle.vast_designs.specs.declared.clocked.Signals.{Signals}
 use Rattle.vast_designs.proofs.RegistersSteps.{step6, step7, step8, step9, step10, owns-owner-in-first, owns-byte-in-first, owns-owner-in-first-next, owns-byte-in-first-next, owns-owner-in-second, owns-byte-in-second, owns-owner-in-second-next, owns-byte-in-second-next}
-use Rattle.vast_designs.proofs.registers.add_state.Goals as goal
+use Rattle.vast_designs.proofs.clocked.add_state.Goals as goal
 
 pub add_logic-requires-clause-owner : goal.add_logic-requires-clause-owner
 add_logic-requires-clause-owner c =

@@ -1,11 +1,11 @@
 use Rattle.std.proofs.Common.{◌≡◌, refl, ap}
 use Rattle.vast_core.specs.View.{bench}
 use Rattle.vast_core.specs.Handles.{logic_ref_to_expr}
-use Rattle.vast_designs.specs.declared.registers.Signals.{Signals}
+use Rattle.vast_designs.specs.declared.clocked.Signals.{Signals}
 use Rattle.vast_designs.specs.RegistersFile.{clock, reset, the_signals, the_state, the_values, enabled, plain}
 use Rattle.vast_designs.proofs.RegistersSteps.{owns-owner, owns-clock, owns-reset, owns-both}
 use Rattle.vast_designs.proofs.RegistersText.{registers-added}
-use Rattle.vast_designs.proofs.registers.add_both.Goals as goal
+use Rattle.vast_designs.proofs.clocked.add_both.Goals as goal
 
 pub add_registers-requires-clause-clk : goal.add_registers-requires-clause-clk
 add_registers-requires-clause-clk c =

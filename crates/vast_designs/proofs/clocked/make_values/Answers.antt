@@ -1,6 +1,6 @@
 use Rattle.vast_core.specs.View.{bench}
 use Rattle.vast_designs.proofs.RegistersSteps.{values-made}
-use Rattle.vast_designs.proofs.registers.make_values.Goals as goal
+use Rattle.vast_designs.proofs.clocked.make_values.Goals as goal
 
 pub returns : goal.returns
 returns c =
