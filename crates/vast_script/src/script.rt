@@ -18,7 +18,7 @@ use xlsynth_vast::VastFile;
 /// Makes the call of one step, whose arguments are among the answers so far.
 ///
 /// # Errors
-/// The step's fault: the file is as it was, but for what a helper leaves unseen.
+/// The step's fault; the file is as it was.
 pub fn replay_step(
     file: &mut VastFile,
     answers: &[Answer],
