@@ -33,14 +33,16 @@ const DESIGN: &str = "module m;\n  wire a;\nendmodule\n";
 
 #[test]
 fn one_list_is_a_design(rt: HostRuntime) {
-    for list in [NUMBERED, NAMED] {
+    let lists = [
+        (Tries::Once, NUMBERED),
+        (Tries::Once, NAMED),
+        (Tries::Again, NAMED),
+    ];
+    for (tries, list) in lists {
         let mut out: Vec<u8> = Vec::new(rt.alloc());
         let mut err: Vec<u8> = Vec::new(rt.alloc());
         let mut input = list.as_bytes();
-        assert_eq!(rt;
-            run(rt.alloc(), Tries::Once, &mut input, &mut out, &mut err),
-            0
-        );
+        assert_eq!(rt; run(rt.alloc(), tries, &mut input, &mut out, &mut err), 0);
         assert!(rt; out.as_slice() == DESIGN.as_bytes());
         assert!(rt; err.is_empty());
     }
