@@ -3,6 +3,7 @@
 //! `docs/LISTS.md` has the form. [`list_output`] answers one list, whose lines [`ListLines`] holds.
 #![tactic(auto)]
 
+mod again;
 mod arguments;
 mod calls;
 mod handles;
@@ -14,8 +15,10 @@ mod questions;
 mod refusal;
 mod report;
 mod taken;
+mod tries;
 
 pub use lines::{HEADER, ListLines};
 pub use list::BadLine;
 pub use output::{ListFault, list_output};
 pub use problem::Problem;
+pub use tries::Tries;

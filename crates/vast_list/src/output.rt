@@ -3,10 +3,13 @@
 ghost use Rattle.std.specs.Prelude.{◌≡◌, IfOk};
 ghost use Rattle.vast_list.specs.Output.{header_line, BeginsWithHeader, IsHeaded};
 
+use crate::again::report_again;
 use crate::lines::{HEADER, ListLines};
 use crate::list::{BadLine, read_list};
 use crate::problem::Problem;
 use crate::report::{Entry, Report, report_on};
+use crate::tried;
+use crate::tries::Tries;
 use std::alloc::{AllocError, Global};
 
 /// Why nothing is printed of a list.
@@ -37,21 +40,27 @@ impl From<AllocError> for ListFault {
 
 /// What is printed of the list: behind a header the header and all that the list gives, else the file's text alone.
 ///
+/// With `Tries::Again` what was refused memory is made once more, and a refused call must have left the file as it was:
+/// where one request is refused, the output is that of a run without.
+///
 /// # Errors
 /// A line that is not in the form, a refusal where there is no header, and want of memory.
 #[tactic(auto, using(crate::proofs::Headers::titles))]
-pub fn list_output(alloc: Global, list: &ListLines<'_>) -> Result<Vec<u8>, ListFault>
+pub fn list_output(alloc: Global, tries: Tries, list: &ListLines<'_>) -> Result<Vec<u8>, ListFault>
     ensures { IfOk result (λ output. IsHeaded list.now.title output.items) }
 {
-    let read = read_list(alloc, list.number, &list.lines)?;
-    let report = report_on(alloc, read)?;
+    let read = tried!(tries, read_list(alloc, list.number, &list.lines))?;
+    let report = match tries {
+        Tries::Once => report_on(alloc, read)?,
+        Tries::Again => report_again(alloc, read, &list.lines)?,
+    };
     match list.title {
         None => {
             let output = design(report)?;
             Ok(output)
         }
         Some(title) => {
-            let output = titled(alloc, title, &report)?;
+            let output = tried!(tries, titled(alloc, title, &report))?;
             Ok(output)
         }
     }

@@ -24,6 +24,13 @@ impl Entry {
             Entry::Text(text) | Entry::Refusal(text) => text,
         }
     }
+
+    /// What is printed of it.
+    pub(crate) fn into_text(self) -> String {
+        match self {
+            Entry::Text(text) | Entry::Refusal(text) => text,
+        }
+    }
 }
 
 /// What a list gives.
@@ -48,16 +55,29 @@ pub(crate) fn report_on(alloc: Global, list: List<'_>) -> Result<Report, AllocEr
     let mut entries = Vec::new(alloc);
     let (mut file, answers) = make(alloc, dialect, steps, &mut entries)?;
     for (name, question) in &questions {
-        entries.push(match answer(&mut file, &answers, question) {
-            Ok(text) => Entry::Text(format!(in alloc; "{name}: {text}\n")?),
-            Err(Refusal::Memory) => return Err(AllocError),
-            Err(refusal) => Entry::Refusal(format!(in alloc; "{name}: refused: {refusal}\n")?),
-        })?;
+        let answered = answer(&mut file, &answers, question);
+        entries.push(answer_entry(alloc, name, &answered)?)?;
     }
     Ok(Report {
         answers: entries,
         file: printed(&file)?,
     })
+}
+
+/// The line of a question's answer or of its refusal.
+///
+/// # Errors
+/// Want of memory, the question's too.
+pub(crate) fn answer_entry(
+    alloc: Global,
+    name: &str,
+    answered: &Result<String, Refusal>,
+) -> Result<Entry, AllocError> {
+    match answered {
+        Ok(text) => Ok(Entry::Text(format!(in alloc; "{name}: {text}\n")?)),
+        Err(Refusal::Memory) => Err(AllocError),
+        Err(refusal) => Ok(Entry::Refusal(format!(in alloc; "{name}: refused: {refusal}\n")?)),
+    }
 }
 
 /// Makes the steps up to the first at fault, which becomes an entry. Answers their file and their answers.
@@ -73,7 +93,7 @@ fn make(
         Err(fault) => fault,
     };
     let number = step_at_fault(&fault).ok_or(AllocError)?;
-    entries.push(Entry::Refusal(format!(in alloc; "refused: {fault}\n")?))?;
+    entries.push(fault_entry(alloc, &fault)?)?;
     // With its fault `replay` hands out no answers. It makes the same file of the same steps, so the steps before are
     // made once more; want of memory is then the one fault that is left.
     steps.truncate(number);
@@ -84,7 +104,19 @@ fn make(
     }
 }
 
-fn empty_file(alloc: Global, dialect: VastFileType) -> VastFile {
+/// The line of the first step at fault.
+///
+/// # Errors
+/// Want of memory, the step's too.
+pub(crate) fn fault_entry(alloc: Global, fault: &ScriptFault) -> Result<Entry, AllocError> {
+    match fault {
+        ScriptFault::Memory => Err(AllocError),
+        _ => Ok(Entry::Refusal(format!(in alloc; "refused: {fault}\n")?)),
+    }
+}
+
+/// A new file of the dialect.
+pub(crate) fn empty_file(alloc: Global, dialect: VastFileType) -> VastFile {
     let mut ids = FileIds::new();
     VastFile::new(alloc, dialect, &mut ids).unwrap()
 }
@@ -100,7 +132,8 @@ fn step_at_fault(fault: &ScriptFault) -> Option<usize> {
     }
 }
 
-fn printed(file: &VastFile) -> Result<Entry, AllocError> {
+/// The file's text, or its refusal.
+pub(crate) fn printed(file: &VastFile) -> Result<Entry, AllocError> {
     match file.emit() {
         Ok(text) => Ok(Entry::Text(text)),
         Err(VastFault::Refused(refusal)) => {

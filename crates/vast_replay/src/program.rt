@@ -9,7 +9,7 @@ mod tests;
 use crate::input::split_lists;
 use std::alloc::Global;
 use std::io::{ErrorKind, Read, Write};
-use vast_list::{BadLine, ListFault, ListLines, list_output};
+use vast_list::{BadLine, ListFault, ListLines, Tries, list_output, tried};
 
 /// Reads lists of calls to the end of `input`, makes their calls and prints what they give, and answers the status.
 ///
@@ -20,9 +20,13 @@ use vast_list::{BadLine, ListFault, ListLines, list_output};
 /// a failed write (`write fault`) and want of memory (`out of memory`) are told on `err` and end the run, status 1.
 /// Otherwise the status is 0. A failed write to `err` changes no status.
 ///
+/// With `Tries::Again` what was refused memory is made once more, and a refused call must have left the file as it was:
+/// where one request is refused, the run gives what it gives without.
+///
 /// The contract says what a status of 0 promises of the streams; the rest of this is tested, not proved.
 pub fn run<R: Read, W: Write, E: Write>(
     alloc: Global,
+    tries: Tries,
     input: &mut R,
     out: &mut W,
     err: &mut E,
@@ -32,8 +36,8 @@ pub fn run<R: Read, W: Write, E: Write>(
     ensures read { result ≡ 0 → IsAtEnd (R.remaining input.new) }
 {
     let mut bytes = Vec::new(alloc);
-    match input.read_to_end(&mut bytes) {
-        Ok(_) => answer_lists(alloc, &bytes, out, err),
+    match tried!(tries, input.read_to_end(&mut bytes)) {
+        Ok(_) => answer_lists(alloc, tries, &bytes, out, err),
         Err(error) => {
             if error.kind() == ErrorKind::OutOfMemory {
                 fail("out of memory", err)
@@ -44,16 +48,22 @@ pub fn run<R: Read, W: Write, E: Write>(
     }
 }
 
-fn answer_lists<W: Write, E: Write>(alloc: Global, input: &[u8], out: &mut W, err: &mut E) -> u8
+fn answer_lists<W: Write, E: Write>(
+    alloc: Global,
+    tries: Tries,
+    input: &[u8],
+    out: &mut W,
+    err: &mut E,
+) -> u8
     ensures status { result ≤ 2 }
     ensures silent { result ≡ 0 → E.contents err.new ≡ E.contents err.old }
 {
-    let Ok(lists) = split_lists(alloc, input) else {
+    let Ok(lists) = tried!(tries, split_lists(alloc, input)) else {
         return fail("out of memory", err);
     };
     let mut status = 0;
     for list in &lists {
-        match answer_list(alloc, list, out, err) {
+        match answer_list(alloc, tries, list, out, err) {
             0 => {}
             1 => return 1,
             other => status = other,
@@ -65,6 +75,7 @@ fn answer_lists<W: Write, E: Write>(alloc: Global, input: &[u8], out: &mut W, er
 /// Answers one list to `out`, its output in one piece.
 fn answer_list<W: Write, E: Write>(
     alloc: Global,
+    tries: Tries,
     list: &ListLines<'_>,
     out: &mut W,
     err: &mut E,
@@ -72,7 +83,7 @@ fn answer_list<W: Write, E: Write>(
     ensures status { result ≤ 2 }
     ensures silent { result ≡ 0 → E.contents err.new ≡ E.contents err.old }
 {
-    match list_output(alloc, list) {
+    match list_output(alloc, tries, list) {
         Ok(output) => match out.write_all(&output) {
             Ok(()) => 0,
             Err(_) => fail("write fault", err),

@@ -15,8 +15,15 @@ use crate::step::Step;
 use crate::types::replay_type;
 use xlsynth_vast::VastFile;
 
-/// Makes the call of a step, over the answers so far.
-fn replay_step(file: &mut VastFile, answers: &[Answer], step: &Step) -> Result<Answer, StepFault>
+/// Makes the call of one step, whose arguments are among the answers so far.
+///
+/// # Errors
+/// The step's fault; the file is as it was.
+pub fn replay_step(
+    file: &mut VastFile,
+    answers: &[Answer],
+    step: &Step,
+) -> Result<Answer, StepFault>
     ensures { Replays file.old file.new answers.now result (call_of step.now) }
 {
     match step {

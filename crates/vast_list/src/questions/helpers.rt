@@ -50,8 +50,9 @@ pub(crate) fn answer_helper(
 ) -> Result<String, Refusal> {
     match question {
         HelperQuestion::AddRegisters(clk, reset, registers, scope) => {
+            let text = String::from_str(file.allocator(), "ok")?;
             add_registers(file, answers, *clk, reset, registers, *scope)?;
-            Ok(String::from_str(file.allocator(), "ok")?)
+            Ok(text)
         }
         HelperQuestion::BitwiseOrReduce(values) => {
             let values: Vec<Expr> = handles(file, answers, values)?;

@@ -3,6 +3,7 @@
 use super::run;
 use std::io;
 use std::io::{Read, Write};
+use vast_list::Tries;
 
 /// A reader or a writer that fails.
 #[derive(Drop)]
@@ -32,11 +33,16 @@ const DESIGN: &str = "module m;\n  wire a;\nendmodule\n";
 
 #[test]
 fn one_list_is_a_design(rt: HostRuntime) {
-    for list in [NUMBERED, NAMED] {
+    let lists = [
+        (Tries::Once, NUMBERED),
+        (Tries::Once, NAMED),
+        (Tries::Again, NAMED),
+    ];
+    for (tries, list) in lists {
         let mut out: Vec<u8> = Vec::new(rt.alloc());
         let mut err: Vec<u8> = Vec::new(rt.alloc());
         let mut input = list.as_bytes();
-        assert_eq!(rt; run(rt.alloc(), &mut input, &mut out, &mut err), 0);
+        assert_eq!(rt; run(rt.alloc(), tries, &mut input, &mut out, &mut err), 0);
         assert!(rt; out.as_slice() == DESIGN.as_bytes());
         assert!(rt; err.is_empty());
     }
@@ -78,7 +84,10 @@ fn a_fault_is_told_in_place_of_a_design(rt: HostRuntime) {
         let mut out: Vec<u8> = Vec::new(rt.alloc());
         let mut err: Vec<u8> = Vec::new(rt.alloc());
         let mut input = list;
-        assert_eq!(rt; run(rt.alloc(), &mut input, &mut out, &mut err), status);
+        assert_eq!(rt;
+            run(rt.alloc(), Tries::Once, &mut input, &mut out, &mut err),
+            status
+        );
         assert!(rt; out.is_empty());
         assert!(rt; err.as_slice() == told.as_bytes());
     }
@@ -91,7 +100,10 @@ fn lists_around_a_bad_line_are_answered(rt: HostRuntime) {
     let lists =
         "== one\nverilog\n?IsSystemVerilogKeyword \"wire\"\nMakeNot\n== two\nverilog\nMakeNot 0\n";
     let mut input = lists.as_bytes();
-    assert_eq!(rt; run(rt.alloc(), &mut input, &mut out, &mut err), 2);
+    assert_eq!(rt;
+        run(rt.alloc(), Tries::Once, &mut input, &mut out, &mut err),
+        2
+    );
     assert!(rt; out.as_slice() == "== two\nrefused: step 0: no such answer\n".as_bytes());
     assert!(rt; err.as_slice() == "line 4: a step behind a question\n".as_bytes());
 }
@@ -100,10 +112,25 @@ fn lists_around_a_bad_line_are_answered(rt: HostRuntime) {
 fn failing_streams_are_told(rt: HostRuntime) {
     let mut out: Vec<u8> = Vec::new(rt.alloc());
     let mut err: Vec<u8> = Vec::new(rt.alloc());
-    assert_eq!(rt; run(rt.alloc(), &mut Closed, &mut out, &mut err), 1);
+    assert_eq!(rt;
+        run(rt.alloc(), Tries::Once, &mut Closed, &mut out, &mut err),
+        1
+    );
     let mut input = NUMBERED.as_bytes();
-    assert_eq!(rt; run(rt.alloc(), &mut input, &mut Closed, &mut err), 1);
+    assert_eq!(rt;
+        run(rt.alloc(), Tries::Once, &mut input, &mut Closed, &mut err),
+        1
+    );
     assert!(rt; err.as_slice() == "read fault\nwrite fault\n".as_bytes());
     let mut input = NUMBERED.as_bytes();
-    assert_eq!(rt; run(rt.alloc(), &mut input, &mut Closed, &mut Closed), 1);
+    assert_eq!(rt;
+        run(
+            rt.alloc(),
+            Tries::Once,
+            &mut input,
+            &mut Closed,
+            &mut Closed
+        ),
+        1
+    );
 }

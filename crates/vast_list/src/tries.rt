@@ -1,0 +1,21 @@
+//! How often what was refused memory is tried.
+
+/// How often what was refused memory is tried.
+#[derive(Clone, Copy)]
+pub enum Tries {
+    /// Once.
+    Once,
+    /// Once more, on a file that must be as it was.
+    Again,
+}
+
+/// What is made; where that fails and the tries allow it, what is made the second time.
+#[macro_export]
+macro_rules! tried {
+    ($tries:expr, $made:expr) => {
+        match $made {
+            Err(_) if matches!($tries, $crate::Tries::Again) => $made,
+            made => made,
+        }
+    };
+}
