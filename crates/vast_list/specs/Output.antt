@@ -1,6 +1,11 @@
 -- What is printed of a list.
-use Rattle.std.specs.Prelude.{◌≡◌, ℕ, List, ◌++◌, codes, Option, Some, None, ⊤}
+use Rattle.std.specs.Prelude.{◌≡◌, ℕ, List, ◌++◌, codes, Option, Some, None, string_bytes, ⊤}
 use Rattle.std.specs.Borrow.{Bor}
+use Rattle.vast_literal.specs.Tree.{FileTree}
+use Rattle.vast_print.specs.Page.{print}
+use Rattle.vast_print.specs.Layout.{layout}
+use Rattle.vast_list.specs.declared.report.Entry.{Entry}
+use Rattle.vast_list.specs.declared.report.Entry.TheVariants.{Text, Refusal}
 
 -- the line before a list
 abbrev pub header_line : (title : List ℕ) → List ℕ
@@ -10,7 +15,16 @@ header_line title = codes "== " ++ title ++ codes "\n"
 abbrev pub BeginsWithHeader : (title output : List ℕ) → Type 0
 BeginsWithHeader title output = (rest : List ℕ) × (output ≡ header_line title ++ rest)
 
--- where the list has a title, the output begins with its line
-abbrev pub IsHeaded : Option (Bor (List ℕ)) → (output : List ℕ) → Type 0
-IsHeaded (Some title) output = BeginsWithHeader title.now output
-IsHeaded None _ = ⊤
+-- the text is a file's: the printed layout of a tree that nothing refuses
+abbrev pub IsFileText : (text : List ℕ) → Type 0
+IsFileText text = (file : FileTree) × ((layout file).fault ≡ None) × (text ≡ print (layout file))
+
+-- where the entry is no refusal, it is a file's text
+abbrev pub HoldsFile : Entry → Type 0
+HoldsFile (Text text) = IsFileText (string_bytes text)
+HoldsFile (Refusal _) = ⊤
+
+-- where the list has a title, the output begins with its line; else it is a file's text, and nothing else
+abbrev pub IsOutput : Option (Bor (List ℕ)) → (output : List ℕ) → Type 0
+IsOutput (Some title) output = BeginsWithHeader title.now output
+IsOutput None output = IsFileText output

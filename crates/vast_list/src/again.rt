@@ -2,6 +2,9 @@
 //!
 //! With one request refused, such a run gives what it gives without a refusal: that is how want of memory is tried.
 
+ghost use Rattle.std.specs.Prelude.{IfOk};
+ghost use Rattle.vast_list.specs.Output.{HoldsFile};
+
 use crate::list::List;
 use crate::questions::{Question, answer};
 use crate::refusal::Refusal;
@@ -44,7 +47,9 @@ pub(crate) fn report_again(
     alloc: Global,
     list: List<'_>,
     lines: &[(usize, &[u8])],
-) -> Result<Report, AllocError> {
+) -> Result<Report, AllocError>
+    ensures { IfOk result (λ report. HoldsFile report.file) }
+{
     let List {
         dialect,
         steps,

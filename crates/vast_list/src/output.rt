@@ -1,7 +1,7 @@
 //! What is printed of a list.
 
 ghost use Rattle.std.specs.Prelude.{◌≡◌, IfOk};
-ghost use Rattle.vast_list.specs.Output.{header_line, BeginsWithHeader, IsHeaded};
+ghost use Rattle.vast_list.specs.Output.{header_line, BeginsWithHeader, HoldsFile, IsFileText, IsOutput};
 
 use crate::again::report_again;
 use crate::lines::{HEADER, ListLines};
@@ -47,7 +47,7 @@ impl From<AllocError> for ListFault {
 /// A line that is not in the form, a refusal where there is no header, and want of memory.
 #[tactic(auto, using(crate::proofs::Headers::titles))]
 pub fn list_output(alloc: Global, tries: Tries, list: &ListLines<'_>) -> Result<Vec<u8>, ListFault>
-    ensures { IfOk result (λ output. IsHeaded list.now.title output.items) }
+    ensures { IfOk result (λ output. IsOutput list.now.title output.items) }
 {
     let read = tried!(tries, read_list(alloc, list.number, &list.lines))?;
     let report = match tries {
@@ -67,7 +67,10 @@ pub fn list_output(alloc: Global, tries: Tries, list: &ListLines<'_>) -> Result<
 }
 
 /// The file's text, where nothing was refused.
-fn design(report: Report) -> Result<Vec<u8>, ListFault> {
+fn design(report: Report) -> Result<Vec<u8>, ListFault>
+    requires { HoldsFile report.file }
+    ensures { IfOk result (λ output. IsFileText output.items) }
+{
     for entry in report.answers {
         if let Entry::Refusal(refusal) = entry {
             return Err(ListFault::Refused(refusal));

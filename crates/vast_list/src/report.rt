@@ -1,5 +1,8 @@
 //! What a list gives: the answers to its questions and the text of its file.
 
+ghost use Rattle.std.specs.Prelude.{IfOk};
+ghost use Rattle.vast_list.specs.Output.{HoldsFile};
+
 use crate::list::List;
 use crate::questions::answer;
 use crate::refusal::Refusal;
@@ -46,7 +49,9 @@ pub(crate) struct Report {
 ///
 /// # Errors
 /// Want of memory.
-pub(crate) fn report_on(alloc: Global, list: List<'_>) -> Result<Report, AllocError> {
+pub(crate) fn report_on(alloc: Global, list: List<'_>) -> Result<Report, AllocError>
+    ensures { IfOk result (λ report. HoldsFile report.file) }
+{
     let List {
         dialect,
         steps,
@@ -133,7 +138,10 @@ fn step_at_fault(fault: &ScriptFault) -> Option<usize> {
 }
 
 /// The file's text, or its refusal.
-pub(crate) fn printed(file: &VastFile) -> Result<Entry, AllocError> {
+#[tactic(auto, using(crate::proofs::Headers::emitted_text))]
+pub(crate) fn printed(file: &VastFile) -> Result<Entry, AllocError>
+    ensures { IfOk result (λ entry. HoldsFile entry) }
+{
     match file.emit() {
         Ok(text) => Ok(Entry::Text(text)),
         Err(VastFault::Refused(refusal)) => {
