@@ -1,5 +1,6 @@
 //! Many members in one module: a wire and its assignment, again and again.
 
+use crate::assign::assign;
 use crate::fault::BenchFault;
 use xlsynth_vast::{Expr, VastDataType, VastFile, VastModule};
 
@@ -12,28 +13,26 @@ pub(crate) fn build_flat(size: usize, file: &mut VastFile) -> Result<(), BenchFa
     let byte = file.make_bit_vector_type(8, false)?;
     let mut before = file.add_input(module, "data", &byte)?.to_expr();
     for i in 0..size {
-        before = add_wire(module, byte, before, i, file)?;
+        let wire = add_wire(module, byte, i, file)?;
+        assign(module, wire, before, file)?;
+        before = wire;
     }
     Ok(())
 }
 
-/// Adds the wire of this number and its assignment.
+/// Adds the wire of this number.
 fn add_wire(
     module: VastModule,
     byte: VastDataType,
-    before: Expr,
     i: usize,
     file: &mut VastFile,
 ) -> Result<Expr, BenchFault> {
     let name = format!(in file.allocator(); "wire_{i}")?;
-    if !file.owns(&module) || !file.owns(&byte) || !file.owns(&before) {
+    if !file.owns(&module) || !file.owns(&byte) {
         return Err(BenchFault::Foreign);
     }
     if !file.name_is_free(module, &name) {
         return Err(BenchFault::Taken);
     }
-    let wire = file.add_wire(module, &name, &byte)?.to_expr();
-    let assignment = file.make_continuous_assignment(&wire, &before)?;
-    file.add_member_continuous_assignment(module, assignment)?;
-    Ok(wire)
+    Ok(file.add_wire(module, &name, &byte)?.to_expr())
 }

@@ -3,6 +3,7 @@
 //! It is written as a user's crate is: one set of lemmas, `callers`, and no proof of its own.
 #![tactic(auto, using(xlsynth_vast::proofs::Callers::callers))]
 
+mod assign;
 mod cases;
 mod fault;
 mod flat;

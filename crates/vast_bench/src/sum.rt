@@ -1,7 +1,8 @@
 //! One long expression.
 
+use crate::assign::assign;
 use crate::fault::BenchFault;
-use xlsynth_vast::{Expr, VastFile, VastModule};
+use xlsynth_vast::{Expr, VastFile};
 
 /// One assignment of so many sums, the first in the second, and so on.
 ///
@@ -16,7 +17,7 @@ pub(crate) fn build_sum(size: usize, file: &mut VastFile) -> Result<(), BenchFau
     for _ in 0..size {
         sum = add_term(sum, term, file)?;
     }
-    drive(module, total, sum, file)
+    assign(module, total, sum, file)
 }
 
 fn add_term(sum: Expr, term: Expr, file: &mut VastFile) -> Result<Expr, BenchFault> {
@@ -24,18 +25,4 @@ fn add_term(sum: Expr, term: Expr, file: &mut VastFile) -> Result<Expr, BenchFau
         return Err(BenchFault::Foreign);
     }
     Ok(file.make_add(&sum, &term)?)
-}
-
-fn drive(
-    module: VastModule,
-    total: Expr,
-    sum: Expr,
-    file: &mut VastFile,
-) -> Result<(), BenchFault> {
-    if !file.owns(&module) || !file.owns(&total) || !file.owns(&sum) {
-        return Err(BenchFault::Foreign);
-    }
-    let assignment = file.make_continuous_assignment(&total, &sum)?;
-    file.add_member_continuous_assignment(module, assignment)?;
-    Ok(())
 }
