@@ -1,0 +1,95 @@
+//! What the program does with its words.
+
+use crate::cases::build_cases;
+use crate::fault::BenchFault;
+use crate::flat::build_flat;
+use crate::nests::build_nests;
+use crate::sum::build_sum;
+use std::alloc::Global;
+use std::io::Write;
+use xlsynth_vast::{FileIds, VastFile, VastFileType};
+
+/// Builds a design for each three words, `DESIGN SIZE TIMES`, prints it so many times, and writes a line with the length
+/// of its text to `out`; where the word `text` stands for the times, the text itself. Answers the status: 0, or that of
+/// the first fault, whose words go to `err`.
+pub(crate) fn run<W: Write, E: Write>(
+    alloc: Global,
+    words: &[&str],
+    out: &mut W,
+    err: &mut E,
+) -> u8 {
+    if words.is_empty() {
+        return fail(BenchFault::Words, err);
+    }
+    for three in words.chunks(3) {
+        if let Err(fault) = measure(alloc, three, out) {
+            return fail(fault, err);
+        }
+    }
+    0
+}
+
+fn measure<W: Write>(alloc: Global, words: &[&str], out: &mut W) -> Result<(), BenchFault> {
+    let [design, digits, times] = words else {
+        return Err(BenchFault::Words);
+    };
+    let size = number(digits)?;
+    let mut ids = FileIds::new();
+    let mut file = VastFile::new(alloc, VastFileType::SystemVerilog, &mut ids).unwrap();
+    build(design, size, &mut file)?;
+    if *times == "text" {
+        let text = file.emit()?;
+        return write(text.as_str(), out);
+    }
+    let times = number(times)?;
+    let length = print_times(&file, times)?;
+    let line = format!(in alloc; "{design} {size}: {length} bytes, {times} times\n")?;
+    write(line.as_str(), out)
+}
+
+fn number(digits: &str) -> Result<usize, BenchFault> {
+    match digits.parse::<usize>() {
+        Ok(number) => Ok(number),
+        Err(_) => Err(BenchFault::Number),
+    }
+}
+
+/// Builds the design of this name.
+fn build(design: &str, size: usize, file: &mut VastFile) -> Result<(), BenchFault> {
+    if design == "flat" {
+        build_flat(size, file)
+    } else if design == "deep" {
+        build_nests(1, size, file)
+    } else if design == "many-deep" {
+        build_nests(1000, size, file)
+    } else if design == "sum" {
+        build_sum(size, file)
+    } else if design == "cases" {
+        build_cases(size, file)
+    } else {
+        Err(BenchFault::Unknown)
+    }
+}
+
+/// The length of the text, which is printed so many times; 0 where it isn't printed.
+fn print_times(file: &VastFile, times: usize) -> Result<usize, BenchFault> {
+    let mut length = 0;
+    for _ in 0..times {
+        let text = file.emit()?;
+        length = text.len();
+    }
+    Ok(length)
+}
+
+fn write<W: Write>(text: &str, out: &mut W) -> Result<(), BenchFault> {
+    match out.write_all(text.as_bytes()) {
+        Ok(()) => Ok(()),
+        Err(_) => Err(BenchFault::Write),
+    }
+}
+
+/// Says what went wrong, and answers the status of it.
+pub(crate) fn fail<E: Write>(fault: BenchFault, err: &mut E) -> u8 {
+    let _ = writeln!(err, "{fault}");
+    fault.status()
+}

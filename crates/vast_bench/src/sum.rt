@@ -1,0 +1,28 @@
+//! One long expression.
+
+use crate::assign::assign;
+use crate::fault::BenchFault;
+use xlsynth_vast::{Expr, VastFile};
+
+/// One assignment of so many sums, the first in the second, and so on.
+///
+/// # Errors
+/// Want of memory.
+pub(crate) fn build_sum(size: usize, file: &mut VastFile) -> Result<(), BenchFault> {
+    let module = file.add_module("sum")?;
+    let byte = file.make_bit_vector_type(8, false)?;
+    let term = file.add_input(module, "term", &byte)?.to_expr();
+    let total = file.add_output(module, "total", &byte)?.to_expr();
+    let mut sum = term;
+    for _ in 0..size {
+        sum = add_term(sum, term, file)?;
+    }
+    assign(module, total, sum, file)
+}
+
+fn add_term(sum: Expr, term: Expr, file: &mut VastFile) -> Result<Expr, BenchFault> {
+    if !file.owns(&sum) || !file.owns(&term) {
+        return Err(BenchFault::Foreign);
+    }
+    Ok(file.make_add(&sum, &term)?)
+}
