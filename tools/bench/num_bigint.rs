@@ -1,5 +1,6 @@
-//! Stands for the crate num-bigint where a Rust crate that uses it is measured without a network: numbers of at most 128
-//! bits, in the place of numbers of any length. It is faster than num-bigint, so it never flatters the Rattle program.
+//! Stands for the crate num-bigint where a Rust crate that uses it is measured without a network: numbers of at most
+//! 128 bits, in the place of numbers of any length. Unlike num-bigint it allocates nothing for a number, so what is
+//! measured of literals isn't num-bigint's time.
 
 use std::fmt;
 use std::ops::{Shl, Sub};
