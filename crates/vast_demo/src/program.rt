@@ -159,42 +159,28 @@ mod tests {
     }
 
     #[test]
-    fn prints_the_design(rt: HostRuntime) {
+    fn prints_the_designs(rt: HostRuntime) {
         let alloc = rt.alloc();
-        let mut out: Vec<u8> = Vec::new(alloc);
-        let mut err: Vec<u8> = Vec::new(alloc);
-        let status = run(alloc, &["passthrough"], &mut NoInput, &mut out, &mut err);
-        assert_eq!(rt; status, 0);
-        assert!(rt; err.is_empty());
-        let text =
-            "module passthrough(\n  input wire [7:0] input_data,\n  output wire [7:0] output_data\n);\n  assign output_data = input_data;\nendmodule\n";
-        assert!(rt; out.as_slice() == text.as_bytes());
-    }
-
-    #[test]
-    fn prints_the_cases(rt: HostRuntime) {
-        let alloc = rt.alloc();
-        let mut out: Vec<u8> = Vec::new(alloc);
-        let mut err: Vec<u8> = Vec::new(alloc);
-        let status = run(alloc, &["cases"], &mut NoInput, &mut out, &mut err);
-        assert_eq!(rt; status, 0);
-        assert!(rt; err.is_empty());
-        let text =
-            "module encoder(\n  input wire [3:0] s,\n  output wire [1:0] y\n);\n  function automatic logic [1:0] f (input reg [3:0] s);\n    unique casez (s)\n      4'b1???: f = 2;\n      default: begin\n        // none\n        f = 0;\n      end\n    endcase\n  endfunction\n  assign y = f(s);\nendmodule\n";
-        assert!(rt; out.as_slice() == text.as_bytes());
-    }
-
-    #[test]
-    fn prints_the_registers(rt: HostRuntime) {
-        let alloc = rt.alloc();
-        let mut out: Vec<u8> = Vec::new(alloc);
-        let mut err: Vec<u8> = Vec::new(alloc);
-        let status = run(alloc, &["registers"], &mut NoInput, &mut out, &mut err);
-        assert_eq!(rt; status, 0);
-        assert!(rt; err.is_empty());
-        let text =
-            "module regs_rst_en(\n  input wire clk,\n  input wire rst,\n  input wire en\n);\n  logic [7:0] r;\n  logic [7:0] r_next;\n  logic [7:0] r2;\n  logic [7:0] r2_next;\n  always_ff @ (posedge clk) begin\n    if (!rst) begin\n      r <= 8'haa;\n      r2 <= 8'h55;\n    end else begin\n      r <= en ? r_next : r;\n      r2 <= r2_next;\n    end\n  end\nendmodule\n";
-        assert!(rt; out.as_slice() == text.as_bytes());
+        for (word, text) in [
+            (
+                "passthrough",
+                "module passthrough(\n  input wire [7:0] input_data,\n  output wire [7:0] output_data\n);\n  assign output_data = input_data;\nendmodule\n",
+            ),
+            (
+                "cases",
+                "module encoder(\n  input wire [3:0] s,\n  output wire [1:0] y\n);\n  function automatic logic [1:0] f (input reg [3:0] s);\n    unique casez (s)\n      4'b1???: f = 2;\n      default: begin\n        // none\n        f = 0;\n      end\n    endcase\n  endfunction\n  assign y = f(s);\nendmodule\n",
+            ),
+            (
+                "registers",
+                "module regs_rst_en(\n  input wire clk,\n  input wire rst,\n  input wire en\n);\n  logic [7:0] r;\n  logic [7:0] r_next;\n  logic [7:0] r2;\n  logic [7:0] r2_next;\n  always_ff @ (posedge clk) begin\n    if (!rst) begin\n      r <= 8'haa;\n      r2 <= 8'h55;\n    end else begin\n      r <= en ? r_next : r;\n      r2 <= r2_next;\n    end\n  end\nendmodule\n",
+            ),
+        ] {
+            let mut out: Vec<u8> = Vec::new(alloc);
+            let mut err: Vec<u8> = Vec::new(alloc);
+            assert_eq!(rt; run(alloc, &[word], &mut NoInput, &mut out, &mut err), 0);
+            assert!(rt; err.is_empty());
+            assert!(rt; out.as_slice() == text.as_bytes());
+        }
     }
 
     #[test]

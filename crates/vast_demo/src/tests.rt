@@ -1,7 +1,6 @@
 //! What no list of calls as text can show: handles of other files, ids, words of errors, deep nests, replays' answers.
 
 mod arena;
-mod deep;
 mod errors;
 mod first_program;
 mod handles;

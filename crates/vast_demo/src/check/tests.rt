@@ -1,4 +1,4 @@
-//! The word `check`, run on texts and on readers.
+//! The word `check`, run on texts and on readers. `tools/hostile/inputs` has more texts, for the built program.
 
 mod designs;
 
@@ -16,59 +16,17 @@ fn checked<R: Read>(alloc: Global, input: &mut R) -> (u8, Vec<u8>, Vec<u8>) {
 }
 
 #[test]
-fn derived_texts(rt: HostRuntime) {
-    for text in [
-        "",
-        "// x",
-        "module m; assign a=((b)); endmodule",
-        "`include \"defs.svh\"",
-        "module m; sub #(.W(8)) u0 (.a(x), .b()); `M(a) `M; endmodule",
-        "module m; if (a) begin end else if (b) begin end else begin x <= a <= b; end endmodule",
-        "module m; for (genvar i = 0; i < b; i = i + 1) begin : g wire t [1:0] x; end endmodule",
+fn texts(rt: HostRuntime) {
+    for (text, status, answer) in [
+        ("module m; assign a=((b)); endmodule", 0, "derived\n"),
+        ("// x", 0, "derived\n"),
+        ("module m; assign a = &&b; endmodule", 1, "not derived\n"),
+        ("module m; endmodule x", 1, "not derived\n"),
+        ("\u{e9}", 1, "not derived\n"),
     ] {
-        let (status, out, err) = checked(rt.alloc(), &mut text.as_bytes());
-        assert_eq!(rt; status, 0, "{text}");
-        assert!(rt; out.as_slice() == "derived\n".as_bytes());
-        assert!(rt; err.is_empty());
-    }
-}
-
-#[test]
-fn printed_designs(rt: HostRuntime) {
-    let alloc = rt.alloc();
-    for design in ["passthrough", "cases", "registers"] {
-        let (mut text, mut faults) = (Vec::new(alloc), Vec::new(alloc));
-        let printed = run(alloc, &[design], &mut "".as_bytes(), &mut text, &mut faults);
-        assert_eq!(rt; printed, 0);
-        let (status, out, err) = checked(alloc, &mut text.as_slice());
-        assert_eq!(rt; status, 0, "{design}");
-        assert!(rt; out.as_slice() == "derived\n".as_bytes());
-        assert!(rt; err.is_empty());
-    }
-}
-
-#[test]
-fn texts_not_derived(rt: HostRuntime) {
-    for text in [
-        "module m;".as_bytes(),
-        "module m; endmodule x".as_bytes(),
-        "module m; assign a = &&b; endmodule".as_bytes(),
-        "module m; for (genvar i = 0; i < a || b; i = i + 1) begin end endmodule".as_bytes(),
-        "module m; for (genvar i = 0; i < a; i = i + 2) begin end endmodule".as_bytes(),
-        "module m; for (genvar i = 0; j < a; i = i + 1) begin end endmodule".as_bytes(),
-        "module m; always_comb begin case (s) 1: x = 1; endcase end endmodule".as_bytes(),
-        "module m; begin end endmodule".as_bytes(),
-        "module m; assign a = 8'hff 8 'd 1; endmodule".as_bytes(),
-        "module while; endmodule".as_bytes(),
-        "`include defs".as_bytes(),
-        "\u{e9}".as_bytes(),
-        &[255],
-        "\"open".as_bytes(),
-    ] {
-        let mut input = text;
-        let (status, out, err) = checked(rt.alloc(), &mut input);
-        assert_eq!(rt; status, 1, "{text:?}");
-        assert!(rt; out.as_slice() == "not derived\n".as_bytes());
+        let (got, out, err) = checked(rt.alloc(), &mut text.as_bytes());
+        assert_eq!(rt; got, status, "{text}");
+        assert!(rt; out.as_slice() == answer.as_bytes());
         assert!(rt; err.is_empty());
     }
 }
