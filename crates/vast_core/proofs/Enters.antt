@@ -22,10 +22,10 @@ use Rattle.vast_core.proofs.Sound.{never}
 use Rattle.vast_core.proofs.RecordLaws.{next_statement_owned}
 
 pub nothing-comes : (b c : Bench) → FreshSound b c no_fresh
-nothing-comes b c = record { term = tt; port = tt; fresh_module = tt; definition = tt; artifact = tt; instance = tt; assignment = tt; container = tt; function = tt; always_block = tt }
+nothing-comes b c = record { terms = tt; port = tt; fresh_module = tt; definition = tt; artifact = tt; instance = tt; assignment = tt; container = tt; function = tt; always_block = tt }
 
 pub a-block-comes : (b c : Bench) → FreshSound b c fresh_block
-a-block-comes b c = record { term = tt; port = tt; fresh_module = tt; definition = tt; artifact = tt; instance = tt; assignment = tt; container = tt; function = tt; always_block = tt }
+a-block-comes b c = record { terms = tt; port = tt; fresh_module = tt; definition = tt; artifact = tt; instance = tt; assignment = tt; container = tt; function = tt; always_block = tt }
 
 pub block-place : (b : Bench) (x : VastStatementBlock) → OwnsBlock b x → block_index x < length b.nests
 block-place b x h = kind-there is_block_kind b.nests x.id.index never h.of_kind
@@ -63,7 +63,7 @@ consequent_owned b condition = record { of_file = refl; of_kind = rw (second-sea
 pub conditional-comes : (b : Bench) (condition : Expr) → OwnsExpr b condition → FreshSound b (with_conditional condition b) (fresh_container (new_conditional b condition) true)
 conditional-comes b condition h =
     record {
-      term = tt;
+      terms = tt;
       port = tt;
       fresh_module = tt;
       definition = tt;
@@ -76,7 +76,7 @@ conditional-comes b condition h =
     }
 
 case-comes : (b : Bench) (kind : CaseKind) (selector : Expr) → OwnsExpr b selector → FreshSound b (with_case kind selector b) (fresh_container (new_case kind selector) false)
-case-comes b kind selector h = record { term = tt; port = tt; fresh_module = tt; definition = tt; artifact = tt; instance = tt; assignment = tt; container = record { selector = h; arms = tt }; function = tt; always_block = tt }
+case-comes b kind selector h = record { terms = tt; port = tt; fresh_module = tt; definition = tt; artifact = tt; instance = tt; assignment = tt; container = record { selector = h; arms = tt }; function = tt; always_block = tt }
 
 -- Statements of blocks.
 
@@ -84,7 +84,7 @@ pub statement-enters : (b : Bench) (owner : VastStatementBlock) (s : StatementEn
 statement-enters b owner s h k none = record { fresh = nothing-comes b b; listing = (block-place b owner h, k); placed = rw none refl }
 
 assignment-comes : (b : Bench) (a : Assignment) → AssignmentSound b a → FreshSound b (with_assignment a b) (fresh_assignment a)
-assignment-comes b a h = record { term = tt; port = tt; fresh_module = tt; definition = tt; artifact = tt; instance = tt; assignment = h; container = tt; function = tt; always_block = tt }
+assignment-comes b a h = record { terms = tt; port = tt; fresh_module = tt; definition = tt; artifact = tt; instance = tt; assignment = h; container = tt; function = tt; always_block = tt }
 
 pub assignment-enters :
     (b : Bench) (owner : VastStatementBlock) (a : Assignment) → OwnsBlock b owner → AssignmentSound b a →

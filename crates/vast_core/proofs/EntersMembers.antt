@@ -42,7 +42,7 @@ always_block_owned b kind events = record { of_file = refl; of_kind = rw (slice_
 
 pub always-comes : (b : Bench) (kind : AlwaysKind) (events : List Expr) → All (EventSound b) events → FreshSound b (with_always kind events b) (fresh_always (new_always b kind events))
 always-comes b kind events h =
-    record { term = tt; port = tt; fresh_module = tt; definition = tt; artifact = tt; instance = tt; assignment = tt; container = tt; function = tt; always_block = record { events = Each-own (EventSound b) events h; block = always_block_owned b kind events } }
+    record { terms = tt; port = tt; fresh_module = tt; definition = tt; artifact = tt; instance = tt; assignment = tt; container = tt; function = tt; always_block = record { events = Each-own (EventSound b) events h; block = always_block_owned b kind events } }
 
 -- Loops.
 
@@ -61,7 +61,7 @@ pub loop-comes :
 loop-comes b variable name start limit label h k =
     let r : Root = ExprRoot (NameTree (string_bytes variable) Untyped) in
     record {
-      term = (tt, tt);
+      terms = (tt, tt, tt);
       port = tt;
       fresh_module = tt;
       definition = tt;
@@ -81,7 +81,7 @@ loop-comes b variable name start limit label h k =
 -- Names of parameters, and assignments.
 
 pub parameter-comes : (b : Bench) (name : String Global) (type : Option VastDataType) → OptionHolds (OwnsType b) type → FreshSound b (with_fresh (fresh_name name type) b) (fresh_name name type)
-parameter-comes b name type h = record { term = (h, tt); port = tt; fresh_module = tt; definition = tt; artifact = tt; instance = tt; assignment = tt; container = tt; function = tt; always_block = tt }
+parameter-comes b name type h = record { terms = (h, tt, tt); port = tt; fresh_module = tt; definition = tt; artifact = tt; instance = tt; assignment = tt; container = tt; function = tt; always_block = tt }
 
 pub next_continuous_owned : (b : Bench) (lhs rhs : Expr) → OwnsContinuous (with_assignment (record { lhs = lhs; rhs = rhs; nonblocking = false }) b) (next_continuous b)
 next_continuous_owned b lhs rhs = record { of_file = refl; of_kind = rw (slice_get-seam b.assignments (record { lhs = lhs; rhs = rhs; nonblocking = false })) refl }
@@ -104,7 +104,7 @@ function-enters b owner variable name type h k free =
     let r : Root = ExprRoot (NameTree (string_bytes variable) (Typed (type_of b type))) in
     record {
       fresh = record {
-        term = (k, tt);
+        terms = (k, tt, tt);
         port = tt;
         fresh_module = tt;
         definition = tt;

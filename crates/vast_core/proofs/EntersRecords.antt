@@ -31,17 +31,17 @@ use Rattle.vast_core.proofs.Enters.{nothing-comes}
 
 pub assignment-stands : (b : Bench) (a : Assignment) → AssignmentSound b a → GrowthSound b Nowhere (fresh_assignment a)
 assignment-stands b a h =
-    record { fresh = record { term = tt; assignment = h; container = tt; port = tt; fresh_module = tt; function = tt; definition = tt; artifact = tt; instance = tt; always_block = tt }; listing = tt; placed = refl }
+    record { fresh = record { terms = tt; assignment = h; container = tt; port = tt; fresh_module = tt; function = tt; definition = tt; artifact = tt; instance = tt; always_block = tt }; listing = tt; placed = refl }
 
 pub definition-stands : (b : Bench) (d : DefinitionRecord) → DefinitionSound b d → GrowthSound b Nowhere (record no_fresh { definition = Some d })
 definition-stands b d h =
-    record { fresh = record { term = tt; assignment = tt; container = tt; port = tt; fresh_module = tt; function = tt; definition = h; artifact = tt; instance = tt; always_block = tt }; listing = tt; placed = refl }
+    record { fresh = record { terms = tt; assignment = tt; container = tt; port = tt; fresh_module = tt; function = tt; definition = h; artifact = tt; instance = tt; always_block = tt }; listing = tt; placed = refl }
 
 pub artifact-stands : (b : Bench) (a : ArtifactRecord) → ArtifactSound b a → GrowthSound b Nowhere (record no_fresh { artifact = Some a })
 artifact-stands b a h =
     let f : Fresh = record no_fresh { artifact = Some a } in
     record {
-      fresh = record { term = tt; assignment = tt; container = tt; port = tt; fresh_module = tt; function = tt; definition = tt; artifact = ArtifactSound-kept b (with_fresh f b) (Grows-fresh b f) a h; instance = tt; always_block = tt };
+      fresh = record { terms = tt; assignment = tt; container = tt; port = tt; fresh_module = tt; function = tt; definition = tt; artifact = ArtifactSound-kept b (with_fresh f b) (Grows-fresh b f) a h; instance = tt; always_block = tt };
       listing = tt;
       placed = refl;
     }
@@ -50,7 +50,7 @@ pub instance-stands : (b : Bench) (i : InstanceRecord) → InstanceSound b i →
 instance-stands b i h k =
     let f : Fresh = record no_fresh { instance = Some i } in
     record {
-      fresh = record { term = tt; assignment = tt; container = tt; port = tt; fresh_module = tt; function = tt; definition = tt; artifact = tt; instance = record { sound = InstanceSound-kept b (with_fresh f b) (Grows-fresh b f) i h; values = k }; always_block = tt };
+      fresh = record { terms = tt; assignment = tt; container = tt; port = tt; fresh_module = tt; function = tt; definition = tt; artifact = tt; instance = record { sound = InstanceSound-kept b (with_fresh f b) (Grows-fresh b f) i h; values = k }; always_block = tt };
       listing = tt;
       placed = refl;
     }
@@ -61,7 +61,7 @@ pub item-enters : (b : Bench) (e : FileEntry) → EntrySound b e → GrowthSound
 item-enters b e h = record { fresh = nothing-comes b b; listing = h; placed = refl }
 
 name-comes : (b : Bench) (name : String Global) (type : Option VastDataType) → OptionHolds (OwnsType b) type → FreshSound b (with_fresh (fresh_name name type) b) (fresh_name name type)
-name-comes b name type h = record { term = (h, tt); assignment = tt; container = tt; port = tt; fresh_module = tt; function = tt; definition = tt; artifact = tt; instance = tt; always_block = tt }
+name-comes b name type h = record { terms = (h, tt, tt); assignment = tt; container = tt; port = tt; fresh_module = tt; function = tt; definition = tt; artifact = tt; instance = tt; always_block = tt }
 
 -- Members of a module.
 
@@ -91,7 +91,7 @@ header-enters b owner p name type h k l m =
     record { fresh = name-comes b name type m; listing = (h, ParameterPortSound-kept b (with_fresh f b) (Grows-fresh b f) p (k, l)); placed = refl }
 
 abbrev fresh_port : String Global → VastDataType → PortRecord → Fresh
-fresh_port name t p = record no_fresh { term = Some (name_term name (Some t)); port = Some p }
+fresh_port name t p = record no_fresh { terms = name_term name (Some t) ∷ []; port = Some p }
 
 abbrev new_port : Bench → ModulePortDirection → DataKind → List ℕ → VastDataType → PortRecord
 new_port b direction kind name t = record { direction = direction; kind = kind; name = name; data_type = t; logic_ref = next_logic_ref b }
@@ -104,7 +104,7 @@ port-enters b owner direction kind taken name t h k free =
     let r : Root = ExprRoot (NameTree (string_bytes name) (Typed (type_of b t))) in
     record {
       fresh = record {
-        term = (k, tt);
+        terms = (k, tt, tt);
         assignment = tt;
         container = tt;
         port = (HasType-kept b.nodes (with_node b.nodes r) (Extends-root b.nodes r) t k, record { of_file = refl; of_kind = rw (slice_get-seam b.nodes.roots r) refl });

@@ -138,7 +138,7 @@ pub assignment-enters :
 assignment-enters b scope lhs rhs o h k =
     let f : Fresh = fresh_assignment (record { lhs = lhs; rhs = rhs; nonblocking = false }) in
     scope-enters b scope (AssignmentEntry (next_continuous b)) f o
-    (record { term = tt; port = tt; fresh_module = tt; definition = tt; artifact = tt; instance = tt; assignment = (h, k); container = tt; function = tt; always_block = tt })
+    (record { terms = tt; port = tt; fresh_module = tt; definition = tt; artifact = tt; instance = tt; assignment = (h, k); container = tt; function = tt; always_block = tt })
     (next_continuous_owned b lhs rhs) tt (newer-in b (with_fresh f b) scope (AssignmentEntry (next_continuous b)) o (λ i below. tt)) refl
 
 pub parameter-enters :

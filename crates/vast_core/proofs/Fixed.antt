@@ -1,14 +1,23 @@
--- Selects by numbers: what stands after the literals and the select.
-use Rattle.std.proofs.Common.{◌≡◌, ℕ, ℤ, List, Some, All, refl}
+-- Expressions and types by numbers: their literals come before them.
+use Rattle.std.proofs.Common.{◌≡◌, ◌∙◌, sym, ℕ, ℤ, ◌+◌, Bool, List, [], ◌∷◌, ◌++◌, length, Some, All, refl, ap, arith, length-append}
 use Rattle.std.specs.Fmt.{signed_decimal}
-use Rattle.vast_literal.specs.Tree.{LiteralTree, IndexTree, SliceTree, ConcatTree, SomeExpr}
+use Rattle.vast_literal.specs.Tree.{ExprTree, LiteralTree, IndexTree, SliceTree, ConcatTree, VectorTree, SomeExpr}
+use Rattle.vast_core.specs.declared.handle.Id.{Id}
 use Rattle.vast_core.specs.declared.handle.Expr.{Expr}
 use Rattle.vast_core.specs.declared.handle.IndexableExpr.{IndexableExpr}
 use Rattle.vast_core.specs.Handles.{indexable_expr_to_expr}
 use Rattle.vast_core.specs.Nodes.{ExprRoot}
 use Rattle.vast_core.specs.Bench.{Bench, OwnsExpr, OwnsIndexable, tree_of, trees_of}
-use Rattle.vast_core.specs.Growth.{with_expr, with_bounds, with_fixed_index, with_fixed_slice, next_expr, next_fixed_index, next_fixed_slice, known_literal, decimal_literal, with_fixed_replication, next_fixed_replication}
+use Rattle.vast_core.specs.Growth.{next_id, with_expr, with_type, with_bounds, with_vector, with_fixed_index, with_fixed_slice, next_expr, known_literal, decimal_literal, width_literal, with_fixed_replication}
 use Rattle.vast_core.proofs.Laws.{next_owned, next_tree, old_owned, old_tree, old_trees}
+
+-- The ids behind one literal and behind two.
+
+pub second_id : (b : Bench) (e : ExprTree) → next_id (with_expr b e) (length (with_expr b e).nodes.roots) ≡ next_id b (length b.nodes.roots + 1)
+second_id b e = rw (length-append b.nodes.roots (ExprRoot e ∷ [])) refl
+
+pub third_id : (b : Bench) (e f : ExprTree) → next_id (with_expr (with_expr b e) f) (length (with_expr (with_expr b e) f).nodes.roots) ≡ next_id b (length b.nodes.roots + 2)
+third_id b e f = rw (length-append (b.nodes.roots ++ ExprRoot e ∷ []) (ExprRoot f ∷ []), length-append b.nodes.roots (ExprRoot e ∷ [])) (ap (next_id b) (omega arith))
 
 index-built :
     (b : Bench) (s : IndexableExpr) (text : List ℕ) (v : ℤ) → OwnsIndexable b s →
@@ -17,12 +26,9 @@ index-built b s text v h =
     rw (old_tree b (ExprRoot (known_literal text v)) (indexable_expr_to_expr s) h, next_tree b (known_literal text v)) refl
 
 pub fixed-index :
-    (a b b1 b2 : Bench) (s : IndexableExpr) (text t : List ℕ) (v w : ℤ) (i e x : Expr) → OwnsIndexable a s → b ≡ a → t ≡ text → w ≡ v →
-    i ≡ next_expr b → b1 ≡ with_expr b (LiteralTree t (Some w)) → e ≡ indexable_expr_to_expr s →
-    x ≡ next_expr b1 → b2 ≡ with_expr b1 (IndexTree (tree_of b1 e) (tree_of b1 i)) →
-    (record { id = x.id } ≡ next_fixed_index text v a) × (b2 ≡ with_fixed_index s text v a)
-fixed-index a b b1 b2 s text t v w i e x h p q o j k l m n =
-    rw (n, m, l, k, j, p, q, o) (refl, index-built a s text v h)
+    (b : Bench) (s : IndexableExpr) (text t : List ℕ) (v w : ℤ) (i e : Expr) → OwnsIndexable b s → t ≡ text → w ≡ v → i ≡ next_expr b → e ≡ indexable_expr_to_expr s →
+    with_expr (with_expr b (known_literal t w)) (IndexTree (tree_of (with_expr b (known_literal t w)) e) (tree_of (with_expr b (known_literal t w)) i)) ≡ with_fixed_index s text v b
+fixed-index b s text t v w i e h q o k l = rw (q, o, k, l) (index-built b s text v h)
 
 slice-built :
     (b : Bench) (s : IndexableExpr) (text1 : List ℕ) (v1 : ℤ) (text2 : List ℕ) (v2 : ℤ) → OwnsIndexable b s →
@@ -40,12 +46,10 @@ slice-built b s text1 v1 text2 v2 h =
     ) refl
 
 pub fixed-slice :
-    (a b b1 b2 b3 : Bench) (s : IndexableExpr) (text1 t1 : List ℕ) (v1 w1 : ℤ) (text2 t2 : List ℕ) (v2 w2 : ℤ) (i j e x : Expr) → OwnsIndexable a s → b ≡ a → t1 ≡ text1 → t2 ≡ text2 → w1 ≡ v1 → w2 ≡ v2 →
-    i ≡ next_expr b → b1 ≡ with_expr b (LiteralTree t1 (Some w1)) → j ≡ next_expr b1 → b2 ≡ with_expr b1 (LiteralTree t2 (Some w2)) → e ≡ indexable_expr_to_expr s →
-    x ≡ next_expr b2 → b3 ≡ with_expr b2 (SliceTree (tree_of b2 e) (tree_of b2 i) (tree_of b2 j)) →
-    (record { id = x.id } ≡ next_fixed_slice text1 v1 text2 v2 a) × (b3 ≡ with_fixed_slice s text1 v1 text2 v2 a)
-fixed-slice a b b1 b2 b3 s text1 t1 v1 w1 text2 t2 v2 w2 i j e x h p q1 q2 o1 o2 k1 k2 k3 k4 k5 k6 k7 =
-    rw (k7, k6, k5, k4, k3, k2, k1, p, q1, q2, o1, o2) (refl, slice-built a s text1 v1 text2 v2 h)
+    (b : Bench) (s : IndexableExpr) (text1 t1 : List ℕ) (v1 w1 : ℤ) (text2 t2 : List ℕ) (v2 w2 : ℤ) (i j e : Expr) → OwnsIndexable b s → t1 ≡ text1 → w1 ≡ v1 → t2 ≡ text2 → w2 ≡ v2 →
+    i ≡ next_expr b → j ≡ next_expr (with_expr b (known_literal text1 v1)) → e ≡ indexable_expr_to_expr s →
+    with_expr (with_bounds t1 w1 t2 w2 b) (SliceTree (tree_of (with_bounds t1 w1 t2 w2 b) e) (tree_of (with_bounds t1 w1 t2 w2 b) i) (tree_of (with_bounds t1 w1 t2 w2 b) j)) ≡ with_fixed_slice s text1 v1 text2 v2 b
+fixed-slice b s text1 t1 v1 w1 text2 t2 v2 w2 i j e h q1 o1 q2 o2 k l m = rw (q1, o1, q2, o2, k, l, m) (slice-built b s text1 v1 text2 v2 h)
 
 replication-built :
     (b : Bench) (count : ℤ) (parts : List Expr) → All (OwnsExpr b) parts →
@@ -53,7 +57,20 @@ replication-built :
 replication-built b count parts h = rw (next_tree b (decimal_literal count), old_trees b (ExprRoot (decimal_literal count)) parts h) refl
 
 pub fixed-replication :
-    (a b b1 b2 : Bench) (count w : ℤ) (t : List ℕ) (parts own : List Expr) (i x : Expr) → All (OwnsExpr a) parts → b ≡ a → t ≡ signed_decimal count → w ≡ count → own ≡ parts →
-    i ≡ next_expr b → b1 ≡ with_expr b (LiteralTree t (Some w)) → x ≡ next_expr b1 → b2 ≡ with_expr b1 (ConcatTree (SomeExpr (tree_of b1 i)) (trees_of b1 own)) →
-    (x ≡ next_fixed_replication count a) × (b2 ≡ with_fixed_replication count parts a)
-fixed-replication a b b1 b2 count w t parts own i x h p q o r k l m n = rw (n, m, l, k, p, q, o, r) (refl, replication-built a count parts h)
+    (b : Bench) (count w : ℤ) (t : List ℕ) (parts own : List Expr) (i : Expr) → All (OwnsExpr b) parts → t ≡ signed_decimal count → w ≡ count → own ≡ parts → i ≡ next_expr b →
+    with_expr (with_expr b (known_literal t w)) (ConcatTree (SomeExpr (tree_of (with_expr b (known_literal t w)) i)) (trees_of (with_expr b (known_literal t w)) own)) ≡ with_fixed_replication count parts b
+fixed-replication b count w t parts own i h q o r k = rw (q, o, r, k) (replication-built b count parts h)
+
+pub fixed-vector :
+    (b : Bench) (bits w : ℤ) (signed : Bool) (t : List ℕ) (i : Expr) → t ≡ signed_decimal bits → w ≡ bits → i ≡ next_expr b →
+    with_type (with_expr b (known_literal t w)) (VectorTree (tree_of (with_expr b (known_literal t w)) i) (Some w) signed) ≡ with_vector bits signed b
+fixed-vector b bits w signed t i q o k = rw (q, o, k, next_tree b (width_literal bits)) refl
+
+-- The subject and both literals are the file's behind the literals.
+pub bounds-owned :
+    (b : Bench) (s : IndexableExpr) (high low : ExprTree) (i e : Expr) (second : Id) → OwnsIndexable b s → i ≡ next_expr b → e ≡ indexable_expr_to_expr s → second ≡ next_id b (length b.nodes.roots + 1) →
+    OwnsExpr (with_expr (with_expr b high) low) e × OwnsExpr (with_expr (with_expr b high) low) i × OwnsExpr (with_expr (with_expr b high) low) (record { id = second })
+bounds-owned b s high low i e second h k l m =
+    let c : Bench = with_expr b high in
+    let n : second ≡ next_id c (length c.nodes.roots) = m ∙ sym (second_id b high) in
+    rw (k, l, n) (old_owned c (ExprRoot low) (indexable_expr_to_expr s) (old_owned b (ExprRoot high) (indexable_expr_to_expr s) h), old_owned c (ExprRoot low) (next_expr b) (next_owned b high), next_owned c low)

@@ -1,7 +1,6 @@
 -- What a file holds, and that it stays sound, after a growth: nodes that come, and the entry that names them.
-use Rattle.std.proofs.Common.{◌≡◌, ℕ, suc, zero, ◌+◌, ◌<◌, ◌≤◌, Bool, true, false, IsTrue, nat_lt, List, [], ◌∷◌, ◌++◌, length, map, Option, Some, None, slice_get, refl, sym, ap, ◌∙◌, arith, length-append, subst}
-use Rattle.std.proofs.lemmas.List.{length-map, map-append}
-use Rattle.vast_core.specs.declared.handle.VastModule.{VastModule}
+use Rattle.std.proofs.Common.{◌≡◌, ℕ, ◌+◌, ◌<◌, ◌≤◌, Bool, true, false, IsTrue, nat_lt, List, [], ◌∷◌, ◌++◌, length, map, Option, Some, None, slice_get, refl, sym, ap, ◌∙◌, arith, length-append, subst}
+use Rattle.std.proofs.lemmas.List.{length-map}
 use Rattle.vast_core.specs.declared.handle.VastStatementBlock.{VastStatementBlock}
 use Rattle.vast_core.specs.declared.node.Term.{Term}
 use Rattle.vast_core.specs.declared.node.Nest.{Nest}
@@ -9,26 +8,25 @@ use Rattle.vast_core.specs.declared.node.Module.{Module}
 use Rattle.vast_core.specs.declared.node.Function.{Function}
 use Rattle.vast_core.specs.Raw.{Raw}
 use Rattle.vast_core.specs.Handles.{module_index, function_index}
-use Rattle.vast_core.specs.Nodes.{Nodes, OptionHolds, ChildrenHold, RootFits, no_nodes, built, TermsSound, term_root}
-use Rattle.vast_core.specs.Records.{PortRecord, ParameterPortRecord, ModuleRecord, MemberEntry, InstanceRecord, changed_at, with_port, with_parameter_port, with_member, with_named_member, port_record, module_record, definition_record, artifact_record, instance_record, file_entry}
+use Rattle.vast_core.specs.Nodes.{OptionHolds, no_nodes, TermsSound}
+use Rattle.vast_core.specs.Records.{ParameterPortRecord, ModuleRecord, MemberEntry, InstanceRecord, changed_at, with_port, with_parameter_port, port_record, module_record, definition_record, artifact_record, instance_record, file_entry}
 use Rattle.vast_core.specs.Nests.{NestRecord, BlockRecord, BranchRecord, SwitchRecord, RepeatRecord, VariableRecord, FunctionRecord, nest_kind, is_block_kind, nest_record, function_record, always_record}
 use Rattle.vast_core.specs.Functions.{with_listed_variable}
-use Rattle.vast_core.specs.Bench.{Bench, OwnsExpr, OwnsType, OwnsBlock, OwnsPort, IsFreeInFunction, function_names}
+use Rattle.vast_core.specs.Bench.{Bench, OwnsBlock, OwnsPort, function_names}
 use Rattle.vast_core.specs.View.{bench}
-use Rattle.vast_core.specs.Records.{IsFree, with_name}
+use Rattle.vast_core.specs.Records.{IsFree}
 use Rattle.vast_core.specs.Nests.{declared_names}
 use Rattle.vast_core.specs.DeclaredNames.{NamesSound}
 use Rattle.vast_core.specs.Parents.{Part, places, held_by_module}
 use Rattle.vast_core.specs.Sound.{Each, PortSound, AssignmentSound, MemberSound, ParameterPortSound, ModuleSound, EntrySound, DefinitionSound, ArtifactSound, InstanceSound, NestSound, NestsSound, VariableSound, FunctionSound, AlwaysSound, RecordsSound, FileSound, IsSound, AreDistinct}
-use Rattle.vast_core.specs.Containers.{NestedEntry, StatementEnters, ElseIfEnters, ElseEnters, CaseArmEnters, MemberEnters, Listing, Nowhere, InFile, InHeader, InPorts, InModule, InFunction, InNest, AsSpare, with_entry, with_listed, listed_modules, listed_functions, listed_nests, listed_items, listed_spare, with_listing, added, with_term, with_empty_block, spare_left, with_fresh, Fresh, FreshSound, EntersSound, ListsPort, ListsMember, ListsVariable, ListingSound, GrowthSound, ComesEmpty, FunctionComes, InstanceComes, read_off, after_growth, count_of}
-use Rattle.vast_core.specs.Arrivals.{ListingThere, recorded, listing_of, fresh_of}
-use Rattle.vast_core.specs.declared.ast.growth.Arrivals.{Arrivals}
+use Rattle.vast_core.specs.Containers.{NestedEntry, StatementEnters, ElseIfEnters, ElseEnters, CaseArmEnters, MemberEnters, Listing, Nowhere, InFile, InHeader, InPorts, InModule, InFunction, InNest, AsSpare, with_entry, with_listed, listed_modules, listed_functions, listed_nests, listed_items, listed_spare, with_listing, added, with_empty_block, spare_left, with_fresh, Fresh, FreshSound, EntersSound, ListingSound, GrowthSound, ComesEmpty, FunctionComes, InstanceComes, read_off, after_growth}
+use Rattle.vast_core.specs.Arrivals.{ListingThere, fresh_node, fresh_of, terms_of}
+use Rattle.vast_core.specs.declared.ast.arrivals.Arrivals.{Arrivals}
 use Rattle.vast_core.proofs.Readers.{module-below, length-nests}
 use Rattle.vast_core.proofs.Lists.{slice_get-append, length-changed_at, Each-push, Each-changed_at, Each-changed_there}
-use Rattle.vast_core.proofs.NodeLaws.{Extends, Extends-same, Extends-root, built-push}
+use Rattle.vast_core.proofs.NodeLaws.{Extends-same, Extends-built, built-append, TermsSound-append}
 use Rattle.vast_core.proofs.Nests.{get-before, changed-before, kind-changed, nests-push, nests-changed}
-use Rattle.vast_core.proofs.Sound.{Grows, carried, OwnsPort-kept, MemberSound-kept, ParameterPortSound-kept, ModuleSound-kept, EntrySound-kept, VariableSound-kept, FunctionSound-kept, StatementSound-kept, ElseIfSound-kept, block-kept, CaseArmSound-kept, LoopMemberSound-kept, nest-kept, never}
-use Rattle.vast_core.proofs.Terms.{terms-term}
+use Rattle.vast_core.proofs.Sound.{Grows, carried, OwnsPort-kept, MemberSound-kept, ParameterPortSound-kept, EntrySound-kept, VariableSound-kept, StatementSound-kept, ElseIfSound-kept, block-kept, CaseArmSound-kept, LoopMemberSound-kept, nest-kept, never}
 use Rattle.vast_core.proofs.FreeNames.{gains-variable, taken-after}
 use Rattle.vast_core.proofs.OneParent.{HasOneParent-growth}
 use Rattle.vast_core.proofs.ModuleNames.{names-fresh, names-listing}
@@ -44,10 +42,6 @@ length-added : {A : Type 0} (xs : List A) (o : Option A) → length xs ≤ lengt
 length-added xs None = omega arith
 length-added xs (Some y) = omega (arith, length-append xs (y ∷ []))
 
-pub map-added : {A B : Type 0} (v : A → B) (xs : List A) (o : Option A) → map v (added xs o) ≡ added (map v xs) (recorded v o)
-map-added v xs None = refl
-map-added v xs (Some y) = map-append v xs (y ∷ [])
-
 Each-added : {A : Type 0} (P : A → Type 0) (xs : List A) (o : Option A) → Each P xs → OptionHolds P o → Each P (added xs o)
 Each-added P xs None h k = h
 Each-added P xs (Some y) h k = Each-push P xs y h k
@@ -60,16 +54,12 @@ get-with_block : (block : Bool) (ns : List NestRecord) (i : ℕ) → i < length 
 get-with_block false ns i below = refl
 get-with_block true ns i below = get-before ns (BlockRecord [] ∷ []) i below
 
-Extends-term : (b : Nodes) (o : Option Term) → Extends b (with_term b o)
-Extends-term b None = Extends-same b
-Extends-term b (Some t) = Extends-root b (term_root b t)
-
 -- New nodes.
 
 pub Grows-fresh : (b : Bench) (f : Fresh) → Grows b (with_fresh f b)
 Grows-fresh b f =
     record {
-      nodes = Extends-term b.nodes f.term;
+      nodes = Extends-built b.nodes f.terms;
       ports = length-added b.ports f.port;
       assignments = added-get b.assignments f.assignment;
       modules = length-added b.modules f.fresh_module;
@@ -358,15 +348,9 @@ FileSound-growth b l f s h =
 
 -- The arenas after a growth.
 
-built-added : (b : Nodes) (ts : List Term) (o : Option Term) → built b (added ts o) ≡ with_term (built b ts) o
-built-added b ts None = refl
-built-added b ts (Some t) = built-push b ts t
-
-terms-added :
-    (a : Raw) (o : Option Term) → TermsSound (no_nodes a.id) a.terms →
-    OptionHolds (λ t. ChildrenHold (OwnsExpr (bench a)) (OwnsType (bench a)) t × RootFits (term_root (bench a).nodes t)) o → TermsSound (no_nodes a.id) (added a.terms o)
-terms-added a None s h = s
-terms-added a (Some t) s h = terms-term a t s h.0 h.1
+terms-added : (a : Raw) (ts : List Term) → TermsSound (no_nodes a.id) a.terms → TermsSound (bench a).nodes ts → TermsSound (no_nodes a.id) (a.terms ++ ts)
+unfolding bench
+terms-added a ts s h = TermsSound-append (no_nodes a.id) a.terms ts s h
 
 -- The entry may come before the nodes or after them.
 
@@ -416,7 +400,7 @@ pub record Admitted (b z : Raw) (l : Listing) (f : Fresh) : Type 0 where
   pub there : ListingThere (length b.modules) (length b.nests) (length b.functions) l
   pub file_type : z.file_type ≡ b.file_type
   pub id : z.id ≡ b.id
-  pub terms : z.terms ≡ added b.terms f.term
+  pub terms : z.terms ≡ b.terms ++ f.terms
   pub assignments : z.assignments ≡ added b.assignments f.assignment
   pub nests : map nest_record z.nests ≡ with_empty_block f.block (added (listed_nests l (map nest_record b.nests)) f.container)
   pub ports : map port_record z.ports ≡ added (map port_record b.ports) f.port
@@ -454,7 +438,7 @@ bench-grown a b z l f e h =
       h.always_blocks,
       h.items,
       h.spare,
-      built-added (no_nodes b.id) b.terms f.term,
+      built-append (no_nodes b.id) b.terms f.terms,
       swapped-nests l (length (map module_record b.modules)) (length (map function_record b.functions)) (map nest_record b.nests) f.container f.block there,
       swapped-modules l (length (map nest_record b.nests)) (length (map function_record b.functions)) (map module_record b.modules) f.fresh_module there,
       swapped-functions l (length (map module_record b.modules)) (length (map nest_record b.nests)) (map function_record b.functions) f.function there,
@@ -466,7 +450,7 @@ sound-grown a b z l f e h s q =
     let G : Raw → Type 0 = λ y. GrowthSound (bench y) l f in
     let k : GrowthSound (bench b) l f = subst G (sym e) q in
     record {
-      terms = rw (h.id, h.terms) (terms-added b f.term s.terms k.fresh.term);
+      terms = rw (h.id, h.terms) (terms-added b f.terms s.terms k.fresh.terms);
       file = rw (bench-grown a b z l f e h) (FileSound-growth (bench a) l f (subst P e s.file) q);
     }
 
@@ -501,13 +485,16 @@ sound-still a b z e h s =
 pub admitted :
     (b z : Raw) (l : Listing) (y : Arrivals) (n1 n2 : List Nest) (m1 : List Module) (f1 : List Function) →
     ListingThere (length b.modules) (length b.nests) (length b.functions) l → z.file_type ≡ b.file_type → z.id ≡ b.id →
-    z.terms ≡ added b.terms y.term → z.assignments ≡ added b.assignments y.assignment →
-    map nest_record n1 ≡ listed_nests l (map nest_record b.nests) → n2 ≡ added n1 y.container → map nest_record z.nests ≡ with_empty_block y.block (map nest_record n2) →
-    z.ports ≡ added b.ports y.port →
-    map module_record m1 ≡ listed_modules l (map module_record b.modules) → z.modules ≡ added m1 y.new_module →
-    map function_record f1 ≡ listed_functions l (map function_record b.functions) → z.functions ≡ added f1 y.function →
-    z.definitions ≡ added b.definitions y.definition → z.artifacts ≡ added b.artifacts y.artifact → z.instances ≡ added b.instances y.instance → z.always_blocks ≡ added b.always_blocks y.always_block →
-    map file_entry z.items ≡ listed_items l (map file_entry b.items) → z.spare ≡ listed_spare l (spare_left y.takes_spare b.spare) → Admitted b z l (fresh_of y)
+    z.terms ≡ b.terms ++ terms_of y.terms → z.assignments ≡ added b.assignments (fresh_node y.node).assignment →
+    map nest_record n1 ≡ listed_nests l (map nest_record b.nests) → map nest_record n2 ≡ added (map nest_record n1) (fresh_node y.node).container → map nest_record z.nests ≡ with_empty_block y.block (map nest_record n2) →
+    map port_record z.ports ≡ added (map port_record b.ports) (fresh_node y.node).port →
+    map module_record m1 ≡ listed_modules l (map module_record b.modules) → map module_record z.modules ≡ added (map module_record m1) (fresh_node y.node).fresh_module →
+    map function_record f1 ≡ listed_functions l (map function_record b.functions) → map function_record z.functions ≡ added (map function_record f1) (fresh_node y.node).function →
+    map definition_record z.definitions ≡ added (map definition_record b.definitions) (fresh_node y.node).definition →
+    map artifact_record z.artifacts ≡ added (map artifact_record b.artifacts) (fresh_node y.node).artifact →
+    map instance_record z.instances ≡ added (map instance_record b.instances) (fresh_node y.node).instance →
+    map always_record z.always_blocks ≡ added (map always_record b.always_blocks) (fresh_node y.node).always_block →
+    map file_entry z.items ≡ listed_items l (map file_entry b.items) → z.spare ≡ listed_spare l (spare_left (fresh_node y.node).takes_spare b.spare) → Admitted b z l (fresh_of y)
 admitted b z l y n1 n2 m1 f1 there file_type id t x p q r ports m modules f functions d a i u items spare =
     record {
       there = there;
@@ -515,14 +502,14 @@ admitted b z l y n1 n2 m1 f1 there file_type id t x p q r ports m modules f func
       id = id;
       terms = t;
       assignments = x;
-      nests = r ∙ ap (with_empty_block y.block) (ap (map nest_record) q ∙ (map-added nest_record n1 y.container ∙ ap (λ z. added z (recorded nest_record y.container)) p));
-      ports = ap (map port_record) ports ∙ map-added port_record b.ports y.port;
-      modules = ap (map module_record) modules ∙ (map-added module_record m1 y.new_module ∙ ap (λ z. added z (recorded module_record y.new_module)) m);
-      functions = ap (map function_record) functions ∙ (map-added function_record f1 y.function ∙ ap (λ z. added z (recorded function_record y.function)) f);
-      definitions = ap (map definition_record) d ∙ map-added definition_record b.definitions y.definition;
-      artifacts = ap (map artifact_record) a ∙ map-added artifact_record b.artifacts y.artifact;
-      instances = ap (map instance_record) i ∙ map-added instance_record b.instances y.instance;
-      always_blocks = ap (map always_record) u ∙ map-added always_record b.always_blocks y.always_block;
+      nests = r ∙ ap (with_empty_block y.block) (q ∙ ap (λ z. added z (fresh_node y.node).container) p);
+      ports = ports;
+      modules = modules ∙ ap (λ z. added z (fresh_node y.node).fresh_module) m;
+      functions = functions ∙ ap (λ z. added z (fresh_node y.node).function) f;
+      definitions = d;
+      artifacts = a;
+      instances = i;
+      always_blocks = u;
       items = items;
       spare = spare;
     }

@@ -1,26 +1,14 @@
 -- A file stays sound as a module's declarations are hoisted.
-use Rattle.std.proofs.Common.{◌≡◌, ℕ, ◌+◌, IsTrue, List, [], ◌∷◌, ◌++◌, length, map, nat_lt, Result, Ok, Err, IsErr, refl, sym, ap, arith, length-append, subst, string_bytes}
-use Rattle.std.specs.declared.alloc.AllocError.{AllocError}
-use Rattle.std.proofs.lemmas.List.{length-map, map-append}
-use Rattle.vast_literal.specs.Tree.{NameTree, Typed}
+use Rattle.std.proofs.Common.{◌≡◌, ℕ, List, map, refl, arith, subst}
 use Rattle.vast_core.specs.declared.handle.VastModule.{VastModule}
-use Rattle.vast_core.specs.declared.handle.VastDataType.{VastDataType}
-use Rattle.vast_core.specs.declared.kind.ModulePortDirection.{ModulePortDirection}
-use Rattle.vast_core.specs.declared.kind.DataKind.{DataKind}
-use Rattle.vast_core.specs.declared.node.Term.{Term}
-use Rattle.vast_core.specs.declared.node.Port.{Port}
 use Rattle.vast_core.specs.declared.node.Module.{Module}
-use Rattle.vast_core.specs.declared.node.FileItem.{FileItem}
-use Rattle.vast_core.specs.declared.node.Assignment.{Assignment}
 use Rattle.vast_core.specs.Raw.{Raw}
-use Rattle.vast_core.specs.Nodes.{Root, ExprRoot, no_nodes, TermsSound, ChildrenHold, RootFits, term_root, built, RootWellFormed}
-use Rattle.vast_core.specs.Records.{PortRecord, ParameterPortRecord, ModuleRecord, MemberEntry, ModuleEntry, port_record, module_record, file_entry, new_module, changed_at, with_port as with_listed_port, with_member as with_listed_member, with_named_member, with_parameter_port}
-use Rattle.vast_core.specs.Bench.{Bench, type_of, OwnsExpr, OwnsType, OwnsPort, OwnsModule, AreWellFormed}
+use Rattle.vast_core.specs.Records.{ModuleRecord, module_record, changed_at}
+use Rattle.vast_core.specs.Bench.{Bench}
 use Rattle.vast_core.specs.View.{bench}
-use Rattle.vast_core.specs.Growth.{Builds, with_root, with_assignment, with_module, with_port, next_module, next_port, next_logic_ref}
-use Rattle.vast_core.specs.Sound.{PortSound, AssignmentSound, MemberSound, ParameterPortSound, ModuleSound, EntrySound, RecordsSound, IsSound, Each}
-use Rattle.vast_core.proofs.Lists.{slice_get-append, slice_get-seam, length-changed_at, Each-map, Each-push, Each-changed_at}
-use Rattle.vast_core.proofs.NodeLaws.{Extends-same, Extends-root, HasType-kept, built-push, built-id, TermsSound-push, built-length, built-well_formed, expr-well_formed, type-well_formed}
+use Rattle.vast_core.specs.Sound.{ModuleSound, RecordsSound, IsSound}
+use Rattle.vast_core.proofs.Lists.{length-changed_at, Each-map, Each-changed_at}
+use Rattle.vast_core.proofs.NodeLaws.{Extends-same}
 use Rattle.vast_core.proofs.Sound.{Grows, carried, ModuleSound-kept}
 use Rattle.vast_core.specs.declared.handle.VastStatementBlock.{VastStatementBlock}
 use Rattle.vast_core.specs.Nodes.{OptionHolds}

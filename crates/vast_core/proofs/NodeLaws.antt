@@ -16,30 +16,21 @@ use Rattle.vast_core.specs.Types.{ExprFits, TypeFits, ExprWellFormed, TypeWellFo
 use Rattle.vast_core.specs.Sound.{Each}
 use Rattle.vast_core.proofs.Lists.{slice_get-append, slice_get-seam, All-head, All-tail, All-implies, Each-push, Each-get}
 
--- Growing by a term.
+-- Growing by terms.
 
-pub built-push : (b : Nodes) (ts : List Term) (t : Term) → built b (ts ++ t ∷ []) ≡ with_root (built b ts) (term_root (built b ts) t)
-unfolding built
-built-push b [] t = refl
-built-push b (u ∷ ts) t = built-push (with_root b (term_root b u)) ts t
+pub built-append : (b : Nodes) (ts us : List Term) → built b (ts ++ us) ≡ built (built b ts) us
+built-append b [] us = refl
+built-append b (t ∷ ts) us = built-append (with_root b (term_root b t)) ts us
 
-pub TermsSound-push :
-    (b : Nodes) (ts : List Term) (t : Term) →
-    TermsSound b ts →
-    ChildrenHold (HasExpr (built b ts)) (HasType (built b ts)) t →
-    RootFits (term_root (built b ts) t) →
-    TermsSound b (ts ++ t ∷ [])
-unfolding built TermsSound
-TermsSound-push b [] t s h f = (h, f, tt)
-TermsSound-push b (u ∷ ts) t s h f = (s.0, s.1, TermsSound-push (with_root b (term_root b u)) ts t s.2 h f)
+pub TermsSound-append : (b : Nodes) (ts us : List Term) → TermsSound b ts → TermsSound (built b ts) us → TermsSound b (ts ++ us)
+TermsSound-append b [] us s h = h
+TermsSound-append b (t ∷ ts) us s h = (s.0, s.1, TermsSound-append (with_root b (term_root b t)) ts us s.2 h)
 
 pub built-id : (b : Nodes) (ts : List Term) → (built b ts).id ≡ b.id
-unfolding built
 built-id b [] = refl
 built-id b (u ∷ ts) = built-id (with_root b (term_root b u)) ts
 
 pub built-length : (b : Nodes) (ts : List Term) → length (built b ts).roots ≡ length b.roots + length ts
-unfolding built
 built-length b [] = omega arith
 built-length b (u ∷ ts) =
     omega (arith, built-length (with_root b (term_root b u)) ts, length-append b.roots (term_root b u ∷ []))
@@ -57,7 +48,6 @@ pub Extends-root : (b : Nodes) (r : Root) → Extends b (with_root b r)
 Extends-root b r = record { same_id = refl; same_roots = λ i s h. slice_get-append b.roots (r ∷ []) i s h }
 
 pub Extends-built : (b : Nodes) (ts : List Term) → Extends b (built b ts)
-unfolding built
 Extends-built b [] = Extends-same b
 Extends-built b (t ∷ ts) =
     let e : Extends (with_root b (term_root b t)) (built (with_root b (term_root b t)) ts) = Extends-built (with_root b (term_root b t)) ts
@@ -292,14 +282,12 @@ node-well_formed b (Expression n) w h f = expr_node-well_formed b n (expr_childr
 node-well_formed b (DataType n) w h f = type_node-well_formed b n (type_children-map (expr-well_formed b w) (type-well_formed b w) n h) f
 
 pub built-well_formed : (b : Nodes) (ts : List Term) → Each RootWellFormed b.roots → TermsSound b ts → Each RootWellFormed (built b ts).roots
-unfolding built TermsSound
 built-well_formed b [] w s = w
 built-well_formed b (t ∷ ts) w s = built-well_formed (with_root b (term_root b t)) ts (Each-push RootWellFormed b.roots (term_root b t) w (node-well_formed b t w s.0 s.1)) s.2
 
 -- A node of the arena.
 
 node_at : (b : Nodes) (ts : List Term) (i n : ℕ) (t : Term) → Each RootWellFormed b.roots → TermsSound b ts → slice_get ts i ≡ Some t → n ≡ length b.roots + i → IsNodeAt (built b ts) n t
-unfolding built TermsSound
 node_at b [] i n t w s h q = cc
 node_at b (u ∷ ts) zero n t w s h q =
     let c : Nodes = built (with_root b (term_root b u)) ts in

@@ -41,7 +41,7 @@ pub over-comes :
     (b : Bench) (kind : AlwaysKind) (events : List Expr) (block : VastStatementBlock) → All (EventSound b) events → OwnsBlock b block →
     FreshSound b (with_always_over kind events block b) (fresh_over (always_over kind events block))
 over-comes b kind events block h k =
-    record { term = tt; port = tt; fresh_module = tt; definition = tt; artifact = tt; instance = tt; assignment = tt; container = tt; function = tt; always_block = record { events = Each-own (EventSound b) events h; block = k } }
+    record { terms = tt; port = tt; fresh_module = tt; definition = tt; artifact = tt; instance = tt; assignment = tt; container = tt; function = tt; always_block = record { events = Each-own (EventSound b) events h; block = k } }
 
 pub next_over_owned : (b : Bench) (kind : AlwaysKind) (events : List Expr) (block : VastStatementBlock) → OwnsAlways (with_always_over kind events block b) (next_always b)
 next_over_owned b kind events block = record { of_file = refl; of_kind = rw (length-append b.always_blocks (always_over kind events block ∷ [])) (last-test (length b.always_blocks)) }

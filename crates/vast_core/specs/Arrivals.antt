@@ -1,15 +1,20 @@
 -- What the code hands over where the arenas grow, as contracts speak of it.
-use Rattle.std.specs.Prelude.{ℕ, ◌<◌, false, Option, Some, None, List, String, string_bytes}
+use Rattle.std.specs.Prelude.{ℕ, ◌<◌, true, false, Option, Some, None, List, [], ◌∷◌, String, string_bytes}
 use Rattle.std.specs.declared.alloc.Global.{Global}
 use Rattle.vast_core.specs.declared.ast.growth.Entry.{Entry}
 use Rattle.vast_core.specs.declared.ast.growth.Entry.TheVariants.{Statement as StatementOf, ElseIf as ElseIfOf, Else as ElseOf, CaseArm as CaseArmOf, Member as MemberOf}
 use Rattle.vast_core.specs.declared.ast.growth.Place.{Place}
 use Rattle.vast_core.specs.declared.ast.growth.Place.TheVariants.{Nowhere as NowhereOf, File as FileOf, Header as HeaderOf, Ports as PortsOf, Module as ModuleOf, Function as FunctionOf, Nest as NestOf, Spare as SpareOf}
-use Rattle.vast_core.specs.declared.ast.growth.Arrivals.{Arrivals}
+use Rattle.vast_core.specs.declared.node.Term.{Term}
+use Rattle.vast_core.specs.declared.ast.arrivals.Terms.{Terms}
+use Rattle.vast_core.specs.declared.ast.arrivals.Terms.TheVariants.{Nothing as NoTerms, One, Two, Three}
+use Rattle.vast_core.specs.declared.ast.arrivals.Node.{Node}
+use Rattle.vast_core.specs.declared.ast.arrivals.Node.TheVariants.{Nothing as NoNode, Assignment as AssignmentOf, Container as ContainerOf, Port as PortOf, Module as ModuleNode, Function as FunctionNode, Definition as DefinitionOf, Artifact as ArtifactOf, Instance as InstanceOf, Always as AlwaysOf, AlwaysOverSpare as OverSpareOf}
+use Rattle.vast_core.specs.declared.ast.arrivals.Arrivals.{Arrivals}
 use Rattle.vast_core.specs.Handles.{module_index, function_index}
 use Rattle.vast_core.specs.Records.{member_entry, file_entry, parameter_port_record, port_record, module_record, definition_record, artifact_record, instance_record}
 use Rattle.vast_core.specs.Nests.{statement_entry, nest_record, variable_record, function_record, always_record}
-use Rattle.vast_core.specs.Containers.{NestedEntry, StatementEnters, ElseIfEnters, ElseEnters, CaseArmEnters, MemberEnters, Listing, Nowhere, InFile, InHeader, InPorts, InModule, InFunction, InNest, AsSpare, Fresh}
+use Rattle.vast_core.specs.Containers.{NestedEntry, StatementEnters, ElseIfEnters, ElseEnters, CaseArmEnters, MemberEnters, Listing, Nowhere, InFile, InHeader, InPorts, InModule, InFunction, InNest, AsSpare, Fresh, no_fresh, fresh_assignment}
 
 abbrev pub entry_of : Entry → NestedEntry
 entry_of (StatementOf s) = StatementEnters (statement_entry s)
@@ -32,26 +37,29 @@ listing_of (FunctionOf owner local v) = InFunction owner local (variable_record 
 listing_of (NestOf place entry) = InNest place (entry_of entry)
 listing_of (SpareOf block) = AsSpare block
 
-abbrev pub recorded : {A B : Type 0} → (A → B) → Option A → Option B
-recorded f None = None
-recorded f (Some x) = Some (f x)
+-- The expressions and types that come.
+abbrev pub terms_of : Terms → List Term
+terms_of NoTerms = []
+terms_of (One t) = t ∷ []
+terms_of (Two t u) = t ∷ u ∷ []
+terms_of (Three t u v) = t ∷ u ∷ v ∷ []
+
+-- The other node that comes.
+abbrev pub fresh_node : Node → Fresh
+fresh_node NoNode = no_fresh
+fresh_node (AssignmentOf a) = fresh_assignment a
+fresh_node (ContainerOf n) = record no_fresh { container = Some (nest_record n) }
+fresh_node (PortOf p) = record no_fresh { port = Some (port_record p) }
+fresh_node (ModuleNode m) = record no_fresh { fresh_module = Some (module_record m) }
+fresh_node (FunctionNode f) = record no_fresh { function = Some (function_record f) }
+fresh_node (DefinitionOf d) = record no_fresh { definition = Some (definition_record d) }
+fresh_node (ArtifactOf a) = record no_fresh { artifact = Some (artifact_record a) }
+fresh_node (InstanceOf i) = record no_fresh { instance = Some (instance_record i) }
+fresh_node (AlwaysOf a) = record no_fresh { always_block = Some (always_record a) }
+fresh_node (OverSpareOf a) = record no_fresh { always_block = Some (always_record a); takes_spare = true }
 
 abbrev pub fresh_of : Arrivals → Fresh
-fresh_of a =
-    record {
-      term = a.term;
-      assignment = a.assignment;
-      container = recorded nest_record a.container;
-      block = a.block;
-      port = recorded port_record a.port;
-      fresh_module = recorded module_record a.new_module;
-      function = recorded function_record a.function;
-      definition = recorded definition_record a.definition;
-      artifact = recorded artifact_record a.artifact;
-      instance = recorded instance_record a.instance;
-      always_block = recorded always_record a.always_block;
-      takes_spare = a.takes_spare;
-    }
+fresh_of a = record (fresh_node a.node) { terms = terms_of a.terms; block = a.block }
 
 -- The list that the entry goes into is there.
 abbrev pub ListingThere : (modules nests functions : ℕ) → Listing → Type 0
@@ -63,4 +71,4 @@ ListingThere modules nests functions (InNest place entry) = place < nests
 ListingThere modules nests functions _ = Unit {0}
 
 abbrev pub no_arrivals : Arrivals
-no_arrivals = record { term = None; assignment = None; container = None; block = false; port = None; new_module = None; function = None; definition = None; artifact = None; instance = None; always_block = None; takes_spare = false }
+no_arrivals = record { terms = NoTerms; node = NoNode; block = false }

@@ -13,11 +13,11 @@ use Rattle.vast_core.specs.declared.node.ElseIf.{ElseIf}
 use Rattle.vast_core.specs.declared.node.CaseArm.{CaseArm}
 use Rattle.vast_core.specs.declared.node.Term.{Term}
 use Rattle.vast_core.specs.Handles.{module_index, function_index, block_index, conditional_index, case_index}
-use Rattle.vast_core.specs.Nodes.{Nodes, OptionHolds, ChildrenHold, RootFits, term_root, with_root as with_node}
+use Rattle.vast_core.specs.Nodes.{OptionHolds, TermsSound, built}
 use Rattle.vast_core.specs.Records.{PortRecord, ParameterPortRecord, ModuleRecord, MemberEntry, FileEntry, DefinitionRecord, ArtifactRecord, InstanceRecord, with_port, with_parameter_port, with_member, with_named_member, changed_at}
 use Rattle.vast_core.specs.Nests.{StatementEntry, NestRecord, BlockRecord, BranchRecord, SwitchRecord, RepeatRecord, VariableRecord, FunctionRecord, AlwaysRecord}
 use Rattle.vast_core.specs.Raw.{Raw}
-use Rattle.vast_core.specs.Bench.{Bench, OwnsModule, OwnsPort, OwnsFunction, OwnsBlock, OwnsExpr, OwnsType, NameIsFree, IsFreeInFunction}
+use Rattle.vast_core.specs.Bench.{Bench, OwnsModule, OwnsPort, OwnsFunction, OwnsBlock, NameIsFree, IsFreeInFunction}
 use Rattle.vast_core.specs.Functions.{with_listed_variable}
 use Rattle.vast_core.specs.DeclaredNames.{NamesSound, names_by_port, names_by_member}
 use Rattle.vast_core.specs.WrittenKinds.{IsVariableKind, HasOwnKind}
@@ -109,10 +109,10 @@ abbrev pub added : {A : Type 0} → List A → Option A → List A
 added xs None = xs
 added xs (Some x) = xs ++ x ∷ []
 
--- What comes at once, at most one of each kind, and then perhaps an empty block; and whether an always block takes the
--- spare one.
+-- What comes at once: expressions and types, the older first, at most one node of each other kind, and then perhaps an
+-- empty block; and whether an always block takes the spare one.
 pub record Fresh : Type 0 where
-  pub term : Option Term
+  pub terms : List Term
   pub assignment : Option Assignment
   pub container : Option NestRecord
   pub block : Bool
@@ -125,10 +125,6 @@ pub record Fresh : Type 0 where
   pub always_block : Option AlwaysRecord
   pub takes_spare : Bool
 
-abbrev pub with_term : Nodes → Option Term → Nodes
-with_term nodes None = nodes
-with_term nodes (Some t) = with_node nodes (term_root nodes t)
-
 abbrev pub with_empty_block : Bool → List NestRecord → List NestRecord
 with_empty_block false nests = nests
 with_empty_block true nests = nests ++ BlockRecord [] ∷ []
@@ -140,7 +136,7 @@ spare_left true spare = None
 abbrev pub with_fresh : Fresh → Bench → Bench
 with_fresh f b =
     record b {
-      nodes = with_term b.nodes f.term;
+      nodes = built b.nodes f.terms;
       assignments = added b.assignments f.assignment;
       nests = with_empty_block f.block (added b.nests f.container);
       ports = added b.ports f.port;
@@ -171,7 +167,7 @@ pub record InstanceComes (c : Bench) (i : InstanceRecord) : Type 0 where
 
 -- The new nodes of file b are made of what file c owns.
 pub record FreshSound (b c : Bench) (f : Fresh) : Type 0 where
-  pub term : OptionHolds (λ t. ChildrenHold (OwnsExpr b) (OwnsType b) t × RootFits (term_root b.nodes t)) f.term
+  pub terms : TermsSound b.nodes f.terms
   pub assignment : OptionHolds (AssignmentSound c) f.assignment
   pub container : OptionHolds (NestSound c (length b.nests)) f.container
   pub port : OptionHolds (PortSound c) f.port
@@ -280,7 +276,7 @@ block_count true = 1
 
 -- There is room for the new nodes.
 pub record HasRoom (a : Raw) (f : Fresh) : Type 0 where
-  pub terms : count_of f.term ≤ a.term_room
+  pub terms : length f.terms ≤ a.term_room
   pub assignments : count_of f.assignment ≤ a.assignment_room
   pub nests : count_of f.container + block_count f.block ≤ a.nest_room
   pub ports : count_of f.port ≤ a.port_room
@@ -295,7 +291,7 @@ pub record HasRoom (a : Raw) (f : Fresh) : Type 0 where
 
 -- Nothing comes.
 abbrev pub no_fresh : Fresh
-no_fresh = record { term = None; assignment = None; container = None; block = false; port = None; fresh_module = None; function = None; definition = None; artifact = None; instance = None; always_block = None; takes_spare = false }
+no_fresh = record { terms = []; assignment = None; container = None; block = false; port = None; fresh_module = None; function = None; definition = None; artifact = None; instance = None; always_block = None; takes_spare = false }
 
 abbrev pub fresh_assignment : Assignment → Fresh
 fresh_assignment a = record no_fresh { assignment = Some a }

@@ -65,10 +65,10 @@ abbrev pub name_term : String Global → Option VastDataType → Term
 name_term name type = Expression (Name name type)
 
 abbrev pub fresh_name : String Global → Option VastDataType → Fresh
-fresh_name name type = record no_fresh { term = Some (name_term name type) }
+fresh_name name type = record no_fresh { terms = name_term name type ∷ [] }
 
 abbrev pub fresh_loop : String Global → NestRecord → Fresh
-fresh_loop variable n = record no_fresh { term = Some (name_term variable None); container = Some n }
+fresh_loop variable n = record no_fresh { terms = name_term variable None ∷ []; container = Some n }
 
 -- A function without inputs and locals, its empty body, and its result's name as an expression.
 abbrev pub new_function : Bench → List ℕ → VastDataType → FunctionRecord
@@ -79,4 +79,4 @@ with_function name result_type b =
     with_expr (record (with_block b) { functions = b.functions ++ new_function b name result_type ∷ [] }) (NameTree name (Typed (type_of b result_type)))
 
 abbrev pub fresh_function : String Global → VastDataType → FunctionRecord → Fresh
-fresh_function name result_type f = record no_fresh { term = Some (name_term name (Some result_type)); block = true; function = Some f }
+fresh_function name result_type f = record no_fresh { terms = name_term name (Some result_type) ∷ []; block = true; function = Some f }

@@ -192,12 +192,12 @@ RootWellFormed (ExprRoot e) = ExprWellFormed e
 RootWellFormed (TypeRoot t) = TypeWellFormed t
 
 -- The nodes after these terms, each made of older ones.
-unfoldable pub built : Nodes → List Term → Nodes
+abbrev pub built : Nodes → List Term → Nodes
 built b [] = b
 built b (t ∷ ts) = built (with_root b (term_root b t)) ts
 
 -- Each term fits, and its children are older nodes of the file.
-unfoldable pub TermsSound : Nodes → List Term → Type 0
+abbrev pub TermsSound : Nodes → List Term → Type 0
 TermsSound b [] = Unit {0}
 TermsSound b (t ∷ ts) = ChildrenHold (HasExpr b) (HasType b) t × RootFits (term_root b t) × TermsSound (with_root b (term_root b t)) ts
 

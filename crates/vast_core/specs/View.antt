@@ -1,5 +1,5 @@
 -- What a file holds, read off its arenas.
-use Rattle.std.specs.Prelude.{ℕ, map}
+use Rattle.std.specs.Prelude.{map}
 use Rattle.vast_core.specs.Raw.{Raw}
 use Rattle.vast_core.specs.Nodes.{no_nodes, built}
 use Rattle.vast_core.specs.Records.{port_record, module_record, definition_record, artifact_record, instance_record, file_entry}
@@ -23,7 +23,3 @@ bench a =
       items = map file_entry a.items;
       spare = a.spare;
     }
-
--- How many expressions and types can be made before memory is needed.
-unfoldable pub room : Raw → ℕ
-room a = a.term_room

@@ -14,6 +14,7 @@ use std::alloc::Global;
 use std::marker::Model;
 
 mod always;
+mod arrivals;
 mod artifacts;
 mod assignments;
 mod bit_count;

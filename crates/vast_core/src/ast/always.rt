@@ -14,7 +14,7 @@ ghost use Rattle.vast_core.specs.Scopes.{OwnsScope, IsOlder, with_scope_member};
 ghost use Rattle.vast_core.specs.View.{bench};
 
 use crate::ast::Ast;
-use crate::ast::growth::Arrivals;
+use crate::ast::arrivals::{Arrivals, Node, Terms};
 use crate::ast::scope::Scope;
 use crate::handle::{Expr, VastAlwaysBase, VastStatementBlock};
 use crate::kind::AlwaysKind;
@@ -43,13 +43,13 @@ impl Ast {
             scope,
             Member::Always(always_block),
             Arrivals {
-                block: true,
-                always_block: Some(AlwaysBlock {
+                terms: Terms::Nothing,
+                node: Node::Always(AlwaysBlock {
                     kind,
                     events,
                     block,
                 }),
-                ..Arrivals::none()
+                block: true,
             },
         )?;
         Ok(always_block)
@@ -126,13 +126,13 @@ impl Ast {
             scope,
             Member::Always(always_block),
             Arrivals {
-                always_block: Some(AlwaysBlock {
+                terms: Terms::Nothing,
+                node: Node::AlwaysOverSpare(AlwaysBlock {
                     kind: AlwaysKind::AlwaysFF,
                     events,
                     block,
                 }),
-                takes_spare: true,
-                ..Arrivals::none()
+                block: false,
             },
         )?;
         Ok(always_block)

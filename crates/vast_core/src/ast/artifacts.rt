@@ -11,7 +11,8 @@ ghost use Rattle.vast_core.specs.Artifacts.{next_def, with_definition, next_arti
 ghost use Rattle.vast_core.specs.View.{bench};
 
 use crate::ast::Ast;
-use crate::ast::growth::{Arrivals, Place};
+use crate::ast::arrivals::{Arrivals, Node, Terms};
+use crate::ast::growth::Place;
 use crate::handle::{
     BlankLine, Comment, Def, Id, InlineVerilogStatement, Instantiation, MacroRef, MacroStatement,
     VastDataType,
@@ -40,12 +41,13 @@ impl Ast {
         self.grow(
             Place::Nowhere,
             Arrivals {
-                definition: Some(Definition {
+                terms: Terms::Nothing,
+                node: Node::Definition(Definition {
                     name,
                     kind,
                     data_type,
                 }),
-                ..Arrivals::none()
+                block: false,
             },
         )?;
         Ok(Def { id })
@@ -60,8 +62,9 @@ impl Ast {
         self.grow(
             Place::Nowhere,
             Arrivals {
-                artifact: Some(artifact),
-                ..Arrivals::none()
+                terms: Terms::Nothing,
+                node: Node::Artifact(artifact),
+                block: false,
             },
         )?;
         Ok(id)
@@ -141,13 +144,14 @@ impl Ast {
         self.grow(
             Place::Nowhere,
             Arrivals {
-                instance: Some(Instance {
+                terms: Terms::Nothing,
+                node: Node::Instance(Instance {
                     module_name,
                     instance_name,
                     parameters,
                     connections,
                 }),
-                ..Arrivals::none()
+                block: false,
             },
         )?;
         Ok(Instantiation { id })

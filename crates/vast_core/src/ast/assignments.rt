@@ -8,7 +8,8 @@ ghost use Rattle.vast_core.specs.Artifacts.{next_statement};
 ghost use Rattle.vast_core.specs.View.{bench};
 
 use crate::ast::Ast;
-use crate::ast::growth::{Arrivals, Place};
+use crate::ast::arrivals::{Arrivals, Node, Terms};
+use crate::ast::growth::Place;
 use crate::handle::{ContinuousAssignment, Expr, VastStatement};
 use crate::node::Assignment;
 use std::alloc::AllocError;
@@ -32,12 +33,13 @@ impl Ast {
         self.grow(
             Place::Nowhere,
             Arrivals {
-                assignment: Some(Assignment {
+                terms: Terms::Nothing,
+                node: Node::Assignment(Assignment {
                     lhs,
                     rhs,
                     nonblocking: false,
                 }),
-                ..Arrivals::none()
+                block: false,
             },
         )?;
         Ok(ContinuousAssignment { id })
@@ -62,12 +64,13 @@ impl Ast {
         self.grow(
             Place::Nowhere,
             Arrivals {
-                assignment: Some(Assignment {
+                terms: Terms::Nothing,
+                node: Node::Assignment(Assignment {
                     lhs,
                     rhs,
                     nonblocking,
                 }),
-                ..Arrivals::none()
+                block: false,
             },
         )?;
         Ok(VastStatement { id })

@@ -13,7 +13,8 @@ ghost use Rattle.vast_core.specs.Containers.{with_statement};
 ghost use Rattle.vast_core.specs.View.{bench};
 
 use crate::ast::Ast;
-use crate::ast::growth::{Arrivals, Entry, Place};
+use crate::ast::arrivals::{Arrivals, Node, Terms};
+use crate::ast::growth::{Entry, Place};
 use crate::handle::{Expr, VastStatement, VastStatementBlock};
 use crate::node::{Assignment, Nest, Statement};
 use std::alloc::AllocError;
@@ -66,12 +67,13 @@ impl Ast {
                 Entry::Statement(Statement::Assignment(statement)),
             ),
             Arrivals {
-                assignment: Some(Assignment {
+                terms: Terms::Nothing,
+                node: Node::Assignment(Assignment {
                     lhs,
                     rhs,
                     nonblocking,
                 }),
-                ..Arrivals::none()
+                block: false,
             },
         )?;
         Ok(statement)
@@ -102,12 +104,13 @@ impl Ast {
                 Entry::Statement(Statement::Continuous(statement)),
             ),
             Arrivals {
-                assignment: Some(Assignment {
+                terms: Terms::Nothing,
+                node: Node::Assignment(Assignment {
                     lhs,
                     rhs,
                     nonblocking: false,
                 }),
-                ..Arrivals::none()
+                block: false,
             },
         )?;
         Ok(statement)

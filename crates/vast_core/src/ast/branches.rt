@@ -17,7 +17,8 @@ ghost use Rattle.vast_core.specs.Scopes.{OwnsScope, with_scope_member};
 ghost use Rattle.vast_core.specs.View.{bench};
 
 use crate::ast::Ast;
-use crate::ast::growth::{Arrivals, Entry, Place};
+use crate::ast::arrivals::{Arrivals, Node, Terms};
+use crate::ast::growth::{Entry, Place};
 use crate::ast::scope::Scope;
 use crate::handle::{CaseStatement, Conditional, Expr, VastStatementBlock};
 use crate::kind::CaseKind;
@@ -66,9 +67,9 @@ impl Ast {
             scope,
             Member::Conditional(conditional),
             Arrivals {
-                container: Some(node),
+                terms: Terms::Nothing,
+                node: Node::Container(node),
                 block: true,
-                ..Arrivals::none()
             },
         )?;
         Ok(conditional)
@@ -112,9 +113,9 @@ impl Ast {
                 Entry::Statement(Statement::Conditional(conditional)),
             ),
             Arrivals {
-                container: Some(node),
+                terms: Terms::Nothing,
+                node: Node::Container(node),
                 block: true,
-                ..Arrivals::none()
             },
         )?;
         Ok(conditional)
@@ -147,8 +148,9 @@ impl Ast {
         self.grow(
             Place::Nest(owner.id.index, Entry::Statement(Statement::Case(case))),
             Arrivals {
-                container: Some(Nest::Case(node)),
-                ..Arrivals::none()
+                terms: Terms::Nothing,
+                node: Node::Container(Nest::Case(node)),
+                block: false,
             },
         )?;
         Ok(case)
@@ -162,8 +164,9 @@ impl Ast {
         self.grow(
             Place::Nest(place, entry),
             Arrivals {
+                terms: Terms::Nothing,
+                node: Node::Nothing,
                 block: true,
-                ..Arrivals::none()
             },
         )
     }

@@ -12,8 +12,9 @@ ghost use Rattle.vast_literal.specs.LiteralToken.{is_literal_text};
 ghost use Rattle.vast_literal.specs.Tree.{IndexTree, SliceTree};
 
 use crate::ast::Ast;
+use crate::ast::arrivals::Terms;
 use crate::handle::{Expr, Index, IndexableExpr, MacroRef, Slice};
-use crate::node::ExprNode;
+use crate::node::{ExprNode, Term};
 use std::alloc::AllocError;
 
 impl Ast {
@@ -35,8 +36,11 @@ impl Ast {
         requires fits { ExprFits (expr_tree (bench self.old).nodes node) }
         ensures { Builds (bench self.old) (bench self.new) result (next_expr (bench self.old)) (with_expr (bench self.old) (expr_tree (bench self.old).nodes node)) }
     {
-        self.reserve_terms(1)?;
-        Ok(self.plant_expr(node))
+        let expr = Expr {
+            id: self.next_term(),
+        };
+        self.grow_terms(Terms::One(Term::Expression(node)))?;
+        Ok(expr)
     }
 
     /// Adds the bit select `subject[index]`.
@@ -68,10 +72,17 @@ impl Ast {
         ensures { Builds (bench self.old) (bench self.new) result (next_fixed_index text.now index (bench self.old)) (with_fixed_index subject text.now index (bench self.old)) }
     {
         let text = String::from_str(self.alloc, text)?;
-        self.reserve_terms(2)?;
-        let index = self.plant_expr(ExprNode::Literal(text, Some(index)));
-        let select = self.plant_expr(ExprNode::Index(subject.to_expr(), index));
-        Ok(Index { id: select.id })
+        let literal = Expr {
+            id: self.next_term(),
+        };
+        let select = Index {
+            id: self.second_term(),
+        };
+        self.grow_terms(Terms::Two(
+            Term::Expression(ExprNode::Literal(text, Some(index))),
+            Term::Expression(ExprNode::Index(subject.to_expr(), literal)),
+        ))?;
+        Ok(select)
     }
 
     /// Adds the part select `subject[high:low]`.
@@ -114,11 +125,21 @@ impl Ast {
     {
         let high_text = String::from_str(self.alloc, high_text)?;
         let low_text = String::from_str(self.alloc, low_text)?;
-        self.reserve_terms(3)?;
-        let high = self.plant_expr(ExprNode::Literal(high_text, Some(high)));
-        let low = self.plant_expr(ExprNode::Literal(low_text, Some(low)));
-        let select = self.plant_expr(ExprNode::Slice(subject.to_expr(), high, low));
-        Ok(Slice { id: select.id })
+        let high_literal = Expr {
+            id: self.next_term(),
+        };
+        let low_literal = Expr {
+            id: self.second_term(),
+        };
+        let select = Slice {
+            id: self.third_term(),
+        };
+        self.grow_terms(Terms::Three(
+            Term::Expression(ExprNode::Literal(high_text, Some(high))),
+            Term::Expression(ExprNode::Literal(low_text, Some(low))),
+            Term::Expression(ExprNode::Slice(subject.to_expr(), high_literal, low_literal)),
+        ))?;
+        Ok(select)
     }
 
     /// Adds the replication by a number: a literal of the count in decimal, and the replication.
@@ -132,9 +153,17 @@ impl Ast {
     {
         let text = format!(in self.alloc; "{count}")?;
         let parts = Vec::from_slice(self.alloc, parts)?;
-        self.reserve_terms(2)?;
-        let count = self.plant_expr(ExprNode::Literal(text, Some(count)));
-        Ok(self.plant_expr(ExprNode::Concat(Some(count), parts)))
+        let literal = Expr {
+            id: self.next_term(),
+        };
+        let replication = Expr {
+            id: self.second_term(),
+        };
+        self.grow_terms(Terms::Two(
+            Term::Expression(ExprNode::Literal(text, Some(count))),
+            Term::Expression(ExprNode::Concat(Some(literal), parts)),
+        ))?;
+        Ok(replication)
     }
 
     /// Adds the use of a macro, with an argument list or without one.

@@ -11,7 +11,8 @@ ghost use Rattle.vast_core.specs.Loops.{next_function, with_function};
 ghost use Rattle.vast_core.specs.View.{bench};
 
 use crate::ast::Ast;
-use crate::ast::growth::{Arrivals, Place};
+use crate::ast::arrivals::{Arrivals, Node, Terms};
+use crate::ast::growth::Place;
 use crate::handle::{LogicRef, VastDataType, VastFunction, VastModule, VastStatementBlock};
 use crate::node::{ExprNode, Function, Member, Term};
 use std::alloc::AllocError;
@@ -60,10 +61,9 @@ impl Ast {
         self.grow(
             Place::Module(owner, Member::Function(function), Some(taken)),
             Arrivals {
-                term: Some(Term::Expression(ExprNode::Name(variable, Some(result_type)))),
+                terms: Terms::One(Term::Expression(ExprNode::Name(variable, Some(result_type)))),
+                node: Node::Function(node),
                 block: true,
-                function: Some(node),
-                ..Arrivals::none()
             },
         )?;
         Ok(function)

@@ -4,16 +4,17 @@ ghost use Rattle.std.specs.Prelude.{◌≡◌, ◌+◌, ◌-◌, ◌≤◌, ◌<
 ghost use Rattle.vast_core.specs.Records.{module_record, member_entry, file_entry, parameter_port_record, changed_at, with_port, with_parameter_port, with_member, with_named_member};
 ghost use Rattle.vast_core.specs.Nests.{nest_record, statement_entry, function_record, variable_record};
 ghost use Rattle.vast_core.specs.Functions.{with_listed_variable};
-ghost use Rattle.vast_core.specs.Containers.{StatementEnters, ElseIfEnters, ElseEnters, CaseArmEnters, MemberEnters, with_entry, with_listed, listed_modules, listed_nests, listed_functions, listed_items, listed_spare, spare_left, added, with_empty_block, count_of, block_count, GrowthSound, HasRoom, after_growth};
-ghost use Rattle.vast_core.specs.Arrivals.{entry_of, name_of, listing_of, fresh_of, no_arrivals, ListingThere};
+ghost use Rattle.vast_core.specs.Containers.{StatementEnters, ElseIfEnters, ElseEnters, CaseArmEnters, MemberEnters, with_entry, with_listed, listed_modules, listed_nests, listed_functions, listed_items, listed_spare, spare_left, GrowthSound, HasRoom, after_growth};
+ghost use Rattle.vast_core.specs.Arrivals.{entry_of, name_of, listing_of, fresh_of, ListingThere};
 ghost use Rattle.vast_core.specs.Growth.{Builds};
 ghost use Rattle.vast_core.specs.View.{bench};
 
 use crate::ast::Ast;
-use crate::handle::{GenerateLoop, ModulePort, VastFunction, VastModule, VastStatementBlock};
+use crate::ast::arrivals::{Arrivals, settle_block, settle_node, settle_terms};
+use crate::handle::{ModulePort, VastFunction, VastModule, VastStatementBlock};
 use crate::node::{
-    AlwaysBlock, Artifact, Assignment, CaseArm, Definition, ElseIf, FileItem, Function,
-    FunctionVariable, Instance, Member, Module, Nest, ParameterPort, Port, Statement, Term,
+    CaseArm, ElseIf, FileItem, Function, FunctionVariable, Member, Module, Nest, ParameterPort,
+    Statement,
 };
 use std::alloc::{AllocError, Global};
 
@@ -41,46 +42,6 @@ pub(crate) enum Place {
     Nest(usize, Entry),
     /// The block is the file's spare one from then on.
     Spare(VastStatementBlock),
-}
-
-/// What comes into the arenas at once, at most one of each kind, and then perhaps an empty block.
-#[derive(Drop)]
-pub(crate) struct Arrivals {
-    pub(crate) term: Option<Term>,
-    pub(crate) assignment: Option<Assignment>,
-    pub(crate) container: Option<Nest>,
-    pub(crate) block: bool,
-    pub(crate) port: Option<Port>,
-    pub(crate) new_module: Option<Module>,
-    pub(crate) function: Option<Function>,
-    pub(crate) definition: Option<Definition>,
-    pub(crate) artifact: Option<Artifact>,
-    pub(crate) instance: Option<Instance>,
-    pub(crate) always_block: Option<AlwaysBlock>,
-    /// Whether an always block that comes is over the spare block.
-    pub(crate) takes_spare: bool,
-}
-
-impl Arrivals {
-    /// Nothing comes.
-    pub(crate) fn none() -> Arrivals
-        ensures { result ≡ no_arrivals }
-    {
-        Arrivals {
-            term: None,
-            assignment: None,
-            container: None,
-            block: false,
-            port: None,
-            new_module: None,
-            function: None,
-            definition: None,
-            artifact: None,
-            instance: None,
-            always_block: None,
-            takes_spare: false,
-        }
-    }
 }
 
 impl Nest {
@@ -317,32 +278,6 @@ fn enter(
     }
 }
 
-fn count<T>(item: &Option<T>) -> usize
-    ensures { result ≡ count_of item.now }
-{
-    if item.is_some() { 1 } else { 0 }
-}
-
-/// Adds the element, if there is one; there is room for it.
-fn settle<T: Drop>(items: &mut Vec<T>, item: Option<T>)
-    requires { count_of item ≤ vec_capacity items.old - vec_len items.old }
-    ensures items { items.new.items ≡ added items.old.items item }
-    ensures room { vec_capacity items.old - vec_len items.old ≤ (vec_capacity items.new - vec_len items.new) + count_of item }
-{
-    if let Some(item) = item {
-        items.push(item).unwrap();
-    }
-}
-
-fn settle_block(nests: &mut Vec<Nest>, block: bool, alloc: Global)
-    requires { block_count block ≤ vec_capacity nests.old - vec_len nests.old }
-    ensures { map nest_record nests.new.items ≡ with_empty_block block (map nest_record nests.old.items) }
-{
-    if block {
-        nests.push(Nest::Block(Vec::new(alloc))).unwrap();
-    }
-}
-
 /// The spare block, unless it is taken.
 fn spare_left(taken: bool, spare: Option<VastStatementBlock>) -> Option<VastStatementBlock>
     ensures { result ≡ spare_left taken spare }
@@ -351,33 +286,13 @@ fn spare_left(taken: bool, spare: Option<VastStatementBlock>) -> Option<VastStat
 }
 
 impl Ast {
-    /// Makes room for the nodes.
-    #[tactic(auto, unfolding(crate::specs::View::bench))]
-    fn make_room(&mut self, arrivals: &Arrivals) -> Result<(), AllocError>
-        ensures unchanged { bench self.new ≡ bench self.old }
-        ensures room { OnOk result (HasRoom self.new (fresh_of arrivals.now)) }
-    {
-        self.terms.reserve(count(&arrivals.term))?;
-        self.assignments.reserve(count(&arrivals.assignment))?;
-        let block = if arrivals.block { 1 } else { 0 };
-        self.nests.reserve(count(&arrivals.container) + block)?;
-        self.ports.reserve(count(&arrivals.port))?;
-        self.modules.reserve(count(&arrivals.new_module))?;
-        self.functions.reserve(count(&arrivals.function))?;
-        self.definitions.reserve(count(&arrivals.definition))?;
-        self.artifacts.reserve(count(&arrivals.artifact))?;
-        self.instances.reserve(count(&arrivals.instance))?;
-        self.always_blocks.reserve(count(&arrivals.always_block))?;
-        Ok(())
-    }
-
     /// Adds the entry and the nodes, for which there is room, or changes nothing.
     fn admit(&mut self, place: Place, arrivals: Arrivals) -> Result<(), AllocError>
         requires sound { GrowthSound (bench self.old) (listing_of place) (fresh_of arrivals) }
         requires room { HasRoom self.old (fresh_of arrivals) }
         ensures { Builds (bench self.old) (bench self.new) result tt (after_growth (listing_of place) (fresh_of arrivals) (bench self.old)) }
     {
-        let mut spare = spare_left(arrivals.takes_spare, self.spare);
+        let mut spare = spare_left(arrivals.node.takes_spare(), self.spare);
         enter(
             &mut self.modules,
             &mut self.nests,
@@ -388,17 +303,20 @@ impl Ast {
             self.alloc,
         )?;
         self.spare = spare;
-        settle(&mut self.terms, arrivals.term);
-        settle(&mut self.assignments, arrivals.assignment);
-        settle(&mut self.nests, arrivals.container);
+        settle_terms(&mut self.terms, arrivals.terms);
+        settle_node(
+            &mut self.assignments,
+            &mut self.nests,
+            &mut self.ports,
+            &mut self.modules,
+            &mut self.functions,
+            &mut self.definitions,
+            &mut self.artifacts,
+            &mut self.instances,
+            &mut self.always_blocks,
+            arrivals.node,
+        );
         settle_block(&mut self.nests, arrivals.block, self.alloc);
-        settle(&mut self.ports, arrivals.port);
-        settle(&mut self.modules, arrivals.new_module);
-        settle(&mut self.functions, arrivals.function);
-        settle(&mut self.definitions, arrivals.definition);
-        settle(&mut self.artifacts, arrivals.artifact);
-        settle(&mut self.instances, arrivals.instance);
-        settle(&mut self.always_blocks, arrivals.always_block);
         Ok(())
     }
 

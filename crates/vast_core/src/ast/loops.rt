@@ -14,7 +14,7 @@ ghost use Rattle.vast_core.specs.Scopes.{OwnsScope, with_scope_member};
 ghost use Rattle.vast_core.specs.View.{bench};
 
 use crate::ast::Ast;
-use crate::ast::growth::Arrivals;
+use crate::ast::arrivals::{Arrivals, Node, Terms};
 use crate::ast::scope::Scope;
 use crate::handle::{Expr, GenerateLoop, LogicRef};
 use crate::node::{ExprNode, LoopNode, Member, Nest, Term};
@@ -59,9 +59,9 @@ impl Ast {
             scope,
             Member::Loop(generate_loop),
             Arrivals {
-                term: Some(Term::Expression(ExprNode::Name(variable, None))),
-                container: Some(Nest::Loop(node)),
-                ..Arrivals::none()
+                terms: Terms::One(Term::Expression(ExprNode::Name(variable, None))),
+                node: Node::Container(Nest::Loop(node)),
+                block: false,
             },
         )?;
         Ok(generate_loop)

@@ -10,7 +10,8 @@ ghost use Rattle.vast_core.specs.Scopes.{OwnsScope, with_scope_member};
 ghost use Rattle.vast_core.specs.View.{bench};
 
 use crate::ast::Ast;
-use crate::ast::growth::{Arrivals, Place};
+use crate::ast::arrivals::{Arrivals, Node, Terms};
+use crate::ast::growth::Place;
 use crate::ast::scope::Scope;
 use crate::handle::{
     ContinuousAssignment, Expr, LogicRef, VastDataType, VastModule, VastStatement,
@@ -52,8 +53,9 @@ impl Ast {
                 Some(taken_name),
             ),
             Arrivals {
-                term: Some(Term::Expression(ExprNode::Name(node_name, Some(data_type)))),
-                ..Arrivals::none()
+                terms: Terms::One(Term::Expression(ExprNode::Name(node_name, Some(data_type)))),
+                node: Node::Nothing,
+                block: false,
             },
         )?;
         Ok(logic_ref)
@@ -82,12 +84,13 @@ impl Ast {
             scope,
             Member::ContinuousAssignment(assignment),
             Arrivals {
-                assignment: Some(Assignment {
+                terms: Terms::Nothing,
+                node: Node::Assignment(Assignment {
                     lhs,
                     rhs,
                     nonblocking: false,
                 }),
-                ..Arrivals::none()
+                block: false,
             },
         )?;
         Ok(VastStatement { id: assignment.id })

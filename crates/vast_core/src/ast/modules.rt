@@ -10,7 +10,8 @@ ghost use Rattle.vast_core.specs.Hoisting.{members_of};
 ghost use Rattle.vast_core.specs.View.{bench};
 
 use crate::ast::Ast;
-use crate::ast::growth::{Arrivals, Place};
+use crate::ast::arrivals::{Arrivals, Node, Terms};
+use crate::ast::growth::Place;
 use crate::handle::VastModule;
 use crate::node::{FileItem, Module};
 use std::alloc::AllocError;
@@ -40,14 +41,15 @@ impl Ast {
         self.grow(
             Place::File(FileItem::Module(handle)),
             Arrivals {
-                new_module: Some(Module {
+                terms: Terms::Nothing,
+                node: Node::Module(Module {
                     name,
                     parameters: Vec::new(self.alloc),
                     ports: Vec::new(self.alloc),
                     members: Vec::new(self.alloc),
                     names: BTreeSet::new(self.alloc),
                 }),
-                ..Arrivals::none()
+                block: false,
             },
         )?;
         Ok(handle)

@@ -1,6 +1,6 @@
 //! The ids of the nodes that come next.
 
-ghost use Rattle.std.specs.Prelude.{◌≡◌, ◌<◌, ◌^◌, length, suc};
+ghost use Rattle.std.specs.Prelude.{◌≡◌, ◌+◌, ◌<◌, ◌^◌, length, suc};
 ghost use Rattle.vast_core.specs.Growth.{next_id};
 ghost use Rattle.vast_core.specs.View.{bench};
 
@@ -26,7 +26,8 @@ impl Ast {
     }
 
     fn term_count(&self) -> usize
-        ensures { result ≡ length (bench self.now).nodes.roots }
+        ensures count { result ≡ length (bench self.now).nodes.roots }
+        ensures small { result < 2 ^ 63 }
     {
         self.terms.len()
     }
@@ -71,6 +72,20 @@ impl Ast {
         ensures { result ≡ next_id (bench self.now) (length (bench self.now).nodes.roots) }
     {
         self.id_at(self.term_count())
+    }
+
+    /// The id of the expression or type behind the next one.
+    pub(crate) fn second_term(&self) -> Id
+        ensures { result ≡ next_id (bench self.now) (length (bench self.now).nodes.roots + 1) }
+    {
+        self.id_at(self.term_count() + 1)
+    }
+
+    /// The id of the one behind these two.
+    pub(crate) fn third_term(&self) -> Id
+        ensures { result ≡ next_id (bench self.now) (length (bench self.now).nodes.roots + 2) }
+    {
+        self.id_at(self.term_count() + 2)
     }
 
     #[tactic(auto, using(crate::proofs::Lengths::lengths), unfolding(crate::specs::View::bench))]

@@ -12,7 +12,8 @@ ghost use Rattle.vast_core.specs.Scopes.{OwnsScope, with_scope_parameter};
 ghost use Rattle.vast_core.specs.View.{bench};
 
 use crate::ast::Ast;
-use crate::ast::growth::{Arrivals, Place};
+use crate::ast::arrivals::{Arrivals, Node, Terms};
+use crate::ast::growth::Place;
 use crate::ast::scope::Scope;
 use crate::handle::{Expr, LocalparamRef, LogicRef, ParameterRef, VastDataType, VastModule};
 use crate::node::{ExprNode, Member, ParameterForm, ParameterPort, Term};
@@ -50,8 +51,9 @@ impl Ast {
         self.grow(
             Place::Header(owner, port),
             Arrivals {
-                term: Some(Term::Expression(ExprNode::Name(node_name, data_type))),
-                ..Arrivals::none()
+                terms: Terms::One(Term::Expression(ExprNode::Name(node_name, data_type))),
+                node: Node::Nothing,
+                block: false,
             },
         )?;
         Ok(logic_ref)
@@ -97,8 +99,9 @@ impl Ast {
             scope,
             Member::Parameter(local, form, value),
             Arrivals {
-                term: Some(Term::Expression(ExprNode::Name(name, data_type))),
-                ..Arrivals::none()
+                terms: Terms::One(Term::Expression(ExprNode::Name(name, data_type))),
+                node: Node::Nothing,
+                block: false,
             },
         )?;
         Ok(expr)

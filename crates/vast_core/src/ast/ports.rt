@@ -8,7 +8,8 @@ ghost use Rattle.vast_core.specs.Growth.{Builds, next_logic_ref, with_port};
 ghost use Rattle.vast_core.specs.View.{bench};
 
 use crate::ast::Ast;
-use crate::ast::growth::{Arrivals, Place};
+use crate::ast::arrivals::{Arrivals, Node, Terms};
+use crate::ast::growth::Place;
 use crate::handle::{LogicRef, ModulePort, VastDataType, VastModule};
 use crate::kind::{DataKind, ModulePortDirection};
 use crate::node::{ExprNode, Port, Term};
@@ -45,15 +46,15 @@ impl Ast {
         self.grow(
             Place::Ports(owner, port, taken_name),
             Arrivals {
-                term: Some(Term::Expression(ExprNode::Name(node_name, Some(data_type)))),
-                port: Some(Port {
+                terms: Terms::One(Term::Expression(ExprNode::Name(node_name, Some(data_type)))),
+                node: Node::Port(Port {
                     direction,
                     kind,
                     name: port_name,
                     data_type,
                     logic_ref,
                 }),
-                ..Arrivals::none()
+                block: false,
             },
         )?;
         Ok(logic_ref)

@@ -10,7 +10,8 @@ ghost use Rattle.vast_core.specs.Sound.{MemberSound};
 ghost use Rattle.vast_core.specs.View.{bench};
 
 use crate::ast::Ast;
-use crate::ast::growth::{Arrivals, Entry, Place};
+use crate::ast::arrivals::Arrivals;
+use crate::ast::growth::{Entry, Place};
 use crate::handle::{GenerateLoop, VastModule};
 use crate::node::Member;
 use std::alloc::AllocError;

@@ -6,7 +6,8 @@ ghost use Rattle.vast_core.specs.Containers.{next_block, with_spare_block};
 ghost use Rattle.vast_core.specs.View.{bench};
 
 use crate::ast::Ast;
-use crate::ast::growth::{Arrivals, Place};
+use crate::ast::arrivals::{Arrivals, Node, Terms};
+use crate::ast::growth::Place;
 use crate::handle::VastStatementBlock;
 use std::alloc::AllocError;
 
@@ -25,8 +26,9 @@ impl Ast {
         self.grow(
             Place::Spare(block),
             Arrivals {
+                terms: Terms::Nothing,
+                node: Node::Nothing,
                 block: true,
-                ..Arrivals::none()
             },
         )?;
         Ok(block)

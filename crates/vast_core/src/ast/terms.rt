@@ -1,71 +1,35 @@
 //! The arena of expressions and types: growing it and reading it.
 
-ghost use Rattle.std.specs.Prelude.{◌≡◌, ◌+◌, ◌<◌, ◌≤◌, length, IfSome, IfNone, OnOk, None, Some, slice_get};
+ghost use Rattle.std.specs.Prelude.{◌≡◌, ◌<◌, IfSome, IfNone, None, slice_get};
 ghost use Rattle.vast_core.specs.Handles.{rank, type_rank};
-ghost use Rattle.vast_core.specs.Nodes.{IsNodeAt, ChildrenHold, ExprChildrenHold, TypeChildrenHold, RootFits, term_root, expr_tree, type_tree};
-ghost use Rattle.vast_core.specs.Types.{ExprFits, TypeFits, ExprWellFormed, TypeWellFormed};
+ghost use Rattle.vast_core.specs.Nodes.{IsNodeAt, TermsSound, ExprChildrenHold, TypeChildrenHold, expr_tree, type_tree};
+ghost use Rattle.vast_core.specs.Types.{ExprWellFormed, TypeWellFormed};
 ghost use Rattle.vast_core.specs.Bench.{OwnsExpr, OwnsType, tree_of, type_of};
-ghost use Rattle.vast_core.specs.Growth.{with_root, with_expr, with_type, next_expr, next_type};
-ghost use Rattle.vast_core.specs.View.{bench, room};
+ghost use Rattle.vast_core.specs.Growth.{Builds, with_terms};
+ghost use Rattle.vast_core.specs.Arrivals.{terms_of};
+ghost use Rattle.vast_core.specs.View.{bench};
 
 use crate::ast::Ast;
-use crate::handle::{Expr, Id, VastDataType};
+use crate::ast::arrivals::{Arrivals, Node, Terms};
+use crate::ast::growth::Place;
+use crate::handle::{Expr, VastDataType};
 use crate::node::{ExprNode, Term, TypeNode};
 use std::alloc::AllocError;
 
 impl Ast {
-    /// Makes room for `count` more expressions and types.
-    #[tactic(auto, unfolding(crate::specs::View::bench, crate::specs::View::room))]
-    pub(crate) fn reserve_terms(&mut self, count: usize) -> Result<(), AllocError>
-        ensures room { OnOk result (count ≤ room self.new) }
-        ensures unchanged { bench self.new ≡ bench self.old }
+    /// Adds expressions and types, the older first.
+    pub(crate) fn grow_terms(&mut self, terms: Terms) -> Result<(), AllocError>
+        requires { TermsSound (bench self.old).nodes (terms_of terms) }
+        ensures { Builds (bench self.old) (bench self.new) result tt (with_terms (terms_of terms) (bench self.old)) }
     {
-        self.terms.reserve(count)?;
-        Ok(())
-    }
-
-    /// Adds a node for which there is room, and answers its index.
-    fn plant(&mut self, term: Term) -> usize
-        requires children { ChildrenHold (OwnsExpr (bench self.old)) (OwnsType (bench self.old)) term }
-        requires fits { RootFits (term_root (bench self.old).nodes term) }
-        requires room { 0 < room self.old }
-        ensures index { result ≡ length (bench self.old).nodes.roots }
-        ensures after { bench self.new ≡ with_root (bench self.old) (term_root (bench self.old).nodes term) }
-        ensures room { room self.old ≤ room self.new + 1 }
-    {
-        let index = self.terms.len();
-        self.terms.push(term).unwrap();
-        index
-    }
-
-    pub(crate) fn plant_expr(&mut self, node: ExprNode) -> Expr
-        requires children { ExprChildrenHold (OwnsExpr (bench self.old)) (OwnsType (bench self.old)) node }
-        requires fits { ExprFits (expr_tree (bench self.old).nodes node) }
-        requires room { 0 < room self.old }
-        ensures handle { result ≡ next_expr (bench self.old) }
-        ensures after { bench self.new ≡ with_expr (bench self.old) (expr_tree (bench self.old).nodes node) }
-        ensures room { room self.old ≤ room self.new + 1 }
-    {
-        let file_id = self.id();
-        let index = self.plant(Term::Expression(node));
-        Expr {
-            id: Id { file_id, index },
-        }
-    }
-
-    pub(crate) fn plant_type(&mut self, node: TypeNode) -> VastDataType
-        requires children { TypeChildrenHold (OwnsExpr (bench self.old)) (OwnsType (bench self.old)) node }
-        requires fits { TypeFits (type_tree (bench self.old).nodes node) }
-        requires room { 0 < room self.old }
-        ensures handle { result ≡ next_type (bench self.old) }
-        ensures after { bench self.new ≡ with_type (bench self.old) (type_tree (bench self.old).nodes node) }
-        ensures room { room self.old ≤ room self.new + 1 }
-    {
-        let file_id = self.id();
-        let index = self.plant(Term::DataType(node));
-        VastDataType {
-            id: Id { file_id, index },
-        }
+        self.grow(
+            Place::Nowhere,
+            Arrivals {
+                terms,
+                node: Node::Nothing,
+                block: false,
+            },
+        )
     }
 
     pub(crate) fn node(&self, index: usize) -> Option<&Term>

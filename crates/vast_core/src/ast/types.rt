@@ -8,8 +8,9 @@ ghost use Rattle.vast_core.specs.Growth.{Builds, with_type, with_vector, next_ty
 ghost use Rattle.vast_core.specs.View.{bench};
 
 use crate::ast::Ast;
-use crate::handle::VastDataType;
-use crate::node::{ExprNode, TypeNode};
+use crate::ast::arrivals::Terms;
+use crate::handle::{Expr, VastDataType};
+use crate::node::{ExprNode, Term, TypeNode};
 use std::alloc::AllocError;
 
 impl Ast {
@@ -23,8 +24,11 @@ impl Ast {
         requires fits { TypeFits (type_tree (bench self.old).nodes node) }
         ensures { Builds (bench self.old) (bench self.new) result (next_type (bench self.old)) (with_type (bench self.old) (type_tree (bench self.old).nodes node)) }
     {
-        self.reserve_terms(1)?;
-        Ok(self.plant_type(node))
+        let data_type = VastDataType {
+            id: self.next_term(),
+        };
+        self.grow_terms(Terms::One(Term::DataType(node)))?;
+        Ok(data_type)
     }
 
     /// Adds a vector of `bits` bits, and before it the literal of its width.
@@ -37,8 +41,16 @@ impl Ast {
         ensures { Builds (bench self.old) (bench self.new) result (next_vector bits (bench self.old)) (with_vector bits signed (bench self.old)) }
     {
         let text = format!(in self.alloc; "{bits}")?;
-        self.reserve_terms(2)?;
-        let width = self.plant_expr(ExprNode::Literal(text, Some(bits)));
-        Ok(self.plant_type(TypeNode::Vector(width, Some(bits), signed)))
+        let width = Expr {
+            id: self.next_term(),
+        };
+        let vector = VastDataType {
+            id: self.second_term(),
+        };
+        self.grow_terms(Terms::Two(
+            Term::Expression(ExprNode::Literal(text, Some(bits))),
+            Term::DataType(TypeNode::Vector(width, Some(bits), signed)),
+        ))?;
+        Ok(vector)
     }
 }

@@ -10,7 +10,8 @@ ghost use Rattle.vast_core.specs.Functions.{with_listed_variable, with_variable}
 ghost use Rattle.vast_core.specs.View.{bench};
 
 use crate::ast::Ast;
-use crate::ast::growth::{Arrivals, Place};
+use crate::ast::arrivals::{Arrivals, Node, Terms};
+use crate::ast::growth::Place;
 use crate::handle::{LogicRef, VastDataType, VastFunction};
 use crate::kind::DataKind;
 use crate::node::{ExprNode, Function, FunctionVariable, Term};
@@ -102,8 +103,9 @@ impl Ast {
                 },
             ),
             Arrivals {
-                term: Some(Term::Expression(ExprNode::Name(node_name, Some(data_type)))),
-                ..Arrivals::none()
+                terms: Terms::One(Term::Expression(ExprNode::Name(node_name, Some(data_type)))),
+                node: Node::Nothing,
+                block: false,
             },
         )?;
         Ok(logic_ref)

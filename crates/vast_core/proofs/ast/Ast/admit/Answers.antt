@@ -1,6 +1,6 @@
 -- proofs/ast/Ast/admit/Answers.antt
-use Rattle.std.proofs.Common.{refl, ap, map, ◌∙◌}
-use Rattle.vast_core.specs.Containers.{listed_spare}
+use Rattle.std.proofs.Common.{refl, ap, ◌∙◌}
+use Rattle.vast_core.specs.Containers.{listed_spare, spare_left}
 use Rattle.vast_core.specs.Arrivals.{listing_of, fresh_of}
 use Rattle.vast_core.proofs.Terms.{refused}
 use Rattle.vast_core.proofs.Growing.{growth-there, bench-still, sound-still, admitted, bench-grown, sound-grown}
@@ -53,18 +53,20 @@ returns-in_err-enter c =
 pub invariant_of-self-2 : goal.invariant_of-self-2
 invariant_of-self-2 c =
     let there = growth-there c.args.self.now _ (listing_of c.args.place) (fresh_of c.args.arrivals) c.self.view_is c.requires.sound in
+    let n = c.settle_node.ensures in
     sound-grown c.args.self.now _ _ (listing_of c.args.place) (fresh_of c.args.arrivals) c.self.view_is
-    (admitted _ _ (listing_of c.args.place) c.args.arrivals _ _ _ _ there refl refl c.settle.ensures.items c.settle-2.ensures.items c.in_ok-enter.ensures.nests c.settle-3.ensures.items c.settle_block.ensures c.settle-4.ensures.items
-    c.in_ok-enter.ensures.modules c.settle-5.ensures.items c.in_ok-enter.ensures.functions c.settle-6.ensures.items c.settle-7.ensures.items c.settle-8.ensures.items c.settle-9.ensures.items c.settle-10.ensures.items c.in_ok-enter.ensures.items
-    (c.in_ok-enter.ensures.spare ∙ ap (listed_spare (listing_of c.args.place)) c.spare_left-spare.ensures))
+    (admitted _ _ (listing_of c.args.place) c.args.arrivals _ _ _ _ there refl refl c.settle_terms.ensures n.assignments c.in_ok-enter.ensures.nests n.nests c.settle_block.ensures n.ports
+    c.in_ok-enter.ensures.modules n.modules c.in_ok-enter.ensures.functions n.functions n.definitions n.artifacts n.instances n.always_blocks c.in_ok-enter.ensures.items
+    (c.in_ok-enter.ensures.spare ∙ ap (listed_spare (listing_of c.args.place)) (c.spare_left-spare.ensures ∙ ap (λ t. spare_left t c.self.inside.spare) c.takes_spare.ensures)))
     c.self.invariant c.requires.sound
 
 pub returns : goal.returns
 returns c =
-    let there = growth-there c.args.self.now _ (listing_of c.args.place) (fresh_of c.args.arrivals) c.self.view_is c.requires.sound in (
+    let there = growth-there c.args.self.now _ (listing_of c.args.place) (fresh_of c.args.arrivals) c.self.view_is c.requires.sound in
+    let n = c.settle_node.ensures in (
       refl,
       bench-grown c.args.self.now _ _ (listing_of c.args.place) (fresh_of c.args.arrivals) c.self.view_is
-          (admitted _ _ (listing_of c.args.place) c.args.arrivals _ _ _ _ there refl refl c.settle.ensures.items c.settle-2.ensures.items c.in_ok-enter.ensures.nests c.settle-3.ensures.items c.settle_block.ensures c.settle-4.ensures.items
-          c.in_ok-enter.ensures.modules c.settle-5.ensures.items c.in_ok-enter.ensures.functions c.settle-6.ensures.items c.settle-7.ensures.items c.settle-8.ensures.items c.settle-9.ensures.items c.settle-10.ensures.items c.in_ok-enter.ensures.items
-          (c.in_ok-enter.ensures.spare ∙ ap (listed_spare (listing_of c.args.place)) c.spare_left-spare.ensures)),
+          (admitted _ _ (listing_of c.args.place) c.args.arrivals _ _ _ _ there refl refl c.settle_terms.ensures n.assignments c.in_ok-enter.ensures.nests n.nests c.settle_block.ensures n.ports
+    c.in_ok-enter.ensures.modules n.modules c.in_ok-enter.ensures.functions n.functions n.definitions n.artifacts n.instances n.always_blocks c.in_ok-enter.ensures.items
+    (c.in_ok-enter.ensures.spare ∙ ap (listed_spare (listing_of c.args.place)) (c.spare_left-spare.ensures ∙ ap (λ t. spare_left t c.self.inside.spare) c.takes_spare.ensures))),
     )

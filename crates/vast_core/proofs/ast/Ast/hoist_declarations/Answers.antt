@@ -1,7 +1,6 @@
 use Rattle.std.proofs.Common.{◌<◌, length, rules, refl}
 use Rattle.vast_core.specs.Records.{module_record}
 use Rattle.vast_core.specs.Hoisting.{with_members_hoisted}
-use Rattle.vast_core.specs.View.{bench}
 use Rattle.vast_core.proofs.Lists.{changed-map, unchanged-map}
 use Rattle.vast_core.proofs.Readers.{module-below, module-there}
 use Rattle.vast_core.proofs.Terms.{refused}

@@ -7,5 +7,5 @@ use Rattle.vast_core.proofs.ast.Ast.push_always_ff_over.Goals as goal
 
 pub grow_in-requires : goal.grow_in-requires
 grow_in-requires c =
-    rw (c.none.ensures, c.next_always_block.ensures) (always_over-enters (bench c.args.self.now) c.args.scope AlwaysFF c.args.events.items c.args.block c.requires.scope c.requires.events
+    rw c.next_always_block.ensures (always_over-enters (bench c.args.self.now) c.args.scope AlwaysFF c.args.events.items c.args.block c.requires.scope c.requires.events
     (spare-owned (bench c.args.self.now) c.args.block c.file_is_sound.ensures c.requires.spare) c.requires.spare c.requires.older)

@@ -12,7 +12,7 @@ grow-requires c =
     let names : map string_bytes c.insert.new.self.keys ≡ string_bytes c.in_ok-own_name.own_name ∷ [] = alone ∙ ap (λ name. name ∷ []) own in
     let named : string_bytes c.in_ok-own_name.own_name ≡ c.args.name.now = search rules in
     let taken : string_bytes c.in_ok-taken.taken ≡ string_bytes c.in_ok-own_name.own_name = search rules in
-    rw c.none.ensures (function-enters-as (bench c.args.self.now) c.args.owner (record { id = c.next_function.result }) c.in_ok-variable.variable (string_bytes c.in_ok-taken.taken) (string_bytes c.in_ok-own_name.own_name) c.args.result_type
+    (function-enters-as (bench c.args.self.now) c.args.owner (record { id = c.next_function.result }) c.in_ok-variable.variable (string_bytes c.in_ok-taken.taken) (string_bytes c.in_ok-own_name.own_name) c.args.result_type
     (record { id = c.next_term.result }) (map variable_record c.new.result.items) (map variable_record c.new-2.result.items) (record { id = c.next_nest.result }) (map string_bytes c.insert.new.self.keys)
     (rw c.next_function.ensures refl) (rw c.next_term.ensures refl) (rw c.new.ensures.items refl) (rw c.new-2.ensures.items refl) (rw c.next_nest.ensures.id refl) names taken c.requires.owner c.requires.result_type (rw named c.requires.free))
 
@@ -25,7 +25,7 @@ returns c =
     let alone : map string_bytes c.insert.new.self.keys ≡ string_bytes c.in_ok-result_name.result_name ∷ [] = rw (c.in_ok-insert.ensures.keys, c.new-names.ensures.empty) refl in (
       rw c.next_function.ensures refl,
       c.in_ok-grow.ensures.1
-          ∙ rw c.none.ensures (function-grown (bench c.args.self.now) c.args.owner (record { id = c.next_function.result }) c.in_ok-variable.variable c.args.name.now (string_bytes c.in_ok-taken.taken) (string_bytes c.in_ok-own_name.own_name) c.args.result_type
+          ∙ (function-grown (bench c.args.self.now) c.args.owner (record { id = c.next_function.result }) c.in_ok-variable.variable c.args.name.now (string_bytes c.in_ok-taken.taken) (string_bytes c.in_ok-own_name.own_name) c.args.result_type
           (record { id = c.next_term.result }) (map variable_record c.new.result.items) (map variable_record c.new-2.result.items) (record { id = c.next_nest.result }) (map string_bytes c.insert.new.self.keys)
           (rw c.next_function.ensures refl) (rw c.next_term.ensures refl) (rw c.new.ensures.items refl) (rw c.new-2.ensures.items refl) (rw c.next_nest.ensures.id refl) (alone ∙ ap (λ name. name ∷ []) first) taken own variable),
     )

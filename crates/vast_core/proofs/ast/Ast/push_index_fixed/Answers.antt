@@ -1,10 +1,13 @@
-use Rattle.std.proofs.Common.{◌≡◌, rules, string_bytes, to_z, of_z, w64}
-use Rattle.vast_core.proofs.Fixed.{fixed-index}
+use Rattle.std.proofs.Common.{◌≡◌, ◌∙◌, rules, string_bytes, to_z, of_z, w64, refl}
+use Rattle.vast_core.specs.Growth.{known_literal}
+use Rattle.vast_core.specs.View.{bench}
+use Rattle.vast_core.proofs.Fixed.{second_id, fixed-index}
 use Rattle.vast_core.proofs.ast.Ast.push_index_fixed.Goals as goal
 
 pub returns : goal.returns
 returns c =
     let text : string_bytes c.in_ok-text.text ≡ c.args.text.now = search rules in
-    let index : to_z w64 (of_z w64 c.args.index) ≡ c.args.index = search rules in
-    fixed-index _ _ _ _ c.args.subject c.args.text.now _ c.args.index _ _ _ _ c.requires.subject c.reserve_terms.ensures.unchanged text index
-    c.plant_expr-index.ensures.handle c.plant_expr-index.ensures.after c.to_expr.ensures c.plant_expr-select.ensures.handle c.plant_expr-select.ensures.after
+    let index : to_z w64 (of_z w64 c.args.index) ≡ c.args.index = search rules in (
+      rw (c.second_term.ensures, second_id (bench c.args.self.now) (known_literal c.args.text.now c.args.index)) refl,
+      c.in_ok-grow_terms.ensures.1 ∙ fixed-index (bench c.args.self.now) c.args.subject c.args.text.now _ c.args.index _ _ _ c.requires.subject text index (rw c.next_term.ensures refl) c.to_expr.ensures,
+    )

@@ -10,7 +10,7 @@ use Rattle.vast_core.proofs.ast.Ast.push_instantiation.Goals as goal
 
 pub grow-requires : goal.grow-requires
 grow-requires c =
-    rw c.none.ensures (instance-stands (bench c.args.self.now) (record { module_name = string_bytes c.in_ok-module_name.module_name; instance_name = string_bytes c.in_ok-instance_name.instance_name; parameters = map connection_record c.args.parameters.items; connections = map connection_record c.args.connections.items })
+    (instance-stands (bench c.args.self.now) (record { module_name = string_bytes c.in_ok-module_name.module_name; instance_name = string_bytes c.in_ok-instance_name.instance_name; parameters = map connection_record c.args.parameters.items; connections = map connection_record c.args.connections.items })
     (record {
       parameters = Each-All connection_record (ConnectionSound (bench c.args.self.now)) c.args.parameters.items c.requires.parameters;
       connections = Each-All connection_record (ConnectionSound (bench c.args.self.now)) c.args.connections.items c.requires.connections;

@@ -9,11 +9,11 @@ use Rattle.vast_core.proofs.ast.Ast.push_parameter_member.Goals as goal
 pub grow_in-requires : goal.grow_in-requires
 grow_in-requires c =
     let d : IsDeclaredBy (bench c.args.self.now) (form_entry c.args.form) (c.in_ok-name.name, c.in_ok-name.data_type) = c.in_ok-name.ensures in
-    rw c.none.ensures (parameter-enters (bench c.args.self.now) c.args.scope c.args.local (form_entry c.args.form) c.args.value c.in_ok-name.name c.in_ok-name.data_type c.requires.scope c.requires.form c.requires.value d.1)
+    (parameter-enters (bench c.args.self.now) c.args.scope c.args.local (form_entry c.args.form) c.args.value c.in_ok-name.name c.in_ok-name.data_type c.requires.scope c.requires.form c.requires.value d.1)
 
 pub returns : goal.returns
 returns c =
     let d : IsDeclaredBy (bench c.args.self.now) (form_entry c.args.form) (c.in_ok-name.name, c.in_ok-name.data_type) = c.in_ok-name.ensures in (
       rw c.next_term.ensures refl,
-      c.in_ok-grow_in.ensures.1 ∙ rw c.none.ensures (parameter-grown (bench c.args.self.now) c.args.scope c.args.local (form_entry c.args.form) c.args.value c.in_ok-name.name c.in_ok-name.data_type d),
+      c.in_ok-grow_in.ensures.1 ∙ (parameter-grown (bench c.args.self.now) c.args.scope c.args.local (form_entry c.args.form) c.args.value c.in_ok-name.name c.in_ok-name.data_type d),
     )

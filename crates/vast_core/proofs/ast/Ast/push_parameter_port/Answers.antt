@@ -6,4 +6,4 @@ use Rattle.vast_core.proofs.ast.Ast.push_parameter_port.Goals as goal
 
 pub grow-requires : goal.grow-requires
 grow-requires c =
-    rw c.none.ensures (header-enters (bench c.args.self.now) c.args.owner (parameter_port_record (record { name = c.in_ok-port_name.port_name; data_type = c.args.data_type; value = c.args.value })) c.in_ok-node_name.node_name c.args.data_type c.requires.owner c.requires.data_type c.requires.value c.requires.data_type)
+    (header-enters (bench c.args.self.now) c.args.owner (parameter_port_record (record { name = c.in_ok-port_name.port_name; data_type = c.args.data_type; value = c.args.value })) c.in_ok-node_name.node_name c.args.data_type c.requires.owner c.requires.data_type c.requires.value c.requires.data_type)

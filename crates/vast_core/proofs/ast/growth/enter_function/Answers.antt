@@ -1,5 +1,4 @@
 -- proofs/ast/growth/enter_function/Answers.antt
-use Rattle.std.proofs.Common.{string_bytes}
 use Rattle.std.proofs.lemmas.Result.{on_ok_weaker, on_err_weaker}
 use Rattle.vast_core.specs.Nests.{function_record, variable_record}
 use Rattle.vast_core.specs.Functions.{with_listed_variable}

@@ -1,5 +1,4 @@
 -- proofs/ast/growth/enter_header/Answers.antt
-use Rattle.std.proofs.Common.{string_bytes}
 use Rattle.std.proofs.lemmas.Result.{on_ok_weaker, on_err_weaker}
 use Rattle.vast_core.specs.Records.{module_record, parameter_port_record, with_parameter_port}
 use Rattle.vast_core.proofs.Lists.{changed-map, unchanged-map}
