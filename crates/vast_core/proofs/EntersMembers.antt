@@ -1,32 +1,26 @@
 -- What calls that add always blocks, loops, conditionals and functions know: what comes, and the member that names it,
 -- are the file's.
-use Rattle.std.proofs.Common.{◌≡◌, ℕ, suc, true, false, List, [], ◌∷◌, length, Option, Some, None, All, String, string_bytes, refl, ap, arith, length-append}
+use Rattle.std.proofs.Common.{◌≡◌, ℕ, suc, false, List, [], ◌∷◌, length, Option, Some, All, String, string_bytes, refl, arith, length-append}
 use Rattle.std.specs.declared.alloc.Global.{Global}
 use Rattle.vast_literal.specs.Tree.{NameTree, MaybeType, Untyped, Typed}
 use Rattle.vast_core.specs.declared.handle.Expr.{Expr}
 use Rattle.vast_core.specs.declared.handle.VastModule.{VastModule}
 use Rattle.vast_core.specs.declared.handle.VastDataType.{VastDataType}
-use Rattle.vast_core.specs.declared.handle.GenerateLoop.{GenerateLoop}
 use Rattle.vast_core.specs.declared.handle.LogicRef.{LogicRef}
 use Rattle.vast_core.specs.declared.handle.VastFunction.{VastFunction}
 use Rattle.vast_core.specs.declared.handle.VastStatementBlock.{VastStatementBlock}
 use Rattle.vast_core.specs.declared.kind.AlwaysKind.{AlwaysKind}
-use Rattle.vast_core.specs.Handles.{loop_index}
 use Rattle.vast_core.specs.Nodes.{Root, ExprRoot, OptionHolds, with_root as with_node}
-use Rattle.vast_core.specs.Records.{FormEntry, MemberEntry, AssignmentEntry, ParameterEntry, AlwaysEntry, LoopEntry, ConditionalEntry, FunctionEntry}
-use Rattle.vast_core.specs.Nests.{BlockRecord, RepeatRecord, VariableRecord}
+use Rattle.vast_core.specs.Records.{FunctionEntry}
+use Rattle.vast_core.specs.Nests.{BlockRecord, VariableRecord}
 use Rattle.vast_core.specs.Bench.{Bench, NameIsFree, OwnsExpr, OwnsType, OwnsBlock, OwnsModule, OwnsLoop, OwnsAlways, OwnsFunction, OwnsLogicRef, OwnsContinuous, type_of}
-use Rattle.vast_core.specs.Growth.{with_member, with_named_member, next_logic_ref, next_continuous, with_assignment}
-use Rattle.vast_core.specs.Parents.{held_by_member}
-use Rattle.vast_core.specs.Sound.{Each, FormSound, EventSound, MemberSound, MemberNewer}
-use Rattle.vast_core.specs.Containers.{Fresh, with_listing, after_growth, InModule, InNest, with_fresh, MemberEnters, GrowthSound, FreshSound, no_fresh, fresh_assignment, fresh_container, next_block, next_conditional, new_conditional}
-use Rattle.vast_core.specs.Loops.{with_loop, with_function, next_always, next_loop, next_function, new_always, with_always, fresh_always, new_loop, fresh_name, fresh_loop, new_function, fresh_function}
+use Rattle.vast_core.specs.Growth.{with_named_member, next_logic_ref, next_continuous, with_assignment}
+use Rattle.vast_core.specs.Sound.{Each, EventSound}
+use Rattle.vast_core.specs.Containers.{after_growth, InModule, with_fresh, GrowthSound, FreshSound, next_block}
+use Rattle.vast_core.specs.Loops.{with_function, next_always, next_loop, next_function, new_always, with_always, fresh_always, new_loop, fresh_name, fresh_loop, new_function, fresh_function}
 use Rattle.vast_core.proofs.Lists.{slice_get-seam}
 use Rattle.vast_core.proofs.NodeLaws.{Extends-root, HasExpr-kept, HasType-kept}
-use Rattle.vast_core.proofs.Sound.{MemberSound-kept}
-use Rattle.vast_core.proofs.Growing.{Grows-fresh}
 use Rattle.vast_core.proofs.Terms.{last-test}
-use Rattle.vast_core.proofs.Enters.{loop-place, conditional-comes, next_conditional_owned}
 
 pub Each-own : {A : Type 0} (P : A → Type 0) (xs : List A) → All P xs → Each P xs
 Each-own P [] h = tt

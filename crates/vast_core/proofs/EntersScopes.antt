@@ -1,7 +1,6 @@
 -- What calls know that add a member to a scope: what comes, and the entry that names it, are the file's.
-use Rattle.std.proofs.Common.{◌≡◌, ℕ, ◌<◌, Bool, true, false, List, [], ◌∷◌, ◌++◌, length, Option, Some, None, All, String, string_bytes, refl, ap}
+use Rattle.std.proofs.Common.{◌≡◌, ℕ, ◌<◌, Bool, true, false, List, [], ◌++◌, length, Option, Some, All, String, string_bytes, refl, ap}
 use Rattle.std.specs.declared.alloc.Global.{Global}
-use Rattle.vast_literal.specs.Tree.{NameTree}
 use Rattle.vast_core.specs.declared.ast.scope.Scope.{Scope}
 use Rattle.vast_core.specs.declared.ast.scope.Scope.TheVariants.{Module as ScopeModule, Loop as ScopeLoop}
 use Rattle.vast_core.specs.declared.handle.Expr.{Expr}
@@ -10,8 +9,8 @@ use Rattle.vast_core.specs.declared.handle.GenerateLoop.{GenerateLoop}
 use Rattle.vast_core.specs.declared.handle.VastDataType.{VastDataType}
 use Rattle.vast_core.specs.declared.handle.VastStatementBlock.{VastStatementBlock}
 use Rattle.vast_core.specs.declared.kind.AlwaysKind.{AlwaysKind}
-use Rattle.vast_core.specs.Handles.{loop_index, block_index}
-use Rattle.vast_core.specs.Nodes.{OptionHolds, maybe_type_in}
+use Rattle.vast_core.specs.Handles.{loop_index}
+use Rattle.vast_core.specs.Nodes.{OptionHolds}
 use Rattle.vast_core.specs.Records.{MemberEntry, DeclarationEntry, AssignmentEntry, ParameterEntry, BlankEntry, CommentEntry, InlineEntry, MacroEntry, InstanceEntry, FunctionEntry, AlwaysEntry, ConditionalEntry, LoopEntry, FormEntry}
 use Rattle.vast_core.specs.Nests.{RepeatRecord, FunctionRecord}
 use Rattle.vast_core.specs.Bench.{Bench, OwnsExpr, OwnsType, OwnsBlock}
@@ -20,8 +19,8 @@ use Rattle.vast_core.specs.Parents.{held_by_member}
 use Rattle.vast_core.specs.WrittenKinds.{HasOwnKind}
 use Rattle.vast_core.specs.Sound.{EventSound, FormSound, MemberSound, MemberNewer}
 use Rattle.vast_core.specs.Growth.{next_logic_ref, next_continuous, with_expr}
-use Rattle.vast_core.specs.Parameters.{IsDeclaredBy, form_name}
-use Rattle.vast_core.specs.Containers.{Fresh, FreshSound, GrowthSound, InModule, InNest, MemberEnters, with_fresh, with_listing, after_growth, no_fresh, fresh_assignment, fresh_container, next_conditional, new_conditional, made, held_by_fresh, spare_taken}
+use Rattle.vast_core.specs.Parameters.{IsDeclaredBy}
+use Rattle.vast_core.specs.Containers.{Fresh, FreshSound, GrowthSound, with_fresh, after_growth, no_fresh, fresh_assignment, fresh_container, next_conditional, new_conditional, made, held_by_fresh, spare_taken}
 use Rattle.vast_core.specs.Loops.{next_always, next_loop, new_always, fresh_always, new_loop, fresh_loop, fresh_name, with_loop}
 use Rattle.vast_core.specs.Unattached.{always_over}
 use Rattle.vast_core.specs.Scopes.{OwnsScope, IsShared, IsOlder, listing_in, with_scope_member, with_scope_parameter}

@@ -1,7 +1,7 @@
 -- Expressions and types by numbers: their literals come before them.
 use Rattle.std.proofs.Common.{◌≡◌, ◌∙◌, sym, ℕ, ℤ, ◌+◌, Bool, List, [], ◌∷◌, ◌++◌, length, Some, All, refl, ap, arith, length-append}
 use Rattle.std.specs.Fmt.{signed_decimal}
-use Rattle.vast_literal.specs.Tree.{ExprTree, LiteralTree, IndexTree, SliceTree, ConcatTree, VectorTree, SomeExpr}
+use Rattle.vast_literal.specs.Tree.{ExprTree, IndexTree, SliceTree, ConcatTree, VectorTree, SomeExpr}
 use Rattle.vast_core.specs.declared.handle.Id.{Id}
 use Rattle.vast_core.specs.declared.handle.Expr.{Expr}
 use Rattle.vast_core.specs.declared.handle.IndexableExpr.{IndexableExpr}

@@ -1,5 +1,5 @@
 -- The names that modules declare stay distinct, and are those that are taken, whatever grows.
-use Rattle.std.proofs.Common.{◌≡◌, ◌≢◌, ◌↔◌, ℕ, zero, suc, ◌+◌, ◌<◌, ◌≤◌, Bool, true, false, IsTrue, nat_lt, List, [], ◌∷◌, ◌++◌, length, flat_map, count_by, Option, Some, None, slice_get, refl, sym, ap, ◌∙◌, arith, All}
+use Rattle.std.proofs.Common.{◌≡◌, ◌≢◌, ℕ, zero, suc, ◌+◌, ◌<◌, ◌≤◌, Bool, true, false, IsTrue, nat_lt, List, [], ◌∷◌, ◌++◌, length, flat_map, Option, Some, None, slice_get, refl, sym, ap, ◌∙◌, arith}
 use Rattle.std.specs.declared.cmp.Ordering.{Ordering}
 use Rattle.std.specs.declared.cmp.Ordering.TheVariants.{Less, Equal, Greater}
 use Rattle.std.specs.Ordering.{nat_cmp}
@@ -10,17 +10,16 @@ use Rattle.vast_core.specs.declared.handle.ModulePort.{ModulePort}
 use Rattle.vast_core.specs.declared.handle.VastModule.{VastModule}
 use Rattle.vast_core.specs.Handles.{module_index, function_index, port_index}
 use Rattle.vast_core.specs.Nodes.{OptionHolds}
-use Rattle.vast_core.specs.Records.{PortRecord, ModuleRecord, MemberEntry, DeclarationEntry, AssignmentEntry, ParameterEntry, BlankEntry, CommentEntry, InlineEntry, MacroEntry, InstanceEntry, FunctionEntry, AlwaysEntry, ConditionalEntry, LoopEntry, IsFree, with_name, changed_at, with_port, with_member, with_named_member, with_parameter_port}
+use Rattle.vast_core.specs.Records.{PortRecord, ModuleRecord, MemberEntry, DeclarationEntry, AssignmentEntry, ParameterEntry, BlankEntry, CommentEntry, InlineEntry, MacroEntry, InstanceEntry, FunctionEntry, AlwaysEntry, ConditionalEntry, LoopEntry, IsFree, with_name, changed_at, with_port, with_named_member, with_parameter_port}
 use Rattle.vast_core.specs.Nests.{VariableRecord, FunctionRecord}
-use Rattle.vast_core.specs.Bench.{Bench, OwnsPort, names_of, NameIsFree}
+use Rattle.vast_core.specs.Bench.{Bench, OwnsPort, names_of}
 use Rattle.vast_core.specs.Functions.{with_listed_variable}
 use Rattle.vast_core.specs.Hoisting.{with_members_hoisted, with_hoisted}
 use Rattle.vast_core.specs.DeclaredNames.{name_of_port, name_of_function, names_by_port, names_by_member, names_declared, times, NamesSound}
 use Rattle.vast_core.specs.Sound.{AreDistinct, Each, MemberSound, ModuleSound, RecordsSound, NamesAreSound}
-use Rattle.vast_core.specs.Containers.{Listing, Nowhere, InFile, InHeader, InPorts, InModule, InFunction, InNest, AsSpare, with_listed, listed_name, with_listing, added, Fresh, with_fresh, after_growth, ListingSound}
-use Rattle.vast_core.proofs.Lists.{All-cons, All-head, All-tail, Each-map, Each-push, Each-changed_at, Each-changed_there}
+use Rattle.vast_core.specs.Containers.{Listing, Nowhere, InFile, InHeader, InPorts, InModule, InFunction, InNest, AsSpare, with_listed, listed_name, with_listing, added, Fresh, with_fresh, ListingSound}
+use Rattle.vast_core.proofs.Lists.{All-cons, All-head, All-tail, Each-push, Each-changed_at, Each-changed_there}
 use Rattle.vast_core.proofs.Names.{test-equal}
-use Rattle.std.proofs.lemmas.Map.Text.{is_eq-slice_cmp}
 use Rattle.vast_core.proofs.Nests.{get-before}
 use Rattle.vast_core.proofs.Counts.{count-append, over-push, over-hoisted}
 

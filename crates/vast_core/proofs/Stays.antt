@@ -1,5 +1,5 @@
 -- What was a file's stays the file's, with the tree that it had, as the file grows: one lemma for each kind of handle.
-use Rattle.std.proofs.Common.{◌≡◌, ℕ, zero, suc, ◌<◌, ◌≤◌, Bool, true, false, IsTrue, List, [], ◌∷◌, length, nat_lt, Option, Some, None, slice_get, refl, sym, ◌∙◌, arith}
+use Rattle.std.proofs.Common.{◌≡◌, ℕ, zero, suc, ◌<◌, Bool, true, false, IsTrue, List, [], ◌∷◌, length, Some, slice_get, refl, sym, ◌∙◌, arith}
 use Rattle.vast_core.specs.declared.handle.Expr.{Expr}
 use Rattle.vast_core.specs.declared.handle.IndexableExpr.{IndexableExpr}
 use Rattle.vast_core.specs.declared.handle.Index.{Index}
@@ -26,12 +26,11 @@ use Rattle.vast_core.specs.declared.handle.Conditional.{Conditional}
 use Rattle.vast_core.specs.declared.handle.CaseStatement.{CaseStatement}
 use Rattle.vast_core.specs.declared.handle.GenerateLoop.{GenerateLoop}
 use Rattle.vast_core.specs.declared.handle.Id.{Id}
-use Rattle.vast_core.specs.declared.node.Assignment.{Assignment}
 use Rattle.vast_literal.specs.Tree.{ExprTree}
 use Rattle.vast_core.specs.Nodes.{Nodes, IsOwned, is_root_of, is_name, is_index, is_slice, is_macro}
 use Rattle.vast_core.specs.Nests.{NestRecord, BlockRecord, BranchRecord, SwitchRecord, RepeatRecord, NestKind, NoKind, nest_kind, is_block_kind, is_conditional_kind, is_case_kind, is_loop_kind}
 use Rattle.vast_core.specs.Bench.{Bench, OwnsExpr, OwnsIndexable, OwnsType, OwnsLogicRef, OwnsParameterRef, OwnsLocalparamRef, OwnsIndex, OwnsSlice, OwnsMacroRef, OwnsModule, OwnsPort, OwnsFunction, OwnsInstantiation, OwnsAlways, OwnsDef, OwnsStatement, OwnsContinuous, OwnsBlankLine, OwnsComment, OwnsInline, OwnsMacroStatement, OwnsBlock, OwnsConditional, OwnsCase, OwnsLoop, is_continuous, is_blank_line, is_comment, is_inline, is_macro_statement, tree_of, type_of}
-use Rattle.vast_core.specs.Containers.{Listing, Fresh, with_fresh, with_listing, after_growth}
+use Rattle.vast_core.specs.Containers.{Listing, Fresh, with_fresh, after_growth}
 use Rattle.vast_core.proofs.NodeLaws.{HasExpr-kept, HasType-kept, shape-kept, expr_in-kept, type_in-kept, Extends}
 use Rattle.vast_core.proofs.Nests.{kind-there}
 use Rattle.vast_core.proofs.Sound.{Grows, index-kept, artifact-kept, nest-kept, found-kept, test-kept, never}

@@ -1,26 +1,19 @@
 -- What calls know that make a block which nothing holds, and that put an always block over it.
-use Rattle.std.proofs.Common.{true, ◌≡◌, ℕ, suc, ◌<◌, false, List, [], ◌∷◌, ◌++◌, length, map, Option, Some, None, All, refl, ap, ◌∙◌, arith, length-append, subst}
-use Rattle.std.proofs.lemmas.List.{map-append}
+use Rattle.std.proofs.Common.{true, ◌≡◌, suc, List, [], ◌∷◌, length, Option, Some, All, refl, arith, length-append, subst}
 use Rattle.vast_core.specs.declared.handle.Expr.{Expr}
-use Rattle.vast_core.specs.declared.handle.VastModule.{VastModule}
-use Rattle.vast_core.specs.declared.handle.GenerateLoop.{GenerateLoop}
 use Rattle.vast_core.specs.declared.handle.VastStatementBlock.{VastStatementBlock}
 use Rattle.vast_core.specs.declared.kind.AlwaysKind.{AlwaysKind}
-use Rattle.vast_core.specs.declared.node.Nest.{Nest}
 use Rattle.vast_core.specs.Nodes.{OptionHolds}
 use Rattle.vast_core.specs.Raw.{Raw}
-use Rattle.vast_core.specs.Handles.{block_index, loop_index}
-use Rattle.vast_core.specs.Records.{AlwaysEntry}
-use Rattle.vast_core.specs.Nests.{BlockRecord, AlwaysRecord, nest_record}
-use Rattle.vast_core.specs.Bench.{Bench, OwnsModule, OwnsLoop, OwnsAlways, OwnsBlock}
+use Rattle.vast_core.specs.Nests.{AlwaysRecord}
+use Rattle.vast_core.specs.Bench.{Bench, OwnsAlways, OwnsBlock}
 use Rattle.vast_core.specs.View.{bench}
 use Rattle.vast_core.specs.Sound.{Each, EventSound, FileSound, IsSound}
-use Rattle.vast_core.specs.Containers.{InModule, InNest, AsSpare, MemberEnters, GrowthSound, Fresh, FreshSound, no_fresh, fresh_block, with_block, next_block}
+use Rattle.vast_core.specs.Containers.{AsSpare, GrowthSound, Fresh, FreshSound, no_fresh, fresh_block, with_block, next_block}
 use Rattle.vast_core.specs.Loops.{next_always}
 use Rattle.vast_core.specs.Unattached.{always_over, with_always_over}
-use Rattle.vast_core.proofs.Lists.{slice_get-seam}
 use Rattle.vast_core.proofs.Terms.{last-test}
-use Rattle.vast_core.proofs.Enters.{loop-place, a-block-comes, next_block_owned}
+use Rattle.vast_core.proofs.Enters.{a-block-comes, next_block_owned}
 
 pub spare-comes : (b : Bench) → GrowthSound b (AsSpare (next_block b)) fresh_block
 spare-comes b = record { fresh = a-block-comes b (with_block b); listing = next_block_owned b; placed = refl }

@@ -1,9 +1,9 @@
 -- What a file's records stand for is well formed: expressions, declarations, statements and members, over containers that are.
-use Rattle.std.proofs.Common.{◌≡◌, ℕ, zero, suc, Bool, true, false, IsTrue, List, [], ◌∷◌, length, nat_lt, map, Option, Some, None, slice_get, refl}
+use Rattle.std.proofs.Common.{◌≡◌, ℕ, zero, suc, true, IsTrue, List, [], ◌∷◌, Option, Some, None, slice_get, refl}
 use Rattle.std.specs.Cmp.Derive.{both_true}
 use Rattle.vast_literal.specs.Tree.{ExprTree, NameTree, LiteralTree, StringTree, UnaryTree, BinaryTree, TernaryTree, IndexTree, SliceTree, PartSelectTree, ConcatTree, PatternTree, WidthCastTree, TypeCastTree, PosEdgeTree, NegEdgeTree, MacroTree, CallTree, MissingExpr}
 use Rattle.vast_literal.specs.WellFormed.{is_well_formed, is_well_formed_type}
-use Rattle.vast_literal.specs.WellFormedFile.{is_well_formed_maybe, is_macro, is_well_formed_statement, are_well_formed_statements, are_well_formed_alternates, are_well_formed_arms, is_well_formed_event, are_well_formed_events, is_well_formed_parameter_name, are_well_formed_connections, are_given, are_well_formed_inputs, are_well_formed_locals, is_well_formed_member, are_well_formed_members}
+use Rattle.vast_literal.specs.WellFormedFile.{is_well_formed_maybe, is_macro, is_well_formed_statement, are_well_formed_statements, are_well_formed_alternates, are_well_formed_arms, is_well_formed_event, are_well_formed_events, is_well_formed_member}
 use Rattle.vast_core.specs.declared.handle.Expr.{Expr}
 use Rattle.vast_core.specs.declared.handle.MacroRef.{MacroRef}
 use Rattle.vast_core.specs.declared.handle.VastDataType.{VastDataType}
@@ -11,14 +11,12 @@ use Rattle.vast_core.specs.declared.handle.VastStatementBlock.{VastStatementBloc
 use Rattle.vast_core.specs.declared.node.ElseIf.{ElseIf}
 use Rattle.vast_core.specs.declared.node.CaseArm.{CaseArm}
 use Rattle.vast_core.specs.declared.node.Assignment.{Assignment}
-use Rattle.vast_core.specs.Handles.{statement_index, continuous_index, comment_index, inline_index, macro_statement_index, instantiation_index, function_index, always_index, definition_index, block_index, conditional_index, case_index, loop_index, macro_ref_to_expr}
+use Rattle.vast_core.specs.Handles.{statement_index, block_index, conditional_index, case_index, macro_ref_to_expr}
 use Rattle.vast_core.specs.Nodes.{Root, ExprRoot, TypeRoot, OptionHolds, expr_in, expr_of_root, is_expr_root, is_root_of, is_macro as is_macro_root}
-use Rattle.vast_core.specs.Records.{MemberEntry, DeclarationEntry, AssignmentEntry, ParameterEntry, BlankEntry, CommentEntry, InlineEntry, MacroEntry, InstanceEntry, FunctionEntry, AlwaysEntry, ConditionalEntry, LoopEntry, FormEntry, PlainForm, IntForm, DefinedForm, DefinitionRecord, ArtifactRecord, BlankLineRecord, CommentRecord, InlineRecord, MacroRecord, ConnectionRecord, InstanceRecord}
-use Rattle.vast_core.specs.Nests.{StatementEntry, AssignStatement, ContinuousStatement, ConditionalStatement, CasesStatement, BlankStatement, CommentStatement, InlineStatement, NestRecord, BlockRecord, BranchRecord, SwitchRecord, RepeatRecord, VariableRecord, FunctionRecord, AlwaysRecord}
-use Rattle.vast_core.specs.Bench.{Bench, OwnsExpr, OwnsType, OwnsDef, OwnsMacroRef, AreWellFormed, tree_of, type_of, maybe_tree_of, trees_of}
-use Rattle.vast_core.specs.WrittenKinds.{IsGiven, HasOwnKind, HasLocalKind, HasValue}
-use Rattle.vast_core.specs.Sound.{Each, AssignmentSound, ArtifactSound, ConnectionSound, InstanceSound, FormSound, MemberSound, LoopMemberSound, MemberNewer, HoldsBlock, StatementSound, ElseIfSound, CaseArmSound, VariableSound, FunctionSound, EventSound, AlwaysSound, NestSound, RecordsSound, KindsSound, HasLocalKinds, GivesValues, is_event}
-use Rattle.vast_core.specs.FileTree.{Family, BlockFamily, BranchFamily, SwitchFamily, RepeatFamily, NoFamily, block_in, branch_statement, switch_statement, branch_member, repeat_member, assigned_tree, continuous_tree, form_of, statement_in, statements_in, otherwise_in, alternates_in, arms_in, definition_tree, form_tree, assignment_member, artifact_member, connection_tree, instance_member, always_in, variable_tree, function_in, member_in, members_in, family, unfolded}
+use Rattle.vast_core.specs.Nests.{StatementEntry, AssignStatement, ContinuousStatement, ConditionalStatement, CasesStatement, BlankStatement, CommentStatement, InlineStatement}
+use Rattle.vast_core.specs.Bench.{Bench, OwnsExpr, OwnsType, OwnsMacroRef, AreWellFormed, tree_of, type_of, maybe_tree_of, trees_of}
+use Rattle.vast_core.specs.Sound.{Each, AssignmentSound, ElseIfSound, CaseArmSound, EventSound, RecordsSound, is_event}
+use Rattle.vast_core.specs.FileTree.{Family, BlockFamily, BranchFamily, SwitchFamily, RepeatFamily, NoFamily, block_in, branch_statement, switch_statement, branch_member, repeat_member, assigned_tree, continuous_tree, statement_in, statements_in, otherwise_in, alternates_in, arms_in}
 use Rattle.vast_core.proofs.WellFormed.{well_formed, type_well_formed}
 
 -- What is read at a place of a list, if it is there.

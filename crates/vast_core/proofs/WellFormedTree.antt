@@ -2,7 +2,7 @@
 use Rattle.std.proofs.Common.{◌≡◌, ℕ, zero, suc, ◌<◌, true, IsTrue, List, [], ◌∷◌, length, nat_lt, map, arith, Option, Some, None, slice_get, refl}
 use Rattle.std.specs.Cmp.Derive.{both_true}
 use Rattle.vast_literal.specs.Tree.{FileItemTree}
-use Rattle.vast_literal.specs.WellFormed.{is_well_formed, is_well_formed_type}
+use Rattle.vast_literal.specs.WellFormed.{is_well_formed_type}
 use Rattle.vast_literal.specs.WellFormedFile.{is_well_formed_parameter_name, are_well_formed_connections, is_given, are_given, are_well_formed_inputs, are_well_formed_locals, is_well_formed_member, are_well_formed_members, are_well_formed_ports, is_well_formed_typed, are_well_formed_parameters, are_well_formed_items, is_well_formed_file}
 use Rattle.vast_core.specs.declared.handle.Expr.{Expr}
 use Rattle.vast_core.specs.declared.handle.ModulePort.{ModulePort}
@@ -10,14 +10,12 @@ use Rattle.vast_core.specs.declared.handle.VastDataType.{VastDataType}
 use Rattle.vast_core.specs.declared.node.Assignment.{Assignment}
 use Rattle.vast_core.specs.Handles.{module_index, port_index, continuous_index, comment_index, inline_index, macro_statement_index, instantiation_index, function_index, always_index, definition_index, block_index, conditional_index, loop_index}
 use Rattle.vast_core.specs.Nodes.{OptionHolds, maybe_type_in}
-use Rattle.vast_core.specs.Records.{PortRecord, ParameterPortRecord, ModuleRecord, MemberEntry, DeclarationEntry, AssignmentEntry, ParameterEntry, BlankEntry, CommentEntry, InlineEntry, MacroEntry, InstanceEntry, FunctionEntry, AlwaysEntry, ConditionalEntry, LoopEntry, FormEntry, PlainForm, IntForm, DefinedForm, FileEntry, ModuleEntry, IncludeEntry, FileCommentEntry, FileBlankEntry, DefinitionRecord, ArtifactRecord, BlankLineRecord, CommentRecord, InlineRecord, MacroRecord, ConnectionRecord, InstanceRecord}
+use Rattle.vast_core.specs.Records.{ParameterPortRecord, ModuleRecord, MemberEntry, DeclarationEntry, AssignmentEntry, ParameterEntry, BlankEntry, CommentEntry, InlineEntry, MacroEntry, InstanceEntry, FunctionEntry, AlwaysEntry, ConditionalEntry, LoopEntry, FormEntry, PlainForm, IntForm, DefinedForm, FileEntry, ModuleEntry, IncludeEntry, FileCommentEntry, FileBlankEntry, ArtifactRecord, BlankLineRecord, CommentRecord, InlineRecord, MacroRecord, ConnectionRecord, InstanceRecord}
 use Rattle.vast_core.specs.Nests.{NestRecord, BlockRecord, BranchRecord, SwitchRecord, RepeatRecord, VariableRecord, FunctionRecord, AlwaysRecord}
-use Rattle.vast_core.specs.Raw.{Raw}
-use Rattle.vast_core.specs.Bench.{Bench, OwnsExpr, OwnsType, OwnsPort, OwnsDef, AreWellFormed, maybe_tree_of}
-use Rattle.vast_core.specs.View.{bench}
+use Rattle.vast_core.specs.Bench.{Bench, OwnsExpr, OwnsType, OwnsPort, AreWellFormed, maybe_tree_of}
 use Rattle.vast_core.specs.WrittenKinds.{IsGiven, HasOwnKind, HasLocalKind, HasValue}
-use Rattle.vast_core.specs.Sound.{Each, PortSound, AssignmentSound, DefinitionSound, ArtifactSound, ConnectionSound, InstanceSound, FormSound, MemberSound, LoopMemberSound, MemberNewer, ParameterPortSound, ModuleSound, VariableSound, FunctionSound, AlwaysSound, NestSound, NestsSound, RecordsSound, KindsSound, DeclaresOwnKinds, HasLocalKinds, GivesValues, FileSound}
-use Rattle.vast_core.specs.FileTree.{Family, block_in, definition_tree, form_tree, assignment_member, artifact_member, connection_tree, instance_member, always_in, variable_tree, function_in, member_in, members_in, family, unfolded, families, maybe_port_tree, port_tree, parameter_port_tree, module_tree, maybe_module_tree, item_tree, tree}
+use Rattle.vast_core.specs.Sound.{Each, PortSound, AssignmentSound, DefinitionSound, ArtifactSound, ConnectionSound, InstanceSound, FormSound, MemberSound, LoopMemberSound, MemberNewer, ParameterPortSound, ModuleSound, VariableSound, FunctionSound, AlwaysSound, NestSound, NestsSound, RecordsSound, DeclaresOwnKinds, HasLocalKinds, GivesValues, FileSound}
+use Rattle.vast_core.specs.FileTree.{Family, definition_tree, form_tree, assignment_member, artifact_member, connection_tree, instance_member, always_in, variable_tree, function_in, member_in, members_in, family, unfolded, families, maybe_port_tree, port_tree, parameter_port_tree, maybe_module_tree, item_tree, tree}
 use Rattle.vast_core.proofs.WellFormedParts.{Each-read, expr-good, type-good, maybe-good, macro-is, macro-good, events-good, IsGood, block-good, branch_member-good, repeat_member-good, statements-good, alternates-good, arms-good}
 
 -- What a place of a list holds, where the place is in the list.

@@ -67,6 +67,6 @@ returns c =
       refl,
       bench-grown c.args.self.now _ _ (listing_of c.args.place) (fresh_of c.args.arrivals) c.self.view_is
           (admitted _ _ (listing_of c.args.place) c.args.arrivals _ _ _ _ there refl refl c.settle_terms.ensures n.assignments c.in_ok-enter.ensures.nests n.nests c.settle_block.ensures n.ports
-    c.in_ok-enter.ensures.modules n.modules c.in_ok-enter.ensures.functions n.functions n.definitions n.artifacts n.instances n.always_blocks c.in_ok-enter.ensures.items
-    (c.in_ok-enter.ensures.spare ∙ ap (listed_spare (listing_of c.args.place)) (c.spare_left-spare.ensures ∙ ap (λ t. spare_left t c.self.inside.spare) c.takes_spare.ensures))),
+          c.in_ok-enter.ensures.modules n.modules c.in_ok-enter.ensures.functions n.functions n.definitions n.artifacts n.instances n.always_blocks c.in_ok-enter.ensures.items
+          (c.in_ok-enter.ensures.spare ∙ ap (listed_spare (listing_of c.args.place)) (c.spare_left-spare.ensures ∙ ap (λ t. spare_left t c.self.inside.spare) c.takes_spare.ensures))),
     )

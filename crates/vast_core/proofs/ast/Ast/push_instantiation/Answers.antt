@@ -1,5 +1,5 @@
 -- proofs/ast/Ast/push_instantiation/Answers.antt
-use Rattle.std.proofs.Common.{refl, map, string_bytes}
+use Rattle.std.proofs.Common.{map, string_bytes}
 use Rattle.vast_core.specs.Records.{connection_record}
 use Rattle.vast_core.specs.Sound.{ConnectionSound}
 use Rattle.vast_core.specs.WrittenKinds.{HasValue}
