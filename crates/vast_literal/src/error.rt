@@ -29,7 +29,8 @@ pub enum VastFault {
     /// The call was refused; the text says why.
     #[error("{0}")]
     Refused(VastError),
-    /// A growth was refused. The file is as it was before the call.
+    /// A growth was refused. The file is as it was before the call; after a helper, which makes several calls, it may
+    /// hold nodes that nothing uses, and its text is the same.
     #[error("out of memory")]
     Memory(AllocError),
 }
