@@ -1,14 +1,14 @@
 -- What calls that grow a container know: what comes, and the entry that names it, are the file's.
 use Rattle.std.proofs.Common.{◌≡◌, suc, ◌<◌, true, false, List, [], ◌∷◌, ◌++◌, length, Option, Some, None, slice_get, refl, arith}
+use Rattle.std.specs.Prelude.{IfSome}
 use Rattle.vast_core.specs.declared.handle.Expr.{Expr}
 use Rattle.vast_core.specs.declared.handle.VastStatementBlock.{VastStatementBlock}
 use Rattle.vast_core.specs.declared.handle.Conditional.{Conditional}
 use Rattle.vast_core.specs.declared.handle.CaseStatement.{CaseStatement}
 use Rattle.vast_core.specs.declared.handle.GenerateLoop.{GenerateLoop}
-use Rattle.vast_core.specs.declared.kind.CaseKind.{CaseKind}
+use Rattle.vast_literal.specs.declared.kind.CaseKind.{CaseKind}
 use Rattle.vast_core.specs.declared.node.Assignment.{Assignment}
 use Rattle.vast_core.specs.Handles.{block_index, conditional_index, case_index, loop_index}
-use Rattle.vast_core.specs.Nodes.{OptionHolds}
 use Rattle.vast_core.specs.Nests.{StatementEntry, AssignStatement, ContinuousStatement, ConditionalStatement, CasesStatement, BlockRecord, is_block_kind, is_conditional_kind, is_case_kind, is_loop_kind}
 use Rattle.vast_core.specs.Bench.{Bench, OwnsExpr, OwnsBlock, OwnsConditional, OwnsCase, OwnsLoop}
 use Rattle.vast_core.specs.Growth.{with_assignment, next_id}
@@ -116,13 +116,13 @@ else_if-enters b owner condition h k = record { fresh = a-block-comes b (with_bl
 pub else-enters : (b : Bench) (owner : Conditional) → OwnsConditional b owner → GrowthSound b (InNest (conditional_index owner) (ElseEnters (next_block b))) fresh_block
 else-enters b owner h = record { fresh = a-block-comes b (with_block b); listing = (conditional-place b owner h, (next_block_owned b, conditional-place b owner h)); placed = refl }
 
-maybe-same : (b : Bench) (label : Option Expr) → OptionHolds (OwnsExpr b) label → OptionHolds (OwnsExpr (with_block b)) label
+maybe-same : (b : Bench) (label : Option Expr) → IfSome label (OwnsExpr b) → IfSome label (OwnsExpr (with_block b))
 maybe-same b None h = tt
 maybe-same b (Some e) h = h
 
 pub case_arm-enters :
-    (b : Bench) (owner : CaseStatement) (label : Option Expr) → OwnsCase b owner → OptionHolds (OwnsExpr b) label →
+    (b : Bench) (owner : CaseStatement) (label : Option Expr) → OwnsCase b owner → IfSome label (OwnsExpr b) →
     GrowthSound b (InNest (case_index owner) (CaseArmEnters (record { label = label; block = next_block b }))) fresh_block
 case_arm-enters b owner label h k = record { fresh = a-block-comes b (with_block b); listing = (case-place b owner h, (maybe-same b label k, (next_block_owned b, case-place b owner h))); placed = refl }
 
-pub ruleset enters = (statement-enters, assignment-enters, continuous-enters, conditional-enters, case-enters, else_if-enters, else-enters, case_arm-enters)
+pub ruleset enters = (statement-enters, case-enters, else_if-enters, else-enters, case_arm-enters)

@@ -1,6 +1,7 @@
 -- What calls that add always blocks, loops, conditionals and functions know: what comes, and the member that names it,
 -- are the file's.
 use Rattle.std.proofs.Common.{◌≡◌, ℕ, suc, false, List, [], ◌∷◌, length, Option, Some, All, String, string_bytes, refl, arith, length-append}
+use Rattle.std.specs.Prelude.{IfSome}
 use Rattle.std.specs.declared.alloc.Global.{Global}
 use Rattle.vast_literal.specs.Tree.{NameTree, MaybeType, Untyped, Typed}
 use Rattle.vast_core.specs.declared.handle.Expr.{Expr}
@@ -9,8 +10,8 @@ use Rattle.vast_core.specs.declared.handle.VastDataType.{VastDataType}
 use Rattle.vast_core.specs.declared.handle.LogicRef.{LogicRef}
 use Rattle.vast_core.specs.declared.handle.VastFunction.{VastFunction}
 use Rattle.vast_core.specs.declared.handle.VastStatementBlock.{VastStatementBlock}
-use Rattle.vast_core.specs.declared.kind.AlwaysKind.{AlwaysKind}
-use Rattle.vast_core.specs.Nodes.{Root, ExprRoot, OptionHolds, with_root as with_node}
+use Rattle.vast_literal.specs.declared.kind.AlwaysKind.{AlwaysKind}
+use Rattle.vast_core.specs.Nodes.{Root, ExprRoot, with_root as with_node}
 use Rattle.vast_core.specs.Records.{FunctionEntry}
 use Rattle.vast_core.specs.Nests.{BlockRecord, VariableRecord}
 use Rattle.vast_core.specs.Bench.{Bench, NameIsFree, OwnsExpr, OwnsType, OwnsBlock, OwnsModule, OwnsLoop, OwnsAlways, OwnsFunction, OwnsLogicRef, OwnsContinuous, type_of}
@@ -74,7 +75,7 @@ loop-comes b variable name start limit label h k =
 
 -- Names of parameters, and assignments.
 
-pub parameter-comes : (b : Bench) (name : String Global) (type : Option VastDataType) → OptionHolds (OwnsType b) type → FreshSound b (with_fresh (fresh_name name type) b) (fresh_name name type)
+pub parameter-comes : (b : Bench) (name : String Global) (type : Option VastDataType) → IfSome type (OwnsType b) → FreshSound b (with_fresh (fresh_name name type) b) (fresh_name name type)
 parameter-comes b name type h = record { terms = (h, tt, tt); port = tt; fresh_module = tt; definition = tt; artifact = tt; instance = tt; assignment = tt; container = tt; function = tt; always_block = tt }
 
 pub next_continuous_owned : (b : Bench) (lhs rhs : Expr) → OwnsContinuous (with_assignment (record { lhs = lhs; rhs = rhs; nonblocking = false }) b) (next_continuous b)

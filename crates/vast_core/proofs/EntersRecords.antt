@@ -1,6 +1,7 @@
 -- What calls know that make a record, or that add to a file, a module's lists or a function's: what comes, and the entry
 -- that names it, are the file's.
 use Rattle.std.proofs.Common.{◌≡◌, ℕ, Bool, List, [], ◌∷◌, length, Option, Some, String, string_bytes, refl, length-append}
+use Rattle.std.specs.Prelude.{IfSome}
 use Rattle.std.specs.declared.alloc.Global.{Global}
 use Rattle.vast_literal.specs.Tree.{NameTree, Typed}
 use Rattle.vast_core.specs.declared.handle.LogicRef.{LogicRef}
@@ -8,10 +9,10 @@ use Rattle.vast_core.specs.declared.handle.ModulePort.{ModulePort}
 use Rattle.vast_core.specs.declared.handle.VastModule.{VastModule}
 use Rattle.vast_core.specs.declared.handle.VastFunction.{VastFunction}
 use Rattle.vast_core.specs.declared.handle.VastDataType.{VastDataType}
-use Rattle.vast_core.specs.declared.kind.DataKind.{DataKind}
-use Rattle.vast_core.specs.declared.kind.ModulePortDirection.{ModulePortDirection}
+use Rattle.vast_literal.specs.declared.kind.DataKind.{DataKind}
+use Rattle.vast_literal.specs.declared.kind.ModulePortDirection.{ModulePortDirection}
 use Rattle.vast_core.specs.declared.node.Assignment.{Assignment}
-use Rattle.vast_core.specs.Nodes.{Root, ExprRoot, OptionHolds, with_root as with_node}
+use Rattle.vast_core.specs.Nodes.{Root, ExprRoot, with_root as with_node}
 use Rattle.vast_core.specs.Records.{PortRecord, ParameterPortRecord, DeclarationEntry, FileEntry, DefinitionRecord, ArtifactRecord, InstanceRecord}
 use Rattle.vast_core.specs.Nests.{VariableRecord}
 use Rattle.vast_core.specs.Bench.{Bench, OwnsExpr, OwnsType, OwnsModule, OwnsFunction, NameIsFree, IsFreeInFunction, type_of}
@@ -60,7 +61,7 @@ instance-stands b i h k =
 pub item-enters : (b : Bench) (e : FileEntry) → EntrySound b e → GrowthSound b (InFile e) no_fresh
 item-enters b e h = record { fresh = nothing-comes b b; listing = h; placed = refl }
 
-name-comes : (b : Bench) (name : String Global) (type : Option VastDataType) → OptionHolds (OwnsType b) type → FreshSound b (with_fresh (fresh_name name type) b) (fresh_name name type)
+name-comes : (b : Bench) (name : String Global) (type : Option VastDataType) → IfSome type (OwnsType b) → FreshSound b (with_fresh (fresh_name name type) b) (fresh_name name type)
 name-comes b name type h = record { terms = (h, tt, tt); assignment = tt; container = tt; port = tt; fresh_module = tt; function = tt; definition = tt; artifact = tt; instance = tt; always_block = tt }
 
 -- Members of a module.
@@ -84,7 +85,7 @@ declaration-enters-as b owner kind n own taken name t e f h own_kind k free = rw
 -- The header and the ports of a module.
 
 pub header-enters :
-    (b : Bench) (owner : VastModule) (p : ParameterPortRecord) (name : String Global) (type : Option VastDataType) → OwnsModule b owner → OptionHolds (OwnsType b) p.data_type → OwnsExpr b p.value → OptionHolds (OwnsType b) type →
+    (b : Bench) (owner : VastModule) (p : ParameterPortRecord) (name : String Global) (type : Option VastDataType) → OwnsModule b owner → IfSome p.data_type (OwnsType b) → OwnsExpr b p.value → IfSome type (OwnsType b) →
     GrowthSound b (InHeader owner p) (fresh_name name type)
 header-enters b owner p name type h k l m =
     let f : Fresh = fresh_name name type in

@@ -1,5 +1,6 @@
 -- What calls know that add a member to a scope: what comes, and the entry that names it, are the file's.
 use Rattle.std.proofs.Common.{◌≡◌, ℕ, ◌<◌, Bool, true, false, List, [], ◌++◌, length, Option, Some, All, String, string_bytes, refl, ap}
+use Rattle.std.specs.Prelude.{IfSome}
 use Rattle.std.specs.declared.alloc.Global.{Global}
 use Rattle.vast_core.specs.declared.ast.scope.Scope.{Scope}
 use Rattle.vast_core.specs.declared.ast.scope.Scope.TheVariants.{Module as ScopeModule, Loop as ScopeLoop}
@@ -8,9 +9,8 @@ use Rattle.vast_core.specs.declared.handle.LogicRef.{LogicRef}
 use Rattle.vast_core.specs.declared.handle.GenerateLoop.{GenerateLoop}
 use Rattle.vast_core.specs.declared.handle.VastDataType.{VastDataType}
 use Rattle.vast_core.specs.declared.handle.VastStatementBlock.{VastStatementBlock}
-use Rattle.vast_core.specs.declared.kind.AlwaysKind.{AlwaysKind}
+use Rattle.vast_literal.specs.declared.kind.AlwaysKind.{AlwaysKind}
 use Rattle.vast_core.specs.Handles.{loop_index}
-use Rattle.vast_core.specs.Nodes.{OptionHolds}
 use Rattle.vast_core.specs.Records.{MemberEntry, DeclarationEntry, AssignmentEntry, ParameterEntry, BlankEntry, CommentEntry, InlineEntry, MacroEntry, InstanceEntry, FunctionEntry, AlwaysEntry, ConditionalEntry, LoopEntry, FormEntry}
 use Rattle.vast_core.specs.Nests.{RepeatRecord, FunctionRecord}
 use Rattle.vast_core.specs.Bench.{Bench, OwnsExpr, OwnsType, OwnsBlock}
@@ -142,7 +142,7 @@ assignment-enters b scope lhs rhs o h k =
 
 pub parameter-enters :
     (b : Bench) (scope : Scope) (local : Bool) (form : FormEntry) (value : Expr) (name : String Global) (type : Option VastDataType) → OwnsScope b scope → FormSound b form → OwnsExpr b value →
-    OptionHolds (OwnsType b) type → GrowthSound b (listing_in scope (ParameterEntry local form value)) (fresh_name name type)
+    IfSome type (OwnsType b) → GrowthSound b (listing_in scope (ParameterEntry local form value)) (fresh_name name type)
 parameter-enters b scope local form value name type o h k m =
     let f : Fresh = fresh_name name type in
     scope-enters b scope (ParameterEntry local form value) f o (parameter-comes b name type m) (MemberSound-kept b (with_fresh f b) (Grows-fresh b f) (ParameterEntry local form value) (h, k)) tt
@@ -214,4 +214,4 @@ pub parameter-grown :
 parameter-grown b (ScopeModule owner) local form value name type h = ap (λ t. with_expr (with_scope_member (ScopeModule owner) (ParameterEntry local form value) b) t) h.0
 parameter-grown b (ScopeLoop owner) local form value name type h = ap (λ t. with_expr (with_scope_member (ScopeLoop owner) (ParameterEntry local form value) b) t) h.0
 
-pub ruleset enters_scopes = (shared-enters, assignment-enters, parameter-enters, always-enters, always_over-enters, conditional-enters, loop-enters)
+pub ruleset enters_scopes = (shared-enters, parameter-enters, always-enters, always_over-enters, loop-enters)

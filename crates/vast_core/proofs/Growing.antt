@@ -1,5 +1,6 @@
 -- What a file holds, and that it stays sound, after a growth: nodes that come, and the entry that names them.
 use Rattle.std.proofs.Common.{◌≡◌, ℕ, ◌<◌, ◌≤◌, Bool, true, false, IsTrue, nat_lt, List, [], ◌∷◌, ◌++◌, length, map, Option, Some, None, slice_get, refl, sym, ap, ◌∙◌, arith, length-append, subst}
+use Rattle.std.specs.Prelude.{IfSome}
 use Rattle.std.proofs.lemmas.List.{length-map}
 use Rattle.vast_core.specs.declared.handle.VastStatementBlock.{VastStatementBlock}
 use Rattle.vast_core.specs.declared.node.Term.{Term}
@@ -8,7 +9,7 @@ use Rattle.vast_core.specs.declared.node.Module.{Module}
 use Rattle.vast_core.specs.declared.node.Function.{Function}
 use Rattle.vast_core.specs.Raw.{Raw}
 use Rattle.vast_core.specs.Handles.{module_index, function_index}
-use Rattle.vast_core.specs.Nodes.{OptionHolds, no_nodes, TermsSound}
+use Rattle.vast_core.specs.Nodes.{no_nodes, TermsSound}
 use Rattle.vast_core.specs.Records.{ParameterPortRecord, ModuleRecord, MemberEntry, InstanceRecord, changed_at, with_port, with_parameter_port, port_record, module_record, definition_record, artifact_record, instance_record, file_entry}
 use Rattle.vast_core.specs.Nests.{NestRecord, BlockRecord, BranchRecord, SwitchRecord, RepeatRecord, VariableRecord, FunctionRecord, nest_kind, is_block_kind, nest_record, function_record, always_record}
 use Rattle.vast_core.specs.Functions.{with_listed_variable}
@@ -42,7 +43,7 @@ length-added : {A : Type 0} (xs : List A) (o : Option A) → length xs ≤ lengt
 length-added xs None = omega arith
 length-added xs (Some y) = omega (arith, length-append xs (y ∷ []))
 
-Each-added : {A : Type 0} (P : A → Type 0) (xs : List A) (o : Option A) → Each P xs → OptionHolds P o → Each P (added xs o)
+Each-added : {A : Type 0} (P : A → Type 0) (xs : List A) (o : Option A) → Each P xs → IfSome o P → Each P (added xs o)
 Each-added P xs None h k = h
 Each-added P xs (Some y) h k = Each-push P xs y h k
 
@@ -71,7 +72,7 @@ Grows-fresh b f =
       always_blocks = added-get b.always_blocks f.always_block;
     }
 
-nests-added : (c : Bench) (ns : List NestRecord) (o : Option NestRecord) → NestsSound c 0 ns → OptionHolds (NestSound c (length ns)) o → NestsSound c 0 (added ns o)
+nests-added : (c : Bench) (ns : List NestRecord) (o : Option NestRecord) → NestsSound c 0 ns → IfSome o (NestSound c (length ns)) → NestsSound c 0 (added ns o)
 nests-added c ns None s h = s
 nests-added c ns (Some n) s h = nests-push c 0 ns (length ns) n s (omega arith) h
 
@@ -79,23 +80,23 @@ nests-with_block : (c : Bench) (block : Bool) (ns : List NestRecord) → NestsSo
 nests-with_block c false ns s = s
 nests-with_block c true ns s = nests-push c 0 ns (length ns) (BlockRecord []) s (omega arith) tt
 
-module-sound : (c : Bench) (o : Option ModuleRecord) → OptionHolds (ComesEmpty c) o → OptionHolds (ModuleSound c) o
+module-sound : (c : Bench) (o : Option ModuleRecord) → IfSome o (ComesEmpty c) → IfSome o (ModuleSound c)
 module-sound c None h = tt
 module-sound c (Some m) h = h.sound
 
-module-names : (c : Bench) (o : Option ModuleRecord) → OptionHolds (ComesEmpty c) o → OptionHolds (NamesSound c.ports c.functions) o
+module-names : (c : Bench) (o : Option ModuleRecord) → IfSome o (ComesEmpty c) → IfSome o (NamesSound c.ports c.functions)
 module-names c None h = tt
 module-names c (Some m) h = h.names
 
-module-parts : (c : Bench) (o : Option ModuleRecord) → OptionHolds (ComesEmpty c) o → (p : Part) → places p (read_off held_by_module o) ≡ 0
+module-parts : (c : Bench) (o : Option ModuleRecord) → IfSome o (ComesEmpty c) → (p : Part) → places p (read_off held_by_module o) ≡ 0
 module-parts c None h p = refl
 module-parts c (Some m) h p = rw h.parts refl
 
-function-sound : (c : Bench) (o : Option FunctionRecord) → OptionHolds (FunctionComes c) o → OptionHolds (FunctionSound c) o
+function-sound : (c : Bench) (o : Option FunctionRecord) → IfSome o (FunctionComes c) → IfSome o (FunctionSound c)
 function-sound c None h = tt
 function-sound c (Some f) h = h.sound
 
-instance-sound : (c : Bench) (o : Option InstanceRecord) → OptionHolds (InstanceComes c) o → OptionHolds (InstanceSound c) o
+instance-sound : (c : Bench) (o : Option InstanceRecord) → IfSome o (InstanceComes c) → IfSome o (InstanceSound c)
 instance-sound c None h = tt
 instance-sound c (Some i) h = h.sound
 
@@ -314,15 +315,15 @@ RecordsSound-listing b c l s h =
 
 -- The spare block.
 
-spare-kept : (b c : Bench) → Grows b c → (o : Option VastStatementBlock) → OptionHolds (OwnsBlock b) o → OptionHolds (OwnsBlock c) o
+spare-kept : (b c : Bench) → Grows b c → (o : Option VastStatementBlock) → IfSome o (OwnsBlock b) → IfSome o (OwnsBlock c)
 spare-kept b c g None h = tt
 spare-kept b c g (Some x) h = nest-kept is_block_kind b c x.id g never h
 
-spare-fresh : (c : Bench) (takes : Bool) (o : Option VastStatementBlock) → OptionHolds (OwnsBlock c) o → OptionHolds (OwnsBlock c) (spare_left takes o)
+spare-fresh : (c : Bench) (takes : Bool) (o : Option VastStatementBlock) → IfSome o (OwnsBlock c) → IfSome (spare_left takes o) (OwnsBlock c)
 spare-fresh c false o h = h
 spare-fresh c true o h = tt
 
-spare-listing : (b c d : Bench) (l : Listing) → Grows c d → ListingSound b c l → OptionHolds (OwnsBlock d) c.spare → OptionHolds (OwnsBlock d) (listed_spare l c.spare)
+spare-listing : (b c d : Bench) (l : Listing) → Grows c d → ListingSound b c l → IfSome c.spare (OwnsBlock d) → IfSome (listed_spare l c.spare) (OwnsBlock d)
 spare-listing b c d (AsSpare block) g h k = nest-kept is_block_kind c d block.id g never h
 spare-listing b c d Nowhere g h k = k
 spare-listing b c d (InFile entry) g h k = k

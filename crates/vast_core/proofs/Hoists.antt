@@ -1,5 +1,6 @@
 -- A file stays sound as a module's declarations are hoisted.
 use Rattle.std.proofs.Common.{◌≡◌, ℕ, List, map, refl, arith, subst}
+use Rattle.std.specs.Prelude.{IfSome}
 use Rattle.vast_core.specs.declared.handle.VastModule.{VastModule}
 use Rattle.vast_core.specs.declared.node.Module.{Module}
 use Rattle.vast_core.specs.Raw.{Raw}
@@ -11,7 +12,6 @@ use Rattle.vast_core.proofs.Lists.{length-changed_at, Each-map, Each-changed_at}
 use Rattle.vast_core.proofs.NodeLaws.{Extends-same}
 use Rattle.vast_core.proofs.Sound.{Grows, carried, ModuleSound-kept}
 use Rattle.vast_core.specs.declared.handle.VastStatementBlock.{VastStatementBlock}
-use Rattle.vast_core.specs.Nodes.{OptionHolds}
 use Rattle.vast_core.specs.Bench.{OwnsBlock}
 use Rattle.vast_core.specs.Hoisting.{with_members_hoisted, with_hoisted}
 use Rattle.vast_core.specs.Sound.{FileSound}
@@ -51,7 +51,7 @@ pub bench-changed :
 unfolding bench
 bench-changed a b i f ms r e q = rw (q, ← e) refl
 
-spare-hoisted : (b : Bench) (m : VastModule) (start : ℕ) (o : Option VastStatementBlock) → OptionHolds (OwnsBlock b) o → OptionHolds (OwnsBlock (with_hoisted m start b)) o
+spare-hoisted : (b : Bench) (m : VastModule) (start : ℕ) (o : Option VastStatementBlock) → IfSome o (OwnsBlock b) → IfSome o (OwnsBlock (with_hoisted m start b))
 spare-hoisted b m start None h = tt
 spare-hoisted b m start (Some x) h = record { of_file = h.of_file; of_kind = h.of_kind }
 

@@ -1,8 +1,8 @@
 -- The kinds that the grammar has still stand in a file, and values are given, after a growth.
 use Rattle.std.proofs.Common.{ℕ, Bool, true, false, List, Option, Some, None}
+use Rattle.std.specs.Prelude.{IfSome}
 use Rattle.vast_core.specs.declared.handle.VastModule.{VastModule}
 use Rattle.vast_core.specs.Handles.{module_index, function_index}
-use Rattle.vast_core.specs.Nodes.{OptionHolds}
 use Rattle.vast_core.specs.Records.{ModuleRecord, MemberEntry, InstanceRecord, changed_at, with_port, with_parameter_port}
 use Rattle.vast_core.specs.Nests.{FunctionRecord, VariableRecord}
 use Rattle.vast_core.specs.Bench.{Bench}
@@ -16,19 +16,19 @@ use Rattle.vast_core.proofs.Hoisting.{Each-hoisted}
 
 -- New nodes.
 
-Each-added : {A : Type 0} (P : A → Type 0) (xs : List A) (o : Option A) → Each P xs → OptionHolds P o → Each P (added xs o)
+Each-added : {A : Type 0} (P : A → Type 0) (xs : List A) (o : Option A) → Each P xs → IfSome o P → Each P (added xs o)
 Each-added P xs None h k = h
 Each-added P xs (Some y) h k = Each-push P xs y h k
 
-module-kinds : (c : Bench) (o : Option ModuleRecord) → OptionHolds (ComesEmpty c) o → OptionHolds DeclaresOwnKinds o
+module-kinds : (c : Bench) (o : Option ModuleRecord) → IfSome o (ComesEmpty c) → IfSome o DeclaresOwnKinds
 module-kinds c None h = tt
 module-kinds c (Some m) h = h.kinds
 
-function-kinds : (c : Bench) (o : Option FunctionRecord) → OptionHolds (FunctionComes c) o → OptionHolds HasLocalKinds o
+function-kinds : (c : Bench) (o : Option FunctionRecord) → IfSome o (FunctionComes c) → IfSome o HasLocalKinds
 function-kinds c None h = tt
 function-kinds c (Some f) h = h.kinds
 
-instance-values : (c : Bench) (o : Option InstanceRecord) → OptionHolds (InstanceComes c) o → OptionHolds GivesValues o
+instance-values : (c : Bench) (o : Option InstanceRecord) → IfSome o (InstanceComes c) → IfSome o GivesValues
 instance-values c None h = tt
 instance-values c (Some i) h = h.values
 

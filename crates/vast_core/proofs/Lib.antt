@@ -31,3 +31,4 @@ pub mod EntersScopes
 pub mod WellFormedParts
 pub mod WellFormedTree
 pub mod Stays
+pub mod Spots

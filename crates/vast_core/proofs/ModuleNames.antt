@@ -1,5 +1,6 @@
 -- The names that modules declare stay distinct, and are those that are taken, whatever grows.
 use Rattle.std.proofs.Common.{◌≡◌, ◌≢◌, ℕ, zero, suc, ◌+◌, ◌<◌, ◌≤◌, Bool, true, false, IsTrue, nat_lt, List, [], ◌∷◌, ◌++◌, length, flat_map, Option, Some, None, slice_get, refl, sym, ap, ◌∙◌, arith}
+use Rattle.std.specs.Prelude.{IfSome}
 use Rattle.std.specs.declared.cmp.Ordering.{Ordering}
 use Rattle.std.specs.declared.cmp.Ordering.TheVariants.{Less, Equal, Greater}
 use Rattle.std.specs.Ordering.{nat_cmp}
@@ -9,7 +10,6 @@ use Rattle.std.proofs.lemmas.Slice.Eq.{bytes_eq-Decides}
 use Rattle.vast_core.specs.declared.handle.ModulePort.{ModulePort}
 use Rattle.vast_core.specs.declared.handle.VastModule.{VastModule}
 use Rattle.vast_core.specs.Handles.{module_index, function_index, port_index}
-use Rattle.vast_core.specs.Nodes.{OptionHolds}
 use Rattle.vast_core.specs.Records.{PortRecord, ModuleRecord, MemberEntry, DeclarationEntry, AssignmentEntry, ParameterEntry, BlankEntry, CommentEntry, InlineEntry, MacroEntry, InstanceEntry, FunctionEntry, AlwaysEntry, ConditionalEntry, LoopEntry, IsFree, with_name, changed_at, with_port, with_named_member, with_parameter_port}
 use Rattle.vast_core.specs.Nests.{VariableRecord, FunctionRecord}
 use Rattle.vast_core.specs.Bench.{Bench, OwnsPort, names_of}
@@ -134,14 +134,14 @@ get-added : {A : Type 0} (xs : List A) (o : Option A) (i : ℕ) → i < length x
 get-added xs None i below = refl
 get-added xs (Some y) i below = get-before xs (y ∷ []) i below
 
-Each-added : {A : Type 0} (P : A → Type 0) (xs : List A) (o : Option A) → Each P xs → OptionHolds P o → Each P (added xs o)
+Each-added : {A : Type 0} (P : A → Type 0) (xs : List A) (o : Option A) → Each P xs → IfSome o P → Each P (added xs o)
 Each-added P xs None h k = h
 Each-added P xs (Some y) h k = Each-push P xs y h k
 
 same-fresh : (b : Bench) (f : Fresh) → SameNames b (with_fresh f b)
 same-fresh b f = record { ports = get-added b.ports f.port; functions = λ i below. ap name_of_function (get-added b.functions f.function i below) }
 
-pub names-fresh : (b : Bench) (f : Fresh) → RecordsSound b → OptionHolds (NamesSound (with_fresh f b).ports (with_fresh f b).functions) f.fresh_module → NamesAreSound b → NamesAreSound (with_fresh f b)
+pub names-fresh : (b : Bench) (f : Fresh) → RecordsSound b → IfSome f.fresh_module (NamesSound (with_fresh f b).ports (with_fresh f b).functions) → NamesAreSound b → NamesAreSound (with_fresh f b)
 names-fresh b f s new h =
     let c : Bench = with_fresh f b in
     Each-added (NamesSound c.ports c.functions) b.modules f.fresh_module (all-kept b c (same-fresh b f) b.modules s.modules h) new
@@ -179,12 +179,12 @@ member-more b entry names x n e =
     omega (arith, push, old, new, is)
 
 member-listed :
-    (b : Bench) (entry : MemberEntry) (name : Option (List ℕ)) → names_by_member b.functions entry ≡ listed_name name → (x : ModuleRecord) → OptionHolds (λ n. IsFree n x.names) name →
+    (b : Bench) (entry : MemberEntry) (name : Option (List ℕ)) → names_by_member b.functions entry ≡ listed_name name → (x : ModuleRecord) → IfSome name (λ n. IsFree n x.names) →
     NamesSound b.ports b.functions x → NamesSound b.ports b.functions (with_listed entry name x)
 member-listed b entry None e x free h = record { taken = λ n. let more = member-more b entry [] x n e in let old = h.taken n in omega (arith, more, old); once = h.once }
 member-listed b entry (Some name) e x free h = gained b.ports b.functions x (with_named_member entry name x) name (λ n. member-more b entry (name ∷ []) x n e) refl free h
 
-maybe-free : (name : Option (List ℕ)) (o : Option ModuleRecord) (x : ModuleRecord) → o ≡ Some x → OptionHolds (λ n. IsFree n (names_of o)) name → OptionHolds (λ n. IsFree n x.names) name
+maybe-free : (name : Option (List ℕ)) (o : Option ModuleRecord) (x : ModuleRecord) → o ≡ Some x → IfSome name (λ n. IsFree n (names_of o)) → IfSome name (λ n. IsFree n x.names)
 maybe-free None o x e h = tt
 maybe-free (Some name) o x e h = free-there name o x e h
 

@@ -1,5 +1,6 @@
 -- What the readers of always blocks and functions cite, and a change of one container that keeps what it holds.
 use Rattle.std.proofs.Common.{◌≡◌, ℕ, ◌<◌, Bool, IsTrue, List, length, get_or, map, nat_lt, Some, slice_get, All, refl, arith, subst, Option, None}
+use Rattle.std.specs.Prelude.{IfSome}
 use Rattle.std.proofs.lemmas.List.{length-map}
 use Rattle.vast_core.specs.declared.handle.Expr.{Expr}
 use Rattle.vast_core.specs.declared.node.Nest.{Nest}
@@ -16,7 +17,6 @@ use Rattle.vast_core.proofs.Lists.{slice_get-map, Each-at, All-own}
 use Rattle.vast_core.proofs.NodeLaws.{Extends-same}
 use Rattle.vast_core.proofs.Nests.{kind-changed, nests-changed}
 use Rattle.vast_core.specs.declared.handle.VastStatementBlock.{VastStatementBlock}
-use Rattle.vast_core.specs.Nodes.{OptionHolds}
 use Rattle.vast_core.specs.Nests.{is_block_kind}
 use Rattle.vast_core.proofs.OneParent.{HasOneParent-unique}
 use Rattle.vast_core.proofs.Sound.{Grows, carried, nest-kept, never}
@@ -113,7 +113,7 @@ pub bench-unique :
 unfolding bench
 bench-unique a b i u ns r e q = rw (q, ← e) refl
 
-spare-unique : (b : Bench) (i : ℕ) (u : Bool) (o : Option VastStatementBlock) → OptionHolds (OwnsBlock b) o → OptionHolds (OwnsBlock (record b { nests = changed_at i (with_unique u) b.nests })) o
+spare-unique : (b : Bench) (i : ℕ) (u : Bool) (o : Option VastStatementBlock) → IfSome o (OwnsBlock b) → IfSome o (OwnsBlock (record b { nests = changed_at i (with_unique u) b.nests }))
 spare-unique b i u None h = tt
 spare-unique b i u (Some x) h = nest-kept is_block_kind b (record b { nests = changed_at i (with_unique u) b.nests }) x.id (Grows-unique b i u) never h
 

@@ -1,16 +1,15 @@
 -- Laws of containers: their records, what they hold, and their trees.
 use Rattle.std.proofs.Common.{◌≡◌, ℕ, suc, zero, ◌+◌, ◌<◌, ◌≤◌, Bool, IsTrue, List, [], ◌∷◌, ◌++◌, length, Option, Some, None, slice_get, refl, sym, ap, ◌∙◌, arith}
+use Rattle.std.specs.Prelude.{IfSome}
 use Rattle.vast_core.specs.declared.handle.VastStatementBlock.{VastStatementBlock}
 use Rattle.vast_core.specs.declared.node.ElseIf.{ElseIf}
 use Rattle.vast_core.specs.declared.node.CaseArm.{CaseArm}
 use Rattle.vast_core.specs.Handles.{block_index, conditional_index, case_index, loop_index, always_index}
-use Rattle.vast_core.specs.Nodes.{OptionHolds}
 use Rattle.vast_core.specs.Records.{MemberEntry, DeclarationEntry, AssignmentEntry, ParameterEntry, BlankEntry, CommentEntry, InlineEntry, MacroEntry, InstanceEntry, FunctionEntry, AlwaysEntry, ConditionalEntry, LoopEntry, changed_at}
 use Rattle.vast_core.specs.Nests.{StatementEntry, AssignStatement, ContinuousStatement, ConditionalStatement, CasesStatement, BlankStatement, CommentStatement, InlineStatement, NestRecord, BlockRecord, BranchRecord, SwitchRecord, RepeatRecord, AlwaysRecord, NestKind, NoKind, nest_kind}
 use Rattle.vast_core.specs.Bench.{Bench, tree_of, maybe_tree_of, trees_of}
 use Rattle.vast_core.specs.FileTree.{Family, BlockFamily, BranchFamily, SwitchFamily, RepeatFamily, block_in, branch_statement, switch_statement, branch_member, repeat_member, statement_in, statements_in, otherwise_in, alternates_in, arms_in, always_in, member_in, members_in, family, unfolded, families}
 use Rattle.vast_literal.specs.Tree.{ElseIf as ElseIfTree, Else, CaseArm as CaseArmTree, MoreStatements, MoreMembers, CaseTree, LoopMember, AlwaysMember}
-use Rattle.vast_core.specs.Kinds.{always_word, case_word}
 use Rattle.vast_core.specs.Sound.{Each, HoldsBlock, StatementSound, ElseIfSound, CaseArmSound, AlwaysNewer, MemberNewer, LoopMemberSound, NestSound, NestsSound}
 
 -- A container of some kind is there.
@@ -39,12 +38,12 @@ statements-same b f g i q (s ∷ ss) h =
     ap (λ x. MoreStatements x (statements_in b f ss)) (statement-same b f g i q s h.0)
     ∙ ap (λ x. MoreStatements (statement_in b g s) x) (statements-same b f g i q ss h.1)
 
-otherwise-same : (b : Bench) (f g : ℕ → Family) (i : ℕ) → Agree i f g → (o : Option VastStatementBlock) → OptionHolds (HoldsBlock b i) o → otherwise_in f o ≡ otherwise_in g o
+otherwise-same : (b : Bench) (f g : ℕ → Family) (i : ℕ) → Agree i f g → (o : Option VastStatementBlock) → IfSome o (HoldsBlock b i) → otherwise_in f o ≡ otherwise_in g o
 otherwise-same b f g i q None h = refl
 otherwise-same b f g i q (Some c) h = ap (λ x. Else (block_in x)) (q.at (block_index c) h.1)
 
 alternates-same :
-    (b : Bench) (f g : ℕ → Family) (i : ℕ) → Agree i f g → (arms : List ElseIf) (o : Option VastStatementBlock) → Each (ElseIfSound b i) arms → OptionHolds (HoldsBlock b i) o →
+    (b : Bench) (f g : ℕ → Family) (i : ℕ) → Agree i f g → (arms : List ElseIf) (o : Option VastStatementBlock) → Each (ElseIfSound b i) arms → IfSome o (HoldsBlock b i) →
     alternates_in b f arms o ≡ alternates_in b g arms o
 alternates-same b f g i q [] o h k = otherwise-same b f g i q o k
 alternates-same b f g i q (a ∷ arms) o h k =
@@ -59,7 +58,7 @@ arms-same b f g i q (a ∷ arms) h =
 
 always-same : (b : Bench) (f g : ℕ → Family) (i : ℕ) → Agree i f g → (o : Option AlwaysRecord) → AlwaysNewer i o → always_in b f o ≡ always_in b g o
 always-same b f g i q None h = refl
-always-same b f g i q (Some a) h = ap (λ x. AlwaysMember (always_word a.kind) (trees_of b a.events) (block_in x)) (q.at (block_index a.block) h)
+always-same b f g i q (Some a) h = ap (λ x. AlwaysMember a.kind (trees_of b a.events) (block_in x)) (q.at (block_index a.block) h)
 
 member-same : (b : Bench) (f g : ℕ → Family) (i : ℕ) → Agree i f g → (m : MemberEntry) → MemberNewer b i m → member_in b f m ≡ member_in b g m
 member-same b f g i q (DeclarationEntry kind name t) h = absurd h
@@ -86,7 +85,7 @@ family-same b f g i q (BlockRecord ss) h = ap BlockFamily (statements-same b f g
 family-same b f g i q (BranchRecord c) h =
     ap (λ x. BranchFamily (tree_of b c.condition) (block_in x) (alternates_in b f c.else_ifs c.otherwise)) (q.at (block_index c.consequent) h.consequent.1)
     ∙ ap (λ x. BranchFamily (tree_of b c.condition) (block_in (g (block_index c.consequent))) x) (alternates-same b f g i q c.else_ifs c.otherwise h.else_ifs h.otherwise)
-family-same b f g i q (SwitchRecord c) h = ap (λ x. SwitchFamily (CaseTree c.unique (case_word c.kind) (tree_of b c.selector) x)) (arms-same b f g i q c.arms h.arms)
+family-same b f g i q (SwitchRecord c) h = ap (λ x. SwitchFamily (CaseTree c.unique c.kind (tree_of b c.selector) x)) (arms-same b f g i q c.arms h.arms)
 family-same b f g i q (RepeatRecord l) h = ap (λ x. RepeatFamily (LoopMember l.name (tree_of b l.start) (tree_of b l.limit) l.label x)) (members-same b f g i q l.members h.members)
 
 -- What a container holds is newer.

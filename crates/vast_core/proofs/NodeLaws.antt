@@ -1,5 +1,7 @@
 -- Laws of the arena of expressions and types.
 use Rattle.std.proofs.Common.{zero, suc, get_or, ◌≡◌, ℕ, ◌+◌, ◌<◌, ◌≤◌, Bool, IsTrue, List, [], ◌∷◌, ◌++◌, length, Option, Some, None, slice_get, All, refl, sym, ap, ◌∙◌, subst, arith, length-append}
+use Rattle.std.proofs.lemmas.Option.{IfSome_then}
+use Rattle.std.specs.Prelude.{IfSome}
 use Rattle.std.proofs.lemmas.Option.{slice_get_within, slice_get_past, slice_get_read}
 use Rattle.vast_literal.specs.Tree.{ExprTree, TypeTree, Typed, SomeExpr}
 use Rattle.vast_core.specs.declared.handle.Expr.{Expr}
@@ -11,7 +13,7 @@ use Rattle.vast_core.specs.declared.node.TypeNode.TheVariants.{Scalar, Vector, I
 use Rattle.vast_core.specs.declared.node.Term.{Term}
 use Rattle.vast_core.specs.declared.node.Term.TheVariants.{Expression, DataType}
 use Rattle.vast_core.specs.Handles.{rank, type_rank}
-use Rattle.vast_core.specs.Nodes.{Root, ExprRoot, TypeRoot, Nodes, no_nodes, with_root, is_expr_root, is_type_root, is_root_of, expr_of_root, type_of_root, HasExpr, HasType, expr_in, type_in, maybe_type_in, maybe_expr_in, exprs_in, expr_tree, type_tree, term_root, OptionHolds, ExprChildrenHold, TypeChildrenHold, ChildrenHold, RootFits, RootWellFormed, built, TermsSound, IsNodeAt}
+use Rattle.vast_core.specs.Nodes.{Root, ExprRoot, TypeRoot, Nodes, no_nodes, with_root, is_expr_root, is_type_root, is_root_of, expr_of_root, type_of_root, HasExpr, HasType, expr_in, type_in, maybe_type_in, maybe_expr_in, exprs_in, expr_tree, type_tree, term_root, ExprChildrenHold, TypeChildrenHold, ChildrenHold, RootFits, RootWellFormed, built, TermsSound, IsNodeAt}
 use Rattle.vast_core.specs.Types.{ExprFits, TypeFits, ExprWellFormed, TypeWellFormed, MaybeTypeWellFormed, MaybeExprWellFormed, ExprsWellFormed}
 use Rattle.vast_core.specs.Sound.{Each}
 use Rattle.vast_core.proofs.Lists.{slice_get-append, slice_get-seam, All-head, All-tail, All-implies, Each-push, Each-get}
@@ -118,10 +120,6 @@ type_rank-below b t h =
 
 -- Children.
 
-OptionHolds-map : {A : Type 0} {P Q : A → Type 0} → ((x : A) → P x → Q x) → (o : Option A) → OptionHolds P o → OptionHolds Q o
-OptionHolds-map f None h = tt
-OptionHolds-map f (Some x) h = f x h
-
 expr_children-map :
     {P P2 : Expr → Type 0} {Q Q2 : VastDataType → Type 0} →
     ((e : Expr) → P e → P2 e) →
@@ -129,7 +127,7 @@ expr_children-map :
     (n : ExprNode) →
     ExprChildrenHold P Q n →
     ExprChildrenHold P2 Q2 n
-expr_children-map f g (Name name type) h = OptionHolds-map g type h
+expr_children-map f g (Name name type) h = IfSome_then type h g
 expr_children-map f g (Literal text value) h = tt
 expr_children-map f g (StringText text) h = tt
 expr_children-map f g (Unary operator operand) h = f operand h
@@ -138,13 +136,13 @@ expr_children-map f g (Ternary condition consequent alternate) h = (f condition 
 expr_children-map f g (Index subject index) h = (f subject h.0, f index h.1)
 expr_children-map f g (Slice subject high low) h = (f subject h.0, f high h.1, f low h.2)
 expr_children-map f g (PartSelect subject start width) h = (f subject h.0, f start h.1)
-expr_children-map f g (Concat count parts) h = (OptionHolds-map f count h.0, All-implies f parts.items h.1)
+expr_children-map f g (Concat count parts) h = (IfSome_then count h.0 f, All-implies f parts.items h.1)
 expr_children-map f g (Pattern parts) h = All-implies f parts.items h
 expr_children-map f g (WidthCast width operand) h = (f width h.0, f operand h.1)
 expr_children-map f g (TypeCast type operand) h = (g type h.0, f operand h.1)
 expr_children-map f g (PosEdge operand) h = f operand h
 expr_children-map f g (NegEdge operand) h = f operand h
-expr_children-map f g (Macro name arguments) h = OptionHolds-map (λ parts. All-implies f parts.items) arguments h
+expr_children-map f g (Macro name arguments) h = IfSome_then arguments h (λ parts. All-implies f parts.items)
 expr_children-map f g (Call name arguments) h = All-implies f arguments.items h
 
 type_children-map :
@@ -173,11 +171,11 @@ children-map :
 children-map f g (Expression n) h = expr_children-map f g n h
 children-map f g (DataType n) h = type_children-map f g n h
 
-maybe_type-kept : (b c : Nodes) → Extends b c → (o : Option VastDataType) → OptionHolds (HasType b) o → maybe_type_in c o ≡ maybe_type_in b o
+maybe_type-kept : (b c : Nodes) → Extends b c → (o : Option VastDataType) → IfSome o (HasType b) → maybe_type_in c o ≡ maybe_type_in b o
 maybe_type-kept b c x None h = refl
 maybe_type-kept b c x (Some t) h = ap Typed (type_in-kept b c x t h)
 
-maybe_expr-kept : (b c : Nodes) → Extends b c → (o : Option Expr) → OptionHolds (HasExpr b) o → maybe_expr_in c o ≡ maybe_expr_in b o
+maybe_expr-kept : (b c : Nodes) → Extends b c → (o : Option Expr) → IfSome o (HasExpr b) → maybe_expr_in c o ≡ maybe_expr_in b o
 maybe_expr-kept b c x None h = refl
 maybe_expr-kept b c x (Some e) h = ap SomeExpr (expr_in-kept b c x e h)
 
@@ -233,11 +231,11 @@ type-well_formed b w t h =
     let r = has_type (slice_get b.roots t.id.index) h.of_kind
     in rw r.1 (Each-get RootWellFormed b.roots t.id.index (TypeRoot r.0) w r.1)
 
-maybe_type-well_formed : (b : Nodes) (o : Option VastDataType) → OptionHolds (λ t. TypeWellFormed (type_in b t)) o → MaybeTypeWellFormed (maybe_type_in b o)
+maybe_type-well_formed : (b : Nodes) (o : Option VastDataType) → IfSome o (λ t. TypeWellFormed (type_in b t)) → MaybeTypeWellFormed (maybe_type_in b o)
 maybe_type-well_formed b None h = tt
 maybe_type-well_formed b (Some t) h = h
 
-maybe_expr-well_formed : (b : Nodes) (o : Option Expr) → OptionHolds (λ e. ExprWellFormed (expr_in b e)) o → MaybeExprWellFormed (maybe_expr_in b o)
+maybe_expr-well_formed : (b : Nodes) (o : Option Expr) → IfSome o (λ e. ExprWellFormed (expr_in b e)) → MaybeExprWellFormed (maybe_expr_in b o)
 maybe_expr-well_formed b None h = tt
 maybe_expr-well_formed b (Some e) h = h
 

@@ -1,12 +1,13 @@
 -- What a file keeps stays true as it grows.
 use Rattle.std.proofs.Common.{◌≡◌, ℕ, suc, zero, ◌<◌, ◌≤◌, Bool, false, IsTrue, List, [], ◌∷◌, length, nat_lt, Option, Some, None, slice_get, refl, sym, ◌∙◌, arith}
+use Rattle.std.specs.Prelude.{IfSome}
 use Rattle.vast_core.specs.declared.node.Assignment.{Assignment}
 use Rattle.vast_core.specs.declared.handle.Id.{Id}
 use Rattle.vast_core.specs.declared.handle.Expr.{Expr}
 use Rattle.vast_core.specs.declared.handle.VastDataType.{VastDataType}
 use Rattle.vast_core.specs.declared.handle.ModulePort.{ModulePort}
 use Rattle.vast_core.specs.declared.handle.ContinuousAssignment.{ContinuousAssignment}
-use Rattle.vast_core.specs.Nodes.{IsOwned, OptionHolds, is_name, is_macro}
+use Rattle.vast_core.specs.Nodes.{IsOwned, is_name, is_macro}
 use Rattle.vast_core.specs.Records.{PortRecord, ParameterPortRecord, ModuleRecord, FormEntry, PlainForm, IntForm, DefinedForm, MemberEntry, DeclarationEntry, AssignmentEntry, ParameterEntry, BlankEntry, CommentEntry, InlineEntry, MacroEntry, InstanceEntry, FunctionEntry, AlwaysEntry, ConditionalEntry, LoopEntry, FileEntry, ModuleEntry, IncludeEntry, FileCommentEntry, FileBlankEntry, DefinitionRecord, ArtifactRecord, BlankLineRecord, CommentRecord, InlineRecord, MacroRecord, ConnectionRecord, InstanceRecord}
 use Rattle.vast_core.specs.declared.handle.LogicRef.{LogicRef}
 use Rattle.vast_core.specs.declared.handle.VastStatementBlock.{VastStatementBlock}
@@ -86,11 +87,11 @@ never h = cc
 pub OwnsPort-kept : (b c : Bench) → Grows b c → (p : ModulePort) → OwnsPort b p → OwnsPort c p
 OwnsPort-kept b c g p h = index-kept b c p.id (length b.ports) (length c.ports) g g.ports h
 
-maybe-type-kept : (b c : Bench) → Grows b c → (t : Option VastDataType) → OptionHolds (OwnsType b) t → OptionHolds (OwnsType c) t
+maybe-type-kept : (b c : Bench) → Grows b c → (t : Option VastDataType) → IfSome t (OwnsType b) → IfSome t (OwnsType c)
 maybe-type-kept b c g None h = tt
 maybe-type-kept b c g (Some t) h = HasType-kept b.nodes c.nodes g.nodes t h
 
-maybe-expr-kept : (b c : Bench) → Grows b c → (e : Option Expr) → OptionHolds (OwnsExpr b) e → OptionHolds (OwnsExpr c) e
+maybe-expr-kept : (b c : Bench) → Grows b c → (e : Option Expr) → IfSome e (OwnsExpr b) → IfSome e (OwnsExpr c)
 maybe-expr-kept b c g None h = tt
 maybe-expr-kept b c g (Some e) h = HasExpr-kept b.nodes c.nodes g.nodes e h
 
@@ -180,7 +181,7 @@ ElseIfSound-kept b c g i a h = (HasExpr-kept b.nodes c.nodes g.nodes a.condition
 pub CaseArmSound-kept : (b c : Bench) → Grows b c → (i : ℕ) (a : CaseArm) → CaseArmSound b i a → CaseArmSound c i a
 CaseArmSound-kept b c g i a h = (maybe-expr-kept b c g a.label h.0, block-kept b c g i a.block h.1)
 
-otherwise-kept : (b c : Bench) → Grows b c → (i : ℕ) (o : Option VastStatementBlock) → OptionHolds (HoldsBlock b i) o → OptionHolds (HoldsBlock c i) o
+otherwise-kept : (b c : Bench) → Grows b c → (i : ℕ) (o : Option VastStatementBlock) → IfSome o (HoldsBlock b i) → IfSome o (HoldsBlock c i)
 otherwise-kept b c g i None h = tt
 otherwise-kept b c g i (Some x) h = block-kept b c g i x h
 

@@ -1,9 +1,9 @@
 -- What calls know that make a block which nothing holds, and that put an always block over it.
 use Rattle.std.proofs.Common.{true, ◌≡◌, suc, List, [], ◌∷◌, length, Option, Some, All, refl, arith, length-append, subst}
+use Rattle.std.specs.Prelude.{IfSome}
 use Rattle.vast_core.specs.declared.handle.Expr.{Expr}
 use Rattle.vast_core.specs.declared.handle.VastStatementBlock.{VastStatementBlock}
-use Rattle.vast_core.specs.declared.kind.AlwaysKind.{AlwaysKind}
-use Rattle.vast_core.specs.Nodes.{OptionHolds}
+use Rattle.vast_literal.specs.declared.kind.AlwaysKind.{AlwaysKind}
 use Rattle.vast_core.specs.Raw.{Raw}
 use Rattle.vast_core.specs.Nests.{AlwaysRecord}
 use Rattle.vast_core.specs.Bench.{Bench, OwnsAlways, OwnsBlock}
@@ -39,7 +39,7 @@ over-comes b kind events block h k =
 pub next_over_owned : (b : Bench) (kind : AlwaysKind) (events : List Expr) (block : VastStatementBlock) → OwnsAlways (with_always_over kind events block b) (next_always b)
 next_over_owned b kind events block = record { of_file = refl; of_kind = rw (length-append b.always_blocks (always_over kind events block ∷ [])) (last-test (length b.always_blocks)) }
 
-spare-there : (b : Bench) (o : Option VastStatementBlock) (x : VastStatementBlock) → o ≡ Some x → OptionHolds (OwnsBlock b) o → OwnsBlock b x
+spare-there : (b : Bench) (o : Option VastStatementBlock) (x : VastStatementBlock) → o ≡ Some x → IfSome o (OwnsBlock b) → OwnsBlock b x
 spare-there b o x e h = rw e at h
 
 -- The spare block is the file's.

@@ -1,5 +1,6 @@
 -- What a file's records stand for is well formed: expressions, declarations, statements and members, over containers that are.
 use Rattle.std.proofs.Common.{◌≡◌, ℕ, zero, suc, true, IsTrue, List, [], ◌∷◌, Option, Some, None, slice_get, refl}
+use Rattle.std.specs.Prelude.{IfSome}
 use Rattle.std.specs.Cmp.Derive.{both_true}
 use Rattle.vast_literal.specs.Tree.{ExprTree, NameTree, LiteralTree, StringTree, UnaryTree, BinaryTree, TernaryTree, IndexTree, SliceTree, PartSelectTree, ConcatTree, PatternTree, WidthCastTree, TypeCastTree, PosEdgeTree, NegEdgeTree, MacroTree, CallTree, MissingExpr}
 use Rattle.vast_literal.specs.WellFormed.{is_well_formed, is_well_formed_type}
@@ -12,7 +13,7 @@ use Rattle.vast_core.specs.declared.node.ElseIf.{ElseIf}
 use Rattle.vast_core.specs.declared.node.CaseArm.{CaseArm}
 use Rattle.vast_core.specs.declared.node.Assignment.{Assignment}
 use Rattle.vast_core.specs.Handles.{statement_index, block_index, conditional_index, case_index, macro_ref_to_expr}
-use Rattle.vast_core.specs.Nodes.{Root, ExprRoot, TypeRoot, OptionHolds, expr_in, expr_of_root, is_expr_root, is_root_of, is_macro as is_macro_root}
+use Rattle.vast_core.specs.Nodes.{Root, ExprRoot, TypeRoot, expr_in, expr_of_root, is_expr_root, is_root_of, is_macro as is_macro_root}
 use Rattle.vast_core.specs.Nests.{StatementEntry, AssignStatement, ContinuousStatement, ConditionalStatement, CasesStatement, BlankStatement, CommentStatement, InlineStatement}
 use Rattle.vast_core.specs.Bench.{Bench, OwnsExpr, OwnsType, OwnsMacroRef, AreWellFormed, tree_of, type_of, maybe_tree_of, trees_of}
 use Rattle.vast_core.specs.Sound.{Each, AssignmentSound, ElseIfSound, CaseArmSound, EventSound, RecordsSound, is_event}
@@ -20,7 +21,7 @@ use Rattle.vast_core.specs.FileTree.{Family, BlockFamily, BranchFamily, SwitchFa
 use Rattle.vast_core.proofs.WellFormed.{well_formed, type_well_formed}
 
 -- What is read at a place of a list, if it is there.
-pub Each-read : {A : Type 0} (P : A → Type 0) (xs : List A) (i : ℕ) → Each P xs → OptionHolds P (slice_get xs i)
+pub Each-read : {A : Type 0} (P : A → Type 0) (xs : List A) (i : ℕ) → Each P xs → IfSome (slice_get xs i) P
 Each-read P [] i h = tt
 Each-read P (x ∷ xs) zero h = h.0
 Each-read P (x ∷ xs) (suc i) h = Each-read P xs i h.1
@@ -33,7 +34,7 @@ expr-good b w e h = well_formed (tree_of b e) (w.exprs e h)
 pub type-good : (b : Bench) → AreWellFormed b → (t : VastDataType) → OwnsType b t → is_well_formed_type (type_of b t) ≡ true
 type-good b w t h = type_well_formed (type_of b t) (w.types t h)
 
-pub maybe-good : (b : Bench) → AreWellFormed b → (e : Option Expr) → OptionHolds (OwnsExpr b) e → is_well_formed_maybe (maybe_tree_of b e) ≡ true
+pub maybe-good : (b : Bench) → AreWellFormed b → (e : Option Expr) → IfSome e (OwnsExpr b) → is_well_formed_maybe (maybe_tree_of b e) ≡ true
 maybe-good b w None h = refl
 maybe-good b w (Some e) h = expr-good b w e h
 
@@ -148,11 +149,11 @@ repeat_member-good NoFamily h = refl
 
 -- Statements over such containers.
 
-assigned-good : (b : Bench) → AreWellFormed b → (o : Option Assignment) → OptionHolds (AssignmentSound b) o → is_well_formed_statement (assigned_tree b o) ≡ true
+assigned-good : (b : Bench) → AreWellFormed b → (o : Option Assignment) → IfSome o (AssignmentSound b) → is_well_formed_statement (assigned_tree b o) ≡ true
 assigned-good b w None h = refl
 assigned-good b w (Some a) h = both_true (expr-good b w a.lhs h.0) (expr-good b w a.rhs h.1)
 
-continuous-good : (b : Bench) → AreWellFormed b → (o : Option Assignment) → OptionHolds (AssignmentSound b) o → is_well_formed_statement (continuous_tree b o) ≡ true
+continuous-good : (b : Bench) → AreWellFormed b → (o : Option Assignment) → IfSome o (AssignmentSound b) → is_well_formed_statement (continuous_tree b o) ≡ true
 continuous-good b w None h = refl
 continuous-good b w (Some a) h = both_true (expr-good b w a.lhs h.0) (expr-good b w a.rhs h.1)
 

@@ -1,5 +1,6 @@
 -- The tree of every file is well formed: induction on what containers unfold to.
 use Rattle.std.proofs.Common.{◌≡◌, ℕ, zero, suc, ◌<◌, true, IsTrue, List, [], ◌∷◌, length, nat_lt, map, arith, Option, Some, None, slice_get, refl}
+use Rattle.std.specs.Prelude.{IfSome}
 use Rattle.std.specs.Cmp.Derive.{both_true}
 use Rattle.vast_literal.specs.Tree.{FileItemTree}
 use Rattle.vast_literal.specs.WellFormed.{is_well_formed_type}
@@ -9,7 +10,7 @@ use Rattle.vast_core.specs.declared.handle.ModulePort.{ModulePort}
 use Rattle.vast_core.specs.declared.handle.VastDataType.{VastDataType}
 use Rattle.vast_core.specs.declared.node.Assignment.{Assignment}
 use Rattle.vast_core.specs.Handles.{module_index, port_index, continuous_index, comment_index, inline_index, macro_statement_index, instantiation_index, function_index, always_index, definition_index, block_index, conditional_index, loop_index}
-use Rattle.vast_core.specs.Nodes.{OptionHolds, maybe_type_in}
+use Rattle.vast_core.specs.Nodes.{maybe_type_in}
 use Rattle.vast_core.specs.Records.{ParameterPortRecord, ModuleRecord, MemberEntry, DeclarationEntry, AssignmentEntry, ParameterEntry, BlankEntry, CommentEntry, InlineEntry, MacroEntry, InstanceEntry, FunctionEntry, AlwaysEntry, ConditionalEntry, LoopEntry, FormEntry, PlainForm, IntForm, DefinedForm, FileEntry, ModuleEntry, IncludeEntry, FileCommentEntry, FileBlankEntry, ArtifactRecord, BlankLineRecord, CommentRecord, InlineRecord, MacroRecord, ConnectionRecord, InstanceRecord}
 use Rattle.vast_core.specs.Nests.{NestRecord, BlockRecord, BranchRecord, SwitchRecord, RepeatRecord, VariableRecord, FunctionRecord, AlwaysRecord}
 use Rattle.vast_core.specs.Bench.{Bench, OwnsExpr, OwnsType, OwnsPort, AreWellFormed, maybe_tree_of}
@@ -35,11 +36,11 @@ form-good b w r (IntForm name) h = refl
 form-good b w r (DefinedForm d) h =
     Each-there (DefinitionSound b) (λ o. is_well_formed_type (definition_tree b o).type ≡ true) (λ x k. type-good b w x.data_type k) b.definitions (definition_index d) r.definitions h.of_kind
 
-assignment-good : (b : Bench) → AreWellFormed b → (o : Option Assignment) → OptionHolds (AssignmentSound b) o → is_well_formed_member (assignment_member b o) ≡ true
+assignment-good : (b : Bench) → AreWellFormed b → (o : Option Assignment) → IfSome o (AssignmentSound b) → is_well_formed_member (assignment_member b o) ≡ true
 assignment-good b w None h = refl
 assignment-good b w (Some a) h = both_true (expr-good b w a.lhs h.0) (expr-good b w a.rhs h.1)
 
-artifact-good : (b : Bench) → AreWellFormed b → (o : Option ArtifactRecord) → OptionHolds (ArtifactSound b) o → is_well_formed_member (artifact_member b o) ≡ true
+artifact-good : (b : Bench) → AreWellFormed b → (o : Option ArtifactRecord) → IfSome o (ArtifactSound b) → is_well_formed_member (artifact_member b o) ≡ true
 artifact-good b w None h = refl
 artifact-good b w (Some BlankLineRecord) h = refl
 artifact-good b w (Some (CommentRecord text)) h = refl
@@ -54,15 +55,15 @@ given-good : (b : Bench) → AreWellFormed b → (cs : List ConnectionRecord) �
 given-good b w [] h k = refl
 given-good b w (c ∷ cs) h k = both_true (value-good c.value h.0 k.0) (given-good b w cs h.1 k.1)
   where
-    value-good : (value : Option Expr) → OptionHolds (OwnsExpr b) value → IsGiven value → is_given (maybe_tree_of b value) ≡ true
+    value-good : (value : Option Expr) → IfSome value (OwnsExpr b) → IsGiven value → is_given (maybe_tree_of b value) ≡ true
     value-good None h k = absurd k
     value-good (Some e) h k = expr-good b w e h
 
-instance-good : (b : Bench) → AreWellFormed b → (o : Option InstanceRecord) → OptionHolds (InstanceSound b) o → OptionHolds GivesValues o → is_well_formed_member (instance_member b o) ≡ true
+instance-good : (b : Bench) → AreWellFormed b → (o : Option InstanceRecord) → IfSome o (InstanceSound b) → IfSome o GivesValues → is_well_formed_member (instance_member b o) ≡ true
 instance-good b w None h k = refl
 instance-good b w (Some i) h k = both_true (given-good b w i.parameters h.parameters k) (connections-good b w i.connections h.connections)
 
-always-good : (b : Bench) → AreWellFormed b → (f : ℕ → Family) → ((i : ℕ) → IsGood (f i)) → (o : Option AlwaysRecord) → OptionHolds (AlwaysSound b) o → is_well_formed_member (always_in b f o) ≡ true
+always-good : (b : Bench) → AreWellFormed b → (f : ℕ → Family) → ((i : ℕ) → IsGood (f i)) → (o : Option AlwaysRecord) → IfSome o (AlwaysSound b) → is_well_formed_member (always_in b f o) ≡ true
 always-good b w f g None h = refl
 always-good b w f g (Some a) h = both_true (events-good b w a.events h.events) (block-good (f (block_index a.block)) (g (block_index a.block)))
 
@@ -75,7 +76,7 @@ locals-good b w [] h k = refl
 locals-good b w (v ∷ vs) h k = both_true (both_true k.0 (type-good b w v.data_type h.0)) (locals-good b w vs h.1 k.1)
 
 function-good :
-    (b : Bench) → AreWellFormed b → (f : ℕ → Family) → ((i : ℕ) → IsGood (f i)) → (o : Option FunctionRecord) → OptionHolds (FunctionSound b) o → OptionHolds HasLocalKinds o →
+    (b : Bench) → AreWellFormed b → (f : ℕ → Family) → ((i : ℕ) → IsGood (f i)) → (o : Option FunctionRecord) → IfSome o (FunctionSound b) → IfSome o HasLocalKinds →
     is_well_formed_member (function_in b f o) ≡ true
 function-good b w f g None h k = refl
 function-good b w f g (Some x) h k =
@@ -149,7 +150,7 @@ families-good b w s i = unfolded-good b w s (length b.nests) i
 
 -- Modules and files.
 
-typed-good : (b : Bench) → AreWellFormed b → (t : Option VastDataType) → OptionHolds (OwnsType b) t → is_well_formed_typed (maybe_type_in b.nodes t) ≡ true
+typed-good : (b : Bench) → AreWellFormed b → (t : Option VastDataType) → IfSome t (OwnsType b) → is_well_formed_typed (maybe_type_in b.nodes t) ≡ true
 typed-good b w None h = refl
 typed-good b w (Some t) h = type-good b w t h
 
@@ -163,7 +164,7 @@ ports-good b w r (p ∷ ps) h =
     both_true (Each-there (PortSound b) (λ o. is_well_formed_type (maybe_port_tree b o).declaration.type ≡ true) (λ x k. type-good b w x.data_type k.0) b.ports (port_index p) r.ports h.0.of_kind) (ports-good b w r ps h.1)
 
 module_item-good :
-    (b : Bench) → AreWellFormed b → FileSound b → (o : Option ModuleRecord) → OptionHolds (ModuleSound b) o → OptionHolds DeclaresOwnKinds o → (items : List FileItemTree) → are_well_formed_items items ≡ true →
+    (b : Bench) → AreWellFormed b → FileSound b → (o : Option ModuleRecord) → IfSome o (ModuleSound b) → IfSome o DeclaresOwnKinds → (items : List FileItemTree) → are_well_formed_items items ≡ true →
     are_well_formed_items (maybe_module_tree b o ∷ items) ≡ true
 module_item-good b w s None h k items e = e
 module_item-good b w s (Some m) h k items e =

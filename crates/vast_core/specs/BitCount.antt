@@ -7,7 +7,8 @@ use Rattle.vast_core.specs.declared.bits.BitCountFault.TheVariants.{Overflow, Sy
 use Rattle.vast_core.specs.declared.bits.WidthFault.{WidthFault}
 use Rattle.vast_core.specs.declared.bits.WidthFault.TheVariants.{Symbolic as SymbolicWidth, Undeclared}
 use Rattle.vast_core.specs.Handles.{type_rank}
-use Rattle.vast_core.specs.Types.{base_of, width_of, is_castable}
+use Rattle.vast_core.specs.Types.{width_of, is_castable}
+use Rattle.vast_literal.specs.Shape.{base_of, is_external}
 use Rattle.vast_core.specs.Bench.{Bench, OwnsExpr, OwnsType, tree_of, type_of}
 
 abbrev pub product : List ℤ → ℤ
@@ -49,11 +50,6 @@ declared_bits _ = None
 
 abbrev pub width_value : TypeTree → Option ℤ
 width_value t = declared_bits (base_of t)
-
-abbrev pub is_external : TypeTree → Bool
-is_external (ExternalTree name) = true
-is_external (PackageTree package_name name) = true
-is_external _ = false
 
 -- There is a number, and it is above all that 64 bits hold.
 abbrev pub Exceeds : Option ℤ → Type 0

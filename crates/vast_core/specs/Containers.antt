@@ -1,5 +1,5 @@
 -- What a file holds after a call that adds to a container, or to a module what holds containers.
-use Rattle.std.specs.Prelude.{◌≡◌, ℕ, suc, ◌+◌, ◌<◌, ◌≤◌, Bool, true, false, List, [], ◌∷◌, ◌++◌, length, Option, Some, None}
+use Rattle.std.specs.Prelude.{◌≡◌, ℕ, suc, ◌+◌, ◌<◌, ◌≤◌, Bool, true, false, List, [], ◌∷◌, ◌++◌, length, Option, Some, None, IfSome}
 use Rattle.vast_core.specs.declared.handle.Expr.{Expr}
 use Rattle.vast_core.specs.declared.handle.VastModule.{VastModule}
 use Rattle.vast_core.specs.declared.handle.VastStatementBlock.{VastStatementBlock}
@@ -7,13 +7,13 @@ use Rattle.vast_core.specs.declared.handle.ModulePort.{ModulePort}
 use Rattle.vast_core.specs.declared.handle.VastFunction.{VastFunction}
 use Rattle.vast_core.specs.declared.handle.Conditional.{Conditional}
 use Rattle.vast_core.specs.declared.handle.CaseStatement.{CaseStatement}
-use Rattle.vast_core.specs.declared.kind.CaseKind.{CaseKind}
+use Rattle.vast_literal.specs.declared.kind.CaseKind.{CaseKind}
 use Rattle.vast_core.specs.declared.node.Assignment.{Assignment}
 use Rattle.vast_core.specs.declared.node.ElseIf.{ElseIf}
 use Rattle.vast_core.specs.declared.node.CaseArm.{CaseArm}
 use Rattle.vast_core.specs.declared.node.Term.{Term}
 use Rattle.vast_core.specs.Handles.{module_index, function_index, block_index, conditional_index, case_index}
-use Rattle.vast_core.specs.Nodes.{OptionHolds, TermsSound, built}
+use Rattle.vast_core.specs.Nodes.{TermsSound, built}
 use Rattle.vast_core.specs.Records.{PortRecord, ParameterPortRecord, ModuleRecord, MemberEntry, FileEntry, DefinitionRecord, ArtifactRecord, InstanceRecord, with_port, with_parameter_port, with_member, with_named_member, changed_at}
 use Rattle.vast_core.specs.Nests.{StatementEntry, NestRecord, BlockRecord, BranchRecord, SwitchRecord, RepeatRecord, VariableRecord, FunctionRecord, AlwaysRecord}
 use Rattle.vast_core.specs.Raw.{Raw}
@@ -168,15 +168,15 @@ pub record InstanceComes (c : Bench) (i : InstanceRecord) : Type 0 where
 -- The new nodes of file b are made of what file c owns.
 pub record FreshSound (b c : Bench) (f : Fresh) : Type 0 where
   pub terms : TermsSound b.nodes f.terms
-  pub assignment : OptionHolds (AssignmentSound c) f.assignment
-  pub container : OptionHolds (NestSound c (length b.nests)) f.container
-  pub port : OptionHolds (PortSound c) f.port
-  pub fresh_module : OptionHolds (ComesEmpty c) f.fresh_module
-  pub function : OptionHolds (FunctionComes c) f.function
-  pub definition : OptionHolds (DefinitionSound c) f.definition
-  pub artifact : OptionHolds (ArtifactSound c) f.artifact
-  pub instance : OptionHolds (InstanceComes c) f.instance
-  pub always_block : OptionHolds (AlwaysSound c) f.always_block
+  pub assignment : IfSome f.assignment (AssignmentSound c)
+  pub container : IfSome f.container (NestSound c (length b.nests))
+  pub port : IfSome f.port (PortSound c)
+  pub fresh_module : IfSome f.fresh_module (ComesEmpty c)
+  pub function : IfSome f.function (FunctionComes c)
+  pub definition : IfSome f.definition (DefinitionSound c)
+  pub artifact : IfSome f.artifact (ArtifactSound c)
+  pub instance : IfSome f.instance (InstanceComes c)
+  pub always_block : IfSome f.always_block (AlwaysSound c)
 
 abbrev pub EntersSound : Bench → ℕ → NestedEntry → Type 0
 EntersSound b i (StatementEnters s) = StatementSound b i s
@@ -201,7 +201,7 @@ pub record ListsMember (b c : Bench) (owner : VastModule) (entry : MemberEntry) 
   pub member : MemberSound c entry
   pub kind : HasOwnKind entry
   pub declares : names_by_member c.functions entry ≡ listed_name name
-  pub free : OptionHolds (NameIsFree c owner) name
+  pub free : IfSome name (NameIsFree c owner)
 
 pub record ListsVariable (b c : Bench) (f : VastFunction) (local : Bool) (v : VariableRecord) : Type 0 where
   pub function_there : OwnsFunction b f

@@ -1,14 +1,17 @@
 -- The tree of a file, without handles.
 use Rattle.std.specs.Prelude.{ℕ, zero, suc, Bool, true, false, List, [], ◌∷◌, map, length, Option, Some, None, slice_get}
-use Rattle.vast_literal.specs.Tree.{ExprTree, AssignForm, Blocking, Nonblocking, Continuous, StatementTree, AssignTree, CommentTree, BlankTree, InlineTree, ConditionalTree, CaseTree, Statements, NoStatements, MoreStatements, Alternates, NoElse, ElseIf, Else, CaseArms, NoCaseArms, CaseArm, MemberTree, DeclarationMember, AssignMember, ParameterMember, CommentMember, BlankMember, InlineMember, MacroMember, InstanceMember, AlwaysMember, ConditionalMember, FunctionMember, LoopMember, Members, NoMembers, MoreMembers, MissingType, Declaration, WireKind, ParameterName, PlainParameter, IntParameter, DefinedParameter, Connection, PortTree, InputDirection, ParameterPortTree, ModuleTree, FileItemTree, ModuleItem, IncludeItem, CommentItem, BlankItem, FileTree}
+use Rattle.vast_literal.specs.Tree.{ExprTree, StatementTree, AssignTree, CommentTree, BlankTree, InlineTree, ConditionalTree, CaseTree, Statements, NoStatements, MoreStatements, Alternates, NoElse, ElseIf, Else, CaseArms, NoCaseArms, CaseArm, MemberTree, DeclarationMember, AssignMember, ParameterMember, CommentMember, BlankMember, InlineMember, MacroMember, InstanceMember, AlwaysMember, ConditionalMember, FunctionMember, LoopMember, Members, NoMembers, MoreMembers, MissingType, Declaration, ParameterName, PlainParameter, IntParameter, DefinedParameter, Connection, PortTree, ParameterPortTree, ModuleTree, FileItemTree, ModuleItem, IncludeItem, CommentItem, BlankItem, FileTree}
+use Rattle.vast_literal.specs.declared.kind.AssignmentForm.{AssignmentForm as AssignForm}
+use Rattle.vast_literal.specs.declared.kind.AssignmentForm.TheVariants.{Blocking, Nonblocking, Continuous}
+use Rattle.vast_literal.specs.declared.kind.DataKind.TheVariants.{Wire as WireKind}
+use Rattle.vast_literal.specs.declared.kind.ModulePortDirection.TheVariants.{Input as InputDirection}
 use Rattle.vast_core.specs.declared.handle.VastDataType.{VastDataType}
 use Rattle.vast_core.specs.declared.handle.ModulePort.{ModulePort}
 use Rattle.vast_core.specs.declared.handle.VastStatementBlock.{VastStatementBlock}
-use Rattle.vast_core.specs.declared.kind.DataKind.{DataKind}
+use Rattle.vast_literal.specs.declared.kind.DataKind.{DataKind}
 use Rattle.vast_core.specs.declared.node.ElseIf.{ElseIf as ElseIfNode}
 use Rattle.vast_core.specs.declared.node.CaseArm.{CaseArm as CaseArmNode}
 use Rattle.vast_core.specs.declared.node.Assignment.{Assignment}
-use Rattle.vast_core.specs.Kinds.{dialect_of, direction_of, kind_of, always_word, case_word}
 use Rattle.vast_core.specs.Handles.{module_index, port_index, continuous_index, definition_index, comment_index, inline_index, macro_statement_index, instantiation_index, function_index, always_index, statement_index, block_index, conditional_index, case_index, loop_index, macro_ref_to_expr}
 use Rattle.vast_core.specs.Nodes.{maybe_type_in, maybe_expr_in}
 use Rattle.vast_core.specs.Records.{PortRecord, ParameterPortRecord, ModuleRecord, FormEntry, PlainForm, IntForm, DefinedForm, MemberEntry, DeclarationEntry, AssignmentEntry, ParameterEntry, BlankEntry, CommentEntry, InlineEntry, MacroEntry, InstanceEntry, FunctionEntry, AlwaysEntry, ConditionalEntry, LoopEntry, FileEntry, ModuleEntry, IncludeEntry, FileCommentEntry, FileBlankEntry, DefinitionRecord, ArtifactRecord, BlankLineRecord, CommentRecord, InlineRecord, MacroRecord, ConnectionRecord, InstanceRecord}
@@ -16,7 +19,7 @@ use Rattle.vast_core.specs.Nests.{StatementEntry, AssignStatement, ContinuousSta
 use Rattle.vast_core.specs.Bench.{Bench, tree_of, type_of, maybe_tree_of, trees_of}
 
 abbrev pub declared : Bench → DataKind → List ℕ → VastDataType → Declaration
-declared b kind name data_type = record { kind = kind_of kind; type = type_of b data_type; name = name }
+declared b kind name data_type = record { kind = kind; type = type_of b data_type; name = name }
 
 abbrev pub missing_declaration : Declaration
 missing_declaration = record { kind = WireKind; type = MissingType; name = [] }
@@ -133,7 +136,7 @@ arms_in b f (a ∷ arms) = CaseArm (maybe_tree_of b a.label) (block_in (f (block
 
 abbrev pub always_in : Bench → (ℕ → Family) → Option AlwaysRecord → MemberTree
 always_in b f None = BlankMember
-always_in b f (Some a) = AlwaysMember (always_word a.kind) (trees_of b a.events) (block_in (f (block_index a.block)))
+always_in b f (Some a) = AlwaysMember a.kind (trees_of b a.events) (block_in (f (block_index a.block)))
 
 abbrev pub variable_tree : Bench → VariableRecord → Declaration
 variable_tree b v = declared b v.kind v.name v.data_type
@@ -165,7 +168,7 @@ abbrev pub family : Bench → (ℕ → Family) → Option NestRecord → Family
 family b f None = NoFamily
 family b f (Some (BlockRecord statements)) = BlockFamily (statements_in b f statements)
 family b f (Some (BranchRecord c)) = BranchFamily (tree_of b c.condition) (block_in (f (block_index c.consequent))) (alternates_in b f c.else_ifs c.otherwise)
-family b f (Some (SwitchRecord c)) = SwitchFamily (CaseTree c.unique (case_word c.kind) (tree_of b c.selector) (arms_in b f c.arms))
+family b f (Some (SwitchRecord c)) = SwitchFamily (CaseTree c.unique c.kind (tree_of b c.selector) (arms_in b f c.arms))
 family b f (Some (RepeatRecord l)) = RepeatFamily (LoopMember l.name (tree_of b l.start) (tree_of b l.limit) l.label (members_in b f l.members))
 
 -- The tree of container i, this many levels deep.
@@ -196,7 +199,7 @@ abbrev pub members_tree : Bench → List MemberEntry → Members
 members_tree b entries = members_in b (families b) entries
 
 abbrev pub declared_port : Bench → PortRecord → PortTree
-declared_port b p = record { direction = direction_of p.direction; declaration = declared b p.kind p.name p.data_type }
+declared_port b p = record { direction = p.direction; declaration = declared b p.kind p.name p.data_type }
 
 abbrev pub missing_port : PortTree
 missing_port = record { direction = InputDirection; declaration = missing_declaration }
@@ -226,4 +229,4 @@ item_tree b FileBlankEntry = BlankItem
 
 -- The dialect and the items of the file, with all that they hold.
 unfoldable pub tree : Bench → FileTree
-tree b = record { dialect = dialect_of b.file_type; items = map (item_tree b) b.items }
+tree b = record { dialect = b.file_type; items = map (item_tree b) b.items }

@@ -14,8 +14,8 @@ use Rattle.vast_core.specs.declared.handle.VastDataType.{VastDataType}
 use Rattle.vast_core.specs.declared.handle.VastModule.{VastModule}
 use Rattle.vast_core.specs.declared.handle.ModulePort.{ModulePort}
 use Rattle.vast_core.specs.declared.handle.ContinuousAssignment.{ContinuousAssignment}
-use Rattle.vast_core.specs.declared.kind.ModulePortDirection.{ModulePortDirection}
-use Rattle.vast_core.specs.declared.kind.DataKind.{DataKind}
+use Rattle.vast_literal.specs.declared.kind.ModulePortDirection.{ModulePortDirection}
+use Rattle.vast_literal.specs.declared.kind.DataKind.{DataKind}
 use Rattle.vast_core.specs.declared.node.Assignment.{Assignment}
 use Rattle.vast_core.specs.declared.node.Term.{Term}
 use Rattle.vast_core.specs.Handles.{module_index, indexable_expr_to_expr}

@@ -1,4 +1,3 @@
-pub mod Kinds
 pub mod Handles
 pub mod Types
 pub mod Nodes
@@ -24,3 +23,4 @@ pub mod Functions
 pub mod Events
 pub mod Unattached
 pub mod Scopes
+pub mod Spots

@@ -8,7 +8,7 @@ use Rattle.vast_core.specs.declared.handle.VastDataType.{VastDataType}
 use Rattle.vast_core.specs.declared.handle.VastAlwaysBase.{VastAlwaysBase}
 use Rattle.vast_core.specs.declared.handle.VastFunction.{VastFunction}
 use Rattle.vast_core.specs.declared.handle.GenerateLoop.{GenerateLoop}
-use Rattle.vast_core.specs.declared.kind.AlwaysKind.{AlwaysKind}
+use Rattle.vast_literal.specs.declared.kind.AlwaysKind.{AlwaysKind}
 use Rattle.vast_core.specs.declared.node.ExprNode.TheVariants.{Name}
 use Rattle.vast_core.specs.declared.node.Term.{Term}
 use Rattle.vast_core.specs.declared.node.Term.TheVariants.{Expression}

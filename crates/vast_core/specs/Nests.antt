@@ -8,9 +8,9 @@ use Rattle.vast_core.specs.declared.handle.VastStatement.{VastStatement}
 use Rattle.vast_core.specs.declared.handle.VastStatementBlock.{VastStatementBlock}
 use Rattle.vast_core.specs.declared.handle.Conditional.{Conditional}
 use Rattle.vast_core.specs.declared.handle.CaseStatement.{CaseStatement}
-use Rattle.vast_core.specs.declared.kind.DataKind.{DataKind}
-use Rattle.vast_core.specs.declared.kind.AlwaysKind.{AlwaysKind}
-use Rattle.vast_core.specs.declared.kind.CaseKind.{CaseKind}
+use Rattle.vast_literal.specs.declared.kind.DataKind.{DataKind}
+use Rattle.vast_literal.specs.declared.kind.AlwaysKind.{AlwaysKind}
+use Rattle.vast_literal.specs.declared.kind.CaseKind.{CaseKind}
 use Rattle.vast_core.specs.declared.node.Statement.{Statement}
 use Rattle.vast_core.specs.declared.node.Statement.TheVariants.{Assignment as AssignmentOf, Continuous as ContinuousOf, Conditional as ConditionalOf, Case as CaseOf, BlankLine as BlankOf, Comment as CommentOf, Inline as InlineOf}
 use Rattle.vast_core.specs.declared.node.ElseIf.{ElseIf}

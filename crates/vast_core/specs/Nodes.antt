@@ -1,5 +1,5 @@
 -- The arena of expressions and types: nodes, and the trees that they stand for.
-use Rattle.std.specs.Prelude.{◌≡◌, ℕ, ◌<◌, Bool, true, false, IsTrue, List, [], ◌∷◌, ◌++◌, Option, Some, None, slice_get, string_bytes, All, Vec}
+use Rattle.std.specs.Prelude.{◌≡◌, ℕ, ◌<◌, Bool, true, false, IsTrue, List, [], ◌∷◌, ◌++◌, Option, Some, None, slice_get, string_bytes, All, Vec, IfSome}
 use Rattle.std.specs.declared.alloc.Global.{Global}
 use Rattle.vast_literal.specs.Tree.{ExprTree, NameTree, LiteralTree, StringTree, UnaryTree, BinaryTree, TernaryTree, IndexTree, SliceTree, PartSelectTree, ConcatTree, PatternTree, WidthCastTree, TypeCastTree, PosEdgeTree, NegEdgeTree, MacroTree, CallTree, MissingExpr, TypeTree, ScalarTree, VectorTree, IntegerTree, IntTree, ExternalTree, PackageTree, PackedTree, UnpackedTree, MissingType, MaybeType, Untyped, Typed, MaybeExpr, NoExpr, SomeExpr, Exprs, NoExprs, MoreExprs, MaybeExprs, NoArguments, SomeArguments}
 use Rattle.vast_core.specs.declared.handle.Id.{Id}
@@ -12,7 +12,6 @@ use Rattle.vast_core.specs.declared.node.TypeNode.TheVariants.{Scalar, Vector, I
 use Rattle.vast_core.specs.declared.node.Term.{Term}
 use Rattle.vast_core.specs.declared.node.Term.TheVariants.{Expression, DataType}
 use Rattle.vast_core.specs.Handles.{rank, type_rank}
-use Rattle.vast_core.specs.Kinds.{unary_of, binary_of}
 use Rattle.vast_core.specs.Types.{ExprFits, TypeFits, ExprWellFormed, TypeWellFormed}
 
 -- What a node of the arena stands for.
@@ -114,8 +113,8 @@ abbrev pub expr_tree : Nodes → ExprNode → ExprTree
 expr_tree b (Name name type) = NameTree (string_bytes name) (maybe_type_in b type)
 expr_tree b (Literal text value) = LiteralTree (string_bytes text) value
 expr_tree b (StringText text) = StringTree (string_bytes text)
-expr_tree b (Unary operator operand) = UnaryTree (unary_of operator) (expr_in b operand)
-expr_tree b (Binary operator left right) = BinaryTree (binary_of operator) (expr_in b left) (expr_in b right)
+expr_tree b (Unary operator operand) = UnaryTree operator (expr_in b operand)
+expr_tree b (Binary operator left right) = BinaryTree operator (expr_in b left) (expr_in b right)
 expr_tree b (Ternary condition consequent alternate) = TernaryTree (expr_in b condition) (expr_in b consequent) (expr_in b alternate)
 expr_tree b (Index subject index) = IndexTree (expr_in b subject) (expr_in b index)
 expr_tree b (Slice subject high low) = SliceTree (expr_in b subject) (expr_in b high) (expr_in b low)
@@ -143,14 +142,9 @@ abbrev pub term_root : Nodes → Term → Root
 term_root b (Expression n) = ExprRoot (expr_tree b n)
 term_root b (DataType n) = TypeRoot (type_tree b n)
 
--- P holds of the value, if there is one.
-abbrev pub OptionHolds : {A : Type 0} (P : A → Type 0) → Option A → Type 0
-OptionHolds P None = Unit {0}
-OptionHolds P (Some x) = P x
-
 -- P holds of each child that is an expression, and Q of each that is a type.
 abbrev pub ExprChildrenHold : (P : Expr → Type 0) (Q : VastDataType → Type 0) → ExprNode → Type 0
-ExprChildrenHold P Q (Name name type) = OptionHolds Q type
+ExprChildrenHold P Q (Name name type) = IfSome type Q
 ExprChildrenHold P Q (Literal text value) = Unit {0}
 ExprChildrenHold P Q (StringText text) = Unit {0}
 ExprChildrenHold P Q (Unary operator operand) = P operand
@@ -159,13 +153,13 @@ ExprChildrenHold P Q (Ternary condition consequent alternate) = P condition × P
 ExprChildrenHold P Q (Index subject index) = P subject × P index
 ExprChildrenHold P Q (Slice subject high low) = P subject × P high × P low
 ExprChildrenHold P Q (PartSelect subject start width) = P subject × P start
-ExprChildrenHold P Q (Concat count parts) = OptionHolds P count × All P parts.items
+ExprChildrenHold P Q (Concat count parts) = IfSome count P × All P parts.items
 ExprChildrenHold P Q (Pattern parts) = All P parts.items
 ExprChildrenHold P Q (WidthCast width operand) = P width × P operand
 ExprChildrenHold P Q (TypeCast type operand) = Q type × P operand
 ExprChildrenHold P Q (PosEdge operand) = P operand
 ExprChildrenHold P Q (NegEdge operand) = P operand
-ExprChildrenHold P Q (Macro name arguments) = OptionHolds (λ parts. All P parts.items) arguments
+ExprChildrenHold P Q (Macro name arguments) = IfSome arguments (λ parts. All P parts.items)
 ExprChildrenHold P Q (Call name arguments) = All P arguments.items
 
 abbrev pub TypeChildrenHold : (P : Expr → Type 0) (Q : VastDataType → Type 0) → TypeNode → Type 0

@@ -1,6 +1,6 @@
 -- What every file keeps: children are older, each expression and type fits, and each handle in its records and lists
 -- is its own.
-use Rattle.std.specs.Prelude.{◌↔◌, ℕ, suc, ◌<◌, Bool, true, false, IsTrue, List, [], ◌∷◌, Option, Some, None, slice_get}
+use Rattle.std.specs.Prelude.{◌↔◌, ℕ, suc, ◌<◌, Bool, true, false, IsTrue, List, [], ◌∷◌, Option, Some, None, slice_get, IfSome}
 use Rattle.vast_literal.specs.Tree.{ExprTree, NameTree, PosEdgeTree, NegEdgeTree}
 use Rattle.vast_core.specs.declared.handle.Expr.{Expr}
 use Rattle.vast_core.specs.declared.handle.VastStatementBlock.{VastStatementBlock}
@@ -9,7 +9,7 @@ use Rattle.vast_core.specs.declared.node.CaseArm.{CaseArm}
 use Rattle.vast_core.specs.Handles.{block_index, conditional_index, case_index, loop_index, always_index}
 use Rattle.vast_core.specs.Nests.{StatementEntry, AssignStatement, ContinuousStatement, ConditionalStatement, CasesStatement, BlankStatement, CommentStatement, InlineStatement, ConditionalRecord, CaseRecord, LoopRecord, NestRecord, BlockRecord, BranchRecord, SwitchRecord, RepeatRecord, VariableRecord, FunctionRecord, AlwaysRecord, declared_names}
 use Rattle.vast_core.specs.declared.node.Assignment.{Assignment}
-use Rattle.vast_core.specs.Nodes.{no_nodes, TermsSound, OptionHolds}
+use Rattle.vast_core.specs.Nodes.{no_nodes, TermsSound}
 use Rattle.vast_core.specs.Records.{PortRecord, ParameterPortRecord, ModuleRecord, FormEntry, PlainForm, IntForm, DefinedForm, MemberEntry, DeclarationEntry, AssignmentEntry, ParameterEntry, BlankEntry, CommentEntry, InlineEntry, MacroEntry, InstanceEntry, FunctionEntry, AlwaysEntry, ConditionalEntry, LoopEntry, FileEntry, ModuleEntry, IncludeEntry, FileCommentEntry, FileBlankEntry, DefinitionRecord, ArtifactRecord, BlankLineRecord, CommentRecord, InlineRecord, MacroRecord, ConnectionRecord, InstanceRecord, IsFree}
 use Rattle.vast_core.specs.Raw.{Raw}
 use Rattle.vast_core.specs.Bench.{Bench, OwnsExpr, OwnsType, OwnsLogicRef, OwnsPort, OwnsContinuous, OwnsModule, OwnsDef, OwnsMacroRef, OwnsComment, OwnsInline, OwnsMacroStatement, OwnsInstantiation, OwnsFunction, OwnsAlways, OwnsStatement, OwnsBlock, OwnsConditional, OwnsCase, OwnsLoop, tree_of}
@@ -38,7 +38,7 @@ ArtifactSound b (InlineRecord text) = Unit {0}
 ArtifactSound b (MacroRecord call semicolon) = OwnsMacroRef b call
 
 abbrev pub ConnectionSound : Bench → ConnectionRecord → Type 0
-ConnectionSound b c = OptionHolds (OwnsExpr b) c.value
+ConnectionSound b c = IfSome c.value (OwnsExpr b)
 
 pub record InstanceSound (b : Bench) (i : InstanceRecord) : Type 0 where
   pub parameters : Each (ConnectionSound b) i.parameters
@@ -80,13 +80,13 @@ abbrev pub ElseIfSound : Bench → ℕ → ElseIf → Type 0
 ElseIfSound b i a = OwnsExpr b a.condition × HoldsBlock b i a.block
 
 abbrev pub CaseArmSound : Bench → ℕ → CaseArm → Type 0
-CaseArmSound b i a = OptionHolds (OwnsExpr b) a.label × HoldsBlock b i a.block
+CaseArmSound b i a = IfSome a.label (OwnsExpr b) × HoldsBlock b i a.block
 
 pub record ConditionalSound (b : Bench) (i : ℕ) (c : ConditionalRecord) : Type 0 where
   pub condition : OwnsExpr b c.condition
   pub consequent : HoldsBlock b i c.consequent
   pub else_ifs : Each (ElseIfSound b i) c.else_ifs
-  pub otherwise : OptionHolds (HoldsBlock b i) c.otherwise
+  pub otherwise : IfSome c.otherwise (HoldsBlock b i)
 
 pub record CaseSound (b : Bench) (i : ℕ) (c : CaseRecord) : Type 0 where
   pub selector : OwnsExpr b c.selector
@@ -167,7 +167,7 @@ pub record AlwaysSound (b : Bench) (a : AlwaysRecord) : Type 0 where
   pub block : OwnsBlock b a.block
 
 abbrev pub ParameterPortSound : Bench → ParameterPortRecord → Type 0
-ParameterPortSound b p = OptionHolds (OwnsType b) p.data_type × OwnsExpr b p.value
+ParameterPortSound b p = IfSome p.data_type (OwnsType b) × OwnsExpr b p.value
 
 pub record ModuleSound (b : Bench) (m : ModuleRecord) : Type 0 where
   pub parameters : Each (ParameterPortSound b) m.parameters
@@ -213,7 +213,7 @@ pub record KindsSound (modules : List ModuleRecord) (functions : List FunctionRe
 
 pub record FileSound (b : Bench) : Type 0 where
   pub records : RecordsSound b
-  pub spare : OptionHolds (OwnsBlock b) b.spare
+  pub spare : IfSome b.spare (OwnsBlock b)
   pub names : NamesAreSound b
   pub parents : HasOneParent b
   pub kinds : KindsSound b.modules b.functions b.instances

@@ -1,6 +1,7 @@
 -- What types and widths are, read off their trees, and what is kept of every tree.
 use Rattle.std.specs.Prelude.{◌≡◌, ℤ, ◌<◌, ◌≤ℤ◌, pos, Bool, true, false, IsTrue, List, length, Option, None, IfSome, All}
 use Rattle.vast_literal.specs.LiteralToken.{is_literal_text, is_string_text}
+use Rattle.vast_literal.specs.Shape.{base_of}
 use Rattle.vast_literal.specs.Tree.{ExprTree, NameTree, LiteralTree, StringTree, UnaryTree, BinaryTree, TernaryTree, IndexTree, SliceTree, PartSelectTree, ConcatTree, PatternTree, WidthCastTree, TypeCastTree, PosEdgeTree, NegEdgeTree, MacroTree, CallTree, MissingExpr, TypeTree, ScalarTree, VectorTree, IntegerTree, IntTree, ExternalTree, PackageTree, PackedTree, UnpackedTree, MissingType, MaybeType, Untyped, Typed, MaybeExpr, NoExpr, SomeExpr, Exprs, NoExprs, MoreExprs, MaybeExprs, NoArguments, SomeArguments}
 
 -- A literal's value, where that is known.
@@ -29,18 +30,6 @@ is_castable _ = true
 pub record AreDimensions (dimensions : List ℤ) : Type 0 where
   pub any : 0 < length dimensions
   pub each : All (λ d. pos 1 ≤ℤ d) dimensions
-
--- The type within the arrays.
-abbrev pub base_of : TypeTree → TypeTree
-base_of (PackedTree element dimensions) = base_of element
-base_of (UnpackedTree element dimensions) = base_of element
-base_of (ScalarTree signed) = ScalarTree signed
-base_of (VectorTree width value signed) = VectorTree width value signed
-base_of (IntegerTree signed) = IntegerTree signed
-base_of (IntTree signed) = IntTree signed
-base_of (ExternalTree name) = ExternalTree name
-base_of (PackageTree package_name name) = PackageTree package_name name
-base_of MissingType = MissingType
 
 -- A vector's width.
 abbrev pub vector_width : TypeTree → MaybeExpr

@@ -2,7 +2,7 @@
 use Rattle.std.specs.Prelude.{List, [], ◌∷◌, ◌++◌, None}
 use Rattle.vast_core.specs.declared.handle.Expr.{Expr}
 use Rattle.vast_core.specs.declared.handle.VastStatementBlock.{VastStatementBlock}
-use Rattle.vast_core.specs.declared.kind.AlwaysKind.{AlwaysKind}
+use Rattle.vast_literal.specs.declared.kind.AlwaysKind.{AlwaysKind}
 use Rattle.vast_core.specs.Nests.{AlwaysRecord}
 use Rattle.vast_core.specs.Bench.{Bench}
 

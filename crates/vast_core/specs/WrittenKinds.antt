@@ -3,19 +3,18 @@
 use Rattle.std.specs.Prelude.{Bool, true, false, IsTrue, Option, Some, None}
 use Rattle.vast_literal.specs.WellFormedFile.{is_own_kind, is_local_word}
 use Rattle.vast_core.specs.declared.handle.Expr.{Expr}
-use Rattle.vast_core.specs.declared.kind.DataKind.{DataKind}
-use Rattle.vast_core.specs.Kinds.{kind_of}
+use Rattle.vast_literal.specs.declared.kind.DataKind.{DataKind}
 use Rattle.vast_core.specs.Records.{MemberEntry, DeclarationEntry, AssignmentEntry, ParameterEntry, BlankEntry, CommentEntry, InlineEntry, MacroEntry, InstanceEntry, FunctionEntry, AlwaysEntry, ConditionalEntry, LoopEntry, ConnectionRecord}
 use Rattle.vast_core.specs.Nests.{VariableRecord}
 
 -- A module declares such: wire, reg or logic.
 abbrev pub IsOwnKind : DataKind → Type 0
-IsOwnKind kind = IsTrue (is_own_kind (kind_of kind))
+IsOwnKind kind = IsTrue (is_own_kind kind)
 
 -- A function's local is such: reg or logic. Of an input's kind nothing is asked.
 abbrev pub IsVariableKind : (local : Bool) → DataKind → Type 0
 IsVariableKind false kind = Unit {0}
-IsVariableKind true kind = IsTrue (is_local_word (kind_of kind))
+IsVariableKind true kind = IsTrue (is_local_word kind)
 
 abbrev pub HasOwnKind : MemberEntry → Type 0
 HasOwnKind (DeclarationEntry kind name data_type) = IsOwnKind kind

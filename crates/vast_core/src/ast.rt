@@ -5,7 +5,7 @@ ghost use Rattle.vast_core.specs.Bench.{start};
 ghost use Rattle.vast_core.specs.View.{bench};
 
 use crate::handle::VastStatementBlock;
-use crate::kind::VastFileType;
+use vast_literal::VastFileType;
 use crate::node::{
     AlwaysBlock, Artifact, Assignment, Definition, FileItem, Function, Instance, Module, Nest,
     Port, Term,
@@ -37,6 +37,7 @@ mod places;
 mod ports;
 pub(crate) mod scope;
 mod spare;
+pub(crate) mod spot;
 mod terms;
 mod types;
 mod variables;

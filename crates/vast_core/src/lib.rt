@@ -8,14 +8,13 @@ mod ast;
 mod bits;
 mod file_ids;
 mod handle;
-mod kind;
 mod node;
-mod operator;
 mod shape;
 
 pub use ast::Ast;
 pub use ast::owns::Handle;
 pub use ast::scope::Scope;
+pub use ast::spot::Spot;
 pub use bits::{BitCountFault, WidthFault};
 pub use file_ids::{FileIds, IdsSpent};
 pub use handle::{
@@ -24,11 +23,13 @@ pub use handle::{
     MacroStatement, ModulePort, ParameterRef, Slice, VastAlwaysBase, VastDataType, VastFunction,
     VastModule, VastStatement, VastStatementBlock,
 };
-pub use kind::{AlwaysKind, CaseKind, DataKind, ModulePortDirection, VastFileType};
 pub use node::{
     AlwaysBlock, Artifact, Assignment, CaseArm, CaseNode, ConditionalNode, Connection, Definition,
     ElseIf, ExprNode, FileItem, Function, FunctionVariable, Instance, LoopNode, Member, Module,
     ParameterForm, ParameterPort, Port, Statement, TypeNode,
 };
-pub use operator::{BinaryOperator, UnaryOperator};
 pub use vast_literal::is_system_verilog_keyword;
+pub use vast_literal::{
+    AlwaysKind, AssignmentForm, BinaryOperator, CaseKind, DataKind, ModulePortDirection,
+    UnaryOperator, VastFileType,
+};

@@ -5,8 +5,8 @@ use crate::handle::{
     InlineVerilogStatement, Instantiation, LogicRef, MacroRef, MacroStatement, ModulePort,
     VastAlwaysBase, VastDataType, VastFunction, VastModule, VastStatement, VastStatementBlock,
 };
-use crate::kind::{AlwaysKind, CaseKind, DataKind, ModulePortDirection};
-use crate::operator::{BinaryOperator, UnaryOperator};
+use vast_literal::{AlwaysKind, CaseKind, DataKind, ModulePortDirection};
+use vast_literal::{BinaryOperator, UnaryOperator};
 use std::collections::BTreeSet;
 
 /// An expression.

@@ -5,4 +5,5 @@ mod errors;
 mod first_program;
 mod handles;
 mod ids;
+mod literals;
 mod replay;

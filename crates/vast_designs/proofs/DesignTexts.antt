@@ -3,7 +3,7 @@ use Rattle.std.proofs.Common.{◌≡◌, ℕ, List, refl, ap, ◌∙◌, map, Re
 use Rattle.std.specs.Fmt.{digits}
 use Rattle.vast_literal.specs.Pattern.{is_pattern, pattern}
 use Rattle.vast_literal.specs.declared.error.VastFault.{VastFault}
-use Rattle.vast_core.specs.declared.kind.VastFileType.TheVariants.{SystemVerilog}
+use Rattle.vast_literal.specs.declared.kind.VastFileType.TheVariants.{SystemVerilog}
 use Rattle.vast_core.specs.Nodes.{expr_in, type_in}
 use Rattle.vast_core.specs.Bench.{Bench, start}
 use Rattle.vast_core.specs.FileTree.{tree, families}

@@ -11,9 +11,9 @@ use Rattle.vast_core.specs.declared.handle.Expr.{Expr}
 use Rattle.vast_core.specs.declared.handle.VastModule.{VastModule}
 use Rattle.vast_core.specs.declared.handle.VastDataType.{VastDataType}
 use Rattle.vast_core.specs.declared.handle.LogicRef.{LogicRef}
-use Rattle.vast_core.specs.declared.kind.VastFileType.TheVariants.{SystemVerilog}
-use Rattle.vast_core.specs.declared.kind.ModulePortDirection.TheVariants.{Input}
-use Rattle.vast_core.specs.declared.kind.DataKind.TheVariants.{Wire, Logic}
+use Rattle.vast_literal.specs.declared.kind.VastFileType.TheVariants.{SystemVerilog}
+use Rattle.vast_literal.specs.declared.kind.ModulePortDirection.TheVariants.{Input}
+use Rattle.vast_literal.specs.declared.kind.DataKind.TheVariants.{Wire, Logic}
 use Rattle.vast_core.specs.Handles.{logic_ref_to_expr}
 use Rattle.vast_core.specs.Bench.{Bench, start, OwnsModule, OwnsExpr, OwnsType}
 use Rattle.vast_core.specs.Growth.{with_module, with_port, with_declaration, with_expr, with_type, next_module, next_logic_ref, next_expr, next_type}

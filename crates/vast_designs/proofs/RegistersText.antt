@@ -1,7 +1,10 @@
 -- The printed text of the design `registers`.
 use Rattle.std.proofs.Common.{◌≡◌, ℕ, pos, true, false, List, [], ◌∷◌, Some, Result, Ok, Err, IfOk, refl, codes}
 use Rattle.std.specs.Fmt.{digits}
-use Rattle.vast_literal.specs.Tree.{LiteralTree, TypeTree, ScalarTree, VectorTree, SystemVerilogDialect, LogicKind, WireKind, InputDirection, PortTree, MemberTree, DeclarationMember, NoMembers, MoreMembers, ModuleItem, FileTree}
+use Rattle.vast_literal.specs.Tree.{LiteralTree, TypeTree, ScalarTree, VectorTree, PortTree, MemberTree, DeclarationMember, NoMembers, MoreMembers, ModuleItem, FileTree}
+use Rattle.vast_literal.specs.declared.kind.VastFileType.TheVariants.{SystemVerilog as SystemVerilogDialect}
+use Rattle.vast_literal.specs.declared.kind.DataKind.TheVariants.{Logic as LogicKind, Wire as WireKind}
+use Rattle.vast_literal.specs.declared.kind.ModulePortDirection.TheVariants.{Input as InputDirection}
 use Rattle.vast_literal.specs.declared.error.VastFault.{VastFault}
 use Rattle.vast_core.specs.declared.handle.Expr.{Expr}
 use Rattle.vast_core.specs.declared.handle.VastModule.{VastModule}

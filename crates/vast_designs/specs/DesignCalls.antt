@@ -1,9 +1,9 @@
 -- The designs that are lists of calls, and what a list of calls prints.
 use Rattle.std.specs.Prelude.{ℕ, pos, true, false, List, [], ◌∷◌, codes}
-use Rattle.vast_core.specs.declared.kind.VastFileType.TheVariants.{SystemVerilog}
-use Rattle.vast_core.specs.declared.kind.ModulePortDirection.TheVariants.{Input, Output}
-use Rattle.vast_core.specs.declared.kind.DataKind.TheVariants.{Wire, Reg}
-use Rattle.vast_core.specs.declared.kind.CaseKind.TheVariants.{CaseZ}
+use Rattle.vast_literal.specs.declared.kind.VastFileType.TheVariants.{SystemVerilog}
+use Rattle.vast_literal.specs.declared.kind.ModulePortDirection.TheVariants.{Input, Output}
+use Rattle.vast_literal.specs.declared.kind.DataKind.TheVariants.{Wire, Reg}
+use Rattle.vast_literal.specs.declared.kind.CaseKind.TheVariants.{CaseZ}
 use Rattle.vast_core.specs.Nests.{CommentStatement}
 use Rattle.vast_core.specs.Growth.{decimal_literal}
 use Rattle.vast_core.specs.Bench.{start}

@@ -3,7 +3,7 @@
 //! Each part is added by a function of its own, which takes the file as the part before left it.
 
 ghost use Rattle.std.specs.Prelude.{◌≡◌, IfOk, string_bytes};
-ghost use Rattle.vast_core.specs.declared.kind.VastFileType.TheVariants.{SystemVerilog};
+ghost use Rattle.vast_literal.specs.declared.kind.VastFileType.TheVariants.{SystemVerilog};
 ghost use Rattle.vast_core.specs.Bench.{start};
 ghost use Rattle.vast_core.specs.FileTree.{tree};
 ghost use Rattle.vast_core.specs.View.{bench};

@@ -1,6 +1,5 @@
 -- The tokens of a declaration's text spell its normal form.
 use Rattle.std.proofs.Common.{◌≡◌, ℕ, ℤ, pos, ◌-ℤ◌, List, [], ◌∷◌, ◌++◌, Bool, true, false, ◌&&◌, codes, Option, Some, None, refl, subst, append_assoc, append-nil, arith}
-use Rattle.std.proofs.lemmas.Bool.{ltb-false}
 use Rattle.std.specs.Fmt.{signed_decimal}
 use Rattle.vast_literal.specs.Tokens.{Minus, level, WireKey, RegKey, LogicKey, IntegerKey, IntKey, GenvarKey, SignedKey, UnsignedKey, Token}
 use Rattle.vast_literal.specs.Tree.{Dialect, VerilogDialect, SystemVerilogDialect, ExprTree, NameTree, IndexTree, SliceTree, PartSelectTree, ConcatTree, TypeTree, ScalarTree, VectorTree, IntegerTree, IntTree, ExternalTree, PackageTree, PackedTree, UnpackedTree, Kind, RegKind, WireKind, LogicKind, IntegerKind, IntKind, UserKind, UntypedEnumKind, GenvarKind, Declaration}
@@ -8,14 +7,16 @@ use Rattle.vast_literal.specs.NormalExpr.{scalar_sign, integer_sign, normal}
 use Rattle.vast_literal.specs.Grammar.{Spells, binary, number}
 use Rattle.vast_literal.specs.FileGrammar.{IsMany, no_items, more_items, is_kind, is_sign, IsGroup, one, range, IsMaybe, absent, present, IsTypeName, no_type, own_type, packaged, IsDeclaration, declares}
 use Rattle.vast_literal.specs.Plain.{is_plain_name, is_plain, is_plain_type, is_edgeless, is_edgeless_type}
-use Rattle.vast_literal.specs.ExprTokens.{is_negative_text, literal_level, spelled_level, expr_tokens}
+use Rattle.vast_literal.specs.Shape.{starts_with_minus, limit_wraps, base_of, port_kind}
+use Rattle.vast_literal.specs.ExprTokens.{expr_tokens}
 use Rattle.vast_literal.specs.WellFormed.{is_well_formed, is_well_formed_type}
-use Rattle.vast_literal.specs.NormalTree.{kind_key, base_type, package_of, type_name_of, sign_of, number_expr, zero_expr, limit_expr, vector_groups, packed_ranges, packed_groups, unpacked_group, unpacked_ranges, unpacked_groups, normal_declaration, port_kind, normal_declared, normal_port_declaration}
-use Rattle.vast_literal.specs.FileTokens.{maybe_tokens, type_name_tokens, number_tokens, zero_tokens, is_limit_wrapped, limit_tokens, vector_tokens, packed_range_tokens, packed_tokens, unpacked_dimension_tokens, unpacked_range_tokens, unpacked_tokens, declaration_tokens, declared_tokens, port_declaration_tokens}
+use Rattle.vast_literal.specs.NormalTree.{kind_key, package_of, type_name_of, sign_of, number_expr, zero_expr, limit_expr, vector_groups, packed_ranges, packed_groups, unpacked_group, unpacked_ranges, unpacked_groups, normal_declaration, normal_declared, normal_port_declaration}
+use Rattle.vast_literal.specs.FileTokens.{maybe_tokens, type_name_tokens, number_tokens, zero_tokens, limit_tokens, vector_tokens, packed_range_tokens, packed_tokens, unpacked_dimension_tokens, unpacked_range_tokens, unpacked_tokens, declaration_tokens, declared_tokens, port_declaration_tokens}
 use Rattle.vast_literal.specs.PlainFile.{is_plain_value, is_left_side, is_plain_declaration, is_plain_declared}
 use Rattle.vast_literal.proofs.ScanLaws.{and_left, and_right}
 use Rattle.vast_literal.proofs.Sound.{lower}
-use Rattle.vast_literal.proofs.Spelled.{literal_bound, level_bound, wrapped_spells, literal_spells, low, spelled}
+use Rattle.vast_literal.proofs.Precedence.{literal_level, spelled_level, literal_bound, level_bound, limit_bound}
+use Rattle.vast_literal.proofs.Spelled.{wrapped_spells, literal_spells, low, spelled}
 
 pub many_append : {A : Type 0} {P : List Token → A → Type 0} {ts us : List Token} {xs ys : List A} → IsMany P ts xs → IsMany P us ys → IsMany P (ts ++ us) (xs ++ ys)
 many_append no_items more = more
@@ -43,7 +44,7 @@ left_spelled e p w = left_level e (and_left (is_left_side e) (is_plain_value e) 
 -- numbers
 
 number_spelled : (z : ℤ) → Spells 0 (number_tokens z) (number_expr z)
-number_spelled z = let t = signed_decimal z in let b = literal_bound (is_negative_text t) in lower (literal_level t) 0 _ _ (omega arith) (omega arith) (literal_spells t)
+number_spelled z = let t = signed_decimal z in let b = literal_bound (starts_with_minus t) in lower (literal_level t) 0 _ _ (omega arith) (omega arith) (literal_spells t)
 
 zero_spelled : Spells 0 zero_tokens zero_expr
 zero_spelled = lower 14 0 _ _ (omega arith) (omega arith) (number (codes "0"))
@@ -52,7 +53,7 @@ limit_spelled : (w : ExprTree) (v : Option ℤ) → is_edgeless w ≡ true → i
 unfolding limit_tokens limit_expr level
 limit_spelled w (Some v) l f = number_spelled (v -ℤ pos 1)
 limit_spelled w None l f = let b = level_bound w in
-    lower 9 0 _ _ (omega arith) (omega arith) (binary Minus (omega arith) (wrapped_spells (is_limit_wrapped w) (spelled_level w) 9 _ _ (omega arith) (omega arith) (λ h. ltb-false (spelled_level w) 9 h) (spelled w l f)) (lower 14 10 _ _ (omega arith) (omega arith) (number (codes "1"))))
+    lower 9 0 _ _ (omega arith) (omega arith) (binary Minus (omega arith) (wrapped_spells (limit_wraps w) (spelled_level w) 9 _ _ (omega arith) (omega arith) (limit_bound w) (spelled w l f)) (lower 14 10 _ _ (omega arith) (omega arith) (number (codes "1"))))
 
 -- groups
 
@@ -90,14 +91,12 @@ unpacked_spelled dialect _ = no_items
 
 -- declarations
 
-base_edgeless : (t : TypeTree) → is_edgeless_type t ≡ true → is_edgeless_type (base_type t) ≡ true
-unfolding base_type
+pub base_edgeless : (t : TypeTree) → is_edgeless_type t ≡ true → is_edgeless_type (base_of t) ≡ true
 base_edgeless (PackedTree t ds) h = base_edgeless t h
 base_edgeless (UnpackedTree t ds) h = base_edgeless t h
 base_edgeless _ h = h
 
-base_formed : (t : TypeTree) → is_well_formed_type t ≡ true → is_well_formed_type (base_type t) ≡ true
-unfolding base_type
+pub base_formed : (t : TypeTree) → is_well_formed_type t ≡ true → is_well_formed_type (base_of t) ≡ true
 base_formed (PackedTree t ds) h = base_formed t h
 base_formed (UnpackedTree t ds) h = base_formed t h
 base_formed _ h = h
@@ -140,7 +139,7 @@ sign_spelled _ = absent
 -- The tokens of a declaration spell its written parts.
 pub declaration_spelled : (dialect : Dialect) (kind : Kind) (t : TypeTree) (n : List ℕ) → is_edgeless_type t ≡ true → is_well_formed_type t ≡ true → IsDeclaration (declaration_tokens dialect kind t n) (normal_declaration dialect kind t n)
 unfolding declaration_tokens normal_declaration
-declaration_spelled dialect kind t n l f = declares n (kind_spelled kind) (type_spelled (base_type t)) (sign_spelled (base_type t)) (many_append (packed_spelled t) (vector_spelled (base_type t) (base_edgeless t l) (base_formed t f))) (unpacked_spelled dialect t)
+declaration_spelled dialect kind t n l f = declares n (kind_spelled kind) (type_spelled (base_of t)) (sign_spelled (base_of t)) (many_append (packed_spelled t) (vector_spelled (base_of t) (base_edgeless t l) (base_formed t f))) (unpacked_spelled dialect t)
 
 plain_edgeless : (t : TypeTree) (n : List ℕ) → is_plain_declaration t n ≡ true → is_edgeless_type t ≡ true
 plain_edgeless t n p = and_right (is_plain_type t) (is_edgeless_type t) (and_right (is_plain_name n) (is_plain_type t && is_edgeless_type t) p)

@@ -7,11 +7,9 @@ use Rattle.vast_literal.specs.FileGrammar.{OneDeclaration, IsMany, no_items, mor
 use Rattle.vast_literal.specs.Parser.{Parser, lead, code, after, key_at, word_at, run}
 use Rattle.vast_literal.specs.StatementParser.{ReadOf}
 use Rattle.vast_literal.specs.DeclarationParser.{many_on, many, group_on, group_at, is_bracket, Fueled, groups_at, maybe_on, maybe_at, signed_at, sign_on, named_on, unscoped, worded, typed_on, kinded, declaration_at}
-use Rattle.vast_literal.proofs.Gives.{Gives}
-use Rattle.vast_literal.proofs.Soon.{Soon, of_low, now, same, same2, later2, one_result}
+use Rattle.vast_literal.proofs.Gives.{Gives, Soon, by_fuel, now, same, same2, later2, one_result}
 use Rattle.vast_literal.proofs.Moves.{bound, after_self, enclosed_gives}
 use Rattle.vast_literal.proofs.StatementsParse.{expression_parses}
-use Rattle.vast_literal.proofs.Gives as Low
 
 -- lists
 
@@ -44,8 +42,8 @@ range_gives p h l ts us rest e d = bound _ (after_self OpenBracket ts) (bound _ 
 
 group_parses : (ts : List Token) (g : Group) → IsGroup ts g → (rest : List Token) → Gives (λ p. group_at p (ts ++ rest)) (g, rest)
 unfolding lead
-group_parses ts g (one {xs = xs} {x = x} e) rest = simp append_assoc (Low.same (λ p d. one_gives p x _ rest d) (expression_parses xs (Mark CloseBracket ∷ rest) x e tt))
-group_parses ts g (range {hs = hs} {ls = ls} {h = h} {l = l} e f) rest = simp append_assoc (Low.same2 (λ p d c. range_gives p h l _ (ls ++ (Mark CloseBracket ∷ rest)) rest d c)
+group_parses ts g (one {xs = xs} {x = x} e) rest = simp append_assoc (same (λ p d. one_gives p x _ rest d) (expression_parses xs (Mark CloseBracket ∷ rest) x e tt))
+group_parses ts g (range {hs = hs} {ls = ls} {h = h} {l = l} e f) rest = simp append_assoc (same2 (λ p d c. range_gives p h l _ (ls ++ (Mark CloseBracket ∷ rest)) rest d c)
     (expression_parses hs (Mark Colon ∷ (ls ++ (Mark CloseBracket ∷ rest))) h e tt) (expression_parses ls (Mark CloseBracket ∷ rest) l f tt))
 
 group_begins : (ts : List Token) (g : Group) → IsGroup ts g → (rest : List Token) → is_bracket (ts ++ rest) ≡ true
@@ -55,7 +53,7 @@ group_begins ts g (range e f) rest = refl
 
 groups_parse : (ts : List Token) (gs : List Group) → IsMany IsGroup ts gs → (rest : List Token) → is_bracket rest ≡ false → Soon (λ m. groups_at run m (ts ++ rest)) (gs, rest)
 unfolding groups_at
-groups_parse ts gs h rest c = many_parses IsGroup is_bracket (λ m us. group_at (run m) us) group_begins (λ us g p vs. of_low (group_parses us g p vs)) ts gs h rest c
+groups_parse ts gs h rest c = many_parses IsGroup is_bracket (λ m us. group_at (run m) us) group_begins (λ us g p vs. by_fuel (group_parses us g p vs)) ts gs h rest c
 
 -- what ends a declaration
 pub data IsEnd : Punct → Type 0 where

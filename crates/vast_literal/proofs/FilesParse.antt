@@ -9,7 +9,7 @@ use Rattle.vast_literal.specs.StatementParser.{ReadOf}
 use Rattle.vast_literal.specs.DeclarationParser.{many, declaration_at}
 use Rattle.vast_literal.specs.MemberParser.{members}
 use Rattle.vast_literal.specs.FileParser.{parameter_at, port_on, port_at, header_parameters_at, header_ports_at, parameters_on, ports_on, module_at, path_end, path_of, include_on, item_at, is_more, file_at}
-use Rattle.vast_literal.proofs.Soon.{Soon, of_low, at_once, same, same2, same3, one_result}
+use Rattle.vast_literal.proofs.Gives.{Soon, by_fuel, at_once, same, same2, same3, one_result}
 use Rattle.vast_literal.proofs.Moves.{Quiet, bound, after_self}
 use Rattle.vast_literal.proofs.StatementsParse.{key_self, expression_parses}
 use Rattle.vast_literal.proofs.DeclarationsParse.{many_parses, at_assign, at_comma, at_close, declaration_parses}
@@ -26,7 +26,7 @@ parameter_gives m d x ts us rest e f = bound _ (key_self ParameterKey ts) (bound
 
 parameter_parses : (ts : List Token) (p : NormalParameter) → IsParameter ts p → (rest : List Token) → Quiet 0 rest → Soon (λ m. parameter_at m (ts ++ rest)) (p, rest)
 parameter_parses ts p (header_parameter {ds = ds} {xs = xs} {d = d} {x = x} i e) rest q = simp append_assoc
-    (same2 (λ m f g. parameter_gives m d x _ (xs ++ rest) rest f g) (declaration_parses ds d i Assign (xs ++ rest) at_assign) (of_low (expression_parses xs rest x e q)))
+    (same2 (λ m f g. parameter_gives m d x _ (xs ++ rest) rest f g) (declaration_parses ds d i Assign (xs ++ rest) at_assign) (by_fuel (expression_parses xs rest x e q)))
 
 comma_quiet : (us : List Token) → Quiet 0 (Mark Comma ∷ us)
 unfolding lead

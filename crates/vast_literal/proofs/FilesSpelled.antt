@@ -7,7 +7,8 @@ use Rattle.vast_literal.specs.FileGrammar.{IsMany, no_items, more_items, absent,
 use Rattle.vast_literal.specs.Plain.{is_plain_name}
 use Rattle.vast_literal.specs.ExprTokens.{expr_tokens}
 use Rattle.vast_literal.specs.WellFormed.{is_well_formed, is_well_formed_type}
-use Rattle.vast_literal.specs.NormalTree.{base_type, base_kind, direction_key, normal_port, normal_ports, normal_typed, normal_parameter, normal_parameters, normal_module, normal_item_before, normal_items, normal_file}
+use Rattle.vast_literal.specs.Shape.{base_of, base_kind}
+use Rattle.vast_literal.specs.NormalTree.{direction_key, normal_port, normal_ports, normal_typed, normal_parameter, normal_parameters, normal_module, normal_item_before, normal_items, normal_file}
 use Rattle.vast_literal.specs.FileTokens.{port_declaration_tokens, each_port, typed_tokens, each_parameter, header_parameter_tokens, header_port_tokens, module_tokens, item_tokens, items_tokens, file_tokens}
 use Rattle.vast_literal.specs.PlainFile.{is_plain_value, is_plain_declared, are_plain_members, are_plain_ports, is_plain_typed, are_plain_parameters, is_plain_module, is_path_byte, are_plain_items, is_plain_file}
 use Rattle.vast_literal.specs.WellFormedFile.{are_well_formed_members, are_well_formed_ports, is_well_formed_typed, are_well_formed_parameters, is_well_formed_module, are_well_formed_items, is_well_formed_file}
@@ -41,7 +42,7 @@ ports_spelled dialect (p ∷ ps) h w = ports (each_joined _ _ (port_spelled dial
 typed_spelled : (dialect : Dialect) (t : MaybeType) (n : List ℕ) → is_plain_typed t n ≡ true → is_well_formed_typed t ≡ true → IsDeclaration (typed_tokens dialect t n) (normal_typed dialect t n)
 unfolding typed_tokens normal_typed
 typed_spelled dialect Untyped n h w = declares n absent no_type absent no_items no_items
-typed_spelled dialect (Typed t) n h w = named_spelled dialect t (base_kind (base_type t)) n h w
+typed_spelled dialect (Typed t) n h w = named_spelled dialect t (base_kind (base_of t)) n h w
 
 parameter_spelled : (dialect : Dialect) (p : ParameterPortTree) → (is_plain_typed p.type p.name && is_plain_value p.value) ≡ true → (is_well_formed_typed p.type && is_well_formed p.value) ≡ true →
     IsParameter (Reserved ParameterKey ∷ (typed_tokens dialect p.type p.name ++ (Mark Assign ∷ expr_tokens p.value))) (normal_parameter dialect p)

@@ -1,45 +1,104 @@
--- What a parser answers from some fuel on.
-use Rattle.std.proofs.Common.{◌≡◌, ℕ, zero, suc, ◌+◌, ◌≤◌, Option, Some, arith}
+-- What is read from some fuel on: stated once, for whatever takes fuel.
+use Rattle.std.proofs.Common.{◌≡◌, ℕ, zero, suc, ◌+◌, ◌≤◌, Option, Some, refl, arith, ap, subst, sym}
 use Rattle.vast_literal.specs.Parser.{Parser, step, run}
+use Rattle.vast_literal.specs.StatementParser.{Reader, reader_step, silent_reader, read_with}
 
-pub record Gives {A : Type 0} (f : Parser → Option A) (r : A) : Type 0 where
+-- the reader that each amount of fuel makes, and the step from one to the next
+pub record Growing (P : Type 0) : Type 0 where
+  pub reader : ℕ → P
+  pub next : P → P
+  pub grows : (m : ℕ) → reader (suc m) ≡ next (reader m)
+
+-- from some fuel on f answers r
+pub record Yields {P A : Type 0} (s : Growing P) (f : P → Option A) (r : A) : Type 0 where
   pub from : ℕ
-  pub holds : (m : ℕ) → from ≤ m → f (run m) ≡ Some r
+  pub holds : (m : ℕ) → from ≤ m → f (s.reader m) ≡ Some r
 
--- from one fuel on
-stepped : {A : Type 0} (h : Parser → Option A) (r : A) (n : ℕ) → ((m : ℕ) → n ≤ m → h (step (run m)) ≡ Some r) →
-    (m : ℕ) → suc n ≤ m → h (run m) ≡ Some r
+pub run_grows : (m : ℕ) → run (suc m) ≡ step (run m)
 unfolding run
-stepped h r n e zero small = absurd (omega arith)
-stepped h r n e (suc m) small = e m (omega arith)
+run_grows m = refl
 
-pub now : {A : Type 0} {h : Parser → Option A} {r : A} → ((p : Parser) → h (step p) ≡ Some r) → Gives h r
-now {h = h} {r = r} e = record { from = suc zero; holds = stepped h r zero (λ m _. e (run m)) }
+pub read_grows : (m : ℕ) → read_with (suc m) ≡ reader_step (read_with m)
+unfolding read_with
+read_grows m = refl
 
-pub at_once : {A : Type 0} {h : Parser → Option A} {r : A} → ((p : Parser) → h p ≡ Some r) → Gives h r
-at_once {h = h} {r = r} e = record { from = zero; holds = λ m _. e (run m) }
+-- of parsers of expressions, of readers of statements, and of the fuel itself
+abbrev pub Gives : {A : Type 0} → (Parser → Option A) → A → Type 0
+Gives = Yields (record { reader = run; next = step; grows = run_grows })
 
-pub same : {A B : Type 0} {f : Parser → Option A} {h : Parser → Option B} {a : A} {r : B} →
-    ((p : Parser) → f p ≡ Some a → h p ≡ Some r) → Gives f a → Gives h r
-same e x = record { from = x.from; holds = λ m small. e (run m) (x.holds m small) }
+abbrev pub ReaderGives : {A : Type 0} → (Reader → Option A) → A → Type 0
+ReaderGives = Yields (record { reader = read_with; next = reader_step; grows = read_grows })
 
-pub same2 : {A B C : Type 0} {f : Parser → Option A} {g : Parser → Option B} {h : Parser → Option C} {a : A} {b : B} {r : C} →
-    ((p : Parser) → f p ≡ Some a → g p ≡ Some b → h p ≡ Some r) → Gives f a → Gives g b → Gives h r
-same2 e x y = record { from = x.from + y.from; holds = λ m small. e (run m) (x.holds m (omega arith)) (y.holds m (omega arith)) }
+abbrev pub Soon : {A : Type 0} → (ℕ → Option A) → A → Type 0
+Soon = Yields (record { reader = λ m. m; next = suc; grows = λ m. refl })
 
-pub later : {A B : Type 0} {f : Parser → Option A} {h : Parser → Option B} {a : A} {r : B} →
-    ((p : Parser) → f p ≡ Some a → h (step p) ≡ Some r) → Gives f a → Gives h r
-later {h = h} {r = r} e x = record { from = suc x.from; holds = stepped h r x.from (λ m small. e (run m) (x.holds m small)) }
+-- what the next reader answers, this one answers with one fuel more
+grown : {P A : Type 0} {s : Growing P} {h : P → Option A} {r : A} →
+    Yields s (λ p. h (s.next p)) r → Yields s h r
+grown {s = s} {h = h} {r = r} x = record { from = suc x.from; holds = at } where
+  at : (m : ℕ) → suc x.from ≤ m → h (s.reader m) ≡ Some r
+  at zero small = absurd (omega arith)
+  at (suc m) small = subst (λ p. h p ≡ Some r) (sym (s.grows m)) (x.holds m (omega arith))
 
-pub later2 : {A B C : Type 0} {f : Parser → Option A} {g : Parser → Option B} {h : Parser → Option C} {a : A} {b : B} {r : C} →
-    ((p : Parser) → f p ≡ Some a → g p ≡ Some b → h (step p) ≡ Some r) → Gives f a → Gives g b → Gives h r
-later2 {h = h} {r = r} e x y = record { from = suc (x.from + y.from); holds = stepped h r (x.from + y.from) (λ m small. e (run m) (x.holds m (omega arith)) (y.holds m (omega arith))) }
+module _ {P A : Type 0} {s : Growing P} {f : P → Option A} {a : A} where
+  pub at_once : ((p : P) → f p ≡ Some a) → Yields s f a
+  at_once e = record { from = zero; holds = λ m _. e (s.reader m) }
 
-pub later3 : {A B C D : Type 0} {f : Parser → Option A} {g : Parser → Option B} {k : Parser → Option C} {h : Parser → Option D} {a : A} {b : B} {c : C} {r : D} →
-    ((p : Parser) → f p ≡ Some a → g p ≡ Some b → k p ≡ Some c → h (step p) ≡ Some r) → Gives f a → Gives g b → Gives k c → Gives h r
-later3 {h = h} {r = r} e x y z = record { from = suc (x.from + y.from + z.from); holds = stepped h r (x.from + y.from + z.from) (λ m small. e (run m) (x.holds m (omega arith)) (y.holds m (omega arith)) (z.holds m (omega arith))) }
+  pub now : ((p : P) → f (s.next p) ≡ Some a) → Yields s f a
+  now e = grown (record { from = zero; holds = λ m _. e (s.reader m) })
 
--- two results of one reader are one
-pub one_result : {A : Type 0} {f : Parser → Option A} {a b : A} → Gives f a → Gives f b → a ≡ b
-one_result {f = f} {a = a} {b = b} x y = let e : f (run (x.from + y.from)) ≡ Some a = x.holds _ (omega arith) in
-    let d : f (run (x.from + y.from)) ≡ Some b = y.holds _ (omega arith) in cc
+  -- the same by its fuel
+  pub by_fuel : Yields s f a → Soon (λ m. f (s.reader m)) a
+  by_fuel x = record { from = x.from; holds = x.holds }
+
+  -- two results of one reader are one
+  pub one_result : {b : A} → Yields s f a → Yields s f b → a ≡ b
+  one_result {b = b} x y = let e : f (s.reader (x.from + y.from)) ≡ Some a = x.holds _ (omega arith) in
+      let d : f (s.reader (x.from + y.from)) ≡ Some b = y.holds _ (omega arith) in cc
+
+  pub same : {R : Type 0} {h : P → Option R} {r : R} →
+      ((p : P) → f p ≡ Some a → h p ≡ Some r) → Yields s f a → Yields s h r
+  same e x = record { from = x.from; holds = λ m small. e (s.reader m) (x.holds m small) }
+
+  pub later : {R : Type 0} {h : P → Option R} {r : R} →
+      ((p : P) → f p ≡ Some a → h (s.next p) ≡ Some r) → Yields s f a → Yields s h r
+  later e x = grown (same e x)
+
+  module _ {B : Type 0} {g : P → Option B} {b : B} where
+    pub same2 : {R : Type 0} {h : P → Option R} {r : R} →
+        ((p : P) → f p ≡ Some a → g p ≡ Some b → h p ≡ Some r) →
+        Yields s f a → Yields s g b → Yields s h r
+    same2 e x y = record {
+      from = x.from + y.from;
+      holds = λ m small. e (s.reader m) (x.holds m (omega arith)) (y.holds m (omega arith));
+    }
+
+    pub later2 : {R : Type 0} {h : P → Option R} {r : R} →
+        ((p : P) → f p ≡ Some a → g p ≡ Some b → h (s.next p) ≡ Some r) →
+        Yields s f a → Yields s g b → Yields s h r
+    later2 e x y = grown (same2 e x y)
+
+    pub same3 : {C R : Type 0} {k : P → Option C} {h : P → Option R} {c : C} {r : R} →
+        ((p : P) → f p ≡ Some a → g p ≡ Some b → k p ≡ Some c → h p ≡ Some r) →
+        Yields s f a → Yields s g b → Yields s k c → Yields s h r
+    same3 e x y z = record {
+      from = x.from + y.from + z.from;
+      holds = λ m small. e _ (x.holds m (omega arith)) (y.holds m (omega arith)) (z.holds m (omega arith));
+    }
+
+    pub later3 : {C R : Type 0} {k : P → Option C} {h : P → Option R} {c : C} {r : R} →
+        ((p : P) → f p ≡ Some a → g p ≡ Some b → k p ≡ Some c → h (s.next p) ≡ Some r) →
+        Yields s f a → Yields s g b → Yields s k c → Yields s h r
+    later3 e x y z = grown (same3 e x y z)
+
+-- what a parser gives, the reader above it gives
+pub low_is : (m : ℕ) → (read_with m).low ≡ run m
+unfolding read_with run silent_reader
+low_is zero = refl
+low_is (suc m) = ap step (low_is m)
+
+pub lifted : {A : Type 0} {f : Parser → Option A} {r : A} → Gives f r → ReaderGives (λ q. f q.low) r
+lifted {f = f} {r = r} g = record {
+  from = g.from;
+  holds = λ m small. subst (λ p. f p ≡ Some r) (sym (low_is m)) (g.holds m small);
+}

@@ -21,10 +21,9 @@ pub mod TokenReads
 pub mod ScanLaws
 pub mod Pieces
 pub mod LiteralLaws
+pub mod Precedence
 pub mod Spelled
 pub mod Words
-pub mod ReaderGives
-pub mod Soon
 pub mod StatementsParse
 pub mod DeclarationsParse
 pub mod ListsParse
@@ -36,7 +35,6 @@ pub mod StatementsSpelled
 pub mod MembersSpelled
 pub mod FilesSpelled
 pub mod NumberLaws
-pub mod TypedDecimals
 pub mod SpeltOnce
 pub mod DerivedOnce
 pub mod FilePins

@@ -9,12 +9,11 @@ use Rattle.vast_literal.specs.Parser.{◌>>=◌, Parser, lead, code, after, key_
 use Rattle.vast_literal.specs.StatementParser.{ReadOf, after_key_on, after_key}
 use Rattle.vast_literal.specs.DeclarationParser.{joined_on, joined, listed_on, listed, declaration_at}
 use Rattle.vast_literal.specs.MemberParser.{event_on, event_at, connection_on, connection_at, given_at, connections_at, givens_at, input_at, inputs_at, local_on, is_local, local_at, locals_at}
-use Rattle.vast_literal.proofs.Soon.{Soon, of_low, at_once, same, later, later2}
+use Rattle.vast_literal.proofs.Gives.{Soon, by_fuel, at_once, same, later, later2}
 use Rattle.vast_literal.proofs.Moves.{Quiet, bound, after_self, enclosed_gives}
 use Rattle.vast_literal.proofs.Complete.{parses}
 use Rattle.vast_literal.proofs.StatementsParse.{key_self, expression_parses}
 use Rattle.vast_literal.proofs.DeclarationsParse.{many_parses, IsEnd, at_semicolon, at_comma, at_close, declaration_parses}
-use Rattle.vast_literal.proofs.Gives as Low
 
 -- lists with something between
 
@@ -58,8 +57,8 @@ unfolding event_at event_on key_at word_at
 plain_gives p w rest = bound _ refl refl
 
 event_parses : (ts : List Token) (x : Event) → IsEvent ts x → (rest : List Token) → Quiet 0 rest → Soon (λ m. event_at (run m) (ts ++ rest)) (x, rest)
-event_parses ts x (edge {xs = xs} {x = y} k h e) rest q = of_low (Low.same (λ p d. edge_gives p k y _ rest h d) (expression_parses xs rest y e q))
-event_parses ts x (plain w) rest q = of_low (Low.at_once (λ p. plain_gives p w rest))
+event_parses ts x (edge {xs = xs} {x = y} k h e) rest q = by_fuel (same (λ p d. edge_gives p k y _ rest h d) (expression_parses xs rest y e q))
+event_parses ts x (plain w) rest q = at_once (λ m. plain_gives (run m) w rest)
 
 event_starts : (ts : List Token) (x : Event) → IsEvent ts x → (rest : List Token) → after CloseParen (ts ++ rest) ≡ None
 unfolding after
@@ -94,11 +93,11 @@ unfolding given_at word_at
 given_gives p n x ts rest e = bound _ (after_self Dot _) (bound _ refl (bound _ (after_self OpenParen ts) (bound _ (enclosed_gives p CloseParen ts rest x e) refl)))
 
 connection_parses : (ts : List Token) (x : NormalConnection) → IsConnection ts x → (rest : List Token) → Unit {0} → Soon (λ m. connection_at (run m) (ts ++ rest)) (x, rest)
-connection_parses ts x (connected (given {xs = xs} {x = y} n e)) rest q = simp append_assoc (of_low (Low.same (λ p d. connected_gives p n y _ rest ((parses 0 xs y e).starts.paren _) d) (expression_parses xs (Mark CloseParen ∷ rest) y e (close_quiet rest))))
-connection_parses ts x (unconnected n) rest q = of_low (Low.at_once (λ p. unconnected_gives p n rest))
+connection_parses ts x (connected (given {xs = xs} {x = y} n e)) rest q = simp append_assoc (by_fuel (same (λ p d. connected_gives p n y _ rest ((parses 0 xs y e).starts.paren _) d) (expression_parses xs (Mark CloseParen ∷ rest) y e (close_quiet rest))))
+connection_parses ts x (unconnected n) rest q = at_once (λ m. unconnected_gives (run m) n rest)
 
 given_parses : (ts : List Token) (x : NormalConnection) → IsGiven ts x → (rest : List Token) → Unit {0} → Soon (λ m. given_at (run m) (ts ++ rest)) (x, rest)
-given_parses ts x (given {xs = xs} {x = y} n e) rest q = simp append_assoc (of_low (Low.same (λ p d. given_gives p n y _ rest d) (expression_parses xs (Mark CloseParen ∷ rest) y e (close_quiet rest))))
+given_parses ts x (given {xs = xs} {x = y} n e) rest q = simp append_assoc (by_fuel (same (λ p d. given_gives p n y _ rest d) (expression_parses xs (Mark CloseParen ∷ rest) y e (close_quiet rest))))
 
 connection_starts : (ts : List Token) (x : NormalConnection) → IsConnection ts x → (rest : List Token) → after CloseParen (ts ++ rest) ≡ None
 unfolding after code

@@ -9,7 +9,7 @@ use Rattle.vast_literal.specs.Parser.{lead, code, after, key_at, arguments, sele
 use Rattle.vast_literal.specs.StatementParser.{ReadOf, key_code, after_key_on, after_key, read_with}
 use Rattle.vast_literal.specs.DeclarationParser.{listed, declaration_at}
 use Rattle.vast_literal.specs.MemberParser.{event_at, semicolon_on, macro_end, macro_member, plain_member, block_with, keyed, member_on, members_on, members}
-use Rattle.vast_literal.proofs.Soon.{Soon, of_low, of_reader, now, at_once, same, same2, later2}
+use Rattle.vast_literal.proofs.Gives.{Soon, by_fuel, now, at_once, same, same2, later2}
 use Rattle.vast_literal.proofs.Moves.{bound, after_self, enclosed_gives}
 use Rattle.vast_literal.proofs.Complete.{all_parsed}
 use Rattle.vast_literal.proofs.StatementsParse.{key_self, expression_parses, left_parses, StatementsParse, ChoiceParses}
@@ -112,7 +112,7 @@ unfolding after after_key after_key_on key_at key_code
 conditional_parses ts a h = subst (λ (v : List Token). MemberParses v (ConditionalPart a)) (sym h.whole) (record {
   next_to = λ rest. record { else_word = refl; open_paren = refl; semicolon = refl; colon = refl };
   open_end = no_closer _;
-  parses = λ rest x. same (λ n e. conditional_gives n a _ rest e) (of_reader (h.parses rest x.else_word));
+  parses = λ rest x. same (λ n e. conditional_gives n a _ rest e) (by_fuel (h.parses rest x.else_word));
 })
   where
     no_closer : (vs : List Token) (c : Key) → IsCloser c → (rest : List Token) → after_key c ((Reserved IfKey ∷ vs) ++ rest) ≡ None
@@ -147,7 +147,7 @@ continuous_parses ls rs l r el er = record {
   next_to = λ rest. record { else_word = refl; open_paren = refl; semicolon = refl; colon = refl };
   open_end = λ c ic rest. not_closer AssignKey c ic tt _;
   parses = λ rest _. simp append_assoc (same2 (λ n e d. continuous_gives n l r _ (rs ++ (Mark Semicolon ∷ rest)) rest e d)
-      (of_low (left_parses ls (Mark Assign ∷ (rs ++ (Mark Semicolon ∷ rest))) l el tt tt)) (of_low (expression_parses rs (Mark Semicolon ∷ rest) r er tt)));
+      (by_fuel (left_parses ls (Mark Assign ∷ (rs ++ (Mark Semicolon ∷ rest))) l el tt tt)) (by_fuel (expression_parses rs (Mark Semicolon ∷ rest) r er tt)));
 }
 
 pub parameter_gives : (n : ℕ) (k : Key) (d : NormalDeclaration) (x : NormalExpr) (ts us rest : List Token) → IsTrue (is_parameter_word k) → declaration_at run n ts ≡ Some (d, Mark Assign ∷ us) → (run n).expression_at us ≡ Some (x, Mark Semicolon ∷ rest) →
@@ -177,7 +177,7 @@ parameter_parses ds xs d x k h id ex = record {
   next_to = λ rest. parameter_next k h _;
   open_end = λ c ic rest. parameter_closer k c h ic _;
   parses = λ rest _. simp append_assoc (same2 (λ n e f. parameter_gives n k d x _ (xs ++ (Mark Semicolon ∷ rest)) rest h e f)
-      (declaration_parses ds d id Assign (xs ++ (Mark Semicolon ∷ rest)) at_assign) (of_low (expression_parses xs (Mark Semicolon ∷ rest) x ex tt)));
+      (declaration_parses ds d id Assign (xs ++ (Mark Semicolon ∷ rest)) at_assign) (by_fuel (expression_parses xs (Mark Semicolon ∷ rest) x ex tt)));
 }
 
 pub macro_with_gives : (n : ℕ) (m : List ℕ) (xs : NormalExprs) (s : Bool) (ts ss rest : List Token) → IsSemicolon ss s → Next rest → arguments (run n) CloseParen ts ≡ Some (xs, ss ++ rest) → member_by n (MacroWord m ∷ (Mark OpenParen ∷ ts)) ≡ Some (MacroPart m (Some xs) s, rest)
@@ -190,7 +190,7 @@ unfolding after_key after_key_on key_at
 macro_with_parses m ts ss xs s es h = record {
   next_to = λ rest. macro_next m _;
   open_end = λ k _ rest. refl;
-  parses = λ rest x. simp append_assoc (same (λ n e. macro_with_gives n m xs s _ ss rest h x e) (of_low ((all_parsed ts xs es).paren (ss ++ rest))));
+  parses = λ rest x. simp append_assoc (same (λ n e. macro_with_gives n m xs s _ ss rest h x e) (by_fuel ((all_parsed ts xs es).paren (ss ++ rest))));
 }
 
 pub block_gives : (n : ℕ) (ts : List Token) (x : NormalStatements × List Token) → (read_with n).statements ts ≡ Some x → block_with n (Reserved BeginKey ∷ ts) ≡ Some x
@@ -206,7 +206,7 @@ unfolding after after_key after_key_on key_at key_code
 combinational_parses bs b h = record {
   next_to = λ rest. record { else_word = refl; open_paren = refl; semicolon = refl; colon = refl };
   open_end = no_closer;
-  parses = λ rest _. same (λ n e. combinational_gives n b _ rest e) (of_reader (h.parses rest));
+  parses = λ rest _. same (λ n e. combinational_gives n b _ rest e) (by_fuel (h.parses rest));
 }
   where
     no_closer : (c : Key) → IsCloser c → (rest : List Token) → after_key c ((Reserved AlwaysCombKey ∷ (Reserved BeginKey ∷ bs)) ++ rest) ≡ None
@@ -238,5 +238,5 @@ pub clocked_parses : (es bs : List Token) (e : List Event) (b : NormalStatements
 clocked_parses es bs e b k h ie hb = record {
   next_to = λ rest. clocked_next k h _;
   open_end = λ c ic rest. clocked_closer k c h ic _;
-  parses = λ rest _. simp append_assoc (same2 (λ n d f. clocked_gives n k e b _ (bs ++ rest) rest h d f) (events_parse es e ie (Reserved BeginKey ∷ (bs ++ rest))) (of_reader (hb.parses rest)));
+  parses = λ rest _. simp append_assoc (same2 (λ n d f. clocked_gives n k e b _ (bs ++ rest) rest h d f) (events_parse es e ie (Reserved BeginKey ∷ (bs ++ rest))) (by_fuel (hb.parses rest)));
 }

@@ -10,7 +10,7 @@ use Rattle.vast_literal.specs.Parser.{lead, after, key_at, word_at, number_at, r
 use Rattle.vast_literal.specs.StatementParser.{key_code, after_key_on, after_key, cases_at, read_with}
 use Rattle.vast_literal.specs.DeclarationParser.{declaration_at}
 use Rattle.vast_literal.specs.MemberParser.{connections_at, givens_at, instance_at, instance_on, plain_member, bound_of, same_word, step_word, label_on, loop_body, loop_at, inputs_at, local_on, is_local, locals_at, casez_alone, function_body, function_end, function_at, keyed, member_on, members}
-use Rattle.vast_literal.proofs.Soon.{Soon, of_low, of_reader, same, same2, same3, one_result}
+use Rattle.vast_literal.proofs.Gives.{Soon, by_fuel, same, same2, same3, one_result}
 use Rattle.vast_literal.proofs.Moves.{bound, after_self, enclosed_gives}
 use Rattle.vast_literal.proofs.StatementsParse.{key_self, expression_parses, StatementsParse, CasesParse, cases_parse, statements_parse, choice_parse}
 use Rattle.vast_literal.proofs.DeclarationsParse.{at_open, declaration_parses}
@@ -57,7 +57,7 @@ loop_parses i xs cs ls ms x e l m ex ec il h = record {
   next_to = λ rest. record { else_word = refl; open_paren = refl; semicolon = refl; colon = refl };
   open_end = no_closer;
   parses = λ rest _. simp append_assoc (same3 (λ n a b d. loop_gives n i x e l m _ _ ls (ms ++ rest) rest a b il (h.no_colon rest) d)
-      (of_low (expression_parses xs (Mark Semicolon ∷ _) x ex tt)) (of_low (expression_parses cs (Mark Semicolon ∷ _) (Binary Less (Name i) e) ec tt)) (h.parses rest));
+      (by_fuel (expression_parses xs (Mark Semicolon ∷ _) x ex tt)) (by_fuel (expression_parses cs (Mark Semicolon ∷ _) (Binary Less (Name i) e) ec tt)) (h.parses rest));
 }
   where
     no_closer : (c : Key) → IsCloser c → (rest : List Token) → after_key c ((Reserved ForKey ∷ (Mark OpenParen ∷ (Reserved GenvarKey ∷ (Word i ∷ (Mark Assign ∷ (xs ++ (Mark Semicolon ∷ (cs ++ (Mark Semicolon ∷ (Word i ∷ (Mark Assign ∷ (Word i ∷ (Operator Plus ∷ (Number (codes "1") ∷ (Mark CloseParen ∷ (Reserved BeginKey ∷ (ls ++ ms))))))))))))))))) ++ rest) ≡ None
@@ -109,7 +109,7 @@ block_body_gives n ts x e = e
 
 block_body_parses : (bs : List Token) (b : NormalStatements) → StatementsParse bs b → FunctionBodyParses (Reserved BeginKey ∷ bs) b
 unfolding is_local local_on key_at is_local_kind
-block_body_parses bs b h = record { no_local = λ rest. refl; parses = λ rest. same (λ n e. block_body_gives n _ (b, rest) e) (of_reader (h.parses rest)) }
+block_body_parses bs b h = record { no_local = λ rest. refl; parses = λ rest. same (λ n e. block_body_gives n _ (b, rest) e) (by_fuel (h.parses rest)) }
 
 casez_gives : (n : ℕ) (us ts : List Token) (u : Bool) (s : NormalStatement) (rest : List Token) → IsUnique us u → cases_at (read_with n) u CasezKey true ts ≡ Some (s, rest) →
     function_body n (key_at (us ++ (Reserved CasezKey ∷ ts))) ≡ Some (Then s Done, rest)
@@ -125,7 +125,7 @@ casez_no_local us ts u not_unique = refl
 casez_body_parses : (ts : List Token) (s : NormalStatement) → CasesParse CasezKey true ts s → FunctionBodyParses ts (Then s Done)
 casez_body_parses ts s h = subst (λ (v : List Token). FunctionBodyParses v (Then s Done)) (sym h.whole) (record {
   no_local = λ rest. simp append_assoc (casez_no_local h.before (h.behind ++ rest) h.is_unique h.unique_is);
-  parses = λ rest. simp append_assoc (same (λ n e. casez_gives n h.before _ h.is_unique s rest h.unique_is e) (of_reader (h.parses rest)));
+  parses = λ rest. simp append_assoc (same (λ n e. casez_gives n h.before _ h.is_unique s rest h.unique_is e) (by_fuel (h.parses rest)));
 })
 
 function_body_parses : (ts : List Token) (b : NormalStatements) → IsFunctionBody ts b → FunctionBodyParses ts b

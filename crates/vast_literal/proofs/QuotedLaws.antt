@@ -6,7 +6,8 @@ use Rattle.std.proofs.lemmas.Bool.{le-ltb, lt-ltb, cases_lt, ne_eqb}
 use Rattle.std.specs.Prelude.{encode_utf8}
 use lib.Utf8.{encode, next}
 use Rattle.std.specs.List.{flat_map}
-use Rattle.vast_literal.specs.Quoted.{escaped, octal_escape, quoted, closes, is_string_token, undone, content_of}
+use Rattle.vast_literal.specs.Quoted.{escaped, octal_escape, quoted, undone, content_of}
+use Rattle.vast_literal.specs.LiteralToken.{is_string_rest, is_string_text}
 use Rattle.vast_literal.specs.Quoted.Escape.{Outside}
 use Rattle.std.proofs.lemmas.List.Concat.{flat_map-append}
 use mathlib.Core.List.{append-nil}
@@ -111,22 +112,23 @@ digit_no_quote n = ne_eqb (48 + n) 34 (λ e. omega arith)
 digit_no_backslash : (n : ℕ) → n < 8 → eqb (48 + n) 92 ≡ false
 digit_no_backslash n h = ne_eqb (48 + n) 92 (λ e. omega arith)
 
-octal_digit_closes : (n : ℕ) (t : List ℕ) → n < 8 → closes false ((48 + n) ∷ t) ≡ closes false t
+octal_digit_closes : (n : ℕ) (t : List ℕ) → n < 8 → is_string_rest false ((48 + n) ∷ t) ≡ is_string_rest false t
 octal_digit_closes n t h = rw (digit_no_quote n, digit_no_break n, digit_no_backslash n h)
 
-octal_closes : (c : ℕ) (t : List ℕ) → closes false (octal_escape c ++ t) ≡ closes false t
+octal_closes : (c : ℕ) (t : List ℕ) → is_string_rest false (octal_escape c ++ t) ≡ is_string_rest false t
 octal_closes c t = rw (digit_no_break (c / 64)) (octal_digit_closes (c / 8 % 8) ((48 + c % 8) ∷ t) (mod-lt _ (lit< tt)) ∙ octal_digit_closes (c % 8) t (mod-lt _ (lit< tt)))
 
 -- an escape, whatever follows it
-escaped_closes : (c : ℕ) (t : List ℕ) → closes false (escaped c ++ t) ≡ closes false t
-escaped_closes c t = by_escape (λ e. closes false (e ++ t) ≡ closes false t) c (λ _. refl) (λ _. refl) (λ _. refl) (λ _. refl) (λ _. refl) (λ _. octal_closes c t) (λ q b n. rw (q, b, n))
+escaped_closes : (c : ℕ) (t : List ℕ) → is_string_rest false (escaped c ++ t) ≡ is_string_rest false t
+escaped_closes c t = by_escape (λ e. is_string_rest false (e ++ t) ≡ is_string_rest false t) c (λ _. refl) (λ _. refl) (λ _. refl) (λ _. refl) (λ _. refl) (λ _. octal_closes c t) (λ q b n. rw (q, b, n))
 
-closes_all : (content : List ℕ) → closes false (flat_map escaped content ++ 34 ∷ []) ≡ true
+closes_all : (content : List ℕ) → is_string_rest false (flat_map escaped content ++ 34 ∷ []) ≡ true
 closes_all [] = refl
 closes_all (c ∷ cs) = rw (append_assoc (escaped c) (flat_map escaped cs) (34 ∷ [])) (escaped_closes c (flat_map escaped cs ++ 34 ∷ []) ∙ closes_all cs)
 
-pub quoted_token : (content : List ℕ) → is_string_token (quoted content) ≡ true
-unfolding quoted is_string_token
+-- A quoted text is one string token.
+pub quoted_token : (content : List ℕ) → is_string_text (quoted content) ≡ true
+unfolding quoted
 quoted_token content = closes_all content
 
 digit_is_octal : (n : ℕ) → n < 8 → (leb 48 (48 + n) && ltb (48 + n) 56) ≡ true

@@ -11,7 +11,7 @@ use Rattle.vast_literal.specs.FileParser.{parameter_at, port_on, port_at, header
 use Rattle.vast_literal.specs.Settled.{either}
 use Rattle.vast_literal.specs.Nexts.{key_with}
 use Rattle.vast_literal.specs.SettledFiles.{settled_parameter, settled_port, joined_parameters, joined_ports, parameter_list, settled_parameters, port_list, settled_ports, settled_module, include_at, settled_item, settled_items, settled_file}
-use Rattle.vast_literal.proofs.Soon.{Soon, one_result}
+use Rattle.vast_literal.proofs.Gives.{Soon, one_result}
 use Rattle.vast_literal.proofs.FilesParse.{file_parses}
 use Rattle.vast_literal.proofs.Same.{FewerIn, fewer_word}
 use Rattle.vast_literal.proofs.SettledExpressions.{run_settled}

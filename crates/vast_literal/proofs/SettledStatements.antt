@@ -8,7 +8,7 @@ use Rattle.vast_literal.specs.FileGrammar.{assignment}
 use Rattle.vast_literal.specs.Parser.{Parser, key_at, enclosed}
 use Rattle.vast_literal.specs.StatementParser.{Reader, after_key, arrow_at, simple_at, block_at, cases_at, case_of, statement_on, statement_step, statements_on, statements_step, tail_on, choice_on, choice_step, body_on, arm_at, labels_on, labels_step, reader_step, read_with}
 use Rattle.vast_literal.specs.Settled.{settled, settled_reader}
-use Rattle.vast_literal.proofs.ReaderGives.{low_is}
+use Rattle.vast_literal.proofs.Gives.{low_is}
 use Rattle.vast_literal.proofs.Same.{FewerIn}
 use Rattle.vast_literal.proofs.SettledExpressions.{Both, selected_same, step_both, run_settled}
 use Rattle.vast_literal.proofs.Agree.{Agree, nothing, ready, wide, of_same, chain, read, Shorter, shorter_key, behind, behind_key, fewer_key, fewer_arrow, enclosed_agree}

@@ -1,57 +1,25 @@
 -- The tokens of an expression's text spell its normal expression.
-use Rattle.std.proofs.Common.{◌≡◌, ℕ, suc, ◌<◌, ◌≤◌, List, [], ◌∷◌, ◌++◌, Bool, true, false, cond, not, ◌&&◌, ◌||◌, eqb, nat_lt, nat_le, Option, Some, None, IsTrue, refl, sym, subst, append_assoc, append-nil, arith, leb-false}
-use Rattle.std.proofs.lemmas.Bool.{ltb-false}
+use Rattle.std.proofs.Common.{◌≡◌, ℕ, suc, ◌<◌, ◌≤◌, List, [], ◌∷◌, ◌++◌, Bool, true, false, cond, not, ◌&&◌, ◌||◌, eqb, Option, Some, None, IsTrue, refl, sym, subst, append_assoc, append-nil, arith}
 use Rattle.std.proofs.lemmas.Bool.Decides.{nat_tests}
 use Rattle.std.proofs.lemmas.Option.{same_Some}
 use Rattle.std.specs.Fmt.{signed_decimal}
 use Rattle.vast_literal.specs.Tokens.{Minus, level, is_unary, OpenParen, CloseParen, Key, LogicKey, IntegerKey, IntKey, Token, Word, SystemWord, Number, Based, Operator, Mark}
 use Rattle.vast_literal.specs.Tree.{UnaryOp, NegateOp, BinaryOp, AddOp, ExprTree, NameTree, LiteralTree, StringTree, UnaryTree, BinaryTree, TernaryTree, IndexTree, SliceTree, PartSelectTree, ConcatTree, PatternTree, WidthCastTree, TypeCastTree, PosEdgeTree, NegEdgeTree, MacroTree, CallTree, MissingExpr, TypeTree, ScalarTree, VectorTree, IntegerTree, IntTree, ExternalTree, PackageTree, PackedTree, UnpackedTree, MissingType, Typed, NoExpr, SomeExpr, Exprs, NoExprs, MoreExprs, NoArguments, SomeArguments}
+use Rattle.vast_literal.specs.Shape.{is_scalar_name, is_zero, is_elided_index, is_elided_slice, unary_wraps, left_child_wraps, right_child_wraps, ternary_wraps, select_wraps}
 use Rattle.vast_literal.specs.Scan.{is_digit}
-use Rattle.vast_literal.specs.NormalExpr.{NormalExpr, Name, Literal, Unary, Call, Cast, NormalExprs, NoNormals, MoreNormals, unary_sign, binary_sign, normal_literal, is_scalar_name, is_zero_literal, is_elided_index, is_elided_slice, sign_key, normal_word_cast, scalar_sign, integer_sign, normal, normal_cast, normals}
+use Rattle.vast_literal.specs.NormalExpr.{NormalExpr, Name, Literal, Unary, Call, Cast, NormalExprs, NoNormals, MoreNormals, unary_sign, binary_sign, normal_literal, sign_key, normal_word_cast, scalar_sign, integer_sign, normal, normal_cast, normals}
 use Rattle.vast_literal.specs.Grammar.{is_cast_word, Spells, ternary, binary, unary, index, slice, part_select, name, number, based, quoted, paren, call, system_call, concat, replicated, array_pattern, macro_alone, macro_call, number_cast, name_cast, package_cast, paren_cast, word_cast, SpellsList, none, some, SpellsJoined, last, next}
 use Rattle.vast_literal.specs.LiteralToken.{is_number, bare_token, literal_tokens}
 use Rattle.vast_literal.specs.Plain.{is_edgeless, is_edgeless_type, are_edgeless}
-use Rattle.vast_literal.specs.ExprTokens.{is_negative_text, literal_level, spelled_level, is_reduction, is_ternary, is_width_cast, is_left_wrapped, is_right_wrapped, is_operand_wrapped, is_subject_wrapped, is_bare_head, wrapped_tokens, cast_operand, comma_tail_tokens, comma_tokens, called_token, word_cast_tokens, expr_tokens, cast_tokens, each_tokens}
+use Rattle.vast_literal.specs.ExprTokens.{is_bare_head, wrapped_tokens, cast_operand, comma_tail_tokens, comma_tokens, called_token, word_cast_tokens, expr_tokens, cast_tokens, each_tokens}
 use Rattle.vast_literal.specs.WellFormed.{is_positive, is_cast_type, is_well_formed, is_well_formed_type, are_well_formed}
-use Rattle.vast_literal.proofs.ScanLaws.{and_left, and_right, or_left}
+use Rattle.vast_literal.proofs.ScanLaws.{and_left, and_right}
 use Rattle.vast_literal.proofs.Sound.{level_small, lower}
-
-pub positive : (op : BinaryOp) → 0 < level (binary_sign op)
-unfolding level binary_sign
-positive AddOp = omega arith
-positive _ = omega arith
-
--- a level is at most that of a select
-pub literal_bound : (b : Bool) → cond b 12 13 ≤ 13
-literal_bound true = omega arith
-literal_bound false = omega arith
-
-pub level_bound : (e : ExprTree) → spelled_level e ≤ 13
-level_bound (BinaryTree op left right) = let small = level_small (binary_sign op) in omega arith
-level_bound (TernaryTree condition consequent alternate) = omega arith
-level_bound (UnaryTree op operand) = omega arith
-level_bound (LiteralTree text value) = literal_bound (is_negative_text text)
-level_bound _ = omega arith
+use Rattle.vast_literal.proofs.Precedence.{literal_level, spelled_level, positive, level_bound, left_bound, right_bound, operand_bound, subject_bound, ternary_bound}
 
 pub wrapped_spells : (b : Bool) (m k : ℕ) (ts : List Token) (t : NormalExpr) → m ≤ 14 → k ≤ 14 → (b ≡ false → k ≤ m) → Spells m ts t → Spells k (wrapped_tokens b ts) t
 wrapped_spells true m k ts t small low f e = lower 14 k _ t low (omega arith) (paren (lower m 0 ts t (omega arith) small e))
 wrapped_spells false m k ts t small low f e = lower m k ts t (f refl) small e
-
-pub not_lt : (a b : ℕ) (c : Bool) → (nat_lt a b || c) ≡ false → b ≤ a
-not_lt a b c h = ltb-false a b (or_left (nat_lt a b) c h)
-
-pub not_le : (a b : ℕ) (c : Bool) → (nat_le a b || c) ≡ false → suc b ≤ a
-not_le a b c h = leb-false a b (or_left (nat_le a b) c h)
-
-literal_positive : (b : Bool) → 1 ≤ cond b 12 13
-literal_positive true = omega arith
-literal_positive false = omega arith
-
-not_ternary : (e : ExprTree) → is_ternary e ≡ false → 1 ≤ spelled_level e
-not_ternary (TernaryTree condition consequent alternate) h = absurd (cc h)
-not_ternary (BinaryTree op left right) h = positive op
-not_ternary (LiteralTree text value) h = literal_positive (is_negative_text text)
-not_ternary _ h = omega arith
 
 -- literals
 
@@ -96,8 +64,8 @@ called_spells (c ∷ cs) {ts = ts} {xs = xs} es = go (eqb c 36)
 -- elided selects
 
 scalar_spells : (s : ExprTree) → is_scalar_name s ≡ true → Spells 13 (expr_tokens s) (normal s)
-unfolding is_scalar_name expr_tokens normal
-scalar_spells (NameTree n (Typed (ScalarTree signed))) h = lower 14 13 _ _ (omega arith) (omega arith) (name n)
+unfolding expr_tokens normal
+scalar_spells (NameTree n type) h = lower 14 13 _ _ (omega arith) (omega arith) (name n)
 scalar_spells _ h = absurd (cc h)
 
 select_spells : (b : Bool) (s : ExprTree) {ts : List Token} {t : NormalExpr} → (b ≡ true → is_scalar_name s ≡ true) → Spells 13 ts t → Spells 13 (cond b (expr_tokens s) ts) (cond b (normal s) t)
@@ -105,12 +73,10 @@ select_spells true s f e = scalar_spells s (f refl)
 select_spells false s f e = e
 
 elided_index : (s i : ExprTree) → is_elided_index s i ≡ true → is_scalar_name s ≡ true
-unfolding is_elided_index
-elided_index s i h = and_left (is_scalar_name s) (is_zero_literal i) h
+elided_index s i h = and_left (is_scalar_name s) (is_zero i) h
 
 elided_slice : (s h l : ExprTree) → is_elided_slice s h l ≡ true → is_scalar_name s ≡ true
-unfolding is_elided_slice
-elided_slice s a b h = and_left (is_scalar_name s) (is_zero_literal a) (and_left (is_scalar_name s && is_zero_literal a) (is_zero_literal b) h)
+elided_slice s a b h = and_left (is_scalar_name s) (is_zero a && is_zero b) h
 
 -- the heads of casts
 
@@ -198,12 +164,12 @@ pub below : {ts : List Token} {t : NormalExpr} → Spells 14 ts t → Spells 13 
 below s = lower 14 13 _ _ (omega arith) (omega arith) s
 
 -- the subject of a select
-subject_spells : (s : ExprTree) {ts : List Token} {t : NormalExpr} → Spells (spelled_level s) ts t → Spells 13 (wrapped_tokens (is_subject_wrapped s) ts) t
-subject_spells s e = let b = level_bound s in wrapped_spells (is_subject_wrapped s) (spelled_level s) 13 _ _ (omega arith) (omega arith) (λ h. ltb-false (spelled_level s) 13 h) e
+subject_spells : (s : ExprTree) {ts : List Token} {t : NormalExpr} → Spells (spelled_level s) ts t → Spells 13 (wrapped_tokens (select_wraps s) ts) t
+subject_spells s e = let b = level_bound s in wrapped_spells (select_wraps s) (spelled_level s) 13 _ _ (omega arith) (omega arith) (subject_bound s) e
 
-part_of_ternary : (s : ExprTree) (k : ℕ) {ts : List Token} {t : NormalExpr} → k ≤ 1 → Spells (spelled_level s) ts t → Spells k (wrapped_tokens (is_ternary s) ts) t
+part_of_ternary : (s : ExprTree) (k : ℕ) {ts : List Token} {t : NormalExpr} → k ≤ 1 → Spells (spelled_level s) ts t → Spells k (wrapped_tokens (ternary_wraps s) ts) t
 part_of_ternary s k small e = let b = level_bound s in
-    wrapped_spells (is_ternary s) (spelled_level s) k _ _ (omega arith) (omega arith) (λ h. let p = not_ternary s h in omega arith) e
+    wrapped_spells (ternary_wraps s) (spelled_level s) k _ _ (omega arith) (omega arith) (λ h. let p = ternary_bound s h in omega arith) e
 
 mutual
   unfolding expr_tokens normal
@@ -214,14 +180,14 @@ mutual
   spelled (LiteralTree text value) l w = literal_spells text
   spelled (StringTree text) l w = below (quoted text)
   spelled (UnaryTree op e) l w = let b = level_bound e in
-      unary (unary_sign op) (unary_word op) (wrapped_spells (is_operand_wrapped e) (spelled_level e) 12 _ _ (omega arith) (omega arith) (λ h. let c = not_lt (spelled_level e) 13 (is_width_cast e) h in omega arith) (spelled e l w))
+      unary (unary_sign op) (unary_word op) (wrapped_spells (unary_wraps e) (spelled_level e) 12 _ _ (omega arith) (omega arith) (λ h. let c = operand_bound e h in omega arith) (spelled e l w))
   spelled (BinaryTree op a c) l w =
       let small = level_small (binary_sign op) in
       let ba = level_bound a in
       let bc = level_bound c in
       binary (binary_sign op) (positive op)
-      (wrapped_spells (is_left_wrapped (binary_sign op) a) (spelled_level a) (level (binary_sign op)) _ _ (omega arith) (omega arith) (λ h. not_lt (spelled_level a) (level (binary_sign op)) (is_reduction a) h) (spelled a (and_left _ _ l) (and_left _ _ w)))
-      (wrapped_spells (is_right_wrapped (binary_sign op) c) (spelled_level c) (suc (level (binary_sign op))) _ _ (omega arith) (omega arith) (λ h. not_le (spelled_level c) (level (binary_sign op)) (is_reduction c) h) (spelled c (and_right (is_edgeless a) _ l) (and_right (is_well_formed a) _ w)))
+      (wrapped_spells (left_child_wraps op a) (spelled_level a) (level (binary_sign op)) _ _ (omega arith) (omega arith) (left_bound op a) (spelled a (and_left _ _ l) (and_left _ _ w)))
+      (wrapped_spells (right_child_wraps op c) (spelled_level c) (suc (level (binary_sign op))) _ _ (omega arith) (omega arith) (right_bound op c) (spelled c (and_right (is_edgeless a) _ l) (and_right (is_well_formed a) _ w)))
   spelled (TernaryTree c a b) l w =
       let l1 = and_right (is_edgeless c) (is_edgeless a && is_edgeless b) l in
       let w1 = and_right (is_well_formed c) (is_well_formed a && is_well_formed b) w in

@@ -8,11 +8,9 @@ use Rattle.vast_literal.specs.Grammar.{is_cast_word, Spells}
 use Rattle.vast_literal.specs.FileGrammar.{OneStatement, arrow, assignment, IsUnique, unique, not_unique, IsCase, case_word, casez_word, casex_word, IsStatement, simple, assigned, choice, cases, IsCases, cased, IsAssign, assigns, IsStatements, done, then, IsChoice, only, otherwise, or, IsLabels, no_labels, label, default, IsBody, body, bare}
 use Rattle.vast_literal.specs.Parser.{◌>>=◌, Parser, lead, key_at, enclosed, selected}
 use Rattle.vast_literal.specs.StatementParser.{Reader, key_code, after_key_on, after_key, arrow_at, simple_at, block_at, cases_at, case_of, statement_on, statement_step, statements_on, statements_step, tail_on, choice_on, choice_step, body_on, arm_at, labels_on, labels_step}
-use Rattle.vast_literal.proofs.Gives.{Gives}
-use Rattle.vast_literal.proofs.ReaderGives.{ReaderGives, now, same, same2, later, later2, later3, one_result, lifted}
+use Rattle.vast_literal.proofs.Gives.{Gives, ReaderGives, now, same, same2, later, later2, later3, one_result, lifted}
 use Rattle.vast_literal.proofs.Moves.{Quiet, bound, after_self, enclosed_gives, stop_selects}
 use Rattle.vast_literal.proofs.Complete.{CastOnly, parses}
-use Rattle.vast_literal.proofs.Gives as Low
 
 pub key_self : (k : Key) (us : List Token) → after_key k (Reserved k ∷ us) ≡ Some us
 unfolding after_key after_key_on key_at
@@ -57,7 +55,7 @@ pub expression_parses : (ts rest : List Token) (t : NormalExpr) → Spells 0 ts 
 expression_parses ts rest t e q = let h = parses 0 ts t e in h.expression_at rest q
 
 pub left_parses : (ts rest : List Token) (t : NormalExpr) → Spells 13 ts t → Quiet 13 rest → Quiet 14 rest → Gives (λ p. selected p (ts ++ rest)) (t, rest)
-left_parses ts rest t e q q' = let h = parses 13 ts t e in h.selects_at (omega arith) rest (t, rest) q' (Low.now (λ p. stop_selects p t rest q))
+left_parses ts rest t e q q' = let h = parses 13 ts t e in h.selects_at (omega arith) rest (t, rest) q' (now (λ p. stop_selects p t rest q))
 
 quiet_arrow : (b : Bool) (us : List Token) → Quiet 13 (arrow b ∷ us) × Quiet 14 (arrow b ∷ us)
 unfolding lead arrow level
@@ -106,7 +104,7 @@ unfolding lead
 assigns_parses ls rs l r b el er = record {
   key = λ rest. simp append_assoc ((parses 13 ls l el).starts.key _);
   parses = λ rest. let q = quiet_arrow b (rs ++ (Mark Semicolon ∷ rest)) in simp append_assoc
-      (Low.same2 (λ p e d. simple_gives p b l r _ (rs ++ (Mark Semicolon ∷ rest)) rest e d)
+      (same2 (λ p e d. simple_gives p b l r _ (rs ++ (Mark Semicolon ∷ rest)) rest e d)
       (left_parses ls (arrow b ∷ (rs ++ (Mark Semicolon ∷ rest))) l el q.0 q.1)
       (expression_parses rs (Mark Semicolon ∷ rest) r er tt));
 }

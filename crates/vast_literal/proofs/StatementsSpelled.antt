@@ -8,7 +8,8 @@ use Rattle.vast_literal.specs.Grammar.{Spells}
 use Rattle.vast_literal.specs.FileGrammar.{arrow, assignment, IsUnique, unique, not_unique, IsCase, case_word, casez_word, casex_word, IsStatement, simple, assigned, choice, cases, cased, IsAssign, assigns, IsStatements, done, then, IsChoice, only, otherwise, or, IsLabels, no_labels, label, default, IsBody, body, bare, IsFunctionBody, block_body, casez_body}
 use Rattle.vast_literal.specs.WellFormed.{is_well_formed}
 use Rattle.vast_literal.specs.NormalTree.{case_key, normal_assignment, normal_label, normal_before, normal_statements, normal_choice, normal_arms}
-use Rattle.vast_literal.specs.FileTokens.{assignment_tokens, is_single_assignment, is_bare_arm, is_single_casez, ended, block_tokens, unique_tokens, label_tokens, statement_tokens, statements_tokens, alternates_tokens, arms_tokens, body_tokens}
+use Rattle.vast_literal.specs.Shape.{is_one_assignment, is_bare_arm, is_one_casez}
+use Rattle.vast_literal.specs.FileTokens.{assignment_tokens, ended, block_tokens, unique_tokens, label_tokens, statement_tokens, statements_tokens, alternates_tokens, arms_tokens, body_tokens}
 use Rattle.vast_literal.specs.PlainFile.{is_plain_value, is_plain_maybe, is_left_side, is_plain_assignment, is_plain_statement, are_plain_statements, are_plain_alternates, are_plain_arms}
 use Rattle.vast_literal.specs.WellFormedFile.{is_well_formed_maybe, is_well_formed_statement, are_well_formed_statements, are_well_formed_alternates, are_well_formed_arms}
 use Rattle.vast_literal.proofs.ScanLaws.{and_left, and_right}
@@ -38,8 +39,8 @@ assignment_spelled Nonblocking l r = simple (assigns false l r)
 assignment_spelled Continuous l r = assigned l r
 
 -- one assignment that stands bare
-single_spelled : (block : Statements) → is_single_assignment block ≡ true → are_plain_statements block ≡ true → are_well_formed_statements block ≡ true → IsBody true (statements_tokens block) (normal_statements block)
-unfolding is_single_assignment statements_tokens normal_statements assignment_tokens normal_assignment arrow assignment
+single_spelled : (block : Statements) → is_one_assignment block ≡ true → are_plain_statements block ≡ true → are_well_formed_statements block ≡ true → IsBody true (statements_tokens block) (normal_statements block)
+unfolding statements_tokens normal_statements assignment_tokens normal_assignment arrow assignment
 single_spelled (MoreStatements (AssignTree Blocking l r) NoStatements) e p w =
     let p0 = and_left (is_plain_assignment l r) true p in
     let w0 = and_left (is_well_formed l && is_well_formed r) true w in
@@ -53,7 +54,6 @@ single_spelled (MoreStatements (AssignTree Nonblocking l r) NoStatements) e p w 
 single_spelled _ e p w = absurd (cc e)
 
 bare_spelled : (word : CaseWord) (block : Statements) → is_bare_arm word block ≡ true → are_plain_statements block ≡ true → are_well_formed_statements block ≡ true → IsBody (has_bare_arms word) (statements_tokens block) (normal_statements block)
-unfolding is_bare_arm
 bare_spelled CaseZ block e p w = single_spelled block e p w
 bare_spelled CaseExact block e p w = absurd (cc e)
 bare_spelled CaseX block e p w = absurd (cc e)
@@ -114,8 +114,10 @@ mutual
       (arms_spelled word arms (and_right (are_plain_statements b) (are_plain_arms arms) p1) (and_right (are_well_formed_statements b) (are_well_formed_arms arms) w1))
 
 -- one casez that stands bare as the body of a function
-casez_spelled : (b : Statements) → is_single_casez b ≡ true → are_plain_statements b ≡ true → are_well_formed_statements b ≡ true → IsFunctionBody (statements_tokens b) (normal_statements b)
-unfolding is_single_casez statements_tokens normal_statements case_key
+casez_spelled : (b : Statements) → is_one_casez b ≡ true → are_plain_statements b ≡ true → are_well_formed_statements b ≡ true → IsFunctionBody (statements_tokens b) (normal_statements b)
+unfolding statements_tokens normal_statements case_key
+casez_spelled NoStatements h p w = absurd (cc h)
+casez_spelled (MoreStatements statement (MoreStatements next rest)) h p w = absurd (cc h)
 casez_spelled (MoreStatements (CaseTree u CaseZ e arms) NoStatements) h p w =
     let p0 = and_left (is_plain_value e && are_plain_arms arms) true p in
     let w0 = and_left (is_well_formed e && are_well_formed_arms arms) true w in
@@ -125,8 +127,8 @@ casez_spelled _ h p w = absurd (cc h)
 
 pub function_body_spelled : (b : Statements) → are_plain_statements b ≡ true → are_well_formed_statements b ≡ true → IsFunctionBody (body_tokens b) (normal_statements b)
 unfolding body_tokens
-function_body_spelled b p w = go (is_single_casez b) refl
+function_body_spelled b p w = go (is_one_casez b) refl
   where
-    go : (c : Bool) → is_single_casez b ≡ c → IsFunctionBody (cond c (statements_tokens b) (block_tokens (statements_tokens b))) (normal_statements b)
+    go : (c : Bool) → is_one_casez b ≡ c → IsFunctionBody (cond c (statements_tokens b) (block_tokens (statements_tokens b))) (normal_statements b)
     go true e = casez_spelled b e p w
     go false e = block_body (statements_spelled b p w)

@@ -15,17 +15,15 @@ use Rattle.std.proofs.Math.Pow.{pow_mono}
 use Rattle.vast_literal.specs.declared.literal.LiteralFormat.{LiteralFormat}
 use Rattle.vast_literal.specs.declared.literal.LiteralFormat.TheVariants.{Binary, Hex, SignedDecimal, UnsignedDecimal, UnsizedBinary, UnsizedDecimal, UnsizedHex}
 use Rattle.vast_literal.specs.Scan.{is_digit, is_based_digit}
-use Rattle.vast_literal.specs.LiteralToken.{every, is_number, is_based_number, is_based_tail, is_based, is_bare_literal, is_literal_text, is_done, is_string_rest, is_string_text}
+use Rattle.vast_literal.specs.LiteralToken.{every, is_number, is_based_number, is_based_tail, is_based, is_bare_literal, is_literal_text}
 use Rattle.vast_literal.specs.Digits.{lowest_digits, digit_count, characters, grouped}
 use Rattle.vast_literal.specs.LiteralText.{padded_count, is_below_half, sized, signed_text, spelled}
 use Rattle.vast_literal.specs.Pattern.{is_pattern_digit, is_pattern}
-use Rattle.vast_literal.specs.Quoted.{escaped, closes, is_string_token, quoted}
 use Rattle.vast_literal.proofs.Numbers.{both_parts, length-lowest_digits}
 use Rattle.vast_literal.proofs.Widths.{positive_from_high, narrow_from_high}
 use Rattle.vast_literal.proofs.Spelt.{lowest_below, all_grouped, all_characters}
 use Rattle.vast_literal.proofs.Decimals.{digit_count-some}
 use Rattle.vast_literal.proofs.Formats.{padded_some, padded_some_4}
-use Rattle.vast_literal.proofs.QuotedLaws.{quoted_token}
 
 every_is : (p : ℕ → Bool) (cs : List ℕ) → every p cs ≡ list_all p cs
 every_is p [] = refl
@@ -163,18 +161,3 @@ pattern_literal bits h =
     let low = leb-true 1 (length bits) q.0 in
     let high = leb-true (length bits) 1048576 q.1 in
     literal_from_based (sized (length bits) (39 ∷ 98 ∷ []) bits) (sized_based (length bits) (98 ∷ []) bits (omega arith) (some_based bits (omega arith) (all_weaker is_pattern_digit is_based_digit bits pattern_digit_based p.1)))
-
--- A quoted text is one string token.
-done_is : (cs : List ℕ) → is_done cs ≡ eqb (length cs) 0
-done_is [] = refl
-done_is (c ∷ cs) = sym (ne_eqb (suc (length cs)) 0 (λ e. omega arith))
-
-string_rest_is : (b : Bool) (cs : List ℕ) → is_string_rest b cs ≡ closes b cs
-string_rest_is true [] = refl
-string_rest_is false [] = refl
-string_rest_is true (c ∷ cs) = ap (λ t. not (eqb c 10) && t) (string_rest_is false cs)
-string_rest_is false (c ∷ cs) = rw (done_is cs, string_rest_is (eqb c 92) cs)
-
-pub quoted_string : (content : List ℕ) → is_string_text (quoted content) ≡ true
-unfolding quoted is_string_token
-quoted_string content = string_rest_is false (flat_map escaped content ++ 34 ∷ []) ∙ quoted_token content

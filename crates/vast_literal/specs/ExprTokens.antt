@@ -1,62 +1,14 @@
 -- The tokens that the printed text of an expression has: bracketed as the text is.
-use Rattle.std.specs.Prelude.{ℕ, List, [], ◌∷◌, ◌++◌, Bool, true, false, cond, not, ◌&&◌, ◌||◌, eqb, nat_le, nat_lt, Option, Some, None}
+use Rattle.std.specs.Prelude.{ℕ, List, [], ◌∷◌, ◌++◌, Bool, true, false, cond, not, ◌&&◌, ◌||◌, eqb, Option, Some, None}
 use Rattle.std.specs.Fmt.{signed_decimal}
-use Rattle.vast_literal.specs.Tokens.{Op, level, Key, LogicKey, IntegerKey, IntKey, PosedgeKey, NegedgeKey, OpenParen, CloseParen, OpenBracket, CloseBracket, OpenBrace, CloseBrace, Comma, Colon, Question, DoubleColon, PlusColon, Apostrophe, Token, Reserved, Word, SystemWord, MacroWord, Number, Quoted, Operator, Mark}
-use Rattle.vast_literal.specs.Tree.{UnaryOp, AndReduceOp, OrReduceOp, XorReduceOp}
+use Rattle.vast_literal.specs.Tokens.{Key, LogicKey, IntegerKey, IntKey, PosedgeKey, NegedgeKey, OpenParen, CloseParen, OpenBracket, CloseBracket, OpenBrace, CloseBrace, Comma, Colon, Question, DoubleColon, PlusColon, Apostrophe, Token, Reserved, Word, SystemWord, MacroWord, Number, Quoted, Operator, Mark}
 use Rattle.vast_literal.specs.Tree.{ExprTree, NameTree, LiteralTree, StringTree, UnaryTree, BinaryTree, TernaryTree, IndexTree, SliceTree, PartSelectTree, ConcatTree, PatternTree, WidthCastTree, TypeCastTree, PosEdgeTree, NegEdgeTree, MacroTree, CallTree, MissingExpr}
 use Rattle.vast_literal.specs.Tree.{TypeTree, ScalarTree, VectorTree, IntegerTree, IntTree, ExternalTree, PackageTree, PackedTree, UnpackedTree, MissingType}
 use Rattle.vast_literal.specs.Tree.{NoExpr, SomeExpr, Exprs, NoExprs, MoreExprs, NoArguments, SomeArguments}
-use Rattle.vast_literal.specs.NormalExpr.{unary_sign, binary_sign, is_elided_index, is_elided_slice, sign_key, scalar_sign, integer_sign}
+use Rattle.vast_literal.specs.NormalExpr.{unary_sign, binary_sign, sign_key, scalar_sign, integer_sign}
+use Rattle.vast_literal.specs.Shape.{is_elided_index, is_elided_slice, unary_wraps, left_child_wraps, right_child_wraps, ternary_wraps, select_wraps}
 use Rattle.vast_literal.specs.LiteralToken.{is_number, literal_tokens}
 use Rattle.vast_literal.specs.Plain.{is_identifier}
-
--- A literal whose text begins with a minus.
-abbrev pub is_negative_text : List ℕ → Bool
-is_negative_text [] = false
-is_negative_text (c ∷ cs) = eqb c 45
-
-abbrev pub literal_level : List ℕ → ℕ
-literal_level text = cond (is_negative_text text) 12 13
-
--- How tightly a printed expression binds; a literal with a minus is a minus and a literal.
-abbrev pub spelled_level : ExprTree → ℕ
-spelled_level (TernaryTree condition consequent alternate) = 0
-spelled_level (BinaryTree op left right) = level (binary_sign op)
-spelled_level (UnaryTree op operand) = 12
-spelled_level (LiteralTree text value) = literal_level text
-spelled_level _ = 13
-
--- A unary sign that joins all bits of its operand.
-abbrev pub is_reduction_sign : UnaryOp → Bool
-is_reduction_sign AndReduceOp = true
-is_reduction_sign OrReduceOp = true
-is_reduction_sign XorReduceOp = true
-is_reduction_sign _ = false
-
-abbrev pub is_reduction : ExprTree → Bool
-is_reduction (UnaryTree op operand) = is_reduction_sign op
-is_reduction _ = false
-
-abbrev pub is_ternary : ExprTree → Bool
-is_ternary (TernaryTree condition consequent alternate) = true
-is_ternary _ = false
-
-abbrev pub is_width_cast : ExprTree → Bool
-is_width_cast (WidthCastTree width operand) = true
-is_width_cast _ = false
-
--- Whether parentheses stand around a left and a right operand, the operand of a unary sign and the subject of a select.
-abbrev pub is_left_wrapped : Op → ExprTree → Bool
-is_left_wrapped op left = nat_lt (spelled_level left) (level op) || is_reduction left
-
-abbrev pub is_right_wrapped : Op → ExprTree → Bool
-is_right_wrapped op right = nat_le (spelled_level right) (level op) || is_reduction right
-
-abbrev pub is_operand_wrapped : ExprTree → Bool
-is_operand_wrapped operand = nat_lt (spelled_level operand) 13 || is_width_cast operand
-
-abbrev pub is_subject_wrapped : ExprTree → Bool
-is_subject_wrapped subject = nat_lt (spelled_level subject) 13
 
 -- A width that stands bare before the apostrophe of a cast: a number or a word; an elided select counts as its name.
 unfoldable pub is_bare_head : ExprTree → Bool
@@ -104,18 +56,18 @@ unfoldable mutual
   expr_tokens (NameTree name type) = Word name ∷ []
   expr_tokens (LiteralTree text value) = literal_tokens text
   expr_tokens (StringTree text) = Quoted text ∷ []
-  expr_tokens (UnaryTree op operand) = Operator (unary_sign op) ∷ wrapped_tokens (is_operand_wrapped operand) (expr_tokens operand)
+  expr_tokens (UnaryTree op operand) = Operator (unary_sign op) ∷ wrapped_tokens (unary_wraps operand) (expr_tokens operand)
   expr_tokens (BinaryTree op left right) =
-      wrapped_tokens (is_left_wrapped (binary_sign op) left) (expr_tokens left) ++ (Operator (binary_sign op) ∷ wrapped_tokens (is_right_wrapped (binary_sign op) right) (expr_tokens right))
+      wrapped_tokens (left_child_wraps op left) (expr_tokens left) ++ (Operator (binary_sign op) ∷ wrapped_tokens (right_child_wraps op right) (expr_tokens right))
   expr_tokens (TernaryTree condition consequent alternate) =
-      wrapped_tokens (is_ternary condition) (expr_tokens condition) ++ (Mark Question ∷
-      (wrapped_tokens (is_ternary consequent) (expr_tokens consequent) ++ (Mark Colon ∷ wrapped_tokens (is_ternary alternate) (expr_tokens alternate))))
+      wrapped_tokens (ternary_wraps condition) (expr_tokens condition) ++ (Mark Question ∷
+      (wrapped_tokens (ternary_wraps consequent) (expr_tokens consequent) ++ (Mark Colon ∷ wrapped_tokens (ternary_wraps alternate) (expr_tokens alternate))))
   expr_tokens (IndexTree subject index) = cond (is_elided_index subject index) (expr_tokens subject)
-      (wrapped_tokens (is_subject_wrapped subject) (expr_tokens subject) ++ (Mark OpenBracket ∷ (expr_tokens index ++ (Mark CloseBracket ∷ []))))
+      (wrapped_tokens (select_wraps subject) (expr_tokens subject) ++ (Mark OpenBracket ∷ (expr_tokens index ++ (Mark CloseBracket ∷ []))))
   expr_tokens (SliceTree subject high low) = cond (is_elided_slice subject high low) (expr_tokens subject)
-      (wrapped_tokens (is_subject_wrapped subject) (expr_tokens subject) ++ (Mark OpenBracket ∷ (expr_tokens high ++ (Mark Colon ∷ (expr_tokens low ++ (Mark CloseBracket ∷ []))))))
+      (wrapped_tokens (select_wraps subject) (expr_tokens subject) ++ (Mark OpenBracket ∷ (expr_tokens high ++ (Mark Colon ∷ (expr_tokens low ++ (Mark CloseBracket ∷ []))))))
   expr_tokens (PartSelectTree subject start width) =
-      wrapped_tokens (is_subject_wrapped subject) (expr_tokens subject) ++ (Mark OpenBracket ∷ (expr_tokens start ++ (Mark PlusColon ∷ (Number (signed_decimal width) ∷ (Mark CloseBracket ∷ [])))))
+      wrapped_tokens (select_wraps subject) (expr_tokens subject) ++ (Mark OpenBracket ∷ (expr_tokens start ++ (Mark PlusColon ∷ (Number (signed_decimal width) ∷ (Mark CloseBracket ∷ [])))))
   expr_tokens (ConcatTree NoExpr parts) = Mark OpenBrace ∷ (comma_tokens (each_tokens parts) ++ (Mark CloseBrace ∷ []))
   expr_tokens (ConcatTree (SomeExpr count) parts) =
       Mark OpenBrace ∷ (expr_tokens count ++ (Mark OpenBrace ∷ (comma_tokens (each_tokens parts) ++ (Mark CloseBrace ∷ (Mark CloseBrace ∷ [])))))

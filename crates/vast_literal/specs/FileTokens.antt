@@ -1,17 +1,18 @@
 -- The tokens that the printed page of a file has.
-use Rattle.std.specs.Prelude.{ℕ, ℤ, pos, ◌-ℤ◌, Bool, true, false, List, [], ◌∷◌, ◌++◌, codes, Option, Some, None, cond, nat_lt}
+use Rattle.std.specs.Prelude.{ℕ, ℤ, pos, ◌-ℤ◌, Bool, true, false, List, [], ◌∷◌, ◌++◌, codes, Option, Some, None, cond}
 use Rattle.std.specs.Fmt.{signed_decimal}
 use Rattle.vast_literal.specs.Tokens.{Less, LessEqual, Plus, Minus, Key, IfKey, ElseKey, EndCaseKey, DefaultKey, UniqueKey, BeginKey, EndKey, AssignKey, IntKey, GenvarKey, ModuleKey, EndModuleKey, ParameterKey, AlwaysCombKey, AlwaysFFKey, AlwaysKey, OrKey, FunctionKey, AutomaticKey, EndFunctionKey, InputKey, ForKey}
 use Rattle.vast_literal.specs.Tokens.{OpenParen, CloseParen, OpenBracket, CloseBracket, Comma, Colon, Semicolon, Dot, Hash, At, DoubleColon, Assign, Token, Reserved, Word, MacroWord, Number, Quoted, Operator, Mark}
 use Rattle.vast_literal.specs.Tree.{Dialect, VerilogDialect, SystemVerilogDialect, ExprTree, Exprs, NoExprs, MoreExprs, MaybeExpr, NoExpr, SomeExpr, MaybeType, Untyped, Typed}
-use Rattle.vast_literal.specs.Tree.{TypeTree, VectorTree, ExternalTree, PackageTree, PackedTree, UnpackedTree, Kind, Declaration}
+use Rattle.vast_literal.specs.Tree.{LtOp, TypeTree, VectorTree, ExternalTree, PackageTree, PackedTree, UnpackedTree, Kind, Declaration}
 use Rattle.vast_literal.specs.Tree.{AssignForm, Blocking, Nonblocking, Continuous, CaseWord, CaseExact, CaseZ, CaseX, StatementTree, AssignTree, CommentTree, BlankTree, InlineTree, ConditionalTree, CaseTree, Statements, NoStatements, MoreStatements, Alternates, NoElse, ElseIf, Else, CaseArms, NoCaseArms, CaseArm}
 use Rattle.vast_literal.specs.Tree.{AlwaysWord, AlwaysFFWord, AlwaysAtWord, AlwaysCombWord, ParameterName, PlainParameter, IntParameter, DefinedParameter, Connection, InstanceTree, FunctionTree}
 use Rattle.vast_literal.specs.Tree.{MemberTree, DeclarationMember, AssignMember, ParameterMember, CommentMember, BlankMember, InlineMember, MacroMember, InstanceMember, AlwaysMember, ConditionalMember, FunctionMember, LoopMember, Members, NoMembers, MoreMembers}
 use Rattle.vast_literal.specs.Tree.{PortTree, ParameterPortTree, ModuleTree, FileItemTree, ModuleItem, IncludeItem, CommentItem, BlankItem, FileTree}
 use Rattle.vast_literal.specs.LiteralToken.{literal_tokens}
-use Rattle.vast_literal.specs.ExprTokens.{spelled_level, is_right_wrapped, wrapped_tokens, expr_tokens}
-use Rattle.vast_literal.specs.NormalTree.{kind_key, base_type, sign_of, port_kind, base_kind, result_kind, case_key, parameter_key, direction_key}
+use Rattle.vast_literal.specs.Shape.{right_child_wraps, limit_wraps, base_of, port_kind, base_kind, result_kind, is_bare_arm, is_one_casez}
+use Rattle.vast_literal.specs.ExprTokens.{wrapped_tokens, expr_tokens}
+use Rattle.vast_literal.specs.NormalTree.{kind_key, sign_of, case_key, parameter_key, direction_key}
 
 -- Declarations.
 
@@ -38,12 +39,9 @@ abbrev pub range_tokens : (high low : List Token) → List Token
 range_tokens hs ls = Mark OpenBracket ∷ (hs ++ (Mark Colon ∷ (ls ++ (Mark CloseBracket ∷ []))))
 
 -- A width in parentheses where it binds less tightly than a minus.
-abbrev pub is_limit_wrapped : ExprTree → Bool
-is_limit_wrapped width = nat_lt (spelled_level width) 9
-
 unfoldable pub limit_tokens : ExprTree → Option ℤ → List Token
 limit_tokens width (Some value) = number_tokens (value -ℤ pos 1)
-limit_tokens width None = wrapped_tokens (is_limit_wrapped width) (expr_tokens width) ++ (Operator Minus ∷ (Number (codes "1") ∷ []))
+limit_tokens width None = wrapped_tokens (limit_wraps width) (expr_tokens width) ++ (Operator Minus ∷ (Number (codes "1") ∷ []))
 
 unfoldable pub vector_tokens : (base : TypeTree) → List Token
 vector_tokens (VectorTree width value signed) = range_tokens (limit_tokens width value) zero_tokens
@@ -73,8 +71,8 @@ unpacked_tokens dialect _ = []
 
 unfoldable pub declaration_tokens : Dialect → Kind → TypeTree → (name : List ℕ) → List Token
 declaration_tokens dialect kind type name =
-    maybe_tokens (kind_key kind) ++ (type_name_tokens (base_type type) ++ (maybe_tokens (sign_of (base_type type)) ++
-    ((packed_tokens type ++ vector_tokens (base_type type)) ++ (Word name ∷ unpacked_tokens dialect type))))
+    maybe_tokens (kind_key kind) ++ (type_name_tokens (base_of type) ++ (maybe_tokens (sign_of (base_of type)) ++
+    ((packed_tokens type ++ vector_tokens (base_of type)) ++ (Word name ∷ unpacked_tokens dialect type))))
 
 unfoldable pub declared_tokens : Dialect → Declaration → List Token
 declared_tokens dialect d = declaration_tokens dialect d.kind d.type d.name
@@ -88,23 +86,6 @@ unfoldable pub assignment_tokens : AssignForm → (left right : List Token) → 
 assignment_tokens Blocking ls rs = ls ++ (Mark Assign ∷ (rs ++ (Mark Semicolon ∷ [])))
 assignment_tokens Nonblocking ls rs = ls ++ (Operator LessEqual ∷ (rs ++ (Mark Semicolon ∷ [])))
 assignment_tokens Continuous ls rs = Reserved AssignKey ∷ (ls ++ (Mark Assign ∷ (rs ++ (Mark Semicolon ∷ []))))
-
--- One assignment of a procedural block.
-unfoldable pub is_single_assignment : Statements → Bool
-is_single_assignment (MoreStatements (AssignTree Blocking left right) NoStatements) = true
-is_single_assignment (MoreStatements (AssignTree Nonblocking left right) NoStatements) = true
-is_single_assignment _ = false
-
--- An arm of a casez that is one assignment stands without `begin` and `end`.
-unfoldable pub is_bare_arm : CaseWord → Statements → Bool
-is_bare_arm CaseZ block = is_single_assignment block
-is_bare_arm CaseExact block = false
-is_bare_arm CaseX block = false
-
--- One casez.
-unfoldable pub is_single_casez : Statements → Bool
-is_single_casez (MoreStatements (CaseTree unique CaseZ selector arms) NoStatements) = true
-is_single_casez _ = false
 
 -- Statements and `end`, and a block of them.
 abbrev pub ended : List Token → List Token
@@ -209,7 +190,7 @@ local_tokens dialect (d ∷ ds) = (declared_tokens dialect d ++ (Mark Semicolon 
 
 -- A body that is one casez stands without `begin` and `end`.
 unfoldable pub body_tokens : Statements → List Token
-body_tokens body = cond (is_single_casez body) (statements_tokens body) (block_tokens (statements_tokens body))
+body_tokens body = cond (is_one_casez body) (statements_tokens body) (block_tokens (statements_tokens body))
 
 unfoldable pub function_tokens : Dialect → FunctionTree → List Token
 function_tokens dialect f =
@@ -236,7 +217,7 @@ unfoldable mutual
   member_tokens dialect (FunctionMember f) = function_tokens dialect f
   member_tokens dialect (LoopMember genvar start end label members) =
       Reserved ForKey ∷ (Mark OpenParen ∷ (Reserved GenvarKey ∷ (Word genvar ∷ (Mark Assign ∷ (expr_tokens start ++ (Mark Semicolon ∷
-      ((Word genvar ∷ (Operator Less ∷ wrapped_tokens (is_right_wrapped Less end) (expr_tokens end))) ++ (Mark Semicolon ∷ (Word genvar ∷ (Mark Assign ∷ (Word genvar ∷ (Operator Plus ∷ (Number (codes "1") ∷
+      ((Word genvar ∷ (Operator Less ∷ wrapped_tokens (right_child_wraps LtOp end) (expr_tokens end))) ++ (Mark Semicolon ∷ (Word genvar ∷ (Mark Assign ∷ (Word genvar ∷ (Operator Plus ∷ (Number (codes "1") ∷
       (Mark CloseParen ∷ (Reserved BeginKey ∷ (loop_label_tokens label ++ ended (members_tokens dialect members)))))))))))))))))
 
   pub members_tokens : Dialect → Members → List Token
@@ -251,7 +232,7 @@ each_port dialect (p ∷ ps) = (Reserved (direction_key p.direction) ∷ port_de
 
 unfoldable pub typed_tokens : Dialect → MaybeType → (name : List ℕ) → List Token
 typed_tokens dialect Untyped name = Word name ∷ []
-typed_tokens dialect (Typed type) name = declaration_tokens dialect (base_kind (base_type type)) type name
+typed_tokens dialect (Typed type) name = declaration_tokens dialect (base_kind (base_of type)) type name
 
 unfoldable pub each_parameter : Dialect → List ParameterPortTree → List (List Token)
 each_parameter dialect [] = []

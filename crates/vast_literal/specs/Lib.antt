@@ -1,4 +1,5 @@
 pub mod Tree
+pub mod Shape
 pub mod Fault
 pub mod Pattern
 pub mod Quoted

@@ -61,7 +61,8 @@ abbrev pub is_done : List ℕ → Bool
 is_done [] = true
 is_done (c ∷ cs) = false
 
--- The bytes behind a string's first quote, up to its last; `escaped` says that a backslash stands before them.
+-- Behind the opening quote stand bytes other than quote, backslash and line break, or a backslash with any but a line
+-- break, up to the quote that ends the text; `escaped` says that a backslash stands before.
 abbrev pub is_string_rest : (escaped : Bool) → List ℕ → Bool
 is_string_rest escaped [] = false
 is_string_rest true (c ∷ cs) = not (eqb c 10) && is_string_rest false cs

@@ -1,5 +1,5 @@
 -- Normal expressions: what of an expression's tree its tokens tell, and the normal expression of a tree.
-use Rattle.std.specs.Prelude.{ℕ, ℤ, pos, zero, List, [], ◌∷◌, Bool, true, false, cond, ◌&&◌, eqb, Option, Some, None}
+use Rattle.std.specs.Prelude.{ℕ, List, [], ◌∷◌, Bool, true, false, cond, eqb, Option, Some, None}
 use Rattle.std.specs.Fmt.{signed_decimal}
 use Rattle.vast_literal.specs.Tokens.{Op, LogicOr, LogicAnd, BitOr, BitXor, BitAnd, NotEqual, CaseNotEqual, Equal, CaseEqual, GreaterEqual, Greater, LessEqual, Less, ShiftLeft, ShiftRightSigned, ShiftRight, Plus, Minus, Times, Divide, Modulo, Power, BitNot, LogicNot}
 use Rattle.vast_literal.specs.Tokens.{Key, LogicKey, IntegerKey, IntKey, SignedKey, UnsignedKey}
@@ -7,7 +7,8 @@ use Rattle.vast_literal.specs.Tree.{UnaryOp, NegateOp, BitwiseNotOp, LogicalNotO
 use Rattle.vast_literal.specs.Tree.{BinaryOp, AddOp, SubOp, MulOp, DivOp, ModOp, PowerOp, BitwiseAndOp, BitwiseOrOp, BitwiseXorOp, ShllOp, ShraOp, ShrlOp, NeOp, CaseNeOp, EqOp, CaseEqOp, GeOp, GtOp, LeOp, LtOp, LogicalAndOp, LogicalOrOp, NeXOp, EqXOp}
 use Rattle.vast_literal.specs.Tree.{ExprTree, NameTree, LiteralTree, StringTree, UnaryTree, BinaryTree, TernaryTree, IndexTree, SliceTree, PartSelectTree, ConcatTree, PatternTree, WidthCastTree, TypeCastTree, PosEdgeTree, NegEdgeTree, MacroTree, CallTree, MissingExpr}
 use Rattle.vast_literal.specs.Tree.{TypeTree, ScalarTree, VectorTree, IntegerTree, IntTree, ExternalTree, PackageTree, PackedTree, UnpackedTree, MissingType}
-use Rattle.vast_literal.specs.Tree.{Typed, NoExpr, SomeExpr, Exprs, NoExprs, MoreExprs, NoArguments, SomeArguments}
+use Rattle.vast_literal.specs.Tree.{NoExpr, SomeExpr, Exprs, NoExprs, MoreExprs, NoArguments, SomeArguments}
+use Rattle.vast_literal.specs.Shape.{is_elided_index, is_elided_slice}
 
 -- A normal expression: names and tokens as they are written, signs and subexpressions; no parentheses and no types of names.
 mutual
@@ -71,28 +72,6 @@ binary_sign EqXOp = CaseEqual
 unfoldable pub normal_literal : (text : List ℕ) → NormalExpr
 normal_literal [] = Literal []
 normal_literal (c ∷ cs) = cond (eqb c 45) (Unary Minus (Literal cs)) (Literal (c ∷ cs))
-
--- A name whose type is a scalar.
-unfoldable pub is_scalar_name : ExprTree → Bool
-is_scalar_name (NameTree name (Typed (ScalarTree signed))) = true
-is_scalar_name _ = false
-
-unfoldable pub is_zero_value : Option ℤ → Bool
-is_zero_value (Some (pos zero)) = true
-is_zero_value _ = false
-
--- A literal of value 0.
-unfoldable pub is_zero_literal : ExprTree → Bool
-is_zero_literal (LiteralTree text value) = is_zero_value value
-is_zero_literal _ = false
-
--- An index of a scalar name by 0, which stands for the name.
-unfoldable pub is_elided_index : (subject index : ExprTree) → Bool
-is_elided_index subject index = is_scalar_name subject && is_zero_literal index
-
--- A slice of a scalar name from 0 to 0, which stands for the name.
-unfoldable pub is_elided_slice : (subject high low : ExprTree) → Bool
-is_elided_slice subject high low = is_scalar_name subject && is_zero_literal high && is_zero_literal low
 
 -- The keyword of a sign.
 unfoldable pub sign_key : (signed : Bool) → Key

@@ -10,6 +10,7 @@ use Rattle.vast_literal.specs.Tree.{AssignForm, Blocking, Nonblocking, Continuou
 use Rattle.vast_literal.specs.Tree.{AlwaysWord, AlwaysFFWord, AlwaysAtWord, AlwaysCombWord, ParameterName, PlainParameter, IntParameter, DefinedParameter, Connection, FunctionTree}
 use Rattle.vast_literal.specs.Tree.{MemberTree, DeclarationMember, AssignMember, ParameterMember, CommentMember, BlankMember, InlineMember, MacroMember, InstanceMember, AlwaysMember, ConditionalMember, FunctionMember, LoopMember, Members, NoMembers, MoreMembers}
 use Rattle.vast_literal.specs.Tree.{PortDirection, InputDirection, OutputDirection, InOutDirection, PortTree, ParameterPortTree, ModuleTree, FileItemTree, ModuleItem, IncludeItem, CommentItem, BlankItem, FileTree}
+use Rattle.vast_literal.specs.Shape.{base_of, port_kind, base_kind, result_kind}
 use Rattle.vast_literal.specs.NormalExpr.{NormalExpr, Literal, Binary, NormalExprs, normal_literal, scalar_sign, integer_sign, normal, normals}
 use Rattle.vast_literal.specs.NormalFile.{NormalStatement, BlockingStatement, NonblockingStatement, AssignStatement, ChoiceStatement, CaseStatement, NormalStatements, Done, Then, Arms, Only, Otherwise, Or, Labels, NoLabels, Label, Group, One, Range, NormalDeclaration, Event, EdgeEvent, NameEvent, NormalConnection, NormalMember, DeclarationPart, AssignPart, ParameterPart, MacroPart, InstancePart, AlwaysPart, ConditionalPart, FunctionPart, LoopPart, NormalMembers, NoParts, MoreParts, NormalParameter, NormalPort, NormalModule, NormalItem, ModulePart, IncludePart, NormalFile}
 
@@ -25,12 +26,6 @@ kind_key IntKind = Some IntKey
 kind_key GenvarKind = Some GenvarKey
 kind_key UserKind = None
 kind_key UntypedEnumKind = None
-
--- What an array is an array of, through all its wrappers.
-unfoldable pub base_type : TypeTree → TypeTree
-base_type (PackedTree element dimensions) = base_type element
-base_type (UnpackedTree element dimensions) = base_type element
-base_type other = other
 
 unfoldable pub package_of : (base : TypeTree) → Option (List ℕ)
 package_of (PackageTree package_name name) = Some package_name
@@ -94,10 +89,10 @@ unpacked_groups dialect _ = []
 unfoldable pub normal_declaration : Dialect → Kind → TypeTree → (name : List ℕ) → NormalDeclaration
 normal_declaration dialect kind type name = record {
   kind = kind_key kind;
-  package_name = package_of (base_type type);
-  type_name = type_name_of (base_type type);
-  sign = sign_of (base_type type);
-  groups = packed_groups type ++ vector_groups (base_type type);
+  package_name = package_of (base_of type);
+  type_name = type_name_of (base_of type);
+  sign = sign_of (base_of type);
+  groups = packed_groups type ++ vector_groups (base_of type);
   name = name;
   behind = unpacked_groups dialect type;
 }
@@ -105,33 +100,6 @@ normal_declaration dialect kind type name = record {
 -- A name and nothing else.
 abbrev pub named_declaration : (kind : Option Key) (name : List ℕ) → NormalDeclaration
 named_declaration kind name = record { kind = kind; package_name = None; type_name = None; sign = None; groups = []; name = name; behind = [] }
-
-abbrev pub is_external_base : TypeTree → Bool
-is_external_base (ExternalTree name) = true
-is_external_base (PackageTree package_name name) = true
-is_external_base _ = false
-
--- The kind of a port and of a function's input, which stands before no external type.
-unfoldable pub port_kind : Kind → TypeTree → Kind
-port_kind kind type = cond (is_external_base (base_type type)) UserKind kind
-
--- The kind that the type of a header's parameter brings.
-unfoldable pub base_kind : (base : TypeTree) → Kind
-base_kind (ScalarTree signed) = LogicKind
-base_kind (VectorTree width value signed) = LogicKind
-base_kind (IntegerTree signed) = IntegerKind
-base_kind (IntTree signed) = IntKind
-base_kind _ = UserKind
-
--- The kind of a function's result: an integer's own, `logic` in SystemVerilog, none before an external type.
-unfoldable pub dialect_kind : Dialect → Kind
-dialect_kind SystemVerilogDialect = LogicKind
-dialect_kind VerilogDialect = UserKind
-
-unfoldable pub result_kind : Dialect → TypeTree → Kind
-result_kind dialect (IntegerTree signed) = IntegerKind
-result_kind dialect (IntTree signed) = IntKind
-result_kind dialect type = cond (is_external_base (base_type type)) UserKind (dialect_kind dialect)
 
 unfoldable pub normal_declared : Dialect → Declaration → NormalDeclaration
 normal_declared dialect d = normal_declaration dialect d.kind d.type d.name
@@ -271,7 +239,7 @@ normal_ports dialect (p ∷ ps) = normal_port dialect p ∷ normal_ports dialect
 -- A typed parameter is a declaration of its type's kind, an untyped one a name.
 unfoldable pub normal_typed : Dialect → MaybeType → (name : List ℕ) → NormalDeclaration
 normal_typed dialect Untyped name = named_declaration None name
-normal_typed dialect (Typed type) name = normal_declaration dialect (base_kind (base_type type)) type name
+normal_typed dialect (Typed type) name = normal_declaration dialect (base_kind (base_of type)) type name
 
 unfoldable pub normal_parameter : Dialect → ParameterPortTree → NormalParameter
 normal_parameter dialect p = record { declaration = normal_typed dialect p.type p.name; value = normal p.value }

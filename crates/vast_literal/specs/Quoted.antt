@@ -21,18 +21,6 @@ escaped c =
 unfoldable pub quoted : List ℕ → List ℕ
 quoted content = 34 ∷ (flat_map escaped content ++ 34 ∷ [])
 
--- Behind the opening quote stand characters other than quote, backslash and line break, or a backslash with any but
--- a line break, up to the quote that ends the text. The flag says that a backslash stands before.
-abbrev pub closes : Bool → List ℕ → Bool
-closes behind [] = false
-closes true (c ∷ cs) = not (c == 10) && closes false cs
-closes false (c ∷ cs) = if c == 34 then length cs == 0 else (not (c == 10) && closes (c == 92) cs)
-
--- The text is one string token.
-unfoldable pub is_string_token : List ℕ → Bool
-is_string_token [] = false
-is_string_token (c ∷ cs) = c == 34 && closes false cs
-
 -- How far an escape was read: not begun, the backslash, and the number of one or two digits.
 pub data Escape : Type 0 where
   Outside : Escape

@@ -1,47 +1,23 @@
 -- Syntax trees: what a file of Verilog or SystemVerilog is made of, without node numbers.
 -- A text is the list of its bytes. antt has no nested data, so lists and options of trees are types of their own.
 use Rattle.std.specs.Prelude.{ℕ, ℤ, Bool, List, Option}
-
--- The dialect of a file.
-pub data Dialect : Type 0 where
-  VerilogDialect : Dialect
-  SystemVerilogDialect : Dialect
-
--- The sign before an operand.
-pub data UnaryOp : Type 0 where
-  NegateOp : UnaryOp
-  BitwiseNotOp : UnaryOp
-  LogicalNotOp : UnaryOp
-  AndReduceOp : UnaryOp
-  OrReduceOp : UnaryOp
-  XorReduceOp : UnaryOp
-
--- The sign between two operands; the two comparisons with x print as the case comparisons do.
-pub data BinaryOp : Type 0 where
-  AddOp : BinaryOp
-  SubOp : BinaryOp
-  MulOp : BinaryOp
-  DivOp : BinaryOp
-  ModOp : BinaryOp
-  PowerOp : BinaryOp
-  BitwiseAndOp : BinaryOp
-  BitwiseOrOp : BinaryOp
-  BitwiseXorOp : BinaryOp
-  ShllOp : BinaryOp
-  ShraOp : BinaryOp
-  ShrlOp : BinaryOp
-  NeOp : BinaryOp
-  CaseNeOp : BinaryOp
-  EqOp : BinaryOp
-  CaseEqOp : BinaryOp
-  GeOp : BinaryOp
-  GtOp : BinaryOp
-  LeOp : BinaryOp
-  LtOp : BinaryOp
-  LogicalAndOp : BinaryOp
-  LogicalOrOp : BinaryOp
-  NeXOp : BinaryOp
-  EqXOp : BinaryOp
+-- The words of declarations, blocks and files, and the operators, are the code's own enums.
+pub use Rattle.vast_literal.specs.declared.kind.VastFileType.{VastFileType as Dialect}
+pub use Rattle.vast_literal.specs.declared.kind.VastFileType.TheVariants.{Verilog as VerilogDialect, SystemVerilog as SystemVerilogDialect}
+pub use Rattle.vast_literal.specs.declared.operator.UnaryOperator.{UnaryOperator as UnaryOp}
+pub use Rattle.vast_literal.specs.declared.operator.UnaryOperator.TheVariants.{Negate as NegateOp, BitwiseNot as BitwiseNotOp, LogicalNot as LogicalNotOp, AndReduce as AndReduceOp, OrReduce as OrReduceOp, XorReduce as XorReduceOp}
+pub use Rattle.vast_literal.specs.declared.operator.BinaryOperator.{BinaryOperator as BinaryOp}
+pub use Rattle.vast_literal.specs.declared.operator.BinaryOperator.TheVariants.{Add as AddOp, Sub as SubOp, Mul as MulOp, Div as DivOp, Mod as ModOp, Power as PowerOp, BitwiseAnd as BitwiseAndOp, BitwiseOr as BitwiseOrOp, BitwiseXor as BitwiseXorOp, Shll as ShllOp, Shra as ShraOp, Shrl as ShrlOp, Ne as NeOp, CaseNe as CaseNeOp, Eq as EqOp, CaseEq as CaseEqOp, Ge as GeOp, Gt as GtOp, Le as LeOp, Lt as LtOp, LogicalAnd as LogicalAndOp, LogicalOr as LogicalOrOp, NeX as NeXOp, EqX as EqXOp}
+pub use Rattle.vast_literal.specs.declared.kind.DataKind.{DataKind as Kind}
+pub use Rattle.vast_literal.specs.declared.kind.DataKind.TheVariants.{Reg as RegKind, Wire as WireKind, Logic as LogicKind, Integer as IntegerKind, Int as IntKind, User as UserKind, UntypedEnum as UntypedEnumKind, Genvar as GenvarKind}
+pub use Rattle.vast_literal.specs.declared.kind.AssignmentForm.{AssignmentForm as AssignForm}
+pub use Rattle.vast_literal.specs.declared.kind.AssignmentForm.TheVariants.{Blocking, Nonblocking, Continuous}
+pub use Rattle.vast_literal.specs.declared.kind.CaseKind.{CaseKind as CaseWord}
+pub use Rattle.vast_literal.specs.declared.kind.CaseKind.TheVariants.{Case as CaseExact, CaseZ, CaseX}
+pub use Rattle.vast_literal.specs.declared.kind.AlwaysKind.{AlwaysKind as AlwaysWord}
+pub use Rattle.vast_literal.specs.declared.kind.AlwaysKind.TheVariants.{AlwaysFF as AlwaysFFWord, AlwaysAt as AlwaysAtWord, AlwaysComb as AlwaysCombWord}
+pub use Rattle.vast_literal.specs.declared.kind.ModulePortDirection.{ModulePortDirection as PortDirection}
+pub use Rattle.vast_literal.specs.declared.kind.ModulePortDirection.TheVariants.{Input as InputDirection, Output as OutputDirection, InOut as InOutDirection}
 
 -- Expressions and types. A literal's text may begin with a minus; a string's text has its quotes.
 mutual
@@ -94,34 +70,11 @@ mutual
     NoArguments : MaybeExprs
     SomeArguments : Exprs → MaybeExprs
 
--- The kind of a declaration; user types and untyped enumerations are written without a kind word.
-pub data Kind : Type 0 where
-  RegKind : Kind
-  WireKind : Kind
-  LogicKind : Kind
-  IntegerKind : Kind
-  IntKind : Kind
-  UserKind : Kind
-  UntypedEnumKind : Kind
-  GenvarKind : Kind
-
 -- A name with its kind and its type.
 pub record Declaration : Type 0 where
   pub kind : Kind
   pub type : TypeTree
   pub name : List ℕ
-
--- How an assignment is written: `l = r`, `l <= r`, `assign l = r`.
-pub data AssignForm : Type 0 where
-  Blocking : AssignForm
-  Nonblocking : AssignForm
-  Continuous : AssignForm
-
--- The words that begin a case statement.
-pub data CaseWord : Type 0 where
-  CaseExact : CaseWord
-  CaseZ : CaseWord
-  CaseX : CaseWord
 
 -- Statements of a procedural block.
 mutual
@@ -147,12 +100,6 @@ mutual
   pub data CaseArms : Type 0 where
     NoCaseArms : CaseArms
     CaseArm : (label : MaybeExpr) (block : Statements) → CaseArms → CaseArms
-
--- What starts an always block.
-pub data AlwaysWord : Type 0 where
-  AlwaysFFWord : AlwaysWord
-  AlwaysAtWord : AlwaysWord
-  AlwaysCombWord : AlwaysWord
 
 -- What a parameter declares: a name, a name of type int, or a definition's declaration.
 pub data ParameterName : Type 0 where
@@ -197,11 +144,6 @@ mutual
   pub data Members : Type 0 where
     NoMembers : Members
     MoreMembers : MemberTree → Members → Members
-
-pub data PortDirection : Type 0 where
-  InputDirection : PortDirection
-  OutputDirection : PortDirection
-  InOutDirection : PortDirection
 
 pub record PortTree : Type 0 where
   pub direction : PortDirection

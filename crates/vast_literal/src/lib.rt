@@ -3,16 +3,20 @@
 
 mod error;
 mod keyword;
+mod kind;
 pub mod laws;
 mod literal;
+mod operator;
 mod pattern;
 mod quoted;
 mod refusal;
-#[cfg(test)]
-mod tests;
 
 pub use error::{VastError, VastFault};
 pub use keyword::is_system_verilog_keyword;
+pub use kind::{
+    AlwaysKind, AssignmentForm, CaseKind, DataKind, ModulePortDirection, VastFileType,
+};
 pub use literal::{Literal, LiteralFormat};
+pub use operator::{BinaryOperator, UnaryOperator};
 pub use pattern::pattern_text;
 pub use quoted::quoted_text;

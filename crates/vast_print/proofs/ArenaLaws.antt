@@ -4,12 +4,12 @@ use Rattle.std.proofs.lemmas.List.{drop_all}
 use Rattle.std.proofs.Common.{Err, subst}
 use Rattle.vast_literal.specs.declared.error.VastFault.{VastFault}
 use Rattle.vast_literal.specs.declared.error.VastFault.TheVariants.{Refused as RefusedBy, Memory as NoMemory}
-use Rattle.vast_literal.specs.Tree.{Dialect, PortTree, ParameterPortTree, Connection as ConnectionTree}
+use Rattle.vast_literal.specs.Tree.{PortTree, ParameterPortTree, Connection as ConnectionTree}
+use Rattle.vast_literal.specs.declared.kind.VastFileType.{VastFileType as Dialect}
 use Rattle.vast_core.specs.declared.node.Member.{Member}
 use Rattle.vast_core.specs.declared.node.ParameterPort.{ParameterPort}
 use Rattle.vast_core.specs.declared.node.Connection.{Connection}
 use Rattle.vast_core.specs.declared.node.FileItem.{FileItem}
-use Rattle.vast_core.specs.Kinds.{dialect_of}
 use Rattle.vast_core.specs.Bench.{Bench}
 use Rattle.vast_core.specs.Records.{member_entry, parameter_port_record, connection_record, file_entry}
 use Rattle.vast_core.specs.FileTree.{member_tree, members_tree, parameter_port_tree, connection_tree, item_tree, tree}
@@ -168,10 +168,10 @@ pub ruleset instances = (hang-instance, hang-head-bare, hang-head-parameters, ha
 
 pub ruleset items = (hang-include, hang-comment-item, hang-blank-item, stops)
 
-pub layout-items : (b : Bench) (items : List FileItem) → b.items ≡ map file_entry items → layout (tree b) ≡ items_page (dialect_of b.file_type) (map (λ x. item_tree b (file_entry x)) items)
+pub layout-items : (b : Bench) (items : List FileItem) → b.items ≡ map file_entry items → layout (tree b) ≡ items_page b.file_type (map (λ x. item_tree b (file_entry x)) items)
 unfolding layout tree
 layout-items b items e =
-    ap (λ xs. items_page (dialect_of b.file_type) (map (item_tree b) xs)) e ∙ ap (items_page (dialect_of b.file_type)) (map-map file_entry (item_tree b) items)
+    ap (λ xs. items_page b.file_type (map (item_tree b) xs)) e ∙ ap (items_page b.file_type) (map-map file_entry (item_tree b) items)
 
 -- what a call answers that prints
 

@@ -1,21 +1,23 @@
 -- Signs, elided selects and casts in the text of an expression.
-use Rattle.std.proofs.Common.{◌≡◌, ℕ, ℤ, pos, List, [], ◌∷◌, ◌++◌, Bool, true, false, cond, not, ◌&&◌, ◌||◌, eqb, eqb-true, None, refl, sym, subst, ◌∙◌, ap, append_assoc, arith, codes}
+use Rattle.std.proofs.Common.{◌≡◌, ℕ, ℤ, pos, List, [], ◌∷◌, ◌++◌, Bool, true, false, cond, not, ◌&&◌, ◌||◌, eqb, eqb-true, None, refl, sym, subst, ◌∙◌, ap, append_assoc, arith, codes, nat_le}
 use Rattle.std.proofs.lemmas.Bool.Decides.{nat_tests}
 use Rattle.std.specs.Prelude.{negsuc, if◌then◌else◌}
 use Rattle.std.specs.Fmt.{signed_decimal}
 use Rattle.vast_literal.specs.Tokens.{Token, Operator, Mark, OpenParen, Apostrophe, DoubleColon, Key, LogicKey, SignedKey, UnsignedKey, Reserved, Word, key_text}
-use Rattle.vast_literal.specs.Tree.{UnaryOp, NegateOp}
-use Rattle.vast_literal.specs.Tree.{BinaryOp, AddOp}
-use Rattle.vast_literal.specs.Tree.{ExprTree, NameTree, LiteralTree, StringTree, IndexTree, SliceTree}
+use Rattle.vast_literal.specs.declared.operator.UnaryOperator.{UnaryOperator as UnaryOp}
+use Rattle.vast_literal.specs.declared.operator.UnaryOperator.TheVariants.{Negate as NegateOp}
+use Rattle.vast_literal.specs.declared.operator.BinaryOperator.{BinaryOperator as BinaryOp}
+use Rattle.vast_literal.specs.declared.operator.BinaryOperator.TheVariants.{Add as AddOp}
+use Rattle.vast_literal.specs.Tree.{ExprTree, NameTree, LiteralTree, StringTree, IndexTree, SliceTree, UnaryTree, BinaryTree, TernaryTree}
 use Rattle.vast_literal.specs.Tree.{TypeTree, ScalarTree, VectorTree, IntegerTree, IntTree, ExternalTree, PackageTree, PackedTree, UnpackedTree, MissingType}
 use Rattle.vast_literal.specs.Scan.{is_letter, is_digit, is_word_byte}
 use Rattle.vast_literal.specs.NormalExpr.{normal}
 use Rattle.vast_literal.specs.Spelling.{op_text}
 use Rattle.vast_literal.specs.LiteralToken.{every, is_number, is_bare_literal, is_literal_text, is_string_text}
-use Rattle.vast_literal.specs.NormalExpr.{unary_sign, binary_sign, is_elided_index, is_elided_slice, scalar_sign, integer_sign, sign_key}
+use Rattle.vast_literal.specs.NormalExpr.{unary_sign, binary_sign, scalar_sign, integer_sign, sign_key}
 use Rattle.vast_literal.specs.NormalExpr as Normal
 use Rattle.vast_literal.specs.Plain.{is_identifier, is_plain_name}
-use Rattle.vast_literal.specs.ExprTokens.{expr_tokens, cast_tokens, each_tokens, comma_tokens, comma_tail_tokens, argument_tokens, called_token, cast_operand, wrapped_tokens, word_cast_tokens, is_left_wrapped, is_right_wrapped, is_operand_wrapped, is_subject_wrapped, is_ternary}
+use Rattle.vast_literal.specs.ExprTokens.{expr_tokens, cast_tokens, each_tokens, comma_tokens, comma_tail_tokens, argument_tokens, called_token, cast_operand, wrapped_tokens, word_cast_tokens}
 use Rattle.vast_literal.specs.ExprTokens as Tokens
 use Rattle.vast_literal.specs.WellFormed.{is_well_formed, is_positive}
 use Rattle.vast_literal.proofs.ScanLaws.{and_left}
@@ -23,15 +25,16 @@ use Rattle.vast_literal.proofs.TokenReads.{opens, Free, Divides, Reads}
 use Rattle.vast_literal.proofs.Pieces.{free_free, reads_end, sign_reads, operator_divides, head_wrapped}
 use Rattle.vast_literal.proofs.NumberLaws.{decimal_number}
 use Rattle.vast_literal.proofs.Words.{name_reads, name_cast_free, key_cast_free, double_colon}
+use Rattle.vast_literal.specs.Shape.{is_elided_index, is_elided_slice, is_scalar_name, is_zero, left_child_wraps, right_child_wraps, select_wraps, ternary_wraps, unary_wraps, binary_precedence}
 use Rattle.vast_print.specs.declared.refusal.Refusal.{Refusal}
 use Rattle.vast_print.specs.declared.refusal.Refusal.TheVariants.{ScalarIndex, ScalarSlice}
 use Rattle.vast_print.specs.Printed.{Printed, plain_text, ◌⊕◌, wrapped}
-use Rattle.vast_print.specs.Levels.{unary_sign_text, binary_sign_text, unary_wraps, is_scalar_name, is_zero}
+use Rattle.vast_print.specs.Levels.{unary_sign_text, binary_sign_text}
 use Rattle.vast_print.specs.Bare.{is_bare}
 use Rattle.vast_print.specs.Bare as Bare
 use Rattle.vast_print.specs.Text.{elided, cast_to, width_cast, sign_cast, scalar_cast, number_cast, package_text, expr_text, type_cast}
 use Rattle.vast_print.proofs.BareLaws.{bare-head}
-use Rattle.vast_print.proofs.TestLaws.{bare_same, scalar_same, zero_same, operand_same}
+use Rattle.vast_print.proofs.TestLaws.{bare_same}
 use Rattle.vast_print.proofs.FaultLaws.{both_fine, wrapped_fine, elided_fine, elided_text}
 use Rattle.vast_print.proofs.ExprOpens.{is_tight, literal_first}
 use Rattle.vast_print.proofs.Shapes.{cast_left, head_reads}
@@ -54,17 +57,19 @@ binary_divides o = subst (λ (a : List ℕ). Divides a (Operator (binary_sign o)
 pub unary_reads : (o : UnaryOp) (a : List ℕ) {ts : List Token} → opens true a ≡ true → Reads a ts → Reads (unary_sign_text o ++ a) (Operator (unary_sign o) ∷ ts)
 unary_reads o a {ts = ts} h f = subst (λ (s : List ℕ). Reads (s ++ a) (Operator (unary_sign o) ∷ ts)) (sym (unary_same o)) (sign_reads o a h f)
 
-pub not_false : (a b : Bool) → a ≡ b → a ≡ false → not b ≡ true
-not_false a true e h = absurd (cc (e, h))
-not_false a false e h = refl
+binary_never : (o : BinaryOp) → nat_le (binary_precedence o) 12 ≡ true
+binary_never AddOp = refl
+binary_never _ = refl
 
--- an operand that stands bare begins with no sign
-pub or_left_false : (a b : Bool) → (a || b) ≡ false → a ≡ false
-or_left_false true b h = absurd (cc h)
-or_left_false false b h = refl
+bare_operand : (e : ExprTree) → unary_wraps e ≡ false → select_wraps e ≡ false
+bare_operand (LiteralTree t v) h = h
+bare_operand (BinaryTree o a b) h = let never = binary_never o in absurd (cc (never, h))
+bare_operand (UnaryTree o a) h = absurd (cc h)
+bare_operand (TernaryTree c a b) h = absurd (cc h)
+bare_operand _ h = refl
 
 pub operand_tight : (e : ExprTree) → unary_wraps e ≡ false → is_tight e ≡ true
-operand_tight e h = let s = operand_same e in let k : is_operand_wrapped e ≡ false = cc (s, h) in not_false _ _ refl (or_left_false _ (Tokens.is_width_cast e) k)
+operand_tight e h = rw (bare_operand e h) refl
 
 -- positive widths
 
@@ -79,18 +84,6 @@ pub pick_reads : (b z : Bool) (r : Refusal) (s rest : Printed) {ss ts : List Tok
 pick_reads true z r s rest {ss = ss} {ts = ts} e f g = let (d, k) = elided_fine z r s e in
     rw (elided_text z r s) (subst (λ (c : Bool). Reads s.text (cond c ss ts)) (sym d) (f refl k))
 pick_reads false z r s rest e f g = g refl e
-
-pub index_same : (s i : ExprTree) → (is_scalar_name s && is_zero i) ≡ is_elided_index s i
-unfolding is_elided_index
-index_same s i = let a = scalar_same s in let b = zero_same i in cc (a, b)
-
-pub and_assoc : (a b c : Bool) → (a && (b && c)) ≡ ((a && b) && c)
-and_assoc true b c = refl
-and_assoc false b c = refl
-
-pub slice_same : (s h l : ExprTree) → (is_scalar_name s && (is_zero h && is_zero l)) ≡ is_elided_slice s h l
-unfolding is_elided_slice
-slice_same s h l = let a = scalar_same s in let b = zero_same h in let c = zero_same l in let d = and_assoc (Normal.is_scalar_name s) (Normal.is_zero_literal h) (Normal.is_zero_literal l) in cc (a, b, c, d)
 
 -- the heads of width casts
 
@@ -126,8 +119,8 @@ unfolding Bare.is_bare_head Tokens.is_bare_head expr_text
 heads (NameTree n type) w f = bare_same n
 heads (LiteralTree t v) w f = bare_same t ∙ or_false (is_number t) (is_identifier t) (literal_no_word t w)
 heads (StringTree t) w f = bare_same t ∙ string_no_head t w
-heads (IndexTree s i) w f = elided_head (is_scalar_name s) (is_zero i) (Bare.is_bare_head s) (Tokens.is_bare_head s) ScalarIndex (expr_text s) _ f (λ _ k. heads s (and_left _ _ w) k) ∙ ap (λ (b : Bool). b && Tokens.is_bare_head s) (index_same s i)
-heads (SliceTree s a b) w f = elided_head (is_scalar_name s) (is_zero a && is_zero b) (Bare.is_bare_head s) (Tokens.is_bare_head s) ScalarSlice (expr_text s) _ f (λ _ k. heads s (and_left _ _ w) k) ∙ ap (λ (b : Bool). b && Tokens.is_bare_head s) (slice_same s a b)
+heads (IndexTree s i) w f = elided_head (is_scalar_name s) (is_zero i) (Bare.is_bare_head s) (Tokens.is_bare_head s) ScalarIndex (expr_text s) _ f (λ _ k. heads s (and_left _ _ w) k)
+heads (SliceTree s a b) w f = elided_head (is_scalar_name s) (is_zero a && is_zero b) (Bare.is_bare_head s) (Tokens.is_bare_head s) ScalarSlice (expr_text s) _ f (λ _ k. heads s (and_left _ _ w) k)
 heads _ w f = refl
 
 pub head_of_text : (t : List ℕ) → not (is_bare t) ≡ head_wrapped t

@@ -1,6 +1,11 @@
 -- Laws of writing the containers, functions and always blocks of the arena, and what they hold.
 use Rattle.std.proofs.Common.{◌≡◌, ◌<◌, ◌≤◌, ℕ, zero, suc, ◌+◌, Bool, true, false, List, [], ◌∷◌, length, get_or, map, drop, refl, sym, ◌∙◌, codes, arith, Option, Some, None, slice_get, All}
-use Rattle.vast_literal.specs.Tree.{Dialect, ExprTree, NoExpr, SomeExpr, Blocking, Nonblocking, Continuous, CaseWord, CaseExact, CaseZ, CaseX, Statements, NoStatements, MoreStatements, StatementTree, AssignTree, CommentTree, BlankTree, InlineTree, ConditionalTree, CaseTree, Alternates, CaseArms, Members, AssignMember, LoopMember}
+use Rattle.vast_literal.specs.Tree.{ExprTree, NoExpr, SomeExpr, Statements, NoStatements, MoreStatements, StatementTree, AssignTree, CommentTree, BlankTree, InlineTree, ConditionalTree, CaseTree, Alternates, CaseArms, Members, AssignMember, LoopMember}
+use Rattle.vast_literal.specs.declared.kind.VastFileType.{VastFileType as Dialect}
+use Rattle.vast_literal.specs.declared.kind.AssignmentForm.TheVariants.{Blocking, Nonblocking, Continuous}
+use Rattle.vast_literal.specs.declared.kind.CaseKind.{CaseKind as CaseWord}
+use Rattle.vast_literal.specs.declared.kind.CaseKind.TheVariants.{Case as CaseExact, CaseZ, CaseX}
+use Rattle.vast_literal.specs.Shape.{is_bare_arm, is_one_assignment}
 use Rattle.vast_core.specs.declared.handle.Expr.{Expr}
 use Rattle.vast_core.specs.declared.handle.VastStatement.{VastStatement}
 use Rattle.vast_core.specs.declared.handle.VastStatementBlock.{VastStatementBlock}
@@ -21,8 +26,9 @@ use Rattle.vast_print.specs.Page.{written}
 use Rattle.vast_print.specs.Ink.{Ink, word, next, hang, pour}
 use Rattle.vast_print.specs.Text.{expr_text}
 use Rattle.vast_print.specs.Words.{else_if_opening, begin_end_word, separator}
-use Rattle.vast_print.specs.Statements.{assign_sign, unique_word, case_word, label_text, is_one_assignment, is_bare_arm, statement_page, statements_page, block_page, alternates_page, arms_page, arm_page, arm_body_page}
-use Rattle.vast_print.specs.Members.{input_text, local_page, locals_page, is_casez, is_one_casez, loop_text, member_page, members_page}
+use Rattle.vast_print.specs.Statements.{assign_sign, unique_word, case_word, label_text, statement_page, statements_page, block_page, alternates_page, arms_page, arm_page, arm_body_page}
+use Rattle.vast_print.specs.Members.{input_text, local_page, locals_page, loop_text, member_page, members_page}
+use Rattle.vast_literal.specs.Shape.{is_casez, is_one_casez}
 use Rattle.vast_print.proofs.Lines.{word-nothing, word-word}
 use Rattle.vast_print.proofs.InkLaws.{hang-blank, hang-written, pour-line, pour-then, pour-above-none}
 use Rattle.vast_print.proofs.WordLaws.{words}

@@ -2,13 +2,18 @@
 use Rattle.std.proofs.Common.{◌≡◌, ℕ, ℤ, pos, Bool, true, false, List, [], ◌∷◌, ◌++◌, Some, None, refl, sym, ◌∙◌, ap, codes}
 use Rattle.std.specs.Prelude.{◌-ℤ◌}
 use Rattle.std.specs.Fmt.{signed_decimal}
-use Rattle.vast_literal.specs.Tree.{Dialect, ExprTree, TypeTree, Kind, RegKind, WireKind, LogicKind, IntegerKind, IntKind, UserKind, UntypedEnumKind, GenvarKind, PortTree, PortDirection, InputDirection, OutputDirection, InOutDirection, Untyped, Typed}
+use Rattle.vast_literal.specs.Tree.{ExprTree, TypeTree, PortTree, Untyped, Typed}
+use Rattle.vast_literal.specs.declared.kind.VastFileType.{VastFileType as Dialect}
+use Rattle.vast_literal.specs.declared.kind.DataKind.{DataKind as Kind}
+use Rattle.vast_literal.specs.declared.kind.DataKind.TheVariants.{Reg as RegKind, Wire as WireKind, Logic as LogicKind, Integer as IntegerKind, Int as IntKind, User as UserKind, UntypedEnum as UntypedEnumKind, Genvar as GenvarKind}
+use Rattle.vast_literal.specs.declared.kind.ModulePortDirection.{ModulePortDirection as PortDirection}
+use Rattle.vast_literal.specs.declared.kind.ModulePortDirection.TheVariants.{Input as InputDirection, Output as OutputDirection, InOut as InOutDirection}
+use Rattle.vast_literal.specs.Shape.{base_kind, base_of, limit_wraps}
 use Rattle.vast_print.specs.Printed.{Printed, plain_text, ◌⊕◌, gapped, spaced, wrapped}
 use Rattle.vast_print.specs.Page.{written, written_lines, beside_lines}
 use Rattle.vast_print.specs.Ink.{Ink, word, pour, pour_lines, hang_lines, stop}
-use Rattle.vast_print.specs.Levels.{limit_wraps}
 use Rattle.vast_print.specs.Text.{expr_text, package_text}
-use Rattle.vast_print.specs.Declaration.{base_of, unpacked_text, limit_text, signed_word, unsigned_word, joined, type_text, name_text, kind_word, declaration_text, port_declaration_text, base_kind}
+use Rattle.vast_print.specs.Declaration.{unpacked_text, limit_text, signed_word, unsigned_word, joined, type_text, name_text, kind_word, declaration_text, port_declaration_text}
 use Rattle.vast_print.specs.Layout.{port_text, parameter_port_text, direction_word}
 use Rattle.vast_print.specs.Words.{has_text, kind_opening, signed_opening, unsigned_opening, parameter_opening}
 use Rattle.vast_print.proofs.InkLaws.{pour-then, pour-empty, pour-word}

@@ -3,28 +3,32 @@ use Rattle.std.proofs.Common.{◌≡◌, ℕ, ℤ, pos, ◌-ℤ◌, List, [], �
 use Rattle.std.proofs.lemmas.Option.{same_Some}
 use Rattle.std.specs.Fmt.{signed_decimal}
 use Rattle.vast_literal.specs.Tokens.{Token, key_text, WireKey, RegKey, LogicKey, IntegerKey, IntKey, GenvarKey, SignedKey, UnsignedKey, Mark, CloseBracket, Colon, DoubleColon, Operator, Minus, Word, Number, level}
-use Rattle.vast_literal.specs.Tree.{Dialect, VerilogDialect, SystemVerilogDialect, ExprTree, LiteralTree, BinaryTree}
+use Rattle.vast_literal.specs.Tree.{ExprTree, LiteralTree, BinaryTree}
+use Rattle.vast_literal.specs.declared.kind.VastFileType.{VastFileType as Dialect}
+use Rattle.vast_literal.specs.declared.kind.VastFileType.TheVariants.{Verilog as VerilogDialect, SystemVerilog as SystemVerilogDialect}
 use Rattle.vast_literal.specs.Tree.{TypeTree, ScalarTree, VectorTree, IntegerTree, IntTree, ExternalTree, PackageTree, PackedTree, UnpackedTree, MissingType}
-use Rattle.vast_literal.specs.Tree.{Kind, RegKind, WireKind, LogicKind, IntegerKind, IntKind, UserKind, UntypedEnumKind, GenvarKind}
-use Rattle.vast_literal.specs.Tree.{BinaryOp, AddOp}
+use Rattle.vast_literal.specs.declared.kind.DataKind.{DataKind as Kind}
+use Rattle.vast_literal.specs.declared.kind.DataKind.TheVariants.{Reg as RegKind, Wire as WireKind, Logic as LogicKind, Integer as IntegerKind, Int as IntKind, User as UserKind, UntypedEnum as UntypedEnumKind, Genvar as GenvarKind}
+use Rattle.vast_literal.specs.declared.operator.BinaryOperator.{BinaryOperator as BinaryOp}
+use Rattle.vast_literal.specs.declared.operator.BinaryOperator.TheVariants.{Add as AddOp}
 use Rattle.vast_literal.specs.Scan.{scan, cons_token}
 use Rattle.vast_literal.specs.NormalExpr.{binary_sign, scalar_sign, integer_sign}
 use Rattle.vast_literal.specs.Plain.{is_plain_name, is_plain, is_plain_type, is_edgeless, is_edgeless_type}
 use Rattle.vast_literal.specs.PlainFile.{is_plain_declaration}
 use Rattle.vast_literal.specs.WellFormed.{is_well_formed, is_well_formed_type}
-use Rattle.vast_literal.specs.ExprTokens.{is_negative_text}
-use Rattle.vast_literal.specs.NormalTree.{kind_key, base_type, sign_of}
-use Rattle.vast_literal.specs.FileTokens.{maybe_tokens, type_name_tokens, number_tokens, zero_tokens, range_tokens, is_limit_wrapped, limit_tokens, vector_tokens, packed_range_tokens, packed_tokens, unpacked_dimension_tokens, unpacked_range_tokens, unpacked_tokens, declaration_tokens}
+use Rattle.vast_literal.specs.NormalTree.{kind_key, sign_of}
+use Rattle.vast_literal.specs.FileTokens.{maybe_tokens, type_name_tokens, number_tokens, zero_tokens, range_tokens, limit_tokens, vector_tokens, packed_range_tokens, packed_tokens, unpacked_dimension_tokens, unpacked_range_tokens, unpacked_tokens, declaration_tokens}
+use Rattle.vast_literal.proofs.DeclarationSpelled.{base_edgeless, base_formed}
 use Rattle.vast_literal.proofs.TokenReads.{stops, opens, Free, Divides, Reads}
 use Rattle.vast_literal.proofs.ScanLaws.{and_left, and_right, scan_colon}
 use Rattle.vast_literal.proofs.Pieces.{add_tokens-nil, free_reads, free_free, reads_end, as_reads, reads_reads, reads_sep, divides_free, enclosed, open_bracket, close_bracket, operator_divides, opens-append}
 use Rattle.vast_literal.proofs.LiteralLaws.{literal_reads}
 use Rattle.vast_literal.proofs.NumberLaws.{signed_text}
 use Rattle.vast_literal.proofs.Words.{key_reads, name_reads, number_reads, double_colon}
+use Rattle.vast_literal.specs.Shape.{base_of, binary_precedence, limit_wraps, starts_with_minus}
 use Rattle.vast_print.specs.Printed.{Printed, plain_text, ◌⊕◌, gapped, spaced}
-use Rattle.vast_print.specs.Levels.{limit_wraps, binary_level}
 use Rattle.vast_print.specs.Text.{expr_text, package_text}
-use Rattle.vast_print.specs.Declaration.{base_of, packed_range, packed_ranges, packed_text, unpacked_range, unpacked_ranges, unpacked_text, limit_text, signed_word, unsigned_word, joined, based_text, type_text, name_text, kind_word, declaration_text}
+use Rattle.vast_print.specs.Declaration.{packed_range, packed_ranges, packed_text, unpacked_range, unpacked_ranges, unpacked_text, limit_text, signed_word, unsigned_word, joined, based_text, type_text, name_text, kind_word, declaration_text}
 use Rattle.vast_print.proofs.FaultLaws.{both_fine, wrapped_fine}
 use Rattle.vast_print.proofs.ExprOpens.{literal_opens}
 use Rattle.vast_print.proofs.ExprReads.{expr_reads}
@@ -118,20 +122,6 @@ unpacked_told dialect _ = no_dimensions
 
 -- the highest index of a vector
 
-limit_binary : (o : BinaryOp) → nat_lt (binary_level o) 9 ≡ nat_lt (level (binary_sign o)) 9
-unfolding level binary_sign
-limit_binary AddOp = refl
-limit_binary _ = refl
-
-limit_literal : (b : Bool) → nat_lt 13 9 ≡ nat_lt (cond b 12 13) 9
-limit_literal true = refl
-limit_literal false = refl
-
-limit_same : (w : ExprTree) → limit_wraps w ≡ is_limit_wrapped w
-limit_same (LiteralTree t v) = limit_literal (is_negative_text t)
-limit_same (BinaryTree o a b) = limit_binary o
-limit_same _ = refl
-
 limit_fine : (w : ExprTree) → (limit_text w None).fault ≡ None → (expr_text w).fault ≡ None
 unfolding limit_text
 limit_fine w f = wrapped_fine (limit_wraps w) (expr_text w) ((both_fine _ _ f).0)
@@ -142,7 +132,7 @@ less_one f = reads_sep f (operator_divides Minus) (number_reads (49 ∷ []) refl
 limit_told : (w : ExprTree) (v : Option ℤ) → is_plain w ≡ true → is_edgeless w ≡ true → is_well_formed w ≡ true → (limit_text w v).fault ≡ None → Reads (limit_text w v).text (limit_tokens w v)
 unfolding limit_text limit_tokens ◌⊕◌ plain_text
 limit_told w (Some v) p l h f = number_told (v -ℤ pos 1)
-limit_told w None p l h f = less_one (wrapped_reads (limit_wraps w) (is_limit_wrapped w) (expr_text w) (limit_same w) (expr_reads w p l h (limit_fault w f)))
+limit_told w None p l h f = less_one (wrapped_reads (limit_wraps w) (limit_wraps w) (expr_text w) refl (expr_reads w p l h (limit_fault w f)))
   where
     limit_fault : (e : ExprTree) → (limit_text e None).fault ≡ None → (expr_text e).fault ≡ None
     limit_fault e g = limit_fine e g
@@ -216,17 +206,11 @@ is_base (PackedTree t ds) = false
 is_base (UnpackedTree t ds) = false
 is_base _ = true
 
-base_is : (t : TypeTree) → is_base (base_type t) ≡ true
-unfolding base_type is_base
+base_is : (t : TypeTree) → is_base (base_of t) ≡ true
+unfolding is_base
 base_is (PackedTree t ds) = base_is t
 base_is (UnpackedTree t ds) = base_is t
 base_is _ = refl
-
-pub base_same : (t : TypeTree) → base_of t ≡ base_type t
-unfolding base_of base_type
-base_same (PackedTree t ds) = base_same t
-base_same (UnpackedTree t ds) = base_same t
-base_same _ = refl
 
 based_told : (base : TypeTree) (ds : List ℕ) {us : List Token} → is_base base ≡ true → is_plain_type base ≡ true → is_edgeless_type base ≡ true → is_well_formed_type base ≡ true → (based_text base ds).fault ≡ None → Dimensions ds us →
     Reads (based_text base ds).text (type_name_tokens base ++ (maybe_tokens (sign_of base) ++ (us ++ vector_tokens base)))
@@ -243,29 +227,15 @@ based_told MissingType ds e p l w f g = absurd (cc w)
 
 -- declarations
 
-base_plain : (t : TypeTree) → is_plain_type t ≡ true → is_plain_type (base_type t) ≡ true
-unfolding base_type
+base_plain : (t : TypeTree) → is_plain_type t ≡ true → is_plain_type (base_of t) ≡ true
 base_plain (PackedTree t ds) h = base_plain t h
 base_plain (UnpackedTree t ds) h = base_plain t h
 base_plain _ h = h
 
-base_edgeless : (t : TypeTree) → is_edgeless_type t ≡ true → is_edgeless_type (base_type t) ≡ true
-unfolding base_type
-base_edgeless (PackedTree t ds) h = base_edgeless t h
-base_edgeless (UnpackedTree t ds) h = base_edgeless t h
-base_edgeless _ h = h
-
-base_formed : (t : TypeTree) → is_well_formed_type t ≡ true → is_well_formed_type (base_type t) ≡ true
-unfolding base_type
-base_formed (PackedTree t ds) h = base_formed t h
-base_formed (UnpackedTree t ds) h = base_formed t h
-base_formed _ h = h
-
 type_told : (t : TypeTree) → is_plain_type t ≡ true → is_edgeless_type t ≡ true → is_well_formed_type t ≡ true → (type_text t).fault ≡ None →
-    Reads (type_text t).text (type_name_tokens (base_type t) ++ (maybe_tokens (sign_of (base_type t)) ++ (packed_tokens t ++ vector_tokens (base_type t))))
+    Reads (type_text t).text (type_name_tokens (base_of t) ++ (maybe_tokens (sign_of (base_of t)) ++ (packed_tokens t ++ vector_tokens (base_of t))))
 unfolding type_text
-type_told t p l w f = rw (base_same t) (based_told (base_type t) (packed_text t) (base_is t) (base_plain t p) (base_edgeless t l) (base_formed t w)
-    (subst (λ (b : TypeTree). (based_text b (packed_text t)).fault ≡ None) (base_same t) f) (packed_told t))
+type_told t p l w f = based_told (base_of t) (packed_text t) (base_is t) (base_plain t p) (base_edgeless t l) (base_formed t w) f (packed_told t)
 
 kind_told : (kind : Kind) → Reads (kind_word kind) (maybe_tokens (kind_key kind))
 unfolding kind_key key_text
@@ -298,7 +268,7 @@ pub declaration_reads : (dialect : Dialect) (kind : Kind) (t : TypeTree) (n : Li
 unfolding declaration_text declaration_tokens name_text ◌⊕◌ plain_text
 declaration_reads dialect kind t n p w f =
     let p1 = and_right (is_plain_name n) (is_plain_type t && is_edgeless_type t) p in
-    declaration_left (type_name_tokens (base_type t)) (maybe_tokens (sign_of (base_type t))) (packed_tokens t ++ vector_tokens (base_type t))
+    declaration_left (type_name_tokens (base_of t)) (maybe_tokens (sign_of (base_of t))) (packed_tokens t ++ vector_tokens (base_of t))
     (spaced_free (plain_text (kind_word kind)) (plain_reads (kind_word kind) (kind_told kind)))
     (spaced_free (type_text t) (type_told t (and_left _ _ p1) (and_right (is_plain_type t) (is_edgeless_type t) p1) w (declaration_fault dialect kind t n f)))
     (name_reads n (and_left _ _ p)) (unpacked_told dialect t)

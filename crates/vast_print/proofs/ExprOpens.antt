@@ -2,31 +2,33 @@
 use Rattle.std.proofs.Common.{◌≡◌, ℕ, List, [], ◌∷◌, Bool, true, false, cond, not, ◌&&◌, ◌||◌, eqb, eqb-true, nat_lt, refl, codes}
 use Rattle.std.specs.Prelude.{if◌then◌else◌}
 use Rattle.vast_literal.specs.Tokens.{level}
-use Rattle.vast_literal.specs.Tree.{UnaryOp, NegateOp}
-use Rattle.vast_literal.specs.Tree.{BinaryOp, AddOp}
+use Rattle.vast_literal.specs.declared.operator.UnaryOperator.{UnaryOperator as UnaryOp}
+use Rattle.vast_literal.specs.declared.operator.UnaryOperator.TheVariants.{Negate as NegateOp}
+use Rattle.vast_literal.specs.declared.operator.BinaryOperator.{BinaryOperator as BinaryOp}
+use Rattle.vast_literal.specs.declared.operator.BinaryOperator.TheVariants.{Add as AddOp}
 use Rattle.vast_literal.specs.Tree.{ExprTree, NameTree, LiteralTree, StringTree, UnaryTree, BinaryTree, TernaryTree, IndexTree, SliceTree, PartSelectTree, ConcatTree, PatternTree, WidthCastTree, TypeCastTree, PosEdgeTree, NegEdgeTree, MacroTree, CallTree, MissingExpr}
 use Rattle.vast_literal.specs.Tree.{TypeTree, ScalarTree, VectorTree, IntegerTree, IntTree, ExternalTree, PackageTree, PackedTree, UnpackedTree, MissingType}
 use Rattle.vast_literal.specs.Scan.{is_letter, is_digit, is_word_byte}
 use Rattle.vast_literal.specs.LiteralToken.{every, is_number, is_based, is_filled, is_based_tail, is_bare_literal, is_literal_text, is_string_text}
 use Rattle.vast_literal.specs.NormalExpr.{binary_sign}
 use Rattle.vast_literal.specs.Plain.{is_identifier, is_plain_name, is_called_name, is_plain, is_plain_type}
-use Rattle.vast_literal.specs.ExprTokens.{spelled_level, is_negative_text}
 use Rattle.vast_literal.specs.WellFormed.{is_well_formed, is_cast_type}
 use Rattle.vast_literal.proofs.ScanLaws.{and_left, opens_letter, opens_digit}
 use Rattle.vast_literal.proofs.Pieces.{opens-append}
 use Rattle.vast_literal.proofs.TokenReads.{opens}
+use Rattle.vast_literal.specs.Shape.{is_scalar_name, is_zero, left_child_wraps, select_wraps, starts_with_minus, ternary_wraps, binary_precedence}
 use Rattle.vast_print.specs.declared.refusal.Refusal.{Refusal}
 use Rattle.vast_print.specs.declared.refusal.Refusal.TheVariants.{ScalarIndex, ScalarSlice}
 use Rattle.vast_print.specs.Printed.{Printed, plain_text, ◌⊕◌, wrapped}
-use Rattle.vast_print.specs.Levels.{unary_sign_text, left_child_wraps, ternary_wraps, select_wraps, is_scalar_name, is_zero}
+use Rattle.vast_print.specs.Levels.{unary_sign_text}
 use Rattle.vast_print.specs.Bare.{is_bare}
 use Rattle.vast_print.specs.Text.{elided, cast_to, width_cast, package_text, expr_text, type_cast}
 use Rattle.vast_print.proofs.FaultLaws.{elided_text}
-use Rattle.vast_print.proofs.TestLaws.{subject_same, bare_same}
+use Rattle.vast_print.proofs.TestLaws.{bare_same}
 
 -- an expression that may stand bare behind a unary sign
 abbrev pub is_tight : ExprTree → Bool
-is_tight e = not (nat_lt (spelled_level e) 13)
+is_tight e = not (select_wraps e)
 
 pub wrapped_opens : (tight b : Bool) (p : Printed) → (b ≡ false → opens tight p.text ≡ true) → opens tight (wrapped b p).text ≡ true
 unfolding wrapped ◌⊕◌ plain_text
@@ -88,7 +90,7 @@ first_opens : (tight : Bool) (c : ℕ) (cs : List ℕ) (d : Bool) → is_digit c
 first_opens tight c cs true e h = opens_digit tight c cs e
 first_opens tight c cs false e h = rw (eqb-true c 39 h) (tick_opens tight cs)
 
-pub literal_opens : (tight : Bool) (w : List ℕ) → is_literal_text w ≡ true → (tight ≡ true → is_negative_text w ≡ false) → opens tight w ≡ true
+pub literal_opens : (tight : Bool) (w : List ℕ) → is_literal_text w ≡ true → (tight ≡ true → starts_with_minus w ≡ false) → opens tight w ≡ true
 literal_opens tight [] h f = absurd (cc h)
 literal_opens tight (c ∷ cs) h f = go (eqb c 45) refl h
   where
@@ -104,12 +106,11 @@ string_opens : (tight : Bool) (w : List ℕ) → is_string_text w ≡ true → o
 string_opens tight [] h = absurd (cc h)
 string_opens tight (c ∷ cs) h = rw (eqb-true c 34 (and_left _ _ h)) (quote_opens tight cs)
 
-not_negative : (b : Bool) → not (nat_lt (cond b 12 13) 13) ≡ true → b ≡ false
+not_negative : (b : Bool) → not (nat_lt 13 13 || b) ≡ true → b ≡ false
 not_negative true h = absurd (cc h)
 not_negative false h = refl
 
-low : (o : BinaryOp) → not (nat_lt (level (binary_sign o)) 13) ≡ false
-unfolding level binary_sign
+low : (o : BinaryOp) → not (nat_lt (binary_precedence o) 13 || false) ≡ false
 low AddOp = refl
 low _ = refl
 
@@ -182,7 +183,7 @@ type_opens tight MissingType p h c = absurd (cc c)
 pub opens_text : (tight : Bool) (e : ExprTree) → is_plain e ≡ true → is_well_formed e ≡ true → (tight ≡ true → is_tight e ≡ true) → opens tight (expr_text e).text ≡ true
 unfolding expr_text plain_text
 opens_text tight (NameTree n type) h w l = name_opens tight n h
-opens_text tight (LiteralTree t v) h w l = literal_opens tight t w (λ e. not_negative (is_negative_text t) (l e))
+opens_text tight (LiteralTree t v) h w l = literal_opens tight t w (λ e. not_negative (starts_with_minus t) (l e))
 opens_text tight (StringTree t) h w l = string_opens tight t w
 opens_text true (UnaryTree o e) h w l = let x = l refl in absurd (cc x)
 opens_text false (UnaryTree o e) h w l = sign_opens o _
@@ -192,12 +193,12 @@ opens_text true (TernaryTree c a b) h w l = let x = l refl in absurd (cc x)
 opens_text false (TernaryTree c a b) h w l = front false _ _ (front false _ _ (front false _ _ (front false _ _ (wrapped_opens false (ternary_wraps c) (expr_text c) (λ _. opens_text false c (and_left _ _ h) (and_left _ _ w) (λ t. absurd (cc t)))))))
 opens_text tight (IndexTree s i) h w l =
     pick_opens tight (is_scalar_name s) (is_zero i) ScalarIndex (expr_text s) _ (λ e. opens_text tight s (and_left _ _ h) (and_left _ _ w) (λ _. scalar_tight s e))
-    (λ _. front tight _ _ (front tight _ _ (front tight _ _ (wrapped_opens tight (select_wraps s) (expr_text s) (λ e. opens_text tight s (and_left _ _ h) (and_left _ _ w) (λ _. not_false (select_wraps s) _ (subject_same s) e))))))
+    (λ _. front tight _ _ (front tight _ _ (front tight _ _ (wrapped_opens tight (select_wraps s) (expr_text s) (λ e. opens_text tight s (and_left _ _ h) (and_left _ _ w) (λ _. not_false (select_wraps s) _ refl e))))))
 opens_text tight (SliceTree s a b) h w l =
     pick_opens tight (is_scalar_name s) (is_zero a && is_zero b) ScalarSlice (expr_text s) _ (λ e. opens_text tight s (and_left _ _ h) (and_left _ _ w) (λ _. scalar_tight s e))
-    (λ _. front tight _ _ (front tight _ _ (front tight _ _ (front tight _ _ (front tight _ _ (wrapped_opens tight (select_wraps s) (expr_text s) (λ e. opens_text tight s (and_left _ _ h) (and_left _ _ w) (λ _. not_false (select_wraps s) _ (subject_same s) e))))))))
+    (λ _. front tight _ _ (front tight _ _ (front tight _ _ (front tight _ _ (front tight _ _ (wrapped_opens tight (select_wraps s) (expr_text s) (λ e. opens_text tight s (and_left _ _ h) (and_left _ _ w) (λ _. not_false (select_wraps s) _ refl e))))))))
 opens_text tight (PartSelectTree s i n) h w l =
-    front tight _ _ (front tight _ _ (front tight _ _ (front tight _ _ (front tight _ _ (wrapped_opens tight (select_wraps s) (expr_text s) (λ e. opens_text tight s (and_left _ _ h) (and_left _ _ w) (λ _. not_false (select_wraps s) _ (subject_same s) e)))))))
+    front tight _ _ (front tight _ _ (front tight _ _ (front tight _ _ (front tight _ _ (wrapped_opens tight (select_wraps s) (expr_text s) (λ e. opens_text tight s (and_left _ _ h) (and_left _ _ w) (λ _. not_false (select_wraps s) _ refl e)))))))
 opens_text tight (ConcatTree n es) h w l = front tight _ _ (front tight _ _ (word_opens tight (codes "{") refl refl))
 opens_text tight (PatternTree es) h w l = front tight _ _ (front tight _ _ (word_opens tight (codes "'{") refl refl))
 opens_text tight (WidthCastTree w e) h k l = width_opens tight (expr_text w) (expr_text e)

@@ -2,8 +2,8 @@
 use Rattle.std.proofs.Common.{◌≡◌, ℕ, ℤ, List, [], ◌∷◌, ◌++◌, Bool, true, false, ◌&&◌, Option, Some, None, refl, sym, ◌∙◌, append-nil, codes}
 use Rattle.std.specs.Fmt.{signed_decimal}
 use Rattle.vast_literal.specs.Tokens.{Token, Mark, OpenBracket, CloseBracket, Colon, IntegerKey, IntKey, key_text}
-use Rattle.vast_literal.specs.Tree.{UnaryOp}
-use Rattle.vast_literal.specs.Tree.{BinaryOp}
+use Rattle.vast_literal.specs.declared.operator.UnaryOperator.{UnaryOperator as UnaryOp}
+use Rattle.vast_literal.specs.declared.operator.BinaryOperator.{BinaryOperator as BinaryOp}
 use Rattle.vast_literal.specs.Tree.{ExprTree, NameTree, LiteralTree, StringTree, UnaryTree, BinaryTree, TernaryTree, IndexTree, SliceTree, PartSelectTree, ConcatTree, PatternTree, WidthCastTree, TypeCastTree, PosEdgeTree, NegEdgeTree, MacroTree, CallTree, MissingExpr}
 use Rattle.vast_literal.specs.Tree.{TypeTree, ScalarTree, VectorTree, IntegerTree, IntTree, ExternalTree, PackageTree, PackedTree, UnpackedTree, MissingType}
 use Rattle.vast_literal.specs.Tree.{NoExpr, SomeExpr, Exprs, NoExprs, MoreExprs, NoArguments, SomeArguments}
@@ -16,22 +16,21 @@ use Rattle.vast_literal.proofs.Pieces.{add_tokens-nil}
 use Rattle.vast_literal.proofs.Spelled.{spelled, low}
 use Rattle.vast_literal.specs.LiteralToken.{is_literal_text, is_string_text}
 use Rattle.vast_literal.specs.Plain.{is_plain_name, is_called_name, is_plain, is_plain_type, are_plain, is_edgeless, is_edgeless_type, are_edgeless}
-use Rattle.vast_literal.specs.ExprTokens.{expr_tokens, cast_tokens, each_tokens, comma_tokens, comma_tail_tokens, wrapped_tokens, is_operand_wrapped, is_subject_wrapped}
+use Rattle.vast_literal.specs.ExprTokens.{expr_tokens, cast_tokens, each_tokens, comma_tokens, comma_tail_tokens, wrapped_tokens}
 use Rattle.vast_literal.specs.WellFormed.{is_well_formed, is_well_formed_type, is_cast_type, are_well_formed, is_positive}
 use Rattle.vast_literal.proofs.ScanLaws.{and_left, and_right}
 use Rattle.vast_literal.proofs.TokenReads.{stops, Reads}
 use Rattle.vast_literal.proofs.Pieces.{free_reads, reads_end, as_reads, reads_reads, enclosed, open_paren, close_paren, open_bracket, close_bracket, open_brace, close_brace, comma, question, colon}
 use Rattle.vast_literal.proofs.LiteralLaws.{literal_reads}
 use Rattle.vast_literal.proofs.Words.{name_reads, number_reads, string_reads, macro_reads, called_reads, plus_colon, pattern_open}
+use Rattle.vast_literal.specs.Shape.{is_scalar_name, is_zero, left_child_wraps, right_child_wraps, select_wraps, ternary_wraps, unary_wraps}
 use Rattle.vast_print.specs.declared.refusal.Refusal.TheVariants.{ScalarIndex, ScalarSlice}
 use Rattle.vast_print.specs.Printed.{Printed, plain_text, ◌⊕◌, wrapped}
-use Rattle.vast_print.specs.Levels.{unary_wraps, left_child_wraps, right_child_wraps, ternary_wraps, select_wraps, is_scalar_name, is_zero}
 use Rattle.vast_print.specs.Text.{width_cast, expr_text, list_text, more_text, type_cast}
-use Rattle.vast_print.proofs.TestLaws.{left_same, right_same, operand_same, subject_same, ternary_same}
 use Rattle.vast_print.proofs.FaultLaws.{both_fine, wrapped_fine}
 use Rattle.vast_print.proofs.ExprOpens.{opens_text, wrapped_opens}
 use Rattle.vast_print.proofs.Shapes.{sep_left, closed_left, ternary_left, part_left, slice_left, replicated_left, nil_left, wrapped_reads}
-use Rattle.vast_print.proofs.CastReads.{binary_divides, unary_reads, operand_tight, positive_number, pick_reads, index_same, slice_same, cast_fine, width_fine, width_reads, name_reads_cast, package_reads, sign_reads_cast, scalar_reads, number_reads_cast, type_fine}
+use Rattle.vast_print.proofs.CastReads.{binary_divides, unary_reads, operand_tight, positive_number, pick_reads, cast_fine, width_fine, width_reads, name_reads_cast, package_reads, sign_reads_cast, scalar_reads, number_reads_cast, type_fine}
 
 -- each form of expression over its parts
 
@@ -44,7 +43,7 @@ unary_fine o e f = wrapped_fine (unary_wraps e) (expr_text e) ((both_fine _ _ f)
 
 unary_told : (o : UnaryOp) (e : ExprTree) → is_plain e ≡ true → is_well_formed e ≡ true → Told e → Told (UnaryTree o e)
 unfolding expr_text expr_tokens ◌⊕◌ plain_text
-unary_told o e p w r = unary_reads o _ (wrapped_opens true (unary_wraps e) (expr_text e) (λ h. opens_text true e p w (λ _. operand_tight e h))) (wrapped_reads (unary_wraps e) (is_operand_wrapped e) (expr_text e) (operand_same e) r)
+unary_told o e p w r = unary_reads o _ (wrapped_opens true (unary_wraps e) (expr_text e) (λ h. opens_text true e p w (λ _. operand_tight e h))) (wrapped_reads (unary_wraps e) (unary_wraps e) (expr_text e) refl r)
 
 binary_fine : (o : BinaryOp) (a b : ExprTree) → (expr_text (BinaryTree o a b)).fault ≡ None → ((expr_text a).fault ≡ None) × ((expr_text b).fault ≡ None)
 unfolding expr_text
@@ -52,7 +51,7 @@ binary_fine o a b f = let (x, y) = both_fine _ _ f in (wrapped_fine (left_child_
 
 binary_told : (o : BinaryOp) (a b : ExprTree) → Told a → Told b → Told (BinaryTree o a b)
 unfolding expr_text expr_tokens ◌⊕◌ plain_text
-binary_told o a b r q = sep_left (wrapped_reads (left_child_wraps o a) _ (expr_text a) (left_same o a) r) (binary_divides o) (wrapped_reads (right_child_wraps o b) _ (expr_text b) (right_same o b) q)
+binary_told o a b r q = sep_left (wrapped_reads (left_child_wraps o a) _ (expr_text a) refl r) (binary_divides o) (wrapped_reads (right_child_wraps o b) _ (expr_text b) refl q)
 
 ternary_fine : (c a b : ExprTree) → (expr_text (TernaryTree c a b)).fault ≡ None → ((expr_text c).fault ≡ None) × ((expr_text a).fault ≡ None) × ((expr_text b).fault ≡ None)
 unfolding expr_text
@@ -64,10 +63,10 @@ ternary_fine c a b f =
 
 ternary_told : (c a b : ExprTree) → Told c → Told a → Told b → Told (TernaryTree c a b)
 unfolding expr_text expr_tokens ◌⊕◌ plain_text
-ternary_told c a b r q s = ternary_left (wrapped_reads (ternary_wraps c) _ (expr_text c) (ternary_same c) r) question (wrapped_reads (ternary_wraps a) _ (expr_text a) (ternary_same a) q) colon (wrapped_reads (ternary_wraps b) _ (expr_text b) (ternary_same b) s)
+ternary_told c a b r q s = ternary_left (wrapped_reads (ternary_wraps c) _ (expr_text c) refl r) question (wrapped_reads (ternary_wraps a) _ (expr_text a) refl q) colon (wrapped_reads (ternary_wraps b) _ (expr_text b) refl s)
 
-subject_told : (s : ExprTree) → Told s → Reads (wrapped (select_wraps s) (expr_text s)).text (wrapped_tokens (is_subject_wrapped s) (expr_tokens s))
-subject_told s r = wrapped_reads (select_wraps s) _ (expr_text s) (subject_same s) r
+subject_told : (s : ExprTree) → Told s → Reads (wrapped (select_wraps s) (expr_text s)).text (wrapped_tokens (select_wraps s) (expr_tokens s))
+subject_told s r = wrapped_reads (select_wraps s) _ (expr_text s) refl r
 
 -- the text of a select that stands
 index_text : (s i : ExprTree) → Printed
@@ -77,13 +76,13 @@ index_fine : (s i : ExprTree) → (index_text s i).fault ≡ None → ((expr_tex
 unfolding index_text
 index_fine s i f = let (x, y) = both_fine _ _ f in let (x1, y1) = both_fine _ _ x in (wrapped_fine (select_wraps s) (expr_text s) ((both_fine _ _ x1).0), y1)
 
-index_reads : (s i : ExprTree) → Told s → Told i → Reads (index_text s i).text (wrapped_tokens (is_subject_wrapped s) (expr_tokens s) ++ (Mark OpenBracket ∷ (expr_tokens i ++ (Mark CloseBracket ∷ []))))
+index_reads : (s i : ExprTree) → Told s → Told i → Reads (index_text s i).text (wrapped_tokens (select_wraps s) (expr_tokens s) ++ (Mark OpenBracket ∷ (expr_tokens i ++ (Mark CloseBracket ∷ []))))
 unfolding index_text ◌⊕◌ plain_text
 index_reads s i r q = closed_left (subject_told s r) open_bracket q close_bracket
 
 index_told : (s i : ExprTree) → (expr_text (IndexTree s i)).fault ≡ None → ((expr_text s).fault ≡ None → Told s) → ((expr_text i).fault ≡ None → Told i) → Told (IndexTree s i)
 unfolding expr_text expr_tokens index_text
-index_told s i f r q = rw (sym (index_same s i)) (pick_reads (is_scalar_name s) (is_zero i) ScalarIndex (expr_text s) (index_text s i) f (λ _ k. r k) (λ _ k. let (x, y) = index_fine s i k in index_reads s i (r x) (q y)))
+index_told s i f r q = (pick_reads (is_scalar_name s) (is_zero i) ScalarIndex (expr_text s) (index_text s i) f (λ _ k. r k) (λ _ k. let (x, y) = index_fine s i k in index_reads s i (r x) (q y)))
 
 slice_text : (s h l : ExprTree) → Printed
 slice_text s h l = wrapped (select_wraps s) (expr_text s) ⊕ plain_text (codes "[") ⊕ expr_text h ⊕ plain_text (codes ":") ⊕ expr_text l ⊕ plain_text (codes "]")
@@ -98,13 +97,13 @@ slice_fine s h l f =
     (wrapped_fine (select_wraps s) (expr_text s) ((both_fine _ _ x3).0), y3, y1)
 
 slice_reads : (s h l : ExprTree) → is_plain l ≡ true → is_well_formed l ≡ true → Told s → Told h → Told l →
-    Reads (slice_text s h l).text (wrapped_tokens (is_subject_wrapped s) (expr_tokens s) ++ (Mark OpenBracket ∷ (expr_tokens h ++ (Mark Colon ∷ (expr_tokens l ++ (Mark CloseBracket ∷ []))))))
+    Reads (slice_text s h l).text (wrapped_tokens (select_wraps s) (expr_tokens s) ++ (Mark OpenBracket ∷ (expr_tokens h ++ (Mark Colon ∷ (expr_tokens l ++ (Mark CloseBracket ∷ []))))))
 unfolding slice_text ◌⊕◌ plain_text
 slice_reads s h l p w r q t = slice_left (subject_told s r) q (opens_text false l p w (λ e. absurd (cc e))) t
 
 slice_told : (s h l : ExprTree) → is_plain l ≡ true → is_well_formed l ≡ true → (expr_text (SliceTree s h l)).fault ≡ None → ((expr_text s).fault ≡ None → Told s) → ((expr_text h).fault ≡ None → Told h) → ((expr_text l).fault ≡ None → Told l) → Told (SliceTree s h l)
 unfolding expr_text expr_tokens slice_text
-slice_told s h l p w f r q t = rw (sym (slice_same s h l)) (pick_reads (is_scalar_name s) (is_zero h && is_zero l) ScalarSlice (expr_text s) (slice_text s h l) f (λ _ k. r k)
+slice_told s h l p w f r q t = (pick_reads (is_scalar_name s) (is_zero h && is_zero l) ScalarSlice (expr_text s) (slice_text s h l) f (λ _ k. r k)
     (λ _ k. let (x, y, z) = slice_fine s h l k in slice_reads s h l p w (r x) (q y) (t z)))
 
 part_fine : (s i : ExprTree) (n : ℤ) → (expr_text (PartSelectTree s i n)).fault ≡ None → ((expr_text s).fault ≡ None) × ((expr_text i).fault ≡ None)

@@ -1,25 +1,27 @@
 -- The grammar derives the normal form of a plain file from its printed layout.
 use Rattle.std.proofs.Common.{◌≡◌, ℕ, List, [], ◌∷◌, ◌++◌, map, true, false, ◌&&◌, Some, None, refl, subst, ap, ◌∙◌, append_assoc, codes}
 use Rattle.vast_literal.specs.Tokens.{Token, key_text, Reserved, InputKey, ParameterKey, Mark, OpenParen, CloseParen, Semicolon, Assign, Hash, Word}
-use Rattle.vast_literal.specs.Tree.{Dialect, TypeTree, ScalarTree, VectorTree, IntegerTree, IntTree, Kind}
+use Rattle.vast_literal.specs.Tree.{TypeTree, ScalarTree, VectorTree, IntegerTree, IntTree}
+use Rattle.vast_literal.specs.declared.kind.VastFileType.{VastFileType as Dialect}
+use Rattle.vast_literal.specs.declared.kind.DataKind.{DataKind as Kind}
 use Rattle.vast_literal.specs.Scan.{scan}
 use Rattle.vast_literal.specs.Plain.{is_plain_name}
 use Rattle.vast_literal.specs.PlainFile.{is_plain_value, is_plain_declared}
 use Rattle.vast_literal.specs.WellFormed.{is_well_formed, is_well_formed_type}
 use Rattle.vast_literal.specs.ExprTokens.{expr_tokens}
-use Rattle.vast_literal.specs.NormalTree.{base_type}
 use Rattle.vast_literal.specs.FileTokens.{declaration_tokens, port_declaration_tokens, separated}
 use Rattle.vast_literal.proofs.TokenReads.{Free, Divides, Reads}
 use Rattle.vast_literal.proofs.ScanLaws.{and_left, and_right}
 use Rattle.vast_literal.proofs.Pieces.{free_reads, reads_end, as_reads, reads_sep, open_paren}
 use Rattle.vast_literal.proofs.Words.{key_reads, name_reads}
+use Rattle.vast_literal.specs.Shape.{base_kind, base_of, is_external}
 use Rattle.vast_print.specs.Printed.{plain_text, ◌⊕◌}
 use Rattle.vast_print.specs.Text.{expr_text}
-use Rattle.vast_print.specs.Declaration.{base_of, is_external, declaration_text, declared_text, port_declaration_text}
+use Rattle.vast_print.specs.Declaration.{declaration_text, declared_text, port_declaration_text}
 use Rattle.vast_print.specs.Declaration as Print
 use Rattle.vast_print.specs.Page.{Page, no_lines, line}
 use Rattle.vast_print.proofs.FaultLaws.{both_fine}
-use Rattle.vast_print.proofs.DeclarationReads.{declaration_reads, base_same}
+use Rattle.vast_print.proofs.DeclarationReads.{declaration_reads}
 use Rattle.vast_print.proofs.StatementReads.{value_reads}
 use Rattle.vast_print.proofs.PageReads.{above_fine, inner_fine, Whole, whole_above, whole_inner, whole_none, whole, open_line, open_written, same_whole, whole_blank, space_divides, equals, semicolon, key_space}
 use Rattle.vast_literal.specs.PlainFile.{are_plain_members}
@@ -30,12 +32,14 @@ use Rattle.vast_print.specs.Members.{member_page, members_page}
 use Rattle.vast_print.proofs.PageReads.{whole_comment}
 use Rattle.std.proofs.Common.{◌||◌, eqb}
 use Rattle.vast_literal.specs.Tokens.{ModuleKey, EndModuleKey, OutputKey, InOutKey, MacroWord, Quoted}
-use Rattle.vast_literal.specs.Tree.{MaybeType, Untyped, Typed, PortDirection, InputDirection, OutputDirection, InOutDirection, PortTree, ParameterPortTree, ModuleTree, FileItemTree, ModuleItem, IncludeItem, CommentItem, BlankItem, FileTree}
+use Rattle.vast_literal.specs.Tree.{MaybeType, Untyped, Typed, PortTree, ParameterPortTree, ModuleTree, FileItemTree, ModuleItem, IncludeItem, CommentItem, BlankItem, FileTree}
+use Rattle.vast_literal.specs.declared.kind.ModulePortDirection.{ModulePortDirection as PortDirection}
+use Rattle.vast_literal.specs.declared.kind.ModulePortDirection.TheVariants.{Input as InputDirection, Output as OutputDirection, InOut as InOutDirection}
 use Rattle.vast_literal.specs.Scan.{tokens}
 use Rattle.vast_literal.specs.LiteralToken.{every, is_string_rest}
 use Rattle.vast_literal.specs.PlainFile.{are_plain_ports, is_plain_typed, are_plain_parameters, is_plain_module, is_path_byte, are_plain_items, is_plain_file}
 use Rattle.vast_literal.specs.WellFormedFile.{are_well_formed_ports, is_well_formed_typed, are_well_formed_parameters, is_well_formed_module, are_well_formed_items, is_well_formed_file}
-use Rattle.vast_literal.specs.NormalTree.{base_kind, direction_key, normal_file}
+use Rattle.vast_literal.specs.NormalTree.{direction_key, normal_file}
 use Rattle.vast_literal.specs.FileTokens.{each_port, typed_tokens, each_parameter, header_parameter_tokens, header_port_tokens, module_tokens, item_tokens, items_tokens, file_tokens}
 use Rattle.vast_literal.specs.FileGrammar.{DerivesFile}
 use Rattle.vast_literal.proofs.Words.{string_reads}
@@ -76,21 +80,10 @@ ports_whole dialect ps h w f = entries_whole (map (port_text dialect) ps) (each_
 
 -- parameters of a header
 
-base_kind_same : (t : TypeTree) → Print.base_kind t ≡ base_kind t
-unfolding base_kind
-base_kind_same (ScalarTree signed) = refl
-base_kind_same (VectorTree w v signed) = refl
-base_kind_same (IntegerTree signed) = refl
-base_kind_same (IntTree signed) = refl
-base_kind_same _ = refl
-
-typed_kind : (t : TypeTree) → Print.base_kind (base_of t) ≡ base_kind (base_type t)
-typed_kind t = base_kind_same (base_of t) ∙ ap (λ (b : TypeTree). base_kind b) (base_same t)
-
 typed_told : (dialect : Dialect) (t : MaybeType) (n : List ℕ) → is_plain_typed t n ≡ true → is_well_formed_typed t ≡ true → (typed_text dialect t n).fault ≡ None → Reads (typed_text dialect t n).text (typed_tokens dialect t n)
 unfolding typed_tokens plain_text
 typed_told dialect Untyped n h w f = name_reads n h
-typed_told dialect (Typed t) n h w f = subst (λ (k : Kind). Reads (declaration_text dialect (Print.base_kind (base_of t)) t n).text (declaration_tokens dialect k t n)) (typed_kind t) (declaration_reads dialect (Print.base_kind (base_of t)) t n h w f)
+typed_told dialect (Typed t) n h w f = declaration_reads dialect (base_kind (base_of t)) t n h w f
 
 header_parameter_fine : (dialect : Dialect) (p : ParameterPortTree) → (parameter_port_text dialect p).fault ≡ None → ((typed_text dialect p.type p.name).fault ≡ None) × ((expr_text p.value).fault ≡ None)
 unfolding parameter_port_text

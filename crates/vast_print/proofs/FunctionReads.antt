@@ -1,72 +1,39 @@
 -- Functions have the tokens that the grammar reads.
 use Rattle.std.proofs.Common.{◌≡◌, ℕ, List, [], ◌∷◌, ◌++◌, Bool, true, false, cond, ◌&&◌, None, refl, sym, subst, ap, ◌∙◌, append_assoc, append-nil, codes}
 use Rattle.vast_literal.specs.Tokens.{Token, Key, key_text, Reserved, FunctionKey, AutomaticKey, EndFunctionKey, InputKey, Mark, OpenParen, CloseParen, Semicolon, Comma}
-use Rattle.vast_literal.specs.Tree.{Dialect, VerilogDialect, SystemVerilogDialect, Declaration, TypeTree, ScalarTree, VectorTree, IntegerTree, IntTree, ExternalTree, PackageTree, PackedTree, UnpackedTree, MissingType, Kind, UserKind}
+use Rattle.vast_literal.specs.Tree.{Declaration, TypeTree, ScalarTree, VectorTree, IntegerTree, IntTree, ExternalTree, PackageTree, PackedTree, UnpackedTree, MissingType}
+use Rattle.vast_literal.specs.declared.kind.VastFileType.{VastFileType as Dialect}
+use Rattle.vast_literal.specs.declared.kind.VastFileType.TheVariants.{Verilog as VerilogDialect, SystemVerilog as SystemVerilogDialect}
+use Rattle.vast_literal.specs.declared.kind.DataKind.{DataKind as Kind}
+use Rattle.vast_literal.specs.declared.kind.DataKind.TheVariants.{User as UserKind}
 use Rattle.vast_literal.specs.Tree.{FunctionTree}
-use Rattle.vast_literal.specs.Tree.{CaseExact, CaseZ, CaseX, AssignTree, CommentTree, BlankTree, InlineTree, ConditionalTree, CaseTree, Statements, NoStatements, MoreStatements}
+use Rattle.vast_literal.specs.Tree.{AssignTree, CommentTree, BlankTree, InlineTree, ConditionalTree, CaseTree, Statements, NoStatements, MoreStatements}
+use Rattle.vast_literal.specs.declared.kind.CaseKind.TheVariants.{Case as CaseExact, CaseZ, CaseX}
 use Rattle.vast_literal.specs.PlainFile.{is_plain_declaration, is_plain_declared, are_plain_declared, are_plain_statements, is_plain_function}
 use Rattle.vast_literal.specs.WellFormed.{is_well_formed_type}
 use Rattle.vast_literal.specs.WellFormedFile.{are_well_formed_statements, are_well_formed_inputs, are_well_formed_locals, is_well_formed_function, is_local_word}
-use Rattle.vast_literal.specs.NormalTree.{base_type, port_kind, result_kind, parameter_key}
+use Rattle.vast_literal.specs.NormalTree.{parameter_key}
 use Rattle.vast_literal.specs.NormalTree as Normal
-use Rattle.vast_literal.specs.FileTokens.{declaration_tokens, declared_tokens, port_declaration_tokens, block_tokens, statements_tokens, is_single_casez, separated, each_input, local_tokens, body_tokens, function_tokens}
+use Rattle.vast_literal.specs.FileTokens.{declaration_tokens, declared_tokens, port_declaration_tokens, block_tokens, statements_tokens, separated, each_input, local_tokens, body_tokens, function_tokens}
 use Rattle.vast_literal.proofs.TokenReads.{Reads}
 use Rattle.vast_literal.proofs.ScanLaws.{and_left, and_right}
 use Rattle.vast_literal.proofs.Pieces.{free_reads, free_free, reads_end, as_reads, reads_reads, reads_sep, comma}
 use Rattle.vast_literal.proofs.Words.{key_reads}
+use Rattle.vast_literal.specs.Shape.{base_of, is_external, port_kind, result_kind}
 use Rattle.vast_print.specs.Printed.{Printed, plain_text, ◌⊕◌}
-use Rattle.vast_print.specs.Declaration.{base_of, is_external, declaration_text, declared_text, port_declaration_text}
+use Rattle.vast_print.specs.Declaration.{declaration_text, declared_text, port_declaration_text}
 use Rattle.vast_print.specs.Declaration as Print
 use Rattle.vast_print.specs.Page.{inner, above}
 use Rattle.vast_print.specs.Statements.{statements_page, block_page}
-use Rattle.vast_print.specs.Members.{input_text, more_inputs_text, inputs_text, local_page, locals_page, is_one_casez, function_body_page, result_text, function_page}
+use Rattle.vast_print.specs.Members.{input_text, more_inputs_text, inputs_text, local_page, locals_page, function_body_page, result_text, function_page}
+use Rattle.vast_literal.specs.Shape.{is_one_casez}
 use Rattle.vast_print.proofs.FaultLaws.{both_fine}
-use Rattle.vast_print.proofs.DeclarationReads.{declaration_reads, base_same}
+use Rattle.vast_print.proofs.DeclarationReads.{declaration_reads}
 use Rattle.vast_print.proofs.StatementReads.{statements_whole, block_open}
 use Rattle.vast_print.proofs.PageReads.{above_fine, inner_fine, written_fine, Whole, whole_above, whole_inner, whole_none, whole, open_line, open_written, same_whole, space_open, semicolon, key_space}
 use Rattle.vast_print.proofs.StatementReads.{cond_fine}
 use Rattle.vast_print.proofs.EntryReads.{same_reads, close_semicolon}
 use Rattle.vast_print.proofs.InstanceReads.{Rest, rest_none, rest_more}
-
--- kinds
-
-external_base : (t : TypeTree) → Print.is_external_base t ≡ Normal.is_external_base t
-external_base (ExternalTree n) = refl
-external_base (PackageTree s n) = refl
-external_base _ = refl
-
-external_same : (t : TypeTree) → is_external t ≡ Normal.is_external_base (base_type t)
-unfolding is_external
-external_same t = external_base (base_of t) ∙ ap (λ (b : TypeTree). Normal.is_external_base b) (base_same t)
-
-port_same : (kind : Kind) (t : TypeTree) → Print.port_kind kind t ≡ port_kind kind t
-unfolding port_kind
-port_same kind t = ap (λ (b : Bool). cond b UserKind kind) (external_same t)
-
-dialect_same : (dialect : Dialect) → Print.dialect_kind dialect ≡ Normal.dialect_kind dialect
-unfolding Normal.dialect_kind
-dialect_same VerilogDialect = refl
-dialect_same SystemVerilogDialect = refl
-
-other_same : (dialect : Dialect) (t : TypeTree) → cond (is_external t) UserKind (Print.dialect_kind dialect) ≡ cond (Normal.is_external_base (base_type t)) UserKind (Normal.dialect_kind dialect)
-other_same dialect t = let a = external_same t in let b = dialect_same dialect in cc (a, b)
-
-result_same : (dialect : Dialect) (t : TypeTree) → Print.result_kind dialect t ≡ result_kind dialect t
-unfolding result_kind
-result_same dialect (IntegerTree signed) = refl
-result_same dialect (IntTree signed) = refl
-result_same dialect (ScalarTree signed) = other_same dialect (ScalarTree signed)
-result_same dialect (VectorTree w v signed) = other_same dialect (VectorTree w v signed)
-result_same dialect (ExternalTree n) = other_same dialect (ExternalTree n)
-result_same dialect (PackageTree s n) = other_same dialect (PackageTree s n)
-result_same dialect (PackedTree t ds) = other_same dialect (PackedTree t ds)
-result_same dialect (UnpackedTree t ds) = other_same dialect (UnpackedTree t ds)
-result_same dialect MissingType = other_same dialect MissingType
-
--- declarations of a kind that is written the same
-
-kind_reads : (dialect : Dialect) (k j : Kind) (t : TypeTree) (n : List ℕ) → k ≡ j → is_plain_declaration t n ≡ true → is_well_formed_type t ≡ true → (declaration_text dialect k t n).fault ≡ None → Reads (declaration_text dialect k t n).text (declaration_tokens dialect j t n)
-kind_reads dialect k j t n e p w f = subst (λ (i : Kind). Reads (declaration_text dialect k t n).text (declaration_tokens dialect i t n)) e (declaration_reads dialect k t n p w f)
 
 pub declared_told : (dialect : Dialect) (d : Declaration) → is_plain_declared d ≡ true → is_well_formed_type d.type ≡ true → (declared_text dialect d).fault ≡ None → Reads (declared_text dialect d).text (declared_tokens dialect d)
 unfolding declared_tokens
@@ -74,10 +41,10 @@ declared_told dialect d p w f = declaration_reads dialect d.kind d.type d.name p
 
 pub port_told : (dialect : Dialect) (d : Declaration) → is_plain_declared d ≡ true → is_well_formed_type d.type ≡ true → (port_declaration_text dialect d).fault ≡ None → Reads (port_declaration_text dialect d).text (port_declaration_tokens dialect d)
 unfolding port_declaration_tokens
-port_told dialect d p w f = kind_reads dialect (Print.port_kind d.kind d.type) (port_kind d.kind d.type) d.type d.name (port_same d.kind d.type) p w f
+port_told dialect d p w f = declaration_reads dialect (port_kind d.kind d.type) d.type d.name p w f
 
 result_told : (dialect : Dialect) (t : TypeTree) (n : List ℕ) → is_plain_declaration t n ≡ true → is_well_formed_type t ≡ true → (result_text dialect t n).fault ≡ None → Reads (result_text dialect t n).text (declaration_tokens dialect (result_kind dialect t) t n)
-result_told dialect t n p w f = kind_reads dialect (Print.result_kind dialect t) (result_kind dialect t) t n (result_same dialect t) p w f
+result_told dialect t n p w f = declaration_reads dialect (result_kind dialect t) t n p w f
 
 -- inputs
 
@@ -170,33 +137,13 @@ locals_whole dialect (d ∷ ds) p w f = let (x, y) = locals_fault dialect d ds f
     locals_fault : (e : Dialect) (c : Declaration) (cs : List Declaration) → (locals_page e (c ∷ cs)).fault ≡ None → ((local_page e c).fault ≡ None) × ((locals_page e cs).fault ≡ None)
     locals_fault e c cs g = locals_fine e c cs g
 
-casez_same : (b : Statements) → is_one_casez b ≡ is_single_casez b
-unfolding is_single_casez
-casez_same NoStatements = refl
-casez_same (MoreStatements (AssignTree a l r) NoStatements) = refl
-casez_same (MoreStatements (AssignTree a l r) (MoreStatements x xs)) = refl
-casez_same (MoreStatements (CommentTree t) NoStatements) = refl
-casez_same (MoreStatements (CommentTree t) (MoreStatements x xs)) = refl
-casez_same (MoreStatements BlankTree NoStatements) = refl
-casez_same (MoreStatements BlankTree (MoreStatements x xs)) = refl
-casez_same (MoreStatements (InlineTree t) NoStatements) = refl
-casez_same (MoreStatements (InlineTree t) (MoreStatements x xs)) = refl
-casez_same (MoreStatements (ConditionalTree c b a) NoStatements) = refl
-casez_same (MoreStatements (ConditionalTree c b a) (MoreStatements x xs)) = refl
-casez_same (MoreStatements (CaseTree u CaseZ e arms) NoStatements) = refl
-casez_same (MoreStatements (CaseTree u CaseZ e arms) (MoreStatements x xs)) = refl
-casez_same (MoreStatements (CaseTree u CaseExact e arms) NoStatements) = refl
-casez_same (MoreStatements (CaseTree u CaseExact e arms) (MoreStatements x xs)) = refl
-casez_same (MoreStatements (CaseTree u CaseX e arms) NoStatements) = refl
-casez_same (MoreStatements (CaseTree u CaseX e arms) (MoreStatements x xs)) = refl
-
 body_fine : (b : Statements) → (function_body_page b).fault ≡ None → (statements_page b).fault ≡ None
 unfolding function_body_page
 body_fine b f = cond_fine (is_one_casez b) b f
 
 body_whole : (b : Statements) → Whole (statements_page b) (statements_tokens b) → Whole (function_body_page b) (body_tokens b)
 unfolding function_body_page body_tokens
-body_whole b h = rw (sym (casez_same b)) (go (is_one_casez b))
+body_whole b h = go (is_one_casez b)
   where
     go : (c : Bool) → Whole (cond c (statements_page b) (block_page b)) (cond c (statements_tokens b) (block_tokens (statements_tokens b)))
     go true = h

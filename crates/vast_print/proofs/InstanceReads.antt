@@ -2,7 +2,9 @@
 use Rattle.std.proofs.Common.{◌≡◌, ℕ, List, [], ◌∷◌, ◌++◌, map, true, ◌&&◌, None, refl, append_assoc, codes}
 use Rattle.vast_literal.specs.Tokens.{Token, Key, key_text, Reserved, AlwaysCombKey, AlwaysFFKey, AlwaysKey, PosedgeKey, NegedgeKey, OrKey, Mark, OpenParen, CloseParen, Semicolon, Hash, At, Word}
 use Rattle.vast_literal.specs.Tree.{ExprTree, NameTree, PosEdgeTree, NegEdgeTree, Exprs, NoExprs, MoreExprs}
-use Rattle.vast_literal.specs.Tree.{AlwaysWord, AlwaysFFWord, AlwaysAtWord, AlwaysCombWord, Connection, InstanceTree}
+use Rattle.vast_literal.specs.Tree.{Connection, InstanceTree}
+use Rattle.vast_literal.specs.declared.kind.AlwaysKind.{AlwaysKind as AlwaysWord}
+use Rattle.vast_literal.specs.declared.kind.AlwaysKind.TheVariants.{AlwaysFF as AlwaysFFWord, AlwaysAt as AlwaysAtWord, AlwaysComb as AlwaysCombWord}
 use Rattle.vast_literal.specs.Tree.{Statements}
 use Rattle.vast_literal.specs.Scan.{scan}
 use Rattle.vast_literal.specs.Plain.{is_plain_name}

@@ -3,7 +3,9 @@ use Rattle.std.proofs.Common.{◌≡◌, ◌<◌, ◌≤◌, ℕ, zero, suc, ◌
 use Rattle.std.proofs.lemmas.List.{drop_all}
 use Rattle.std.proofs.lemmas.Bool.{lt-ltb}
 use Rattle.std.proofs.lemmas.Bool.Decides.{nat_tests}
-use Rattle.vast_literal.specs.Tree.{Dialect, Declaration, ExprTree, StatementTree, Statements, NoStatements, MoreStatements, Alternates, ElseIf, CaseWord, MaybeExpr, CaseArms, NoCaseArms, CaseArm}
+use Rattle.vast_literal.specs.Tree.{Declaration, ExprTree, StatementTree, Statements, NoStatements, MoreStatements, Alternates, ElseIf, MaybeExpr, CaseArms, NoCaseArms, CaseArm}
+use Rattle.vast_literal.specs.declared.kind.VastFileType.{VastFileType as Dialect}
+use Rattle.vast_literal.specs.declared.kind.CaseKind.{CaseKind as CaseWord}
 use Rattle.vast_print.specs.Printed.{Printed, plain_text, ◌⊕◌}
 use Rattle.vast_print.specs.Page.{lead, written}
 use Rattle.vast_print.specs.Ink.{Ink, word, next, hang, pour}

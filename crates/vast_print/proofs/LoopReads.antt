@@ -1,21 +1,21 @@
 -- Loops have the tokens that the grammar reads.
 use Rattle.std.proofs.Common.{◌≡◌, ℕ, List, [], ◌∷◌, ◌++◌, true, Option, Some, None, refl, append_assoc, codes}
 use Rattle.vast_literal.specs.Tokens.{Token, key_text, Reserved, BeginKey, ForKey, GenvarKey, Mark, OpenParen, CloseParen, Semicolon, Assign, Operator, Less, Plus, Word, Number}
-use Rattle.vast_literal.specs.Tree.{ExprTree, LtOp}
+use Rattle.vast_literal.specs.Tree.{ExprTree}
+use Rattle.vast_literal.specs.declared.operator.BinaryOperator.TheVariants.{Lt as LtOp}
 use Rattle.vast_literal.specs.Scan.{scan}
 use Rattle.vast_literal.specs.Plain.{is_plain_name}
 use Rattle.vast_literal.specs.PlainFile.{is_plain_label}
-use Rattle.vast_literal.specs.ExprTokens.{expr_tokens, is_right_wrapped, wrapped_tokens}
+use Rattle.vast_literal.specs.ExprTokens.{expr_tokens, wrapped_tokens}
 use Rattle.vast_literal.specs.FileTokens.{loop_label_tokens}
 use Rattle.vast_literal.proofs.TokenReads.{Free, Divides, Reads}
 use Rattle.vast_literal.proofs.Pieces.{free_reads, free_free, reads_reads, reads_sep, operator_divides}
 use Rattle.vast_literal.proofs.Words.{key_reads, name_reads, number_reads}
+use Rattle.vast_literal.specs.Shape.{right_child_wraps}
 use Rattle.vast_print.specs.Printed.{plain_text, ◌⊕◌, wrapped}
-use Rattle.vast_print.specs.Levels.{right_child_wraps}
 use Rattle.vast_print.specs.Text.{expr_text}
 use Rattle.vast_print.specs.Members.{loop_label_text, loop_text}
 use Rattle.vast_print.proofs.FaultLaws.{both_fine, wrapped_fine}
-use Rattle.vast_print.proofs.TestLaws.{right_same}
 use Rattle.vast_print.proofs.Shapes.{wrapped_reads}
 use Rattle.vast_print.proofs.PageReads.{equals, close_space, key_space, key_open}
 use Rattle.vast_literal.proofs.Pieces.{colon}
@@ -68,13 +68,9 @@ loop_fine i s e l f =
 -- the first line of a loop
 unfoldable pub loop_line : (i : List ℕ) (s e : ExprTree) (l : List Token) → List Token
 loop_line i s e l =
-    Reserved ForKey ∷ (Mark OpenParen ∷ (Reserved GenvarKey ∷ (Word i ∷ (Mark Assign ∷ (expr_tokens s ++ (Mark Semicolon ∷ ((Word i ∷ (Operator Less ∷ wrapped_tokens (is_right_wrapped Less e) (expr_tokens e))) ++
+    Reserved ForKey ∷ (Mark OpenParen ∷ (Reserved GenvarKey ∷ (Word i ∷ (Mark Assign ∷ (expr_tokens s ++ (Mark Semicolon ∷ ((Word i ∷ (Operator Less ∷ wrapped_tokens (right_child_wraps LtOp e) (expr_tokens e))) ++
     (Mark Semicolon ∷ (Word i ∷ (Mark Assign ∷ (Word i ∷ (Operator Plus ∷ (Number (codes "1") ∷ (Mark CloseParen ∷ (Reserved BeginKey ∷ l)))))))))))))))
-
-end_same : (e : ExprTree) → right_child_wraps LtOp e ≡ is_right_wrapped Less e
-unfolding binary_sign
-end_same e = right_same LtOp e
 
 pub loop_told : (i : List ℕ) (s e : ExprTree) (l : Option (List ℕ)) → is_plain_name i ≡ true → is_plain_label l ≡ true → Reads (expr_text s).text (expr_tokens s) → Reads (expr_text e).text (expr_tokens e) → Reads (loop_text i s e l).text (loop_line i s e (loop_label_tokens l))
 unfolding loop_text loop_line ◌⊕◌ plain_text
-loop_told i s e l p q r t = loop_left for_free (name_reads i p) r (wrapped_reads (right_child_wraps LtOp e) (is_right_wrapped Less e) (expr_text e) (end_same e) t) (label_told l q)
+loop_told i s e l p q r t = loop_left for_free (name_reads i p) r (wrapped_reads (right_child_wraps LtOp e) (right_child_wraps LtOp e) (expr_text e) refl t) (label_told l q)

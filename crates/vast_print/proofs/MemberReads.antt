@@ -1,9 +1,12 @@
 -- The page of a plain member has the tokens that the grammar reads.
 use Rattle.std.proofs.Common.{◌≡◌, ℕ, List, [], ◌∷◌, ◌++◌, Bool, true, false, ◌&&◌, Option, None, append_assoc, append-nil, codes}
 use Rattle.vast_literal.specs.Tokens.{Token, key_text, Reserved, EndKey, ParameterKey, LocalparamKey, IntKey, Mark, Semicolon, Assign, Word}
-use Rattle.vast_literal.specs.Tree.{Dialect, ExprTree, Exprs, Declaration}
-use Rattle.vast_literal.specs.Tree.{AlwaysWord, ParameterName, PlainParameter, IntParameter, DefinedParameter, InstanceTree, FunctionTree}
-use Rattle.vast_literal.specs.Tree.{Continuous, AssignTree, ConditionalTree, Statements}
+use Rattle.vast_literal.specs.Tree.{ExprTree, Exprs, Declaration}
+use Rattle.vast_literal.specs.declared.kind.VastFileType.{VastFileType as Dialect}
+use Rattle.vast_literal.specs.Tree.{ParameterName, PlainParameter, IntParameter, DefinedParameter, InstanceTree, FunctionTree}
+use Rattle.vast_literal.specs.declared.kind.AlwaysKind.{AlwaysKind as AlwaysWord}
+use Rattle.vast_literal.specs.Tree.{AssignTree, ConditionalTree, Statements}
+use Rattle.vast_literal.specs.declared.kind.AssignmentForm.TheVariants.{Continuous}
 use Rattle.vast_literal.specs.Plain.{is_plain_name}
 use Rattle.vast_literal.specs.PlainFile.{is_plain_value, are_plain_statements, are_plain_awaited, is_plain_parameter_name, is_plain_label}
 use Rattle.vast_literal.specs.WellFormed.{is_well_formed, is_well_formed_type}

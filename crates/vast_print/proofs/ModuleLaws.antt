@@ -1,7 +1,8 @@
 -- Laws of writing files and modules.
 use Rattle.std.proofs.Common.{◌≡◌, ◌<◌, ◌≤◌, ℕ, zero, suc, ◌+◌, ltb, List, [], ◌∷◌, length, get_or, map, drop, refl, ◌∙◌, ap, codes, arith, add-one}
 use Rattle.std.proofs.lemmas.List.{drop_all}
-use Rattle.vast_literal.specs.Tree.{Dialect, Members, NoMembers, MoreMembers, MemberTree, PortTree, ParameterPortTree, ModuleTree, FileItemTree, IncludeItem, CommentItem, BlankItem}
+use Rattle.vast_literal.specs.Tree.{Members, NoMembers, MoreMembers, MemberTree, PortTree, ParameterPortTree, ModuleTree, FileItemTree, IncludeItem, CommentItem, BlankItem}
+use Rattle.vast_literal.specs.declared.kind.VastFileType.{VastFileType as Dialect}
 use Rattle.vast_print.specs.Printed.{plain_text}
 use Rattle.vast_print.specs.Page.{written, commented}
 use Rattle.vast_print.specs.Ink.{Ink, word, next, hang, pour}

@@ -3,7 +3,9 @@ use Rattle.std.proofs.Common.{◌≡◌, ◌<◌, ◌≤◌, ℕ, zero, suc, ◌
 use Rattle.std.specs.Prelude.{◌&&◌}
 use Rattle.std.specs.Fmt.{signed_decimal}
 use Rattle.std.proofs.lemmas.List.{drop_all}
-use Rattle.vast_literal.specs.Tree.{BinaryOp, ExprTree, BinaryTree, SliceTree, PartSelectTree, TypeTree, ExternalTree, PackedTree, UnpackedTree}
+use Rattle.vast_literal.specs.Tree.{ExprTree, BinaryTree, SliceTree, PartSelectTree, TypeTree, ExternalTree, PackedTree, UnpackedTree}
+use Rattle.vast_literal.specs.declared.operator.BinaryOperator.{BinaryOperator as BinaryOp}
+use Rattle.vast_literal.specs.Shape.{is_scalar_name, is_zero, left_child_wraps, right_child_wraps, select_wraps}
 use Rattle.vast_core.specs.declared.handle.Expr.{Expr}
 use Rattle.vast_core.specs.Bench.{Bench, tree_of, trees_of}
 use Rattle.vast_print.specs.declared.pieces.Piece.{Piece}
@@ -11,7 +13,7 @@ use Rattle.vast_print.specs.declared.refusal.Refusal.{Refusal}
 use Rattle.vast_print.specs.Printed.{Printed, first_fault, plain_text, ◌⊕◌, wrapped}
 use Rattle.vast_print.specs.Page.{written}
 use Rattle.vast_print.specs.Ink.{Ink, word, pour}
-use Rattle.vast_print.specs.Levels.{binary_sign_text, is_scalar_name, is_zero, left_child_wraps, right_child_wraps, select_wraps}
+use Rattle.vast_print.specs.Levels.{binary_sign_text}
 use Rattle.vast_print.specs.Text.{expr_text, list_text, more_text, type_cast}
 use Rattle.vast_print.specs.Words.{separator, scalar_cast_closing, number_cast_closing}
 use Rattle.vast_print.specs.Pieces.{piece_text, piece_weight, PieceOwned, pieces_text, pieces_weight, PiecesOwned, exprs_weight, expr_weight}

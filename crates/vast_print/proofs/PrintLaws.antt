@@ -1,10 +1,11 @@
 -- Laws of writing types as the arena holds them: bases and dimensions, array by array.
 use Rattle.std.proofs.Common.{◌≡◌, ◌<◌, ℕ, ℤ, Bool, true, false, List, [], ◌∷◌, length, refl, ◌∙◌, ap, codes, arith, Option}
 use Rattle.vast_literal.specs.Tree.{ExprTree, TypeTree, ScalarTree, VectorTree, IntegerTree, IntTree, ExternalTree, PackageTree, PackedTree, UnpackedTree}
+use Rattle.vast_literal.specs.Shape.{base_of}
 use Rattle.vast_print.specs.Printed.{plain_text, spaced}
 use Rattle.vast_print.specs.Page.{written}
 use Rattle.vast_print.specs.Ink.{Ink, word, pour}
-use Rattle.vast_print.specs.Declaration.{base_of, packed_ranges, packed_text, based_text, type_text, signed_word, unsigned_word, limit_text}
+use Rattle.vast_print.specs.Declaration.{packed_ranges, packed_text, based_text, type_text, signed_word, unsigned_word, limit_text}
 use Rattle.vast_print.specs.Words.{has_text, signed_opening, unsigned_opening}
 use Rattle.vast_print.specs.Text.{package_text}
 use Rattle.vast_print.proofs.InkLaws.{pour-then, pour-empty, pour-stopped}

@@ -1,13 +1,18 @@
 -- Laws of writing statements, one for each case.
 use Rattle.std.proofs.Common.{◌≡◌, ℕ, ◌+◌, Bool, true, false, List, [], refl, sym, ◌∙◌, codes}
-use Rattle.vast_literal.specs.Tree.{ExprTree, MaybeExpr, AssignForm, Blocking, Nonblocking, Continuous, CaseWord, CaseExact, CaseZ, CaseX}
+use Rattle.vast_literal.specs.Tree.{ExprTree, MaybeExpr}
+use Rattle.vast_literal.specs.declared.kind.AssignmentForm.{AssignmentForm as AssignForm}
+use Rattle.vast_literal.specs.declared.kind.AssignmentForm.TheVariants.{Blocking, Nonblocking, Continuous}
+use Rattle.vast_literal.specs.declared.kind.CaseKind.{CaseKind as CaseWord}
+use Rattle.vast_literal.specs.declared.kind.CaseKind.TheVariants.{Case as CaseExact, CaseZ, CaseX}
 use Rattle.vast_literal.specs.Tree.{StatementTree, AssignTree, CommentTree, BlankTree, InlineTree, ConditionalTree, CaseTree, Statements, NoStatements, MoreStatements, Alternates, NoElse, ElseIf, Else, CaseArms, NoCaseArms, CaseArm}
+use Rattle.vast_literal.specs.Shape.{is_bare_arm}
 use Rattle.vast_print.specs.Printed.{plain_text, ◌⊕◌}
 use Rattle.vast_print.specs.Page.{line, inner, above, written, commented}
 use Rattle.vast_print.specs.Ink.{Ink, word, next, hang, pour}
 use Rattle.vast_print.specs.Text.{expr_text}
 use Rattle.vast_print.specs.Words.{else_if_opening, begin_end_word}
-use Rattle.vast_print.specs.Statements.{assign_opening, assign_sign, case_word, unique_word, label_text, is_bare_arm, begin_end, statement_page, statements_page, block_page, alternates_page, arms_page, arm_body_page, arm_page}
+use Rattle.vast_print.specs.Statements.{assign_opening, assign_sign, case_word, unique_word, label_text, begin_end, statement_page, statements_page, block_page, alternates_page, arms_page, arm_body_page, arm_page}
 use Rattle.vast_print.proofs.InkLaws.{hang-line, pour-line, hang-none, pour-none, hang-blank, hang-above, pour-above, pour-beside, hang-beside, hang-line-above, hang-inner, hang-written, pour-then, pour-word}
 use Rattle.vast_print.proofs.WordLaws.{words}
 

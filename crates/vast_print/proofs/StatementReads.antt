@@ -2,23 +2,28 @@
 use Rattle.std.proofs.Common.{◌≡◌, ℕ, List, [], ◌∷◌, ◌++◌, Bool, true, false, cond, ◌&&◌, None, refl, sym, subst, append_assoc, append-nil, codes}
 use Rattle.vast_literal.specs.Tokens.{Token, Key, key_text, Reserved, BeginKey, IfKey, ElseKey, CaseKey, CasezKey, CasexKey, EndCaseKey, DefaultKey, UniqueKey, AssignKey, Mark, OpenParen, CloseParen, Semicolon, Assign, Colon, Operator, LessEqual}
 use Rattle.vast_literal.specs.Tree.{ExprTree, MaybeExpr, NoExpr, SomeExpr}
-use Rattle.vast_literal.specs.Tree.{AssignForm, Blocking, Nonblocking, Continuous, CaseWord, CaseExact, CaseZ, CaseX, StatementTree, AssignTree, CommentTree, BlankTree, InlineTree, ConditionalTree, CaseTree, Statements, NoStatements, MoreStatements, Alternates, NoElse, ElseIf, Else, CaseArms, NoCaseArms, CaseArm}
+use Rattle.vast_literal.specs.Tree.{StatementTree, AssignTree, CommentTree, BlankTree, InlineTree, ConditionalTree, CaseTree, Statements, NoStatements, MoreStatements, Alternates, NoElse, ElseIf, Else, CaseArms, NoCaseArms, CaseArm}
+use Rattle.vast_literal.specs.declared.kind.AssignmentForm.{AssignmentForm as AssignForm}
+use Rattle.vast_literal.specs.declared.kind.AssignmentForm.TheVariants.{Blocking, Nonblocking, Continuous}
+use Rattle.vast_literal.specs.declared.kind.CaseKind.{CaseKind as CaseWord}
+use Rattle.vast_literal.specs.declared.kind.CaseKind.TheVariants.{Case as CaseExact, CaseZ, CaseX}
 use Rattle.vast_literal.specs.Plain.{is_plain, is_edgeless}
 use Rattle.vast_literal.specs.PlainFile.{is_plain_value, is_plain_maybe, is_left_side, is_plain_assignment, is_plain_statement, are_plain_statements, are_plain_alternates, are_plain_arms}
 use Rattle.vast_literal.specs.WellFormed.{is_well_formed}
 use Rattle.vast_literal.specs.WellFormedFile.{is_well_formed_maybe, is_well_formed_statement, are_well_formed_statements, are_well_formed_alternates, are_well_formed_arms}
 use Rattle.vast_literal.specs.ExprTokens.{expr_tokens}
 use Rattle.vast_literal.specs.NormalTree.{case_key}
-use Rattle.vast_literal.specs.FileTokens.{assignment_tokens, is_single_assignment, ended, block_tokens, unique_tokens, label_tokens, statement_tokens, statements_tokens, alternates_tokens, arms_tokens}
+use Rattle.vast_literal.specs.FileTokens.{assignment_tokens, ended, block_tokens, unique_tokens, label_tokens, statement_tokens, statements_tokens, alternates_tokens, arms_tokens}
 use Rattle.vast_literal.specs.FileTokens as Tokens
 use Rattle.vast_literal.proofs.TokenReads.{Free, Divides, Reads}
 use Rattle.vast_literal.proofs.ScanLaws.{and_left, and_right}
 use Rattle.vast_literal.proofs.Pieces.{free_reads, free_free, reads_end, as_reads, operator_divides, close_paren}
 use Rattle.vast_literal.proofs.Words.{key_reads}
+use Rattle.vast_literal.specs.Shape.{is_bare_arm, is_one_assignment}
 use Rattle.vast_print.specs.Printed.{Printed, plain_text, ◌⊕◌}
 use Rattle.vast_print.specs.Text.{expr_text}
 use Rattle.vast_print.specs.Page.{Page, no_lines, inner, above}
-use Rattle.vast_print.specs.Statements.{assign_text, case_word, unique_word, label_text, is_one_assignment, is_bare_arm, begin_end, statement_page, statements_page, block_page, alternates_page, arms_page}
+use Rattle.vast_print.specs.Statements.{assign_text, case_word, unique_word, label_text, begin_end, statement_page, statements_page, block_page, alternates_page, arms_page}
 use Rattle.vast_print.proofs.FaultLaws.{both_fine}
 use Rattle.vast_print.proofs.ExprReads.{expr_reads}
 use Rattle.vast_print.proofs.Shapes.{closed_left}
@@ -137,7 +142,7 @@ else_if_told c b rest r h g = same_follows (regroup_else_if (expr_tokens c) (sta
 -- the arms without `endcase`
 open_arms : CaseWord → CaseArms → List Token
 open_arms word NoCaseArms = []
-open_arms word (CaseArm l b arms) = (label_tokens l ++ (Mark Colon ∷ cond (Tokens.is_bare_arm word b) (statements_tokens b) (block_tokens (statements_tokens b)))) ++ open_arms word arms
+open_arms word (CaseArm l b arms) = (label_tokens l ++ (Mark Colon ∷ cond (is_bare_arm word b) (statements_tokens b) (block_tokens (statements_tokens b)))) ++ open_arms word arms
 
 regroup_arm : (ls bs more : List Token) → ls ++ (Mark Colon ∷ (bs ++ (more ++ (Reserved EndCaseKey ∷ [])))) ≡ ((ls ++ (Mark Colon ∷ bs)) ++ more) ++ (Reserved EndCaseKey ∷ [])
 regroup_arm ls bs more = simp append_assoc
@@ -145,19 +150,7 @@ regroup_arm ls bs more = simp append_assoc
 arms_ended : (word : CaseWord) (arms : CaseArms) → arms_tokens word arms ≡ open_arms word arms ++ (Reserved EndCaseKey ∷ [])
 unfolding statement_tokens open_arms
 arms_ended word NoCaseArms = refl
-arms_ended word (CaseArm l b arms) = rw (arms_ended word arms) (regroup_arm (label_tokens l) (cond (Tokens.is_bare_arm word b) (statements_tokens b) (block_tokens (statements_tokens b))) (open_arms word arms))
-
-single_same : (b : Statements) → is_one_assignment b ≡ is_single_assignment b
-unfolding is_single_assignment
-single_same (MoreStatements (AssignTree Blocking l r) NoStatements) = refl
-single_same (MoreStatements (AssignTree Nonblocking l r) NoStatements) = refl
-single_same _ = refl
-
-bare_same : (word : CaseWord) (b : Statements) → is_bare_arm word b ≡ Tokens.is_bare_arm word b
-unfolding Tokens.is_bare_arm
-bare_same CaseExact b = refl
-bare_same CaseZ b = single_same b
-bare_same CaseX b = refl
+arms_ended word (CaseArm l b arms) = rw (arms_ended word arms) (regroup_arm (label_tokens l) (cond (is_bare_arm word b) (statements_tokens b) (block_tokens (statements_tokens b))) (open_arms word arms))
 
 case_free : (u : Bool) (word : CaseWord) → Free (unique_word u ++ case_word word) (unique_tokens u ++ (Reserved (case_key word) ∷ Mark OpenParen ∷ []))
 unfolding case_key key_text
@@ -218,8 +211,8 @@ is_bare CaseZ b h = h
 is_bare CaseX b h = absurd (cc h)
 
 arm_body_open : (word : CaseWord) (b : Statements) → are_plain_statements b ≡ true → are_well_formed_statements b ≡ true → (statements_page b).fault ≡ None → Whole (statements_page b) (statements_tokens b) →
-    Open (cond (is_bare_arm word b) (statements_page b) (block_page b)) (cond (Tokens.is_bare_arm word b) (statements_tokens b) (block_tokens (statements_tokens b)))
-arm_body_open word b p w f h = rw (sym (bare_same word b)) (go (is_bare_arm word b) refl)
+    Open (cond (is_bare_arm word b) (statements_page b) (block_page b)) (cond (is_bare_arm word b) (statements_tokens b) (block_tokens (statements_tokens b)))
+arm_body_open word b p w f h = go (is_bare_arm word b) refl
   where
     go : (c : Bool) → is_bare_arm word b ≡ c → Open (cond c (statements_page b) (block_page b)) (cond c (statements_tokens b) (block_tokens (statements_tokens b)))
     go true e = single_open b (is_bare word b e) p w f
@@ -229,7 +222,7 @@ regroup_label : (ls bs : List Token) → (ls ++ (Mark Colon ∷ [])) ++ bs ≡ l
 regroup_label ls bs = simp append_assoc
 
 arm_told : (word : CaseWord) (l : MaybeExpr) (b : Statements) (arms : CaseArms) → Reads (label_text l).text (label_tokens l) →
-    Open (cond (is_bare_arm word b) (statements_page b) (block_page b)) (cond (Tokens.is_bare_arm word b) (statements_tokens b) (block_tokens (statements_tokens b))) → Whole (arms_page word arms) (open_arms word arms) →
+    Open (cond (is_bare_arm word b) (statements_page b) (block_page b)) (cond (is_bare_arm word b) (statements_tokens b) (block_tokens (statements_tokens b))) → Whole (arms_page word arms) (open_arms word arms) →
     Whole (arms_page word (CaseArm l b arms)) (open_arms word (CaseArm l b arms))
 unfolding statement_page open_arms ◌⊕◌ plain_text
 arm_told word l b arms r h g = whole_above (whole (same_open (regroup_label (label_tokens l) _) (open_free (label_text l ⊕ plain_text (codes ": ")) (reads_end r label_colon) h))) g

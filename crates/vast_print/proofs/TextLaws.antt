@@ -1,15 +1,17 @@
 -- Laws of writing expressions, one for each case.
 use Rattle.std.proofs.Common.{◌≡◌, ℕ, ℤ, Bool, true, false, not, List, refl, ◌∙◌, ap, codes, Option}
 use Rattle.std.specs.Prelude.{◌&&◌}
-use Rattle.vast_literal.specs.Tree.{UnaryOp, NegateOp, BitwiseNotOp, LogicalNotOp, AndReduceOp, OrReduceOp, XorReduceOp}
+use Rattle.vast_literal.specs.declared.operator.UnaryOperator.{UnaryOperator as UnaryOp}
+use Rattle.vast_literal.specs.declared.operator.UnaryOperator.TheVariants.{Negate as NegateOp, BitwiseNot as BitwiseNotOp, LogicalNot as LogicalNotOp, AndReduce as AndReduceOp, OrReduce as OrReduceOp, XorReduce as XorReduceOp}
 use Rattle.vast_literal.specs.Tree.{ExprTree, NameTree, LiteralTree, StringTree, UnaryTree, TernaryTree, IndexTree, SliceTree, ConcatTree, PatternTree, WidthCastTree, TypeCastTree, PosEdgeTree, NegEdgeTree, MacroTree, CallTree}
 use Rattle.vast_literal.specs.Tree.{TypeTree, ScalarTree, VectorTree, IntegerTree, IntTree, ExternalTree, PackageTree, MaybeType, MaybeExpr, NoExpr, SomeExpr, Exprs, MaybeExprs, NoArguments, SomeArguments}
+use Rattle.vast_literal.specs.Shape.{is_scalar_name, is_zero, select_wraps, ternary_wraps, unary_wraps}
 use Rattle.vast_print.specs.declared.refusal.Refusal.TheVariants.{ScalarIndex, ScalarSlice}
 use Rattle.vast_print.specs.Printed.{Printed, plain_text, wrapped}
 use Rattle.vast_print.specs.Page.{written}
 use Rattle.vast_print.specs.Draft.{Draft}
 use Rattle.vast_print.specs.Ink.{Ink, Wet, Stopped, word, pour}
-use Rattle.vast_print.specs.Levels.{unary_sign_text, is_scalar_name, is_zero, unary_wraps, ternary_wraps, select_wraps}
+use Rattle.vast_print.specs.Levels.{unary_sign_text}
 use Rattle.vast_print.specs.Bare.{is_bare, is_bare_head}
 use Rattle.vast_print.specs.Text.{elided, cast_to, width_cast, package_text, expr_text, arguments_text, replicated, list_text, type_cast}
 use Rattle.vast_print.specs.Words.{cast_sign_word, scalar_cast_opening, scalar_cast_closing, number_cast_opening, number_cast_closing}

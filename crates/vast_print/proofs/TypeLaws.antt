@@ -3,11 +3,14 @@ use Rattle.std.proofs.Common.{◌≡◌, ◌<◌, ◌≤◌, ℕ, zero, suc, ◌
 use Rattle.std.specs.Prelude.{◌-ℤ◌}
 use Rattle.std.specs.Fmt.{signed_decimal}
 use Rattle.std.proofs.lemmas.List.{drop_all}
-use Rattle.vast_literal.specs.Tree.{Dialect, VerilogDialect, SystemVerilogDialect, ExprTree, TypeTree, ScalarTree, VectorTree, IntegerTree, IntTree, ExternalTree, PackageTree, PackedTree, UnpackedTree}
+use Rattle.vast_literal.specs.Tree.{ExprTree, TypeTree, ScalarTree, VectorTree, IntegerTree, IntTree, ExternalTree, PackageTree, PackedTree, UnpackedTree}
+use Rattle.vast_literal.specs.declared.kind.VastFileType.{VastFileType as Dialect}
+use Rattle.vast_literal.specs.declared.kind.VastFileType.TheVariants.{Verilog as VerilogDialect, SystemVerilog as SystemVerilogDialect}
+use Rattle.vast_literal.specs.Shape.{base_of}
 use Rattle.vast_print.specs.Printed.{plain_text}
 use Rattle.vast_print.specs.Page.{written}
 use Rattle.vast_print.specs.Ink.{Ink, word, pour}
-use Rattle.vast_print.specs.Declaration.{base_of, packed_range, packed_ranges, packed_text, unpacked_range, unpacked_ranges, unpacked_text}
+use Rattle.vast_print.specs.Declaration.{packed_range, packed_ranges, packed_text, unpacked_range, unpacked_ranges, unpacked_text}
 use Rattle.vast_print.proofs.InkLaws.{pour-then, pour-empty, pour-word}
 use Rattle.vast_print.proofs.Lines.{unbroken}
 use Rattle.vast_print.proofs.NumberLaws.{pour-number}
@@ -16,7 +19,6 @@ use Rattle.vast_print.proofs.DeclarationLaws.{plain-append}
 -- a type that is no array is its own base and has no dimensions
 
 pub base-scalar : (signed : Bool) → base_of (ScalarTree signed) ≡ ScalarTree signed
-unfolding base_of
 base-scalar signed = refl
 
 pub packed-scalar : (signed : Bool) → packed_text (ScalarTree signed) ≡ []
@@ -28,7 +30,6 @@ unfolding unpacked_text
 unpacked-scalar dialect signed = refl
 
 pub base-vector : (w : ExprTree) (v : Option ℤ) (signed : Bool) → base_of (VectorTree w v signed) ≡ VectorTree w v signed
-unfolding base_of
 base-vector w v signed = refl
 
 pub packed-vector : (w : ExprTree) (v : Option ℤ) (signed : Bool) → packed_text (VectorTree w v signed) ≡ []
@@ -40,7 +41,6 @@ unfolding unpacked_text
 unpacked-vector dialect w v signed = refl
 
 pub base-integer : (signed : Bool) → base_of (IntegerTree signed) ≡ IntegerTree signed
-unfolding base_of
 base-integer signed = refl
 
 pub packed-integer : (signed : Bool) → packed_text (IntegerTree signed) ≡ []
@@ -52,7 +52,6 @@ unfolding unpacked_text
 unpacked-integer dialect signed = refl
 
 pub base-int : (signed : Bool) → base_of (IntTree signed) ≡ IntTree signed
-unfolding base_of
 base-int signed = refl
 
 pub packed-int : (signed : Bool) → packed_text (IntTree signed) ≡ []
@@ -64,7 +63,6 @@ unfolding unpacked_text
 unpacked-int dialect signed = refl
 
 pub base-external : (name : List ℕ) → base_of (ExternalTree name) ≡ ExternalTree name
-unfolding base_of
 base-external name = refl
 
 pub packed-external : (name : List ℕ) → packed_text (ExternalTree name) ≡ []
@@ -76,7 +74,6 @@ unfolding unpacked_text
 unpacked-external dialect name = refl
 
 pub base-package : (scope name : List ℕ) → base_of (PackageTree scope name) ≡ PackageTree scope name
-unfolding base_of
 base-package scope name = refl
 
 pub packed-package : (scope name : List ℕ) → packed_text (PackageTree scope name) ≡ []
@@ -90,11 +87,9 @@ unpacked-package dialect scope name = refl
 -- arrays
 
 pub base-packed : (t : TypeTree) (ds : List ℤ) → base_of (PackedTree t ds) ≡ base_of t
-unfolding base_of
 base-packed t ds = refl
 
 pub base-unpacked : (t : TypeTree) (ds : List ℤ) → base_of (UnpackedTree t ds) ≡ base_of t
-unfolding base_of
 base-unpacked t ds = refl
 
 pub packed-packed : (t : TypeTree) (ds : List ℤ) → packed_text (PackedTree t ds) ≡ packed_ranges ds ++ packed_text t

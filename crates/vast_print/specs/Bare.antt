@@ -3,7 +3,7 @@ use Rattle.std.specs.Prelude.{ℕ, Bool, false, ◌&&◌, ◌||◌, ◌==◌, Li
 use Rattle.std.specs.Char.{is_ascii_digit, is_ascii_alphabetic, is_ascii_alphanumeric}
 use Rattle.std.specs.List.{list_all}
 use Rattle.vast_literal.specs.Tree.{ExprTree, NameTree, LiteralTree, StringTree, IndexTree, SliceTree}
-use Rattle.vast_print.specs.Levels.{is_scalar_name}
+use Rattle.vast_literal.specs.Shape.{is_scalar_name}
 
 -- one or more digits
 abbrev pub is_number : List ℕ → Bool

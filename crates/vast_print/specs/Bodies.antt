@@ -1,6 +1,7 @@
 -- Blocks that stand without begin and end, by the statements that they hold.
 use Rattle.std.specs.Prelude.{List, [], ◌∷◌, Option, Some, None}
-use Rattle.vast_literal.specs.Tree.{CaseWord, CaseExact, CaseZ, CaseX}
+use Rattle.vast_literal.specs.declared.kind.CaseKind.{CaseKind as CaseWord}
+use Rattle.vast_literal.specs.declared.kind.CaseKind.TheVariants.{Case as CaseExact, CaseZ, CaseX}
 use Rattle.vast_core.specs.declared.handle.VastStatement.{VastStatement}
 use Rattle.vast_core.specs.Nests.{StatementEntry, AssignStatement, ContinuousStatement, ConditionalStatement, CasesStatement, BlankStatement, CommentStatement, InlineStatement}
 

@@ -1,33 +1,16 @@
 -- The text of a declaration: kind word, type, name with its dimensions.
 use Rattle.std.specs.Prelude.{ℕ, ℤ, pos, ◌-ℤ◌, Bool, true, false, List, [], ◌∷◌, ◌++◌, Option, Some, None, codes, cond}
 use Rattle.std.specs.Fmt.{signed_decimal}
-use Rattle.vast_literal.specs.Tree.{Dialect, VerilogDialect, SystemVerilogDialect, ExprTree}
+use Rattle.vast_literal.specs.Tree.{ExprTree}
+use Rattle.vast_literal.specs.declared.kind.VastFileType.{VastFileType as Dialect}
+use Rattle.vast_literal.specs.declared.kind.VastFileType.TheVariants.{Verilog as VerilogDialect, SystemVerilog as SystemVerilogDialect}
 use Rattle.vast_literal.specs.Tree.{TypeTree, ScalarTree, VectorTree, IntegerTree, IntTree, ExternalTree, PackageTree, PackedTree, UnpackedTree, MissingType}
-use Rattle.vast_literal.specs.Tree.{Kind, RegKind, WireKind, LogicKind, IntegerKind, IntKind, UserKind, UntypedEnumKind, GenvarKind, Declaration}
+use Rattle.vast_literal.specs.Tree.{Declaration}
+use Rattle.vast_literal.specs.declared.kind.DataKind.{DataKind as Kind}
+use Rattle.vast_literal.specs.declared.kind.DataKind.TheVariants.{Reg as RegKind, Wire as WireKind, Logic as LogicKind, Integer as IntegerKind, Int as IntKind, User as UserKind, UntypedEnum as UntypedEnumKind, Genvar as GenvarKind}
+use Rattle.vast_literal.specs.Shape.{limit_wraps, base_of, port_kind}
 use Rattle.vast_print.specs.Printed.{Printed, plain_text, ◌⊕◌, wrapped, spaced}
-use Rattle.vast_print.specs.Levels.{limit_wraps}
 use Rattle.vast_print.specs.Text.{expr_text, package_text}
-
--- what an array is made of
-unfoldable pub base_of : TypeTree → TypeTree
-base_of (PackedTree t ds) = base_of t
-base_of (UnpackedTree t ds) = base_of t
-base_of (ScalarTree signed) = ScalarTree signed
-base_of (VectorTree w v signed) = VectorTree w v signed
-base_of (IntegerTree signed) = IntegerTree signed
-base_of (IntTree signed) = IntTree signed
-base_of (ExternalTree name) = ExternalTree name
-base_of (PackageTree scope name) = PackageTree scope name
-base_of MissingType = MissingType
-
-abbrev pub is_external_base : TypeTree → Bool
-is_external_base (ExternalTree name) = true
-is_external_base (PackageTree scope name) = true
-is_external_base _ = false
-
--- whether the type is external, through arrays
-unfoldable pub is_external : TypeTree → Bool
-is_external t = is_external_base (base_of t)
 
 -- `[d-1:0]` with the number computed
 abbrev pub packed_range : ℤ → List ℕ
@@ -111,27 +94,5 @@ declaration_text dialect kind t name = spaced (plain_text (kind_word kind)) ⊕ 
 abbrev pub declared_text : Dialect → Declaration → Printed
 declared_text dialect d = declaration_text dialect d.kind d.type d.name
 
--- a port's kind, and a function input's, is not written before an external type
-abbrev pub port_kind : Kind → TypeTree → Kind
-port_kind kind t = cond (is_external t) UserKind kind
-
 abbrev pub port_declaration_text : Dialect → Declaration → Printed
 port_declaration_text dialect d = declaration_text dialect (port_kind d.kind d.type) d.type d.name
-
--- the kind that a typed parameter port's type brings
-abbrev pub base_kind : TypeTree → Kind
-base_kind (ScalarTree signed) = LogicKind
-base_kind (VectorTree w v signed) = LogicKind
-base_kind (IntegerTree signed) = IntegerKind
-base_kind (IntTree signed) = IntKind
-base_kind _ = UserKind
-
--- the kind of a function's result: an integer's or int's own, logic where the dialect has it and the type isn't external
-abbrev pub dialect_kind : Dialect → Kind
-dialect_kind VerilogDialect = UserKind
-dialect_kind SystemVerilogDialect = LogicKind
-
-abbrev pub result_kind : Dialect → TypeTree → Kind
-result_kind dialect (IntegerTree signed) = IntegerKind
-result_kind dialect (IntTree signed) = IntKind
-result_kind dialect t = cond (is_external t) UserKind (dialect_kind dialect)

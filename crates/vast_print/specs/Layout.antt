@@ -1,10 +1,14 @@
 -- The page of a file.
 use Rattle.std.specs.Prelude.{ℕ, List, [], ◌∷◌, codes, map}
-use Rattle.vast_literal.specs.Tree.{Dialect, MaybeType, Untyped, Typed, Members, NoMembers, MoreMembers}
-use Rattle.vast_literal.specs.Tree.{PortDirection, InputDirection, OutputDirection, InOutDirection, PortTree, ParameterPortTree, ModuleTree, FileItemTree, ModuleItem, IncludeItem, CommentItem, BlankItem, FileTree}
+use Rattle.vast_literal.specs.Tree.{MaybeType, Untyped, Typed, Members, NoMembers, MoreMembers}
+use Rattle.vast_literal.specs.declared.kind.VastFileType.{VastFileType as Dialect}
+use Rattle.vast_literal.specs.Tree.{PortTree, ParameterPortTree, ModuleTree, FileItemTree, ModuleItem, IncludeItem, CommentItem, BlankItem, FileTree}
+use Rattle.vast_literal.specs.declared.kind.ModulePortDirection.{ModulePortDirection as PortDirection}
+use Rattle.vast_literal.specs.declared.kind.ModulePortDirection.TheVariants.{Input as InputDirection, Output as OutputDirection, InOut as InOutDirection}
+use Rattle.vast_literal.specs.Shape.{base_kind, base_of}
 use Rattle.vast_print.specs.Printed.{Printed, plain_text, ◌⊕◌}
 use Rattle.vast_print.specs.Text.{expr_text}
-use Rattle.vast_print.specs.Declaration.{declaration_text, port_declaration_text, base_of, base_kind}
+use Rattle.vast_print.specs.Declaration.{declaration_text, port_declaration_text}
 use Rattle.vast_print.specs.Page.{Page, no_lines, line, inner, above, written, commented}
 use Rattle.vast_print.specs.Members.{entries_page, members_page}
 

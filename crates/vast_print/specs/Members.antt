@@ -1,13 +1,19 @@
 -- The pages of the members of modules and loops.
 use Rattle.std.specs.Prelude.{ℕ, Bool, true, false, List, [], ◌∷◌, Option, Some, None, codes, cond, map}
-use Rattle.vast_literal.specs.Tree.{Dialect, ExprTree, MaybeExpr, NoExpr, SomeExpr, Exprs, NoExprs, MoreExprs, TypeTree, Declaration, LtOp}
-use Rattle.vast_literal.specs.Tree.{Continuous, CaseZ, StatementTree, ConditionalTree, CaseTree, Statements, NoStatements, MoreStatements}
-use Rattle.vast_literal.specs.Tree.{AlwaysWord, AlwaysFFWord, AlwaysAtWord, AlwaysCombWord, ParameterName, PlainParameter, IntParameter, DefinedParameter, Connection, InstanceTree, FunctionTree}
+use Rattle.vast_literal.specs.Tree.{ExprTree, MaybeExpr, NoExpr, SomeExpr, Exprs, NoExprs, MoreExprs, TypeTree, Declaration}
+use Rattle.vast_literal.specs.declared.kind.VastFileType.{VastFileType as Dialect}
+use Rattle.vast_literal.specs.declared.operator.BinaryOperator.TheVariants.{Lt as LtOp}
+use Rattle.vast_literal.specs.Tree.{StatementTree, ConditionalTree, CaseTree, Statements, NoStatements, MoreStatements}
+use Rattle.vast_literal.specs.declared.kind.AssignmentForm.TheVariants.{Continuous}
+use Rattle.vast_literal.specs.declared.kind.CaseKind.TheVariants.{CaseZ}
+use Rattle.vast_literal.specs.Tree.{ParameterName, PlainParameter, IntParameter, DefinedParameter, Connection, InstanceTree, FunctionTree}
+use Rattle.vast_literal.specs.declared.kind.AlwaysKind.{AlwaysKind as AlwaysWord}
+use Rattle.vast_literal.specs.declared.kind.AlwaysKind.TheVariants.{AlwaysFF as AlwaysFFWord, AlwaysAt as AlwaysAtWord, AlwaysComb as AlwaysCombWord}
 use Rattle.vast_literal.specs.Tree.{MemberTree, DeclarationMember, AssignMember, ParameterMember, CommentMember, BlankMember, InlineMember, MacroMember, InstanceMember, AlwaysMember, ConditionalMember, FunctionMember, LoopMember, Members, NoMembers, MoreMembers}
+use Rattle.vast_literal.specs.Shape.{result_kind, right_child_wraps, is_one_casez}
 use Rattle.vast_print.specs.Printed.{Printed, plain_text, ◌⊕◌, wrapped}
-use Rattle.vast_print.specs.Levels.{right_child_wraps}
 use Rattle.vast_print.specs.Text.{expr_text}
-use Rattle.vast_print.specs.Declaration.{declaration_text, declared_text, port_declaration_text, result_kind}
+use Rattle.vast_print.specs.Declaration.{declaration_text, declared_text, port_declaration_text}
 use Rattle.vast_print.specs.Page.{Page, no_lines, line, inner, lead, above, beside, written, commented}
 use Rattle.vast_print.specs.Statements.{assign_text, statement_page, statements_page, block_page}
 
@@ -86,14 +92,6 @@ local_page dialect d = written (declared_text dialect d ⊕ plain_text (codes ";
 unfoldable pub locals_page : Dialect → List Declaration → Page
 locals_page dialect [] = no_lines
 locals_page dialect (d ∷ ds) = above (local_page dialect d) (locals_page dialect ds)
-
-abbrev pub is_casez : StatementTree → Bool
-is_casez (CaseTree unique CaseZ e arms) = true
-is_casez _ = false
-
-abbrev pub is_one_casez : Statements → Bool
-is_one_casez (MoreStatements s NoStatements) = is_casez s
-is_one_casez _ = false
 
 -- a body that is one casez stands without begin and end
 unfoldable pub function_body_page : Statements → Page

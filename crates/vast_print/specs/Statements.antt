@@ -1,8 +1,12 @@
 -- The pages of statements.
 use Rattle.std.specs.Prelude.{ℕ, Bool, true, false, List, [], codes, cond}
 use Rattle.vast_literal.specs.Tree.{MaybeExpr, NoExpr, SomeExpr}
-use Rattle.vast_literal.specs.Tree.{AssignForm, Blocking, Nonblocking, Continuous, CaseWord, CaseExact, CaseZ, CaseX}
+use Rattle.vast_literal.specs.declared.kind.AssignmentForm.{AssignmentForm as AssignForm}
+use Rattle.vast_literal.specs.declared.kind.AssignmentForm.TheVariants.{Blocking, Nonblocking, Continuous}
+use Rattle.vast_literal.specs.declared.kind.CaseKind.{CaseKind as CaseWord}
+use Rattle.vast_literal.specs.declared.kind.CaseKind.TheVariants.{Case as CaseExact, CaseZ, CaseX}
 use Rattle.vast_literal.specs.Tree.{StatementTree, AssignTree, CommentTree, BlankTree, InlineTree, ConditionalTree, CaseTree, Statements, NoStatements, MoreStatements, Alternates, NoElse, ElseIf, Else, CaseArms, NoCaseArms, CaseArm}
+use Rattle.vast_literal.specs.Shape.{is_bare_arm}
 use Rattle.vast_print.specs.Printed.{Printed, plain_text, ◌⊕◌}
 use Rattle.vast_print.specs.Text.{expr_text}
 use Rattle.vast_print.specs.Page.{Page, no_lines, line, inner, above, beside, written, commented}
@@ -32,18 +36,6 @@ unique_word false = []
 abbrev pub label_text : MaybeExpr → Printed
 label_text NoExpr = plain_text (codes "default")
 label_text (SomeExpr e) = expr_text e
-
--- one assignment of a procedural block
-abbrev pub is_one_assignment : Statements → Bool
-is_one_assignment (MoreStatements (AssignTree Blocking l r) NoStatements) = true
-is_one_assignment (MoreStatements (AssignTree Nonblocking l r) NoStatements) = true
-is_one_assignment _ = false
-
--- an arm of a casez that is one assignment stands without begin and end
-abbrev pub is_bare_arm : CaseWord → Statements → Bool
-is_bare_arm CaseExact b = false
-is_bare_arm CaseZ b = is_one_assignment b
-is_bare_arm CaseX b = false
 
 -- `begin` and `end` round the lines, which stand deeper
 unfoldable pub begin_end : Page → Page

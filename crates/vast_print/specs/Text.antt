@@ -4,11 +4,12 @@ use Rattle.std.specs.Fmt.{signed_decimal}
 use Rattle.vast_literal.specs.Tree.{ExprTree, NameTree, LiteralTree, StringTree, UnaryTree, BinaryTree, TernaryTree, IndexTree, SliceTree, PartSelectTree, ConcatTree, PatternTree, WidthCastTree, TypeCastTree, PosEdgeTree, NegEdgeTree, MacroTree, CallTree, MissingExpr}
 use Rattle.vast_literal.specs.Tree.{TypeTree, ScalarTree, VectorTree, IntegerTree, IntTree, ExternalTree, PackageTree, PackedTree, UnpackedTree, MissingType}
 use Rattle.vast_literal.specs.Tree.{MaybeExpr, NoExpr, SomeExpr, Exprs, NoExprs, MoreExprs, MaybeExprs, NoArguments, SomeArguments}
+use Rattle.vast_literal.specs.Shape.{is_scalar_name, is_zero, left_child_wraps, right_child_wraps, select_wraps, ternary_wraps, unary_wraps}
 use Rattle.vast_print.specs.declared.refusal.Refusal.{Refusal}
 use Rattle.vast_print.specs.declared.refusal.Refusal.TheVariants.{ScalarIndex, ScalarSlice}
 use Rattle.vast_print.specs.Printed.{Printed, plain_text, refused, ◌⊕◌, wrapped}
 use Rattle.vast_print.specs.Bare.{is_bare}
-use Rattle.vast_print.specs.Levels.{unary_sign_text, binary_sign_text, is_scalar_name, is_zero, unary_wraps, left_child_wraps, right_child_wraps, ternary_wraps, select_wraps}
+use Rattle.vast_print.specs.Levels.{unary_sign_text, binary_sign_text}
 
 -- a select of a scalar is its name alone, and refused where a bound isn't zero
 unfoldable pub elided : Bool → Refusal → Printed → Printed

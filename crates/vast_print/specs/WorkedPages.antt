@@ -1,9 +1,16 @@
 -- Worked declarations, members and files, proved in the law `worked_texts`.
 use Rattle.std.specs.Prelude.{◌≡◌, ℕ, pos, Bool, true, false, List, [], ◌∷◌, Some, None, codes}
-use Rattle.vast_literal.specs.Tree.{VerilogDialect, SystemVerilogDialect, LogicalOrOp, LiteralTree, BinaryTree}
-use Rattle.vast_literal.specs.Tree.{TypeTree, ScalarTree, VectorTree, PackedTree, UnpackedTree, WireKind, RegKind}
-use Rattle.vast_literal.specs.Tree.{Blocking, CaseZ, AssignTree, CommentTree, ConditionalTree, CaseTree, Statements, NoStatements, MoreStatements, ElseIf, Else, NoCaseArms, CaseArm, NoExpr, SomeExpr}
-use Rattle.vast_literal.specs.Tree.{DeclarationMember, BlankMember, InstanceMember, AlwaysMember, FunctionMember, LoopMember, AlwaysCombWord, NoExprs, Members, NoMembers, MoreMembers, InputDirection, PortTree, ModuleItem, IncludeItem, BlankItem, CommentItem, FileTree}
+use Rattle.vast_literal.specs.Tree.{LiteralTree, BinaryTree}
+use Rattle.vast_literal.specs.declared.kind.VastFileType.TheVariants.{Verilog as VerilogDialect, SystemVerilog as SystemVerilogDialect}
+use Rattle.vast_literal.specs.declared.operator.BinaryOperator.TheVariants.{LogicalOr as LogicalOrOp}
+use Rattle.vast_literal.specs.Tree.{TypeTree, ScalarTree, VectorTree, PackedTree, UnpackedTree}
+use Rattle.vast_literal.specs.declared.kind.DataKind.TheVariants.{Wire as WireKind, Reg as RegKind}
+use Rattle.vast_literal.specs.Tree.{AssignTree, CommentTree, ConditionalTree, CaseTree, Statements, NoStatements, MoreStatements, ElseIf, Else, NoCaseArms, CaseArm, NoExpr, SomeExpr}
+use Rattle.vast_literal.specs.declared.kind.AssignmentForm.TheVariants.{Blocking}
+use Rattle.vast_literal.specs.declared.kind.CaseKind.TheVariants.{CaseZ}
+use Rattle.vast_literal.specs.Tree.{DeclarationMember, BlankMember, InstanceMember, AlwaysMember, FunctionMember, LoopMember, NoExprs, Members, NoMembers, MoreMembers, PortTree, ModuleItem, IncludeItem, BlankItem, CommentItem, FileTree}
+use Rattle.vast_literal.specs.declared.kind.AlwaysKind.TheVariants.{AlwaysComb as AlwaysCombWord}
+use Rattle.vast_literal.specs.declared.kind.ModulePortDirection.TheVariants.{Input as InputDirection}
 use Rattle.vast_literal.specs.WorkedTexts.{passthrough_file}
 use Rattle.vast_print.specs.Printed.{plain_text}
 use Rattle.vast_print.specs.Declaration.{declaration_text}

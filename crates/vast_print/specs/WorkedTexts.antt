@@ -1,6 +1,8 @@
 -- Worked texts of expressions, proved in the law `worked_texts`.
 use Rattle.std.specs.Prelude.{◌≡◌, ℕ, ℤ, pos, negsuc, false, List, [], Some, None, codes}
-use Rattle.vast_literal.specs.Tree.{NegateOp, AndReduceOp, OrReduceOp, SubOp, PowerOp, LogicalOrOp, ExprTree, NameTree, LiteralTree, UnaryTree, BinaryTree, TernaryTree, IndexTree, SliceTree, PartSelectTree, WidthCastTree, TypeCastTree}
+use Rattle.vast_literal.specs.Tree.{ExprTree, NameTree, LiteralTree, UnaryTree, BinaryTree, TernaryTree, IndexTree, SliceTree, PartSelectTree, WidthCastTree, TypeCastTree}
+use Rattle.vast_literal.specs.declared.operator.UnaryOperator.TheVariants.{Negate as NegateOp, AndReduce as AndReduceOp, OrReduce as OrReduceOp}
+use Rattle.vast_literal.specs.declared.operator.BinaryOperator.TheVariants.{Sub as SubOp, Power as PowerOp, LogicalOr as LogicalOrOp}
 use Rattle.vast_literal.specs.Tree.{ScalarTree, VectorTree, Typed, Untyped}
 use Rattle.vast_print.specs.declared.refusal.Refusal.TheVariants.{ScalarIndex, ScalarSlice}
 use Rattle.vast_print.specs.Printed.{plain_text}

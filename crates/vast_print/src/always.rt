@@ -1,7 +1,6 @@
 //! Always blocks.
 
 ghost use Rattle.std.specs.Prelude.{◌≡◌, All, slice_get};
-ghost use Rattle.vast_core.specs.Kinds.{dialect_of, always_word};
 ghost use Rattle.vast_core.specs.Bench.{OwnsAlways, trees_of};
 ghost use Rattle.vast_core.specs.Handles.{always_index};
 ghost use Rattle.vast_core.specs.Sound.{EventSound};
@@ -45,7 +44,7 @@ fn print_opening(
     out: &mut Writer,
 ) -> Result<(), PrintFault>
     requires { All (EventSound (bench ast.now)) node.now.events.items }
-    ensures { Writes (pour depth (Wet out.old) (written (always_text (always_word node.now.kind) (trees_of (bench ast.now) node.now.events.items)))) out.new result }
+    ensures { Writes (pour depth (Wet out.old) (written (always_text node.now.kind (trees_of (bench ast.now) node.now.events.items)))) out.new result }
 {
     match node.kind {
         AlwaysKind::AlwaysFF => {
@@ -73,7 +72,7 @@ pub(crate) fn print_always(
 ) -> Result<(), PrintFault>
     requires owned { OwnsAlways (bench ast.now) a }
     requires room { AlwaysFits depth (slice_get (bench ast.now).always_blocks (always_index a)) }
-    ensures { Writes (hang depth (Wet out.old) (member_page (dialect_of (bench ast.now).file_type) (always_in (bench ast.now) (families (bench ast.now)) (slice_get (bench ast.now).always_blocks (always_index a))))) out.new result }
+    ensures { Writes (hang depth (Wet out.old) (member_page (bench ast.now).file_type (always_in (bench ast.now) (families (bench ast.now)) (slice_get (bench ast.now).always_blocks (always_index a))))) out.new result }
 {
     let node = ast.always_block(a);
     out.next(depth)?;

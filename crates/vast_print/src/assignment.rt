@@ -1,7 +1,8 @@
 //! Assignments.
 
 ghost use Rattle.std.specs.Prelude.{◌≡◌, codes, slice_get};
-ghost use Rattle.vast_literal.specs.Tree.{AssignTree, Continuous};
+ghost use Rattle.vast_literal.specs.Tree.{AssignTree};
+ghost use Rattle.vast_literal.specs.declared.kind.AssignmentForm.TheVariants.{Continuous};
 ghost use Rattle.vast_core.specs.Bench.{OwnsExpr, OwnsStatement, tree_of};
 ghost use Rattle.vast_core.specs.Handles.{statement_index};
 ghost use Rattle.vast_core.specs.FileTree.{assigned_tree};

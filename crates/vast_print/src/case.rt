@@ -1,10 +1,8 @@
 //! Case statements.
 
-ghost use Rattle.std.specs.Prelude.{◌≡◌, codes, map};
-ghost use Rattle.vast_core.specs.Nodes.{OptionHolds};
+ghost use Rattle.std.specs.Prelude.{◌≡◌, codes, map, IfSome};
 ghost use Rattle.vast_core.specs.Bench.{OwnsExpr, OwnsBlock, OwnsCase, tree_of, maybe_tree_of};
 ghost use Rattle.vast_core.specs.Handles.{block_index, case_index};
-ghost use Rattle.vast_core.specs.Kinds.{case_word as case_kind};
 ghost use Rattle.vast_core.specs.Nests.{statement_entry};
 ghost use Rattle.vast_core.specs.FileTree.{families, switch_statement, block_tree};
 ghost use Rattle.vast_core.specs.View.{bench};
@@ -57,10 +55,10 @@ fn print_arm(
     depth: usize,
     out: &mut Writer,
 ) -> Result<(), PrintFault>
-    requires label { OptionHolds (OwnsExpr (bench ast.now)) arm.label }
+    requires label { IfSome arm.label (OwnsExpr (bench ast.now)) }
     requires block { OwnsBlock (bench ast.now) arm.block }
     requires room { HasRoom depth (block_index arm.block) }
-    ensures { Writes (hang depth (Wet out.old) (arm_page (case_kind kind) (maybe_tree_of (bench ast.now) arm.label) (block_tree (bench ast.now) arm.block))) out.new result }
+    ensures { Writes (hang depth (Wet out.old) (arm_page kind (maybe_tree_of (bench ast.now) arm.label) (block_tree (bench ast.now) arm.block))) out.new result }
 {
     print_label(ast, arm.label, depth, out)?;
     match bare_assignment(kind, ast.block(arm.block)) {
@@ -78,7 +76,7 @@ fn print_selector(
     out: &mut Writer,
 ) -> Result<(), PrintFault>
     requires { OwnsExpr (bench ast.now) node.now.selector }
-    ensures { Writes (word (pour depth (word (word (next depth (Wet out.old)) (unique_word node.now.unique)) (case_word (case_kind node.now.kind))) (written (expr_text (tree_of (bench ast.now) node.now.selector)))) (codes ")")) out.new result }
+    ensures { Writes (word (pour depth (word (word (next depth (Wet out.old)) (unique_word node.now.unique)) (case_word node.now.kind)) (written (expr_text (tree_of (bench ast.now) node.now.selector)))) (codes ")")) out.new result }
 {
     out.next(depth)?;
     out.word(words::unique(node.unique))?;
@@ -96,7 +94,7 @@ fn print_label(
     depth: usize,
     out: &mut Writer,
 ) -> Result<(), PrintFault>
-    requires { OptionHolds (OwnsExpr (bench ast.now)) label }
+    requires { IfSome label (OwnsExpr (bench ast.now)) }
     ensures { Writes (pour depth (next depth (Wet out.old)) (written (label_text (maybe_tree_of (bench ast.now) label) ⊕ plain_text (codes ": ")))) out.new result }
 {
     out.next(depth)?;
@@ -112,7 +110,7 @@ fn print_label(
 
 /// The assignment that stands without begin and end in an arm that holds these statements.
 fn bare_assignment(kind: CaseKind, statements: &[Statement]) -> Option<VastStatement>
-    ensures { result ≡ bare_assignment (case_kind kind) (map statement_entry statements.now) }
+    ensures { result ≡ bare_assignment kind (map statement_entry statements.now) }
 {
     if statements.len() != 1 {
         return None;

@@ -1,7 +1,7 @@
 //! Declarations: kind word, type, name.
 
 ghost use Rattle.std.specs.Prelude.{◌≡◌};
-ghost use Rattle.vast_core.specs.Kinds.{dialect_of, kind_of, direction_of};
+ghost use Rattle.vast_literal.specs.Shape.{port_kind};
 ghost use Rattle.vast_core.specs.Bench.{OwnsType, type_of};
 ghost use Rattle.vast_core.specs.FileTree.{declared_port};
 ghost use Rattle.vast_core.specs.Records.{port_record};
@@ -9,7 +9,7 @@ ghost use Rattle.vast_core.specs.View.{bench};
 ghost use Rattle.vast_print.specs.Words.{kind_opening};
 ghost use Rattle.vast_print.specs.Ink.{Writes, Wet, pour};
 ghost use Rattle.vast_print.specs.Page.{written};
-ghost use Rattle.vast_print.specs.Declaration.{declaration_text, port_kind};
+ghost use Rattle.vast_print.specs.Declaration.{declaration_text};
 ghost use Rattle.vast_print.specs.Layout.{port_text, direction_word};
 
 use crate::refusal::PrintFault;
@@ -18,7 +18,7 @@ use crate::writer::Writer;
 use vast_core::{Ast, DataKind, ModulePortDirection, Port, VastDataType};
 
 fn kind_opening(kind: DataKind) -> &'static str
-    ensures { result.now ≡ kind_opening (kind_of kind) }
+    ensures { result.now ≡ kind_opening kind }
 {
     match kind {
         DataKind::Reg => "reg ",
@@ -33,7 +33,7 @@ fn kind_opening(kind: DataKind) -> &'static str
 }
 
 fn direction_word(direction: ModulePortDirection) -> &'static str
-    ensures { result.now ≡ direction_word (direction_of direction) }
+    ensures { result.now ≡ direction_word direction }
 {
     match direction {
         ModulePortDirection::Input => "input ",
@@ -53,7 +53,7 @@ pub(crate) fn print_declaration(
     out: &mut Writer,
 ) -> Result<(), PrintFault>
     requires { OwnsType (bench ast.now) data_type }
-    ensures { Writes (pour depth (Wet out.old) (written (declaration_text (dialect_of (bench ast.now).file_type) (kind_of kind) (type_of (bench ast.now) data_type) name.now))) out.new result }
+    ensures { Writes (pour depth (Wet out.old) (written (declaration_text (bench ast.now).file_type kind (type_of (bench ast.now) data_type) name.now))) out.new result }
 {
     out.word(kind_opening(kind))?;
     print_type(ast, data_type, depth, out)?;
@@ -64,7 +64,7 @@ pub(crate) fn print_declaration(
 /// The kind with which a port is written, and a function's input: none before an external type.
 pub(crate) fn port_kind(ast: &Ast, kind: DataKind, t: VastDataType) -> DataKind
     requires { OwnsType (bench ast.now) t }
-    ensures { kind_of result ≡ port_kind (kind_of kind) (type_of (bench ast.now) t) }
+    ensures { result ≡ port_kind kind (type_of (bench ast.now) t) }
 {
     if is_external(ast, t) {
         DataKind::User
@@ -82,7 +82,7 @@ pub(crate) fn print_port(
     out: &mut Writer,
 ) -> Result<(), PrintFault>
     requires { OwnsType (bench ast.now) port.now.data_type }
-    ensures { Writes (pour depth (Wet out.old) (written (port_text (dialect_of (bench ast.now).file_type) (declared_port (bench ast.now) (port_record port.now))))) out.new result }
+    ensures { Writes (pour depth (Wet out.old) (written (port_text (bench ast.now).file_type (declared_port (bench ast.now) (port_record port.now))))) out.new result }
 {
     let kind = port_kind(ast, port.kind, port.data_type);
     out.word(direction_word(port.direction))?;

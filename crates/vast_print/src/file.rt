@@ -1,7 +1,6 @@
 //! Whole files, and single expressions.
 
 ghost use Rattle.std.specs.Prelude.{◌≡◌, map, IfOk, string_bytes};
-ghost use Rattle.vast_core.specs.Kinds.{dialect_of};
 ghost use Rattle.vast_core.specs.Records.{file_entry};
 ghost use Rattle.vast_core.specs.Bench.{OwnsExpr, tree_of};
 ghost use Rattle.vast_core.specs.Sound.{EntrySound};
@@ -27,7 +26,7 @@ use vast_literal::{VastError, VastFault};
 /// Writes the inclusion of a file.
 #[tactic(auto, using(crate::proofs::ArenaLaws::items))]
 fn print_include(ast: &Ast, path: &str, out: &mut Writer) -> Result<(), PrintFault>
-    ensures { Writes (hang 0 (Wet out.old) (item_page (dialect_of (bench ast.now).file_type) (IncludeItem path.now))) out.new result }
+    ensures { Writes (hang 0 (Wet out.old) (item_page (bench ast.now).file_type (IncludeItem path.now))) out.new result }
 {
     out.next(0)?;
     out.word(words::include())?;
@@ -40,7 +39,7 @@ fn print_include(ast: &Ast, path: &str, out: &mut Writer) -> Result<(), PrintFau
 #[tactic(auto, using(crate::proofs::ArenaLaws::items))]
 fn print_item(ast: &Ast, item: &FileItem, out: &mut Writer) -> Result<(), PrintFault>
     requires { EntrySound (bench ast.now) (file_entry item.now) }
-    ensures { Writes (hang 0 (Wet out.old) (item_page (dialect_of (bench ast.now).file_type) (item_tree (bench ast.now) (file_entry item.now)))) out.new result }
+    ensures { Writes (hang 0 (Wet out.old) (item_page (bench ast.now).file_type (item_tree (bench ast.now) (file_entry item.now)))) out.new result }
 {
     match item {
         FileItem::Module(m) => print_module(ast, *m, out),

@@ -1,7 +1,7 @@
 //! Functions.
 
 ghost use Rattle.std.specs.Prelude.{◌≡◌, ◌<◌, ◌^◌, All, map, slice_get};
-ghost use Rattle.vast_core.specs.Kinds.{dialect_of, kind_of};
+ghost use Rattle.vast_literal.specs.Shape.{dialect_kind, result_kind};
 ghost use Rattle.vast_core.specs.Bench.{OwnsType, OwnsBlock, OwnsFunction, type_of};
 ghost use Rattle.vast_core.specs.Handles.{block_index, function_index};
 ghost use Rattle.vast_core.specs.Nests.{variable_record};
@@ -11,8 +11,8 @@ ghost use Rattle.vast_core.specs.View.{bench};
 ghost use Rattle.vast_print.specs.Fits.{HasRoom};
 ghost use Rattle.vast_print.specs.Ink.{Writes, Wet, hang, pour};
 ghost use Rattle.vast_print.specs.Page.{written};
-ghost use Rattle.vast_print.specs.Declaration.{result_kind, dialect_kind};
-ghost use Rattle.vast_print.specs.Members.{result_text, input_text, inputs_text, local_page, locals_page, is_one_casez, function_body_page, member_page};
+ghost use Rattle.vast_print.specs.Members.{result_text, input_text, inputs_text, local_page, locals_page, function_body_page, member_page};
+ghost use Rattle.vast_literal.specs.Shape.{is_one_casez};
 
 use crate::declaration::{port_kind, print_declaration};
 use crate::refusal::PrintFault;
@@ -25,7 +25,7 @@ use vast_core::{
 };
 
 fn dialect_kind(ast: &Ast) -> DataKind
-    ensures { kind_of result ≡ dialect_kind (dialect_of (bench ast.now).file_type) }
+    ensures { result ≡ dialect_kind (bench ast.now).file_type }
 {
     match ast.file_type() {
         VastFileType::Verilog => DataKind::User,
@@ -36,7 +36,7 @@ fn dialect_kind(ast: &Ast) -> DataKind
 /// The kind with which a function's result is written.
 fn result_kind(ast: &Ast, t: VastDataType) -> DataKind
     requires { OwnsType (bench ast.now) t }
-    ensures { kind_of result ≡ result_kind (dialect_of (bench ast.now).file_type) (type_of (bench ast.now) t) }
+    ensures { result ≡ result_kind (bench ast.now).file_type (type_of (bench ast.now) t) }
 {
     match ast.data_type(t) {
         TypeNode::Integer(_) => DataKind::Integer,
@@ -59,7 +59,7 @@ fn print_input(
     out: &mut Writer,
 ) -> Result<(), PrintFault>
     requires { VariableSound (bench ast.now) (variable_record input.now) }
-    ensures { Writes (pour depth (Wet out.old) (written (input_text (dialect_of (bench ast.now).file_type) (variable_tree (bench ast.now) (variable_record input.now))))) out.new result }
+    ensures { Writes (pour depth (Wet out.old) (written (input_text (bench ast.now).file_type (variable_tree (bench ast.now) (variable_record input.now))))) out.new result }
 {
     let kind = port_kind(ast, input.kind, input.data_type);
     out.word("input ")?;
@@ -74,7 +74,7 @@ fn print_inputs(
     out: &mut Writer,
 ) -> Result<(), PrintFault>
     requires { All (λ v. VariableSound (bench ast.now) (variable_record v)) inputs.now }
-    ensures { Writes (pour depth (Wet out.old) (written (inputs_text (dialect_of (bench ast.now).file_type) (map (variable_tree (bench ast.now)) (map variable_record inputs.now))))) out.new result }
+    ensures { Writes (pour depth (Wet out.old) (written (inputs_text (bench ast.now).file_type (map (variable_tree (bench ast.now)) (map variable_record inputs.now))))) out.new result }
 {
     for (i, input) in inputs.iter().enumerate() {
         out.word(words::comma_before(i))?;
@@ -92,7 +92,7 @@ fn print_local(
     out: &mut Writer,
 ) -> Result<(), PrintFault>
     requires { VariableSound (bench ast.now) (variable_record local.now) }
-    ensures { Writes (hang depth (Wet out.old) (local_page (dialect_of (bench ast.now).file_type) (variable_tree (bench ast.now) (variable_record local.now)))) out.new result }
+    ensures { Writes (hang depth (Wet out.old) (local_page (bench ast.now).file_type (variable_tree (bench ast.now) (variable_record local.now)))) out.new result }
 {
     out.next(depth)?;
     print_declaration(ast, local.kind, local.data_type, &local.name, depth, out)?;
@@ -108,7 +108,7 @@ fn print_locals(
     out: &mut Writer,
 ) -> Result<(), PrintFault>
     requires { All (λ v. VariableSound (bench ast.now) (variable_record v)) locals.now }
-    ensures { Writes (hang depth (Wet out.old) (locals_page (dialect_of (bench ast.now).file_type) (map (variable_tree (bench ast.now)) (map variable_record locals.now)))) out.new result }
+    ensures { Writes (hang depth (Wet out.old) (locals_page (bench ast.now).file_type (map (variable_tree (bench ast.now)) (map variable_record locals.now)))) out.new result }
 {
     for local in locals {
         print_local(ast, local, depth, out)?;
@@ -168,7 +168,7 @@ fn print_result(
     out: &mut Writer,
 ) -> Result<(), PrintFault>
     requires { OwnsType (bench ast.now) t }
-    ensures { Writes (pour depth (Wet out.old) (written (result_text (dialect_of (bench ast.now).file_type) (type_of (bench ast.now) t) name.now))) out.new result }
+    ensures { Writes (pour depth (Wet out.old) (written (result_text (bench ast.now).file_type (type_of (bench ast.now) t) name.now))) out.new result }
 {
     print_declaration(ast, result_kind(ast, t), t, name, depth, out)
 }
@@ -183,7 +183,7 @@ pub(crate) fn print_function(
 ) -> Result<(), PrintFault>
     requires owned { OwnsFunction (bench ast.now) f }
     requires room { depth < 2 ^ 62 }
-    ensures { Writes (hang depth (Wet out.old) (member_page (dialect_of (bench ast.now).file_type) (function_in (bench ast.now) (families (bench ast.now)) (slice_get (bench ast.now).functions (function_index f))))) out.new result }
+    ensures { Writes (hang depth (Wet out.old) (member_page (bench ast.now).file_type (function_in (bench ast.now) (families (bench ast.now)) (slice_get (bench ast.now).functions (function_index f))))) out.new result }
 {
     let function = ast.function(f);
     out.next(depth)?;

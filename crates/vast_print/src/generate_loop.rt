@@ -1,8 +1,7 @@
 //! Generate loops.
 
 ghost use Rattle.std.specs.Prelude.{◌≡◌, codes, string_bytes};
-ghost use Rattle.vast_literal.specs.Tree.{LtOp};
-ghost use Rattle.vast_core.specs.Kinds.{dialect_of};
+ghost use Rattle.vast_literal.specs.declared.operator.BinaryOperator.TheVariants.{Lt as LtOp};
 ghost use Rattle.vast_core.specs.Bench.{OwnsExpr, OwnsLoop, tree_of};
 ghost use Rattle.vast_core.specs.Handles.{loop_index};
 ghost use Rattle.vast_core.specs.Nests.{label_bytes};
@@ -32,7 +31,7 @@ pub(crate) fn print_loop(
 ) -> Result<(), PrintFault>
     requires owned { OwnsLoop (bench ast.now) l }
     requires room { HasRoom depth (loop_index l) }
-    ensures { Writes (hang depth (Wet out.old) (member_page (dialect_of (bench ast.now).file_type) (repeat_member (families (bench ast.now) (loop_index l))))) out.new result }
+    ensures { Writes (hang depth (Wet out.old) (member_page (bench ast.now).file_type (repeat_member (families (bench ast.now) (loop_index l))))) out.new result }
 {
     let node = ast.generate_loop(l);
     out.next(depth)?;

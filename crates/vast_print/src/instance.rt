@@ -2,7 +2,6 @@
 
 ghost use Rattle.std.specs.Prelude.{◌≡◌, ◌<◌, ◌+◌, ◌^◌, All, map};
 ghost use Rattle.vast_literal.specs.Tree.{InstanceMember};
-ghost use Rattle.vast_core.specs.Kinds.{dialect_of};
 ghost use Rattle.vast_core.specs.Records.{connection_record, instance_record};
 ghost use Rattle.vast_core.specs.Bench.{OwnsInstantiation};
 ghost use Rattle.vast_core.specs.Sound.{ConnectionSound};
@@ -119,7 +118,7 @@ pub(crate) fn print_instance(
 ) -> Result<(), PrintFault>
     requires owned { OwnsInstantiation (bench ast.now) i }
     requires room { depth + 1 < 2 ^ 64 }
-    ensures { Writes (hang depth (Wet out.old) (member_page (dialect_of (bench ast.now).file_type) (member_tree (bench ast.now) (InstanceEntry i)))) out.new result }
+    ensures { Writes (hang depth (Wet out.old) (member_page (bench ast.now).file_type (member_tree (bench ast.now) (InstanceEntry i)))) out.new result }
 {
     let instance = ast.instance(i);
     print_head(ast, instance, depth, out)?;

@@ -1,18 +1,18 @@
-//! Signs, levels, and where parentheses stand.
+//! Operators, their precedence, and where parentheses stand.
 
 ghost use Rattle.std.specs.Prelude.{◌≡◌};
+ghost use Rattle.vast_literal.specs.Shape.{binary_precedence, is_negative_literal, is_reduction, is_reduction_sign, is_scalar_name, is_scalar_type, is_width_cast, is_zero, left_child_wraps, limit_wraps, precedence, right_child_wraps, select_wraps, ternary_wraps, unary_wraps};
 ghost use Rattle.vast_core.specs.Bench.{OwnsExpr, OwnsType, tree_of, type_of};
-ghost use Rattle.vast_core.specs.Kinds.{unary_of, binary_of};
 ghost use Rattle.vast_core.specs.View.{bench};
 ghost use Rattle.vast_print.specs.Bare.{is_bare_head};
-ghost use Rattle.vast_print.specs.Levels.{unary_sign_text, binary_sign_text, binary_level, level, is_reduction_sign, is_reduction, is_width_cast, is_negative_literal, is_scalar_type, is_scalar_name, is_zero, unary_wraps, left_child_wraps, right_child_wraps, ternary_wraps, select_wraps, limit_wraps};
+ghost use Rattle.vast_print.specs.Levels.{unary_sign_text, binary_sign_text};
 
 use crate::bare::is_bare;
 use vast_core::{Ast, BinaryOperator, Expr, ExprNode, TypeNode, UnaryOperator, VastDataType};
 
 /// The sign before an operand.
 pub(crate) fn unary_sign(operator: UnaryOperator) -> &'static str
-    ensures { result.now ≡ unary_sign_text (unary_of operator) }
+    ensures { result.now ≡ unary_sign_text operator }
 {
     match operator {
         UnaryOperator::Negate => "-",
@@ -26,7 +26,7 @@ pub(crate) fn unary_sign(operator: UnaryOperator) -> &'static str
 
 /// The sign between two operands, with its spaces.
 pub(crate) fn binary_sign(operator: BinaryOperator) -> &'static str
-    ensures { result.now ≡ binary_sign_text (binary_of operator) }
+    ensures { result.now ≡ binary_sign_text operator }
 {
     match operator {
         BinaryOperator::Add => " + ",
@@ -54,8 +54,8 @@ pub(crate) fn binary_sign(operator: BinaryOperator) -> &'static str
     }
 }
 
-fn binary_level(operator: BinaryOperator) -> u8
-    ensures { result ≡ binary_level (binary_of operator) }
+fn binary_precedence(operator: BinaryOperator) -> u8
+    ensures { result ≡ binary_precedence operator }
 {
     match operator {
         BinaryOperator::LogicalOr => 1,
@@ -73,20 +73,20 @@ fn binary_level(operator: BinaryOperator) -> u8
     }
 }
 
-fn level(ast: &Ast, e: Expr) -> u8
+fn precedence(ast: &Ast, e: Expr) -> u8
     requires { OwnsExpr (bench ast.now) e }
-    ensures { result ≡ level (tree_of (bench ast.now) e) }
+    ensures { result ≡ precedence (tree_of (bench ast.now) e) }
 {
     match ast.expr(e) {
         ExprNode::Ternary(_, _, _) => 0,
-        ExprNode::Binary(operator, _, _) => binary_level(*operator),
+        ExprNode::Binary(operator, _, _) => binary_precedence(*operator),
         ExprNode::Unary(_, _) => 12,
         _ => 13,
     }
 }
 
 fn is_reduction_sign(operator: UnaryOperator) -> bool
-    ensures { result ≡ is_reduction_sign (unary_of operator) }
+    ensures { result ≡ is_reduction_sign operator }
 {
     match operator {
         UnaryOperator::Negate | UnaryOperator::BitwiseNot | UnaryOperator::LogicalNot => false,
@@ -181,23 +181,23 @@ pub(crate) fn unary_wraps(ast: &Ast, e: Expr) -> bool
     requires { OwnsExpr (bench ast.now) e }
     ensures { result ≡ unary_wraps (tree_of (bench ast.now) e) }
 {
-    level(ast, e) <= 12 || is_width_cast(ast, e) || is_negative_literal(ast, e)
+    precedence(ast, e) <= 12 || is_width_cast(ast, e) || is_negative_literal(ast, e)
 }
 
 /// Whether an operand needs parentheses to the left of a binary sign.
 pub(crate) fn left_wraps(ast: &Ast, operator: BinaryOperator, e: Expr) -> bool
     requires { OwnsExpr (bench ast.now) e }
-    ensures { result ≡ left_child_wraps (binary_of operator) (tree_of (bench ast.now) e) }
+    ensures { result ≡ left_child_wraps operator (tree_of (bench ast.now) e) }
 {
-    level(ast, e) < binary_level(operator) || is_reduction(ast, e)
+    precedence(ast, e) < binary_precedence(operator) || is_reduction(ast, e)
 }
 
 /// Whether an operand needs parentheses to the right of a binary sign.
 pub(crate) fn right_wraps(ast: &Ast, operator: BinaryOperator, e: Expr) -> bool
     requires { OwnsExpr (bench ast.now) e }
-    ensures { result ≡ right_child_wraps (binary_of operator) (tree_of (bench ast.now) e) }
+    ensures { result ≡ right_child_wraps operator (tree_of (bench ast.now) e) }
 {
-    level(ast, e) <= binary_level(operator) || is_reduction(ast, e)
+    precedence(ast, e) <= binary_precedence(operator) || is_reduction(ast, e)
 }
 
 /// Whether an operand of a ternary needs parentheses.
@@ -205,7 +205,7 @@ pub(crate) fn ternary_wraps(ast: &Ast, e: Expr) -> bool
     requires { OwnsExpr (bench ast.now) e }
     ensures { result ≡ ternary_wraps (tree_of (bench ast.now) e) }
 {
-    level(ast, e) == 0
+    precedence(ast, e) == 0
 }
 
 /// Whether the subject of a select needs parentheses.
@@ -213,7 +213,7 @@ pub(crate) fn select_wraps(ast: &Ast, e: Expr) -> bool
     requires { OwnsExpr (bench ast.now) e }
     ensures { result ≡ select_wraps (tree_of (bench ast.now) e) }
 {
-    level(ast, e) < 13 || is_negative_literal(ast, e)
+    precedence(ast, e) < 13 || is_negative_literal(ast, e)
 }
 
 /// Whether a width needs parentheses before ` - 1`.
@@ -221,5 +221,5 @@ pub(crate) fn limit_wraps(ast: &Ast, e: Expr) -> bool
     requires { OwnsExpr (bench ast.now) e }
     ensures { result ≡ limit_wraps (tree_of (bench ast.now) e) }
 {
-    level(ast, e) < 9
+    precedence(ast, e) < 9
 }

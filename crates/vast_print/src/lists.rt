@@ -1,9 +1,9 @@
 //! Concatenations, patterns, and calls with arguments.
 
-ghost use Rattle.std.specs.Prelude.{All};
+ghost use Rattle.std.specs.Prelude.{All, IfSome};
 ghost use Rattle.vast_literal.specs.Tree.{ConcatTree, PatternTree, MacroTree, CallTree};
 ghost use Rattle.vast_core.specs.Bench.{OwnsExpr, maybe_tree_of, trees_of};
-ghost use Rattle.vast_core.specs.Nodes.{OptionHolds, maybe_exprs_in};
+ghost use Rattle.vast_core.specs.Nodes.{maybe_exprs_in};
 ghost use Rattle.vast_core.specs.View.{bench};
 ghost use Rattle.vast_print.specs.Pieces.{expr_weight, PiecesOwned, Begins};
 ghost use Rattle.vast_print.specs.Text.{expr_text};
@@ -23,7 +23,7 @@ pub(crate) fn begin_concat(
     out: &mut Writer,
     work: &mut Vec<Piece>,
 ) -> Result<(), PrintFault>
-    requires count { OptionHolds (OwnsExpr (bench ast.now)) count }
+    requires count { IfSome count (OwnsExpr (bench ast.now)) }
     requires parts { All (OwnsExpr (bench ast.now)) parts.now }
     requires owned { PiecesOwned (bench ast.now) work.old.items }
     ensures { Begins (bench ast.now) depth out.old out.new work.old.items work.new.items (expr_text (ConcatTree (maybe_tree_of (bench ast.now) count) (trees_of (bench ast.now) parts.now))) (expr_weight (ConcatTree (maybe_tree_of (bench ast.now) count) (trees_of (bench ast.now) parts.now))) result }
@@ -69,7 +69,7 @@ pub(crate) fn begin_macro(
     out: &mut Writer,
     work: &mut Vec<Piece>,
 ) -> Result<(), PrintFault>
-    requires arguments { OptionHolds (λ parts. All (OwnsExpr (bench ast.now)) parts.items) arguments.now }
+    requires arguments { IfSome arguments.now (λ parts. All (OwnsExpr (bench ast.now)) parts.items) }
     requires owned { PiecesOwned (bench ast.now) work.old.items }
     ensures { Begins (bench ast.now) depth out.old out.new work.old.items work.new.items (expr_text (MacroTree name.now (maybe_exprs_in (bench ast.now).nodes arguments.now))) (expr_weight (MacroTree name.now (maybe_exprs_in (bench ast.now).nodes arguments.now))) result }
 {

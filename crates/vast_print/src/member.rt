@@ -1,7 +1,6 @@
 //! Members of modules and loops.
 
 ghost use Rattle.std.specs.Prelude.{◌≡◌, ◌<◌, ◌^◌, All, map};
-ghost use Rattle.vast_core.specs.Kinds.{dialect_of};
 ghost use Rattle.vast_core.specs.Bench.{OwnsType, OwnsMacroRef, tree_of};
 ghost use Rattle.vast_core.specs.Handles.{macro_ref_to_expr};
 ghost use Rattle.vast_core.specs.Records.{member_entry};
@@ -39,7 +38,7 @@ fn print_variable(
     out: &mut Writer,
 ) -> Result<(), PrintFault>
     requires { OwnsType (bench ast.now) t }
-    ensures { Writes (hang depth (Wet out.old) (member_page (dialect_of (bench ast.now).file_type) (DeclarationMember (declared (bench ast.now) kind name.now t)))) out.new result }
+    ensures { Writes (hang depth (Wet out.old) (member_page (bench ast.now).file_type (DeclarationMember (declared (bench ast.now) kind name.now t)))) out.new result }
 {
     out.next(depth)?;
     print_declaration(ast, kind, t, name, depth, out)?;
@@ -57,7 +56,7 @@ fn print_macro(
     out: &mut Writer,
 ) -> Result<(), PrintFault>
     requires { OwnsMacroRef (bench ast.now) call }
-    ensures { Writes (hang depth (Wet out.old) (member_page (dialect_of (bench ast.now).file_type) (MacroMember (tree_of (bench ast.now) (macro_ref_to_expr call)) semicolon))) out.new result }
+    ensures { Writes (hang depth (Wet out.old) (member_page (bench ast.now).file_type (MacroMember (tree_of (bench ast.now) (macro_ref_to_expr call)) semicolon))) out.new result }
 {
     out.next(depth)?;
     print_expression(ast, call.to_expr(), depth, out)?;
@@ -76,7 +75,7 @@ pub(crate) fn print_member(
 ) -> Result<(), PrintFault>
     requires owned { MemberSound (bench ast.now) (member_entry member.now) }
     requires room { MemberFits (bench ast.now) depth (member_entry member.now) }
-    ensures { Writes (hang depth (Wet out.old) (member_page (dialect_of (bench ast.now).file_type) (member_tree (bench ast.now) (member_entry member.now)))) out.new result }
+    ensures { Writes (hang depth (Wet out.old) (member_page (bench ast.now).file_type (member_tree (bench ast.now) (member_entry member.now)))) out.new result }
 {
     match member {
         Member::Declaration(kind, name, t) => print_variable(ast, *kind, name, *t, depth, out),
@@ -109,7 +108,7 @@ pub(crate) fn print_members(
 ) -> Result<(), PrintFault>
     requires owned { All (λ m. MemberSound (bench ast.now) (member_entry m)) members.now }
     requires room { depth < 2 ^ 62 }
-    ensures { Writes (hang depth (Wet out.old) (members_page (dialect_of (bench ast.now).file_type) (members_tree (bench ast.now) (map member_entry members.now)))) out.new result }
+    ensures { Writes (hang depth (Wet out.old) (members_page (bench ast.now).file_type (members_tree (bench ast.now) (map member_entry members.now)))) out.new result }
 {
     for member in members {
         print_member(ast, member, depth, out)?;

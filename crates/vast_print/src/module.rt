@@ -1,7 +1,6 @@
 //! Modules: headers and members.
 
 ghost use Rattle.std.specs.Prelude.{◌≡◌, ◌<◌, ◌^◌, All, map, codes};
-ghost use Rattle.vast_core.specs.Kinds.{dialect_of};
 ghost use Rattle.vast_core.specs.Bench.{OwnsModule, OwnsPort};
 ghost use Rattle.vast_core.specs.Records.{module_record, parameter_port_record, member_entry, ModuleEntry};
 ghost use Rattle.vast_core.specs.Sound.{MemberSound, ParameterPortSound};
@@ -28,7 +27,7 @@ fn print_listed_port(
     out: &mut Writer,
 ) -> Result<(), PrintFault>
     requires { OwnsPort (bench ast.now) p }
-    ensures { Writes (pour depth (Wet out.old) (written (port_text (dialect_of (bench ast.now).file_type) (port_tree (bench ast.now) p)))) out.new result }
+    ensures { Writes (pour depth (Wet out.old) (written (port_text (bench ast.now).file_type (port_tree (bench ast.now) p)))) out.new result }
 {
     let port = ast.port(p);
     print_port(ast, port, depth, out)
@@ -44,7 +43,7 @@ fn print_ports(
 ) -> Result<(), PrintFault>
     requires owned { All (OwnsPort (bench ast.now)) ports.now }
     requires room { depth < 2 ^ 63 }
-    ensures { Writes (hang depth (Wet out.old) (ports_page (dialect_of (bench ast.now).file_type) (map (port_tree (bench ast.now)) ports.now))) out.new result }
+    ensures { Writes (hang depth (Wet out.old) (ports_page (bench ast.now).file_type (map (port_tree (bench ast.now)) ports.now))) out.new result }
 {
     for (i, port) in ports.iter().enumerate() {
         out.next(depth + 1)?;
@@ -70,7 +69,7 @@ fn print_opening(name: &str, end: &str, out: &mut Writer) -> Result<(), PrintFau
 fn print_header(ast: &Ast, node: &Module, out: &mut Writer) -> Result<(), PrintFault>
     requires parameters { All (λ p. ParameterPortSound (bench ast.now) (parameter_port_record p)) node.now.parameters.items }
     requires ports { All (OwnsPort (bench ast.now)) node.now.ports.items }
-    ensures { Writes (hang 0 (Wet out.old) (header_page (dialect_of (bench ast.now).file_type) (module_record node.now).name (map (parameter_port_tree (bench ast.now)) (map parameter_port_record node.now.parameters.items)) (map (port_tree (bench ast.now)) node.now.ports.items))) out.new result }
+    ensures { Writes (hang 0 (Wet out.old) (header_page (bench ast.now).file_type (module_record node.now).name (map (parameter_port_tree (bench ast.now)) (map parameter_port_record node.now.parameters.items)) (map (port_tree (bench ast.now)) node.now.ports.items))) out.new result }
 {
     if !node.parameters.is_empty() {
         print_opening(&node.name, " #(", out)?;
@@ -97,7 +96,7 @@ fn print_header(ast: &Ast, node: &Module, out: &mut Writer) -> Result<(), PrintF
 #[tactic(auto, using(crate::proofs::ArenaLaws::modules))]
 fn print_body(ast: &Ast, members: &[Member], out: &mut Writer) -> Result<(), PrintFault>
     requires { All (λ m. MemberSound (bench ast.now) (member_entry m)) members.now }
-    ensures { Writes (hang 0 (Wet out.old) (body_page (dialect_of (bench ast.now).file_type) (members_tree (bench ast.now) (map member_entry members.now)))) out.new result }
+    ensures { Writes (hang 0 (Wet out.old) (body_page (bench ast.now).file_type (members_tree (bench ast.now) (map member_entry members.now)))) out.new result }
 {
     if members.is_empty() {
         out.next(0)?;
@@ -113,7 +112,7 @@ fn print_parts(ast: &Ast, node: &Module, out: &mut Writer) -> Result<(), PrintFa
     requires parameters { All (λ p. ParameterPortSound (bench ast.now) (parameter_port_record p)) node.now.parameters.items }
     requires ports { All (OwnsPort (bench ast.now)) node.now.ports.items }
     requires members { All (λ m. MemberSound (bench ast.now) (member_entry m)) node.now.members.items }
-    ensures { Writes (hang 0 (Wet out.old) (module_page (dialect_of (bench ast.now).file_type) (module_tree (bench ast.now) (module_record node.now)))) out.new result }
+    ensures { Writes (hang 0 (Wet out.old) (module_page (bench ast.now).file_type (module_tree (bench ast.now) (module_record node.now)))) out.new result }
 {
     print_header(ast, node, out)?;
     print_body(ast, &node.members, out)?;
@@ -125,7 +124,7 @@ fn print_parts(ast: &Ast, node: &Module, out: &mut Writer) -> Result<(), PrintFa
 /// Writes a module of the file.
 pub(crate) fn print_module(ast: &Ast, m: VastModule, out: &mut Writer) -> Result<(), PrintFault>
     requires { OwnsModule (bench ast.now) m }
-    ensures { Writes (hang 0 (Wet out.old) (item_page (dialect_of (bench ast.now).file_type) (item_tree (bench ast.now) (ModuleEntry m)))) out.new result }
+    ensures { Writes (hang 0 (Wet out.old) (item_page (bench ast.now).file_type (item_tree (bench ast.now) (ModuleEntry m)))) out.new result }
 {
     let module = ast.module(m);
     print_parts(ast, module, out)

@@ -2,7 +2,6 @@
 
 ghost use Rattle.vast_literal.specs.Tree.{UnaryTree, BinaryTree, TernaryTree, PosEdgeTree, NegEdgeTree};
 ghost use Rattle.vast_core.specs.Bench.{OwnsExpr, tree_of};
-ghost use Rattle.vast_core.specs.Kinds.{unary_of, binary_of};
 ghost use Rattle.vast_core.specs.View.{bench};
 ghost use Rattle.vast_print.specs.Pieces.{expr_weight, PiecesOwned, Begins};
 ghost use Rattle.vast_print.specs.Text.{expr_text};
@@ -24,7 +23,7 @@ pub(crate) fn begin_unary(
 ) -> Result<(), PrintFault>
     requires operand { OwnsExpr (bench ast.now) operand }
     requires owned { PiecesOwned (bench ast.now) work.old.items }
-    ensures { Begins (bench ast.now) depth out.old out.new work.old.items work.new.items (expr_text (UnaryTree (unary_of operator) (tree_of (bench ast.now) operand))) (expr_weight (UnaryTree (unary_of operator) (tree_of (bench ast.now) operand))) result }
+    ensures { Begins (bench ast.now) depth out.old out.new work.old.items work.new.items (expr_text (UnaryTree operator (tree_of (bench ast.now) operand))) (expr_weight (UnaryTree operator (tree_of (bench ast.now) operand))) result }
 {
     let wraps = unary_wraps(ast, operand);
     out.word(unary_sign(operator))?;
@@ -45,7 +44,7 @@ pub(crate) fn begin_binary(
     requires left { OwnsExpr (bench ast.now) left }
     requires right { OwnsExpr (bench ast.now) right }
     requires owned { PiecesOwned (bench ast.now) work.old.items }
-    ensures { Begins (bench ast.now) depth out.old out.new work.old.items work.new.items (expr_text (BinaryTree (binary_of operator) (tree_of (bench ast.now) left) (tree_of (bench ast.now) right))) (expr_weight (BinaryTree (binary_of operator) (tree_of (bench ast.now) left) (tree_of (bench ast.now) right))) result }
+    ensures { Begins (bench ast.now) depth out.old out.new work.old.items work.new.items (expr_text (BinaryTree operator (tree_of (bench ast.now) left) (tree_of (bench ast.now) right))) (expr_weight (BinaryTree operator (tree_of (bench ast.now) left) (tree_of (bench ast.now) right))) result }
 {
     push_part(ast, right, right_wraps(ast, operator, right), work)?;
     push_plain(ast, binary_sign(operator), work)?;

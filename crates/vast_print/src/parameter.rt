@@ -2,7 +2,7 @@
 
 ghost use Rattle.std.specs.Prelude.{◌≡◌, ◌<◌, ◌^◌, All, map};
 ghost use Rattle.vast_literal.specs.Tree.{ParameterMember};
-ghost use Rattle.vast_core.specs.Kinds.{dialect_of, kind_of};
+ghost use Rattle.vast_literal.specs.Shape.{base_kind, base_of};
 ghost use Rattle.vast_core.specs.Bench.{OwnsExpr, OwnsType, tree_of, type_of};
 ghost use Rattle.vast_core.specs.Records.{parameter_port_record, form_entry};
 ghost use Rattle.vast_core.specs.Sound.{FormSound, ParameterPortSound};
@@ -10,14 +10,12 @@ ghost use Rattle.vast_core.specs.FileTree.{form_tree, parameter_port_tree};
 ghost use Rattle.vast_core.specs.View.{bench};
 ghost use Rattle.vast_print.specs.Ink.{Writes, Wet, hang, pour};
 ghost use Rattle.vast_print.specs.Page.{written};
-ghost use Rattle.vast_print.specs.Declaration.{base_of, base_kind};
 ghost use Rattle.vast_print.specs.Layout.{parameter_port_text, parameter_ports_page};
 ghost use Rattle.vast_print.specs.Members.{parameter_text, member_page};
 
 use crate::declaration::print_declaration;
 use crate::expression::print_expression;
 use crate::refusal::PrintFault;
-use crate::types::base_of;
 use crate::words;
 use crate::writer::Writer;
 use vast_core::{Ast, DataKind, Expr, ParameterForm, ParameterPort, TypeNode, VastDataType};
@@ -25,9 +23,9 @@ use vast_core::{Ast, DataKind, Expr, ParameterForm, ParameterPort, TypeNode, Vas
 /// The kind that its type brings to a parameter of a header, through arrays.
 fn base_kind(ast: &Ast, t: VastDataType) -> DataKind
     requires { OwnsType (bench ast.now) t }
-    ensures { kind_of result ≡ base_kind (base_of (type_of (bench ast.now) t)) }
+    ensures { result ≡ base_kind (base_of (type_of (bench ast.now) t)) }
 {
-    match ast.data_type(base_of(ast, t)) {
+    match ast.data_type(ast.base_type(t)) {
         TypeNode::Scalar(_) => DataKind::Logic,
         TypeNode::Vector(_, _, _) => DataKind::Logic,
         TypeNode::Integer(_) => DataKind::Integer,
@@ -48,7 +46,7 @@ fn print_parameter_port(
     out: &mut Writer,
 ) -> Result<(), PrintFault>
     requires { ParameterPortSound (bench ast.now) (parameter_port_record parameter.now) }
-    ensures { Writes (pour depth (Wet out.old) (written (parameter_port_text (dialect_of (bench ast.now).file_type) (parameter_port_tree (bench ast.now) (parameter_port_record parameter.now))))) out.new result }
+    ensures { Writes (pour depth (Wet out.old) (written (parameter_port_text (bench ast.now).file_type (parameter_port_tree (bench ast.now) (parameter_port_record parameter.now))))) out.new result }
 {
     let name = &parameter.name;
     out.word(words::parameter_port())?;
@@ -69,7 +67,7 @@ pub(crate) fn print_parameter_ports(
 ) -> Result<(), PrintFault>
     requires owned { All (λ p. ParameterPortSound (bench ast.now) (parameter_port_record p)) parameters.now }
     requires room { depth < 2 ^ 63 }
-    ensures { Writes (hang depth (Wet out.old) (parameter_ports_page (dialect_of (bench ast.now).file_type) (map (parameter_port_tree (bench ast.now)) (map parameter_port_record parameters.now)))) out.new result }
+    ensures { Writes (hang depth (Wet out.old) (parameter_ports_page (bench ast.now).file_type (map (parameter_port_tree (bench ast.now)) (map parameter_port_record parameters.now)))) out.new result }
 {
     for (i, parameter) in parameters.iter().enumerate() {
         out.next(depth + 1)?;
@@ -88,7 +86,7 @@ fn print_form(
     out: &mut Writer,
 ) -> Result<(), PrintFault>
     requires { FormSound (bench ast.now) (form_entry form.now) }
-    ensures { Writes (pour depth (Wet out.old) (written (parameter_text (dialect_of (bench ast.now).file_type) (form_tree (bench ast.now) (form_entry form.now))))) out.new result }
+    ensures { Writes (pour depth (Wet out.old) (written (parameter_text (bench ast.now).file_type (form_tree (bench ast.now) (form_entry form.now))))) out.new result }
 {
     match form {
         ParameterForm::Plain(name) => out.written(depth, name)?,
@@ -117,7 +115,7 @@ pub(crate) fn print_parameter(
 ) -> Result<(), PrintFault>
     requires form { FormSound (bench ast.now) (form_entry form.now) }
     requires value { OwnsExpr (bench ast.now) value }
-    ensures { Writes (hang depth (Wet out.old) (member_page (dialect_of (bench ast.now).file_type) (ParameterMember local (form_tree (bench ast.now) (form_entry form.now)) (tree_of (bench ast.now) value)))) out.new result }
+    ensures { Writes (hang depth (Wet out.old) (member_page (bench ast.now).file_type (ParameterMember local (form_tree (bench ast.now) (form_entry form.now)) (tree_of (bench ast.now) value)))) out.new result }
 {
     out.next(depth)?;
     out.word(words::parameter(local))?;

@@ -2,13 +2,13 @@
 
 ghost use Rattle.std.specs.Prelude.{◌≡◌, ◌-ℤ◌, pos};
 ghost use Rattle.std.specs.Fmt.{signed_decimal};
-ghost use Rattle.vast_core.specs.Kinds.{dialect_of};
+ghost use Rattle.vast_literal.specs.Shape.{base_of, is_external};
 ghost use Rattle.vast_core.specs.Bench.{OwnsExpr, OwnsType, tree_of, type_of};
 ghost use Rattle.vast_core.specs.View.{bench};
 ghost use Rattle.vast_print.specs.Ink.{Writes, Wet, word, pour};
 ghost use Rattle.vast_print.specs.Page.{written};
 ghost use Rattle.vast_print.specs.Printed.{plain_text, spaced};
-ghost use Rattle.vast_print.specs.Declaration.{base_of, is_external, packed_ranges, packed_text, unpacked_range, unpacked_ranges, unpacked_text, type_text, limit_text};
+ghost use Rattle.vast_print.specs.Declaration.{packed_ranges, packed_text, unpacked_range, unpacked_ranges, unpacked_text, type_text, limit_text};
 ghost use Rattle.vast_print.specs.Words.{has_text};
 
 use crate::expression::print_wrapped;
@@ -18,35 +18,12 @@ use crate::words;
 use crate::writer::Writer;
 use vast_core::{Ast, Expr, TypeNode, VastDataType, VastFileType};
 
-/// What an array is made of, through arrays of arrays; any other type itself.
-#[tactic(auto, using(crate::proofs::PrintLaws::bases))]
-pub(crate) fn base_of(ast: &Ast, t: VastDataType) -> VastDataType
-    requires { OwnsType (bench ast.now) t }
-    ensures owned { OwnsType (bench ast.now) result }
-    ensures base { type_of (bench ast.now) result ≡ base_of (type_of (bench ast.now) t) }
-{
-    let mut base = t;
-    loop {
-        match ast.data_type(base) {
-            TypeNode::Packed(element, _) => base = *element,
-            TypeNode::Unpacked(element, _) => base = *element,
-            TypeNode::Scalar(_) => return base,
-            TypeNode::Vector(_, _, _) => return base,
-            TypeNode::Integer(_) => return base,
-            TypeNode::Int(_) => return base,
-            TypeNode::External(_) => return base,
-            TypeNode::Package(_, _) => return base,
-        }
-    }
-}
-
 /// Whether a type is declared elsewhere, through arrays.
-#[tactic(auto, unfolding(crate::specs::Declaration::is_external))]
 pub(crate) fn is_external(ast: &Ast, t: VastDataType) -> bool
     requires { OwnsType (bench ast.now) t }
-    ensures { result ≡ is_external (type_of (bench ast.now) t) }
+    ensures { result ≡ is_external (base_of (type_of (bench ast.now) t)) }
 {
-    match ast.data_type(base_of(ast, t)) {
+    match ast.data_type(ast.base_type(t)) {
         TypeNode::External(_) => true,
         TypeNode::Package(_, _) => true,
         _ => false,
@@ -195,7 +172,7 @@ pub(crate) fn print_type(
     requires { OwnsType (bench ast.now) t }
     ensures { Writes (pour depth (Wet out.old) (written (spaced (type_text (type_of (bench ast.now) t))))) out.new result }
 {
-    match ast.data_type(base_of(ast, t)) {
+    match ast.data_type(ast.base_type(t)) {
         TypeNode::Scalar(signed) => {
             out.word(words::signed(*signed))?;
             print_spaced_packed(ast, t, depth, out)
@@ -240,7 +217,7 @@ fn print_unpacked_range(
     depth: usize,
     out: &mut Writer,
 ) -> Result<(), PrintFault>
-    ensures { Writes (pour depth (Wet out.old) (written (plain_text (unpacked_range (dialect_of file_type) dimension)))) out.new result }
+    ensures { Writes (pour depth (Wet out.old) (written (plain_text (unpacked_range file_type dimension)))) out.new result }
 {
     match file_type {
         VastFileType::Verilog => {
@@ -263,7 +240,7 @@ fn print_unpacked_ranges(
     depth: usize,
     out: &mut Writer,
 ) -> Result<(), PrintFault>
-    ensures { Writes (pour depth (Wet out.old) (written (plain_text (unpacked_ranges (dialect_of file_type) dimensions.now)))) out.new result }
+    ensures { Writes (pour depth (Wet out.old) (written (plain_text (unpacked_ranges file_type dimensions.now)))) out.new result }
 {
     for dimension in dimensions.iter() {
         print_unpacked_range(file_type, *dimension, depth, out)?;
@@ -280,7 +257,7 @@ pub(crate) fn print_dimensions(
     out: &mut Writer,
 ) -> Result<(), PrintFault>
     requires { OwnsType (bench ast.now) t }
-    ensures { Writes (pour depth (Wet out.old) (written (plain_text (unpacked_text (dialect_of (bench ast.now).file_type) (type_of (bench ast.now) t))))) out.new result }
+    ensures { Writes (pour depth (Wet out.old) (written (plain_text (unpacked_text (bench ast.now).file_type (type_of (bench ast.now) t))))) out.new result }
 {
     let file_type = ast.file_type();
     let mut inner = t;

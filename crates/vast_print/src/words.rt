@@ -5,7 +5,6 @@ ghost use Rattle.vast_print.specs.Words.{signed_opening, unsigned_opening, scala
 ghost use Rattle.vast_print.specs.Members.{parameter_word, semicolon_text};
 ghost use Rattle.vast_print.specs.Statements.{assign_sign, case_word, unique_word};
 ghost use Rattle.vast_core.specs.FileTree.{form_of};
-ghost use Rattle.vast_core.specs.Kinds.{case_word as case_kind};
 
 use vast_core::CaseKind;
 
@@ -99,7 +98,7 @@ pub(crate) fn assign_sign(nonblocking: bool) -> &'static str
 
 /// Before the selector of a case.
 pub(crate) fn case(kind: CaseKind) -> &'static str
-    ensures { result.now ≡ case_word (case_kind kind) }
+    ensures { result.now ≡ case_word kind }
 {
     match kind {
         CaseKind::Case => "case (",

@@ -1,9 +1,9 @@
 -- What calls of modules keep.
 use Rattle.std.specs.Prelude.{ℕ, nat_le, true, false, List, length, Some, None, codes, string_bytes}
-use Rattle.vast_core.specs.declared.kind.ModulePortDirection.{ModulePortDirection}
-use Rattle.vast_core.specs.declared.kind.ModulePortDirection.TheVariants.{Input, Output, InOut}
-use Rattle.vast_core.specs.declared.kind.DataKind.{DataKind}
-use Rattle.vast_core.specs.declared.kind.DataKind.TheVariants.{Wire, Reg, Logic}
+use Rattle.vast_literal.specs.declared.kind.ModulePortDirection.{ModulePortDirection}
+use Rattle.vast_literal.specs.declared.kind.ModulePortDirection.TheVariants.{Input, Output, InOut}
+use Rattle.vast_literal.specs.declared.kind.DataKind.{DataKind}
+use Rattle.vast_literal.specs.declared.kind.DataKind.TheVariants.{Wire, Reg, Logic}
 use Rattle.vast_core.specs.Records.{FileEntry, IncludeEntry, FileBlankEntry, FileCommentEntry}
 use Rattle.vast_core.specs.Growth.{with_item, next_logic_ref, with_port, with_declaration}
 use Rattle.vast_core.specs.Parameters.{next_parameter_ref, next_localparam_ref, with_parameter_port, with_plain_parameter, with_int_parameter, with_defined_parameter}

@@ -1,6 +1,9 @@
 -- What calls of operators keep.
 use Rattle.std.specs.Prelude.{ℕ}
-use Rattle.vast_literal.specs.Tree.{UnaryOp, BinaryOp, BitwiseNotOp, NegateOp, LogicalNotOp, AndReduceOp, OrReduceOp, XorReduceOp, AddOp, SubOp, MulOp, DivOp, ModOp, PowerOp, BitwiseAndOp, BitwiseOrOp, BitwiseXorOp, ShllOp, ShraOp, ShrlOp, NeOp, CaseNeOp, EqOp, CaseEqOp, GeOp, GtOp, LeOp, LtOp, LogicalAndOp, LogicalOrOp, NeXOp, EqXOp}
+use Rattle.vast_literal.specs.declared.operator.UnaryOperator.{UnaryOperator as UnaryOp}
+use Rattle.vast_literal.specs.declared.operator.BinaryOperator.{BinaryOperator as BinaryOp}
+use Rattle.vast_literal.specs.declared.operator.UnaryOperator.TheVariants.{BitwiseNot as BitwiseNotOp, Negate as NegateOp, LogicalNot as LogicalNotOp, AndReduce as AndReduceOp, OrReduce as OrReduceOp, XorReduce as XorReduceOp}
+use Rattle.vast_literal.specs.declared.operator.BinaryOperator.TheVariants.{Add as AddOp, Sub as SubOp, Mul as MulOp, Div as DivOp, Mod as ModOp, Power as PowerOp, BitwiseAnd as BitwiseAndOp, BitwiseOr as BitwiseOrOp, BitwiseXor as BitwiseXorOp, Shll as ShllOp, Shra as ShraOp, Shrl as ShrlOp, Ne as NeOp, CaseNe as CaseNeOp, Eq as EqOp, CaseEq as CaseEqOp, Ge as GeOp, Gt as GtOp, Le as LeOp, Lt as LtOp, LogicalAnd as LogicalAndOp, LogicalOr as LogicalOrOp, NeX as NeXOp, EqX as EqXOp}
 use Rattle.vast_core.specs.Growth.{next_expr}
 use Rattle.xlsynth_vast.specs.Expressions.{with_unary, with_binary}
 use Rattle.vast_script.specs.declared.answer.Answer.TheVariants.{Expr}

@@ -11,10 +11,10 @@ use Rattle.vast_core.specs.declared.handle.CaseStatement.{CaseStatement}
 use Rattle.vast_core.specs.declared.handle.GenerateLoop.{GenerateLoop}
 use Rattle.vast_core.specs.declared.handle.Def.{Def}
 use Rattle.vast_core.specs.declared.node.Assignment.{Assignment}
-use Rattle.vast_core.specs.declared.kind.ModulePortDirection.{ModulePortDirection}
-use Rattle.vast_core.specs.declared.kind.DataKind.{DataKind}
-use Rattle.vast_core.specs.declared.kind.AlwaysKind.{AlwaysKind}
-use Rattle.vast_core.specs.declared.kind.CaseKind.{CaseKind}
+use Rattle.vast_literal.specs.declared.kind.ModulePortDirection.{ModulePortDirection}
+use Rattle.vast_literal.specs.declared.kind.DataKind.{DataKind}
+use Rattle.vast_literal.specs.declared.kind.AlwaysKind.{AlwaysKind}
+use Rattle.vast_literal.specs.declared.kind.CaseKind.{CaseKind}
 use Rattle.vast_core.specs.Handles.{conditional_index, case_index, loop_index, block_index, module_index}
 use Rattle.vast_core.specs.Records.{FileEntry, ModuleEntry, MemberEntry, AlwaysEntry, ArtifactRecord, DefinitionRecord, InstanceRecord, new_module}
 use Rattle.vast_core.specs.Nests.{StatementEntry, VariableRecord}

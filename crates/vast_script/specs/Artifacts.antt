@@ -1,7 +1,7 @@
 -- What becomes of a call of parts that are made beforehand, or that adds one to a module.
 use Rattle.std.specs.Prelude.{ℕ, Bool, true, false, nat_eq, ◌&&◌, List, length, map, Option, Some, string_bytes}
 use Rattle.vast_core.specs.declared.handle.Expr.{Expr}
-use Rattle.vast_core.specs.declared.kind.DataKind.{DataKind}
+use Rattle.vast_literal.specs.declared.kind.DataKind.{DataKind}
 use Rattle.vast_core.specs.Records.{BlankLineRecord, CommentRecord, InlineRecord, MacroRecord, AssignmentEntry, BlankEntry, CommentEntry, InlineEntry, MacroEntry, InstanceEntry, InstanceRecord}
 use Rattle.vast_core.specs.Growth.{with_member, next_continuous, with_assignment}
 use Rattle.vast_core.specs.Artifacts.{next_def, with_definition, next_blank_line, next_comment, next_inline, next_macro_statement, with_artifact, next_instantiation, with_instance, next_statement}

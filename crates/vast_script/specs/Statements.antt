@@ -1,11 +1,11 @@
 -- What becomes of a call of functions, always blocks, conditionals and statements.
 use Rattle.std.specs.Prelude.{ℕ, Bool, true, false, not, List, [], Some, None, codes, string_bytes, slice_get}
-use Rattle.vast_core.specs.declared.kind.DataKind.{DataKind}
-use Rattle.vast_core.specs.declared.kind.DataKind.TheVariants.{Reg, Logic}
-use Rattle.vast_core.specs.declared.kind.AlwaysKind.{AlwaysKind}
-use Rattle.vast_core.specs.declared.kind.AlwaysKind.TheVariants.{AlwaysFF, AlwaysAt, AlwaysComb}
-use Rattle.vast_core.specs.declared.kind.CaseKind.{CaseKind}
-use Rattle.vast_core.specs.declared.kind.CaseKind.TheVariants.{Case, CaseZ, CaseX}
+use Rattle.vast_literal.specs.declared.kind.DataKind.{DataKind}
+use Rattle.vast_literal.specs.declared.kind.DataKind.TheVariants.{Reg, Logic}
+use Rattle.vast_literal.specs.declared.kind.AlwaysKind.{AlwaysKind}
+use Rattle.vast_literal.specs.declared.kind.AlwaysKind.TheVariants.{AlwaysFF, AlwaysAt, AlwaysComb}
+use Rattle.vast_literal.specs.declared.kind.CaseKind.{CaseKind}
+use Rattle.vast_literal.specs.declared.kind.CaseKind.TheVariants.{Case, CaseZ, CaseX}
 use Rattle.vast_core.specs.Handles.{conditional_index}
 use Rattle.vast_core.specs.Records.{ConditionalEntry}
 use Rattle.vast_core.specs.Nests.{StatementEntry, AssignStatement, ContinuousStatement, ConditionalStatement, CasesStatement, BlankStatement, CommentStatement, InlineStatement}

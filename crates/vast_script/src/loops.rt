@@ -1,7 +1,7 @@
 //! Calls of generate loops and their members.
 
 ghost use Rattle.std.specs.Prelude.{◌≡◌, codes, option_copied};
-ghost use Rattle.vast_core.specs.declared.kind.AlwaysKind.TheVariants.{AlwaysFF, AlwaysAt};
+ghost use Rattle.vast_literal.specs.declared.kind.AlwaysKind.TheVariants.{AlwaysFF, AlwaysAt};
 ghost use Rattle.vast_core.specs.Nests.{label_bytes};
 ghost use Rattle.vast_script.specs.Outcome.{Replays};
 ghost use Rattle.vast_script.specs.Loops.{generate_add_always, loop_call};

@@ -1,7 +1,7 @@
 //! Calls of the file's items, and of modules with their ports, declarations and parameters.
 
-ghost use Rattle.vast_core.specs.declared.kind.ModulePortDirection.TheVariants.{Input, Output, InOut};
-ghost use Rattle.vast_core.specs.declared.kind.DataKind.TheVariants.{Wire, Logic};
+ghost use Rattle.vast_literal.specs.declared.kind.ModulePortDirection.TheVariants.{Input, Output, InOut};
+ghost use Rattle.vast_literal.specs.declared.kind.DataKind.TheVariants.{Wire, Logic};
 ghost use Rattle.vast_script.specs.Outcome.{Replays};
 ghost use Rattle.vast_script.specs.Modules.{add_port, add_wire, hoist_module_declarations, module_call};
 

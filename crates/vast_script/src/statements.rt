@@ -1,7 +1,7 @@
 //! Calls of functions, always blocks, conditionals and statements.
 
 ghost use Rattle.std.specs.Prelude.{codes};
-ghost use Rattle.vast_core.specs.declared.kind.AlwaysKind.TheVariants.{AlwaysFF, AlwaysAt};
+ghost use Rattle.vast_literal.specs.declared.kind.AlwaysKind.TheVariants.{AlwaysFF, AlwaysAt};
 ghost use Rattle.vast_script.specs.Outcome.{Replays};
 ghost use Rattle.vast_script.specs.Statements.{add_always, conditional_add_else_if, conditional_add_else, statement_call};
 

@@ -3,7 +3,6 @@ use Rattle.std.proofs.Common.{◌≡◌, ℕ, zero, suc, ◌+◌, ◌<◌, List,
 use Rattle.std.proofs.lemmas.List.{map-append}
 use Rattle.vast_core.specs.declared.node.Connection.{Connection}
 use Rattle.vast_core.specs.declared.handle.Expr.{Expr}
-use Rattle.vast_core.specs.Nodes.{OptionHolds}
 use Rattle.vast_core.specs.Records.{connection_record}
 use Rattle.vast_core.specs.Bench.{Bench, OwnsExpr}
 use Rattle.vast_core.specs.Sound.{Each, ConnectionSound}
@@ -32,12 +31,12 @@ one_more f g ns vs i n d v e made c below under is at so_far given =
 
 -- What it gives is the file's, where its expressions are.
 
-each-connected : (b : Bench) (names : List (List ℕ)) (values : List (Option Expr)) → Each (OptionHolds (OwnsExpr b)) values → Each (ConnectionSound b) (connected names values)
+each-connected : (b : Bench) (names : List (List ℕ)) (values : List (Option Expr)) → Each (λ o. IfSome o (OwnsExpr b)) values → Each (ConnectionSound b) (connected names values)
 each-connected b [] values h = tt
 each-connected b (name ∷ names) [] h = tt
 each-connected b (name ∷ names) (value ∷ values) h = (h.0, each-connected b names values h.1)
 
-pub connected-sound : (b : Bench) (names : List (List ℕ)) (values : List (Option Expr)) (made : List Connection) → map connection_record made ≡ connected names values → Each (OptionHolds (OwnsExpr b)) values → All (λ c. ConnectionSound b (connection_record c)) made
+pub connected-sound : (b : Bench) (names : List (List ℕ)) (values : List (Option Expr)) (made : List Connection) → map connection_record made ≡ connected names values → Each (λ o. IfSome o (OwnsExpr b)) values → All (λ c. ConnectionSound b (connection_record c)) made
 connected-sound b names values made e h = All-Each connection_record (ConnectionSound b) made (rw e (each-connected b names values h))
 
 -- Each parameter that it gives has a value.
@@ -50,10 +49,10 @@ each-valued f (name ∷ names) (value ∷ values) = (tt, each-valued f names val
 pub connected-valued : {B : Type 0} (f : B → Expr) (names : List (List ℕ)) (values : List B) (made : List Connection) → map connection_record made ≡ connected names (map (λ v. Some (f v)) values) → All (λ c. HasValue (connection_record c)) made
 connected-valued f names values made e = All-Each connection_record HasValue made (rw e (each-valued f names values))
 
-some-owned : (b : Bench) (e : Option (Bor Expr)) → IfSome e (λ x. OwnsExpr b x.now) → OptionHolds (OwnsExpr b) (option_copied e)
+some-owned : (b : Bench) (e : Option (Bor Expr)) → IfSome e (λ x. OwnsExpr b x.now) → IfSome (option_copied e) (OwnsExpr b)
 some-owned b None h = tt
 some-owned b (Some x) h = h
 
-pub each-copied : (b : Bench) (es : List (Option (Bor Expr))) → All (λ e. IfSome e (λ x. OwnsExpr b x.now)) es → Each (OptionHolds (OwnsExpr b)) (map option_copied es)
+pub each-copied : (b : Bench) (es : List (Option (Bor Expr))) → All (λ e. IfSome e (λ x. OwnsExpr b x.now)) es → Each (λ o. IfSome o (OwnsExpr b)) (map option_copied es)
 each-copied b [] h = tt
 each-copied b (e ∷ es) h = (some-owned b e (All-head (λ e. IfSome e (λ x. OwnsExpr b x.now)) e es h), each-copied b es (All-tail (λ e. IfSome e (λ x. OwnsExpr b x.now)) e es h))

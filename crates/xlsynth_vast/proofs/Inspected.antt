@@ -13,8 +13,9 @@ use Rattle.vast_core.specs.declared.node.ExprNode.TheVariants.{Name, Literal, St
 use Rattle.vast_core.specs.declared.bits.BitCountFault.{BitCountFault}
 use Rattle.vast_core.specs.declared.bits.BitCountFault.TheVariants.{Overflow, Symbolic, External}
 use Rattle.vast_core.specs.Nodes.{Nodes, Root, ExprRoot, TypeRoot, is_name, is_root_of, expr_of_root, expr_tree, expr_in}
-use Rattle.vast_core.specs.BitCount.{bit_count, base_bits, is_external, multiple, Exceeds, CountRefused, product, dimensions_of}
-use Rattle.vast_core.specs.Types.{base_of}
+use Rattle.vast_core.specs.BitCount.{bit_count, base_bits, multiple, Exceeds, CountRefused, product, dimensions_of}
+use Rattle.vast_literal.specs.Shape.{is_external}
+use Rattle.vast_literal.specs.Shape.{base_of}
 use Rattle.vast_core.specs.Bench.{Bench, has_root, tree_of, type_of}
 use Rattle.vast_core.proofs.Lists.{All-cons, All-head, All-tail}
 use Rattle.xlsynth_vast.specs.Inspections.{known_bits, type_at, width_at}

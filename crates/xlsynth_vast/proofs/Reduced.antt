@@ -1,7 +1,10 @@
 -- Laws of expressions that are joined, and of files that have more nodes.
 use Rattle.std.proofs.Common.{zero, Bool, true, false, not, codes, pos, suc, get_or, drop, add-one, ◌≡◌, ℕ, ◌+◌, ◌<◌, List, [], ◌∷◌, ◌++◌, length, map, All, Some, None, Ok, refl, sym, ap, ◌∙◌, arith, append_assoc, append-nil}
 use Rattle.std.specs.Bool.{beq}
-use Rattle.vast_literal.specs.Tree.{BinaryOp, BitwiseOrOp, LogicalNotOp, ExprTree, LiteralTree, UnaryTree, BinaryTree}
+use Rattle.vast_literal.specs.Tree.{ExprTree, LiteralTree, UnaryTree, BinaryTree}
+use Rattle.vast_literal.specs.declared.operator.BinaryOperator.{BinaryOperator as BinaryOp}
+use Rattle.vast_literal.specs.declared.operator.BinaryOperator.TheVariants.{BitwiseOr as BitwiseOrOp}
+use Rattle.vast_literal.specs.declared.operator.UnaryOperator.TheVariants.{LogicalNot as LogicalNotOp}
 use Rattle.vast_core.specs.declared.handle.Expr.{Expr}
 use Rattle.vast_core.specs.Nodes.{Root, ExprRoot}
 use Rattle.vast_core.specs.Bench.{Bench, OwnsExpr, tree_of}

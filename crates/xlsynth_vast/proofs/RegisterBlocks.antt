@@ -1,13 +1,15 @@
 -- Laws of the blocks of registers: what they say once they are filled.
 use Rattle.std.proofs.Common.{◌≡◌, ◌≢◌, ℕ, suc, ◌+◌, ◌<◌, Bool, true, false, List, [], ◌∷◌, ◌++◌, length, All, Option, Some, None, slice_get, get_or, take, if◌then◌else◌, refl, sym, ap, ◌∙◌, inl, arith, add-one, append_assoc, append-nil}
+use Rattle.std.specs.Prelude.{IfSome}
 use Rattle.std.specs.Option.{option_map}
 use Rattle.std.proofs.Math.Seq.{take-suc}
-use Rattle.vast_literal.specs.Tree.{ExprTree, StatementTree, TernaryTree, AssignTree, Nonblocking}
+use Rattle.vast_literal.specs.Tree.{ExprTree, StatementTree, TernaryTree, AssignTree}
+use Rattle.vast_literal.specs.declared.kind.AssignmentForm.TheVariants.{Nonblocking}
 use Rattle.vast_core.specs.declared.handle.Expr.{Expr}
 use Rattle.vast_core.specs.declared.handle.VastStatementBlock.{VastStatementBlock}
 use Rattle.vast_core.specs.declared.node.Assignment.{Assignment}
 use Rattle.vast_core.specs.Handles.{block_index}
-use Rattle.vast_core.specs.Nodes.{OptionHolds, ExprRoot}
+use Rattle.vast_core.specs.Nodes.{ExprRoot}
 use Rattle.vast_core.specs.Nests.{StatementEntry, AssignStatement, BlockRecord}
 use Rattle.vast_core.specs.Bench.{Bench, OwnsExpr, tree_of}
 use Rattle.vast_core.specs.Growth.{with_assignment}
@@ -83,7 +85,7 @@ some-tree : (b : Bench) (e : Expr) (t : ExprTree) → IsTree b e t → MaybeTree
 some-tree b e t h = (h.0, ap Some (sym h.1))
 
 value-case :
-    (share : Share) (r : RegisterDefinition) (b : Bench) (o : Option Expr) → r.reset_value ≡ o → OptionHolds (OwnsExpr b) o → OwnsExpr b r.next →
+    (share : Share) (r : RegisterDefinition) (b : Bench) (o : Option Expr) → r.reset_value ≡ o → IfSome o (OwnsExpr b) → OwnsExpr b r.next →
     MaybeTree (with_value share r b) (value_expr share r b) (value_in share (register_tree b r))
 value-case Unreset r b None e k h = rw e (some-tree (with_running r b) (running_expr r b) _ (enabled-made r.enable r.next r.reg b h))
 value-case Unreset r b (Some v) e k h = rw e refl

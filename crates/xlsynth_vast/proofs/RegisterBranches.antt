@@ -1,11 +1,13 @@
 -- Laws of the conditional of a reset, and of the block that it ends.
 use Rattle.std.proofs.Common.{◌≡◌, ◌≢◌, ℕ, suc, ◌-◌, ◌<◌, ◌≤◌, Bool, true, false, List, [], ◌∷◌, ◌++◌, length, All, Option, Some, None, slice_get, refl, ◌∙◌, inl, inr, arith, append-nil, length-append}
+use Rattle.std.specs.Prelude.{IfSome}
 use Rattle.std.specs.List.{list_any}
-use Rattle.vast_literal.specs.Tree.{StatementTree, ConditionalTree, Else, UnaryTree, LogicalNotOp}
+use Rattle.vast_literal.specs.Tree.{StatementTree, ConditionalTree, Else, UnaryTree}
+use Rattle.vast_literal.specs.declared.operator.UnaryOperator.TheVariants.{LogicalNot as LogicalNotOp}
 use Rattle.vast_core.specs.declared.handle.Expr.{Expr}
 use Rattle.vast_core.specs.declared.handle.VastStatementBlock.{VastStatementBlock}
 use Rattle.vast_core.specs.Handles.{block_index}
-use Rattle.vast_core.specs.Nodes.{OptionHolds, ExprRoot}
+use Rattle.vast_core.specs.Nodes.{ExprRoot}
 use Rattle.vast_core.specs.Nests.{StatementEntry, ConditionalStatement, NestRecord, BlockRecord, BranchRecord}
 use Rattle.vast_core.specs.Bench.{Bench, OwnsExpr, OwnsBlock, OwnsConditional, tree_of}
 use Rattle.vast_core.specs.Containers.{NestedEntry, StatementEnters, ElseEnters, with_entry, with_nest, with_block, with_conditional, new_conditional, next_conditional, next_block, has_else}
@@ -277,7 +279,7 @@ read-case reset registers block b trees true e h all own s = let x = reset-read 
 read-case reset registers block b trees false e h all own s = rw (any-tree b registers, e, append-nil trees) (plain-read b (block_index block) trees s)
 
 pub maybe-reset-read :
-    (reset : Option Reset) (registers : List RegisterDefinition) (block : VastStatementBlock) (b : Bench) (trees : List StatementTree) → OptionHolds (OwnsReset b) reset → All (OwnsRegister b) registers → OwnsBlock b block →
+    (reset : Option Reset) (registers : List RegisterDefinition) (block : VastStatementBlock) (b : Bench) (trees : List StatementTree) → IfSome reset (OwnsReset b) → All (OwnsRegister b) registers → OwnsBlock b block →
     Stands b (block_index block) trees → IsBlockOf (with_maybe_reset reset registers block b) (block_index block) (trees ++ by_reset (maybe_reset_tree b reset) (register_trees b registers))
 maybe-reset-read None registers block b trees h all own s = rw (append-nil trees) (plain-read b (block_index block) trees s)
 maybe-reset-read (Some reset) registers block b trees h all own s = read-case reset registers block b trees (list_any is_resettable registers) refl h all own s

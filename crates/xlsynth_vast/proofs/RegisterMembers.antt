@@ -1,14 +1,15 @@
 -- Laws of the member that registers become: the block that it takes, and its tree.
 use Rattle.std.proofs.Common.{◌≡◌, ℕ, ◌<◌, List, [], ◌∷◌, ◌++◌, length, All, Option, Some, None, slice_get, Ok, Err, refl, ap, ◌∙◌, inl, arith}
+use Rattle.std.specs.Prelude.{IfSome}
 use Rattle.vast_literal.specs.Tree.{PosEdgeTree}
 use Rattle.vast_literal.specs.declared.error.VastFault.{VastFault}
 use Rattle.vast_literal.specs.declared.error.VastFault.TheVariants.{Refused, Memory}
 use Rattle.vast_literal.specs.Fault.{RefusedBy}
 use Rattle.vast_core.specs.declared.handle.Expr.{Expr}
 use Rattle.vast_core.specs.declared.handle.VastStatementBlock.{VastStatementBlock}
-use Rattle.vast_core.specs.declared.kind.AlwaysKind.TheVariants.{AlwaysFF}
+use Rattle.vast_literal.specs.declared.kind.AlwaysKind.TheVariants.{AlwaysFF}
 use Rattle.vast_core.specs.Handles.{block_index, loop_index}
-use Rattle.vast_core.specs.Nodes.{OptionHolds, ExprRoot}
+use Rattle.vast_core.specs.Nodes.{ExprRoot}
 use Rattle.vast_core.specs.Records.{AlwaysEntry}
 use Rattle.vast_core.specs.Nests.{BlockRecord}
 use Rattle.vast_core.specs.Bench.{Bench, OwnsExpr, OwnsBlock, tree_of}
@@ -63,16 +64,16 @@ filled-wider b registers = wider-wider b (with_spare_block b) (filled registers 
 pub filled-owned : (b : Bench) (registers : List RegisterDefinition) → OwnsBlock (filled registers b) (next_block b)
 filled-owned b registers = (all-assigned-changes Unreset (next_block b) registers (with_spare_block b)).blocks (next_block b) (spare-owned b)
 
-maybe-reset-owned : (b c : Bench) → Wider b c → (reset : Option Reset) → OptionHolds (OwnsReset b) reset → OptionHolds (OwnsReset c) reset
+maybe-reset-owned : (b c : Bench) → Wider b c → (reset : Option Reset) → IfSome reset (OwnsReset b) → IfSome reset (OwnsReset c)
 maybe-reset-owned b c w None h = tt
 maybe-reset-owned b c w (Some reset) h = wider_owned b c w reset.signal h
 
-maybe-reset-kept : (b c : Bench) → Wider b c → (reset : Option Reset) → OptionHolds (OwnsReset b) reset → maybe_reset_tree c reset ≡ maybe_reset_tree b reset
+maybe-reset-kept : (b c : Bench) → Wider b c → (reset : Option Reset) → IfSome reset (OwnsReset b) → maybe_reset_tree c reset ≡ maybe_reset_tree b reset
 maybe-reset-kept b c w None h = refl
 maybe-reset-kept b c w (Some reset) h = rw (wider_tree b c w reset.signal h) refl
 
 block-read :
-    (reset : Option Reset) (registers : List RegisterDefinition) (b : Bench) → OptionHolds (OwnsReset b) reset → All (OwnsRegister b) registers →
+    (reset : Option Reset) (registers : List RegisterDefinition) (b : Bench) → IfSome reset (OwnsReset b) → All (OwnsRegister b) registers →
     IsBlockOf (with_register_block reset registers b) (length b.nests) (assigned_all unreset_value (register_trees b registers) ++ by_reset (maybe_reset_tree b reset) (register_trees b registers))
 unfolding with_register_block
 block-read reset registers b h all =
@@ -135,7 +136,7 @@ clocked-event (ModuleScope owner) clk block b = next_tree b (PosEdgeTree (tree_o
 clocked-event (LoopScope owner) clk block b = next_tree b (PosEdgeTree (tree_of b clk))
 
 member-read :
-    (scope : RegisterScope) (clk : Expr) (reset : Option Reset) (registers : List RegisterDefinition) (b : Bench) → OwnsScope b scope → OwnsExpr b clk → OptionHolds (OwnsReset b) reset → All (OwnsRegister b) registers →
+    (scope : RegisterScope) (clk : Expr) (reset : Option Reset) (registers : List RegisterDefinition) (b : Bench) → OwnsScope b scope → OwnsExpr b clk → IfSome reset (OwnsReset b) → All (OwnsRegister b) registers →
     member_tree (with_registers clk reset registers scope b) (AlwaysEntry (next_always b)) ≡ registers_member (tree_of b clk) (maybe_reset_tree b reset) (register_trees b registers)
 unfolding with_registers
 member-read scope clk reset registers b owned own h all =
@@ -151,7 +152,7 @@ member-read scope clk reset registers b owned own h all =
 -- What the call answers.
 
 pub registers-added :
-    (old new : Bench) (clk : Expr) (reset : Option Reset) (registers : List RegisterDefinition) (scope : RegisterScope) → OwnsScope old scope → OwnsExpr old clk → OptionHolds (OwnsReset old) reset →
+    (old new : Bench) (clk : Expr) (reset : Option Reset) (registers : List RegisterDefinition) (scope : RegisterScope) → OwnsScope old scope → OwnsExpr old clk → IfSome reset (OwnsReset old) →
     All (OwnsRegister old) registers → 0 < length registers → unless_unresettable (maybe_reset_tree old reset) (register_trees old registers) ≡ Ok tt → new ≡ with_registers clk reset registers scope old →
     MayAddRegisters old new (Ok tt) clk reset registers scope
 registers-added old new clk reset [] scope owned own h all some rule e = absurd (omega (arith, some))

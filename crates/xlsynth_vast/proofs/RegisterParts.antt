@@ -1,11 +1,12 @@
 -- Laws of the steps by which the block of registers is made: what the file had before stays, and what came since is unused.
 use Rattle.std.proofs.Common.{◌≡◌, ◌≢◌, ℕ, suc, zero, ◌+◌, ◌-◌, ◌<◌, ◌≤◌, true, false, List, [], ◌∷◌, ◌++◌, length, All, Option, Some, None, slice_get, get_or, Ok, Err, codes, refl, ap, ◌∙◌, ◌⊎◌, inl, inr, arith, append_assoc, append-nil, length-append}
+use Rattle.std.specs.Prelude.{IfSome}
 use Rattle.std.specs.Option.{option_map, is_some}
 use Rattle.std.specs.List.{list_any}
 use Rattle.vast_core.specs.declared.handle.Expr.{Expr}
 use Rattle.vast_core.specs.declared.handle.VastStatementBlock.{VastStatementBlock}
 use Rattle.vast_core.specs.declared.node.Assignment.{Assignment}
-use Rattle.vast_core.specs.Nodes.{Root, OptionHolds}
+use Rattle.vast_core.specs.Nodes.{Root}
 use Rattle.vast_core.specs.Records.{changed_at}
 use Rattle.vast_core.specs.Nests.{NestRecord, BlockRecord}
 use Rattle.vast_core.specs.Bench.{Bench, OwnsExpr, OwnsBlock, tree_of}
@@ -68,11 +69,11 @@ wider_owned b c w e h = HasExpr-kept b.nodes c.nodes w.nodes e h
 pub wider_tree : (b c : Bench) → Wider b c → (e : Expr) → OwnsExpr b e → tree_of c e ≡ tree_of b e
 wider_tree b c w e h = expr_in-kept b.nodes c.nodes w.nodes e h
 
-maybe-owned : (b c : Bench) → Wider b c → (o : Option Expr) → OptionHolds (OwnsExpr b) o → OptionHolds (OwnsExpr c) o
+maybe-owned : (b c : Bench) → Wider b c → (o : Option Expr) → IfSome o (OwnsExpr b) → IfSome o (OwnsExpr c)
 maybe-owned b c w None h = tt
 maybe-owned b c w (Some e) h = wider_owned b c w e h
 
-maybe-tree : (b c : Bench) → Wider b c → (o : Option Expr) → OptionHolds (OwnsExpr b) o → option_map (tree_of c) o ≡ option_map (tree_of b) o
+maybe-tree : (b c : Bench) → Wider b c → (o : Option Expr) → IfSome o (OwnsExpr b) → option_map (tree_of c) o ≡ option_map (tree_of b) o
 maybe-tree b c w None h = refl
 maybe-tree b c w (Some e) h = ap Some (wider_tree b c w e h)
 

@@ -1,18 +1,18 @@
 -- What no list names is not in a file's tree.
 use Rattle.std.proofs.Common.{◌≡◌, ℕ, suc, zero, ◌+◌, ◌<◌, ◌≤◌, IsTrue, nat_lt, List, [], ◌∷◌, ◌++◌, length, map, Option, Some, None, slice_get, Result, Ok, Err, OnErr, refl, sym, ap, ◌∙◌, arith, length-append, zero-le}
+use Rattle.std.specs.Prelude.{IfSome}
 use Rattle.vast_literal.specs.declared.error.VastFault.{VastFault}
 use Rattle.vast_literal.specs.Tree.{ElseIf as ElseIfTree, Else, CaseArm as CaseArmTree, MoreStatements, MoreMembers, AlwaysMember, FileItemTree, FileTree}
 use Rattle.vast_core.specs.declared.handle.Expr.{Expr}
 use Rattle.vast_core.specs.declared.handle.VastDataType.{VastDataType}
 use Rattle.vast_core.specs.declared.handle.VastStatementBlock.{VastStatementBlock}
 use Rattle.vast_core.specs.declared.handle.ModulePort.{ModulePort}
-use Rattle.vast_core.specs.declared.kind.VastFileType.{VastFileType}
+use Rattle.vast_literal.specs.declared.kind.VastFileType.{VastFileType}
 use Rattle.vast_core.specs.declared.node.Assignment.{Assignment}
 use Rattle.vast_core.specs.declared.node.ElseIf.{ElseIf}
 use Rattle.vast_core.specs.declared.node.CaseArm.{CaseArm}
 use Rattle.vast_core.specs.Handles.{module_index, port_index, block_index, conditional_index, case_index, loop_index, always_index, function_index, statement_index, continuous_index, definition_index, comment_index, inline_index, macro_statement_index, instantiation_index, macro_ref_to_expr}
-use Rattle.vast_core.specs.Kinds.{dialect_of, always_word}
-use Rattle.vast_core.specs.Nodes.{OptionHolds, maybe_type_in, maybe_expr_in}
+use Rattle.vast_core.specs.Nodes.{maybe_type_in, maybe_expr_in}
 use Rattle.vast_core.specs.Records.{PortRecord, ParameterPortRecord, ModuleRecord, FormEntry, PlainForm, IntForm, DefinedForm, MemberEntry, DeclarationEntry, AssignmentEntry, ParameterEntry, BlankEntry, CommentEntry, InlineEntry, MacroEntry, InstanceEntry, FunctionEntry, AlwaysEntry, ConditionalEntry, LoopEntry, FileEntry, ModuleEntry, IncludeEntry, FileCommentEntry, FileBlankEntry, DefinitionRecord, ArtifactRecord, BlankLineRecord, CommentRecord, InlineRecord, MacroRecord, ConnectionRecord, InstanceRecord}
 use Rattle.vast_core.specs.Nests.{StatementEntry, AssignStatement, ContinuousStatement, ConditionalStatement, CasesStatement, BlankStatement, CommentStatement, InlineStatement, NestRecord, BlockRecord, BranchRecord, SwitchRecord, RepeatRecord, VariableRecord, FunctionRecord, AlwaysRecord}
 use Rattle.vast_core.specs.Bench.{Bench, OwnsExpr, OwnsType, is_continuous, tree_of, type_of, maybe_tree_of, trees_of}
@@ -72,11 +72,11 @@ expr-alike b c a e h = wider_tree b c a.wider e h
 type-alike : (b c : Bench) → Alike b c → (t : VastDataType) → OwnsType b t → type_of c t ≡ type_of b t
 type-alike b c a t h = type_in-kept b.nodes c.nodes a.wider.nodes t h
 
-maybe-type : (b c : Bench) → Alike b c → (t : Option VastDataType) → OptionHolds (OwnsType b) t → maybe_type_in c.nodes t ≡ maybe_type_in b.nodes t
+maybe-type : (b c : Bench) → Alike b c → (t : Option VastDataType) → IfSome t (OwnsType b) → maybe_type_in c.nodes t ≡ maybe_type_in b.nodes t
 maybe-type b c a None h = refl
 maybe-type b c a (Some t) h = rw (type-alike b c a t h) refl
 
-maybe-expr : (b c : Bench) → Alike b c → (e : Option Expr) → OptionHolds (OwnsExpr b) e → maybe_expr_in c.nodes e ≡ maybe_expr_in b.nodes e
+maybe-expr : (b c : Bench) → Alike b c → (e : Option Expr) → IfSome e (OwnsExpr b) → maybe_expr_in c.nodes e ≡ maybe_expr_in b.nodes e
 maybe-expr b c a None h = refl
 maybe-expr b c a (Some e) h = rw (expr-alike b c a e h) refl
 
@@ -87,7 +87,7 @@ events-alike b c a (e ∷ es) h = rw (expr-alike b c a e h.0.0, events-alike b c
 -- Records.
 
 -- What is found in a list is sound, or nothing is found.
-found : {A : Type 0} (P : A → Type 0) (xs : List A) (i : ℕ) (o : Option A) → Each P xs → slice_get xs i ≡ o → OptionHolds P o
+found : {A : Type 0} (P : A → Type 0) (xs : List A) (i : ℕ) (o : Option A) → Each P xs → slice_get xs i ≡ o → IfSome o P
 found P xs i None h e = tt
 found P xs i (Some x) h e = Each-get P xs i x h e
 
@@ -123,7 +123,7 @@ continuous-there (Some x) h e = cc
 continuous-at : (b c : Bench) → Alike b c → (i : ℕ) → IsTrue (is_continuous (slice_get b.assignments i)) → AssignmentAt b c i
 continuous-at b c a i h = assignment-at b c a i (slice_get b.assignments i) refl (continuous-there (slice_get b.assignments i) h)
 
-definition-alike : (b c : Bench) → Alike b c → (o : Option DefinitionRecord) → OptionHolds (DefinitionSound b) o → definition_tree c o ≡ definition_tree b o
+definition-alike : (b c : Bench) → Alike b c → (o : Option DefinitionRecord) → IfSome o (DefinitionSound b) → definition_tree c o ≡ definition_tree b o
 definition-alike b c a None h = refl
 definition-alike b c a (Some d) h = rw (type-alike b c a d.data_type h) refl
 
@@ -133,7 +133,7 @@ form-alike b c a (IntForm name) = refl
 form-alike b c a (DefinedForm d) =
     rw (a.definitions, definition-alike b c a (slice_get b.definitions (definition_index d)) (found (DefinitionSound b) b.definitions (definition_index d) (slice_get b.definitions (definition_index d)) a.sound.definitions refl)) refl
 
-artifact-alike : (b c : Bench) → Alike b c → (o : Option ArtifactRecord) → OptionHolds (ArtifactSound b) o → artifact_member c o ≡ artifact_member b o
+artifact-alike : (b c : Bench) → Alike b c → (o : Option ArtifactRecord) → IfSome o (ArtifactSound b) → artifact_member c o ≡ artifact_member b o
 artifact-alike b c a None h = refl
 artifact-alike b c a (Some BlankLineRecord) h = refl
 artifact-alike b c a (Some (CommentRecord text)) h = refl
@@ -147,7 +147,7 @@ connections-alike : (b c : Bench) → Alike b c → (xs : List ConnectionRecord)
 connections-alike b c a [] h = refl
 connections-alike b c a (x ∷ xs) h = rw (maybe-expr b c a x.value h.0, connections-alike b c a xs h.1) refl
 
-instance-alike : (b c : Bench) → Alike b c → (o : Option InstanceRecord) → OptionHolds (InstanceSound b) o → instance_member c o ≡ instance_member b o
+instance-alike : (b c : Bench) → Alike b c → (o : Option InstanceRecord) → IfSome o (InstanceSound b) → instance_member c o ≡ instance_member b o
 instance-alike b c a None h = refl
 instance-alike b c a (Some x) h = rw (connections-alike b c a x.parameters h.parameters, connections-alike b c a x.connections h.connections) refl
 
@@ -181,12 +181,12 @@ statements-alike b c a f g i q (s ∷ ss) h =
 held-alike : (b : Bench) (f g : ℕ → Family) (i : ℕ) → Meet b (suc i) f g → (x : VastStatementBlock) → HoldsBlock b i x → f (block_index x) ≡ g (block_index x)
 held-alike b f g i q x h = q.at (block_index x) h.1 (block-place b x h.0)
 
-otherwise-alike : (b : Bench) (f g : ℕ → Family) (i : ℕ) → Meet b (suc i) f g → (o : Option VastStatementBlock) → OptionHolds (HoldsBlock b i) o → otherwise_in f o ≡ otherwise_in g o
+otherwise-alike : (b : Bench) (f g : ℕ → Family) (i : ℕ) → Meet b (suc i) f g → (o : Option VastStatementBlock) → IfSome o (HoldsBlock b i) → otherwise_in f o ≡ otherwise_in g o
 otherwise-alike b f g i q None h = refl
 otherwise-alike b f g i q (Some x) h = ap (λ y. Else (block_in y)) (held-alike b f g i q x h)
 
 alternates-alike :
-    (b c : Bench) → Alike b c → (f g : ℕ → Family) (i : ℕ) → Meet b (suc i) f g → (arms : List ElseIf) (o : Option VastStatementBlock) → Each (ElseIfSound b i) arms → OptionHolds (HoldsBlock b i) o →
+    (b c : Bench) → Alike b c → (f g : ℕ → Family) (i : ℕ) → Meet b (suc i) f g → (arms : List ElseIf) (o : Option VastStatementBlock) → Each (ElseIfSound b i) arms → IfSome o (HoldsBlock b i) →
     alternates_in c f arms o ≡ alternates_in b g arms o
 alternates-alike b c a f g i q [] o h k = otherwise-alike b f g i q o k
 alternates-alike b c a f g i q (x ∷ arms) o h k =
@@ -205,8 +205,8 @@ arms-alike b c a f g i q (x ∷ arms) h =
 
 -- The containers that a member names are from this number on.
 abbrev From : Bench → ℕ → MemberEntry → Type 0
-From b from (FunctionEntry x) = OptionHolds (λ (r : FunctionRecord). from ≤ block_index r.body) (slice_get b.functions (function_index x))
-From b from (AlwaysEntry x) = OptionHolds (λ (r : AlwaysRecord). from ≤ block_index r.block) (slice_get b.always_blocks (always_index x))
+From b from (FunctionEntry x) = IfSome (slice_get b.functions (function_index x)) (λ (r : FunctionRecord). from ≤ block_index r.body)
+From b from (AlwaysEntry x) = IfSome (slice_get b.always_blocks (always_index x)) (λ (r : AlwaysRecord). from ≤ block_index r.block)
 From b from (ConditionalEntry x) = from ≤ conditional_index x
 From b from (LoopEntry x) = from ≤ loop_index x
 From b from (DeclarationEntry kind name t) = Unit {0}
@@ -219,19 +219,19 @@ From b from (MacroEntry x) = Unit {0}
 From b from (InstanceEntry x) = Unit {0}
 
 function-alike :
-    (b c : Bench) → Alike b c → (f g : ℕ → Family) (from : ℕ) → Meet b from f g → (o : Option FunctionRecord) → OptionHolds (FunctionSound b) o → OptionHolds (λ (r : FunctionRecord). from ≤ block_index r.body) o →
+    (b c : Bench) → Alike b c → (f g : ℕ → Family) (from : ℕ) → Meet b from f g → (o : Option FunctionRecord) → IfSome o (FunctionSound b) → IfSome o (λ (r : FunctionRecord). from ≤ block_index r.body) →
     function_in c f o ≡ function_in b g o
 function-alike b c a f g from q None h k = refl
 function-alike b c a f g from q (Some x) h k =
     rw (type-alike b c a x.result_type h.result_type, variables-alike b c a x.inputs h.inputs, variables-alike b c a x.locals h.locals, q.at (block_index x.body) k (block-place b x.body h.body)) refl
 
 always-alike :
-    (b c : Bench) → Alike b c → (f g : ℕ → Family) (from : ℕ) → Meet b from f g → (o : Option AlwaysRecord) → OptionHolds (AlwaysSound b) o → OptionHolds (λ (r : AlwaysRecord). from ≤ block_index r.block) o →
+    (b c : Bench) → Alike b c → (f g : ℕ → Family) (from : ℕ) → Meet b from f g → (o : Option AlwaysRecord) → IfSome o (AlwaysSound b) → IfSome o (λ (r : AlwaysRecord). from ≤ block_index r.block) →
     always_in c f o ≡ always_in b g o
 always-alike b c a f g from q None h k = refl
 always-alike b c a f g from q (Some x) h k =
-    ap (λ es. AlwaysMember (always_word x.kind) es (block_in (f (block_index x.block)))) (events-alike b c a x.events h.events)
-    ∙ ap (λ y. AlwaysMember (always_word x.kind) (trees_of b x.events) (block_in y)) (q.at (block_index x.block) k (block-place b x.block h.block))
+    ap (λ es. AlwaysMember x.kind es (block_in (f (block_index x.block)))) (events-alike b c a x.events h.events)
+    ∙ ap (λ y. AlwaysMember x.kind (trees_of b x.events) (block_in y)) (q.at (block_index x.block) k (block-place b x.block h.block))
 
 member-alike : (b c : Bench) → Alike b c → (f g : ℕ → Family) (from : ℕ) → Meet b from f g → (m : MemberEntry) → MemberSound b m → From b from m → member_in c f m ≡ member_in b g m
 member-alike b c a f g from q (DeclarationEntry kind name t) h k = rw (type-alike b c a t h) refl
@@ -250,7 +250,7 @@ member-alike b c a f g from q (AlwaysEntry x) h k =
 member-alike b c a f g from q (ConditionalEntry x) h k = ap branch_member (q.at (conditional_index x) k (conditional-place b x h))
 member-alike b c a f g from q (LoopEntry x) h k = ap repeat_member (q.at (loop_index x) k (loop-place b x h))
 
-newer-from : (i : ℕ) (o : Option AlwaysRecord) → AlwaysNewer i o → OptionHolds (λ (r : AlwaysRecord). suc i ≤ block_index r.block) o
+newer-from : (i : ℕ) (o : Option AlwaysRecord) → AlwaysNewer i o → IfSome o (λ (r : AlwaysRecord). suc i ≤ block_index r.block)
 newer-from i None h = tt
 newer-from i (Some x) h = h
 
@@ -268,11 +268,11 @@ from-newer b i (AlwaysEntry x) h = newer-from i (slice_get b.always_blocks (alwa
 from-newer b i (ConditionalEntry x) h = h
 from-newer b i (LoopEntry x) h = h
 
-function-zero : (o : Option FunctionRecord) → OptionHolds (λ (r : FunctionRecord). 0 ≤ block_index r.body) o
+function-zero : (o : Option FunctionRecord) → IfSome o (λ (r : FunctionRecord). 0 ≤ block_index r.body)
 function-zero None = tt
 function-zero (Some x) = zero-le
 
-always-zero : (o : Option AlwaysRecord) → OptionHolds (λ (r : AlwaysRecord). 0 ≤ block_index r.block) o
+always-zero : (o : Option AlwaysRecord) → IfSome o (λ (r : AlwaysRecord). 0 ≤ block_index r.block)
 always-zero None = tt
 always-zero (Some x) = zero-le
 
@@ -327,7 +327,7 @@ families-alike b c a i below = let n = a.count in unfolded-alike b c a (length c
 
 -- The file.
 
-port-alike : (b c : Bench) → Alike b c → (o : Option PortRecord) → OptionHolds (PortSound b) o → maybe_port_tree c o ≡ maybe_port_tree b o
+port-alike : (b c : Bench) → Alike b c → (o : Option PortRecord) → IfSome o (PortSound b) → maybe_port_tree c o ≡ maybe_port_tree b o
 port-alike b c a None h = refl
 port-alike b c a (Some p) h = rw (type-alike b c a p.data_type h.0) refl
 
@@ -341,7 +341,7 @@ parameters-alike : (b c : Bench) → Alike b c → (ps : List ParameterPortRecor
 parameters-alike b c a [] h = refl
 parameters-alike b c a (p ∷ ps) h = rw (maybe-type b c a p.data_type h.0.0, expr-alike b c a p.value h.0.1, parameters-alike b c a ps h.1) refl
 
-module-alike : (b c : Bench) → Alike b c → (o : Option ModuleRecord) → OptionHolds (ModuleSound b) o → maybe_module_tree c o ≡ maybe_module_tree b o
+module-alike : (b c : Bench) → Alike b c → (o : Option ModuleRecord) → IfSome o (ModuleSound b) → maybe_module_tree c o ≡ maybe_module_tree b o
 module-alike b c a None h = refl
 module-alike b c a (Some m) h =
     rw (
@@ -363,7 +363,7 @@ items-alike b c a [] = refl
 items-alike b c a (e ∷ es) = rw (item-alike b c a e, items-alike b c a es) refl
 
 abbrev tree_with : VastFileType → List FileItemTree → FileTree
-tree_with t items = record { dialect = dialect_of t; items = items }
+tree_with t items = record { dialect = t; items = items }
 
 tree-alike : (b c : Bench) → Alike b c → tree c ≡ tree b
 unfolding tree

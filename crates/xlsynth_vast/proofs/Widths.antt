@@ -6,8 +6,10 @@ use Rattle.vast_literal.specs.Tree.{ExprTree, TypeTree, ScalarTree, VectorTree, 
 use Rattle.vast_literal.specs.declared.error.VastFault.{VastFault}
 use Rattle.vast_literal.specs.declared.error.VastFault.TheVariants.{Refused, Memory}
 use Rattle.vast_literal.specs.Fault.{HasText, OnlyRefusedBy}
-use Rattle.vast_core.specs.Types.{base_of, vector_width}
-use Rattle.vast_core.specs.BitCount.{base_bits, declared_bits, is_external, bit_count}
+use Rattle.vast_core.specs.Types.{vector_width}
+use Rattle.vast_literal.specs.Shape.{base_of}
+use Rattle.vast_core.specs.BitCount.{base_bits, declared_bits, bit_count}
+use Rattle.vast_literal.specs.Shape.{is_external}
 use Rattle.vast_print.specs.declared.refusal.Refusal.{Refusal}
 use Rattle.vast_print.specs.Printed.{Printed}
 use Rattle.vast_print.specs.Text.{expr_text}

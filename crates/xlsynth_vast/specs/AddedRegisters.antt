@@ -3,10 +3,10 @@ use Rattle.std.specs.Prelude.{◌≡◌, suc, Bool, true, List, [], ◌∷◌, l
 use Rattle.std.specs.List.{list_any}
 use Rattle.vast_literal.specs.declared.error.VastFault.{VastFault}
 use Rattle.vast_literal.specs.declared.error.VastFault.TheVariants.{Refused, Memory}
-use Rattle.vast_literal.specs.Tree.{LogicalNotOp}
+use Rattle.vast_literal.specs.declared.operator.UnaryOperator.TheVariants.{LogicalNot as LogicalNotOp}
 use Rattle.vast_core.specs.declared.handle.Expr.{Expr}
 use Rattle.vast_core.specs.declared.handle.VastStatementBlock.{VastStatementBlock}
-use Rattle.vast_core.specs.declared.kind.AlwaysKind.TheVariants.{AlwaysFF}
+use Rattle.vast_literal.specs.declared.kind.AlwaysKind.TheVariants.{AlwaysFF}
 use Rattle.vast_core.specs.Records.{MemberEntry, AlwaysEntry}
 use Rattle.vast_core.specs.Nests.{AssignStatement, ConditionalStatement}
 use Rattle.vast_core.specs.Bench.{Bench, tree_of}

@@ -1,7 +1,7 @@
 -- Which case statements may be unique.
 use Rattle.std.specs.Prelude.{ℕ, Bool, true, false, List, Result, Ok, Err, codes}
-use Rattle.vast_core.specs.declared.kind.VastFileType.{VastFileType}
-use Rattle.vast_core.specs.declared.kind.VastFileType.TheVariants.{Verilog, SystemVerilog}
+use Rattle.vast_literal.specs.declared.kind.VastFileType.{VastFileType}
+use Rattle.vast_literal.specs.declared.kind.VastFileType.TheVariants.{Verilog, SystemVerilog}
 
 -- Those of SystemVerilog; in Verilog the word is refused.
 abbrev pub may_be_unique : VastFileType → (unique : Bool) → Result (Unit {0}) (List ℕ)

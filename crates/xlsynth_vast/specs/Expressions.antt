@@ -1,6 +1,8 @@
 -- What a file holds after a call that makes an expression: one node more, or a literal and a node.
 use Rattle.std.specs.Prelude.{ℕ, ℤ, List}
-use Rattle.vast_literal.specs.Tree.{UnaryOp, BinaryOp, UnaryTree, BinaryTree, TernaryTree, IndexTree, SliceTree, PartSelectTree, NoExpr, SomeExpr, ConcatTree, PatternTree, WidthCastTree, TypeCastTree, PosEdgeTree, NegEdgeTree, NoArguments, SomeArguments, MacroTree, CallTree, ExprTree}
+use Rattle.vast_literal.specs.Tree.{UnaryTree, BinaryTree, TernaryTree, IndexTree, SliceTree, PartSelectTree, NoExpr, SomeExpr, ConcatTree, PatternTree, WidthCastTree, TypeCastTree, PosEdgeTree, NegEdgeTree, NoArguments, SomeArguments, MacroTree, CallTree, ExprTree}
+use Rattle.vast_literal.specs.declared.operator.UnaryOperator.{UnaryOperator as UnaryOp}
+use Rattle.vast_literal.specs.declared.operator.BinaryOperator.{BinaryOperator as BinaryOp}
 use Rattle.vast_core.specs.declared.handle.Expr.{Expr}
 use Rattle.vast_core.specs.declared.handle.IndexableExpr.{IndexableExpr}
 use Rattle.vast_core.specs.declared.handle.VastDataType.{VastDataType}

@@ -10,8 +10,8 @@ use Rattle.vast_core.specs.declared.handle.VastAlwaysBase.{VastAlwaysBase}
 use Rattle.vast_core.specs.declared.handle.VastStatementBlock.{VastStatementBlock}
 use Rattle.vast_core.specs.declared.handle.Conditional.{Conditional}
 use Rattle.vast_core.specs.declared.handle.GenerateLoop.{GenerateLoop}
-use Rattle.vast_core.specs.declared.kind.ModulePortDirection.{ModulePortDirection}
-use Rattle.vast_core.specs.declared.kind.ModulePortDirection.TheVariants.{Input, Output, InOut}
+use Rattle.vast_literal.specs.declared.kind.ModulePortDirection.{ModulePortDirection}
+use Rattle.vast_literal.specs.declared.kind.ModulePortDirection.TheVariants.{Input, Output, InOut}
 use Rattle.vast_core.specs.Handles.{module_index, port_index, function_index, always_index, conditional_index, loop_index, logic_ref_to_expr}
 use Rattle.vast_core.specs.Records.{PortRecord, ModuleRecord, MemberEntry}
 use Rattle.vast_core.specs.Nests.{NestRecord, BlockRecord, BranchRecord, SwitchRecord, RepeatRecord, FunctionRecord, AlwaysRecord}

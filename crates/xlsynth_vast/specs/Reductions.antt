@@ -6,7 +6,10 @@ use Rattle.std.specs.declared.alloc.Global.{Global}
 use Rattle.vast_literal.specs.declared.error.VastFault.{VastFault}
 use Rattle.vast_literal.specs.declared.error.VastFault.TheVariants.{Refused, Memory}
 use Rattle.vast_literal.specs.Fault.{RefusedBy}
-use Rattle.vast_literal.specs.Tree.{BinaryOp, BitwiseOrOp, LogicalNotOp, ExprTree, LiteralTree, UnaryTree, BinaryTree}
+use Rattle.vast_literal.specs.Tree.{ExprTree, LiteralTree, UnaryTree, BinaryTree}
+use Rattle.vast_literal.specs.declared.operator.BinaryOperator.{BinaryOperator as BinaryOp}
+use Rattle.vast_literal.specs.declared.operator.BinaryOperator.TheVariants.{BitwiseOr as BitwiseOrOp}
+use Rattle.vast_literal.specs.declared.operator.UnaryOperator.TheVariants.{LogicalNot as LogicalNotOp}
 use Rattle.vast_core.specs.declared.handle.Expr.{Expr}
 use Rattle.vast_core.specs.Nodes.{Root}
 use Rattle.vast_core.specs.Bench.{Bench, OwnsExpr, tree_of}

@@ -1,11 +1,14 @@
 -- Registers: the always block that a call makes of them, and the values that they take by it.
-use Rattle.std.specs.Prelude.{◌≡◌, ℕ, Bool, true, false, IsTrue, not, nat_eq, List, [], ◌∷◌, ◌++◌, map, Option, Some, None, option_map, slice_get, Result, Ok, Err, codes, if◌then◌else◌}
+use Rattle.std.specs.Prelude.{◌≡◌, ℕ, Bool, true, false, IsTrue, not, nat_eq, List, [], ◌∷◌, ◌++◌, map, Option, Some, None, option_map, slice_get, Result, Ok, Err, codes, if◌then◌else◌, IfSome}
 use Rattle.std.specs.List.{flat_map, list_any}
 use Rattle.std.specs.Cmp.Lexicographic.{pointwise}
-use Rattle.vast_literal.specs.Tree.{ExprTree, NameTree, UnaryTree, LogicalNotOp, TernaryTree, PosEdgeTree, MoreExprs, NoExprs, Nonblocking, StatementTree, AssignTree, CommentTree, BlankTree, InlineTree, ConditionalTree, CaseTree, Statements, NoStatements, MoreStatements, Alternates, NoElse, ElseIf, Else, MemberTree, AlwaysMember, AlwaysFFWord}
+use Rattle.vast_literal.specs.Tree.{ExprTree, NameTree, UnaryTree, TernaryTree, PosEdgeTree, MoreExprs, NoExprs, StatementTree, AssignTree, CommentTree, BlankTree, InlineTree, ConditionalTree, CaseTree, Statements, NoStatements, MoreStatements, Alternates, NoElse, ElseIf, Else, MemberTree, AlwaysMember}
+use Rattle.vast_literal.specs.declared.operator.UnaryOperator.TheVariants.{LogicalNot as LogicalNotOp}
+use Rattle.vast_literal.specs.declared.kind.AssignmentForm.TheVariants.{Nonblocking}
+use Rattle.vast_literal.specs.declared.kind.AlwaysKind.TheVariants.{AlwaysFF as AlwaysFFWord}
 use Rattle.vast_core.specs.declared.handle.VastStatementBlock.{VastStatementBlock}
 use Rattle.vast_core.specs.declared.node.Assignment.{Assignment}
-use Rattle.vast_core.specs.Nodes.{Root, OptionHolds, is_name}
+use Rattle.vast_core.specs.Nodes.{Root, is_name}
 use Rattle.vast_core.specs.Nests.{NestRecord}
 use Rattle.vast_core.specs.Bench.{Bench, OwnsExpr, OwnsModule, OwnsLoop, tree_of}
 use Rattle.vast_core.specs.Sound.{AreDistinct}
@@ -185,7 +188,7 @@ RegistersTakeTheirValues = (reset : Option ResetTree) (registers : List Register
 -- What a call leaves.
 
 abbrev pub OwnsRegister : Bench → RegisterDefinition → Type 0
-OwnsRegister b r = OwnsExpr b r.reg × OwnsExpr b r.next × OptionHolds (OwnsExpr b) r.reset_value × OptionHolds (OwnsExpr b) r.enable
+OwnsRegister b r = OwnsExpr b r.reg × OwnsExpr b r.next × IfSome r.reset_value (OwnsExpr b) × IfSome r.enable (OwnsExpr b)
 
 abbrev pub OwnsReset : Bench → Reset → Type 0
 OwnsReset b reset = OwnsExpr b reset.signal

@@ -2,7 +2,7 @@
 use Rattle.std.specs.Prelude.{ℕ, ℤ, pos, ◌^◌, int_lt, List, [], ◌++◌, codes, Option, Some, None, Result, Ok, Err, if◌then◌else◌}
 use Rattle.std.specs.Option.{ok_or}
 use Rattle.vast_literal.specs.Tree.{TypeTree, VectorTree, ExternalTree, PackageTree}
-use Rattle.vast_core.specs.Types.{base_of}
+use Rattle.vast_literal.specs.Shape.{base_of}
 use Rattle.vast_core.specs.BitCount.{width_value, bit_count}
 use Rattle.vast_print.specs.declared.refusal.Refusal.{Refusal}
 use Rattle.vast_print.specs.Printed.{Printed, refusal_text}

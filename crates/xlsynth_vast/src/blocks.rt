@@ -11,7 +11,7 @@ ghost use Rattle.vast_core.specs.View.{bench};
 
 use crate::file::VastFile;
 use std::alloc::AllocError;
-use vast_core::{Expr, Statement, VastStatement, VastStatementBlock};
+use vast_core::{AssignmentForm, Expr, Spot, Statement, VastStatement, VastStatementBlock};
 
 impl VastFile {
     /// The assignment `lhs = rhs`, as the block's last statement.
@@ -29,7 +29,9 @@ impl VastFile {
         requires rhs { OwnsExpr (bench self.old) rhs.now }
         ensures { Builds (bench self.old) (bench self.new) result (next_statement (bench self.old)) (with_statement block (AssignStatement (next_statement (bench self.old))) (with_assignment (record { lhs = lhs.now; rhs = rhs.now; nonblocking = false }) (bench self.old))) }
     {
-        self.ast.append_block_assignment(block, *lhs, *rhs, false)
+        let spot = Spot::Block(block);
+        self.ast
+            .append_assignment(spot, AssignmentForm::Blocking, *lhs, *rhs)
     }
 
     /// The assignment `lhs <= rhs`, as the block's last statement.
@@ -47,7 +49,9 @@ impl VastFile {
         requires rhs { OwnsExpr (bench self.old) rhs.now }
         ensures { Builds (bench self.old) (bench self.new) result (next_statement (bench self.old)) (with_statement block (AssignStatement (next_statement (bench self.old))) (with_assignment (record { lhs = lhs.now; rhs = rhs.now; nonblocking = true }) (bench self.old))) }
     {
-        self.ast.append_block_assignment(block, *lhs, *rhs, true)
+        let spot = Spot::Block(block);
+        self.ast
+            .append_assignment(spot, AssignmentForm::Nonblocking, *lhs, *rhs)
     }
 
     /// The assignment `assign lhs = rhs`, as the block's last statement.
@@ -65,7 +69,9 @@ impl VastFile {
         requires rhs { OwnsExpr (bench self.old) rhs.now }
         ensures { Builds (bench self.old) (bench self.new) result (next_statement (bench self.old)) (with_statement block (ContinuousStatement (next_statement (bench self.old))) (with_assignment (record { lhs = lhs.now; rhs = rhs.now; nonblocking = false }) (bench self.old))) }
     {
-        self.ast.append_block_continuous(block, *lhs, *rhs)
+        let spot = Spot::Block(block);
+        self.ast
+            .append_assignment(spot, AssignmentForm::Continuous, *lhs, *rhs)
     }
 
     /// A comment, as the block's last statement; each line of the text becomes a line of its own.

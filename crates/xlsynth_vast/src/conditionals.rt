@@ -12,7 +12,7 @@ ghost use Rattle.xlsynth_vast.specs.Inspections.{then_block_at};
 
 use crate::file::VastFile;
 use std::alloc::AllocError;
-use vast_core::{Conditional, Expr, Scope, VastModule, VastStatementBlock};
+use vast_core::{Conditional, Expr, Scope, Spot, VastModule, VastStatementBlock};
 
 impl VastFile {
     /// A conditional with an empty block, as the module's last member.
@@ -28,7 +28,8 @@ impl VastFile {
         requires condition { OwnsExpr (bench self.old) condition.now }
         ensures { Builds (bench self.old) (bench self.new) result (next_conditional (bench self.old)) (with_member owner (ConditionalEntry (next_conditional (bench self.old))) (with_conditional condition.now (bench self.old))) }
     {
-        self.ast.push_conditional(Scope::Module(owner), *condition)
+        self.ast
+            .push_conditional(Spot::Scope(Scope::Module(owner)), *condition)
     }
 
     /// A conditional with an empty block, as the block's last statement.
@@ -44,7 +45,7 @@ impl VastFile {
         requires condition { OwnsExpr (bench self.old) condition.now }
         ensures { Builds (bench self.old) (bench self.new) result (next_conditional (bench self.old)) (with_statement block (ConditionalStatement (next_conditional (bench self.old))) (with_conditional condition.now (bench self.old))) }
     {
-        self.ast.append_block_conditional(block, *condition)
+        self.ast.push_conditional(Spot::Block(block), *condition)
     }
 
     /// The block of the conditional's first arm, which is the file's.

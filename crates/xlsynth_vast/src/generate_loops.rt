@@ -16,9 +16,9 @@ ghost use Rattle.xlsynth_vast.specs.Inspections.{genvar_at};
 use crate::file::VastFile;
 use std::alloc::{AllocError, Global};
 use vast_core::{
-    Comment, Conditional, Def, Expr, GenerateLoop, InlineVerilogStatement, Instantiation,
-    LocalparamRef, LogicRef, MacroStatement, Member, ParameterForm, Scope, VastModule,
-    VastStatement,
+    AssignmentForm, Comment, Conditional, Def, Expr, GenerateLoop, InlineVerilogStatement,
+    Instantiation, LocalparamRef, LogicRef, MacroStatement, Member, ParameterForm, Scope, Spot,
+    VastModule, VastStatement,
 };
 
 /// The label as a text of its own, if there is one.
@@ -139,8 +139,9 @@ impl VastFile {
         requires rhs { OwnsExpr (bench self.old) rhs.now }
         ensures { Builds (bench self.old) (bench self.new) result (next_statement (bench self.old)) (with_loop_member generate (AssignmentEntry (next_continuous (bench self.old))) (with_assignment (record { lhs = lhs.now; rhs = rhs.now; nonblocking = false }) (bench self.old))) }
     {
+        let spot = Spot::Scope(Scope::Loop(generate));
         self.ast
-            .append_assignment(Scope::Loop(generate), *lhs, *rhs)
+            .append_assignment(spot, AssignmentForm::Continuous, *lhs, *rhs)
     }
 
     /// A conditional with an empty block, as the loop's last member.
@@ -156,7 +157,8 @@ impl VastFile {
         requires condition { OwnsExpr (bench self.old) condition.now }
         ensures { Builds (bench self.old) (bench self.new) result (next_conditional (bench self.old)) (with_loop_member generate (ConditionalEntry (next_conditional (bench self.old))) (with_conditional condition.now (bench self.old))) }
     {
-        self.ast.push_conditional(Scope::Loop(generate), *condition)
+        self.ast
+            .push_conditional(Spot::Scope(Scope::Loop(generate)), *condition)
     }
 
     /// A blank line, as the loop's last member.

@@ -26,10 +26,11 @@ impl VastFile {
     ///
     /// # Errors
     /// `AllocError` where a growth was refused; the file is unchanged.
-    pub fn add_blank_line(&mut self, _blank_line: BlankLine) -> Result<(), AllocError>
-        requires { OwnsBlankLine (bench self.old) _blank_line }
+    pub fn add_blank_line(&mut self, blank_line: BlankLine) -> Result<(), AllocError>
+        requires { OwnsBlankLine (bench self.old) blank_line }
         ensures { Builds (bench self.old) (bench self.new) result tt (with_item FileBlankEntry (bench self.old)) }
     {
+        let _ = blank_line;
         self.ast.append_file_blank_line()
     }
 

@@ -24,9 +24,9 @@ pub fn containers_have_one_parent(file: &VastFile)
 
 /// The names that a module declares, of its ports, wires, regs, logics and functions, are pairwise distinct in every
 /// file, and they are the names that are taken in it.
-pub fn module_names_are_distinct(file: &VastFile, module: VastModule)
-    requires { OwnsModule (bench file.now) «module» }
-    ensures { ModuleNamesAreDistinct (bench file.now) «module» }
+pub fn module_names_are_distinct(file: &VastFile, owner: VastModule)
+    requires { OwnsModule (bench file.now) owner }
+    ensures { ModuleNamesAreDistinct (bench file.now) owner }
 {
     file.ast.file_is_sound();
 }

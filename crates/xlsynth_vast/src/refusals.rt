@@ -3,7 +3,7 @@
 ghost use Rattle.std.specs.Prelude.{◌≡◌, MatchResult, IsTrue, codes, string_bytes};
 ghost use Rattle.vast_literal.specs.Fault.{HasText};
 ghost use Rattle.vast_core.specs.Bench.{OwnsExpr, OwnsType, tree_of, type_of};
-ghost use Rattle.vast_core.specs.BitCount.{is_external};
+ghost use Rattle.vast_literal.specs.Shape.{is_external};
 ghost use Rattle.vast_core.specs.View.{bench};
 ghost use Rattle.vast_print.specs.Text.{expr_text};
 ghost use Rattle.xlsynth_vast.specs.Widths.{no_literal, uncounted};

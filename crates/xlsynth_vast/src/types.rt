@@ -1,9 +1,8 @@
 //! Types.
 
-ghost use Rattle.std.specs.Prelude.{◌≡◌, ◌≤ℤ◌, ◌↔◌, pos, false, IsTrue};
+ghost use Rattle.std.specs.Prelude.{◌≡◌, ◌≤ℤ◌, ◌↔◌, pos, false, IsTrue, IfSome};
 ghost use Rattle.vast_literal.specs.Tree.{ScalarTree, IntegerTree, IntTree, ExternalTree, PackageTree};
 ghost use Rattle.vast_core.specs.Types.{IsUsableWidth, is_packable, is_castable, is_signed, width_of, AreDimensions};
-ghost use Rattle.vast_core.specs.Nodes.{OptionHolds};
 ghost use Rattle.vast_core.specs.Bench.{OwnsExpr, OwnsType, tree_of, maybe_tree_of, type_of};
 ghost use Rattle.vast_core.specs.Growth.{Builds, next_type, with_type};
 ghost use Rattle.vast_core.specs.View.{bench};
@@ -177,7 +176,7 @@ impl VastFile {
     /// The width of the vector within the arrays; `None` where no vector is within.
     pub fn type_width_expr(&self, data_type: VastDataType) -> Option<Expr>
         requires { OwnsType (bench self.now) data_type }
-        ensures owned { OptionHolds (OwnsExpr (bench self.now)) result }
+        ensures owned { IfSome result (OwnsExpr (bench self.now)) }
         ensures width { maybe_tree_of (bench self.now) result ≡ width_of (type_of (bench self.now) data_type) }
     {
         self.ast.type_width_expr(data_type)

@@ -1,7 +1,7 @@
 //! Always blocks.
 
 ghost use Rattle.std.specs.Prelude.{◌≡◌, All, None, Some, [], slice_get};
-ghost use Rattle.vast_core.specs.declared.kind.AlwaysKind.TheVariants.{AlwaysFF, AlwaysAt, AlwaysComb};
+ghost use Rattle.vast_literal.specs.declared.kind.AlwaysKind.TheVariants.{AlwaysFF, AlwaysAt, AlwaysComb};
 ghost use Rattle.vast_core.specs.Handles.{always_index};
 ghost use Rattle.vast_core.specs.Records.{AlwaysEntry};
 ghost use Rattle.vast_core.specs.Nests.{always_record};
@@ -17,7 +17,7 @@ use crate::ast::Ast;
 use crate::ast::arrivals::{Arrivals, Node, Terms};
 use crate::ast::scope::Scope;
 use crate::handle::{Expr, VastAlwaysBase, VastStatementBlock};
-use crate::kind::AlwaysKind;
+use vast_literal::AlwaysKind;
 use crate::node::{AlwaysBlock, Member};
 use std::alloc::AllocError;
 

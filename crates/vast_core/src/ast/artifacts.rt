@@ -17,7 +17,7 @@ use crate::handle::{
     BlankLine, Comment, Def, Id, InlineVerilogStatement, Instantiation, MacroRef, MacroStatement,
     VastDataType,
 };
-use crate::kind::DataKind;
+use vast_literal::DataKind;
 use crate::node::{Artifact, Connection, Definition, Instance};
 use std::alloc::AllocError;
 

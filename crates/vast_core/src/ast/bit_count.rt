@@ -1,7 +1,7 @@
 //! Counting the bits of types.
 
 ghost use Rattle.std.specs.Prelude.{◌≡◌, ◌≤ℤ◌, ◌*ℤ◌, ◌^◌, pos, All, Some, IfNone, IfSome, IfOk, IfErr};
-ghost use Rattle.vast_core.specs.Types.{base_of};
+ghost use Rattle.vast_literal.specs.Shape.{base_of};
 ghost use Rattle.vast_core.specs.BitCount.{product, base_bits, bit_count, width_value, CountRefused, WidthRefused};
 ghost use Rattle.vast_core.specs.Bench.{OwnsType, type_of};
 ghost use Rattle.vast_core.specs.View.{bench};

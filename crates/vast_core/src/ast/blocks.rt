@@ -1,22 +1,21 @@
 //! Blocks: their statements, and calls that append to them.
 
-ghost use Rattle.std.specs.Prelude.{[], ◌≡◌, ◌<◌, ◌^◌, false, All, Some, map, slice_get};
+ghost use Rattle.std.specs.Prelude.{[], ◌≡◌, ◌<◌, ◌^◌, All, Some, map, slice_get};
 ghost use Rattle.vast_core.specs.Handles.{block_index};
-ghost use Rattle.vast_core.specs.Nests.{statement_entry, BlockRecord, AssignStatement, ContinuousStatement};
+ghost use Rattle.vast_core.specs.Nests.{statement_entry, BlockRecord};
 ghost use Rattle.vast_core.specs.Parents.{held_by_statement};
-ghost use Rattle.vast_core.specs.Bench.{OwnsBlock, OwnsExpr};
+ghost use Rattle.vast_core.specs.Bench.{OwnsBlock};
 ghost use Rattle.vast_core.specs.Sound.{StatementSound};
 ghost use Rattle.vast_core.specs.FileTree.{block_tree, statements_tree};
-ghost use Rattle.vast_core.specs.Growth.{Builds, with_assignment};
-ghost use Rattle.vast_core.specs.Artifacts.{next_statement};
+ghost use Rattle.vast_core.specs.Growth.{Builds};
 ghost use Rattle.vast_core.specs.Containers.{with_statement};
 ghost use Rattle.vast_core.specs.View.{bench};
 
 use crate::ast::Ast;
-use crate::ast::arrivals::{Arrivals, Node, Terms};
+use crate::ast::arrivals::Arrivals;
 use crate::ast::growth::{Entry, Place};
-use crate::handle::{Expr, VastStatement, VastStatementBlock};
-use crate::node::{Assignment, Nest, Statement};
+use crate::handle::VastStatementBlock;
+use crate::node::{Nest, Statement};
 use std::alloc::AllocError;
 
 impl Ast {
@@ -39,81 +38,6 @@ impl Ast {
             Place::Nest(owner.id.index, Entry::Statement(statement)),
             Arrivals::none(),
         )
-    }
-
-    /// Appends an assignment to the block, `lhs <= rhs` where it is nonblocking.
-    ///
-    /// # Errors
-    /// `AllocError` where a growth was refused; nothing changed.
-    #[tactic(auto, using(crate::proofs::Enters::enters))]
-    pub fn append_block_assignment(
-        &mut self,
-        owner: VastStatementBlock,
-        lhs: Expr,
-        rhs: Expr,
-        nonblocking: bool,
-    ) -> Result<VastStatement, AllocError>
-        requires owner { OwnsBlock (bench self.old) owner }
-        requires lhs { OwnsExpr (bench self.old) lhs }
-        requires rhs { OwnsExpr (bench self.old) rhs }
-        ensures { Builds (bench self.old) (bench self.new) result (next_statement (bench self.old)) (with_statement owner (AssignStatement (next_statement (bench self.old))) (with_assignment (record { lhs = lhs; rhs = rhs; nonblocking = nonblocking }) (bench self.old))) }
-    {
-        let statement = VastStatement {
-            id: self.next_assignment(),
-        };
-        self.grow(
-            Place::Nest(
-                owner.id.index,
-                Entry::Statement(Statement::Assignment(statement)),
-            ),
-            Arrivals {
-                terms: Terms::Nothing,
-                node: Node::Assignment(Assignment {
-                    lhs,
-                    rhs,
-                    nonblocking,
-                }),
-                block: false,
-            },
-        )?;
-        Ok(statement)
-    }
-
-    /// Appends the assignment `assign lhs = rhs` to the block.
-    ///
-    /// # Errors
-    /// `AllocError` where a growth was refused; nothing changed.
-    #[tactic(auto, using(crate::proofs::Enters::enters))]
-    pub fn append_block_continuous(
-        &mut self,
-        owner: VastStatementBlock,
-        lhs: Expr,
-        rhs: Expr,
-    ) -> Result<VastStatement, AllocError>
-        requires owner { OwnsBlock (bench self.old) owner }
-        requires lhs { OwnsExpr (bench self.old) lhs }
-        requires rhs { OwnsExpr (bench self.old) rhs }
-        ensures { Builds (bench self.old) (bench self.new) result (next_statement (bench self.old)) (with_statement owner (ContinuousStatement (next_statement (bench self.old))) (with_assignment (record { lhs = lhs; rhs = rhs; nonblocking = false }) (bench self.old))) }
-    {
-        let statement = VastStatement {
-            id: self.next_assignment(),
-        };
-        self.grow(
-            Place::Nest(
-                owner.id.index,
-                Entry::Statement(Statement::Continuous(statement)),
-            ),
-            Arrivals {
-                terms: Terms::Nothing,
-                node: Node::Assignment(Assignment {
-                    lhs,
-                    rhs,
-                    nonblocking: false,
-                }),
-                block: false,
-            },
-        )?;
-        Ok(statement)
     }
 
     /// The statements of a block, in order. What they are made of is the file's, and newer than the block.

@@ -1,28 +1,23 @@
 //! Conditionals and case statements.
 
-ghost use Rattle.std.specs.Prelude.{◌≡◌, ◌<◌, ◌^◌, false, Some, slice_get};
+ghost use Rattle.std.specs.Prelude.{◌≡◌, ◌<◌, ◌^◌, false, Some, slice_get, IfSome};
 ghost use Rattle.vast_core.specs.Handles.{conditional_index, case_index};
-ghost use Rattle.vast_core.specs.Nodes.{OptionHolds};
-ghost use Rattle.vast_core.specs.Nests.{nest_record, conditional_record, case_record, BranchRecord, SwitchRecord, ConditionalStatement, CasesStatement};
+ghost use Rattle.vast_core.specs.Nests.{nest_record, conditional_record, case_record, BranchRecord, SwitchRecord, CasesStatement};
 ghost use Rattle.vast_core.specs.Bench.{OwnsBlock, OwnsExpr, OwnsConditional, OwnsCase, tree_of};
 ghost use Rattle.vast_core.specs.Sound.{ConditionalSound, CaseSound};
 ghost use Rattle.vast_core.specs.FileTree.{BranchFamily, SwitchFamily, families, block_tree, alternates_tree, case_arms_tree};
-ghost use Rattle.vast_core.specs.Kinds.{case_word};
 ghost use Rattle.vast_literal.specs.Tree.{CaseTree};
 ghost use Rattle.vast_core.specs.Growth.{Builds};
-ghost use Rattle.vast_core.specs.Containers.{InNest, GrowthSound, new_conditional, fresh_block, with_nest_entry, with_block, with_statement, next_conditional, with_conditional, next_case, with_case, next_block, with_else_if, with_else, with_case_arm, has_else, with_unique, with_case_unique};
+ghost use Rattle.vast_core.specs.Containers.{InNest, GrowthSound, new_conditional, fresh_block, with_nest_entry, with_block, with_statement, next_case, with_case, next_block, with_else_if, with_else, with_case_arm, has_else, with_unique, with_case_unique};
 ghost use Rattle.vast_core.specs.Arrivals.{entry_of};
-ghost use Rattle.vast_core.specs.Records.{ConditionalEntry};
-ghost use Rattle.vast_core.specs.Scopes.{OwnsScope, with_scope_member};
 ghost use Rattle.vast_core.specs.View.{bench};
 
 use crate::ast::Ast;
 use crate::ast::arrivals::{Arrivals, Node, Terms};
 use crate::ast::growth::{Entry, Place};
-use crate::ast::scope::Scope;
 use crate::handle::{CaseStatement, Conditional, Expr, VastStatementBlock};
-use crate::kind::CaseKind;
-use crate::node::{CaseArm, CaseNode, ConditionalNode, ElseIf, Member, Nest, Statement};
+use vast_literal::CaseKind;
+use crate::node::{CaseArm, CaseNode, ConditionalNode, ElseIf, Nest, Statement};
 use std::alloc::AllocError;
 
 impl Nest {
@@ -45,38 +40,8 @@ impl Ast {
         target.set_unique(unique);
     }
 
-    /// Adds a conditional as the scope's last member, with an empty block as its first arm.
-    ///
-    /// # Errors
-    /// `AllocError` where a growth was refused; nothing changed.
-    #[tactic(auto, using(crate::proofs::EntersScopes::enters_scopes))]
-    pub fn push_conditional(
-        &mut self,
-        scope: Scope,
-        condition: Expr,
-    ) -> Result<Conditional, AllocError>
-        requires scope { OwnsScope (bench self.old) scope }
-        requires condition { OwnsExpr (bench self.old) condition }
-        ensures { Builds (bench self.old) (bench self.new) result (next_conditional (bench self.old)) (with_scope_member scope (ConditionalEntry (next_conditional (bench self.old))) (with_conditional condition (bench self.old))) }
-    {
-        let conditional = Conditional {
-            id: self.next_nest(),
-        };
-        let node = self.new_conditional(condition);
-        self.grow_in(
-            scope,
-            Member::Conditional(conditional),
-            Arrivals {
-                terms: Terms::Nothing,
-                node: Node::Container(node),
-                block: true,
-            },
-        )?;
-        Ok(conditional)
-    }
-
     /// A conditional whose first arm is the block behind the next container.
-    fn new_conditional(&self, condition: Expr) -> Nest
+    pub(crate) fn new_conditional(&self, condition: Expr) -> Nest
         ensures { nest_record result ≡ new_conditional (bench self.now) condition }
     {
         Nest::Conditional(ConditionalNode {
@@ -87,38 +52,6 @@ impl Ast {
             else_ifs: Vec::new(self.alloc),
             otherwise: None,
         })
-    }
-
-    /// Appends a conditional to the block, with an empty block as its first arm.
-    ///
-    /// # Errors
-    /// `AllocError` where a growth was refused; nothing changed.
-    #[tactic(auto, using(crate::proofs::Enters::enters))]
-    pub fn append_block_conditional(
-        &mut self,
-        owner: VastStatementBlock,
-        condition: Expr,
-    ) -> Result<Conditional, AllocError>
-        requires owner { OwnsBlock (bench self.old) owner }
-        requires condition { OwnsExpr (bench self.old) condition }
-        ensures { Builds (bench self.old) (bench self.new) result (next_conditional (bench self.old)) (with_statement owner (ConditionalStatement (next_conditional (bench self.old))) (with_conditional condition (bench self.old))) }
-    {
-        let conditional = Conditional {
-            id: self.next_nest(),
-        };
-        let node = self.new_conditional(condition);
-        self.grow(
-            Place::Nest(
-                owner.id.index,
-                Entry::Statement(Statement::Conditional(conditional)),
-            ),
-            Arrivals {
-                terms: Terms::Nothing,
-                node: Node::Container(node),
-                block: true,
-            },
-        )?;
-        Ok(conditional)
     }
 
     /// Appends a case statement without arms to the block.
@@ -226,7 +159,7 @@ impl Ast {
         label: Option<Expr>,
     ) -> Result<VastStatementBlock, AllocError>
         requires owner { OwnsCase (bench self.old) owner }
-        requires label { OptionHolds (OwnsExpr (bench self.old)) label }
+        requires label { IfSome label (OwnsExpr (bench self.old)) }
         ensures { Builds (bench self.old) (bench self.new) result (next_block (bench self.old)) (with_case_arm owner label (bench self.old)) }
     {
         let block = VastStatementBlock {
@@ -265,7 +198,7 @@ impl Ast {
     pub fn case(&self, c: CaseStatement) -> &CaseNode
         requires { OwnsCase (bench self.now) c }
         ensures there { slice_get (bench self.now).nests (case_index c) ≡ Some (SwitchRecord (case_record result.now)) }
-        ensures tree { families (bench self.now) (case_index c) ≡ SwitchFamily (CaseTree result.now.unique (case_word result.now.kind) (tree_of (bench self.now) result.now.selector) (case_arms_tree (bench self.now) result.now.arms.items)) }
+        ensures tree { families (bench self.now) (case_index c) ≡ SwitchFamily (CaseTree result.now.unique result.now.kind (tree_of (bench self.now) result.now.selector) (case_arms_tree (bench self.now) result.now.arms.items)) }
         ensures sound { CaseSound (bench self.now) (case_index c) (case_record result.now) }
         ensures small { case_index c < 2 ^ 63 }
     {

@@ -1,9 +1,9 @@
 //! Expressions of a file.
 
-ghost use Rattle.std.specs.Prelude.{◌≡◌, IsTrue, All};
+ghost use Rattle.std.specs.Prelude.{◌≡◌, IsTrue, All, IfSome};
 ghost use Rattle.vast_core.specs.declared.node.ExprNode.TheVariants.{Macro};
 ghost use Rattle.vast_core.specs.Handles.{indexable_expr_to_expr, expr_to_indexable_expr};
-ghost use Rattle.vast_core.specs.Nodes.{ExprChildrenHold, OptionHolds, expr_tree};
+ghost use Rattle.vast_core.specs.Nodes.{ExprChildrenHold, expr_tree};
 ghost use Rattle.vast_core.specs.Types.{ExprFits};
 ghost use Rattle.vast_core.specs.Bench.{OwnsExpr, OwnsIndexable, OwnsType, tree_of};
 ghost use Rattle.vast_core.specs.Growth.{Builds, with_expr, with_fixed_index, with_fixed_slice, with_fixed_replication, next_expr, next_index, next_fixed_index, next_slice, next_fixed_slice, next_fixed_replication, next_macro_ref};
@@ -175,7 +175,7 @@ impl Ast {
         name: String,
         arguments: Option<Vec<Expr>>,
     ) -> Result<MacroRef, AllocError>
-        requires { OptionHolds (λ parts. All (OwnsExpr (bench self.old)) parts.items) arguments }
+        requires { IfSome arguments (λ parts. All (OwnsExpr (bench self.old)) parts.items) }
         ensures { Builds (bench self.old) (bench self.new) result (next_macro_ref (bench self.old)) (with_expr (bench self.old) (expr_tree (bench self.old).nodes (Macro name arguments))) }
     {
         let call = self.push_expr(ExprNode::Macro(name, arguments))?;

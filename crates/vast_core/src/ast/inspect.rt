@@ -1,8 +1,8 @@
 //! What types and widths are.
 
 ghost use Rattle.std.specs.Prelude.{◌≡◌, ◌↔◌, IsTrue, IfNone, IfSome};
-ghost use Rattle.vast_core.specs.Nodes.{OptionHolds};
-ghost use Rattle.vast_core.specs.Types.{IsUsableWidth, base_of, width_of, vector_width, is_signed, is_packable, is_castable};
+ghost use Rattle.vast_core.specs.Types.{IsUsableWidth, width_of, vector_width, is_signed, is_packable, is_castable};
+ghost use Rattle.vast_literal.specs.Shape.{base_of};
 ghost use Rattle.vast_core.specs.BitCount.{IsArrayOf, IsNoArray};
 ghost use Rattle.vast_core.specs.Bench.{OwnsExpr, OwnsType, tree_of, type_of, maybe_tree_of};
 ghost use Rattle.vast_core.specs.View.{bench};
@@ -89,7 +89,7 @@ impl Ast {
     /// The width of the vector within the arrays, if a vector is within.
     pub fn type_width_expr(&self, data_type: VastDataType) -> Option<Expr>
         requires { OwnsType (bench self.now) data_type }
-        ensures owned { OptionHolds (OwnsExpr (bench self.now)) result }
+        ensures owned { IfSome result (OwnsExpr (bench self.now)) }
         ensures width { maybe_tree_of (bench self.now) result ≡ width_of (type_of (bench self.now) data_type) }
     {
         self.own_width(self.base_type(data_type))
@@ -97,7 +97,7 @@ impl Ast {
 
     fn own_width(&self, data_type: VastDataType) -> Option<Expr>
         requires { OwnsType (bench self.now) data_type }
-        ensures owned { OptionHolds (OwnsExpr (bench self.now)) result }
+        ensures owned { IfSome result (OwnsExpr (bench self.now)) }
         ensures width { maybe_tree_of (bench self.now) result ≡ vector_width (type_of (bench self.now) data_type) }
     {
         match self.data_type(data_type) {

@@ -1,23 +1,17 @@
-//! Members: declarations of modules, and assignments.
+//! Declarations among the members of modules.
 
-ghost use Rattle.std.specs.Prelude.{◌≡◌, false};
+ghost use Rattle.std.specs.Prelude.{◌≡◌};
 ghost use Rattle.vast_core.specs.WrittenKinds.{IsOwnKind};
-ghost use Rattle.vast_core.specs.Records.{DeclarationEntry, AssignmentEntry};
-ghost use Rattle.vast_core.specs.Bench.{NameIsFree, OwnsModule, OwnsType, OwnsExpr};
-ghost use Rattle.vast_core.specs.Growth.{Builds, with_declaration, with_assignment, next_logic_ref, next_continuous};
-ghost use Rattle.vast_core.specs.Artifacts.{next_statement};
-ghost use Rattle.vast_core.specs.Scopes.{OwnsScope, with_scope_member};
+ghost use Rattle.vast_core.specs.Bench.{NameIsFree, OwnsModule, OwnsType};
+ghost use Rattle.vast_core.specs.Growth.{Builds, with_declaration, next_logic_ref};
 ghost use Rattle.vast_core.specs.View.{bench};
 
 use crate::ast::Ast;
 use crate::ast::arrivals::{Arrivals, Node, Terms};
 use crate::ast::growth::Place;
-use crate::ast::scope::Scope;
-use crate::handle::{
-    ContinuousAssignment, Expr, LogicRef, VastDataType, VastModule, VastStatement,
-};
-use crate::kind::DataKind;
-use crate::node::{Assignment, ExprNode, Member, Term};
+use crate::handle::{LogicRef, VastDataType, VastModule};
+use vast_literal::DataKind;
+use crate::node::{ExprNode, Member, Term};
 use std::alloc::AllocError;
 
 impl Ast {
@@ -59,40 +53,5 @@ impl Ast {
             },
         )?;
         Ok(logic_ref)
-    }
-
-    /// Adds the assignment `assign lhs = rhs` as the scope's last member.
-    ///
-    /// # Errors
-    /// `AllocError` where a growth was refused; nothing changed.
-    #[tactic(auto, using(crate::proofs::EntersScopes::enters_scopes))]
-    pub fn append_assignment(
-        &mut self,
-        scope: Scope,
-        lhs: Expr,
-        rhs: Expr,
-    ) -> Result<VastStatement, AllocError>
-        requires scope { OwnsScope (bench self.old) scope }
-        requires lhs { OwnsExpr (bench self.old) lhs }
-        requires rhs { OwnsExpr (bench self.old) rhs }
-        ensures { Builds (bench self.old) (bench self.new) result (next_statement (bench self.old)) (with_scope_member scope (AssignmentEntry (next_continuous (bench self.old))) (with_assignment (record { lhs = lhs; rhs = rhs; nonblocking = false }) (bench self.old))) }
-    {
-        let assignment = ContinuousAssignment {
-            id: self.next_assignment(),
-        };
-        self.grow_in(
-            scope,
-            Member::ContinuousAssignment(assignment),
-            Arrivals {
-                terms: Terms::Nothing,
-                node: Node::Assignment(Assignment {
-                    lhs,
-                    rhs,
-                    nonblocking: false,
-                }),
-                block: false,
-            },
-        )?;
-        Ok(VastStatement { id: assignment.id })
     }
 }

@@ -1,8 +1,7 @@
 //! Parameters of modules and generate loops, in headers and among members.
 
-ghost use Rattle.std.specs.Prelude.{◌≡◌, IfOk, false, true, None};
+ghost use Rattle.std.specs.Prelude.{◌≡◌, IfOk, false, true, None, IfSome};
 ghost use Rattle.vast_core.specs.declared.ast.scope.Scope.TheVariants.{Module as ScopeModule};
-ghost use Rattle.vast_core.specs.Nodes.{OptionHolds};
 ghost use Rattle.vast_core.specs.Records.{form_entry};
 ghost use Rattle.vast_core.specs.Bench.{OwnsModule, OwnsExpr, OwnsType};
 ghost use Rattle.vast_core.specs.Sound.{FormSound};
@@ -34,7 +33,7 @@ impl Ast {
         value: Expr,
     ) -> Result<LogicRef, AllocError>
         requires owner { OwnsModule (bench self.old) owner }
-        requires data_type { OptionHolds (OwnsType (bench self.old)) data_type }
+        requires data_type { IfSome data_type (OwnsType (bench self.old)) }
         requires value { OwnsExpr (bench self.old) value }
         ensures { Builds (bench self.old) (bench self.new) result (next_logic_ref (bench self.old)) (with_parameter_port owner name.now data_type value (bench self.old)) }
     {

@@ -11,7 +11,7 @@ use crate::ast::Ast;
 use crate::ast::arrivals::{Arrivals, Node, Terms};
 use crate::ast::growth::Place;
 use crate::handle::{LogicRef, ModulePort, VastDataType, VastModule};
-use crate::kind::{DataKind, ModulePortDirection};
+use vast_literal::{DataKind, ModulePortDirection};
 use crate::node::{ExprNode, Port, Term};
 use std::alloc::AllocError;
 

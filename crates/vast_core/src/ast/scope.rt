@@ -27,7 +27,7 @@ pub enum Scope {
 
 impl Place {
     /// At the end of the scope's members, without a name.
-    fn in_scope(scope: Scope, member: Member) -> Place
+    pub(crate) fn in_scope(scope: Scope, member: Member) -> Place
         ensures { listing_of result ≡ listing_in scope (member_entry member) }
     {
         match scope {

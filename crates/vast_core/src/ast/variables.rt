@@ -13,7 +13,7 @@ use crate::ast::Ast;
 use crate::ast::arrivals::{Arrivals, Node, Terms};
 use crate::ast::growth::Place;
 use crate::handle::{LogicRef, VastDataType, VastFunction};
-use crate::kind::DataKind;
+use vast_literal::DataKind;
 use crate::node::{ExprNode, Function, FunctionVariable, Term};
 use std::alloc::AllocError;
 

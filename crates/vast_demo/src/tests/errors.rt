@@ -31,3 +31,11 @@ fn spent_ids_are_said_in_words(rt: HostRuntime) -> Result<(), Fail> {
     assert!(rt; ids.is_spent());
     Ok(())
 }
+
+#[test]
+fn a_refusal_is_copied(rt: HostRuntime) -> Result<(), Fail> {
+    let error = VastError(String::from_str(rt.alloc(), "no")?);
+    let copy = error.clone(rt.alloc())?;
+    assert!(rt; copy == error);
+    Ok(())
+}

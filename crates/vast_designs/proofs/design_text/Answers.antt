@@ -1,5 +1,5 @@
 use Rattle.std.proofs.Common.{◌≡◌, rules}
-use Rattle.vast_core.specs.declared.kind.VastFileType.TheVariants.{SystemVerilog}
+use Rattle.vast_literal.specs.declared.kind.VastFileType.TheVariants.{SystemVerilog}
 use Rattle.vast_core.specs.Bench.{start}
 use Rattle.vast_core.specs.View.{bench}
 use Rattle.vast_designs.proofs.DesignTexts.{design-printed}

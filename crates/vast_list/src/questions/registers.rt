@@ -1,7 +1,6 @@
 //! The helper that adds registers.
 
-ghost use Rattle.std.specs.Prelude.{All, IfOk};
-ghost use Rattle.vast_core.specs.Nodes.{OptionHolds};
+ghost use Rattle.std.specs.Prelude.{All, IfOk, IfSome};
 ghost use Rattle.vast_core.specs.Bench.{OwnsExpr};
 ghost use Rattle.vast_core.specs.View.{bench};
 ghost use Rattle.xlsynth_vast.specs.Registers.{OwnsRegister, OwnsReset, OwnsScope};
@@ -81,7 +80,7 @@ fn reset_of(
     answers: &[Answer],
     reset: Option<ResetNumbers>,
 ) -> Result<Option<Reset>, Refusal>
-    ensures { IfOk result (λ reset. OptionHolds (OwnsReset (bench file.now)) reset) }
+    ensures { IfOk result (λ reset. IfSome reset (OwnsReset (bench file.now))) }
 {
     match reset {
         None => Ok(None),
@@ -132,7 +131,7 @@ fn handle_if(
     answers: &[Answer],
     number: Option<usize>,
 ) -> Result<Option<Expr>, Refusal>
-    ensures { IfOk result (λ made. OptionHolds (OwnsExpr (bench file.now)) made) }
+    ensures { IfOk result (λ made. IfSome made (OwnsExpr (bench file.now))) }
 {
     match number {
         None => Ok(None),

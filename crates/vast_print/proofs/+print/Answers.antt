@@ -4,7 +4,6 @@ use Rattle.vast_core.specs.declared.handle.VastStatementBlock.{VastStatementBloc
 use Rattle.vast_core.specs.declared.node.Statement.{Statement}
 use Rattle.vast_core.specs.declared.node.ElseIf.{ElseIf}
 use Rattle.vast_core.specs.declared.node.CaseArm.{CaseArm}
-use Rattle.vast_core.specs.Kinds.{case_word}
 use Rattle.vast_core.specs.Handles.{block_index, conditional_index, case_index}
 use Rattle.vast_core.specs.Bench.{tree_of}
 use Rattle.vast_core.specs.FileTree.{block_tree, alternates_tree, case_arms_tree}
@@ -31,12 +30,12 @@ statement::print_statements-returns t c =
 pub case::print_case-returns-in_err-print_selector : goal.case::print_case-returns-in_err-print_selector
 case::print_case-returns-in_err-print_selector t c =
     let n = c.case-node.result.now in
-    grind (arith, stops, hang-switch (bench c.args.ast.now) c.args.depth (Wet c.args.out.now) (case_index c.args.c) n.unique (case_word n.kind) (tree_of (bench c.args.ast.now) n.selector) (case_arms_tree (bench c.args.ast.now) n.arms.items) c.case-node.ensures.tree)
+    grind (arith, stops, hang-switch (bench c.args.ast.now) c.args.depth (Wet c.args.out.now) (case_index c.args.c) n.unique n.kind (tree_of (bench c.args.ast.now) n.selector) (case_arms_tree (bench c.args.ast.now) n.arms.items) c.case-node.ensures.tree)
 
 pub case::print_case-loop-arm-init : goal.case::print_case-loop-arm-init
 case::print_case-loop-arm-init t c =
     let n = c.case-node.result.now in
-    grind (arith, hang-switch (bench c.args.ast.now) c.args.depth (Wet c.args.out.now) (case_index c.args.c) n.unique (case_word n.kind) (tree_of (bench c.args.ast.now) n.selector) (case_arms_tree (bench c.args.ast.now) n.arms.items) c.case-node.ensures.tree)
+    grind (arith, hang-switch (bench c.args.ast.now) c.args.depth (Wet c.args.out.now) (case_index c.args.c) n.unique n.kind (tree_of (bench c.args.ast.now) n.selector) (case_arms_tree (bench c.args.ast.now) n.arms.items) c.case-node.ensures.tree)
 
 pub conditional::print_conditional-returns-in_err-print_condition : goal.conditional::print_conditional-returns-in_err-print_condition
 conditional::print_conditional-returns-in_err-print_condition t c =
@@ -58,13 +57,13 @@ case::print_arm-returns-in-Some t c =
     let b = bench c.args.ast.now in
     let e = c.bare_assignment.ensures in
     let s = c.in-Some.s in
-    grind (arith, cases, c.block.ensures.tree, pour-arm-bare b (block_index c.args.arm.block) c.args.depth (Wet c.print_label.new.out) (case_word c.args.kind) c.block.result.now s (sym c.in-Some.is ∙ e) c.block.ensures.sound)
+    grind (arith, cases, c.block.ensures.tree, pour-arm-bare b (block_index c.args.arm.block) c.args.depth (Wet c.print_label.new.out) c.args.kind c.block.result.now s (sym c.in-Some.is ∙ e) c.block.ensures.sound)
 
 pub case::print_arm-returns-in-None : goal.case::print_arm-returns-in-None
 case::print_arm-returns-in-None t c =
     let b = bench c.args.ast.now in
     let e = c.bare_assignment.ensures in
-    grind (arith, cases, c.block.ensures.tree, pour-arm-full b c.args.depth (Wet c.print_label.new.out) (case_word c.args.kind) c.block.result.now (sym c.in-None.is ∙ e))
+    grind (arith, cases, c.block.ensures.tree, pour-arm-full b c.args.depth (Wet c.print_label.new.out) c.args.kind c.block.result.now (sym c.in-None.is ∙ e))
 
 abbrev no_block : VastStatementBlock
 no_block = record { id = record { file_id = 0; index = 0 } }
@@ -76,17 +75,17 @@ pub case::print_case-returns-in_err-print_arm : goal.case::print_case-returns-in
 case::print_case-returns-in_err-print_arm t c =
     let xs = c.deref-arm-items.result.now in
     let x : CaseArm = get_or xs c.loop-arm.arm-index no_arm in
-    grind (arith, stops, arms-left (bench c.args.ast.now) (case_word c.case-node.result.now.kind) (c.args.depth + 1) (Wet c.loop-arm.out) xs c.loop-arm.arm-index x c.loop-arm-test.true (get_or_default xs c.loop-arm.arm-index no_arm x c.loop-arm-test.true))
+    grind (arith, stops, arms-left (bench c.args.ast.now) c.case-node.result.now.kind (c.args.depth + 1) (Wet c.loop-arm.out) xs c.loop-arm.arm-index x c.loop-arm-test.true (get_or_default xs c.loop-arm.arm-index no_arm x c.loop-arm-test.true))
 
 pub case::print_case-loop-arm-preserved : goal.case::print_case-loop-arm-preserved
 case::print_case-loop-arm-preserved t c =
     let xs = c.deref-arm-items.result.now in
     let x : CaseArm = get_or xs c.loop-arm.arm-index no_arm in
-    grind (arith, arms-left (bench c.args.ast.now) (case_word c.case-node.result.now.kind) (c.args.depth + 1) (Wet c.loop-arm.out) xs c.loop-arm.arm-index x c.loop-arm-test.true (get_or_default xs c.loop-arm.arm-index no_arm x c.loop-arm-test.true))
+    grind (arith, arms-left (bench c.args.ast.now) c.case-node.result.now.kind (c.args.depth + 1) (Wet c.loop-arm.out) xs c.loop-arm.arm-index x c.loop-arm-test.true (get_or_default xs c.loop-arm.arm-index no_arm x c.loop-arm-test.true))
 
 pub case::print_case-returns : goal.case::print_case-returns
 case::print_case-returns t c =
-    grind (arith, no-arms-left (bench c.args.ast.now) (case_word c.case-node.result.now.kind) (c.args.depth + 1) (Wet c.loop-arm.out) c.deref-arm-items.result.now c.loop-arm.arm-index c.loop-arm-test.false)
+    grind (arith, no-arms-left (bench c.args.ast.now) c.case-node.result.now.kind (c.args.depth + 1) (Wet c.loop-arm.out) c.deref-arm-items.result.now c.loop-arm.arm-index c.loop-arm-test.false)
 
 abbrev no_else_if : ElseIf
 no_else_if = record { condition = record { id = record { file_id = 0; index = 0 } }; block = no_block }

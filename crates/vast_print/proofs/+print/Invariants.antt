@@ -1,6 +1,5 @@
 use Rattle.std.proofs.Common.{◌≡◌, ◌+◌, drop, map, codes}
 use Rattle.vast_core.specs.Handles.{block_index, conditional_index, case_index}
-use Rattle.vast_core.specs.Kinds.{case_word}
 use Rattle.vast_core.specs.Nests.{statement_entry}
 use Rattle.vast_core.specs.FileTree.{families, branch_statement, switch_statement, block_tree, statements_tree, alternates_tree, case_arms_tree}
 use Rattle.vast_core.specs.View.{bench}
@@ -40,4 +39,4 @@ invariant-conditional::print_conditional-loop-arm l =
 abbrev pub invariant-case::print_case-loop-arm : goal.invariant-case::print_case-loop-arm
 invariant-case::print_case-loop-arm l =
     hang l.depth (Wet l.fn.out) (statement_page (switch_statement (families (bench l.ast) (case_index l.fn.c))))
-    ≡ word (next l.depth (hang (l.depth + 1) (Wet l.out) (arms_page (case_word l.node.kind) (case_arms_tree (bench l.ast) (drop l.arm-index l.arm-items))))) (codes "endcase")
+    ≡ word (next l.depth (hang (l.depth + 1) (Wet l.out) (arms_page l.node.kind (case_arms_tree (bench l.ast) (drop l.arm-index l.arm-items))))) (codes "endcase")

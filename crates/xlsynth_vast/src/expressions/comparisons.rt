@@ -1,7 +1,7 @@
 //! Comparisons, logical signs and the choice between two expressions.
 
 ghost use Rattle.std.specs.Prelude.{◌≡◌};
-ghost use Rattle.vast_literal.specs.Tree.{NeOp, CaseNeOp, EqOp, CaseEqOp, GeOp, GtOp, LeOp, LtOp, LogicalAndOp, LogicalOrOp, NeXOp, EqXOp};
+ghost use Rattle.vast_literal.specs.declared.operator.BinaryOperator.TheVariants.{Ne as NeOp, CaseNe as CaseNeOp, Eq as EqOp, CaseEq as CaseEqOp, Ge as GeOp, Gt as GtOp, Le as LeOp, Lt as LtOp, LogicalAnd as LogicalAndOp, LogicalOr as LogicalOrOp, NeX as NeXOp, EqX as EqXOp};
 ghost use Rattle.vast_core.specs.Bench.{OwnsExpr};
 ghost use Rattle.vast_core.specs.Growth.{Builds, next_expr};
 ghost use Rattle.vast_core.specs.View.{bench};

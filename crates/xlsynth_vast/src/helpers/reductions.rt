@@ -1,7 +1,8 @@
 //! Many expressions joined by one sign.
 
 ghost use Rattle.std.specs.Prelude.{◌≡◌, All, Ok, map, false, true};
-ghost use Rattle.vast_literal.specs.Tree.{BinaryOp, BitwiseOrOp, LogicalAndOp, LogicalOrOp};
+ghost use Rattle.vast_literal.specs.declared.operator.BinaryOperator.{BinaryOperator as BinaryOp};
+ghost use Rattle.vast_literal.specs.declared.operator.BinaryOperator.TheVariants.{BitwiseOr as BitwiseOrOp, LogicalAnd as LogicalAndOp, LogicalOr as LogicalOrOp};
 ghost use Rattle.vast_core.specs.Bench.{OwnsExpr, tree_of};
 ghost use Rattle.vast_core.specs.FileTree.{tree};
 ghost use Rattle.vast_core.specs.Growth.{Builds, next_expr, with_expr};

@@ -1,8 +1,7 @@
 //! Registers of one clock, with resets and enables.
 
-ghost use Rattle.std.specs.Prelude.{◌≡◌, true, [], All, OnErr, OnOk, Some};
+ghost use Rattle.std.specs.Prelude.{◌≡◌, true, [], All, OnErr, OnOk, Some, IfSome};
 ghost use Rattle.std.specs.List.{list_any};
-ghost use Rattle.vast_core.specs.Nodes.{OptionHolds};
 ghost use Rattle.vast_core.specs.Bench.{OwnsExpr, OwnsBlock};
 ghost use Rattle.vast_core.specs.Sound.{EventSound};
 ghost use Rattle.vast_core.specs.Growth.{Builds};
@@ -202,7 +201,7 @@ fn make_block(
     registers: &[RegisterDefinition],
     file: &mut VastFile,
 ) -> Result<VastStatementBlock, AllocError>
-    requires reset { OptionHolds (OwnsReset (bench file.old)) reset }
+    requires reset { IfSome reset (OwnsReset (bench file.old)) }
     requires registers { All (OwnsRegister (bench file.old)) registers.now }
     ensures { MayMakeBlock (bench file.old) (bench file.new) result reset registers.now }
 {
@@ -269,7 +268,7 @@ pub fn add_registers(
     file: &mut VastFile,
 ) -> Result<(), VastFault>
     requires clk { OwnsExpr (bench file.old) clk.now }
-    requires reset { OptionHolds (OwnsReset (bench file.old)) reset }
+    requires reset { IfSome reset (OwnsReset (bench file.old)) }
     requires registers { All (OwnsRegister (bench file.old)) registers.now }
     requires scope { OwnsScope (bench file.old) scope }
     ensures built { MayAddRegisters (bench file.old) (bench file.new) result clk.now reset registers.now scope }

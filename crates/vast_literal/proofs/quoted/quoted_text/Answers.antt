@@ -1,5 +1,4 @@
 use Rattle.vast_literal.proofs.QuotedLaws.{one_more, whole, quoted_token, quoted_content}
-use Rattle.vast_literal.proofs.TokenTexts.{quoted_string}
 use Rattle.vast_literal.proofs.quoted.quoted_text.Goals as goal
 
 pub loop-character-preserved : goal.loop-character-preserved
@@ -8,11 +7,8 @@ loop-character-preserved c = one_more _ _ _ _ _ _ c.loop-character.invariant c.i
 pub returns-clause-text : goal.returns-clause-text
 returns-clause-text c = whole _ _ _ _ c.loop-character.invariant c.in-None.ensures.steps.0.0 c.in_ok-push.ensures.bytes
 
-pub returns-clause-token : goal.returns-clause-token
-returns-clause-token c = rw (returns-clause-text c) (quoted_token _)
-
 pub returns-clause-undone : goal.returns-clause-undone
 returns-clause-undone c = rw (returns-clause-text c) (quoted_content _)
 
-pub returns-clause-well_formed : goal.returns-clause-well_formed
-returns-clause-well_formed c = rw (returns-clause-text c) (quoted_string _)
+pub returns-clause-token : goal.returns-clause-token
+returns-clause-token c = rw (returns-clause-text c) (quoted_token _)

@@ -1,5 +1,4 @@
 use Rattle.std.proofs.Common.{◌≡◌, drop, map}
-use Rattle.vast_core.specs.Kinds.{dialect_of}
 use Rattle.vast_core.specs.Records.{file_entry}
 use Rattle.vast_core.specs.FileTree.{tree, item_tree}
 use Rattle.vast_core.specs.View.{bench}
@@ -10,4 +9,4 @@ use Rattle.vast_print.proofs.file.print_items.Given as goal
 abbrev pub invariant-loop-item : goal.invariant-loop-item
 invariant-loop-item l =
     hang 0 (Wet l.fn.out) (layout (tree (bench l.ast)))
-    ≡ hang 0 (Wet l.out) (items_page (dialect_of (bench l.ast).file_type) (map (λ x. item_tree (bench l.ast) (file_entry x)) (drop l.item-index l.item-items)))
+    ≡ hang 0 (Wet l.out) (items_page (bench l.ast).file_type (map (λ x. item_tree (bench l.ast) (file_entry x)) (drop l.item-index l.item-items)))

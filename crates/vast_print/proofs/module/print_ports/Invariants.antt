@@ -1,5 +1,4 @@
 use Rattle.std.proofs.Common.{◌≡◌, drop, map}
-use Rattle.vast_core.specs.Kinds.{dialect_of}
 use Rattle.vast_core.specs.FileTree.{port_tree}
 use Rattle.vast_core.specs.View.{bench}
 use Rattle.vast_print.specs.Ink.{Wet, hang}
@@ -8,5 +7,5 @@ use Rattle.vast_print.proofs.module.print_ports.Given as goal
 
 abbrev pub invariant-loop-i : goal.invariant-loop-i
 invariant-loop-i l =
-    hang l.depth (Wet l.fn.out) (ports_page (dialect_of (bench l.ast).file_type) (map (port_tree (bench l.ast)) l.ports))
-    ≡ hang l.depth (Wet l.out) (ports_page (dialect_of (bench l.ast).file_type) (map (port_tree (bench l.ast)) (drop l.i l.ports)))
+    hang l.depth (Wet l.fn.out) (ports_page (bench l.ast).file_type (map (port_tree (bench l.ast)) l.ports))
+    ≡ hang l.depth (Wet l.out) (ports_page (bench l.ast).file_type (map (port_tree (bench l.ast)) (drop l.i l.ports)))

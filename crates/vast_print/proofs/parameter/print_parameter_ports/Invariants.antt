@@ -1,5 +1,4 @@
 use Rattle.std.proofs.Common.{◌≡◌, drop, map}
-use Rattle.vast_core.specs.Kinds.{dialect_of}
 use Rattle.vast_core.specs.Records.{parameter_port_record}
 use Rattle.vast_core.specs.FileTree.{parameter_port_tree}
 use Rattle.vast_core.specs.View.{bench}
@@ -9,5 +8,5 @@ use Rattle.vast_print.proofs.parameter.print_parameter_ports.Given as goal
 
 abbrev pub invariant-loop-i : goal.invariant-loop-i
 invariant-loop-i l =
-    hang l.depth (Wet l.fn.out) (parameter_ports_page (dialect_of (bench l.ast).file_type) (map (parameter_port_tree (bench l.ast)) (map parameter_port_record l.parameters)))
-    ≡ hang l.depth (Wet l.out) (parameter_ports_page (dialect_of (bench l.ast).file_type) (map (parameter_port_tree (bench l.ast)) (map parameter_port_record (drop l.i l.parameters))))
+    hang l.depth (Wet l.fn.out) (parameter_ports_page (bench l.ast).file_type (map (parameter_port_tree (bench l.ast)) (map parameter_port_record l.parameters)))
+    ≡ hang l.depth (Wet l.out) (parameter_ports_page (bench l.ast).file_type (map (parameter_port_tree (bench l.ast)) (map parameter_port_record (drop l.i l.parameters))))

@@ -1,6 +1,6 @@
 use Rattle.std.proofs.Common.{◌≡◌}
 use Rattle.vast_core.specs.Handles.{type_rank}
-use Rattle.vast_core.specs.Types.{base_of}
+use Rattle.vast_literal.specs.Shape.{base_of}
 use Rattle.vast_core.specs.Bench.{OwnsType, type_of}
 use Rattle.vast_core.specs.View.{bench}
 use Rattle.vast_core.proofs.ast.Ast.base_type.Given as goal

@@ -1,5 +1,5 @@
 -- proofs/ast/Ast/push_always_ff_over/Answers.antt
-use Rattle.vast_core.specs.declared.kind.AlwaysKind.TheVariants.{AlwaysFF}
+use Rattle.vast_literal.specs.declared.kind.AlwaysKind.TheVariants.{AlwaysFF}
 use Rattle.vast_core.specs.View.{bench}
 use Rattle.vast_core.proofs.Unattached.{spare-owned}
 use Rattle.vast_core.proofs.EntersScopes.{always_over-enters}

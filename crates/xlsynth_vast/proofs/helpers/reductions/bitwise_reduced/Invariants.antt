@@ -1,4 +1,4 @@
-use Rattle.vast_literal.specs.Tree.{BitwiseOrOp}
+use Rattle.vast_literal.specs.declared.operator.BinaryOperator.TheVariants.{BitwiseOr as BitwiseOrOp}
 use Rattle.xlsynth_vast.proofs.helpers.reductions.bitwise_reduced.Given as goal
 
 -- The sign that joins.

@@ -1,4 +1,4 @@
-use Rattle.vast_literal.specs.Tree.{LogicalAndOp}
+use Rattle.vast_literal.specs.declared.operator.BinaryOperator.TheVariants.{LogicalAnd as LogicalAndOp}
 use Rattle.xlsynth_vast.proofs.helpers.reductions.logical_and_reduce.Given as goal
 
 abbrev pub ghost-logical_reduced : goal.ghost-logical_reduced

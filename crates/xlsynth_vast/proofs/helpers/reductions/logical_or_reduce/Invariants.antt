@@ -1,4 +1,4 @@
-use Rattle.vast_literal.specs.Tree.{LogicalOrOp}
+use Rattle.vast_literal.specs.declared.operator.BinaryOperator.TheVariants.{LogicalOr as LogicalOrOp}
 use Rattle.xlsynth_vast.proofs.helpers.reductions.logical_or_reduce.Given as goal
 
 abbrev pub ghost-logical_reduced : goal.ghost-logical_reduced

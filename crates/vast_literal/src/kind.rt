@@ -1,4 +1,4 @@
-//! The public enums of the crate xlsynth-vast that nodes and calls name.
+//! The words of declarations, blocks and files, by the names of the crate xlsynth-vast; trees speak of the same enums.
 
 /// The dialect in which a file is written.
 #[derive(Clone, Copy, Debug, PartialEq, Eq, Hash)]
@@ -42,4 +42,15 @@ pub enum CaseKind {
     Case,
     CaseZ,
     CaseX,
+}
+
+/// How an assignment is written.
+#[derive(Clone, Copy, Debug, PartialEq, Eq, Hash)]
+pub enum AssignmentForm {
+    /// `lhs = rhs;`
+    Blocking,
+    /// `lhs <= rhs;`
+    Nonblocking,
+    /// `assign lhs = rhs;`
+    Continuous,
 }

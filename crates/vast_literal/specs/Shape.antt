@@ -1,0 +1,189 @@
+-- What the shape of a tree decides: where parentheses stand, which selects are left out, with which kind something is
+-- declared, and which arms stand bare. The layout, the tokens of its text and the normal form go by these.
+use Rattle.std.specs.Prelude.{ℕ, ℤ, pos, Bool, true, false, cond, ◌&&◌, ◌||◌, ◌==◌, List, [], ◌∷◌, Option, Some, None, nat_lt, nat_le}
+use Rattle.vast_literal.specs.Tree.{UnaryOp, NegateOp, BitwiseNotOp, LogicalNotOp, AndReduceOp, OrReduceOp, XorReduceOp}
+use Rattle.vast_literal.specs.Tree.{BinaryOp, AddOp, SubOp, MulOp, DivOp, ModOp, PowerOp, BitwiseAndOp, BitwiseOrOp, BitwiseXorOp, ShllOp, ShraOp, ShrlOp, NeOp, CaseNeOp, EqOp, CaseEqOp, GeOp, GtOp, LeOp, LtOp, LogicalAndOp, LogicalOrOp, NeXOp, EqXOp}
+use Rattle.vast_literal.specs.Tree.{ExprTree, NameTree, LiteralTree, UnaryTree, BinaryTree, TernaryTree, WidthCastTree}
+use Rattle.vast_literal.specs.Tree.{TypeTree, ScalarTree, VectorTree, IntegerTree, IntTree, ExternalTree, PackageTree, PackedTree, UnpackedTree, MissingType, MaybeType, Untyped, Typed}
+use Rattle.vast_literal.specs.Tree.{Dialect, VerilogDialect, SystemVerilogDialect, Kind, LogicKind, IntegerKind, IntKind, UserKind}
+use Rattle.vast_literal.specs.Tree.{StatementTree, AssignTree, CaseTree, Statements, NoStatements, MoreStatements, Blocking, Nonblocking, CaseWord, CaseExact, CaseZ, CaseX}
+
+-- Precedence: an operator of a higher one binds its operands more tightly (IEEE 1800-2017, table 11-2).
+abbrev pub binary_precedence : BinaryOp → ℕ
+binary_precedence LogicalOrOp = 1
+binary_precedence LogicalAndOp = 2
+binary_precedence BitwiseOrOp = 3
+binary_precedence BitwiseXorOp = 4
+binary_precedence BitwiseAndOp = 5
+binary_precedence NeOp = 6
+binary_precedence CaseNeOp = 6
+binary_precedence EqOp = 6
+binary_precedence CaseEqOp = 6
+binary_precedence NeXOp = 6
+binary_precedence EqXOp = 6
+binary_precedence GeOp = 7
+binary_precedence GtOp = 7
+binary_precedence LeOp = 7
+binary_precedence LtOp = 7
+binary_precedence ShllOp = 8
+binary_precedence ShraOp = 8
+binary_precedence ShrlOp = 8
+binary_precedence AddOp = 9
+binary_precedence SubOp = 9
+binary_precedence MulOp = 10
+binary_precedence DivOp = 10
+binary_precedence ModOp = 10
+binary_precedence PowerOp = 11
+
+-- The ternary is lowest; what has no operator of its own is highest.
+abbrev pub precedence : ExprTree → ℕ
+precedence (TernaryTree c l r) = 0
+precedence (BinaryTree o l r) = binary_precedence o
+precedence (UnaryTree o e) = 12
+precedence _ = 13
+
+abbrev pub is_reduction_sign : UnaryOp → Bool
+is_reduction_sign NegateOp = false
+is_reduction_sign BitwiseNotOp = false
+is_reduction_sign LogicalNotOp = false
+is_reduction_sign AndReduceOp = true
+is_reduction_sign OrReduceOp = true
+is_reduction_sign XorReduceOp = true
+
+abbrev pub is_reduction : ExprTree → Bool
+is_reduction (UnaryTree o e) = is_reduction_sign o
+is_reduction _ = false
+
+abbrev pub is_width_cast : ExprTree → Bool
+is_width_cast (WidthCastTree w e) = true
+is_width_cast _ = false
+
+abbrev pub starts_with_minus : List ℕ → Bool
+starts_with_minus [] = false
+starts_with_minus (c ∷ w) = c == 45
+
+abbrev pub is_negative_literal : ExprTree → Bool
+is_negative_literal (LiteralTree text value) = starts_with_minus text
+is_negative_literal _ = false
+
+abbrev pub is_scalar_type : TypeTree → Bool
+is_scalar_type (ScalarTree signed) = true
+is_scalar_type _ = false
+
+abbrev pub is_typed_scalar : MaybeType → Bool
+is_typed_scalar Untyped = false
+is_typed_scalar (Typed t) = is_scalar_type t
+
+-- A name that carries a scalar type.
+abbrev pub is_scalar_name : ExprTree → Bool
+is_scalar_name (NameTree name type) = is_typed_scalar type
+is_scalar_name _ = false
+
+abbrev pub is_zero_number : ℤ → Bool
+is_zero_number (pos n) = n == 0
+is_zero_number _ = false
+
+abbrev pub is_zero_value : Option ℤ → Bool
+is_zero_value None = false
+is_zero_value (Some v) = is_zero_number v
+
+-- A literal of value zero.
+abbrev pub is_zero : ExprTree → Bool
+is_zero (LiteralTree text value) = is_zero_value value
+is_zero _ = false
+
+-- An index of a scalar name by 0, and a slice of one from 0 to 0, stand for the name.
+abbrev pub is_elided_index : (subject index : ExprTree) → Bool
+is_elided_index subject index = is_scalar_name subject && is_zero index
+
+abbrev pub is_elided_slice : (subject high low : ExprTree) → Bool
+is_elided_slice subject high low = is_scalar_name subject && (is_zero high && is_zero low)
+
+-- Under a unary sign: what binds no more tightly than a unary, a width cast, a literal with a minus.
+abbrev pub unary_wraps : ExprTree → Bool
+unary_wraps e = nat_le (precedence e) 12 || (is_width_cast e || is_negative_literal e)
+
+-- To the left of a binary sign: what binds less tightly, a reduction.
+abbrev pub left_child_wraps : BinaryOp → ExprTree → Bool
+left_child_wraps o e = nat_lt (precedence e) (binary_precedence o) || is_reduction e
+
+-- To the right of a binary sign: what binds no more tightly, a reduction.
+abbrev pub right_child_wraps : BinaryOp → ExprTree → Bool
+right_child_wraps o e = nat_le (precedence e) (binary_precedence o) || is_reduction e
+
+-- In a ternary: a ternary.
+abbrev pub ternary_wraps : ExprTree → Bool
+ternary_wraps e = precedence e == 0
+
+-- Before brackets: whatever has a sign, a literal with a minus.
+abbrev pub select_wraps : ExprTree → Bool
+select_wraps e = nat_lt (precedence e) 13 || is_negative_literal e
+
+-- Before ` - 1` in a range: what binds less tightly than the minus.
+abbrev pub limit_wraps : ExprTree → Bool
+limit_wraps e = nat_lt (precedence e) 9
+
+-- Types.
+
+-- The type within the arrays.
+abbrev pub base_of : TypeTree → TypeTree
+base_of (PackedTree element dimensions) = base_of element
+base_of (UnpackedTree element dimensions) = base_of element
+base_of (ScalarTree signed) = ScalarTree signed
+base_of (VectorTree width value signed) = VectorTree width value signed
+base_of (IntegerTree signed) = IntegerTree signed
+base_of (IntTree signed) = IntTree signed
+base_of (ExternalTree name) = ExternalTree name
+base_of (PackageTree package_name name) = PackageTree package_name name
+base_of MissingType = MissingType
+
+-- A type that is declared elsewhere.
+abbrev pub is_external : TypeTree → Bool
+is_external (ExternalTree name) = true
+is_external (PackageTree package_name name) = true
+is_external _ = false
+
+-- The kind of a port and of a function's input, which stands before no external type.
+abbrev pub port_kind : Kind → TypeTree → Kind
+port_kind kind type = cond (is_external (base_of type)) UserKind kind
+
+-- The kind that the type of a header's parameter brings.
+abbrev pub base_kind : (base : TypeTree) → Kind
+base_kind (ScalarTree signed) = LogicKind
+base_kind (VectorTree width value signed) = LogicKind
+base_kind (IntegerTree signed) = IntegerKind
+base_kind (IntTree signed) = IntKind
+base_kind _ = UserKind
+
+-- The kind of a function's result: an integer's own, `logic` in SystemVerilog, none before an external type.
+abbrev pub dialect_kind : Dialect → Kind
+dialect_kind VerilogDialect = UserKind
+dialect_kind SystemVerilogDialect = LogicKind
+
+abbrev pub result_kind : Dialect → TypeTree → Kind
+result_kind dialect (IntegerTree signed) = IntegerKind
+result_kind dialect (IntTree signed) = IntKind
+result_kind dialect type = cond (is_external (base_of type)) UserKind (dialect_kind dialect)
+
+-- Statements.
+
+-- One assignment of a procedural block.
+abbrev pub is_one_assignment : Statements → Bool
+is_one_assignment (MoreStatements (AssignTree Blocking left right) NoStatements) = true
+is_one_assignment (MoreStatements (AssignTree Nonblocking left right) NoStatements) = true
+is_one_assignment _ = false
+
+-- An arm of a casez that is one assignment stands without `begin` and `end`.
+abbrev pub is_bare_arm : CaseWord → Statements → Bool
+is_bare_arm CaseExact block = false
+is_bare_arm CaseZ block = is_one_assignment block
+is_bare_arm CaseX block = false
+
+-- One casez, which stands without `begin` and `end` as the body of a function.
+abbrev pub is_casez : StatementTree → Bool
+is_casez (CaseTree unique CaseZ e arms) = true
+is_casez _ = false
+
+abbrev pub is_one_casez : Statements → Bool
+is_one_casez (MoreStatements s NoStatements) = is_casez s
+is_one_casez _ = false
