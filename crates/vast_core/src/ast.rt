@@ -5,13 +5,13 @@ ghost use Rattle.vast_core.specs.Bench.{start};
 ghost use Rattle.vast_core.specs.View.{bench};
 
 use crate::handle::VastStatementBlock;
-use vast_literal::VastFileType;
 use crate::node::{
     AlwaysBlock, Artifact, Assignment, Definition, FileItem, Function, Instance, Module, Nest,
     Port, Term,
 };
 use std::alloc::Global;
 use std::marker::Model;
+use vast_literal::VastFileType;
 
 mod always;
 mod arrivals;

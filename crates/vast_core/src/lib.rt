@@ -28,8 +28,7 @@ pub use node::{
     ElseIf, ExprNode, FileItem, Function, FunctionVariable, Instance, LoopNode, Member, Module,
     ParameterForm, ParameterPort, Port, Statement, TypeNode,
 };
-pub use vast_literal::is_system_verilog_keyword;
 pub use vast_literal::{
     AlwaysKind, AssignmentForm, BinaryOperator, CaseKind, DataKind, ModulePortDirection,
-    UnaryOperator, VastFileType,
+    UnaryOperator, VastFileType, is_system_verilog_keyword,
 };

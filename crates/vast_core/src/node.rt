@@ -5,9 +5,10 @@ use crate::handle::{
     InlineVerilogStatement, Instantiation, LogicRef, MacroRef, MacroStatement, ModulePort,
     VastAlwaysBase, VastDataType, VastFunction, VastModule, VastStatement, VastStatementBlock,
 };
-use vast_literal::{AlwaysKind, CaseKind, DataKind, ModulePortDirection};
-use vast_literal::{BinaryOperator, UnaryOperator};
 use std::collections::BTreeSet;
+use vast_literal::{
+    AlwaysKind, BinaryOperator, CaseKind, DataKind, ModulePortDirection, UnaryOperator,
+};
 
 /// An expression.
 #[derive(Drop)]

@@ -13,9 +13,7 @@ mod refusal;
 
 pub use error::{VastError, VastFault};
 pub use keyword::is_system_verilog_keyword;
-pub use kind::{
-    AlwaysKind, AssignmentForm, CaseKind, DataKind, ModulePortDirection, VastFileType,
-};
+pub use kind::{AlwaysKind, AssignmentForm, CaseKind, DataKind, ModulePortDirection, VastFileType};
 pub use literal::{Literal, LiteralFormat};
 pub use operator::{BinaryOperator, UnaryOperator};
 pub use pattern::pattern_text;

@@ -17,9 +17,9 @@ use crate::ast::Ast;
 use crate::ast::arrivals::{Arrivals, Node, Terms};
 use crate::ast::scope::Scope;
 use crate::handle::{Expr, VastAlwaysBase, VastStatementBlock};
-use vast_literal::AlwaysKind;
 use crate::node::{AlwaysBlock, Member};
 use std::alloc::AllocError;
+use vast_literal::AlwaysKind;
 
 impl Ast {
     #[tactic(auto, using(crate::proofs::EntersScopes::enters_scopes))]

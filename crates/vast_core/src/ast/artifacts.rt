@@ -17,9 +17,9 @@ use crate::handle::{
     BlankLine, Comment, Def, Id, InlineVerilogStatement, Instantiation, MacroRef, MacroStatement,
     VastDataType,
 };
-use vast_literal::DataKind;
 use crate::node::{Artifact, Connection, Definition, Instance};
 use std::alloc::AllocError;
+use vast_literal::DataKind;
 
 impl Ast {
     /// Adds a definition, from which parameters take kind, type and name.

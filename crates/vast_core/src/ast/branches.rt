@@ -16,9 +16,9 @@ use crate::ast::Ast;
 use crate::ast::arrivals::{Arrivals, Node, Terms};
 use crate::ast::growth::{Entry, Place};
 use crate::handle::{CaseStatement, Conditional, Expr, VastStatementBlock};
-use vast_literal::CaseKind;
 use crate::node::{CaseArm, CaseNode, ConditionalNode, ElseIf, Nest, Statement};
 use std::alloc::AllocError;
+use vast_literal::CaseKind;
 
 impl Nest {
     fn set_unique(&mut self, unique: bool)

@@ -10,9 +10,9 @@ use crate::ast::Ast;
 use crate::ast::arrivals::{Arrivals, Node, Terms};
 use crate::ast::growth::Place;
 use crate::handle::{LogicRef, VastDataType, VastModule};
-use vast_literal::DataKind;
 use crate::node::{ExprNode, Member, Term};
 use std::alloc::AllocError;
+use vast_literal::DataKind;
 
 impl Ast {
     /// Adds a wire, reg or logic as the module's last member, and answers its name as an expression. The name is free

@@ -11,9 +11,9 @@ use crate::ast::Ast;
 use crate::ast::arrivals::{Arrivals, Node, Terms};
 use crate::ast::growth::Place;
 use crate::handle::{LogicRef, ModulePort, VastDataType, VastModule};
-use vast_literal::{DataKind, ModulePortDirection};
 use crate::node::{ExprNode, Port, Term};
 use std::alloc::AllocError;
+use vast_literal::{DataKind, ModulePortDirection};
 
 impl Ast {
     /// Adds a port to the end of the module's ports, and answers its name as an expression. The name is free

@@ -13,9 +13,9 @@ use crate::ast::Ast;
 use crate::ast::arrivals::{Arrivals, Node, Terms};
 use crate::ast::growth::Place;
 use crate::handle::{LogicRef, VastDataType, VastFunction};
-use vast_literal::DataKind;
 use crate::node::{ExprNode, Function, FunctionVariable, Term};
 use std::alloc::AllocError;
+use vast_literal::DataKind;
 
 impl Function {
     /// Whether the function's result, inputs and locals have other names.

@@ -11,6 +11,6 @@ grow-requires c =
 
 pub returns : goal.returns
 returns c = (
-    rw c.next_assignment.ensures refl,
-    (rw (c.of_assignment-place.ensures, c.next_assignment.ensures, c.is_nonblocking-nonblocking.ensures) at c.in_ok-grow.ensures.1) ∙ (assignment-grown (bench c.args.self.now) c.args.spot c.args.form c.args.lhs c.args.rhs),
-  )
+  rw c.next_assignment.ensures refl,
+  (rw (c.of_assignment-place.ensures, c.next_assignment.ensures, c.is_nonblocking-nonblocking.ensures) at c.in_ok-grow.ensures.1) ∙ (assignment-grown (bench c.args.self.now) c.args.spot c.args.form c.args.lhs c.args.rhs),
+)

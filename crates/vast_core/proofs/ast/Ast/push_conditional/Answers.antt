@@ -11,6 +11,6 @@ grow-requires c =
 
 pub returns : goal.returns
 returns c = (
-    rw c.next_nest.ensures.id refl,
-    (rw (c.of_conditional-place.ensures, c.next_nest.ensures.id, c.new_conditional-node.ensures) at c.in_ok-grow.ensures.1) ∙ (conditional-grown (bench c.args.self.now) c.args.spot c.args.condition),
-  )
+  rw c.next_nest.ensures.id refl,
+  (rw (c.of_conditional-place.ensures, c.next_nest.ensures.id, c.new_conditional-node.ensures) at c.in_ok-grow.ensures.1) ∙ (conditional-grown (bench c.args.self.now) c.args.spot c.args.condition),
+)
