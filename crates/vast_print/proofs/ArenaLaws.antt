@@ -24,8 +24,7 @@ use Rattle.vast_print.specs.declared.refusal.PrintFault.TheVariants.{Refused, Me
 use Rattle.vast_print.specs.Words.{comma}
 use Rattle.vast_print.specs.Members.{member_page, members_page, entries_page, connection_text, connections_page, instance_head_page}
 use Rattle.vast_print.specs.Layout.{body_page, header_page, ports_page, parameter_port_text, parameter_ports_page, items_page, layout}
-use Rattle.vast_print.proofs.WordLaws.{pour-int-name}
-use Rattle.vast_print.proofs.InkLaws.{pour-then, hang-stopped, pour-stopped, whole-page, whole-fault, line-text, line-fault}
+use Rattle.vast_print.proofs.InkLaws.{pour-then, pour-word, hang-stopped, pour-stopped, whole-page, whole-fault, line-text, line-fault}
 use Rattle.vast_print.proofs.Lines.{word-stopped, next-stopped}
 use Rattle.vast_print.proofs.DeclarationLaws.{pour-declaration, pour-port, pour-untyped-parameter, pour-typed-parameter}
 use Rattle.vast_print.proofs.ListLaws.{entries-end, entries-step}
@@ -100,7 +99,7 @@ pub ruleset modules = (hang-body-some, hang-body-empty, length-records, hang-hea
 
 pub ruleset members = (hang-declaration, hang-macro, stops)
 
-pub ruleset parameters = (hang-parameter, pour-plain-parameter, pour-int-parameter, pour-then, pour-int-name, stops)
+pub ruleset parameters = (hang-parameter, pour-plain-parameter, pour-int-parameter, pour-then, pour-word, stops)
 
 -- a list of records, each read from a node
 

@@ -1,5 +1,5 @@
 -- Laws of writing lists of parts in a loop: what the next part leaves, and where the list ends.
-use Rattle.std.proofs.Common.{◌≡◌, ◌<◌, ◌≤◌, ℕ, zero, suc, ◌+◌, true, ltb, List, [], ◌∷◌, length, get_or, map, drop, sym, ◌∙◌, ap, codes, arith, add-one}
+use Rattle.std.proofs.Common.{◌≡◌, ◌<◌, ◌≤◌, ℕ, zero, suc, ◌+◌, true, ltb, List, [], ◌∷◌, length, get_or, map, drop, sym, ◌∙◌, ap, codes, refl, arith, add-one}
 use Rattle.std.proofs.lemmas.List.{drop_all}
 use Rattle.std.proofs.lemmas.Bool.{lt-ltb}
 use Rattle.std.proofs.lemmas.Bool.Decides.{nat_tests}
@@ -14,8 +14,7 @@ use Rattle.vast_print.specs.Statements.{statement_page, statements_page, block_p
 use Rattle.vast_print.specs.Members.{entries_page, local_page, locals_page}
 use Rattle.vast_print.specs.Words.{comma, else_if_opening}
 use Rattle.vast_print.proofs.Lines.{word-nothing}
-use Rattle.vast_print.proofs.InkLaws.{hang-none, hang-above, hang-lead, pour-then}
-use Rattle.vast_print.proofs.WordLaws.{pour-comma}
+use Rattle.vast_print.proofs.InkLaws.{hang-none, hang-above, hang-lead, pour-then, pour-word}
 use Rattle.vast_print.proofs.StatementLaws.{hang-arms-none, hang-arms, pour-else-if-arm}
 
 -- the entries of a list of parts
@@ -40,7 +39,7 @@ entries-step w v d k (y ∷ z ∷ xs) zero x h e =
     rw (e, t)
     (hang-above d k (lead (written (w (v y) ⊕ plain_text (codes ",")))) (entries_page (map w (map v (z ∷ xs))))
     ∙ ap (λ j. hang d j (entries_page (map w (map v (z ∷ xs)))))
-    (hang-lead d k (w (v y) ⊕ plain_text (codes ",")) ∙ (pour-then d (next (d + 1) k) (w (v y)) (plain_text (codes ",")) ∙ pour-comma d (pour d (next (d + 1) k) (written (w (v y)))))))
+    (hang-lead d k (w (v y) ⊕ plain_text (codes ",")) ∙ (pour-then d (next (d + 1) k) (w (v y)) (plain_text (codes ",")) ∙ pour-word d (pour d (next (d + 1) k) (written (w (v y)))) (codes ",") refl)))
 entries-step w v d k (y ∷ xs) (suc i) x h e =
     rw (add-one (suc i)) (rw (ltb-suc i (length xs)) (rw (add-one i) at (entries-step w v d k xs i x (omega arith) e)))
 

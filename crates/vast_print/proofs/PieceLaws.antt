@@ -19,7 +19,6 @@ use Rattle.vast_print.specs.Words.{separator, scalar_cast_closing, number_cast_c
 use Rattle.vast_print.specs.Pieces.{piece_text, piece_weight, PieceOwned, pieces_text, pieces_weight, PiecesOwned, exprs_weight, expr_weight}
 use Rattle.vast_print.proofs.InkLaws.{pour-then, pour-empty, pour-word, pour-stopped}
 use Rattle.vast_print.proofs.TextLaws.{pour-wrapped, pour-bare, pour-name, pour-literal, pour-string, pour-unary, pour-ternary, pour-index, pour-scalar-index, pour-scalar-slice, pour-refused-index, pour-refused-slice, pour-concat, pour-parts, pour-replicated, pour-pattern-list, pour-macro, pour-no-arguments, pour-arguments, pour-call, pour-rising, pour-falling, pour-type-cast, pour-width-cast, pour-scalar-cast, pour-vector-cast, pour-integer-cast, pour-int-cast, pour-external-cast, pour-package-cast}
-use Rattle.vast_print.proofs.WordLaws.{pour-question, pour-alternative, pour-bracket, pour-close-bracket, pour-colon, pour-part, pour-brace, pour-close-brace, pour-close, pour-cast}
 use Rattle.vast_print.proofs.NumberLaws.{pour-number}
 use Rattle.vast_print.proofs.SeparatedLaws.{rest_text}
 use Rattle.vast_print.proofs.Lines.{word-stopped}
@@ -167,23 +166,23 @@ bare-part p = refl
 
 pub ruleset list_parts = (list-none, weight-none, then-empty, bare-part)
 
-pub ruleset begins = (pour-then, pour-bare, pour-unary, pour-operands, pour-ternary, pour-question, pour-alternative, pour-rising, pour-falling)
+pub ruleset begins = (pour-then, pour-bare, pour-unary, pour-operands, pour-ternary, pour-word, pour-rising, pour-falling)
 
-pub ruleset indexes = (pour-then, pour-bare, pour-index, pour-scalar-index, pour-refused-index, pour-bracket, pour-close-bracket)
+pub ruleset indexes = (pour-then, pour-bare, pour-index, pour-scalar-index, pour-refused-index, pour-word)
 
 pub ruleset slices = (slice-then, scalar-slice-then, pour-refused-slice)
 
 pub ruleset part_selects = (part-select-then)
 
-pub ruleset lists = (pour-then, pour-bare, pour-concat, pour-parts, pour-replicated, pour-pattern-list, pour-macro, pour-no-arguments, pour-arguments, pour-call, pour-brace, pour-close-brace, pour-close)
+pub ruleset lists = (pour-then, pour-bare, pour-concat, pour-parts, pour-replicated, pour-pattern-list, pour-macro, pour-no-arguments, pour-arguments, pour-call, pour-word)
 
-pub ruleset cast_parts = (pour-then, pour-bare, pour-type-cast, pour-width-cast, pour-scalar-cast, pour-vector-cast, pour-integer-cast, pour-int-cast, pour-external-cast, pour-package-cast, pour-cast, pour-close, pour-double-close, pour-scalar-closing, pour-number-closing)
+pub ruleset cast_parts = (pour-then, pour-bare, pour-type-cast, pour-width-cast, pour-scalar-cast, pour-vector-cast, pour-integer-cast, pour-int-cast, pour-external-cast, pour-package-cast, pour-word, pour-double-close, pour-scalar-closing, pour-number-closing)
 
 pub ruleset begun_casts = (cast_parts, pour-packed-cast, pour-unpacked-cast)
 
 pub ruleset leaves = (pour-name, pour-literal, pour-string)
 
-pub ruleset parts = (pour-then, pour-wrapped, pour-bare, pour-close, word-stopped)
+pub ruleset parts = (pour-then, pour-wrapped, pour-bare, pour-word, word-stopped)
 
 pub ruleset pieces = (pour-number, pour-bare)
 

@@ -19,7 +19,6 @@ impl Ast {
     ///
     /// # Errors
     /// `AllocError` where a growth was refused; nothing changed.
-    #[tactic(auto, using(crate::proofs::EntersRecords::enters_records))]
     pub fn push_continuous(
         &mut self,
         lhs: Expr,
@@ -29,20 +28,8 @@ impl Ast {
         requires rhs { OwnsExpr (bench self.old) rhs }
         ensures { Builds (bench self.old) (bench self.new) result (next_continuous (bench self.old)) (with_assignment (record { lhs = lhs; rhs = rhs; nonblocking = false }) (bench self.old)) }
     {
-        let id = self.next_assignment();
-        self.grow(
-            Place::Nowhere,
-            Arrivals {
-                terms: Terms::Nothing,
-                node: Node::Assignment(Assignment {
-                    lhs,
-                    rhs,
-                    nonblocking: false,
-                }),
-                block: false,
-            },
-        )?;
-        Ok(ContinuousAssignment { id })
+        let assignment = self.push_assignment(lhs, rhs, false)?;
+        Ok(ContinuousAssignment { id: assignment.id })
     }
 
     /// Adds an assignment of a procedural block, `lhs <= rhs` where it is nonblocking.
