@@ -11,11 +11,9 @@ use Rattle.vast_literal.specs.declared.operator.BinaryOperator.TheVariants.{Add 
 use Rattle.vast_literal.specs.Tree.{ExprTree, NameTree, LiteralTree, StringTree, IndexTree, SliceTree, UnaryTree, BinaryTree, TernaryTree}
 use Rattle.vast_literal.specs.Tree.{TypeTree, ScalarTree, VectorTree, IntegerTree, IntTree, ExternalTree, PackageTree, PackedTree, UnpackedTree, MissingType}
 use Rattle.vast_literal.specs.Scan.{is_letter, is_digit, is_word_byte}
-use Rattle.vast_literal.specs.NormalExpr.{normal}
 use Rattle.vast_literal.specs.Spelling.{op_text}
 use Rattle.vast_literal.specs.LiteralToken.{every, is_number, is_bare_literal, is_literal_text, is_string_text}
 use Rattle.vast_literal.specs.NormalExpr.{unary_sign, binary_sign, scalar_sign, integer_sign, sign_key}
-use Rattle.vast_literal.specs.NormalExpr as Normal
 use Rattle.vast_literal.specs.Plain.{is_identifier, is_plain_name}
 use Rattle.vast_literal.specs.ExprTokens.{expr_tokens, cast_tokens, each_tokens, comma_tokens, comma_tail_tokens, argument_tokens, called_token, cast_operand, wrapped_tokens, word_cast_tokens}
 use Rattle.vast_literal.specs.ExprTokens as Tokens
@@ -25,7 +23,7 @@ use Rattle.vast_literal.proofs.TokenReads.{opens, Free, Divides, Reads}
 use Rattle.vast_literal.proofs.Pieces.{free_free, reads_end, sign_reads, operator_divides, head_wrapped}
 use Rattle.vast_literal.proofs.NumberLaws.{decimal_number}
 use Rattle.vast_literal.proofs.Words.{name_reads, name_cast_free, key_cast_free, double_colon}
-use Rattle.vast_literal.specs.Shape.{is_elided_index, is_elided_slice, is_scalar_name, is_zero, left_child_wraps, right_child_wraps, select_wraps, ternary_wraps, unary_wraps, binary_precedence}
+use Rattle.vast_literal.specs.Shape.{is_scalar_name, is_zero, select_wraps, unary_wraps, binary_precedence}
 use Rattle.vast_print.specs.declared.refusal.Refusal.{Refusal}
 use Rattle.vast_print.specs.declared.refusal.Refusal.TheVariants.{ScalarIndex, ScalarSlice}
 use Rattle.vast_print.specs.Printed.{Printed, plain_text, ◌⊕◌, wrapped}

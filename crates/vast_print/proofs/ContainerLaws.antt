@@ -25,13 +25,12 @@ use Rattle.vast_print.specs.Printed.{plain_text, ◌⊕◌}
 use Rattle.vast_print.specs.Page.{written}
 use Rattle.vast_print.specs.Ink.{Ink, word, next, hang, pour}
 use Rattle.vast_print.specs.Text.{expr_text}
-use Rattle.vast_print.specs.Words.{else_if_opening, begin_end_word, separator}
+use Rattle.vast_print.specs.Words.{separator}
 use Rattle.vast_print.specs.Statements.{assign_sign, unique_word, case_word, label_text, statement_page, statements_page, block_page, alternates_page, arms_page, arm_page, arm_body_page}
 use Rattle.vast_print.specs.Members.{input_text, local_page, locals_page, loop_text, member_page, members_page}
-use Rattle.vast_literal.specs.Shape.{is_casez, is_one_casez}
+use Rattle.vast_literal.specs.Shape.{is_one_casez}
 use Rattle.vast_print.proofs.Lines.{word-nothing, word-word}
-use Rattle.vast_print.proofs.InkLaws.{hang-blank, hang-written, pour-line, pour-then, pour-above-none}
-use Rattle.vast_print.proofs.WordLaws.{words}
+use Rattle.vast_print.proofs.InkLaws.{pour-word, hang-blank, hang-written, pour-line, pour-then, pour-above-none}
 use Rattle.vast_print.proofs.StatementLaws.{hang-assign, pour-assign, hang-arm, hang-comment, hang-blank-statement, hang-inline, hang-conditional, hang-case, pour-no-else, pour-else, pour-block-none, pour-block, pour-arm-block}
 use Rattle.vast_print.proofs.ListLaws.{statements-end, statements-step, locals-end, locals-step, alternates-end, alternates-step, arms-end, arms-step}
 use Rattle.vast_print.proofs.SeparatedLaws.{rest_events, events-end, events-step, rest_inputs, inputs-end, inputs-step}
@@ -60,7 +59,7 @@ pub ruleset assignments = (hang-assign, stops)
 
 -- blocks
 
-pub pour-block-empty : (b : Bench) (d : ℕ) (k : Ink) (xs : List Statement) → length xs ≡ 0 → pour d k (block_page (statements_tree b (map statement_entry xs))) ≡ word k begin_end_word
+pub pour-block-empty : (b : Bench) (d : ℕ) (k : Ink) (xs : List Statement) → length xs ≡ 0 → pour d k (block_page (statements_tree b (map statement_entry xs))) ≡ word k (codes "begin end")
 pour-block-empty b d k [] h = pour-block-none d k
 pour-block-empty b d k (x ∷ xs) h = absurd (omega arith)
 
@@ -86,7 +85,7 @@ block-end b d k xs i h = statements-end (λ ys. statements_tree b (map statement
 
 pub else-ifs-step : (b : Bench) (otherwise : Option VastStatementBlock) (d : ℕ) (k : Ink) (xs : List ElseIf) (i : ℕ) (x : ElseIf) → i < length xs → x ≡ get_or xs i x →
     pour d k (alternates_page (alternates_tree b (drop i xs) otherwise))
-    ≡ pour d (pour d (word (pour d (word k else_if_opening) (written (expr_text (tree_of b x.condition)))) (codes ") ")) (block_page (block_tree b x.block))) (alternates_page (alternates_tree b (drop (i + 1) xs) otherwise))
+    ≡ pour d (pour d (word (pour d (word k (codes " else if (")) (written (expr_text (tree_of b x.condition)))) (codes ") ")) (block_page (block_tree b x.block))) (alternates_page (alternates_tree b (drop (i + 1) xs) otherwise))
 else-ifs-step b otherwise d k xs i x h e =
     alternates-step (λ ys. alternates_tree b ys otherwise) (λ y. tree_of b y.condition) (λ y. block_tree b y.block) (λ y ys. refl) d k xs i x h e
 
@@ -112,10 +111,10 @@ pub no-arms-left : (b : Bench) (w : CaseWord) (d : ℕ) (k : Ink) (xs : List Cas
 no-arms-left b w d k xs i h = arms-end w (λ ys. case_arms_tree b ys) refl d k xs i h
 
 pub pour-label : (d : ℕ) (k : Ink) (e : ExprTree) → pour d k (written (label_text (SomeExpr e) ⊕ plain_text (codes ": "))) ≡ word (pour d k (written (expr_text e))) (codes ": ")
-pour-label d k e = simp (pour-then, words)
+pour-label d k e = simp (pour-then, pour-word)
 
 pub pour-default : (d : ℕ) (k : Ink) → pour d k (written (label_text NoExpr ⊕ plain_text (codes ": "))) ≡ word k (codes "default: ")
-pour-default d k = simp (pour-then, words, word-word)
+pour-default d k = simp (pour-then, pour-word, word-word)
 
 pub ruleset labels = (pour-label, pour-default, stops)
 

@@ -15,9 +15,8 @@ use Rattle.vast_print.specs.Ink.{Ink, word, pour, pour_lines, hang_lines, stop}
 use Rattle.vast_print.specs.Text.{expr_text, package_text}
 use Rattle.vast_print.specs.Declaration.{unpacked_text, limit_text, signed_word, unsigned_word, joined, type_text, name_text, kind_word, declaration_text, port_declaration_text}
 use Rattle.vast_print.specs.Layout.{port_text, parameter_port_text, direction_word}
-use Rattle.vast_print.specs.Words.{has_text, kind_opening, signed_opening, unsigned_opening, parameter_opening}
+use Rattle.vast_print.specs.Words.{has_text, kind_opening, signed_opening, unsigned_opening}
 use Rattle.vast_print.proofs.InkLaws.{pour-then, pour-empty, pour-word}
-use Rattle.vast_print.proofs.WordLaws.{words}
 
 pub plain-append : (a b : List ℕ) → plain_text (a ++ b) ≡ plain_text a ⊕ plain_text b
 unfolding plain_text ◌⊕◌
@@ -56,15 +55,15 @@ pour-port d k dialect p =
 
 pub pour-untyped-parameter : (d : ℕ) (k : Ink) (dialect : Dialect) (name : List ℕ) (value : ExprTree) →
     pour d k (written (parameter_port_text dialect (record { name = name; type = Untyped; value = value })))
-    ≡ pour d (word (pour d (word k parameter_opening) (written (plain_text name))) (codes " = ")) (written (expr_text value))
+    ≡ pour d (word (pour d (word k (codes "parameter ")) (written (plain_text name))) (codes " = ")) (written (expr_text value))
 unfolding parameter_port_text
-pour-untyped-parameter d k dialect name value = simp (pour-then, words)
+pour-untyped-parameter d k dialect name value = simp (pour-then, pour-word)
 
 pub pour-typed-parameter : (d : ℕ) (k : Ink) (dialect : Dialect) (name : List ℕ) (t : TypeTree) (value : ExprTree) →
     pour d k (written (parameter_port_text dialect (record { name = name; type = Typed t; value = value })))
-    ≡ pour d (word (pour d (word k parameter_opening) (written (declaration_text dialect (base_kind (base_of t)) t name))) (codes " = ")) (written (expr_text value))
+    ≡ pour d (word (pour d (word k (codes "parameter ")) (written (declaration_text dialect (base_kind (base_of t)) t name))) (codes " = ")) (written (expr_text value))
 unfolding parameter_port_text
-pour-typed-parameter d k dialect name t value = simp (pour-then, words)
+pour-typed-parameter d k dialect name t value = simp (pour-then, pour-word)
 
 -- types, each part with the space behind it, by what they are made of
 
@@ -118,7 +117,7 @@ pour-joined d k p (c ∷ ds) =
 -- a part with the space behind it, where it isn't empty
 pub pour-spaced : (d : ℕ) (k : Ink) (w : List ℕ) → has_text w ≡ true → pour d k (written (spaced (plain_text w))) ≡ word (pour d k (written (plain_text w))) (codes " ")
 pour-spaced d k [] h = absurd (cc (h))
-pour-spaced d k (c ∷ w) h = ap (λ x. pour d k (written x)) (spaced-plain c w) ∙ simp (pour-then, words)
+pour-spaced d k (c ∷ w) h = ap (λ x. pour d k (written x)) (spaced-plain c w) ∙ simp (pour-then, pour-word)
 
 pub pour-spaced-none : (d : ℕ) (k : Ink) (w : List ℕ) → has_text w ≡ false → pour d k (written (spaced (plain_text w))) ≡ k
 pour-spaced-none d k [] h = ap (λ x. pour d k (written x)) spaced-empty ∙ pour-empty d k
@@ -132,4 +131,4 @@ pour-limit-value d k w v = refl
 
 pub pour-limit : (d : ℕ) (k : Ink) (w : ExprTree) → pour d k (written (limit_text w None)) ≡ word (pour d k (written (wrapped (limit_wraps w) (expr_text w)))) (codes " - 1")
 unfolding limit_text
-pour-limit d k w = simp (pour-then, words)
+pour-limit d k w = simp (pour-then, pour-word)

@@ -1,18 +1,16 @@
 -- The text of a declaration has the tokens that the grammar reads.
-use Rattle.std.proofs.Common.{◌≡◌, ℕ, ℤ, pos, ◌-ℤ◌, List, [], ◌∷◌, ◌++◌, Bool, true, false, cond, nat_lt, ◌&&◌, Option, Some, None, refl, sym, subst, ap, ◌∙◌, append_assoc, append-nil, codes}
+use Rattle.std.proofs.Common.{◌≡◌, ℕ, ℤ, pos, ◌-ℤ◌, List, [], ◌∷◌, ◌++◌, Bool, true, false, ◌&&◌, Option, Some, None, refl, sym, subst, ap, ◌∙◌, append_assoc, append-nil, codes}
 use Rattle.std.proofs.lemmas.Option.{same_Some}
 use Rattle.std.specs.Fmt.{signed_decimal}
-use Rattle.vast_literal.specs.Tokens.{Token, key_text, WireKey, RegKey, LogicKey, IntegerKey, IntKey, GenvarKey, SignedKey, UnsignedKey, Mark, CloseBracket, Colon, DoubleColon, Operator, Minus, Word, Number, level}
-use Rattle.vast_literal.specs.Tree.{ExprTree, LiteralTree, BinaryTree}
+use Rattle.vast_literal.specs.Tokens.{Token, key_text, WireKey, RegKey, LogicKey, IntegerKey, IntKey, GenvarKey, SignedKey, UnsignedKey, Mark, CloseBracket, Colon, DoubleColon, Operator, Minus, Word, Number}
+use Rattle.vast_literal.specs.Tree.{ExprTree}
 use Rattle.vast_literal.specs.declared.kind.VastFileType.{VastFileType as Dialect}
 use Rattle.vast_literal.specs.declared.kind.VastFileType.TheVariants.{Verilog as VerilogDialect, SystemVerilog as SystemVerilogDialect}
 use Rattle.vast_literal.specs.Tree.{TypeTree, ScalarTree, VectorTree, IntegerTree, IntTree, ExternalTree, PackageTree, PackedTree, UnpackedTree, MissingType}
 use Rattle.vast_literal.specs.declared.kind.DataKind.{DataKind as Kind}
 use Rattle.vast_literal.specs.declared.kind.DataKind.TheVariants.{Reg as RegKind, Wire as WireKind, Logic as LogicKind, Integer as IntegerKind, Int as IntKind, User as UserKind, UntypedEnum as UntypedEnumKind, Genvar as GenvarKind}
-use Rattle.vast_literal.specs.declared.operator.BinaryOperator.{BinaryOperator as BinaryOp}
-use Rattle.vast_literal.specs.declared.operator.BinaryOperator.TheVariants.{Add as AddOp}
 use Rattle.vast_literal.specs.Scan.{scan, cons_token}
-use Rattle.vast_literal.specs.NormalExpr.{binary_sign, scalar_sign, integer_sign}
+use Rattle.vast_literal.specs.NormalExpr.{scalar_sign, integer_sign}
 use Rattle.vast_literal.specs.Plain.{is_plain_name, is_plain, is_plain_type, is_edgeless, is_edgeless_type}
 use Rattle.vast_literal.specs.PlainFile.{is_plain_declaration}
 use Rattle.vast_literal.specs.WellFormed.{is_well_formed, is_well_formed_type}
@@ -25,7 +23,7 @@ use Rattle.vast_literal.proofs.Pieces.{add_tokens-nil, free_reads, free_free, re
 use Rattle.vast_literal.proofs.LiteralLaws.{literal_reads}
 use Rattle.vast_literal.proofs.NumberLaws.{signed_text}
 use Rattle.vast_literal.proofs.Words.{key_reads, name_reads, number_reads, double_colon}
-use Rattle.vast_literal.specs.Shape.{base_of, binary_precedence, limit_wraps, starts_with_minus}
+use Rattle.vast_literal.specs.Shape.{base_of, limit_wraps}
 use Rattle.vast_print.specs.Printed.{Printed, plain_text, ◌⊕◌, gapped, spaced}
 use Rattle.vast_print.specs.Text.{expr_text, package_text}
 use Rattle.vast_print.specs.Declaration.{packed_range, packed_ranges, packed_text, unpacked_range, unpacked_ranges, unpacked_text, limit_text, signed_word, unsigned_word, joined, based_text, type_text, name_text, kind_word, declaration_text}

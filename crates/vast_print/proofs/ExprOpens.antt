@@ -1,7 +1,6 @@
 -- With which bytes the text of an expression begins.
 use Rattle.std.proofs.Common.{◌≡◌, ℕ, List, [], ◌∷◌, Bool, true, false, cond, not, ◌&&◌, ◌||◌, eqb, eqb-true, nat_lt, refl, codes}
 use Rattle.std.specs.Prelude.{if◌then◌else◌}
-use Rattle.vast_literal.specs.Tokens.{level}
 use Rattle.vast_literal.specs.declared.operator.UnaryOperator.{UnaryOperator as UnaryOp}
 use Rattle.vast_literal.specs.declared.operator.UnaryOperator.TheVariants.{Negate as NegateOp}
 use Rattle.vast_literal.specs.declared.operator.BinaryOperator.{BinaryOperator as BinaryOp}
@@ -10,7 +9,6 @@ use Rattle.vast_literal.specs.Tree.{ExprTree, NameTree, LiteralTree, StringTree,
 use Rattle.vast_literal.specs.Tree.{TypeTree, ScalarTree, VectorTree, IntegerTree, IntTree, ExternalTree, PackageTree, PackedTree, UnpackedTree, MissingType}
 use Rattle.vast_literal.specs.Scan.{is_letter, is_digit, is_word_byte}
 use Rattle.vast_literal.specs.LiteralToken.{every, is_number, is_based, is_filled, is_based_tail, is_bare_literal, is_literal_text, is_string_text}
-use Rattle.vast_literal.specs.NormalExpr.{binary_sign}
 use Rattle.vast_literal.specs.Plain.{is_identifier, is_plain_name, is_called_name, is_plain, is_plain_type}
 use Rattle.vast_literal.specs.WellFormed.{is_well_formed, is_cast_type}
 use Rattle.vast_literal.proofs.ScanLaws.{and_left, opens_letter, opens_digit}

@@ -1,24 +1,21 @@
 -- The grammar derives the normal form of a plain file from its printed layout.
-use Rattle.std.proofs.Common.{◌≡◌, ℕ, List, [], ◌∷◌, ◌++◌, map, true, false, ◌&&◌, Some, None, refl, subst, ap, ◌∙◌, append_assoc, codes}
+use Rattle.std.proofs.Common.{◌≡◌, ℕ, List, [], ◌∷◌, ◌++◌, map, true, false, ◌&&◌, Some, None, refl, append_assoc, codes}
 use Rattle.vast_literal.specs.Tokens.{Token, key_text, Reserved, InputKey, ParameterKey, Mark, OpenParen, CloseParen, Semicolon, Assign, Hash, Word}
-use Rattle.vast_literal.specs.Tree.{TypeTree, ScalarTree, VectorTree, IntegerTree, IntTree}
 use Rattle.vast_literal.specs.declared.kind.VastFileType.{VastFileType as Dialect}
-use Rattle.vast_literal.specs.declared.kind.DataKind.{DataKind as Kind}
 use Rattle.vast_literal.specs.Scan.{scan}
 use Rattle.vast_literal.specs.Plain.{is_plain_name}
 use Rattle.vast_literal.specs.PlainFile.{is_plain_value, is_plain_declared}
 use Rattle.vast_literal.specs.WellFormed.{is_well_formed, is_well_formed_type}
 use Rattle.vast_literal.specs.ExprTokens.{expr_tokens}
-use Rattle.vast_literal.specs.FileTokens.{declaration_tokens, port_declaration_tokens, separated}
+use Rattle.vast_literal.specs.FileTokens.{port_declaration_tokens, separated}
 use Rattle.vast_literal.proofs.TokenReads.{Free, Divides, Reads}
 use Rattle.vast_literal.proofs.ScanLaws.{and_left, and_right}
 use Rattle.vast_literal.proofs.Pieces.{free_reads, reads_end, as_reads, reads_sep, open_paren}
 use Rattle.vast_literal.proofs.Words.{key_reads, name_reads}
-use Rattle.vast_literal.specs.Shape.{base_kind, base_of, is_external}
+use Rattle.vast_literal.specs.Shape.{base_kind, base_of}
 use Rattle.vast_print.specs.Printed.{plain_text, ◌⊕◌}
 use Rattle.vast_print.specs.Text.{expr_text}
-use Rattle.vast_print.specs.Declaration.{declaration_text, declared_text, port_declaration_text}
-use Rattle.vast_print.specs.Declaration as Print
+use Rattle.vast_print.specs.Declaration.{port_declaration_text}
 use Rattle.vast_print.specs.Page.{Page, no_lines, line}
 use Rattle.vast_print.proofs.FaultLaws.{both_fine}
 use Rattle.vast_print.proofs.DeclarationReads.{declaration_reads}

@@ -1,28 +1,21 @@
 -- Functions have the tokens that the grammar reads.
-use Rattle.std.proofs.Common.{◌≡◌, ℕ, List, [], ◌∷◌, ◌++◌, Bool, true, false, cond, ◌&&◌, None, refl, sym, subst, ap, ◌∙◌, append_assoc, append-nil, codes}
+use Rattle.std.proofs.Common.{◌≡◌, ℕ, List, [], ◌∷◌, ◌++◌, Bool, true, false, cond, ◌&&◌, None, refl, sym, ap, append_assoc, append-nil, codes}
 use Rattle.vast_literal.specs.Tokens.{Token, Key, key_text, Reserved, FunctionKey, AutomaticKey, EndFunctionKey, InputKey, Mark, OpenParen, CloseParen, Semicolon, Comma}
-use Rattle.vast_literal.specs.Tree.{Declaration, TypeTree, ScalarTree, VectorTree, IntegerTree, IntTree, ExternalTree, PackageTree, PackedTree, UnpackedTree, MissingType}
+use Rattle.vast_literal.specs.Tree.{Declaration, TypeTree}
 use Rattle.vast_literal.specs.declared.kind.VastFileType.{VastFileType as Dialect}
-use Rattle.vast_literal.specs.declared.kind.VastFileType.TheVariants.{Verilog as VerilogDialect, SystemVerilog as SystemVerilogDialect}
-use Rattle.vast_literal.specs.declared.kind.DataKind.{DataKind as Kind}
-use Rattle.vast_literal.specs.declared.kind.DataKind.TheVariants.{User as UserKind}
 use Rattle.vast_literal.specs.Tree.{FunctionTree}
-use Rattle.vast_literal.specs.Tree.{AssignTree, CommentTree, BlankTree, InlineTree, ConditionalTree, CaseTree, Statements, NoStatements, MoreStatements}
-use Rattle.vast_literal.specs.declared.kind.CaseKind.TheVariants.{Case as CaseExact, CaseZ, CaseX}
+use Rattle.vast_literal.specs.Tree.{Statements}
 use Rattle.vast_literal.specs.PlainFile.{is_plain_declaration, is_plain_declared, are_plain_declared, are_plain_statements, is_plain_function}
 use Rattle.vast_literal.specs.WellFormed.{is_well_formed_type}
 use Rattle.vast_literal.specs.WellFormedFile.{are_well_formed_statements, are_well_formed_inputs, are_well_formed_locals, is_well_formed_function, is_local_word}
-use Rattle.vast_literal.specs.NormalTree.{parameter_key}
-use Rattle.vast_literal.specs.NormalTree as Normal
 use Rattle.vast_literal.specs.FileTokens.{declaration_tokens, declared_tokens, port_declaration_tokens, block_tokens, statements_tokens, separated, each_input, local_tokens, body_tokens, function_tokens}
 use Rattle.vast_literal.proofs.TokenReads.{Reads}
 use Rattle.vast_literal.proofs.ScanLaws.{and_left, and_right}
 use Rattle.vast_literal.proofs.Pieces.{free_reads, free_free, reads_end, as_reads, reads_reads, reads_sep, comma}
 use Rattle.vast_literal.proofs.Words.{key_reads}
-use Rattle.vast_literal.specs.Shape.{base_of, is_external, port_kind, result_kind}
+use Rattle.vast_literal.specs.Shape.{port_kind, result_kind}
 use Rattle.vast_print.specs.Printed.{Printed, plain_text, ◌⊕◌}
-use Rattle.vast_print.specs.Declaration.{declaration_text, declared_text, port_declaration_text}
-use Rattle.vast_print.specs.Declaration as Print
+use Rattle.vast_print.specs.Declaration.{declared_text, port_declaration_text}
 use Rattle.vast_print.specs.Page.{inner, above}
 use Rattle.vast_print.specs.Statements.{statements_page, block_page}
 use Rattle.vast_print.specs.Members.{input_text, more_inputs_text, inputs_text, local_page, locals_page, function_body_page, result_text, function_page}

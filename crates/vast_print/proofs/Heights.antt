@@ -1,17 +1,13 @@
 -- How much is still to print: less for newer containers, so that printing ends; and depths stay in range.
-use Rattle.std.proofs.Common.{◌≡◌, ℕ, ◌+◌, ◌-◌, ◌*◌, ◌^◌, ◌<◌, ◌≤◌, List, length, get_or, Option, Some, None, slice_get, All, sym, subst, arith}
-use Rattle.vast_core.specs.declared.node.Statement.{Statement}
-use Rattle.vast_core.specs.declared.node.Member.{Member}
-use Rattle.vast_core.specs.declared.node.CaseArm.{CaseArm}
-use Rattle.vast_core.specs.declared.node.ElseIf.{ElseIf}
+use Rattle.std.proofs.Common.{ℕ, ◌+◌, ◌-◌, ◌*◌, ◌^◌, ◌<◌, Option, Some, None, slice_get, All, arith}
 use Rattle.vast_core.specs.declared.node.Function.{Function}
 use Rattle.vast_core.specs.Handles.{conditional_index, case_index, loop_index, always_index}
-use Rattle.vast_core.specs.Records.{MemberEntry, DeclarationEntry, AssignmentEntry, ParameterEntry, BlankEntry, CommentEntry, InlineEntry, MacroEntry, InstanceEntry, FunctionEntry, AlwaysEntry, ConditionalEntry, LoopEntry, member_entry}
-use Rattle.vast_core.specs.Nests.{StatementEntry, AssignStatement, ContinuousStatement, ConditionalStatement, CasesStatement, BlankStatement, CommentStatement, InlineStatement, AlwaysRecord, statement_entry, variable_record, function_record}
+use Rattle.vast_core.specs.Records.{MemberEntry, DeclarationEntry, AssignmentEntry, ParameterEntry, BlankEntry, CommentEntry, InlineEntry, MacroEntry, InstanceEntry, FunctionEntry, AlwaysEntry, ConditionalEntry, LoopEntry}
+use Rattle.vast_core.specs.Nests.{StatementEntry, AssignStatement, ContinuousStatement, ConditionalStatement, CasesStatement, BlankStatement, CommentStatement, InlineStatement, AlwaysRecord, variable_record, function_record}
 use Rattle.vast_core.specs.Bench.{Bench}
-use Rattle.vast_core.specs.Sound.{Each, StatementSound, CaseArmSound, ElseIfSound, AlwaysNewer, MemberNewer, LoopMemberSound, VariableSound, FunctionSound}
-use Rattle.vast_core.proofs.Lists.{All-own, All-Each}
-use Rattle.vast_print.specs.Fits.{StatementFits, AlwaysFits, MemberFits}
+use Rattle.vast_core.specs.Sound.{VariableSound, FunctionSound}
+use Rattle.vast_core.proofs.Lists.{All-Each}
+use Rattle.vast_print.specs.Fits.{AlwaysFits, MemberFits}
 
 abbrev pub height : ℕ → ℕ
 height i = 8 * (2 ^ 64 - i)

@@ -1,6 +1,5 @@
 pub mod Lines
 pub mod InkLaws
-pub mod WordLaws
 pub mod NumberLaws
 pub mod TextLaws
 pub mod DeclarationLaws

@@ -12,7 +12,7 @@ use Rattle.vast_print.specs.Ink.{Ink, word, next, hang, pour}
 use Rattle.vast_print.specs.Text.{expr_text}
 use Rattle.vast_print.specs.Statements.{statement_page, statements_page, block_page, alternates_page, arms_page, arm_page}
 use Rattle.vast_print.specs.Members.{entries_page, local_page, locals_page}
-use Rattle.vast_print.specs.Words.{comma, else_if_opening}
+use Rattle.vast_print.specs.Words.{comma}
 use Rattle.vast_print.proofs.Lines.{word-nothing}
 use Rattle.vast_print.proofs.InkLaws.{hang-none, hang-above, hang-lead, pour-then, pour-word}
 use Rattle.vast_print.proofs.StatementLaws.{hang-arms-none, hang-arms, pour-else-if-arm}
@@ -92,7 +92,7 @@ pub alternates-step :
     {A : Type 0} (f : List A → Alternates) (c : A → ExprTree) (b : A → Statements) → ((x : A) (xs : List A) → f (x ∷ xs) ≡ ElseIf (c x) (b x) (f xs)) →
     (d : ℕ) (k : Ink) (xs : List A) (i : ℕ) (x : A) → i < length xs → x ≡ get_or xs i x →
     pour d k (alternates_page (f (drop i xs)))
-    ≡ pour d (pour d (word (pour d (word k else_if_opening) (written (expr_text (c x)))) (codes ") ")) (block_page (b x))) (alternates_page (f (drop (i + 1) xs)))
+    ≡ pour d (pour d (word (pour d (word k (codes " else if (")) (written (expr_text (c x)))) (codes ") ")) (block_page (b x))) (alternates_page (f (drop (i + 1) xs)))
 alternates-step f c b e d k [] i x h g = absurd (omega arith)
 alternates-step f c b e d k (y ∷ xs) zero x h g = rw g (ap (λ p. pour d k (alternates_page p)) (e y xs) ∙ pour-else-if-arm d k (c y) (b y) (f xs))
 alternates-step f c b e d k (y ∷ xs) (suc i) x h g = rw (add-one (suc i)) (rw (add-one i) at (alternates-step f c b e d k xs i x (omega arith) g))

@@ -20,7 +20,6 @@ use Rattle.vast_print.proofs.Shapes.{wrapped_reads}
 use Rattle.vast_print.proofs.PageReads.{equals, close_space, key_space, key_open}
 use Rattle.vast_literal.proofs.Pieces.{colon}
 use Rattle.vast_print.proofs.InstanceReads.{Rest, rest_none}
-use Rattle.vast_literal.specs.NormalExpr.{binary_sign}
 
 -- loops
 

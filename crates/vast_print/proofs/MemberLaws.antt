@@ -7,6 +7,7 @@ use Rattle.vast_literal.specs.declared.kind.AlwaysKind.{AlwaysKind as AlwaysWord
 use Rattle.vast_literal.specs.declared.kind.AlwaysKind.TheVariants.{AlwaysFF as AlwaysFFWord, AlwaysAt as AlwaysAtWord, AlwaysComb as AlwaysCombWord}
 use Rattle.vast_literal.specs.Tree.{MemberTree, DeclarationMember, ParameterMember, CommentMember, BlankMember, InlineMember, MacroMember, InstanceMember, AlwaysMember, FunctionMember, LoopMember, Members, NoMembers, MoreMembers}
 use Rattle.vast_literal.specs.Shape.{result_kind, right_child_wraps}
+use Rattle.vast_print.specs.Words.{endfunction_word, always_ff_opening, always_at_opening, always_comb_opening, function_opening, for_opening, step_word}
 use Rattle.vast_print.specs.Printed.{plain_text, wrapped}
 use Rattle.vast_print.specs.Page.{written, commented}
 use Rattle.vast_print.specs.Ink.{Ink, word, next, hang, pour}
@@ -15,10 +16,8 @@ use Rattle.vast_print.specs.Declaration.{declaration_text, port_declaration_text
 use Rattle.vast_print.specs.Statements.{statements_page, block_page}
 use Rattle.vast_print.specs.Members.{entries_page, parameter_word, parameter_text, semicolon_text, connection_text, connections_page, instance_head_page, instance_page, events_text, always_text, input_text, inputs_text, local_page, locals_page, function_body_page, function_page, loop_label_text, loop_text, member_page, members_page}
 use Rattle.vast_literal.specs.Shape.{is_one_casez}
-use Rattle.vast_print.specs.Words.{always_ff_opening, always_at_opening, always_comb_opening, function_opening, endfunction_word, for_opening, step_word}
 use Rattle.vast_print.proofs.Lines.{word-word}
 use Rattle.vast_print.proofs.InkLaws.{hang-line, hang-none, hang-blank, hang-above, hang-beside, hang-inner, hang-written, pour-then, pour-empty, pour-word}
-use Rattle.vast_print.proofs.WordLaws.{words}
 use Rattle.vast_print.proofs.StatementLaws.{hang-block}
 
 -- members below each other
@@ -38,7 +37,7 @@ pub hang-declaration : (d : ℕ) (k : Ink) (dialect : Dialect) (declared : Decla
     hang d k (member_page dialect (DeclarationMember declared))
     ≡ word (pour d (next d k) (written (declaration_text dialect declared.kind declared.type declared.name))) (codes ";")
 unfolding member_page
-hang-declaration d k dialect declared = hang-written d k _ ∙ simp (pour-then, words)
+hang-declaration d k dialect declared = hang-written d k _ ∙ simp (pour-then, pour-word)
 
 pub hang-comment-member : (d : ℕ) (k : Ink) (dialect : Dialect) (text : List ℕ) → hang d k (member_page dialect (CommentMember text)) ≡ hang d k (commented (written (plain_text text)))
 unfolding member_page
@@ -62,13 +61,13 @@ pub hang-parameter : (d : ℕ) (k : Ink) (dialect : Dialect) (local : Bool) (par
     hang d k (member_page dialect (ParameterMember local parameter v))
     ≡ word (pour d (word (pour d (word (next d k) (parameter_word local)) (written (parameter_text dialect parameter))) (codes " = ")) (written (expr_text v))) (codes ";")
 unfolding member_page
-hang-parameter d k dialect local parameter v = hang-written d k _ ∙ simp (pour-then, pour-parameter-word, words)
+hang-parameter d k dialect local parameter v = hang-written d k _ ∙ simp (pour-then, pour-parameter-word, pour-word)
 
 pub pour-plain-parameter : (d : ℕ) (k : Ink) (dialect : Dialect) (name : List ℕ) → pour d k (written (parameter_text dialect (PlainParameter name))) ≡ pour d k (written (plain_text name))
 pour-plain-parameter d k dialect name = refl
 
 pub pour-int-parameter : (d : ℕ) (k : Ink) (dialect : Dialect) (name : List ℕ) → pour d k (written (parameter_text dialect (IntParameter name))) ≡ pour d (word k (codes "int ")) (written (plain_text name))
-pour-int-parameter d k dialect name = simp (pour-then, words)
+pour-int-parameter d k dialect name = simp (pour-then, pour-word)
 
 -- macros
 
@@ -93,14 +92,14 @@ pub hang-instance-head : (d : ℕ) (k : Ink) (name instance : List ℕ) →
     hang d k (instance_head_page name [] instance)
     ≡ word (pour d (word (pour d (next d k) (written (plain_text name))) (codes " ")) (written (plain_text instance))) (codes " (")
 unfolding instance_head_page
-hang-instance-head d k name instance = hang-written d k _ ∙ simp (pour-then, words)
+hang-instance-head d k name instance = hang-written d k _ ∙ simp (pour-then, pour-word)
 
 pub hang-instance-parameters : (d : ℕ) (k : Ink) (name instance : List ℕ) (cs : List Connection) → 0 < length cs →
     hang d k (instance_head_page name cs instance)
     ≡ word (pour d (word (next d (hang d (word (pour d (next d k) (written (plain_text name))) (codes " #(")) (entries_page (map connection_text cs)))) (codes ") ")) (written (plain_text instance))) (codes " (")
 unfolding instance_head_page
 hang-instance-parameters d k name instance [] h = absurd (omega arith)
-hang-instance-parameters d k name instance (c ∷ cs) h = simp (hang-above, hang-written, pour-then, words)
+hang-instance-parameters d k name instance (c ∷ cs) h = simp (hang-above, hang-written, pour-then, pour-word)
 
 pub hang-no-connections : (d : ℕ) (k : Ink) → hang d k (connections_page []) ≡ next d k
 unfolding connections_page
@@ -115,13 +114,13 @@ pub pour-connection : (d : ℕ) (k : Ink) (name : List ℕ) (e : ExprTree) →
     pour d k (written (connection_text (record { name = name; value = SomeExpr e })))
     ≡ word (pour d (word (pour d (word k (codes ".")) (written (plain_text name))) (codes "(")) (written (expr_text e))) (codes ")")
 unfolding connection_text
-pour-connection d k name e = simp (pour-then, words)
+pour-connection d k name e = simp (pour-then, pour-word)
 
 pub pour-open-connection : (d : ℕ) (k : Ink) (name : List ℕ) →
     pour d k (written (connection_text (record { name = name; value = NoExpr })))
     ≡ word (pour d (word k (codes ".")) (written (plain_text name))) (codes "()")
 unfolding connection_text
-pour-open-connection d k name = simp (pour-then, pour-empty, words, word-word)
+pour-open-connection d k name = simp (pour-then, pour-empty, pour-word, word-word)
 
 -- always blocks
 
@@ -131,16 +130,16 @@ unfolding member_page
 hang-always d k dialect w events s = hang-beside d k (always_text w events) (block_page s)
 
 pub pour-always-ff : (d : ℕ) (k : Ink) (events : Exprs) → pour d k (written (always_text AlwaysFFWord events)) ≡ word (pour d (word k always_ff_opening) (written (events_text events))) (codes ") ")
-unfolding always_text
-pour-always-ff d k events = simp (pour-then, words)
+unfolding always_text always_ff_opening
+pour-always-ff d k events = simp (pour-then, pour-word)
 
 pub pour-always-at : (d : ℕ) (k : Ink) (events : Exprs) → pour d k (written (always_text AlwaysAtWord events)) ≡ word (pour d (word k always_at_opening) (written (events_text events))) (codes ") ")
-unfolding always_text
-pour-always-at d k events = simp (pour-then, words)
+unfolding always_text always_at_opening
+pour-always-at d k events = simp (pour-then, pour-word)
 
 pub pour-always-comb : (d : ℕ) (k : Ink) (events : Exprs) → pour d k (written (always_text AlwaysCombWord events)) ≡ word k always_comb_opening
-unfolding always_text
-pour-always-comb d k events = simp words
+unfolding always_text always_comb_opening
+pour-always-comb d k events = simp pour-word
 
 -- functions
 
@@ -153,13 +152,13 @@ pub hang-function : (d : ℕ) (k : Ink) (dialect : Dialect) (f : FunctionTree) �
     ≡ word (next d (hang (d + 1) (hang (d + 1)
     (word (pour d (word (pour d (word (next d k) function_opening) (written (declaration_text dialect (result_kind dialect f.result) f.result f.name))) (codes " (")) (written (inputs_text dialect f.inputs))) (codes ");"))
     (locals_page dialect f.locals)) (function_body_page f.body))) endfunction_word
-unfolding function_page endfunction_word
-hang-function d k dialect f = simp (hang-above, hang-written, pour-then, words, hang-inner, hang-line)
+unfolding function_page function_opening endfunction_word
+hang-function d k dialect f = simp (hang-above, hang-written, pour-then, pour-word, hang-inner, hang-line)
 
 pub hang-local : (d : ℕ) (k : Ink) (dialect : Dialect) (declared : Declaration) →
     hang d k (local_page dialect declared) ≡ word (pour d (next d k) (written (declaration_text dialect declared.kind declared.type declared.name))) (codes ";")
 unfolding local_page
-hang-local d k dialect declared = hang-written d k _ ∙ simp (pour-then, words)
+hang-local d k dialect declared = hang-written d k _ ∙ simp (pour-then, pour-word)
 
 pub hang-body-block : (d : ℕ) (k : Ink) (b : Statements) → is_one_casez b ≡ false → hang d k (function_body_page b) ≡ pour d (next d k) (block_page b)
 unfolding function_body_page
@@ -172,7 +171,7 @@ hang-body-casez d k b h = rw h refl
 pub pour-input-text : (d : ℕ) (k : Ink) (dialect : Dialect) (declared : Declaration) →
     pour d k (written (input_text dialect declared)) ≡ pour d (word k (codes "input ")) (written (port_declaration_text dialect declared))
 unfolding input_text
-pour-input-text d k dialect declared = simp (pour-then, words)
+pour-input-text d k dialect declared = simp (pour-then, pour-word)
 
 -- loops
 
@@ -186,11 +185,11 @@ pub pour-loop : (d : ℕ) (k : Ink) (i : List ℕ) (start end : ExprTree) (label
     pour d k (written (loop_text i start end label))
     ≡ pour d (word (pour d (word (pour d (word (pour d (word (pour d (word (pour d (word (pour d (word k for_opening) (written (plain_text i))) (codes " = ")) (written (expr_text start))) (codes "; "))
     (written (plain_text i))) (codes " < ")) (written (wrapped (right_child_wraps LtOp end) (expr_text end)))) (codes "; ")) (written (plain_text i))) (codes " = ")) (written (plain_text i))) step_word) (written (loop_label_text label))
-unfolding loop_text
-pour-loop d k i start end label = simp (pour-then, words)
+unfolding loop_text for_opening step_word
+pour-loop d k i start end label = simp (pour-then, pour-word)
 
 pub pour-label-text : (d : ℕ) (k : Ink) (label : List ℕ) → pour d k (written (loop_label_text (Some label))) ≡ pour d (word k (codes " : ")) (written (plain_text label))
-pour-label-text d k label = simp (pour-then, words)
+pour-label-text d k label = simp (pour-then, pour-word)
 
 pub pour-no-label : (d : ℕ) (k : Ink) → pour d k (written (loop_label_text None)) ≡ k
 pour-no-label d k = pour-empty d k

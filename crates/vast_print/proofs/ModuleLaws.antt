@@ -6,12 +6,11 @@ use Rattle.vast_literal.specs.declared.kind.VastFileType.{VastFileType as Dialec
 use Rattle.vast_print.specs.Printed.{plain_text}
 use Rattle.vast_print.specs.Page.{written, commented}
 use Rattle.vast_print.specs.Ink.{Ink, word, next, hang, pour}
-use Rattle.vast_print.specs.Words.{comma, endmodule_word, include_opening}
+use Rattle.vast_print.specs.Words.{comma}
 use Rattle.vast_print.specs.Members.{members_page}
 use Rattle.vast_print.specs.Layout.{port_text, parameter_port_text, ports_page, parameter_ports_page, opening_page, header_page, body_page, module_page, item_page, items_page}
 use Rattle.vast_print.proofs.ListLaws.{entries-end, entries-step}
-use Rattle.vast_print.proofs.InkLaws.{hang-line, hang-none, hang-blank, hang-above, hang-inner, hang-written, pour-then}
-use Rattle.vast_print.proofs.WordLaws.{words}
+use Rattle.vast_print.proofs.InkLaws.{pour-word, hang-line, hang-none, hang-blank, hang-above, hang-inner, hang-written, pour-then}
 
 -- items of a file and members, one below the other
 
@@ -34,9 +33,9 @@ items-step dialect v d k (y ∷ xs) zero x h e = rw e (hang-items d k dialect (v
 items-step dialect v d k (y ∷ xs) (suc i) x h e = rw add-one (rw add-one at (items-step dialect v d k xs i x (omega arith) e))
 
 pub hang-include : (d : ℕ) (k : Ink) (dialect : Dialect) (path : List ℕ) →
-    hang d k (item_page dialect (IncludeItem path)) ≡ word (pour d (word (next d k) include_opening) (written (plain_text path))) (codes "\"")
+    hang d k (item_page dialect (IncludeItem path)) ≡ word (pour d (word (next d k) (codes "`include \"")) (written (plain_text path))) (codes "\"")
 unfolding item_page
-hang-include d k dialect path = hang-written d k _ ∙ simp (pour-then, words)
+hang-include d k dialect path = hang-written d k _ ∙ simp (pour-then, pour-word)
 
 pub hang-comment-item : (d : ℕ) (k : Ink) (dialect : Dialect) (text : List ℕ) → hang d k (item_page dialect (CommentItem text)) ≡ hang d k (commented (written (plain_text text)))
 unfolding item_page
@@ -49,8 +48,8 @@ hang-blank-item d k dialect = hang-blank d k
 -- a module: its header, its members, its end
 pub hang-module : (d : ℕ) (k : Ink) (dialect : Dialect) (m : ModuleTree) →
     hang d k (module_page dialect m)
-    ≡ word (next d (hang d (hang d k (header_page dialect m.name m.parameters m.ports)) (body_page dialect m.members))) endmodule_word
-unfolding module_page endmodule_word
+    ≡ word (next d (hang d (hang d k (header_page dialect m.name m.parameters m.ports)) (body_page dialect m.members))) (codes "endmodule")
+unfolding module_page
 hang-module d k dialect m = simp (hang-above, hang-line)
 
 pub hang-body-none : (d : ℕ) (k : Ink) (dialect : Dialect) → hang d k (body_page dialect NoMembers) ≡ next d k
@@ -65,26 +64,26 @@ hang-body d k dialect m ms = hang-inner d k (members_page dialect (MoreMembers m
 
 hang-opening : (d : ℕ) (k : Ink) (name end : List ℕ) → hang d k (opening_page name end) ≡ pour d (pour d (word (next d k) (codes "module ")) (written (plain_text name))) (written (plain_text end))
 unfolding opening_page
-hang-opening d k name end = hang-written d k _ ∙ simp (pour-then, words)
+hang-opening d k name end = hang-written d k _ ∙ simp (pour-then, pour-word)
 
 pub hang-header-bare : (d : ℕ) (k : Ink) (dialect : Dialect) (name : List ℕ) →
     hang d k (header_page dialect name [] []) ≡ word (pour d (word (next d k) (codes "module ")) (written (plain_text name))) (codes ";")
 unfolding header_page
-hang-header-bare d k dialect name = simp (hang-opening, words)
+hang-header-bare d k dialect name = simp (hang-opening, pour-word)
 
 pub hang-header-ports : (d : ℕ) (k : Ink) (dialect : Dialect) (name : List ℕ) (qs : List PortTree) → 0 < length qs →
     hang d k (header_page dialect name [] qs)
     ≡ word (next d (hang d (word (pour d (word (next d k) (codes "module ")) (written (plain_text name))) (codes "(")) (ports_page dialect qs))) (codes ");")
 unfolding header_page
 hang-header-ports d k dialect name [] h = absurd (omega arith)
-hang-header-ports d k dialect name (q ∷ qs) h = simp (hang-above, hang-opening, hang-line, words)
+hang-header-ports d k dialect name (q ∷ qs) h = simp (hang-above, hang-opening, hang-line, pour-word)
 
 pub hang-header-parameters : (d : ℕ) (k : Ink) (dialect : Dialect) (name : List ℕ) (ps : List ParameterPortTree) → 0 < length ps →
     hang d k (header_page dialect name ps [])
     ≡ word (next d (hang d (word (pour d (word (next d k) (codes "module ")) (written (plain_text name))) (codes " #(")) (parameter_ports_page dialect ps))) (codes ");")
 unfolding header_page
 hang-header-parameters d k dialect name [] h = absurd (omega arith)
-hang-header-parameters d k dialect name (p ∷ ps) h = simp (hang-above, hang-opening, hang-line, words)
+hang-header-parameters d k dialect name (p ∷ ps) h = simp (hang-above, hang-opening, hang-line, pour-word)
 
 pub hang-header-both : (d : ℕ) (k : Ink) (dialect : Dialect) (name : List ℕ) (ps : List ParameterPortTree) (qs : List PortTree) → 0 < length ps → 0 < length qs →
     hang d k (header_page dialect name ps qs)
@@ -92,7 +91,7 @@ pub hang-header-both : (d : ℕ) (k : Ink) (dialect : Dialect) (name : List ℕ)
 unfolding header_page
 hang-header-both d k dialect name [] qs h i = absurd (omega arith)
 hang-header-both d k dialect name (p ∷ ps) [] h i = absurd (omega arith)
-hang-header-both d k dialect name (p ∷ ps) (q ∷ qs) h i = simp (hang-above, hang-opening, hang-line, words)
+hang-header-both d k dialect name (p ∷ ps) (q ∷ qs) h i = simp (hang-above, hang-opening, hang-line, pour-word)
 
 pub ports-end : {A : Type 0} (dialect : Dialect) (v : A → PortTree) (d : ℕ) (k : Ink) (xs : List A) (i : ℕ) → length xs ≤ i → hang d k (ports_page dialect (map v (drop i xs))) ≡ k
 unfolding ports_page

@@ -1,6 +1,5 @@
 -- Worked declarations, members and files.
 use Rattle.std.proofs.Common.{◌≡◌, None, refl}
-use Rattle.vast_literal.specs.Shape.{base_of, is_external}
 use Rattle.vast_print.specs.Declaration.{declaration_text, name_text, type_text, based_text, packed_text, packed_ranges, unpacked_text, limit_text, joined, unpacked_ranges}
 use Rattle.vast_print.specs.Printed.{spaced, plain_text, ◌⊕◌, wrapped}
 use Rattle.std.specs.Fmt.{digits}

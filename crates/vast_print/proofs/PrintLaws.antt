@@ -8,11 +8,10 @@ use Rattle.vast_print.specs.Ink.{Ink, word, pour}
 use Rattle.vast_print.specs.Declaration.{packed_ranges, packed_text, based_text, type_text, signed_word, unsigned_word, limit_text}
 use Rattle.vast_print.specs.Words.{has_text, signed_opening, unsigned_opening}
 use Rattle.vast_print.specs.Text.{package_text}
-use Rattle.vast_print.proofs.InkLaws.{pour-then, pour-empty, pour-stopped}
+use Rattle.vast_print.proofs.InkLaws.{pour-word, pour-then, pour-empty, pour-stopped}
 use Rattle.vast_print.proofs.Lines.{word-word, word-stopped}
 use Rattle.vast_print.proofs.NumberLaws.{pour-number}
 use Rattle.vast_print.proofs.DeclarationLaws.{pour-joined, spaced-then, spaced-package, package_then, pour-signed-word, pour-unsigned-word, pour-spaced, pour-spaced-none, pour-limit-value, pour-limit}
-use Rattle.vast_print.proofs.WordLaws.{words}
 use Rattle.vast_print.proofs.TypeLaws.{base-scalar, base-vector, base-integer, base-int, base-external, base-package, base-packed, base-unpacked, packed-scalar, packed-vector, packed-integer, packed-int, packed-external, packed-package, packed-packed, packed-unpacked, unpacked-scalar, unpacked-vector, unpacked-integer, unpacked-int, unpacked-external, unpacked-package, unpacked-packed, unpacked-unpacked, pour-append, pour-verilog-range, pour-system-range}
 
 -- packed dimensions are there or not
@@ -67,13 +66,13 @@ pub pour-package-base : (d : ℕ) (k : Ink) (scope name ds : List ℕ) →
 unfolding based_text
 pour-package-base d k scope name ds =
     pour-joined d k (package_text scope name) ds
-    ∙ ap (λ j. pour d j (written (spaced (plain_text ds)))) (ap (λ x. pour d k (written x)) (spaced-package scope name) ∙ simp (package_then, pour-then, words))
+    ∙ ap (λ j. pour d j (written (spaced (plain_text ds)))) (ap (λ x. pour d k (written x)) (spaced-package scope name) ∙ simp (package_then, pour-then, pour-word))
 
 pub pour-vector-base : (d : ℕ) (k : Ink) (w : ExprTree) (v : Option ℤ) (signed : Bool) (ds : List ℕ) →
     pour d k (written (spaced (based_text (VectorTree w v signed) ds)))
     ≡ word (pour d (word (pour d (word k (signed_opening signed)) (written (plain_text ds))) (codes "[")) (written (limit_text w v))) (codes ":0] ")
 unfolding based_text
-pour-vector-base d k w v signed ds = simp (spaced-then, pour-then, pour-signed-word, words, word-word)
+pour-vector-base d k w v signed ds = simp (spaced-then, pour-then, pour-signed-word, pour-word, word-word)
 
 -- a base is no array
 

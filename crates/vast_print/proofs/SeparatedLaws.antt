@@ -10,8 +10,7 @@ use Rattle.vast_print.specs.Text.{expr_text, list_text, more_text}
 use Rattle.vast_print.specs.Members.{input_text, inputs_text, more_inputs_text, events_text, more_events_text}
 use Rattle.vast_print.specs.Words.{separator}
 use Rattle.vast_print.proofs.Lines.{word-nothing}
-use Rattle.vast_print.proofs.InkLaws.{pour-then, pour-empty}
-use Rattle.vast_print.proofs.WordLaws.{words}
+use Rattle.vast_print.proofs.InkLaws.{pour-word, pour-then, pour-empty}
 
 -- expressions joined by commas
 
@@ -29,7 +28,7 @@ rest_events (suc i) es = more_events_text es
 
 pour-more-events : (d : ℕ) (k : Ink) (e : ExprTree) (es : Exprs) → pour d k (written (more_events_text (MoreExprs e es))) ≡ pour d (pour d (word k (codes " or ")) (written (expr_text e))) (written (more_events_text es))
 unfolding more_events_text
-pour-more-events d k e es = simp (pour-then, words)
+pour-more-events d k e es = simp (pour-then, pour-word)
 
 pour-events : (d : ℕ) (k : Ink) (e : ExprTree) (es : Exprs) → pour d k (written (events_text (MoreExprs e es))) ≡ pour d (pour d k (written (expr_text e))) (written (more_events_text es))
 unfolding events_text more_events_text
@@ -88,7 +87,7 @@ more-inputs-step :
     pour d k (written (more_inputs_text dialect (map v (drop i xs)))) ≡ pour d (pour d (word k (codes ", ")) (written (input_text dialect (v x)))) (written (more_inputs_text dialect (map v (drop (i + 1) xs))))
 unfolding more_inputs_text
 more-inputs-step dialect v d k [] i x h g = absurd (omega arith)
-more-inputs-step dialect v d k (y ∷ xs) zero x h g = rw g (simp (pour-then, words))
+more-inputs-step dialect v d k (y ∷ xs) zero x h g = rw g (simp (pour-then, pour-word))
 more-inputs-step dialect v d k (y ∷ xs) (suc i) x h g = rw (add-one (suc i)) (rw (add-one i) at (more-inputs-step dialect v d k xs i x (omega arith) g))
 
 pour-inputs : (d : ℕ) (k : Ink) (dialect : Dialect) (x : Declaration) (xs : List Declaration) → pour d k (written (inputs_text dialect (x ∷ xs))) ≡ pour d (pour d k (written (input_text dialect x))) (written (more_inputs_text dialect xs))

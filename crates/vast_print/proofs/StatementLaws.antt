@@ -11,10 +11,8 @@ use Rattle.vast_print.specs.Printed.{plain_text, ◌⊕◌}
 use Rattle.vast_print.specs.Page.{line, inner, above, written, commented}
 use Rattle.vast_print.specs.Ink.{Ink, word, next, hang, pour}
 use Rattle.vast_print.specs.Text.{expr_text}
-use Rattle.vast_print.specs.Words.{else_if_opening, begin_end_word}
 use Rattle.vast_print.specs.Statements.{assign_opening, assign_sign, case_word, unique_word, label_text, begin_end, statement_page, statements_page, block_page, alternates_page, arms_page, arm_body_page, arm_page}
 use Rattle.vast_print.proofs.InkLaws.{hang-line, pour-line, hang-none, pour-none, hang-blank, hang-above, pour-above, pour-beside, hang-beside, hang-line-above, hang-inner, hang-written, pour-then, pour-word}
-use Rattle.vast_print.proofs.WordLaws.{words}
 
 pour-opening : (d : ℕ) (k : Ink) (form : AssignForm) → pour d k (written (plain_text (assign_opening form))) ≡ word k (assign_opening form)
 pour-opening d k Blocking = pour-word d k [] refl
@@ -30,13 +28,13 @@ pub hang-assign : (d : ℕ) (k : Ink) (form : AssignForm) (l r : ExprTree) →
     hang d k (statement_page (AssignTree form l r))
     ≡ word (pour d (word (pour d (word (next d k) (assign_opening form)) (written (expr_text l))) (assign_sign form)) (written (expr_text r))) (codes ";")
 unfolding statement_page
-hang-assign d k form l r = hang-written d k _ ∙ simp (pour-then, pour-opening, pour-sign, words)
+hang-assign d k form l r = hang-written d k _ ∙ simp (pour-then, pour-opening, pour-sign, pour-word)
 
 pub pour-assign : (d : ℕ) (k : Ink) (form : AssignForm) (l r : ExprTree) →
     pour d k (statement_page (AssignTree form l r))
     ≡ word (pour d (word (pour d (word k (assign_opening form)) (written (expr_text l))) (assign_sign form)) (written (expr_text r))) (codes ";")
 unfolding statement_page
-pour-assign d k form l r = simp (pour-then, pour-opening, pour-sign, words)
+pour-assign d k form l r = simp (pour-then, pour-opening, pour-sign, pour-word)
 
 pub hang-comment : (d : ℕ) (k : Ink) (text : List ℕ) → hang d k (statement_page (CommentTree text)) ≡ hang d k (commented (written (plain_text text)))
 unfolding statement_page
@@ -56,7 +54,7 @@ pub hang-conditional : (d : ℕ) (k : Ink) (c : ExprTree) (b : Statements) (rest
     hang d k (statement_page (ConditionalTree c b rest))
     ≡ pour d (pour d (word (pour d (word (next d k) (codes "if (")) (written (expr_text c))) (codes ") ")) (block_page b)) (alternates_page rest)
 unfolding statement_page block_page alternates_page
-hang-conditional d k c b rest = hang-beside d k _ _ ∙ simp (pour-beside, pour-then, words)
+hang-conditional d k c b rest = hang-beside d k _ _ ∙ simp (pour-beside, pour-then, pour-word)
 
 pub pour-no-else : (d : ℕ) (k : Ink) → pour d k (alternates_page NoElse) ≡ k
 unfolding alternates_page
@@ -64,9 +62,9 @@ pour-no-else d k = pour-none d k
 
 pub pour-else-if-arm : (d : ℕ) (k : Ink) (c : ExprTree) (b : Statements) (rest : Alternates) →
     pour d k (alternates_page (ElseIf c b rest))
-    ≡ pour d (pour d (word (pour d (word k else_if_opening) (written (expr_text c))) (codes ") ")) (block_page b)) (alternates_page rest)
+    ≡ pour d (pour d (word (pour d (word k (codes " else if (")) (written (expr_text c))) (codes ") ")) (block_page b)) (alternates_page rest)
 unfolding alternates_page block_page
-pour-else-if-arm d k c b rest = simp (pour-beside, pour-then, words)
+pour-else-if-arm d k c b rest = simp (pour-beside, pour-then, pour-word)
 
 pub pour-else : (d : ℕ) (k : Ink) (b : Statements) → pour d k (alternates_page (Else b)) ≡ pour d (word k (codes " else ")) (block_page b)
 unfolding alternates_page block_page
@@ -74,8 +72,8 @@ pour-else d k b = simp (pour-beside, pour-line)
 
 -- blocks
 
-pub pour-block-none : (d : ℕ) (k : Ink) → pour d k (block_page NoStatements) ≡ word k begin_end_word
-unfolding block_page begin_end_word
+pub pour-block-none : (d : ℕ) (k : Ink) → pour d k (block_page NoStatements) ≡ word k (codes "begin end")
+unfolding block_page
 pour-block-none d k = pour-line d k (codes "begin end")
 
 pub pour-block : (d : ℕ) (k : Ink) (s : StatementTree) (ss : Statements) →
@@ -104,7 +102,7 @@ pub hang-case : (d : ℕ) (k : Ink) (unique : Bool) (w : CaseWord) (e : ExprTree
     hang d k (statement_page (CaseTree unique w e arms))
     ≡ word (next d (hang (d + 1) (word (pour d (word (word (next d k) (unique_word unique)) (case_word w)) (written (expr_text e))) (codes ")")) (arms_page w arms))) (codes "endcase")
 unfolding statement_page arms_page
-hang-case d k unique w e arms = simp (hang-above, hang-written, pour-then, pour-unique-word, pour-case-word, words, hang-inner, hang-line)
+hang-case d k unique w e arms = simp (hang-above, hang-written, pour-then, pour-unique-word, pour-case-word, pour-word, hang-inner, hang-line)
 
 pub hang-arms-none : (d : ℕ) (k : Ink) (w : CaseWord) → hang d k (arms_page w NoCaseArms) ≡ k
 unfolding arms_page

@@ -1,5 +1,5 @@
 -- The page of a plain statement has the tokens that the grammar reads.
-use Rattle.std.proofs.Common.{◌≡◌, ℕ, List, [], ◌∷◌, ◌++◌, Bool, true, false, cond, ◌&&◌, None, refl, sym, subst, append_assoc, append-nil, codes}
+use Rattle.std.proofs.Common.{◌≡◌, ℕ, List, [], ◌∷◌, ◌++◌, Bool, true, false, cond, ◌&&◌, None, refl, sym, append_assoc, append-nil, codes}
 use Rattle.vast_literal.specs.Tokens.{Token, Key, key_text, Reserved, BeginKey, IfKey, ElseKey, CaseKey, CasezKey, CasexKey, EndCaseKey, DefaultKey, UniqueKey, AssignKey, Mark, OpenParen, CloseParen, Semicolon, Assign, Colon, Operator, LessEqual}
 use Rattle.vast_literal.specs.Tree.{ExprTree, MaybeExpr, NoExpr, SomeExpr}
 use Rattle.vast_literal.specs.Tree.{StatementTree, AssignTree, CommentTree, BlankTree, InlineTree, ConditionalTree, CaseTree, Statements, NoStatements, MoreStatements, Alternates, NoElse, ElseIf, Else, CaseArms, NoCaseArms, CaseArm}
@@ -14,7 +14,6 @@ use Rattle.vast_literal.specs.WellFormedFile.{is_well_formed_maybe, is_well_form
 use Rattle.vast_literal.specs.ExprTokens.{expr_tokens}
 use Rattle.vast_literal.specs.NormalTree.{case_key}
 use Rattle.vast_literal.specs.FileTokens.{assignment_tokens, ended, block_tokens, unique_tokens, label_tokens, statement_tokens, statements_tokens, alternates_tokens, arms_tokens}
-use Rattle.vast_literal.specs.FileTokens as Tokens
 use Rattle.vast_literal.proofs.TokenReads.{Free, Divides, Reads}
 use Rattle.vast_literal.proofs.ScanLaws.{and_left, and_right}
 use Rattle.vast_literal.proofs.Pieces.{free_reads, free_free, reads_end, as_reads, operator_divides, close_paren}

@@ -1,21 +1,12 @@
 -- The tests of the printed text and those of the grammar agree.
-use Rattle.std.proofs.Common.{◌≡◌, ℕ, zero, suc, List, [], ◌∷◌, Bool, true, false, cond, ◌||◌, nat_lt, nat_le, refl, arith, Some, None}
+use Rattle.std.proofs.Common.{◌≡◌, ℕ, List, [], ◌∷◌, Bool, ◌||◌, refl, arith}
 use Rattle.std.proofs.lemmas.Bool.Decides.{nat_tests}
-use Rattle.std.specs.Prelude.{pos, negsuc, ◌==◌}
 use Rattle.std.specs.Char.{is_ascii_digit}
 use Rattle.std.specs.List.{list_all}
-use Rattle.vast_literal.specs.Tokens.{level}
-use Rattle.vast_literal.specs.declared.operator.UnaryOperator.TheVariants.{Negate as NegateOp, BitwiseNot as BitwiseNotOp, LogicalNot as LogicalNotOp, AndReduce as AndReduceOp, OrReduce as OrReduceOp, XorReduce as XorReduceOp}
-use Rattle.vast_literal.specs.declared.operator.BinaryOperator.{BinaryOperator as BinaryOp}
-use Rattle.vast_literal.specs.declared.operator.BinaryOperator.TheVariants.{Add as AddOp}
-use Rattle.vast_literal.specs.Tree.{ExprTree, NameTree, LiteralTree, UnaryTree, BinaryTree}
-use Rattle.vast_literal.specs.Tree.{ScalarTree, Untyped, Typed}
 use Rattle.vast_literal.specs.Scan as Scan
 use Rattle.vast_literal.specs.LiteralToken.{every}
 use Rattle.vast_literal.specs.LiteralToken as Token
 use Rattle.vast_literal.specs.Plain.{is_identifier}
-use Rattle.vast_literal.specs.NormalExpr.{unary_sign, binary_sign}
-use Rattle.vast_literal.specs.Shape.{binary_precedence, left_child_wraps, right_child_wraps, select_wraps, starts_with_minus, ternary_wraps, unary_wraps}
 use Rattle.vast_print.specs.Bare.{is_number, is_word, is_bare, begins_word, continues_word}
 
 digit_same : (c : ℕ) → is_ascii_digit c ≡ Scan.is_digit c

@@ -3,9 +3,8 @@ use Rattle.std.specs.Prelude.{ℕ, Bool, true, false, List, [], ◌∷◌, Optio
 use Rattle.vast_literal.specs.Tree.{ExprTree, MaybeExpr, NoExpr, SomeExpr, Exprs, NoExprs, MoreExprs, TypeTree, Declaration}
 use Rattle.vast_literal.specs.declared.kind.VastFileType.{VastFileType as Dialect}
 use Rattle.vast_literal.specs.declared.operator.BinaryOperator.TheVariants.{Lt as LtOp}
-use Rattle.vast_literal.specs.Tree.{StatementTree, ConditionalTree, CaseTree, Statements, NoStatements, MoreStatements}
+use Rattle.vast_literal.specs.Tree.{ConditionalTree, Statements}
 use Rattle.vast_literal.specs.declared.kind.AssignmentForm.TheVariants.{Continuous}
-use Rattle.vast_literal.specs.declared.kind.CaseKind.TheVariants.{CaseZ}
 use Rattle.vast_literal.specs.Tree.{ParameterName, PlainParameter, IntParameter, DefinedParameter, Connection, InstanceTree, FunctionTree}
 use Rattle.vast_literal.specs.declared.kind.AlwaysKind.{AlwaysKind as AlwaysWord}
 use Rattle.vast_literal.specs.declared.kind.AlwaysKind.TheVariants.{AlwaysFF as AlwaysFFWord, AlwaysAt as AlwaysAtWord, AlwaysComb as AlwaysCombWord}

@@ -60,26 +60,8 @@ abbrev pub separator : ℕ → List ℕ → List ℕ
 separator zero w = []
 separator (suc i) w = w
 
-unfoldable pub endmodule_word : List ℕ
-endmodule_word = codes "endmodule"
-
-unfoldable pub parameter_opening : List ℕ
-parameter_opening = codes "parameter "
-
-unfoldable pub include_opening : List ℕ
-include_opening = codes "`include \""
-
-unfoldable pub else_if_opening : List ℕ
-else_if_opening = codes " else if ("
-
-unfoldable pub endfunction_word : List ℕ
-endfunction_word = codes "endfunction"
-
 unfoldable pub function_opening : List ℕ
 function_opening = codes "function automatic "
-
-unfoldable pub begin_end_word : List ℕ
-begin_end_word = codes "begin end"
 
 unfoldable pub for_opening : List ℕ
 for_opening = codes "for (genvar "
@@ -95,3 +77,6 @@ always_at_opening = codes "always @ ("
 
 unfoldable pub always_comb_opening : List ℕ
 always_comb_opening = codes "always_comb "
+
+unfoldable pub endfunction_word : List ℕ
+endfunction_word = codes "endfunction"

@@ -14,7 +14,6 @@ ghost use Rattle.vast_print.specs.Statements.{statement_page};
 use crate::expression::print_expression;
 use crate::refusal::PrintFault;
 use crate::statement::print_block;
-use crate::words;
 use crate::writer::Writer;
 use vast_core::{Ast, Conditional, Expr};
 
@@ -36,7 +35,7 @@ pub(crate) fn print_conditional(
     print_condition(ast, "if (", node.condition, depth, out)?;
     print_block(ast, node.consequent, depth, out)?;
     for arm in &node.else_ifs {
-        print_condition(ast, words::else_if(), arm.condition, depth, out)?;
+        print_condition(ast, " else if (", arm.condition, depth, out)?;
         print_block(ast, arm.block, depth, out)?;
     }
     match node.otherwise {

@@ -17,7 +17,6 @@ ghost use Rattle.vast_print.specs.Layout.{item_page, items_page, layout};
 use crate::expression::print_expression;
 use crate::module::print_module;
 use crate::refusal::PrintFault;
-use crate::words;
 use crate::writer::Writer;
 use std::alloc::Global;
 use vast_core::{Ast, Expr, FileItem};
@@ -29,7 +28,7 @@ fn print_include(ast: &Ast, path: &str, out: &mut Writer) -> Result<(), PrintFau
     ensures { Writes (hang 0 (Wet out.old) (item_page (bench ast.now).file_type (IncludeItem path.now))) out.new result }
 {
     out.next(0)?;
-    out.word(words::include())?;
+    out.word("`include \"")?;
     out.written(0, path)?;
     out.word("\"")?;
     Ok(())

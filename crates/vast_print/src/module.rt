@@ -117,7 +117,7 @@ fn print_parts(ast: &Ast, node: &Module, out: &mut Writer) -> Result<(), PrintFa
     print_header(ast, node, out)?;
     print_body(ast, &node.members, out)?;
     out.next(0)?;
-    out.word(words::endmodule())?;
+    out.word("endmodule")?;
     Ok(())
 }
 

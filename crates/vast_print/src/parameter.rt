@@ -49,7 +49,7 @@ fn print_parameter_port(
     ensures { Writes (pour depth (Wet out.old) (written (parameter_port_text (bench ast.now).file_type (parameter_port_tree (bench ast.now) (parameter_port_record parameter.now))))) out.new result }
 {
     let name = &parameter.name;
-    out.word(words::parameter_port())?;
+    out.word("parameter ")?;
     match parameter.data_type {
         Some(t) => print_declaration(ast, base_kind(ast, t), t, name, depth, out)?,
         None => out.written(depth, name)?,

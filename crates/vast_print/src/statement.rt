@@ -16,7 +16,6 @@ use crate::assignment::{print_assigned, print_continuous};
 use crate::case::print_case;
 use crate::conditional::print_conditional;
 use crate::refusal::PrintFault;
-use crate::words;
 use crate::writer::Writer;
 use vast_core::{Ast, Statement, VastStatementBlock};
 
@@ -34,7 +33,7 @@ pub(crate) fn print_block(
     ensures { Writes (pour depth (Wet out.old) (block_page (block_tree (bench ast.now) b))) out.new result }
 {
     if ast.block(b).is_empty() {
-        out.word(words::begin_end())?;
+        out.word("begin end")?;
     } else {
         out.word("begin")?;
         print_statements(ast, b, depth + 1, out)?;

@@ -1,7 +1,7 @@
 //! The words that stand between the parts of a tree.
 
 ghost use Rattle.std.specs.Prelude.{◌≡◌, codes};
-ghost use Rattle.vast_print.specs.Words.{signed_opening, unsigned_opening, scalar_cast_opening, scalar_cast_closing, cast_sign_word, number_cast_opening, number_cast_closing, comma, separator, endmodule_word, parameter_opening, include_opening, else_if_opening, endfunction_word, function_opening, begin_end_word, for_opening, step_word, always_ff_opening, always_at_opening, always_comb_opening};
+ghost use Rattle.vast_print.specs.Words.{signed_opening, unsigned_opening, scalar_cast_opening, scalar_cast_closing, cast_sign_word, number_cast_opening, number_cast_closing, comma, separator, endfunction_word, function_opening, for_opening, step_word, always_ff_opening, always_at_opening, always_comb_opening};
 ghost use Rattle.vast_print.specs.Members.{parameter_word, semicolon_text};
 ghost use Rattle.vast_print.specs.Statements.{assign_sign, case_word, unique_word};
 ghost use Rattle.vast_core.specs.FileTree.{form_of};
@@ -128,60 +128,12 @@ pub(crate) fn or_before(i: usize) -> &'static str
     if i > 0 { " or " } else { "" }
 }
 
-/// Behind a module's members.
-#[tactic(auto, unfolding(crate::specs::Words::endmodule_word))]
-pub(crate) fn endmodule() -> &'static str
-    ensures { result.now ≡ endmodule_word }
-{
-    "endmodule"
-}
-
-/// Before a parameter of a module's header.
-#[tactic(auto, unfolding(crate::specs::Words::parameter_opening))]
-pub(crate) fn parameter_port() -> &'static str
-    ensures { result.now ≡ parameter_opening }
-{
-    "parameter "
-}
-
-/// Before an included path.
-#[tactic(auto, unfolding(crate::specs::Words::include_opening))]
-pub(crate) fn include() -> &'static str
-    ensures { result.now ≡ include_opening }
-{
-    "`include \""
-}
-
-/// Before the condition of a later arm of a conditional.
-#[tactic(auto, unfolding(crate::specs::Words::else_if_opening))]
-pub(crate) fn else_if() -> &'static str
-    ensures { result.now ≡ else_if_opening }
-{
-    " else if ("
-}
-
-/// Behind a function's body.
-#[tactic(auto, unfolding(crate::specs::Words::endfunction_word))]
-pub(crate) fn endfunction() -> &'static str
-    ensures { result.now ≡ endfunction_word }
-{
-    "endfunction"
-}
-
 /// Before a function's result.
 #[tactic(auto, unfolding(crate::specs::Words::function_opening))]
 pub(crate) fn function() -> &'static str
     ensures { result.now ≡ function_opening }
 {
     "function automatic "
-}
-
-/// A block without statements.
-#[tactic(auto, unfolding(crate::specs::Words::begin_end_word))]
-pub(crate) fn begin_end() -> &'static str
-    ensures { result.now ≡ begin_end_word }
-{
-    "begin end"
 }
 
 /// Before a loop's variable.
@@ -222,4 +174,12 @@ pub(crate) fn always_comb() -> &'static str
     ensures { result.now ≡ always_comb_opening }
 {
     "always_comb "
+}
+
+/// Behind a function's body.
+#[tactic(auto, unfolding(crate::specs::Words::endfunction_word))]
+pub(crate) fn endfunction() -> &'static str
+    ensures { result.now ≡ endfunction_word }
+{
+    "endfunction"
 }
