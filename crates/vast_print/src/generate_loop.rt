@@ -16,8 +16,8 @@ use crate::expression::{print_expression, print_wrapped};
 use crate::levels::right_wraps;
 use crate::member::print_member;
 use crate::refusal::PrintFault;
-use crate::writer::Writer;
 use crate::words;
+use crate::writer::Writer;
 use vast_core::{Ast, BinaryOperator, GenerateLoop, LoopNode};
 
 /// Writes a generate loop on lines of its own.
