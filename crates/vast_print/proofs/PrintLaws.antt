@@ -12,7 +12,7 @@ use Rattle.vast_print.proofs.InkLaws.{pour-word, pour-then, pour-empty, pour-sto
 use Rattle.vast_print.proofs.Lines.{word-word, word-stopped}
 use Rattle.vast_print.proofs.NumberLaws.{pour-number}
 use Rattle.vast_print.proofs.DeclarationLaws.{pour-joined, spaced-then, spaced-package, package_then, pour-signed-word, pour-unsigned-word, pour-spaced, pour-spaced-none, pour-limit-value, pour-limit}
-use Rattle.vast_print.proofs.TypeLaws.{base-scalar, base-vector, base-integer, base-int, base-external, base-package, base-packed, base-unpacked, packed-scalar, packed-vector, packed-integer, packed-int, packed-external, packed-package, packed-packed, packed-unpacked, unpacked-scalar, unpacked-vector, unpacked-integer, unpacked-int, unpacked-external, unpacked-package, unpacked-packed, unpacked-unpacked, pour-append, pour-verilog-range, pour-system-range}
+use Rattle.vast_print.proofs.TypeLaws.{packed-scalar, packed-vector, packed-integer, packed-int, packed-external, packed-package, packed-packed, packed-unpacked, unpacked-scalar, unpacked-vector, unpacked-integer, unpacked-int, unpacked-external, unpacked-package, unpacked-packed, unpacked-unpacked, pour-append, pour-verilog-range, pour-system-range}
 
 -- packed dimensions are there or not
 
@@ -83,8 +83,6 @@ pour-packed-base d k t own ds = refl
 pub pour-unpacked-base : (d : ℕ) (k : Ink) (t : TypeTree) (own : List ℤ) (ds : List ℕ) → pour d k (written (spaced (based_text (UnpackedTree t own) ds))) ≡ pour d k (written (spaced (plain_text ds)))
 unfolding based_text
 pour-unpacked-base d k t own ds = refl
-
-pub ruleset bases = (base-scalar, base-vector, base-integer, base-int, base-external, base-package, base-packed, base-unpacked)
 
 pub ruleset packed = (packed-scalar, packed-vector, packed-integer, packed-int, packed-external, packed-package, packed-packed, packed-unpacked, has-packed-some, has-packed-none, pour-append, pour-empty, pour-stopped)
 

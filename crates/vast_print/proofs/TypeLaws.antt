@@ -6,7 +6,6 @@ use Rattle.std.proofs.lemmas.List.{drop_all}
 use Rattle.vast_literal.specs.Tree.{ExprTree, TypeTree, ScalarTree, VectorTree, IntegerTree, IntTree, ExternalTree, PackageTree, PackedTree, UnpackedTree}
 use Rattle.vast_literal.specs.declared.kind.VastFileType.{VastFileType as Dialect}
 use Rattle.vast_literal.specs.declared.kind.VastFileType.TheVariants.{Verilog as VerilogDialect, SystemVerilog as SystemVerilogDialect}
-use Rattle.vast_literal.specs.Shape.{base_of}
 use Rattle.vast_print.specs.Printed.{plain_text}
 use Rattle.vast_print.specs.Page.{written}
 use Rattle.vast_print.specs.Ink.{Ink, word, pour}
@@ -18,9 +17,6 @@ use Rattle.vast_print.proofs.DeclarationLaws.{plain-append}
 
 -- a type that is no array is its own base and has no dimensions
 
-pub base-scalar : (signed : Bool) → base_of (ScalarTree signed) ≡ ScalarTree signed
-base-scalar signed = refl
-
 pub packed-scalar : (signed : Bool) → packed_text (ScalarTree signed) ≡ []
 unfolding packed_text
 packed-scalar signed = refl
@@ -28,9 +24,6 @@ packed-scalar signed = refl
 pub unpacked-scalar : (dialect : Dialect) (signed : Bool) → unpacked_text dialect (ScalarTree signed) ≡ []
 unfolding unpacked_text
 unpacked-scalar dialect signed = refl
-
-pub base-vector : (w : ExprTree) (v : Option ℤ) (signed : Bool) → base_of (VectorTree w v signed) ≡ VectorTree w v signed
-base-vector w v signed = refl
 
 pub packed-vector : (w : ExprTree) (v : Option ℤ) (signed : Bool) → packed_text (VectorTree w v signed) ≡ []
 unfolding packed_text
@@ -40,9 +33,6 @@ pub unpacked-vector : (dialect : Dialect) (w : ExprTree) (v : Option ℤ) (signe
 unfolding unpacked_text
 unpacked-vector dialect w v signed = refl
 
-pub base-integer : (signed : Bool) → base_of (IntegerTree signed) ≡ IntegerTree signed
-base-integer signed = refl
-
 pub packed-integer : (signed : Bool) → packed_text (IntegerTree signed) ≡ []
 unfolding packed_text
 packed-integer signed = refl
@@ -50,9 +40,6 @@ packed-integer signed = refl
 pub unpacked-integer : (dialect : Dialect) (signed : Bool) → unpacked_text dialect (IntegerTree signed) ≡ []
 unfolding unpacked_text
 unpacked-integer dialect signed = refl
-
-pub base-int : (signed : Bool) → base_of (IntTree signed) ≡ IntTree signed
-base-int signed = refl
 
 pub packed-int : (signed : Bool) → packed_text (IntTree signed) ≡ []
 unfolding packed_text
@@ -62,9 +49,6 @@ pub unpacked-int : (dialect : Dialect) (signed : Bool) → unpacked_text dialect
 unfolding unpacked_text
 unpacked-int dialect signed = refl
 
-pub base-external : (name : List ℕ) → base_of (ExternalTree name) ≡ ExternalTree name
-base-external name = refl
-
 pub packed-external : (name : List ℕ) → packed_text (ExternalTree name) ≡ []
 unfolding packed_text
 packed-external name = refl
@@ -72,9 +56,6 @@ packed-external name = refl
 pub unpacked-external : (dialect : Dialect) (name : List ℕ) → unpacked_text dialect (ExternalTree name) ≡ []
 unfolding unpacked_text
 unpacked-external dialect name = refl
-
-pub base-package : (scope name : List ℕ) → base_of (PackageTree scope name) ≡ PackageTree scope name
-base-package scope name = refl
 
 pub packed-package : (scope name : List ℕ) → packed_text (PackageTree scope name) ≡ []
 unfolding packed_text
@@ -85,12 +66,6 @@ unfolding unpacked_text
 unpacked-package dialect scope name = refl
 
 -- arrays
-
-pub base-packed : (t : TypeTree) (ds : List ℤ) → base_of (PackedTree t ds) ≡ base_of t
-base-packed t ds = refl
-
-pub base-unpacked : (t : TypeTree) (ds : List ℤ) → base_of (UnpackedTree t ds) ≡ base_of t
-base-unpacked t ds = refl
 
 pub packed-packed : (t : TypeTree) (ds : List ℤ) → packed_text (PackedTree t ds) ≡ packed_ranges ds ++ packed_text t
 unfolding packed_text
