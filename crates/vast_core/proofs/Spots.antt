@@ -1,5 +1,5 @@
 -- What calls know that add a conditional or an assignment to a scope or a block.
-use Rattle.std.proofs.Common.{◌≡◌, refl, true, false}
+use Rattle.std.proofs.Common.{◌≡◌, refl, true}
 use Rattle.vast_core.specs.declared.handle.Expr.{Expr}
 use Rattle.vast_core.specs.declared.ast.scope.Scope.TheVariants.{Module as ScopeModule, Loop as ScopeLoop}
 use Rattle.vast_core.specs.declared.ast.spot.Spot.{Spot}

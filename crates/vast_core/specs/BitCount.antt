@@ -1,5 +1,5 @@
 -- How many bits a type has: the product of its dimensions and of the bits of the type within.
-use Rattle.std.specs.Prelude.{◌≡◌, ◌≤ℤ◌, ◌*ℤ◌, ◌<◌, ◌^◌, pos, ℤ, Bool, true, false, IsTrue, List, [], ◌∷◌, ◌++◌, Option, Some, None, All}
+use Rattle.std.specs.Prelude.{◌≡◌, ◌≤ℤ◌, ◌*ℤ◌, ◌<◌, ◌^◌, pos, ℤ, IsTrue, List, [], ◌∷◌, ◌++◌, Option, Some, None, All}
 use Rattle.vast_literal.specs.Tree.{TypeTree, ScalarTree, VectorTree, IntegerTree, IntTree, ExternalTree, PackageTree, PackedTree, UnpackedTree, MissingType, SomeExpr, NoExpr}
 use Rattle.vast_core.specs.declared.handle.VastDataType.{VastDataType}
 use Rattle.vast_core.specs.declared.bits.BitCountFault.{BitCountFault}

@@ -1,5 +1,5 @@
 -- How tightly the text of an expression binds in the grammar, and that parentheses stand where the grammar needs them.
-use Rattle.std.proofs.Common.{◌≡◌, ℕ, suc, ◌<◌, ◌≤◌, List, Bool, true, false, cond, ◌||◌, nat_lt, nat_le, refl, arith, leb-false}
+use Rattle.std.proofs.Common.{◌≡◌, ℕ, suc, ◌<◌, ◌≤◌, List, Bool, true, false, cond, ◌||◌, nat_lt, refl, arith, leb-false}
 use Rattle.std.proofs.lemmas.Bool.{ltb-false}
 use Rattle.vast_literal.specs.Tokens.{level}
 use Rattle.vast_literal.specs.Tree.{BinaryOp, AddOp, ExprTree, LiteralTree, UnaryTree, BinaryTree, TernaryTree}

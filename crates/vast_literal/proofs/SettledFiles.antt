@@ -6,7 +6,6 @@ use Rattle.vast_literal.specs.FileGrammar.{is_direction, IsFile}
 use Rattle.vast_literal.specs.Parser.{◌>>=◌, after, key_at, word_at, run}
 use Rattle.vast_literal.specs.StatementParser.{ReadOf, key_code, after_key_on, after_key}
 use Rattle.vast_literal.specs.DeclarationParser.{many_on, declaration_at}
-use Rattle.vast_literal.specs.MemberParser.{members}
 use Rattle.vast_literal.specs.FileParser.{parameter_at, port_on, port_at, header_parameters_at, header_ports_at, parameters_on, ports_on, module_at, path_of, include_on, item_at, is_more, file_at}
 use Rattle.vast_literal.specs.Settled.{either}
 use Rattle.vast_literal.specs.Nexts.{key_with}

@@ -1,11 +1,11 @@
 -- The tokens of a statement's page spell its normal form.
-use Rattle.std.proofs.Common.{◌≡◌, List, [], ◌∷◌, ◌++◌, Bool, true, false, cond, ◌&&◌, refl, append_assoc, append-nil}
-use Rattle.vast_literal.specs.Tokens.{OpenParen, CloseParen, Colon, Semicolon, IfKey, BeginKey, Token, Reserved, Mark}
+use Rattle.std.proofs.Common.{◌≡◌, List, ◌∷◌, ◌++◌, Bool, true, false, cond, ◌&&◌, refl, append_assoc, append-nil}
+use Rattle.vast_literal.specs.Tokens.{OpenParen, CloseParen, Colon, IfKey, BeginKey, Token, Reserved, Mark}
 use Rattle.vast_literal.specs.Tree.{MaybeExpr, NoExpr, SomeExpr, AssignForm, Blocking, Nonblocking, Continuous, CaseWord, CaseExact, CaseZ, CaseX, StatementTree, AssignTree, CommentTree, BlankTree, InlineTree, ConditionalTree, CaseTree, Statements, NoStatements, MoreStatements, Alternates, NoElse, ElseIf, Else, CaseArms, NoCaseArms, CaseArm}
 use Rattle.vast_literal.specs.NormalExpr.{NormalExpr}
 use Rattle.vast_literal.specs.NormalFile.{NormalStatements, Labels, Label}
 use Rattle.vast_literal.specs.Grammar.{Spells}
-use Rattle.vast_literal.specs.FileGrammar.{arrow, assignment, IsUnique, unique, not_unique, IsCase, case_word, casez_word, casex_word, IsStatement, simple, assigned, choice, cases, cased, IsAssign, assigns, IsStatements, done, then, IsChoice, only, otherwise, or, IsLabels, no_labels, label, default, IsBody, body, bare, IsFunctionBody, block_body, casez_body}
+use Rattle.vast_literal.specs.FileGrammar.{arrow, assignment, IsUnique, unique, not_unique, IsCase, case_word, casez_word, casex_word, IsStatement, simple, assigned, choice, cases, cased, assigns, IsStatements, done, then, IsChoice, only, otherwise, or, IsLabels, no_labels, label, default, IsBody, body, bare, IsFunctionBody, block_body, casez_body}
 use Rattle.vast_literal.specs.WellFormed.{is_well_formed}
 use Rattle.vast_literal.specs.NormalTree.{case_key, normal_assignment, normal_label, normal_before, normal_statements, normal_choice, normal_arms}
 use Rattle.vast_literal.specs.Shape.{is_one_assignment, is_bare_arm, is_one_casez}

@@ -1,14 +1,14 @@
 -- The text of a literal in any format is an optional minus and one literal token, so is a pattern's; a quoted text is one string token.
-use Rattle.std.proofs.Common.{◌≡◌, ℕ, suc, ◌-◌, ◌^◌, ◌<◌, ◌≤◌, List, [], ◌∷◌, ◌++◌, Bool, true, false, cond, not, eqb, eqb-true, leb, ltb, refl, sym, ap, ◌∙◌, length, arith, append_assoc, lit≤}
+use Rattle.std.proofs.Common.{◌≡◌, ℕ, ◌-◌, ◌^◌, ◌<◌, ◌≤◌, List, [], ◌∷◌, ◌++◌, Bool, true, false, cond, eqb, eqb-true, leb, ltb, refl, sym, ap, ◌∙◌, length, arith, append_assoc, lit≤}
 use Rattle.std.specs.Prelude.{◌||◌, ◌&&◌}
-use Rattle.std.specs.List.{list_all, flat_map}
+use Rattle.std.specs.List.{list_all}
 use Rattle.std.specs.Char.{digit_char}
 use Rattle.std.specs.Fmt.{decimal}
 use Rattle.std.specs.Int.{IsInRange}
 use Rattle.std.specs.Str.Parse.{AllDigits}
 use Rattle.std.proofs.lemmas.Str.Parse.{digit_from_value}
 use Rattle.std.proofs.lemmas.Fmt.{decimal_is_IsNumeral_wide}
-use Rattle.std.proofs.lemmas.Bool.{ne_eqb, leb-true}
+use Rattle.std.proofs.lemmas.Bool.{leb-true}
 use Rattle.std.proofs.lemmas.Bool.Decides.{nat_tests}
 use Rattle.std.proofs.lemmas.Nat.{pow_pos}
 use Rattle.std.proofs.Math.Pow.{pow_mono}
