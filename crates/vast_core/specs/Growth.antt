@@ -19,14 +19,20 @@ use Rattle.vast_literal.specs.declared.kind.DataKind.{DataKind}
 use Rattle.vast_core.specs.declared.node.Assignment.{Assignment}
 use Rattle.vast_core.specs.declared.node.Term.{Term}
 use Rattle.vast_core.specs.Handles.{module_index, indexable_expr_to_expr}
+use Rattle.vast_core.specs.Raw.{Raw}
+use Rattle.vast_core.specs.View.{bench}
 use Rattle.vast_core.specs.Nodes.{Root, ExprRoot, TypeRoot, built, with_root as with_node}
 use Rattle.vast_core.specs.Records.{FileEntry, ModuleEntry, MemberEntry, DeclarationEntry, new_module, with_port as with_listed_port, with_member as with_listed_member, with_named_member as with_listed_name, changed_at}
 use Rattle.vast_core.specs.Bench.{Bench, tree_of, trees_of, type_of}
 
--- The call answers this and leaves this, or memory was refused and nothing changed.
-abbrev pub Builds : {A : Type 0} → (old new : Bench) → Result A AllocError → A → Bench → Type 0
-Builds old new (Ok x) answer after = (x ≡ answer) × (new ≡ after)
-Builds old new (Err _) answer after = new ≡ old
+-- The call answers this and leaves this, both of what the file held; or memory was refused and nothing changed.
+abbrev pub Builds : {A : Type 0} → (old new : Raw) → Result A AllocError → (Bench → A) → (Bench → Bench) → Type 0
+Builds old new (Ok x) answer after = (x ≡ answer (bench old)) × (bench new ≡ after (bench old))
+Builds old new (Err _) answer after = bench new ≡ bench old
+
+-- The same of a call that answers nothing.
+abbrev pub Leaves : (old new : Raw) → Result (Unit {0}) AllocError → (Bench → Bench) → Type 0
+Leaves old new result after = Builds old new result (λ _. tt) after
 
 abbrev pub with_root : Bench → Root → Bench
 with_root b r = record b { nodes = with_node b.nodes r }

@@ -27,7 +27,7 @@ impl VastFile {
         data_type: &VastDataType,
     ) -> Result<Def, AllocError>
         requires { OwnsType (bench self.old) data_type.now }
-        ensures { Builds (bench self.old) (bench self.new) result (next_def (bench self.old)) (with_definition (record { name = name.now; kind = kind; data_type = data_type.now }) (bench self.old)) }
+        ensures { Builds self.old self.new result next_def (with_definition (record { name = name.now; kind = kind; data_type = data_type.now })) }
     {
         self.ast.push_def(name, kind, *data_type)
     }
@@ -37,7 +37,7 @@ impl VastFile {
     /// # Errors
     /// `AllocError` where a growth was refused; the file is unchanged.
     pub fn make_blank_line(&mut self) -> Result<BlankLine, AllocError>
-        ensures { Builds (bench self.old) (bench self.new) result (next_blank_line (bench self.old)) (with_artifact BlankLineRecord (bench self.old)) }
+        ensures { Builds self.old self.new result next_blank_line (with_artifact BlankLineRecord) }
     {
         self.ast.push_blank_line()
     }
@@ -47,7 +47,7 @@ impl VastFile {
     /// # Errors
     /// `AllocError` where a growth was refused; the file is unchanged.
     pub fn make_comment(&mut self, text: &str) -> Result<Comment, AllocError>
-        ensures { Builds (bench self.old) (bench self.new) result (next_comment (bench self.old)) (with_artifact (CommentRecord text.now) (bench self.old)) }
+        ensures { Builds self.old self.new result next_comment (with_artifact (CommentRecord text.now)) }
     {
         self.ast.push_comment(text)
     }
@@ -60,7 +60,7 @@ impl VastFile {
         &mut self,
         text: &str,
     ) -> Result<InlineVerilogStatement, AllocError>
-        ensures { Builds (bench self.old) (bench self.new) result (next_inline (bench self.old)) (with_artifact (InlineRecord text.now) (bench self.old)) }
+        ensures { Builds self.old self.new result next_inline (with_artifact (InlineRecord text.now)) }
     {
         self.ast.push_inline(text)
     }
@@ -75,7 +75,7 @@ impl VastFile {
         semicolon: bool,
     ) -> Result<MacroStatement, AllocError>
         requires { OwnsMacroRef (bench self.old) macro_ref.now }
-        ensures { Builds (bench self.old) (bench self.new) result (next_macro_statement (bench self.old)) (with_artifact (MacroRecord macro_ref.now semicolon) (bench self.old)) }
+        ensures { Builds self.old self.new result next_macro_statement (with_artifact (MacroRecord macro_ref.now semicolon)) }
     {
         self.ast.push_macro_statement(*macro_ref, semicolon)
     }
@@ -91,7 +91,7 @@ impl VastFile {
     ) -> Result<ContinuousAssignment, AllocError>
         requires lhs { OwnsExpr (bench self.old) lhs.now }
         requires rhs { OwnsExpr (bench self.old) rhs.now }
-        ensures { Builds (bench self.old) (bench self.new) result (next_continuous (bench self.old)) (with_assignment (record { lhs = lhs.now; rhs = rhs.now; nonblocking = false }) (bench self.old)) }
+        ensures { Builds self.old self.new result next_continuous (with_assignment (record { lhs = lhs.now; rhs = rhs.now; nonblocking = false })) }
     {
         self.ast.push_continuous(*lhs, *rhs)
     }
@@ -107,7 +107,7 @@ impl VastFile {
     ) -> Result<VastStatement, AllocError>
         requires lhs { OwnsExpr (bench self.old) lhs.now }
         requires rhs { OwnsExpr (bench self.old) rhs.now }
-        ensures { Builds (bench self.old) (bench self.new) result (next_statement (bench self.old)) (with_assignment (record { lhs = lhs.now; rhs = rhs.now; nonblocking = true }) (bench self.old)) }
+        ensures { Builds self.old self.new result next_statement (with_assignment (record { lhs = lhs.now; rhs = rhs.now; nonblocking = true })) }
     {
         self.ast.push_assignment(*lhs, *rhs, true)
     }
@@ -123,7 +123,7 @@ impl VastFile {
     ) -> Result<VastStatement, AllocError>
         requires lhs { OwnsExpr (bench self.old) lhs.now }
         requires rhs { OwnsExpr (bench self.old) rhs.now }
-        ensures { Builds (bench self.old) (bench self.new) result (next_statement (bench self.old)) (with_assignment (record { lhs = lhs.now; rhs = rhs.now; nonblocking = false }) (bench self.old)) }
+        ensures { Builds self.old self.new result next_statement (with_assignment (record { lhs = lhs.now; rhs = rhs.now; nonblocking = false })) }
     {
         self.ast.push_assignment(*lhs, *rhs, false)
     }

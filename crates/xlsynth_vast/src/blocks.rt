@@ -27,7 +27,7 @@ impl VastFile {
         requires block { OwnsBlock (bench self.old) block }
         requires lhs { OwnsExpr (bench self.old) lhs.now }
         requires rhs { OwnsExpr (bench self.old) rhs.now }
-        ensures { Builds (bench self.old) (bench self.new) result (next_statement (bench self.old)) (with_statement block (AssignStatement (next_statement (bench self.old))) (with_assignment (record { lhs = lhs.now; rhs = rhs.now; nonblocking = false }) (bench self.old))) }
+        ensures { Builds self.old self.new result next_statement (λ b. with_statement block (AssignStatement (next_statement b)) (with_assignment (record { lhs = lhs.now; rhs = rhs.now; nonblocking = false }) b)) }
     {
         let spot = Spot::Block(block);
         self.ast
@@ -47,7 +47,7 @@ impl VastFile {
         requires block { OwnsBlock (bench self.old) block }
         requires lhs { OwnsExpr (bench self.old) lhs.now }
         requires rhs { OwnsExpr (bench self.old) rhs.now }
-        ensures { Builds (bench self.old) (bench self.new) result (next_statement (bench self.old)) (with_statement block (AssignStatement (next_statement (bench self.old))) (with_assignment (record { lhs = lhs.now; rhs = rhs.now; nonblocking = true }) (bench self.old))) }
+        ensures { Builds self.old self.new result next_statement (λ b. with_statement block (AssignStatement (next_statement b)) (with_assignment (record { lhs = lhs.now; rhs = rhs.now; nonblocking = true }) b)) }
     {
         let spot = Spot::Block(block);
         self.ast
@@ -67,7 +67,7 @@ impl VastFile {
         requires block { OwnsBlock (bench self.old) block }
         requires lhs { OwnsExpr (bench self.old) lhs.now }
         requires rhs { OwnsExpr (bench self.old) rhs.now }
-        ensures { Builds (bench self.old) (bench self.new) result (next_statement (bench self.old)) (with_statement block (ContinuousStatement (next_statement (bench self.old))) (with_assignment (record { lhs = lhs.now; rhs = rhs.now; nonblocking = false }) (bench self.old))) }
+        ensures { Builds self.old self.new result next_statement (λ b. with_statement block (ContinuousStatement (next_statement b)) (with_assignment (record { lhs = lhs.now; rhs = rhs.now; nonblocking = false }) b)) }
     {
         let spot = Spot::Block(block);
         self.ast
@@ -84,7 +84,7 @@ impl VastFile {
         text: &str,
     ) -> Result<(), AllocError>
         requires { OwnsBlock (bench self.old) block }
-        ensures { Builds (bench self.old) (bench self.new) result tt (with_statement block (CommentStatement text.now) (bench self.old)) }
+        ensures { Leaves self.old self.new result (with_statement block (CommentStatement text.now)) }
     {
         let text = String::from_str(self.ast.allocator(), text)?;
         self.ast.append_statement(block, Statement::Comment(text))
@@ -100,7 +100,7 @@ impl VastFile {
         text: &str,
     ) -> Result<(), AllocError>
         requires { OwnsBlock (bench self.old) block }
-        ensures { Builds (bench self.old) (bench self.new) result tt (with_statement block (InlineStatement text.now) (bench self.old)) }
+        ensures { Leaves self.old self.new result (with_statement block (InlineStatement text.now)) }
     {
         let text = String::from_str(self.ast.allocator(), text)?;
         self.ast.append_statement(block, Statement::Inline(text))
@@ -112,7 +112,7 @@ impl VastFile {
     /// `AllocError` where a growth was refused; the file is unchanged.
     pub fn block_add_blank_line(&mut self, block: VastStatementBlock) -> Result<(), AllocError>
         requires { OwnsBlock (bench self.old) block }
-        ensures { Builds (bench self.old) (bench self.new) result tt (with_statement block BlankStatement (bench self.old)) }
+        ensures { Leaves self.old self.new result (with_statement block BlankStatement) }
     {
         self.ast.append_statement(block, Statement::BlankLine)
     }

@@ -26,7 +26,7 @@ impl VastFile {
     ) -> Result<CaseStatement, AllocError>
         requires block { OwnsBlock (bench self.old) block }
         requires selector { OwnsExpr (bench self.old) selector.now }
-        ensures { Builds (bench self.old) (bench self.new) result (next_case (bench self.old)) (with_statement block (CasesStatement (next_case (bench self.old))) (with_case CaseKind.Case selector.now (bench self.old))) }
+        ensures { Builds self.old self.new result next_case (λ b. with_statement block (CasesStatement (next_case b)) (with_case CaseKind.Case selector.now b)) }
     {
         self.ast.append_block_case(block, CaseKind::Case, *selector)
     }
@@ -42,7 +42,7 @@ impl VastFile {
     ) -> Result<CaseStatement, AllocError>
         requires block { OwnsBlock (bench self.old) block }
         requires selector { OwnsExpr (bench self.old) selector.now }
-        ensures { Builds (bench self.old) (bench self.new) result (next_case (bench self.old)) (with_statement block (CasesStatement (next_case (bench self.old))) (with_case CaseKind.CaseZ selector.now (bench self.old))) }
+        ensures { Builds self.old self.new result next_case (λ b. with_statement block (CasesStatement (next_case b)) (with_case CaseKind.CaseZ selector.now b)) }
     {
         self.ast
             .append_block_case(block, CaseKind::CaseZ, *selector)
@@ -59,7 +59,7 @@ impl VastFile {
     ) -> Result<CaseStatement, AllocError>
         requires block { OwnsBlock (bench self.old) block }
         requires selector { OwnsExpr (bench self.old) selector.now }
-        ensures { Builds (bench self.old) (bench self.new) result (next_case (bench self.old)) (with_statement block (CasesStatement (next_case (bench self.old))) (with_case CaseKind.CaseX selector.now (bench self.old))) }
+        ensures { Builds self.old self.new result next_case (λ b. with_statement block (CasesStatement (next_case b)) (with_case CaseKind.CaseX selector.now b)) }
     {
         self.ast
             .append_block_case(block, CaseKind::CaseX, *selector)
@@ -76,7 +76,7 @@ impl VastFile {
     ) -> Result<VastStatementBlock, AllocError>
         requires case { OwnsCase (bench self.old) case }
         requires pattern { OwnsExpr (bench self.old) pattern.now }
-        ensures { Builds (bench self.old) (bench self.new) result (next_block (bench self.old)) (with_case_arm case (Some pattern.now) (bench self.old)) }
+        ensures { Builds self.old self.new result next_block (with_case_arm case (Some pattern.now)) }
     {
         self.ast.case_add_arm(case, Some(*pattern))
     }
@@ -91,7 +91,7 @@ impl VastFile {
         case: CaseStatement,
     ) -> Result<VastStatementBlock, AllocError>
         requires case { OwnsCase (bench self.old) case }
-        ensures { Builds (bench self.old) (bench self.new) result (next_block (bench self.old)) (with_case_arm case None (bench self.old)) }
+        ensures { Builds self.old self.new result next_block (with_case_arm case None) }
     {
         self.ast.case_add_arm(case, None)
     }
@@ -103,7 +103,7 @@ impl VastFile {
     /// memory for these words was refused. The file is unchanged.
     pub fn case_set_unique(&mut self, case: CaseStatement, unique: bool) -> Result<(), VastFault>
         requires { OwnsCase (bench self.old) case }
-        ensures { MayChange (bench self.old) (bench self.new) result (may_be_unique (bench self.old).file_type unique) (with_case_unique case unique (bench self.old)) }
+        ensures { MayChange self.old self.new result (λ b. may_be_unique b.file_type unique) (with_case_unique case unique) }
     {
         if unique && self.ast.file_type() == VastFileType::Verilog {
             let words = "unique case requires SystemVerilog";

@@ -26,7 +26,7 @@ impl VastFile {
     ) -> Result<Conditional, AllocError>
         requires owner { OwnsModule (bench self.old) owner }
         requires condition { OwnsExpr (bench self.old) condition.now }
-        ensures { Builds (bench self.old) (bench self.new) result (next_conditional (bench self.old)) (with_member owner (ConditionalEntry (next_conditional (bench self.old))) (with_conditional condition.now (bench self.old))) }
+        ensures { Builds self.old self.new result next_conditional (λ b. with_member owner (ConditionalEntry (next_conditional b)) (with_conditional condition.now b)) }
     {
         self.ast
             .push_conditional(Spot::Scope(Scope::Module(owner)), *condition)
@@ -43,7 +43,7 @@ impl VastFile {
     ) -> Result<Conditional, AllocError>
         requires block { OwnsBlock (bench self.old) block }
         requires condition { OwnsExpr (bench self.old) condition.now }
-        ensures { Builds (bench self.old) (bench self.new) result (next_conditional (bench self.old)) (with_statement block (ConditionalStatement (next_conditional (bench self.old))) (with_conditional condition.now (bench self.old))) }
+        ensures { Builds self.old self.new result next_conditional (λ b. with_statement block (ConditionalStatement (next_conditional b)) (with_conditional condition.now b)) }
     {
         self.ast.push_conditional(Spot::Block(block), *condition)
     }
@@ -78,7 +78,7 @@ impl VastFile {
         requires conditional { OwnsConditional (bench self.old) conditional }
         requires condition { OwnsExpr (bench self.old) condition.now }
         requires no_else { has_else (slice_get (bench self.old).nests (conditional_index conditional)) ≡ false }
-        ensures { Builds (bench self.old) (bench self.new) result (next_block (bench self.old)) (with_else_if conditional condition.now (bench self.old)) }
+        ensures { Builds self.old self.new result next_block (with_else_if conditional condition.now) }
     {
         self.ast.conditional_add_else_if(conditional, *condition)
     }
@@ -94,7 +94,7 @@ impl VastFile {
     ) -> Result<VastStatementBlock, AllocError>
         requires conditional { OwnsConditional (bench self.old) conditional }
         requires no_else { has_else (slice_get (bench self.old).nests (conditional_index conditional)) ≡ false }
-        ensures { Builds (bench self.old) (bench self.new) result (next_block (bench self.old)) (with_else conditional (bench self.old)) }
+        ensures { Builds self.old self.new result next_block (with_else conditional) }
     {
         self.ast.conditional_add_else(conditional)
     }

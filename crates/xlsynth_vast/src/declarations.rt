@@ -73,7 +73,7 @@ impl VastFile {
         requires owner { OwnsModule (bench self.old) owner }
         requires data_type { OwnsType (bench self.old) data_type.now }
         requires free { NameIsFree (bench self.old) owner name.now }
-        ensures { Builds (bench self.old) (bench self.new) result (next_logic_ref (bench self.old)) (with_declaration owner DataKind.Wire name.now data_type.now (bench self.old)) }
+        ensures { Builds self.old self.new result next_logic_ref (with_declaration owner DataKind.Wire name.now data_type.now) }
     {
         self.ast
             .push_declaration(owner, DataKind::Wire, name, *data_type)
@@ -93,7 +93,7 @@ impl VastFile {
     ) -> Result<LogicRef, VastFault>
         requires owner { OwnsModule (bench self.old) owner }
         requires data_type { OwnsType (bench self.old) data_type.now }
-        ensures { MayBuild (bench self.old) (bench self.new) result (unless_taken (codes "reg") name.now (names_in (bench self.old) owner)) (next_logic_ref (bench self.old)) (λ _. with_declaration owner DataKind.Reg name.now data_type.now (bench self.old)) }
+        ensures { MayBuild self.old self.new result (λ b. unless_taken (codes "reg") name.now (names_in b owner)) next_logic_ref (λ _. with_declaration owner DataKind.Reg name.now data_type.now) }
     {
         self.refuse_taken(owner, "reg", name)?;
         Ok(
@@ -114,7 +114,7 @@ impl VastFile {
     ) -> Result<LogicRef, VastFault>
         requires owner { OwnsModule (bench self.old) owner }
         requires data_type { OwnsType (bench self.old) data_type.now }
-        ensures { MayBuild (bench self.old) (bench self.new) result (unless_taken (codes "logic") name.now (names_in (bench self.old) owner)) (next_logic_ref (bench self.old)) (λ _. with_declaration owner DataKind.Logic name.now data_type.now (bench self.old)) }
+        ensures { MayBuild self.old self.new result (λ b. unless_taken (codes "logic") name.now (names_in b owner)) next_logic_ref (λ _. with_declaration owner DataKind.Logic name.now data_type.now) }
     {
         self.refuse_taken(owner, "logic", name)?;
         Ok(

@@ -86,7 +86,7 @@ impl VastFile {
     ) -> Result<VastFunction, VastFault>
         requires owner { OwnsModule (bench self.old) owner }
         requires result_type { OwnsType (bench self.old) result_type.now }
-        ensures { MayBuild (bench self.old) (bench self.new) result (may_be_function (type_of (bench self.old) result_type.now) name.now (names_in (bench self.old) owner)) (next_function (bench self.old)) (λ _. with_function_member owner name.now result_type.now (bench self.old)) }
+        ensures { MayBuild self.old self.new result (λ b. may_be_function (type_of b result_type.now) name.now (names_in b owner)) next_function (λ _. with_function_member owner name.now result_type.now) }
     {
         self.refuse_unpacked(*result_type)?;
         self.refuse_taken(owner, "function", name)?;
@@ -126,7 +126,7 @@ impl VastFile {
     ) -> Result<LogicRef, VastFault>
         requires function { OwnsFunction (bench self.old) function }
         requires data_type { OwnsType (bench self.old) data_type.now }
-        ensures { MayBuild (bench self.old) (bench self.new) result (unless_taken_in_function (codes "input") name.now (bench self.old) function) (next_logic_ref (bench self.old)) (λ _. with_variable function false (record { kind = DataKind.Reg; name = name.now; data_type = data_type.now }) (bench self.old)) }
+        ensures { MayBuild self.old self.new result (λ b. unless_taken_in_function (codes "input") name.now b function) next_logic_ref (λ _. with_variable function false (record { kind = DataKind.Reg; name = name.now; data_type = data_type.now })) }
     {
         self.refuse_taken_in_function(function, "input", name)?;
         Ok(
@@ -147,7 +147,7 @@ impl VastFile {
     ) -> Result<LogicRef, VastFault>
         requires function { OwnsFunction (bench self.old) function }
         requires data_type { OwnsType (bench self.old) data_type.now }
-        ensures { MayBuild (bench self.old) (bench self.new) result (unless_taken_in_function (codes "input") name.now (bench self.old) function) (next_logic_ref (bench self.old)) (λ _. with_variable function false (record { kind = DataKind.Logic; name = name.now; data_type = data_type.now }) (bench self.old)) }
+        ensures { MayBuild self.old self.new result (λ b. unless_taken_in_function (codes "input") name.now b function) next_logic_ref (λ _. with_variable function false (record { kind = DataKind.Logic; name = name.now; data_type = data_type.now })) }
     {
         self.refuse_taken_in_function(function, "input", name)?;
         Ok(
@@ -168,7 +168,7 @@ impl VastFile {
     ) -> Result<LogicRef, VastFault>
         requires function { OwnsFunction (bench self.old) function }
         requires data_type { OwnsType (bench self.old) data_type.now }
-        ensures { MayBuild (bench self.old) (bench self.new) result (unless_taken_in_function (codes "reg") name.now (bench self.old) function) (next_logic_ref (bench self.old)) (λ _. with_variable function true (record { kind = DataKind.Reg; name = name.now; data_type = data_type.now }) (bench self.old)) }
+        ensures { MayBuild self.old self.new result (λ b. unless_taken_in_function (codes "reg") name.now b function) next_logic_ref (λ _. with_variable function true (record { kind = DataKind.Reg; name = name.now; data_type = data_type.now })) }
     {
         self.refuse_taken_in_function(function, "reg", name)?;
         Ok(
@@ -189,7 +189,7 @@ impl VastFile {
     ) -> Result<LogicRef, VastFault>
         requires function { OwnsFunction (bench self.old) function }
         requires data_type { OwnsType (bench self.old) data_type.now }
-        ensures { MayBuild (bench self.old) (bench self.new) result (unless_taken_in_function (codes "logic") name.now (bench self.old) function) (next_logic_ref (bench self.old)) (λ _. with_variable function true (record { kind = DataKind.Logic; name = name.now; data_type = data_type.now }) (bench self.old)) }
+        ensures { MayBuild self.old self.new result (λ b. unless_taken_in_function (codes "logic") name.now b function) next_logic_ref (λ _. with_variable function true (record { kind = DataKind.Logic; name = name.now; data_type = data_type.now })) }
     {
         self.refuse_taken_in_function(function, "logic", name)?;
         Ok(

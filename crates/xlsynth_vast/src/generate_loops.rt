@@ -48,7 +48,7 @@ impl VastFile {
         requires owner { OwnsModule (bench self.old) owner }
         requires start { OwnsExpr (bench self.old) start.now }
         requires end { OwnsExpr (bench self.old) end.now }
-        ensures { Builds (bench self.old) (bench self.new) result (next_loop (bench self.old)) (with_member owner (LoopEntry (next_loop (bench self.old))) (with_loop name.now start.now end.now (option_copied label.entry) (bench self.old))) }
+        ensures { Builds self.old self.new result next_loop (λ b. with_member owner (LoopEntry (next_loop b)) (with_loop name.now start.now end.now (option_copied label.entry) b)) }
     {
         let label = own_label(self.ast.allocator(), label)?;
         self.ast
@@ -71,7 +71,7 @@ impl VastFile {
         requires parent { OwnsLoop (bench self.old) parent }
         requires start { OwnsExpr (bench self.old) start.now }
         requires end { OwnsExpr (bench self.old) end.now }
-        ensures { Builds (bench self.old) (bench self.new) result (next_loop (bench self.old)) (with_loop_member parent (LoopEntry (next_loop (bench self.old))) (with_loop name.now start.now end.now (option_copied label.entry) (bench self.old))) }
+        ensures { Builds self.old self.new result next_loop (λ b. with_loop_member parent (LoopEntry (next_loop b)) (with_loop name.now start.now end.now (option_copied label.entry) b)) }
     {
         let label = own_label(self.ast.allocator(), label)?;
         self.ast
@@ -99,7 +99,7 @@ impl VastFile {
     ) -> Result<LocalparamRef, AllocError>
         requires generate { OwnsLoop (bench self.old) generate }
         requires rhs { OwnsExpr (bench self.old) rhs.now }
-        ensures { Builds (bench self.old) (bench self.new) result (next_localparam_ref (bench self.old)) (with_plain_loop_parameter generate name.now rhs.now (bench self.old)) }
+        ensures { Builds self.old self.new result next_localparam_ref (with_plain_loop_parameter generate name.now rhs.now) }
     {
         let form = ParameterForm::Plain(String::from_str(self.ast.allocator(), name)?);
         self.ast.push_localparam(Scope::Loop(generate), form, *rhs)
@@ -118,7 +118,7 @@ impl VastFile {
         requires generate { OwnsLoop (bench self.old) generate }
         requires definition { OwnsDef (bench self.old) definition.now }
         requires rhs { OwnsExpr (bench self.old) rhs.now }
-        ensures { Builds (bench self.old) (bench self.new) result (next_localparam_ref (bench self.old)) (with_defined_loop_parameter generate definition.now rhs.now (bench self.old)) }
+        ensures { Builds self.old self.new result next_localparam_ref (with_defined_loop_parameter generate definition.now rhs.now) }
     {
         let form = ParameterForm::Defined(*definition);
         self.ast.push_localparam(Scope::Loop(generate), form, *rhs)
@@ -137,7 +137,7 @@ impl VastFile {
         requires generate { OwnsLoop (bench self.old) generate }
         requires lhs { OwnsExpr (bench self.old) lhs.now }
         requires rhs { OwnsExpr (bench self.old) rhs.now }
-        ensures { Builds (bench self.old) (bench self.new) result (next_statement (bench self.old)) (with_loop_member generate (AssignmentEntry (next_continuous (bench self.old))) (with_assignment (record { lhs = lhs.now; rhs = rhs.now; nonblocking = false }) (bench self.old))) }
+        ensures { Builds self.old self.new result next_statement (λ b. with_loop_member generate (AssignmentEntry (next_continuous b)) (with_assignment (record { lhs = lhs.now; rhs = rhs.now; nonblocking = false }) b)) }
     {
         let spot = Spot::Scope(Scope::Loop(generate));
         self.ast
@@ -155,7 +155,7 @@ impl VastFile {
     ) -> Result<Conditional, AllocError>
         requires generate { OwnsLoop (bench self.old) generate }
         requires condition { OwnsExpr (bench self.old) condition.now }
-        ensures { Builds (bench self.old) (bench self.new) result (next_conditional (bench self.old)) (with_loop_member generate (ConditionalEntry (next_conditional (bench self.old))) (with_conditional condition.now (bench self.old))) }
+        ensures { Builds self.old self.new result next_conditional (λ b. with_loop_member generate (ConditionalEntry (next_conditional b)) (with_conditional condition.now b)) }
     {
         self.ast
             .push_conditional(Spot::Scope(Scope::Loop(generate)), *condition)
@@ -167,7 +167,7 @@ impl VastFile {
     /// `AllocError` where a growth was refused; the file is unchanged.
     pub fn generate_add_blank_line(&mut self, generate: GenerateLoop) -> Result<(), AllocError>
         requires { OwnsLoop (bench self.old) generate }
-        ensures { Builds (bench self.old) (bench self.new) result tt (with_loop_member generate BlankEntry (bench self.old)) }
+        ensures { Leaves self.old self.new result (with_loop_member generate BlankEntry) }
     {
         self.ast
             .append_member(Scope::Loop(generate), Member::BlankLine)
@@ -184,7 +184,7 @@ impl VastFile {
     ) -> Result<(), AllocError>
         requires generate { OwnsLoop (bench self.old) generate }
         requires comment { OwnsComment (bench self.old) comment.now }
-        ensures { Builds (bench self.old) (bench self.new) result tt (with_loop_member generate (CommentEntry comment.now) (bench self.old)) }
+        ensures { Leaves self.old self.new result (with_loop_member generate (CommentEntry comment.now)) }
     {
         self.ast
             .append_member(Scope::Loop(generate), Member::Comment(*comment))
@@ -201,7 +201,7 @@ impl VastFile {
     ) -> Result<(), AllocError>
         requires generate { OwnsLoop (bench self.old) generate }
         requires instantiation { OwnsInstantiation (bench self.old) instantiation.now }
-        ensures { Builds (bench self.old) (bench self.new) result tt (with_loop_member generate (InstanceEntry instantiation.now) (bench self.old)) }
+        ensures { Leaves self.old self.new result (with_loop_member generate (InstanceEntry instantiation.now)) }
     {
         self.ast.append_member(Scope::Loop(generate), Member::Instantiation(*instantiation))
     }
@@ -217,7 +217,7 @@ impl VastFile {
     ) -> Result<(), AllocError>
         requires generate { OwnsLoop (bench self.old) generate }
         requires statement { OwnsInline (bench self.old) statement.now }
-        ensures { Builds (bench self.old) (bench self.new) result tt (with_loop_member generate (InlineEntry statement.now) (bench self.old)) }
+        ensures { Leaves self.old self.new result (with_loop_member generate (InlineEntry statement.now)) }
     {
         self.ast
             .append_member(Scope::Loop(generate), Member::Inline(*statement))
@@ -234,7 +234,7 @@ impl VastFile {
     ) -> Result<(), AllocError>
         requires generate { OwnsLoop (bench self.old) generate }
         requires statement { OwnsMacroStatement (bench self.old) statement.now }
-        ensures { Builds (bench self.old) (bench self.new) result tt (with_loop_member generate (MacroEntry statement.now) (bench self.old)) }
+        ensures { Leaves self.old self.new result (with_loop_member generate (MacroEntry statement.now)) }
     {
         self.ast
             .append_member(Scope::Loop(generate), Member::Macro(*statement))

@@ -27,7 +27,7 @@ impl VastFile {
     ) -> Result<(), AllocError>
         requires owner { OwnsModule (bench self.old) owner }
         requires start { start ≤ length (members_in (bench self.old) owner) }
-        ensures { Builds (bench self.old) (bench self.new) result tt (with_hoisted owner start (bench self.old)) }
+        ensures { Leaves self.old self.new result (with_hoisted owner start) }
     {
         self.ast.hoist_declarations(owner, start)
     }

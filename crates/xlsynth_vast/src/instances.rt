@@ -71,7 +71,7 @@ impl VastFile {
         requires connections { length connection_names.now ≡ length connection_expressions.now }
         requires parameter_expressions { All (λ e. OwnsExpr (bench self.old) e.now) parameter_expressions.now }
         requires connection_expressions { All (λ e. IfSome e (λ x. OwnsExpr (bench self.old) x.now)) connection_expressions.now }
-        ensures { Builds (bench self.old) (bench self.new) result (next_instantiation (bench self.old)) (with_instance (record { module_name = module_name.now; instance_name = instance_name.now; parameters = connected (map (λ n. n.now) parameter_names.now) (map (λ e. Some e.now) parameter_expressions.now); connections = connected (map (λ n. n.now) connection_names.now) (map option_copied connection_expressions.now) }) (bench self.old)) }
+        ensures { Builds self.old self.new result next_instantiation (with_instance (record { module_name = module_name.now; instance_name = instance_name.now; parameters = connected (map (λ n. n.now) parameter_names.now) (map (λ e. Some e.now) parameter_expressions.now); connections = connected (map (λ n. n.now) connection_names.now) (map option_copied connection_expressions.now) })) }
     {
         let alloc = self.ast.allocator();
         let parameters = parameters(alloc, parameter_names, parameter_expressions)?;

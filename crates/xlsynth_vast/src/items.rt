@@ -17,7 +17,7 @@ impl VastFile {
     /// # Errors
     /// `AllocError` where a growth was refused; the file is unchanged.
     pub fn add_include(&mut self, include: &str) -> Result<(), AllocError>
-        ensures { Builds (bench self.old) (bench self.new) result tt (with_item (IncludeEntry include.now) (bench self.old)) }
+        ensures { Leaves self.old self.new result (with_item (IncludeEntry include.now)) }
     {
         self.ast.append_include(include)
     }
@@ -28,7 +28,7 @@ impl VastFile {
     /// `AllocError` where a growth was refused; the file is unchanged.
     pub fn add_blank_line(&mut self, blank_line: BlankLine) -> Result<(), AllocError>
         requires { OwnsBlankLine (bench self.old) blank_line }
-        ensures { Builds (bench self.old) (bench self.new) result tt (with_item FileBlankEntry (bench self.old)) }
+        ensures { Leaves self.old self.new result (with_item FileBlankEntry) }
     {
         let _ = blank_line;
         self.ast.append_file_blank_line()
@@ -39,7 +39,7 @@ impl VastFile {
     /// # Errors
     /// `AllocError` where a growth was refused; the file is unchanged.
     pub fn add_comment_text(&mut self, text: &str) -> Result<(), AllocError>
-        ensures { Builds (bench self.old) (bench self.new) result tt (with_item (FileCommentEntry text.now) (bench self.old)) }
+        ensures { Leaves self.old self.new result (with_item (FileCommentEntry text.now)) }
     {
         self.ast.append_file_comment(text)
     }

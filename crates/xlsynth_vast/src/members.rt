@@ -25,7 +25,7 @@ impl VastFile {
     ) -> Result<(), AllocError>
         requires owner { OwnsModule (bench self.old) owner }
         requires instantiation { OwnsInstantiation (bench self.old) instantiation }
-        ensures { Builds (bench self.old) (bench self.new) result tt (with_member owner (InstanceEntry instantiation) (bench self.old)) }
+        ensures { Leaves self.old self.new result (with_member owner (InstanceEntry instantiation)) }
     {
         self.ast
             .append_member(Scope::Module(owner), Member::Instantiation(instantiation))
@@ -42,7 +42,7 @@ impl VastFile {
     ) -> Result<(), AllocError>
         requires owner { OwnsModule (bench self.old) owner }
         requires assignment { OwnsContinuous (bench self.old) assignment }
-        ensures { Builds (bench self.old) (bench self.new) result tt (with_member owner (AssignmentEntry assignment) (bench self.old)) }
+        ensures { Leaves self.old self.new result (with_member owner (AssignmentEntry assignment)) }
     {
         self.ast.append_member(
             Scope::Module(owner),
@@ -61,7 +61,7 @@ impl VastFile {
     ) -> Result<(), AllocError>
         requires owner { OwnsModule (bench self.old) owner }
         requires blank { OwnsBlankLine (bench self.old) blank }
-        ensures { Builds (bench self.old) (bench self.new) result tt (with_member owner BlankEntry (bench self.old)) }
+        ensures { Leaves self.old self.new result (with_member owner BlankEntry) }
     {
         self.ast
             .append_member(Scope::Module(owner), Member::BlankLine)
@@ -78,7 +78,7 @@ impl VastFile {
     ) -> Result<(), AllocError>
         requires owner { OwnsModule (bench self.old) owner }
         requires comment { OwnsComment (bench self.old) comment }
-        ensures { Builds (bench self.old) (bench self.new) result tt (with_member owner (CommentEntry comment) (bench self.old)) }
+        ensures { Leaves self.old self.new result (with_member owner (CommentEntry comment)) }
     {
         self.ast
             .append_member(Scope::Module(owner), Member::Comment(comment))
@@ -95,7 +95,7 @@ impl VastFile {
     ) -> Result<(), AllocError>
         requires owner { OwnsModule (bench self.old) owner }
         requires statement { OwnsInline (bench self.old) statement }
-        ensures { Builds (bench self.old) (bench self.new) result tt (with_member owner (InlineEntry statement) (bench self.old)) }
+        ensures { Leaves self.old self.new result (with_member owner (InlineEntry statement)) }
     {
         self.ast
             .append_member(Scope::Module(owner), Member::Inline(statement))
@@ -112,7 +112,7 @@ impl VastFile {
     ) -> Result<(), AllocError>
         requires owner { OwnsModule (bench self.old) owner }
         requires statement { OwnsMacroStatement (bench self.old) statement }
-        ensures { Builds (bench self.old) (bench self.new) result tt (with_member owner (MacroEntry statement) (bench self.old)) }
+        ensures { Leaves self.old self.new result (with_member owner (MacroEntry statement)) }
     {
         self.ast
             .append_member(Scope::Module(owner), Member::Macro(statement))

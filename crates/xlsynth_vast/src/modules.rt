@@ -17,7 +17,7 @@ impl VastFile {
     /// # Errors
     /// `AllocError` where a growth was refused; the file is unchanged.
     pub fn add_module(&mut self, name: &str) -> Result<VastModule, AllocError>
-        ensures { Builds (bench self.old) (bench self.new) result (next_module (bench self.old)) (with_module name.now (bench self.old)) }
+        ensures { Builds self.old self.new result next_module (with_module name.now) }
     {
         self.ast.push_module(name)
     }

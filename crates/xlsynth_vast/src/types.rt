@@ -24,7 +24,7 @@ impl VastFile {
     /// # Errors
     /// `AllocError` where a growth was refused; the file is unchanged.
     pub fn make_scalar_type(&mut self) -> Result<VastDataType, AllocError>
-        ensures { Builds (bench self.old) (bench self.new) result (next_type (bench self.old)) (with_type (bench self.old) (ScalarTree false)) }
+        ensures { Builds self.old self.new result next_type (λ b. with_type b (ScalarTree false)) }
     {
         self.ast.push_type(TypeNode::Scalar(false))
     }
@@ -39,7 +39,7 @@ impl VastFile {
         signed: bool,
     ) -> Result<VastDataType, AllocError>
         requires { pos 1 ≤ℤ bit_count }
-        ensures { Builds (bench self.old) (bench self.new) result (next_bit_vector bit_count (bench self.old)) (with_bit_vector bit_count signed (bench self.old)) }
+        ensures { Builds self.old self.new result (next_bit_vector bit_count) (with_bit_vector bit_count signed) }
     {
         if bit_count == 1 {
             self.ast.push_type(TypeNode::Scalar(signed))
@@ -59,7 +59,7 @@ impl VastFile {
     ) -> Result<VastDataType, AllocError>
         requires width { OwnsExpr (bench self.old) width.now }
         requires usable { IsUsableWidth (tree_of (bench self.old) width.now) }
-        ensures { Builds (bench self.old) (bench self.new) result (next_type (bench self.old)) (with_vector_expr width.now signed (bench self.old)) }
+        ensures { Builds self.old self.new result next_type (with_vector_expr width.now signed) }
     {
         let value = self.ast.expr(*width).literal_value();
         self.ast.push_type(TypeNode::Vector(*width, value, signed))
@@ -70,7 +70,7 @@ impl VastFile {
     /// # Errors
     /// `AllocError` where a growth was refused; the file is unchanged.
     pub fn make_integer_type(&mut self, signed: bool) -> Result<VastDataType, AllocError>
-        ensures { Builds (bench self.old) (bench self.new) result (next_type (bench self.old)) (with_type (bench self.old) (IntegerTree signed)) }
+        ensures { Builds self.old self.new result next_type (λ b. with_type b (IntegerTree signed)) }
     {
         self.ast.push_type(TypeNode::Integer(signed))
     }
@@ -80,7 +80,7 @@ impl VastFile {
     /// # Errors
     /// `AllocError` where a growth was refused; the file is unchanged.
     pub fn make_int_type(&mut self, signed: bool) -> Result<VastDataType, AllocError>
-        ensures { Builds (bench self.old) (bench self.new) result (next_type (bench self.old)) (with_type (bench self.old) (IntTree signed)) }
+        ensures { Builds self.old self.new result next_type (λ b. with_type b (IntTree signed)) }
     {
         self.ast.push_type(TypeNode::Int(signed))
     }
@@ -90,7 +90,7 @@ impl VastFile {
     /// # Errors
     /// `AllocError` where a growth was refused; the file is unchanged.
     pub fn make_extern_type(&mut self, name: &str) -> Result<VastDataType, AllocError>
-        ensures { Builds (bench self.old) (bench self.new) result (next_type (bench self.old)) (with_type (bench self.old) (ExternalTree name.now)) }
+        ensures { Builds self.old self.new result next_type (λ b. with_type b (ExternalTree name.now)) }
     {
         let name = String::from_str(self.ast.allocator(), name)?;
         self.ast.push_type(TypeNode::External(name))
@@ -105,7 +105,7 @@ impl VastFile {
         package_name: &str,
         name: &str,
     ) -> Result<VastDataType, AllocError>
-        ensures { Builds (bench self.old) (bench self.new) result (next_type (bench self.old)) (with_type (bench self.old) (PackageTree package_name.now name.now)) }
+        ensures { Builds self.old self.new result next_type (λ b. with_type b (PackageTree package_name.now name.now)) }
     {
         let package_name = String::from_str(self.ast.allocator(), package_name)?;
         let name = String::from_str(self.ast.allocator(), name)?;
@@ -125,7 +125,7 @@ impl VastFile {
         requires element { OwnsType (bench self.old) element }
         requires packable { IsTrue (is_packable (type_of (bench self.old) element)) }
         requires dimensions { AreDimensions dimensions.now }
-        ensures { Builds (bench self.old) (bench self.new) result (next_type (bench self.old)) (with_packed element dimensions.now (bench self.old)) }
+        ensures { Builds self.old self.new result next_type (with_packed element dimensions.now) }
     {
         let dimensions = Vec::from_slice(self.ast.allocator(), dimensions)?;
         self.ast.push_type(TypeNode::Packed(element, dimensions))
@@ -142,7 +142,7 @@ impl VastFile {
     ) -> Result<VastDataType, AllocError>
         requires element { OwnsType (bench self.old) element }
         requires dimensions { AreDimensions dimensions.now }
-        ensures { Builds (bench self.old) (bench self.new) result (next_type (bench self.old)) (with_unpacked element dimensions.now (bench self.old)) }
+        ensures { Builds self.old self.new result next_type (with_unpacked element dimensions.now) }
     {
         let dimensions = Vec::from_slice(self.ast.allocator(), dimensions)?;
         self.ast.push_type(TypeNode::Unpacked(element, dimensions))

@@ -31,7 +31,7 @@ impl Ast {
     ) -> Result<VastAlwaysBase, AllocError>
         requires scope { OwnsScope (bench self.old) scope }
         requires events { All (EventSound (bench self.old)) events.items }
-        ensures { Builds (bench self.old) (bench self.new) result (next_always (bench self.old)) (with_scope_member scope (AlwaysEntry (next_always (bench self.old))) (with_always kind events.items (bench self.old))) }
+        ensures { Builds self.old self.new result next_always (λ b. with_scope_member scope (AlwaysEntry (next_always b)) (with_always kind events.items b)) }
     {
         let always_block = VastAlwaysBase {
             id: self.next_always_block(),
@@ -67,7 +67,7 @@ impl Ast {
     ) -> Result<VastAlwaysBase, AllocError>
         requires scope { OwnsScope (bench self.old) scope }
         requires events { All (EventSound (bench self.old)) events.items }
-        ensures { Builds (bench self.old) (bench self.new) result (next_always (bench self.old)) (with_scope_member scope (AlwaysEntry (next_always (bench self.old))) (with_always AlwaysFF events.items (bench self.old))) }
+        ensures { Builds self.old self.new result next_always (λ b. with_scope_member scope (AlwaysEntry (next_always b)) (with_always AlwaysFF events.items b)) }
     {
         self.push_always(scope, AlwaysKind::AlwaysFF, events)
     }
@@ -84,7 +84,7 @@ impl Ast {
     ) -> Result<VastAlwaysBase, AllocError>
         requires scope { OwnsScope (bench self.old) scope }
         requires events { All (EventSound (bench self.old)) events.items }
-        ensures { Builds (bench self.old) (bench self.new) result (next_always (bench self.old)) (with_scope_member scope (AlwaysEntry (next_always (bench self.old))) (with_always AlwaysAt events.items (bench self.old))) }
+        ensures { Builds self.old self.new result next_always (λ b. with_scope_member scope (AlwaysEntry (next_always b)) (with_always AlwaysAt events.items b)) }
     {
         self.push_always(scope, AlwaysKind::AlwaysAt, events)
     }
@@ -95,7 +95,7 @@ impl Ast {
     /// `AllocError` where a growth was refused; nothing changed.
     pub fn push_always_comb(&mut self, scope: Scope) -> Result<VastAlwaysBase, AllocError>
         requires { OwnsScope (bench self.old) scope }
-        ensures { Builds (bench self.old) (bench self.new) result (next_always (bench self.old)) (with_scope_member scope (AlwaysEntry (next_always (bench self.old))) (with_always AlwaysComb [] (bench self.old))) }
+        ensures { Builds self.old self.new result next_always (λ b. with_scope_member scope (AlwaysEntry (next_always b)) (with_always AlwaysComb [] b)) }
     {
         let events = Vec::new(self.alloc);
         self.push_always(scope, AlwaysKind::AlwaysComb, events)
@@ -116,7 +116,7 @@ impl Ast {
         requires events { All (EventSound (bench self.old)) events.items }
         requires spare { (bench self.old).spare ≡ Some block }
         requires older { IsOlder scope block }
-        ensures { Builds (bench self.old) (bench self.new) result (next_always (bench self.old)) (with_scope_member scope (AlwaysEntry (next_always (bench self.old))) (with_always_over AlwaysFF events.items block (bench self.old))) }
+        ensures { Builds self.old self.new result next_always (λ b. with_scope_member scope (AlwaysEntry (next_always b)) (with_always_over AlwaysFF events.items block b)) }
     {
         self.file_is_sound();
         let always_block = VastAlwaysBase {

@@ -34,7 +34,7 @@ impl Ast {
         data_type: VastDataType,
     ) -> Result<Def, AllocError>
         requires { OwnsType (bench self.old) data_type }
-        ensures { Builds (bench self.old) (bench self.new) result (next_def (bench self.old)) (with_definition (record { name = name.now; kind = kind; data_type = data_type }) (bench self.old)) }
+        ensures { Builds self.old self.new result next_def (with_definition (record { name = name.now; kind = kind; data_type = data_type })) }
     {
         let name = String::from_str(self.alloc, name)?;
         let id = self.next_definition();
@@ -56,7 +56,7 @@ impl Ast {
     #[tactic(auto, using(crate::proofs::EntersRecords::enters_records))]
     fn push_artifact(&mut self, artifact: Artifact) -> Result<Id, AllocError>
         requires { ArtifactSound (bench self.old) (artifact_record artifact) }
-        ensures { Builds (bench self.old) (bench self.new) result (next_artifact (bench self.old)) (with_artifact (artifact_record artifact) (bench self.old)) }
+        ensures { Builds self.old self.new result next_artifact (with_artifact (artifact_record artifact)) }
     {
         let id = self.next_artifact();
         self.grow(
@@ -75,7 +75,7 @@ impl Ast {
     /// # Errors
     /// `AllocError` where a growth was refused; nothing changed.
     pub fn push_blank_line(&mut self) -> Result<BlankLine, AllocError>
-        ensures { Builds (bench self.old) (bench self.new) result (next_blank_line (bench self.old)) (with_artifact BlankLineRecord (bench self.old)) }
+        ensures { Builds self.old self.new result next_blank_line (with_artifact BlankLineRecord) }
     {
         let id = self.push_artifact(Artifact::BlankLine)?;
         Ok(BlankLine { id })
@@ -86,7 +86,7 @@ impl Ast {
     /// # Errors
     /// `AllocError` where a growth was refused; nothing changed.
     pub fn push_comment(&mut self, text: &str) -> Result<Comment, AllocError>
-        ensures { Builds (bench self.old) (bench self.new) result (next_comment (bench self.old)) (with_artifact (CommentRecord text.now) (bench self.old)) }
+        ensures { Builds self.old self.new result next_comment (with_artifact (CommentRecord text.now)) }
     {
         let text = String::from_str(self.alloc, text)?;
         let id = self.push_artifact(Artifact::Comment(text))?;
@@ -98,7 +98,7 @@ impl Ast {
     /// # Errors
     /// `AllocError` where a growth was refused; nothing changed.
     pub fn push_inline(&mut self, text: &str) -> Result<InlineVerilogStatement, AllocError>
-        ensures { Builds (bench self.old) (bench self.new) result (next_inline (bench self.old)) (with_artifact (InlineRecord text.now) (bench self.old)) }
+        ensures { Builds self.old self.new result next_inline (with_artifact (InlineRecord text.now)) }
     {
         let text = String::from_str(self.alloc, text)?;
         let id = self.push_artifact(Artifact::Inline(text))?;
@@ -115,7 +115,7 @@ impl Ast {
         semicolon: bool,
     ) -> Result<MacroStatement, AllocError>
         requires { OwnsMacroRef (bench self.old) call }
-        ensures { Builds (bench self.old) (bench self.new) result (next_macro_statement (bench self.old)) (with_artifact (MacroRecord call semicolon) (bench self.old)) }
+        ensures { Builds self.old self.new result next_macro_statement (with_artifact (MacroRecord call semicolon)) }
     {
         let id = self.push_artifact(Artifact::MacroStatement(call, semicolon))?;
         Ok(MacroStatement { id })
@@ -136,7 +136,7 @@ impl Ast {
         requires parameters { All (λ c. ConnectionSound (bench self.old) (connection_record c)) parameters.items }
         requires values { All (λ c. HasValue (connection_record c)) parameters.items }
         requires connections { All (λ c. ConnectionSound (bench self.old) (connection_record c)) connections.items }
-        ensures { Builds (bench self.old) (bench self.new) result (next_instantiation (bench self.old)) (with_instance (record { module_name = module_name.now; instance_name = instance_name.now; parameters = map connection_record parameters.items; connections = map connection_record connections.items }) (bench self.old)) }
+        ensures { Builds self.old self.new result next_instantiation (with_instance (record { module_name = module_name.now; instance_name = instance_name.now; parameters = map connection_record parameters.items; connections = map connection_record connections.items })) }
     {
         let module_name = String::from_str(self.alloc, module_name)?;
         let instance_name = String::from_str(self.alloc, instance_name)?;

@@ -26,7 +26,7 @@ impl Ast {
     ) -> Result<ContinuousAssignment, AllocError>
         requires lhs { OwnsExpr (bench self.old) lhs }
         requires rhs { OwnsExpr (bench self.old) rhs }
-        ensures { Builds (bench self.old) (bench self.new) result (next_continuous (bench self.old)) (with_assignment (record { lhs = lhs; rhs = rhs; nonblocking = false }) (bench self.old)) }
+        ensures { Builds self.old self.new result next_continuous (with_assignment (record { lhs = lhs; rhs = rhs; nonblocking = false })) }
     {
         let assignment = self.push_assignment(lhs, rhs, false)?;
         Ok(ContinuousAssignment { id: assignment.id })
@@ -45,7 +45,7 @@ impl Ast {
     ) -> Result<VastStatement, AllocError>
         requires lhs { OwnsExpr (bench self.old) lhs }
         requires rhs { OwnsExpr (bench self.old) rhs }
-        ensures { Builds (bench self.old) (bench self.new) result (next_statement (bench self.old)) (with_assignment (record { lhs = lhs; rhs = rhs; nonblocking = nonblocking }) (bench self.old)) }
+        ensures { Builds self.old self.new result next_statement (with_assignment (record { lhs = lhs; rhs = rhs; nonblocking = nonblocking })) }
     {
         let id = self.next_assignment();
         self.grow(

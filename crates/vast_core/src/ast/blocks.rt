@@ -32,7 +32,7 @@ impl Ast {
         requires owner { OwnsBlock (bench self.old) owner }
         requires statement { StatementSound (bench self.old) (block_index owner) (statement_entry statement) }
         requires no_part { held_by_statement (statement_entry statement) ≡ [] }
-        ensures { Builds (bench self.old) (bench self.new) result tt (with_statement owner (statement_entry statement) (bench self.old)) }
+        ensures { Leaves self.old self.new result (with_statement owner (statement_entry statement)) }
     {
         self.grow(
             Place::Nest(owner.id.index, Entry::Statement(statement)),

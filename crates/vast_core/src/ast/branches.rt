@@ -67,7 +67,7 @@ impl Ast {
     ) -> Result<CaseStatement, AllocError>
         requires owner { OwnsBlock (bench self.old) owner }
         requires selector { OwnsExpr (bench self.old) selector }
-        ensures { Builds (bench self.old) (bench self.new) result (next_case (bench self.old)) (with_statement owner (CasesStatement (next_case (bench self.old))) (with_case kind selector (bench self.old))) }
+        ensures { Builds self.old self.new result next_case (λ b. with_statement owner (CasesStatement (next_case b)) (with_case kind selector b)) }
     {
         let case = CaseStatement {
             id: self.next_nest(),
@@ -92,7 +92,7 @@ impl Ast {
     /// Adds an entry that names the next block, and that block, which is empty.
     fn grow_with_block(&mut self, place: usize, entry: Entry) -> Result<(), AllocError>
         requires { GrowthSound (bench self.old) (InNest place (entry_of entry)) fresh_block }
-        ensures { Builds (bench self.old) (bench self.new) result tt (with_nest_entry place (entry_of entry) (with_block (bench self.old))) }
+        ensures { Leaves self.old self.new result (λ b. with_nest_entry place (entry_of entry) (with_block b)) }
     {
         self.grow(
             Place::Nest(place, entry),
@@ -118,7 +118,7 @@ impl Ast {
         requires owner { OwnsConditional (bench self.old) owner }
         requires condition { OwnsExpr (bench self.old) condition }
         requires no_else { has_else (slice_get (bench self.old).nests (conditional_index owner)) ≡ false }
-        ensures { Builds (bench self.old) (bench self.new) result (next_block (bench self.old)) (with_else_if owner condition (bench self.old)) }
+        ensures { Builds self.old self.new result next_block (with_else_if owner condition) }
     {
         let block = VastStatementBlock {
             id: self.next_nest(),
@@ -139,7 +139,7 @@ impl Ast {
     ) -> Result<VastStatementBlock, AllocError>
         requires owner { OwnsConditional (bench self.old) owner }
         requires no_else { has_else (slice_get (bench self.old).nests (conditional_index owner)) ≡ false }
-        ensures { Builds (bench self.old) (bench self.new) result (next_block (bench self.old)) (with_else owner (bench self.old)) }
+        ensures { Builds self.old self.new result next_block (with_else owner) }
     {
         let block = VastStatementBlock {
             id: self.next_nest(),
@@ -160,7 +160,7 @@ impl Ast {
     ) -> Result<VastStatementBlock, AllocError>
         requires owner { OwnsCase (bench self.old) owner }
         requires label { IfSome label (OwnsExpr (bench self.old)) }
-        ensures { Builds (bench self.old) (bench self.new) result (next_block (bench self.old)) (with_case_arm owner label (bench self.old)) }
+        ensures { Builds self.old self.new result next_block (with_case_arm owner label) }
     {
         let block = VastStatementBlock {
             id: self.next_nest(),

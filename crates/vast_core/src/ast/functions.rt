@@ -34,7 +34,7 @@ impl Ast {
         requires owner { OwnsModule (bench self.old) owner }
         requires result_type { OwnsType (bench self.old) result_type }
         requires free { NameIsFree (bench self.old) owner name.now }
-        ensures { Builds (bench self.old) (bench self.new) result (next_function (bench self.old)) (with_named_member owner (FunctionEntry (next_function (bench self.old))) name.now (with_function name.now result_type (bench self.old))) }
+        ensures { Builds self.old self.new result next_function (λ b. with_named_member owner (FunctionEntry (next_function b)) name.now (with_function name.now result_type b)) }
     {
         let taken = String::from_str(self.alloc, name)?;
         let variable = String::from_str(self.alloc, name)?;

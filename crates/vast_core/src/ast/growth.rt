@@ -290,7 +290,7 @@ impl Ast {
     fn admit(&mut self, place: Place, arrivals: Arrivals) -> Result<(), AllocError>
         requires sound { GrowthSound (bench self.old) (listing_of place) (fresh_of arrivals) }
         requires room { HasRoom self.old (fresh_of arrivals) }
-        ensures { Builds (bench self.old) (bench self.new) result tt (after_growth (listing_of place) (fresh_of arrivals) (bench self.old)) }
+        ensures { Leaves self.old self.new result (after_growth (listing_of place) (fresh_of arrivals)) }
     {
         let mut spare = spare_left(arrivals.node.takes_spare(), self.spare);
         enter(
@@ -326,7 +326,7 @@ impl Ast {
     /// `AllocError` where a growth was refused; nothing changed.
     pub(crate) fn grow(&mut self, place: Place, arrivals: Arrivals) -> Result<(), AllocError>
         requires { GrowthSound (bench self.old) (listing_of place) (fresh_of arrivals) }
-        ensures { Builds (bench self.old) (bench self.new) result tt (after_growth (listing_of place) (fresh_of arrivals) (bench self.old)) }
+        ensures { Leaves self.old self.new result (after_growth (listing_of place) (fresh_of arrivals)) }
     {
         self.make_room(&arrivals)?;
         self.admit(place, arrivals)

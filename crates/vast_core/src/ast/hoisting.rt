@@ -57,7 +57,7 @@ impl Ast {
     pub fn hoist_declarations(&mut self, owner: VastModule, start: usize) -> Result<(), AllocError>
         requires owner { OwnsModule (bench self.old) owner }
         requires start { start ≤ length (members_of (slice_get (bench self.old).modules (module_index owner))) }
-        ensures { Builds (bench self.old) (bench self.new) result tt (with_hoisted owner start (bench self.old)) }
+        ensures { Leaves self.old self.new result (with_hoisted owner start) }
     {
         let target = &mut self.modules[owner.id.index];
         target.hoist(start)?;

@@ -38,7 +38,7 @@ impl Ast {
         requires scope { OwnsScope (bench self.old) scope }
         requires start { OwnsExpr (bench self.old) start }
         requires limit { OwnsExpr (bench self.old) limit }
-        ensures { Builds (bench self.old) (bench self.new) result (next_loop (bench self.old)) (with_scope_member scope (LoopEntry (next_loop (bench self.old))) (with_loop name.now start limit (label_bytes label) (bench self.old))) }
+        ensures { Builds self.old self.new result next_loop (λ b. with_scope_member scope (LoopEntry (next_loop b)) (with_loop name.now start limit (label_bytes label) b)) }
     {
         let variable = String::from_str(self.alloc, name)?;
         let name = String::from_str(self.alloc, name)?;

@@ -32,7 +32,7 @@ impl Ast {
     /// # Errors
     /// `AllocError` where a growth was refused; nothing changed.
     pub fn push_module(&mut self, name: &str) -> Result<VastModule, AllocError>
-        ensures { Builds (bench self.old) (bench self.new) result (next_module (bench self.old)) (with_module name.now (bench self.old)) }
+        ensures { Builds self.old self.new result next_module (with_module name.now) }
     {
         let name = String::from_str(self.alloc, name)?;
         let handle = VastModule {
@@ -58,7 +58,7 @@ impl Ast {
     #[tactic(auto, using(crate::proofs::EntersRecords::enters_records))]
     fn push_item(&mut self, item: FileItem) -> Result<(), AllocError>
         requires { EntrySound (bench self.old) (file_entry item) }
-        ensures { Builds (bench self.old) (bench self.new) result tt (with_item (file_entry item) (bench self.old)) }
+        ensures { Leaves self.old self.new result (with_item (file_entry item)) }
     {
         self.grow(Place::File(item), Arrivals::none())
     }
@@ -68,7 +68,7 @@ impl Ast {
     /// # Errors
     /// `AllocError` where a growth was refused; nothing changed.
     pub fn append_include(&mut self, path: &str) -> Result<(), AllocError>
-        ensures { Builds (bench self.old) (bench self.new) result tt (with_item (IncludeEntry path.now) (bench self.old)) }
+        ensures { Leaves self.old self.new result (with_item (IncludeEntry path.now)) }
     {
         let path = String::from_str(self.alloc, path)?;
         self.push_item(FileItem::Include(path))
@@ -79,7 +79,7 @@ impl Ast {
     /// # Errors
     /// `AllocError` where a growth was refused; nothing changed.
     pub fn append_file_comment(&mut self, text: &str) -> Result<(), AllocError>
-        ensures { Builds (bench self.old) (bench self.new) result tt (with_item (FileCommentEntry text.now) (bench self.old)) }
+        ensures { Leaves self.old self.new result (with_item (FileCommentEntry text.now)) }
     {
         let text = String::from_str(self.alloc, text)?;
         self.push_item(FileItem::Comment(text))
@@ -90,7 +90,7 @@ impl Ast {
     /// # Errors
     /// `AllocError` where a growth was refused; nothing changed.
     pub fn append_file_blank_line(&mut self) -> Result<(), AllocError>
-        ensures { Builds (bench self.old) (bench self.new) result tt (with_item FileBlankEntry (bench self.old)) }
+        ensures { Leaves self.old self.new result (with_item FileBlankEntry) }
     {
         self.push_item(FileItem::BlankLine)
     }

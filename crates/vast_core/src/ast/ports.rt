@@ -32,7 +32,7 @@ impl Ast {
         requires owner { OwnsModule (bench self.old) owner }
         requires data_type { OwnsType (bench self.old) data_type }
         requires free { NameIsFree (bench self.old) owner name.now }
-        ensures { Builds (bench self.old) (bench self.new) result (next_logic_ref (bench self.old)) (with_port owner direction kind name.now data_type (bench self.old)) }
+        ensures { Builds self.old self.new result next_logic_ref (with_port owner direction kind name.now data_type) }
     {
         let node_name = String::from_str(self.alloc, name)?;
         let port_name = String::from_str(self.alloc, name)?;

@@ -49,7 +49,7 @@ impl Ast {
         arrivals: Arrivals,
     ) -> Result<(), AllocError>
         requires { GrowthSound (bench self.old) (listing_in scope (member_entry member)) (fresh_of arrivals) }
-        ensures { Builds (bench self.old) (bench self.new) result tt (with_scope_member scope (member_entry member) (with_fresh (fresh_of arrivals) (bench self.old))) }
+        ensures { Leaves self.old self.new result (λ b. with_scope_member scope (member_entry member) (with_fresh (fresh_of arrivals) b)) }
     {
         self.grow(Place::in_scope(scope, member), arrivals)
     }
@@ -64,7 +64,7 @@ impl Ast {
         requires scope { OwnsScope (bench self.old) scope }
         requires member { MemberSound (bench self.old) (member_entry member) }
         requires shared { IsShared (member_entry member) }
-        ensures { Builds (bench self.old) (bench self.new) result tt (with_scope_member scope (member_entry member) (bench self.old)) }
+        ensures { Leaves self.old self.new result (with_scope_member scope (member_entry member)) }
     {
         self.grow_in(scope, member, Arrivals::none())
     }

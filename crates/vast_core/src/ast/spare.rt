@@ -18,7 +18,7 @@ impl Ast {
     /// `AllocError` where a growth was refused; nothing changed.
     #[tactic(auto, using(crate::proofs::Unattached::enters_over))]
     pub fn push_block(&mut self) -> Result<VastStatementBlock, AllocError>
-        ensures { Builds (bench self.old) (bench self.new) result (next_block (bench self.old)) (with_spare_block (bench self.old)) }
+        ensures { Builds self.old self.new result next_block with_spare_block }
     {
         let block = VastStatementBlock {
             id: self.next_nest(),

@@ -94,7 +94,7 @@ impl Ast {
         requires form { IsWrittenIn spot form }
         requires lhs { OwnsExpr (bench self.old) lhs }
         requires rhs { OwnsExpr (bench self.old) rhs }
-        ensures { Builds (bench self.old) (bench self.new) result (next_statement (bench self.old)) (with_assignment_at spot form lhs rhs (bench self.old)) }
+        ensures { Builds self.old self.new result next_statement (with_assignment_at spot form lhs rhs) }
     {
         let assignment = VastStatement {
             id: self.next_assignment(),
@@ -127,7 +127,7 @@ impl Ast {
     ) -> Result<Conditional, AllocError>
         requires spot { OwnsSpot (bench self.old) spot }
         requires condition { OwnsExpr (bench self.old) condition }
-        ensures { Builds (bench self.old) (bench self.new) result (next_conditional (bench self.old)) (with_conditional_at spot condition (bench self.old)) }
+        ensures { Builds self.old self.new result next_conditional (with_conditional_at spot condition) }
     {
         let conditional = Conditional {
             id: self.next_nest(),

@@ -20,7 +20,7 @@ impl Ast {
     /// Adds expressions and types, the older first.
     pub(crate) fn grow_terms(&mut self, terms: Terms) -> Result<(), AllocError>
         requires { TermsSound (bench self.old).nodes (terms_of terms) }
-        ensures { Builds (bench self.old) (bench self.new) result tt (with_terms (terms_of terms) (bench self.old)) }
+        ensures { Leaves self.old self.new result (with_terms (terms_of terms)) }
     {
         self.grow(
             Place::Nowhere,

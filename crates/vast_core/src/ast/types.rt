@@ -22,7 +22,7 @@ impl Ast {
     pub fn push_type(&mut self, node: TypeNode) -> Result<VastDataType, AllocError>
         requires children { TypeChildrenHold (OwnsExpr (bench self.old)) (OwnsType (bench self.old)) node }
         requires fits { TypeFits (type_tree (bench self.old).nodes node) }
-        ensures { Builds (bench self.old) (bench self.new) result (next_type (bench self.old)) (with_type (bench self.old) (type_tree (bench self.old).nodes node)) }
+        ensures { Builds self.old self.new result next_type (λ b. with_type b (type_tree b.nodes node)) }
     {
         let data_type = VastDataType {
             id: self.next_term(),
@@ -38,7 +38,7 @@ impl Ast {
     #[tactic(auto, using(crate::proofs::Laws::terms, vast_literal::proofs::NumberLaws::signed_text))]
     pub fn push_vector(&mut self, bits: i64, signed: bool) -> Result<VastDataType, AllocError>
         requires { pos 1 ≤ℤ bits }
-        ensures { Builds (bench self.old) (bench self.new) result (next_vector bits (bench self.old)) (with_vector bits signed (bench self.old)) }
+        ensures { Builds self.old self.new result (next_vector bits) (with_vector bits signed) }
     {
         let text = format!(in self.alloc; "{bits}")?;
         let width = Expr {

@@ -85,7 +85,7 @@ impl Ast {
         requires kind { IsVariableKind local kind }
         requires data_type { OwnsType (bench self.old) data_type }
         requires free { IsFreeInFunction (bench self.old) owner name.now }
-        ensures { Builds (bench self.old) (bench self.new) result (next_logic_ref (bench self.old)) (with_variable owner local (record { kind = kind; name = name.now; data_type = data_type }) (bench self.old)) }
+        ensures { Builds self.old self.new result next_logic_ref (with_variable owner local (record { kind = kind; name = name.now; data_type = data_type })) }
     {
         let node_name = String::from_str(self.alloc, name)?;
         let own_name = String::from_str(self.alloc, name)?;

@@ -19,7 +19,7 @@ impl VastFile {
     pub fn make_add(&mut self, lhs: &Expr, rhs: &Expr) -> Result<Expr, AllocError>
         requires lhs { OwnsExpr (bench self.old) lhs.now }
         requires rhs { OwnsExpr (bench self.old) rhs.now }
-        ensures { Builds (bench self.old) (bench self.new) result (next_expr (bench self.old)) (with_binary AddOp lhs.now rhs.now (bench self.old)) }
+        ensures { Builds self.old self.new result next_expr (with_binary AddOp lhs.now rhs.now) }
     {
         self.ast
             .push_expr(ExprNode::Binary(BinaryOperator::Add, *lhs, *rhs))
@@ -32,7 +32,7 @@ impl VastFile {
     pub fn make_sub(&mut self, lhs: &Expr, rhs: &Expr) -> Result<Expr, AllocError>
         requires lhs { OwnsExpr (bench self.old) lhs.now }
         requires rhs { OwnsExpr (bench self.old) rhs.now }
-        ensures { Builds (bench self.old) (bench self.new) result (next_expr (bench self.old)) (with_binary SubOp lhs.now rhs.now (bench self.old)) }
+        ensures { Builds self.old self.new result next_expr (with_binary SubOp lhs.now rhs.now) }
     {
         self.ast
             .push_expr(ExprNode::Binary(BinaryOperator::Sub, *lhs, *rhs))
@@ -45,7 +45,7 @@ impl VastFile {
     pub fn make_mul(&mut self, lhs: &Expr, rhs: &Expr) -> Result<Expr, AllocError>
         requires lhs { OwnsExpr (bench self.old) lhs.now }
         requires rhs { OwnsExpr (bench self.old) rhs.now }
-        ensures { Builds (bench self.old) (bench self.new) result (next_expr (bench self.old)) (with_binary MulOp lhs.now rhs.now (bench self.old)) }
+        ensures { Builds self.old self.new result next_expr (with_binary MulOp lhs.now rhs.now) }
     {
         self.ast
             .push_expr(ExprNode::Binary(BinaryOperator::Mul, *lhs, *rhs))
@@ -58,7 +58,7 @@ impl VastFile {
     pub fn make_div(&mut self, lhs: &Expr, rhs: &Expr) -> Result<Expr, AllocError>
         requires lhs { OwnsExpr (bench self.old) lhs.now }
         requires rhs { OwnsExpr (bench self.old) rhs.now }
-        ensures { Builds (bench self.old) (bench self.new) result (next_expr (bench self.old)) (with_binary DivOp lhs.now rhs.now (bench self.old)) }
+        ensures { Builds self.old self.new result next_expr (with_binary DivOp lhs.now rhs.now) }
     {
         self.ast
             .push_expr(ExprNode::Binary(BinaryOperator::Div, *lhs, *rhs))
@@ -71,7 +71,7 @@ impl VastFile {
     pub fn make_mod(&mut self, lhs: &Expr, rhs: &Expr) -> Result<Expr, AllocError>
         requires lhs { OwnsExpr (bench self.old) lhs.now }
         requires rhs { OwnsExpr (bench self.old) rhs.now }
-        ensures { Builds (bench self.old) (bench self.new) result (next_expr (bench self.old)) (with_binary ModOp lhs.now rhs.now (bench self.old)) }
+        ensures { Builds self.old self.new result next_expr (with_binary ModOp lhs.now rhs.now) }
     {
         self.ast
             .push_expr(ExprNode::Binary(BinaryOperator::Mod, *lhs, *rhs))
@@ -84,7 +84,7 @@ impl VastFile {
     pub fn make_power(&mut self, lhs: &Expr, rhs: &Expr) -> Result<Expr, AllocError>
         requires lhs { OwnsExpr (bench self.old) lhs.now }
         requires rhs { OwnsExpr (bench self.old) rhs.now }
-        ensures { Builds (bench self.old) (bench self.new) result (next_expr (bench self.old)) (with_binary PowerOp lhs.now rhs.now (bench self.old)) }
+        ensures { Builds self.old self.new result next_expr (with_binary PowerOp lhs.now rhs.now) }
     {
         self.ast
             .push_expr(ExprNode::Binary(BinaryOperator::Power, *lhs, *rhs))
@@ -97,7 +97,7 @@ impl VastFile {
     pub fn make_bitwise_and(&mut self, lhs: &Expr, rhs: &Expr) -> Result<Expr, AllocError>
         requires lhs { OwnsExpr (bench self.old) lhs.now }
         requires rhs { OwnsExpr (bench self.old) rhs.now }
-        ensures { Builds (bench self.old) (bench self.new) result (next_expr (bench self.old)) (with_binary BitwiseAndOp lhs.now rhs.now (bench self.old)) }
+        ensures { Builds self.old self.new result next_expr (with_binary BitwiseAndOp lhs.now rhs.now) }
     {
         self.ast
             .push_expr(ExprNode::Binary(BinaryOperator::BitwiseAnd, *lhs, *rhs))
@@ -110,7 +110,7 @@ impl VastFile {
     pub fn make_bitwise_or(&mut self, lhs: &Expr, rhs: &Expr) -> Result<Expr, AllocError>
         requires lhs { OwnsExpr (bench self.old) lhs.now }
         requires rhs { OwnsExpr (bench self.old) rhs.now }
-        ensures { Builds (bench self.old) (bench self.new) result (next_expr (bench self.old)) (with_binary BitwiseOrOp lhs.now rhs.now (bench self.old)) }
+        ensures { Builds self.old self.new result next_expr (with_binary BitwiseOrOp lhs.now rhs.now) }
     {
         self.ast
             .push_expr(ExprNode::Binary(BinaryOperator::BitwiseOr, *lhs, *rhs))
@@ -123,7 +123,7 @@ impl VastFile {
     pub fn make_bitwise_xor(&mut self, lhs: &Expr, rhs: &Expr) -> Result<Expr, AllocError>
         requires lhs { OwnsExpr (bench self.old) lhs.now }
         requires rhs { OwnsExpr (bench self.old) rhs.now }
-        ensures { Builds (bench self.old) (bench self.new) result (next_expr (bench self.old)) (with_binary BitwiseXorOp lhs.now rhs.now (bench self.old)) }
+        ensures { Builds self.old self.new result next_expr (with_binary BitwiseXorOp lhs.now rhs.now) }
     {
         self.ast
             .push_expr(ExprNode::Binary(BinaryOperator::BitwiseXor, *lhs, *rhs))
@@ -136,7 +136,7 @@ impl VastFile {
     pub fn make_shll(&mut self, lhs: &Expr, rhs: &Expr) -> Result<Expr, AllocError>
         requires lhs { OwnsExpr (bench self.old) lhs.now }
         requires rhs { OwnsExpr (bench self.old) rhs.now }
-        ensures { Builds (bench self.old) (bench self.new) result (next_expr (bench self.old)) (with_binary ShllOp lhs.now rhs.now (bench self.old)) }
+        ensures { Builds self.old self.new result next_expr (with_binary ShllOp lhs.now rhs.now) }
     {
         self.ast
             .push_expr(ExprNode::Binary(BinaryOperator::Shll, *lhs, *rhs))
@@ -149,7 +149,7 @@ impl VastFile {
     pub fn make_shra(&mut self, lhs: &Expr, rhs: &Expr) -> Result<Expr, AllocError>
         requires lhs { OwnsExpr (bench self.old) lhs.now }
         requires rhs { OwnsExpr (bench self.old) rhs.now }
-        ensures { Builds (bench self.old) (bench self.new) result (next_expr (bench self.old)) (with_binary ShraOp lhs.now rhs.now (bench self.old)) }
+        ensures { Builds self.old self.new result next_expr (with_binary ShraOp lhs.now rhs.now) }
     {
         self.ast
             .push_expr(ExprNode::Binary(BinaryOperator::Shra, *lhs, *rhs))
@@ -162,7 +162,7 @@ impl VastFile {
     pub fn make_shrl(&mut self, lhs: &Expr, rhs: &Expr) -> Result<Expr, AllocError>
         requires lhs { OwnsExpr (bench self.old) lhs.now }
         requires rhs { OwnsExpr (bench self.old) rhs.now }
-        ensures { Builds (bench self.old) (bench self.new) result (next_expr (bench self.old)) (with_binary ShrlOp lhs.now rhs.now (bench self.old)) }
+        ensures { Builds self.old self.new result next_expr (with_binary ShrlOp lhs.now rhs.now) }
     {
         self.ast
             .push_expr(ExprNode::Binary(BinaryOperator::Shrl, *lhs, *rhs))

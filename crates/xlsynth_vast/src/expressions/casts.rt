@@ -19,7 +19,7 @@ impl VastFile {
     pub fn make_width_cast(&mut self, width: &Expr, value: &Expr) -> Result<Expr, AllocError>
         requires width { OwnsExpr (bench self.old) width.now }
         requires value { OwnsExpr (bench self.old) value.now }
-        ensures { Builds (bench self.old) (bench self.new) result (next_expr (bench self.old)) (with_width_cast width.now value.now (bench self.old)) }
+        ensures { Builds self.old self.new result next_expr (with_width_cast width.now value.now) }
     {
         self.ast.push_expr(ExprNode::WidthCast(*width, *value))
     }
@@ -36,7 +36,7 @@ impl VastFile {
         requires data_type { OwnsType (bench self.old) data_type.now }
         requires castable { IsTrue (is_castable (type_of (bench self.old) data_type.now)) }
         requires value { OwnsExpr (bench self.old) value.now }
-        ensures { Builds (bench self.old) (bench self.new) result (next_expr (bench self.old)) (with_type_cast data_type.now value.now (bench self.old)) }
+        ensures { Builds self.old self.new result next_expr (with_type_cast data_type.now value.now) }
     {
         self.ast.push_expr(ExprNode::TypeCast(*data_type, *value))
     }

@@ -19,7 +19,7 @@ impl VastFile {
     pub fn make_ne(&mut self, lhs: &Expr, rhs: &Expr) -> Result<Expr, AllocError>
         requires lhs { OwnsExpr (bench self.old) lhs.now }
         requires rhs { OwnsExpr (bench self.old) rhs.now }
-        ensures { Builds (bench self.old) (bench self.new) result (next_expr (bench self.old)) (with_binary NeOp lhs.now rhs.now (bench self.old)) }
+        ensures { Builds self.old self.new result next_expr (with_binary NeOp lhs.now rhs.now) }
     {
         self.ast
             .push_expr(ExprNode::Binary(BinaryOperator::Ne, *lhs, *rhs))
@@ -32,7 +32,7 @@ impl VastFile {
     pub fn make_case_ne(&mut self, lhs: &Expr, rhs: &Expr) -> Result<Expr, AllocError>
         requires lhs { OwnsExpr (bench self.old) lhs.now }
         requires rhs { OwnsExpr (bench self.old) rhs.now }
-        ensures { Builds (bench self.old) (bench self.new) result (next_expr (bench self.old)) (with_binary CaseNeOp lhs.now rhs.now (bench self.old)) }
+        ensures { Builds self.old self.new result next_expr (with_binary CaseNeOp lhs.now rhs.now) }
     {
         self.ast
             .push_expr(ExprNode::Binary(BinaryOperator::CaseNe, *lhs, *rhs))
@@ -45,7 +45,7 @@ impl VastFile {
     pub fn make_eq(&mut self, lhs: &Expr, rhs: &Expr) -> Result<Expr, AllocError>
         requires lhs { OwnsExpr (bench self.old) lhs.now }
         requires rhs { OwnsExpr (bench self.old) rhs.now }
-        ensures { Builds (bench self.old) (bench self.new) result (next_expr (bench self.old)) (with_binary EqOp lhs.now rhs.now (bench self.old)) }
+        ensures { Builds self.old self.new result next_expr (with_binary EqOp lhs.now rhs.now) }
     {
         self.ast
             .push_expr(ExprNode::Binary(BinaryOperator::Eq, *lhs, *rhs))
@@ -58,7 +58,7 @@ impl VastFile {
     pub fn make_case_eq(&mut self, lhs: &Expr, rhs: &Expr) -> Result<Expr, AllocError>
         requires lhs { OwnsExpr (bench self.old) lhs.now }
         requires rhs { OwnsExpr (bench self.old) rhs.now }
-        ensures { Builds (bench self.old) (bench self.new) result (next_expr (bench self.old)) (with_binary CaseEqOp lhs.now rhs.now (bench self.old)) }
+        ensures { Builds self.old self.new result next_expr (with_binary CaseEqOp lhs.now rhs.now) }
     {
         self.ast
             .push_expr(ExprNode::Binary(BinaryOperator::CaseEq, *lhs, *rhs))
@@ -71,7 +71,7 @@ impl VastFile {
     pub fn make_ge(&mut self, lhs: &Expr, rhs: &Expr) -> Result<Expr, AllocError>
         requires lhs { OwnsExpr (bench self.old) lhs.now }
         requires rhs { OwnsExpr (bench self.old) rhs.now }
-        ensures { Builds (bench self.old) (bench self.new) result (next_expr (bench self.old)) (with_binary GeOp lhs.now rhs.now (bench self.old)) }
+        ensures { Builds self.old self.new result next_expr (with_binary GeOp lhs.now rhs.now) }
     {
         self.ast
             .push_expr(ExprNode::Binary(BinaryOperator::Ge, *lhs, *rhs))
@@ -84,7 +84,7 @@ impl VastFile {
     pub fn make_gt(&mut self, lhs: &Expr, rhs: &Expr) -> Result<Expr, AllocError>
         requires lhs { OwnsExpr (bench self.old) lhs.now }
         requires rhs { OwnsExpr (bench self.old) rhs.now }
-        ensures { Builds (bench self.old) (bench self.new) result (next_expr (bench self.old)) (with_binary GtOp lhs.now rhs.now (bench self.old)) }
+        ensures { Builds self.old self.new result next_expr (with_binary GtOp lhs.now rhs.now) }
     {
         self.ast
             .push_expr(ExprNode::Binary(BinaryOperator::Gt, *lhs, *rhs))
@@ -97,7 +97,7 @@ impl VastFile {
     pub fn make_le(&mut self, lhs: &Expr, rhs: &Expr) -> Result<Expr, AllocError>
         requires lhs { OwnsExpr (bench self.old) lhs.now }
         requires rhs { OwnsExpr (bench self.old) rhs.now }
-        ensures { Builds (bench self.old) (bench self.new) result (next_expr (bench self.old)) (with_binary LeOp lhs.now rhs.now (bench self.old)) }
+        ensures { Builds self.old self.new result next_expr (with_binary LeOp lhs.now rhs.now) }
     {
         self.ast
             .push_expr(ExprNode::Binary(BinaryOperator::Le, *lhs, *rhs))
@@ -110,7 +110,7 @@ impl VastFile {
     pub fn make_lt(&mut self, lhs: &Expr, rhs: &Expr) -> Result<Expr, AllocError>
         requires lhs { OwnsExpr (bench self.old) lhs.now }
         requires rhs { OwnsExpr (bench self.old) rhs.now }
-        ensures { Builds (bench self.old) (bench self.new) result (next_expr (bench self.old)) (with_binary LtOp lhs.now rhs.now (bench self.old)) }
+        ensures { Builds self.old self.new result next_expr (with_binary LtOp lhs.now rhs.now) }
     {
         self.ast
             .push_expr(ExprNode::Binary(BinaryOperator::Lt, *lhs, *rhs))
@@ -123,7 +123,7 @@ impl VastFile {
     pub fn make_logical_and(&mut self, lhs: &Expr, rhs: &Expr) -> Result<Expr, AllocError>
         requires lhs { OwnsExpr (bench self.old) lhs.now }
         requires rhs { OwnsExpr (bench self.old) rhs.now }
-        ensures { Builds (bench self.old) (bench self.new) result (next_expr (bench self.old)) (with_binary LogicalAndOp lhs.now rhs.now (bench self.old)) }
+        ensures { Builds self.old self.new result next_expr (with_binary LogicalAndOp lhs.now rhs.now) }
     {
         self.ast
             .push_expr(ExprNode::Binary(BinaryOperator::LogicalAnd, *lhs, *rhs))
@@ -136,7 +136,7 @@ impl VastFile {
     pub fn make_logical_or(&mut self, lhs: &Expr, rhs: &Expr) -> Result<Expr, AllocError>
         requires lhs { OwnsExpr (bench self.old) lhs.now }
         requires rhs { OwnsExpr (bench self.old) rhs.now }
-        ensures { Builds (bench self.old) (bench self.new) result (next_expr (bench self.old)) (with_binary LogicalOrOp lhs.now rhs.now (bench self.old)) }
+        ensures { Builds self.old self.new result next_expr (with_binary LogicalOrOp lhs.now rhs.now) }
     {
         self.ast
             .push_expr(ExprNode::Binary(BinaryOperator::LogicalOr, *lhs, *rhs))
@@ -149,7 +149,7 @@ impl VastFile {
     pub fn make_ne_x(&mut self, lhs: &Expr, rhs: &Expr) -> Result<Expr, AllocError>
         requires lhs { OwnsExpr (bench self.old) lhs.now }
         requires rhs { OwnsExpr (bench self.old) rhs.now }
-        ensures { Builds (bench self.old) (bench self.new) result (next_expr (bench self.old)) (with_binary NeXOp lhs.now rhs.now (bench self.old)) }
+        ensures { Builds self.old self.new result next_expr (with_binary NeXOp lhs.now rhs.now) }
     {
         self.ast
             .push_expr(ExprNode::Binary(BinaryOperator::NeX, *lhs, *rhs))
@@ -162,7 +162,7 @@ impl VastFile {
     pub fn make_eq_x(&mut self, lhs: &Expr, rhs: &Expr) -> Result<Expr, AllocError>
         requires lhs { OwnsExpr (bench self.old) lhs.now }
         requires rhs { OwnsExpr (bench self.old) rhs.now }
-        ensures { Builds (bench self.old) (bench self.new) result (next_expr (bench self.old)) (with_binary EqXOp lhs.now rhs.now (bench self.old)) }
+        ensures { Builds self.old self.new result next_expr (with_binary EqXOp lhs.now rhs.now) }
     {
         self.ast
             .push_expr(ExprNode::Binary(BinaryOperator::EqX, *lhs, *rhs))
@@ -181,7 +181,7 @@ impl VastFile {
         requires condition { OwnsExpr (bench self.old) condition.now }
         requires consequent { OwnsExpr (bench self.old) consequent.now }
         requires alternate { OwnsExpr (bench self.old) alternate.now }
-        ensures { Builds (bench self.old) (bench self.new) result (next_expr (bench self.old)) (with_ternary condition.now consequent.now alternate.now (bench self.old)) }
+        ensures { Builds self.old self.new result next_expr (with_ternary condition.now consequent.now alternate.now) }
     {
         self.ast
             .push_expr(ExprNode::Ternary(*condition, *consequent, *alternate))

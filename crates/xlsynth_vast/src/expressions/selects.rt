@@ -39,7 +39,7 @@ impl VastFile {
         requires subject { OwnsIndexable (bench self.old) subject.now }
         requires hi { pos 0 ≤ℤ hi }
         requires lo { pos 0 ≤ℤ lo }
-        ensures { Builds (bench self.old) (bench self.new) result (next_fixed_slice (selector_text hi) hi (selector_text lo) lo (bench self.old)) (with_fixed_slice subject.now (selector_text hi) hi (selector_text lo) lo (bench self.old)) }
+        ensures { Builds self.old self.new result (next_fixed_slice (selector_text hi) hi (selector_text lo) lo) (with_fixed_slice subject.now (selector_text hi) hi (selector_text lo) lo) }
     {
         let alloc = self.ast.allocator();
         let high_text = selector_text(alloc, hi)?;
@@ -55,7 +55,7 @@ impl VastFile {
     pub fn make_index(&mut self, subject: &IndexableExpr, index: i64) -> Result<Index, AllocError>
         requires subject { OwnsIndexable (bench self.old) subject.now }
         requires index { pos 0 ≤ℤ index }
-        ensures { Builds (bench self.old) (bench self.new) result (next_fixed_index (selector_text index) index (bench self.old)) (with_fixed_index subject.now (selector_text index) index (bench self.old)) }
+        ensures { Builds self.old self.new result (next_fixed_index (selector_text index) index) (with_fixed_index subject.now (selector_text index) index) }
     {
         let text = selector_text(self.ast.allocator(), index)?;
         self.ast.push_index_fixed(*subject, &text, index)
@@ -74,7 +74,7 @@ impl VastFile {
         requires subject { OwnsIndexable (bench self.old) subject.now }
         requires hi { OwnsExpr (bench self.old) hi.now }
         requires lo { OwnsExpr (bench self.old) lo.now }
-        ensures { Builds (bench self.old) (bench self.new) result (next_slice (bench self.old)) (with_slice subject.now hi.now lo.now (bench self.old)) }
+        ensures { Builds self.old self.new result next_slice (with_slice subject.now hi.now lo.now) }
     {
         self.ast.push_slice(*subject, *hi, *lo)
     }
@@ -90,7 +90,7 @@ impl VastFile {
     ) -> Result<Index, AllocError>
         requires subject { OwnsIndexable (bench self.old) subject.now }
         requires index { OwnsExpr (bench self.old) index.now }
-        ensures { Builds (bench self.old) (bench self.new) result (next_index (bench self.old)) (with_index subject.now index.now (bench self.old)) }
+        ensures { Builds self.old self.new result next_index (with_index subject.now index.now) }
     {
         self.ast.push_index(*subject, *index)
     }
@@ -108,7 +108,7 @@ impl VastFile {
         requires subject { OwnsIndexable (bench self.old) subject.now }
         requires start { OwnsExpr (bench self.old) start.now }
         requires width { pos 1 ≤ℤ width }
-        ensures { Builds (bench self.old) (bench self.new) result (next_expr (bench self.old)) (with_part_select subject.now start.now width (bench self.old)) }
+        ensures { Builds self.old self.new result next_expr (with_part_select subject.now start.now width) }
     {
         self.ast
             .push_expr(ExprNode::PartSelect(subject.to_expr(), *start, width))

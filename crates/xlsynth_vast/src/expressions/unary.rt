@@ -18,7 +18,7 @@ impl VastFile {
     /// `AllocError` where a growth was refused; the file is unchanged.
     pub fn make_not(&mut self, expression: &Expr) -> Result<Expr, AllocError>
         requires { OwnsExpr (bench self.old) expression.now }
-        ensures { Builds (bench self.old) (bench self.new) result (next_expr (bench self.old)) (with_unary BitwiseNotOp expression.now (bench self.old)) }
+        ensures { Builds self.old self.new result next_expr (with_unary BitwiseNotOp expression.now) }
     {
         self.make_bitwise_not(expression)
     }
@@ -29,7 +29,7 @@ impl VastFile {
     /// `AllocError` where a growth was refused; the file is unchanged.
     pub fn make_bitwise_not(&mut self, expression: &Expr) -> Result<Expr, AllocError>
         requires { OwnsExpr (bench self.old) expression.now }
-        ensures { Builds (bench self.old) (bench self.new) result (next_expr (bench self.old)) (with_unary BitwiseNotOp expression.now (bench self.old)) }
+        ensures { Builds self.old self.new result next_expr (with_unary BitwiseNotOp expression.now) }
     {
         self.ast
             .push_expr(ExprNode::Unary(UnaryOperator::BitwiseNot, *expression))
@@ -41,7 +41,7 @@ impl VastFile {
     /// `AllocError` where a growth was refused; the file is unchanged.
     pub fn make_negate(&mut self, expression: &Expr) -> Result<Expr, AllocError>
         requires { OwnsExpr (bench self.old) expression.now }
-        ensures { Builds (bench self.old) (bench self.new) result (next_expr (bench self.old)) (with_unary NegateOp expression.now (bench self.old)) }
+        ensures { Builds self.old self.new result next_expr (with_unary NegateOp expression.now) }
     {
         self.ast
             .push_expr(ExprNode::Unary(UnaryOperator::Negate, *expression))
@@ -53,7 +53,7 @@ impl VastFile {
     /// `AllocError` where a growth was refused; the file is unchanged.
     pub fn make_logical_not(&mut self, expression: &Expr) -> Result<Expr, AllocError>
         requires { OwnsExpr (bench self.old) expression.now }
-        ensures { Builds (bench self.old) (bench self.new) result (next_expr (bench self.old)) (with_unary LogicalNotOp expression.now (bench self.old)) }
+        ensures { Builds self.old self.new result next_expr (with_unary LogicalNotOp expression.now) }
     {
         self.ast
             .push_expr(ExprNode::Unary(UnaryOperator::LogicalNot, *expression))
@@ -65,7 +65,7 @@ impl VastFile {
     /// `AllocError` where a growth was refused; the file is unchanged.
     pub fn make_and_reduce(&mut self, expression: &Expr) -> Result<Expr, AllocError>
         requires { OwnsExpr (bench self.old) expression.now }
-        ensures { Builds (bench self.old) (bench self.new) result (next_expr (bench self.old)) (with_unary AndReduceOp expression.now (bench self.old)) }
+        ensures { Builds self.old self.new result next_expr (with_unary AndReduceOp expression.now) }
     {
         self.ast
             .push_expr(ExprNode::Unary(UnaryOperator::AndReduce, *expression))
@@ -77,7 +77,7 @@ impl VastFile {
     /// `AllocError` where a growth was refused; the file is unchanged.
     pub fn make_or_reduce(&mut self, expression: &Expr) -> Result<Expr, AllocError>
         requires { OwnsExpr (bench self.old) expression.now }
-        ensures { Builds (bench self.old) (bench self.new) result (next_expr (bench self.old)) (with_unary OrReduceOp expression.now (bench self.old)) }
+        ensures { Builds self.old self.new result next_expr (with_unary OrReduceOp expression.now) }
     {
         self.ast
             .push_expr(ExprNode::Unary(UnaryOperator::OrReduce, *expression))
@@ -89,7 +89,7 @@ impl VastFile {
     /// `AllocError` where a growth was refused; the file is unchanged.
     pub fn make_xor_reduce(&mut self, expression: &Expr) -> Result<Expr, AllocError>
         requires { OwnsExpr (bench self.old) expression.now }
-        ensures { Builds (bench self.old) (bench self.new) result (next_expr (bench self.old)) (with_unary XorReduceOp expression.now (bench self.old)) }
+        ensures { Builds self.old self.new result next_expr (with_unary XorReduceOp expression.now) }
     {
         self.ast
             .push_expr(ExprNode::Unary(UnaryOperator::XorReduce, *expression))
@@ -101,7 +101,7 @@ impl VastFile {
     /// `AllocError` where a growth was refused; the file is unchanged.
     pub fn make_pos_edge(&mut self, expression: &Expr) -> Result<Expr, AllocError>
         requires { OwnsExpr (bench self.old) expression.now }
-        ensures { Builds (bench self.old) (bench self.new) result (next_expr (bench self.old)) (with_pos_edge expression.now (bench self.old)) }
+        ensures { Builds self.old self.new result next_expr (with_pos_edge expression.now) }
     {
         self.ast.push_expr(ExprNode::PosEdge(*expression))
     }
@@ -112,7 +112,7 @@ impl VastFile {
     /// `AllocError` where a growth was refused; the file is unchanged.
     pub fn make_neg_edge(&mut self, expression: &Expr) -> Result<Expr, AllocError>
         requires { OwnsExpr (bench self.old) expression.now }
-        ensures { Builds (bench self.old) (bench self.new) result (next_expr (bench self.old)) (with_neg_edge expression.now (bench self.old)) }
+        ensures { Builds self.old self.new result next_expr (with_neg_edge expression.now) }
     {
         self.ast.push_expr(ExprNode::NegEdge(*expression))
     }

@@ -38,7 +38,7 @@ where
 
 /// The literal of one bit.
 fn make_bit(set: bool, file: &mut VastFile) -> Result<Expr, AllocError>
-    ensures { Builds (bench file.old) (bench file.new) result (next_expr (bench file.old)) (with_expr (bench file.old) (bit_literal set)) }
+    ensures { Builds file.old file.new result next_expr (λ b. with_expr b (bit_literal set)) }
 {
     if set {
         let text = String::from_str(file.ast.allocator(), "1'h1")?;

@@ -93,7 +93,7 @@ fn make_running_value(
     file: &mut VastFile,
 ) -> Result<Expr, AllocError>
     requires { OwnsRegister (bench file.old) register.now }
-    ensures { Builds (bench file.old) (bench file.new) result (running_expr register.now (bench file.old)) (with_running register.now (bench file.old)) }
+    ensures { Builds file.old file.new result (running_expr register.now) (with_running register.now) }
 {
     match register.enable {
         Some(enable) => file.make_ternary(&enable, &register.next, &register.reg),
@@ -107,7 +107,7 @@ fn make_value(
     file: &mut VastFile,
 ) -> Result<Option<Expr>, AllocError>
     requires { OwnsRegister (bench file.old) register.now }
-    ensures { Builds (bench file.old) (bench file.new) result (value_expr share register.now (bench file.old)) (with_value share register.now (bench file.old)) }
+    ensures { Builds file.old file.new result (value_expr share register.now) (with_value share register.now) }
 {
     let takes_running_value = match share {
         Share::Unreset => register.reset_value.is_none(),
@@ -159,7 +159,7 @@ fn assign_all(
 /// The expression that holds where the reset is active.
 fn make_active(reset: Reset, file: &mut VastFile) -> Result<Expr, AllocError>
     requires { OwnsReset (bench file.old) reset }
-    ensures { Builds (bench file.old) (bench file.new) result (active_expr reset (bench file.old)) (with_active reset (bench file.old)) }
+    ensures { Builds file.old file.new result (active_expr reset) (with_active reset) }
 {
     if reset.active_low {
         file.make_logical_not(&reset.signal)
@@ -190,7 +190,7 @@ fn branch(
 
 /// An empty block, which nothing holds yet.
 fn make_empty_block(file: &mut VastFile) -> Result<VastStatementBlock, AllocError>
-    ensures { Builds (bench file.old) (bench file.new) result (next_block (bench file.old)) (with_spare_block (bench file.old)) }
+    ensures { Builds file.old file.new result next_block with_spare_block }
 {
     file.ast.push_block()
 }
@@ -230,7 +230,7 @@ fn attach(
     requires event { EventSound (bench file.old) event }
     requires spare { (bench file.old).spare ≡ Some block }
     requires newer { IsOlderScope scope block }
-    ensures { Builds (bench file.old) (bench file.new) result tt (with_clocked scope event block (bench file.old)) }
+    ensures { Leaves file.old file.new result (with_clocked scope event block) }
 {
     let mut events = Vec::new(file.allocator());
     events.push(event)?;
