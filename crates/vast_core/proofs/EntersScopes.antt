@@ -211,7 +211,7 @@ loop-grown b scope h variable n g name start limit label ms e f m v o = rw (e, f
 pub parameter-grown :
     (b : Bench) (scope : Scope) (local : Bool) (form : FormEntry) (value : Expr) (name : String Global) (type : Option VastDataType) → IsDeclaredBy b form (name, type) →
     with_scope_member scope (ParameterEntry local form value) (with_fresh (fresh_name name type) b) ≡ with_scope_parameter scope local form value b
-parameter-grown b (ScopeModule owner) local form value name type h = ap (λ t. with_expr (with_scope_member (ScopeModule owner) (ParameterEntry local form value) b) t) h.0
-parameter-grown b (ScopeLoop owner) local form value name type h = ap (λ t. with_expr (with_scope_member (ScopeLoop owner) (ParameterEntry local form value) b) t) h.0
+parameter-grown b (ScopeModule owner) local form value name type h = ap (λ t. with_expr t (with_scope_member (ScopeModule owner) (ParameterEntry local form value) b)) h.0
+parameter-grown b (ScopeLoop owner) local form value name type h = ap (λ t. with_expr t (with_scope_member (ScopeLoop owner) (ParameterEntry local form value) b)) h.0
 
 pub ruleset enters_scopes = (shared-enters, parameter-enters, always-enters, always_over-enters, loop-enters)

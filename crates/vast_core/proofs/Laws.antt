@@ -18,17 +18,17 @@ use Rattle.vast_core.specs.Growth.{with_root, with_expr, with_type, next_expr, n
 use Rattle.vast_core.proofs.Lists.{slice_get-seam, All-implies}
 use Rattle.vast_core.proofs.NodeLaws.{Extends-root, HasExpr-kept, HasType-kept, expr_in-kept, type_in-kept, exprs-kept}
 
-pub next_owned : (b : Bench) (e : ExprTree) → OwnsExpr (with_expr b e) (next_expr b)
+pub next_owned : (b : Bench) (e : ExprTree) → OwnsExpr (with_expr e b) (next_expr b)
 next_owned b e = record { of_file = refl; of_kind = rw (slice_get-seam b.nodes.roots (ExprRoot e)) refl }
 
-pub next_tree : (b : Bench) (e : ExprTree) → tree_of (with_expr b e) (next_expr b) ≡ e
+pub next_tree : (b : Bench) (e : ExprTree) → tree_of (with_expr e b) (next_expr b) ≡ e
 unfolding expr_in
 next_tree b e = rw (slice_get-seam b.nodes.roots (ExprRoot e)) refl
 
-pub next_type_owned : (b : Bench) (t : TypeTree) → OwnsType (with_type b t) (next_type b)
+pub next_type_owned : (b : Bench) (t : TypeTree) → OwnsType (with_type t b) (next_type b)
 next_type_owned b t = record { of_file = refl; of_kind = rw (slice_get-seam b.nodes.roots (TypeRoot t)) refl }
 
-pub next_type_tree : (b : Bench) (t : TypeTree) → type_of (with_type b t) (next_type b) ≡ t
+pub next_type_tree : (b : Bench) (t : TypeTree) → type_of (with_type t b) (next_type b) ≡ t
 unfolding type_in
 next_type_tree b t = rw (slice_get-seam b.nodes.roots (TypeRoot t)) refl
 
@@ -58,28 +58,28 @@ pub ruleset older_terms = (old_owned, old_tree, old_type_owned, old_type, all_ol
 
 -- Handles of their own kind.
 
-pub next_index_owned : (b : Bench) (subject index : ExprTree) → OwnsIndex (with_expr b (IndexTree subject index)) (next_index b)
+pub next_index_owned : (b : Bench) (subject index : ExprTree) → OwnsIndex (with_expr (IndexTree subject index) b) (next_index b)
 next_index_owned b subject index = record { of_file = refl; of_kind = rw (slice_get-seam b.nodes.roots (ExprRoot (IndexTree subject index))) refl }
 
-pub next_index_tree : (b : Bench) (e : ExprTree) → tree_of (with_expr b e) (index_to_expr (next_index b)) ≡ e
+pub next_index_tree : (b : Bench) (e : ExprTree) → tree_of (with_expr e b) (index_to_expr (next_index b)) ≡ e
 next_index_tree b e = next_tree b e
 
-pub next_slice_owned : (b : Bench) (subject high low : ExprTree) → OwnsSlice (with_expr b (SliceTree subject high low)) (next_slice b)
+pub next_slice_owned : (b : Bench) (subject high low : ExprTree) → OwnsSlice (with_expr (SliceTree subject high low) b) (next_slice b)
 next_slice_owned b subject high low = record { of_file = refl; of_kind = rw (slice_get-seam b.nodes.roots (ExprRoot (SliceTree subject high low))) refl }
 
-pub next_slice_tree : (b : Bench) (e : ExprTree) → tree_of (with_expr b e) (slice_to_expr (next_slice b)) ≡ e
+pub next_slice_tree : (b : Bench) (e : ExprTree) → tree_of (with_expr e b) (slice_to_expr (next_slice b)) ≡ e
 next_slice_tree b e = next_tree b e
 
-pub next_macro_ref_owned : (b : Bench) (name : List ℕ) (arguments : MaybeExprs) → OwnsMacroRef (with_expr b (MacroTree name arguments)) (next_macro_ref b)
+pub next_macro_ref_owned : (b : Bench) (name : List ℕ) (arguments : MaybeExprs) → OwnsMacroRef (with_expr (MacroTree name arguments) b) (next_macro_ref b)
 next_macro_ref_owned b name arguments = record { of_file = refl; of_kind = rw (slice_get-seam b.nodes.roots (ExprRoot (MacroTree name arguments))) refl }
 
-pub next_macro_ref_tree : (b : Bench) (e : ExprTree) → tree_of (with_expr b e) (macro_ref_to_expr (next_macro_ref b)) ≡ e
+pub next_macro_ref_tree : (b : Bench) (e : ExprTree) → tree_of (with_expr e b) (macro_ref_to_expr (next_macro_ref b)) ≡ e
 next_macro_ref_tree b e = next_tree b e
 
-pub next_logic_ref_owned : (b : Bench) (name : List ℕ) (type : MaybeType) → OwnsLogicRef (with_expr b (NameTree name type)) (next_logic_ref b)
+pub next_logic_ref_owned : (b : Bench) (name : List ℕ) (type : MaybeType) → OwnsLogicRef (with_expr (NameTree name type) b) (next_logic_ref b)
 next_logic_ref_owned b name type = record { of_file = refl; of_kind = rw (slice_get-seam b.nodes.roots (ExprRoot (NameTree name type))) refl }
 
-pub next_logic_ref_tree : (b : Bench) (e : ExprTree) → tree_of (with_expr b e) (logic_ref_to_expr (next_logic_ref b)) ≡ e
+pub next_logic_ref_tree : (b : Bench) (e : ExprTree) → tree_of (with_expr e b) (logic_ref_to_expr (next_logic_ref b)) ≡ e
 next_logic_ref_tree b e = next_tree b e
 
 -- For callers: what a call answers is the file's then.

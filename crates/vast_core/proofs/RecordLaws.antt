@@ -38,10 +38,10 @@ next_inline_owned b text = record { of_file = refl; of_kind = rw (slice_get-seam
 pub next_macro_statement_owned : (b : Bench) (call : MacroRef) (semicolon : Bool) → OwnsMacroStatement (with_artifact (MacroRecord call semicolon) b) (next_macro_statement b)
 next_macro_statement_owned b call semicolon = record { of_file = refl; of_kind = rw (slice_get-seam b.artifacts (MacroRecord call semicolon)) refl }
 
-pub next_parameter_ref_owned : (b : Bench) (name : List ℕ) (type : MaybeType) → OwnsParameterRef (with_expr b (NameTree name type)) (next_parameter_ref b)
+pub next_parameter_ref_owned : (b : Bench) (name : List ℕ) (type : MaybeType) → OwnsParameterRef (with_expr (NameTree name type) b) (next_parameter_ref b)
 next_parameter_ref_owned b name type = record { of_file = refl; of_kind = rw (slice_get-seam b.nodes.roots (ExprRoot (NameTree name type))) refl }
 
-pub next_localparam_ref_owned : (b : Bench) (name : List ℕ) (type : MaybeType) → OwnsLocalparamRef (with_expr b (NameTree name type)) (next_localparam_ref b)
+pub next_localparam_ref_owned : (b : Bench) (name : List ℕ) (type : MaybeType) → OwnsLocalparamRef (with_expr (NameTree name type) b) (next_localparam_ref b)
 next_localparam_ref_owned b name type = record { of_file = refl; of_kind = rw (slice_get-seam b.nodes.roots (ExprRoot (NameTree name type))) refl }
 
 -- For callers: what a call answers is the file's then.

@@ -1,5 +1,5 @@
 -- What a file holds, and that it stays sound, after an expression or a type more.
-use Rattle.std.proofs.Common.{◌≡◌, ℕ, ◌+◌, IsTrue, length, nat_lt, Result, Ok, Err, IsErr, refl, arith, subst}
+use Rattle.std.proofs.Common.{◌≡◌, ℕ, ◌+◌, IsTrue, length, nat_lt, Result, Ok, Err, IsErr, refl, arith, subst, ◌∙◌}
 use Rattle.std.specs.declared.alloc.AllocError.{AllocError}
 use Rattle.std.proofs.lemmas.List.{length-map}
 use Rattle.vast_core.specs.Raw.{Raw}
@@ -40,9 +40,14 @@ pub length-assignments : (a b : Raw) → b ≡ a → length (bench a).assignment
 unfolding bench
 length-assignments a b e = rw (← e) refl
 
-pub refused : {A : Type 0} (old new : Bench) (r : Result A AllocError) (answer : A) (after : Bench) → IsErr r → new ≡ old → Builds old new r answer after
+pub refused : {A : Type 0} (old new : Raw) (r : Result A AllocError) (answer : Bench → A) (after : Bench → Bench) → IsErr r → bench new ≡ bench old → Builds old new r answer after
 refused old new (Ok x) answer after h e = cc
 refused old new (Err x) answer after h e = e
+
+-- Two changes of what the file held that leave the same.
+pub leaves-same : {A : Type 0} (old new : Raw) (r : Result A AllocError) (answer : Bench → A) (one other : Bench → Bench) → one (bench old) ≡ other (bench old) → Builds old new r answer one → Builds old new r answer other
+leaves-same old new (Ok x) answer one other e h = (h.0, h.1 ∙ e)
+leaves-same old new (Err x) answer one other e h = h
 
 pub length-definitions : (a b : Raw) → b ≡ a → length (bench a).definitions ≡ length b.definitions
 unfolding bench

@@ -18,4 +18,4 @@ with_listed_in f local v b = record b { functions = changed_at (function_index f
 
 -- The same, with the name as an expression.
 abbrev pub with_variable : VastFunction → (local : Bool) → VariableRecord → Bench → Bench
-with_variable f local v b = with_expr (with_listed_in f local v b) (NameTree v.name (Typed (type_of b v.data_type)))
+with_variable f local v b = with_expr (NameTree v.name (Typed (type_of b v.data_type))) (with_listed_in f local v b)

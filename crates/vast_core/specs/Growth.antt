@@ -41,11 +41,11 @@ with_root b r = record b { nodes = with_node b.nodes r }
 abbrev pub with_terms : List Term → Bench → Bench
 with_terms ts b = record b { nodes = built b.nodes ts }
 
-abbrev pub with_expr : Bench → ExprTree → Bench
-with_expr b e = with_root b (ExprRoot e)
+abbrev pub with_expr : ExprTree → Bench → Bench
+with_expr e b = with_root b (ExprRoot e)
 
-abbrev pub with_type : Bench → TypeTree → Bench
-with_type b t = with_root b (TypeRoot t)
+abbrev pub with_type : TypeTree → Bench → Bench
+with_type t b = with_root b (TypeRoot t)
 
 -- The id of the next node of an arena that holds this many.
 abbrev pub next_id : Bench → ℕ → Id
@@ -88,38 +88,38 @@ decimal_literal value = known_literal (signed_decimal value) value
 -- A bit select by a number: a literal of the index, and the select.
 abbrev pub with_fixed_index : IndexableExpr → List ℕ → ℤ → Bench → Bench
 with_fixed_index subject text index b =
-    with_expr (with_expr b (known_literal text index)) (IndexTree (tree_of b (indexable_expr_to_expr subject)) (known_literal text index))
+    with_expr (IndexTree (tree_of b (indexable_expr_to_expr subject)) (known_literal text index)) (with_expr (known_literal text index) b)
 
 abbrev pub next_fixed_index : List ℕ → ℤ → Bench → Index
-next_fixed_index text index b = next_index (with_expr b (known_literal text index))
+next_fixed_index text index b = next_index (with_expr (known_literal text index) b)
 
 -- A part select by two numbers: literals of the upper and of the lower bound, and the select.
 abbrev pub with_bounds : List ℕ → ℤ → List ℕ → ℤ → Bench → Bench
-with_bounds high_text high low_text low b = with_expr (with_expr b (known_literal high_text high)) (known_literal low_text low)
+with_bounds high_text high low_text low b = with_expr (known_literal low_text low) (with_expr (known_literal high_text high) b)
 
 abbrev pub with_fixed_slice : IndexableExpr → List ℕ → ℤ → List ℕ → ℤ → Bench → Bench
 with_fixed_slice subject high_text high low_text low b =
-    with_expr (with_bounds high_text high low_text low b) (SliceTree (tree_of b (indexable_expr_to_expr subject)) (known_literal high_text high) (known_literal low_text low))
+    with_expr (SliceTree (tree_of b (indexable_expr_to_expr subject)) (known_literal high_text high) (known_literal low_text low)) (with_bounds high_text high low_text low b)
 
 abbrev pub next_fixed_slice : List ℕ → ℤ → List ℕ → ℤ → Bench → Slice
 next_fixed_slice high_text high low_text low b = next_slice (with_bounds high_text high low_text low b)
 
 -- A replication by a number: a literal of the count, and the replication.
 abbrev pub with_fixed_replication : ℤ → List Expr → Bench → Bench
-with_fixed_replication count parts b = with_expr (with_expr b (decimal_literal count)) (ConcatTree (SomeExpr (decimal_literal count)) (trees_of b parts))
+with_fixed_replication count parts b = with_expr (ConcatTree (SomeExpr (decimal_literal count)) (trees_of b parts)) (with_expr (decimal_literal count) b)
 
 abbrev pub next_fixed_replication : ℤ → Bench → Expr
-next_fixed_replication count b = next_expr (with_expr b (decimal_literal count))
+next_fixed_replication count b = next_expr (with_expr (decimal_literal count) b)
 
 -- A literal of the width, and a vector of that width.
 abbrev pub width_literal : ℤ → ExprTree
 width_literal bits = decimal_literal bits
 
 abbrev pub with_vector : ℤ → Bool → Bench → Bench
-with_vector bits signed b = with_type (with_expr b (width_literal bits)) (VectorTree (width_literal bits) (Some bits) signed)
+with_vector bits signed b = with_type (VectorTree (width_literal bits) (Some bits) signed) (with_expr (width_literal bits) b)
 
 abbrev pub next_vector : ℤ → Bench → VastDataType
-next_vector bits b = next_type (with_expr b (width_literal bits))
+next_vector bits b = next_type (with_expr (width_literal bits) b)
 
 -- An empty module of this name, as the file's last item.
 abbrev pub with_module : List ℕ → Bench → Bench
@@ -147,7 +147,7 @@ with_named_member m entry name b = record b { modules = changed_at (module_index
 
 -- A wire, reg or logic more: its place at the end of the module's members, and its name as an expression.
 abbrev pub with_declaration : VastModule → DataKind → List ℕ → VastDataType → Bench → Bench
-with_declaration m kind name data_type b = with_expr (with_named_member m (DeclarationEntry kind name data_type) name b) (NameTree name (Typed (type_of b data_type)))
+with_declaration m kind name data_type b = with_expr (NameTree name (Typed (type_of b data_type))) (with_named_member m (DeclarationEntry kind name data_type) name b)
 
 -- An item more at the end of the file.
 abbrev pub with_item : FileEntry → Bench → Bench

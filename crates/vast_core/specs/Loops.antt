@@ -35,7 +35,7 @@ with_loop_member owner entry b = with_nest_entry (loop_index owner) (MemberEnter
 
 -- A local parameter more among the loop's members, and this name as an expression.
 abbrev pub with_loop_parameter : GenerateLoop → FormEntry → Expr → ExprTree → Bench → Bench
-with_loop_parameter owner form value name b = with_expr (with_loop_member owner (ParameterEntry true form value) b) name
+with_loop_parameter owner form value name b = with_expr name (with_loop_member owner (ParameterEntry true form value) b)
 
 -- One that declares its name alone, and one that declares what the definition does.
 abbrev pub with_plain_loop_parameter : GenerateLoop → List ℕ → Expr → Bench → Bench
@@ -59,7 +59,7 @@ abbrev pub new_loop : Bench → List ℕ → Expr → Expr → Option (List ℕ)
 new_loop b name start limit label = RepeatRecord (record { genvar = next_logic_ref b; name = name; start = start; limit = limit; label = label; members = [] })
 
 abbrev pub with_loop : List ℕ → Expr → Expr → Option (List ℕ) → Bench → Bench
-with_loop name start limit label b = with_expr (with_nest (new_loop b name start limit label) b) (NameTree name Untyped)
+with_loop name start limit label b = with_expr (NameTree name Untyped) (with_nest (new_loop b name start limit label) b)
 
 abbrev pub name_term : String Global → Option VastDataType → Term
 name_term name type = Expression (Name name type)
@@ -76,7 +76,7 @@ new_function b name result_type = record { name = name; result_type = result_typ
 
 abbrev pub with_function : List ℕ → VastDataType → Bench → Bench
 with_function name result_type b =
-    with_expr (record (with_block b) { functions = b.functions ++ new_function b name result_type ∷ [] }) (NameTree name (Typed (type_of b result_type)))
+    with_expr (NameTree name (Typed (type_of b result_type))) (record (with_block b) { functions = b.functions ++ new_function b name result_type ∷ [] })
 
 abbrev pub fresh_function : String Global → VastDataType → FunctionRecord → Fresh
 fresh_function name result_type f = record no_fresh { terms = name_term name (Some result_type) ∷ []; block = true; function = Some f }

@@ -26,11 +26,11 @@ with_parameter_listed m p b = record b { modules = changed_at (module_index m) (
 
 abbrev pub with_parameter_port : VastModule → List ℕ → Option VastDataType → Expr → Bench → Bench
 with_parameter_port m name data_type value b =
-    with_expr (with_parameter_listed m (record { name = name; data_type = data_type; value = value }) b) (NameTree name (maybe_type_in b.nodes data_type))
+    with_expr (NameTree name (maybe_type_in b.nodes data_type)) (with_parameter_listed m (record { name = name; data_type = data_type; value = value }) b)
 
 -- A parameter more among the module's members, and this name as an expression.
 abbrev pub with_parameter_named : VastModule → Bool → FormEntry → Expr → ExprTree → Bench → Bench
-with_parameter_named m local form value name b = with_expr (with_member m (ParameterEntry local form value) b) name
+with_parameter_named m local form value name b = with_expr name (with_member m (ParameterEntry local form value) b)
 
 -- A parameter that declares its name alone, or its name of type int.
 abbrev pub with_plain_parameter : VastModule → Bool → List ℕ → Expr → Bench → Bench

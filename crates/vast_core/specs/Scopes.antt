@@ -27,7 +27,7 @@ with_scope_member (ScopeLoop l) entry b = with_loop_member l entry b
 
 -- A parameter more among the scope's members, and its name as an expression.
 abbrev pub with_scope_parameter : Scope → (local : Bool) → FormEntry → Expr → Bench → Bench
-with_scope_parameter scope local form value b = with_expr (with_scope_member scope (ParameterEntry local form value) b) (form_name b form)
+with_scope_parameter scope local form value b = with_expr (form_name b form) (with_scope_member scope (ParameterEntry local form value) b)
 
 -- The member may be given to more scopes than one: it declares no name, and holds no container and no function.
 abbrev pub IsShared : MemberEntry → Type 0

@@ -1,5 +1,5 @@
 -- The file of the registers: each call in turn, from the file before it, its answer and the file after it.
-use Rattle.std.proofs.Common.{◌≡◌, ℕ, pos, false, List, ◌∷◌, [], All, Some, Ok, refl, codes}
+use Rattle.std.proofs.Common.{◌≡◌, ℕ, pos, false, List, ◌∷◌, [], All, Some, refl, codes}
 use Rattle.std.proofs.lemmas.List.Elements.{All-cons, All-nil}
 use Rattle.vast_literal.specs.declared.literal.LiteralFormat.TheVariants.{Hex}
 use Rattle.vast_literal.specs.Digits.{is_numeral, digits_in, number_in, lowest_digits, digit_count, separator}
@@ -20,7 +20,6 @@ use Rattle.vast_core.specs.Growth.{with_module, with_port, with_declaration, wit
 use Rattle.xlsynth_vast.specs.declared.helpers.registers.RegisterDefinition.{RegisterDefinition}
 use Rattle.xlsynth_vast.specs.Equations.{next_bit_vector, with_bit_vector}
 use Rattle.xlsynth_vast.specs.Declarations.{names_in, unless_taken}
-use Rattle.xlsynth_vast.specs.Refusals.{MayBuild}
 use Rattle.xlsynth_vast.specs.Literals.{literal_in}
 use Rattle.xlsynth_vast.specs.Registers.{OwnsRegister}
 use Rattle.vast_designs.specs.RegistersFile.{the_module, bit, clock, reset, enable, the_signals, byte, first, first_next, second, second_next, the_state, first_value, second_value, the_values, enabled, plain, signals_made, state_made, values_made}
@@ -32,7 +31,7 @@ unfoldable pub b1 : Bench
 b1 = with_module (codes "regs_rst_en") (start SystemVerilog 1)
 
 unfoldable pub b2 : Bench
-b2 = with_type b1 (ScalarTree false)
+b2 = with_type (ScalarTree false) b1
 
 unfoldable pub b3 : Bench
 b3 = with_port the_module Input Wire (codes "clk") bit b2
@@ -53,13 +52,13 @@ unfoldable pub b9 : Bench
 b9 = with_declaration the_module Logic (codes "r2") byte b8
 
 unfoldable pub b11 : Bench
-b11 = with_expr state_made (LiteralTree (codes "8'haa") (Some (pos 170)))
+b11 = with_expr (LiteralTree (codes "8'haa") (Some (pos 170))) state_made
 
 step1 : (b c : Bench) (m : VastModule) → b ≡ start SystemVerilog 1 → (m ≡ next_module b) × (c ≡ with_module (codes "regs_rst_en") b) → (m ≡ the_module) × (c ≡ b1)
 unfolding b1
 step1 b c m e h = rw (h.1, h.0, e) (refl, refl)
 
-step2 : (b c : Bench) (t : VastDataType) → b ≡ b1 → (t ≡ next_type b) × (c ≡ with_type b (ScalarTree false)) → (t ≡ bit) × (c ≡ b2)
+step2 : (b c : Bench) (t : VastDataType) → b ≡ b1 → (t ≡ next_type b) × (c ≡ with_type (ScalarTree false) b) → (t ≡ bit) × (c ≡ b2)
 unfolding b1 b2
 step2 b c t e h = rw (h.1, h.0, e) (refl, refl)
 
@@ -81,7 +80,7 @@ step6 b c t e h = rw (h.1, h.0, e) (refl, refl)
 
 -- What a call of `add_logic` leaves whose name is free.
 abbrev Declares : (b c : Bench) (m : VastModule) (name : List ℕ) (t : VastDataType) (r : LogicRef) → Type 0
-Declares b c m name t r = MayBuild b c (Ok r) (unless_taken (codes "logic") name (names_in b m)) (next_logic_ref b) (λ _. with_declaration m Logic name t b)
+Declares b c m name t r = IsOkAnd (unless_taken (codes "logic") name (names_in b m)) (λ _. (r ≡ next_logic_ref b) × (c ≡ with_declaration m Logic name t b))
 
 pub step7 : (b c : Bench) (m : VastModule) (t : VastDataType) (r : LogicRef) → b ≡ b6 → m ≡ the_module → t ≡ byte → Declares b c m (codes "r") t r → (r ≡ first) × (c ≡ b7)
 unfolding signals_made b6 b7
@@ -107,11 +106,11 @@ step10 b c m t r e em et h =
     let made = allowed (unless_taken (codes "logic") (codes "r2_next") (names_in b m)) h in
     rw (made.1, made.0, e, em, et) (refl, refl)
 
-step11 : (b c : Bench) (x : Expr) → b ≡ state_made → MayBuild b c (Ok x) (literal_in Hex (codes "bits[8]:0xaa")) (next_expr b) (with_expr b) → (x ≡ first_value) × (c ≡ b11)
+step11 : (b c : Bench) (x : Expr) → b ≡ state_made → IsOkAnd (literal_in Hex (codes "bits[8]:0xaa")) (λ tree. (x ≡ next_expr b) × (c ≡ with_expr tree b)) → (x ≡ first_value) × (c ≡ b11)
 unfolding signals_made state_made b11 is_numeral digits_in number_in lowest_digits digit_count separator literal_of typed_parts split_at without_sign has_minus radix_and_digits is_decimal width_of fits_in modulo_width magnitude_of fitted value_of spelled digits
 step11 b c x e h = rw (h.1, h.0, e) (refl, refl)
 
-step12 : (b c : Bench) (x : Expr) → b ≡ b11 → MayBuild b c (Ok x) (literal_in Hex (codes "bits[8]:0x55")) (next_expr b) (with_expr b) → (x ≡ second_value) × (c ≡ values_made)
+step12 : (b c : Bench) (x : Expr) → b ≡ b11 → IsOkAnd (literal_in Hex (codes "bits[8]:0x55")) (λ tree. (x ≡ next_expr b) × (c ≡ with_expr tree b)) → (x ≡ second_value) × (c ≡ values_made)
 unfolding signals_made state_made b11 values_made is_numeral digits_in number_in lowest_digits digit_count separator literal_of typed_parts split_at without_sign has_minus radix_and_digits is_decimal width_of fits_in modulo_width magnitude_of fitted value_of spelled digits
 step12 b c x e h = rw (h.1, h.0, e) (refl, refl)
 
@@ -181,7 +180,7 @@ pub signals-made :
     (c0 c1 c2 c3 c4 c5 : Bench) (m : VastModule) (t : VastDataType) (k s e : LogicRef) →
     c0 ≡ start SystemVerilog 1 →
     (m ≡ next_module c0) × (c1 ≡ with_module (codes "regs_rst_en") c0) →
-    (t ≡ next_type c1) × (c2 ≡ with_type c1 (ScalarTree false)) →
+    (t ≡ next_type c1) × (c2 ≡ with_type (ScalarTree false) c1) →
     (k ≡ next_logic_ref c2) × (c3 ≡ with_port m Input Wire (codes "clk") t c2) →
     (s ≡ next_logic_ref c3) × (c4 ≡ with_port m Input Wire (codes "rst") t c3) →
     (e ≡ next_logic_ref c4) × (c5 ≡ with_port m Input Wire (codes "en") t c4) →
@@ -197,8 +196,8 @@ signals-made c0 c1 c2 c3 c4 c5 m t k s e h0 h1 h2 h3 h4 h5 =
 pub values-made :
     (c0 c1 c2 : Bench) (v w : Expr) →
     c0 ≡ state_made →
-    MayBuild c0 c1 (Ok v) (literal_in Hex (codes "bits[8]:0xaa")) (next_expr c0) (with_expr c0) →
-    MayBuild c1 c2 (Ok w) (literal_in Hex (codes "bits[8]:0x55")) (next_expr c1) (with_expr c1) →
+    IsOkAnd (literal_in Hex (codes "bits[8]:0xaa")) (λ tree. (v ≡ next_expr c0) × (c1 ≡ with_expr tree c0)) →
+    IsOkAnd (literal_in Hex (codes "bits[8]:0x55")) (λ tree. (w ≡ next_expr c1) × (c2 ≡ with_expr tree c1)) →
     (record { first = v; second = w } ≡ the_values) × (c2 ≡ values_made)
 values-made c0 c1 c2 v w h0 h1 h2 =
     let s1 = step11 c0 c1 v h0 h1 in

@@ -82,7 +82,7 @@ unfoldable pub signals_made : Bench
 signals_made =
     with_port the_module Input Wire (codes "en") bit
     (with_port the_module Input Wire (codes "rst") bit
-    (with_port the_module Input Wire (codes "clk") bit (with_type (with_module (codes "regs_rst_en") (start SystemVerilog 1)) (ScalarTree false))))
+    (with_port the_module Input Wire (codes "clk") bit (with_type (ScalarTree false) (with_module (codes "regs_rst_en") (start SystemVerilog 1)))))
 
 unfoldable pub state_made : Bench
 state_made =
@@ -91,4 +91,4 @@ state_made =
     (with_declaration the_module Logic (codes "r_next") byte (with_declaration the_module Logic (codes "r") byte (with_bit_vector (pos 8) false signals_made))))
 
 unfoldable pub values_made : Bench
-values_made = with_expr (with_expr state_made (LiteralTree (codes "8'haa") (Some (pos 170)))) (LiteralTree (codes "8'h55") (Some (pos 85)))
+values_made = with_expr (LiteralTree (codes "8'h55") (Some (pos 85))) (with_expr (LiteralTree (codes "8'haa") (Some (pos 170))) state_made)

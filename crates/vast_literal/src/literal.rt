@@ -81,7 +81,8 @@ impl Literal {
     /// `Refused` with the text of the first check that fails.
     pub fn parse(alloc: Global, text: &str) -> Result<Literal, VastFault>
         // The literal, or the text of the first check that fails; memory is wanted for that text alone.
-        ensures answer { MatchResult result (λ literal. literal_of text.now ≡ Ok literal) (OnlyRefusedBy (literal_of text.now)) }
+        ensures answer { MatchResult result (λ literal. literal_of text.now ≡ Ok literal)
+            (OnlyRefusedBy (literal_of text.now)) }
 
         // It is what the text denotes, and a text that denotes a literal is accepted.
         ensures denoted { IfOk result (Denotes text.now) }
@@ -95,7 +96,8 @@ impl Literal {
     /// # Errors
     /// `Refused` above the format's limit.
     pub fn validate_format(&self, alloc: Global, format: LiteralFormat) -> Result<(), VastFault>
-        ensures { MatchResult result (λ _. taken format self.now.value ≡ Ok tt) (OnlyRefusedBy (taken format self.now.value)) }
+        ensures { MatchResult result (λ _. taken format self.now.value ≡ Ok tt)
+            (OnlyRefusedBy (taken format self.now.value)) }
     {
         limits::validate(alloc, format, self.value)
     }
@@ -105,16 +107,20 @@ impl Literal {
     /// # Errors
     /// `AllocError` where memory was refused.
     pub fn format(&self, alloc: Global, format: LiteralFormat) -> Result<String, AllocError>
-        ensures exact { IfOk result (λ text. string_bytes text ≡ spelled format self.now.width self.now.value) }
+        ensures exact { IfOk result
+            (λ text. string_bytes text ≡ spelled format self.now.width self.now.value) }
 
         // The digits write the number modulo 2 to the power of the width, or with a minus its opposite.
-        ensures spells { IfOk result (λ text. Spells format self.now.width self.now.value (string_bytes text)) }
+        ensures spells { IfOk result
+            (λ text. Spells format self.now.width self.now.value (string_bytes text)) }
 
         // It is an optional minus and one literal token.
         ensures token { IfOk result (λ text. IsTrue (is_literal_text (string_bytes text))) }
 
         // No other text spells the number.
-        ensures only { IfOk result (λ text. (other : List ℕ) → Spells format self.now.width self.now.value other → other ≡ string_bytes text) }
+        ensures only { IfOk result
+            (λ text. (other : List ℕ) → Spells format self.now.width self.now.value other
+            → other ≡ string_bytes text) }
     {
         spelling::literal_text(alloc, format, self.width, self.value)
     }
@@ -131,7 +137,8 @@ fn refuse_untyped(alloc: Global, text: &str) -> VastFault
 /// The literal of a text, by the checks in their order.
 #[tactic(auto, unfolding(crate::specs::Literal::literal_of))]
 fn read_literal(alloc: Global, text: &str) -> Result<Literal, VastFault>
-    ensures { MatchResult result (λ literal. literal_of text.now ≡ Ok literal) (OnlyRefusedBy (literal_of text.now)) }
+    ensures { MatchResult result (λ literal. literal_of text.now ≡ Ok literal)
+        (OnlyRefusedBy (literal_of text.now)) }
 {
     let Some((width_text, value_text)) = parts::split_typed(text) else {
         return Err(refuse_untyped(alloc, text));

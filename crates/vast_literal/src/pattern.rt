@@ -52,7 +52,8 @@ fn refuse_pattern(alloc: Global) -> VastFault
 /// `Refused` where there are no digits, more than 1,048,576, or others than `0`, `1` and `?`.
 #[tactic(auto, unfolding(crate::specs::Pattern::pattern))]
 pub fn pattern_text(alloc: Global, bits_msb: &str) -> Result<String, VastFault>
-    ensures answer { MatchResult result (λ text. pattern bits_msb.now ≡ Ok (string_bytes text)) (λ fault. RefusedBy (pattern bits_msb.now) fault) }
+    ensures answer { MatchResult result (λ text. pattern bits_msb.now ≡ Ok (string_bytes text))
+        (λ fault. RefusedBy (pattern bits_msb.now) fault) }
     // It is one literal token.
     ensures token { IfOk result (λ text. IsTrue (is_literal_text (string_bytes text))) }
 {

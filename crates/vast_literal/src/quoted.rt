@@ -28,7 +28,9 @@ fn push_octal(text: &mut String, code: u8) -> Result<(), AllocError>
 /// Appends a character as a string literal holds it.
 #[tactic(auto, using(crate::proofs::QuotedLaws::escaping))]
 fn push_escaped(text: &mut String, character: char) -> Result<(), AllocError>
-    ensures { OnOk result (string_bytes text.new ≡ string_bytes text.old ++ flat_map escaped (encode_utf8 character)) }
+    ensures { OnOk result
+        (string_bytes text.new
+        ≡ string_bytes text.old ++ flat_map escaped (encode_utf8 character)) }
 {
     match character {
         '"' => text.push_str("\\\""),

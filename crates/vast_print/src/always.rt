@@ -26,7 +26,9 @@ fn print_events(
     out: &mut Writer,
 ) -> Result<(), PrintFault>
     requires { All (EventSound (bench ast.now)) events.now }
-    ensures { Writes (pour depth (Wet out.old) (written (events_text (trees_of (bench ast.now) events.now)))) out.new result }
+    ensures { Writes
+        (pour depth (Wet out.old) (written (events_text (trees_of (bench ast.now) events.now))))
+        out.new result }
 {
     for (i, event) in events.iter().enumerate() {
         out.word(words::or_before(i))?;
@@ -44,7 +46,10 @@ fn print_opening(
     out: &mut Writer,
 ) -> Result<(), PrintFault>
     requires { All (EventSound (bench ast.now)) node.now.events.items }
-    ensures { Writes (pour depth (Wet out.old) (written (always_text node.now.kind (trees_of (bench ast.now) node.now.events.items)))) out.new result }
+    ensures { Writes
+        (pour depth (Wet out.old)
+        (written (always_text node.now.kind (trees_of (bench ast.now) node.now.events.items))))
+        out.new result }
 {
     match node.kind {
         AlwaysKind::AlwaysFF => {
@@ -72,7 +77,11 @@ pub(crate) fn print_always(
 ) -> Result<(), PrintFault>
     requires owned { OwnsAlways (bench ast.now) a }
     requires room { AlwaysFits depth (slice_get (bench ast.now).always_blocks (always_index a)) }
-    ensures { Writes (hang depth (Wet out.old) (member_page (bench ast.now).file_type (always_in (bench ast.now) (families (bench ast.now)) (slice_get (bench ast.now).always_blocks (always_index a))))) out.new result }
+    ensures { Writes
+        (hang depth (Wet out.old)
+        (member_page (bench ast.now).file_type
+        (always_in (bench ast.now) (families (bench ast.now))
+        (slice_get (bench ast.now).always_blocks (always_index a))))) out.new result }
 {
     let node = ast.always_block(a);
     out.next(depth)?;

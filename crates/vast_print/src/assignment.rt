@@ -29,7 +29,12 @@ fn print_sides(
 ) -> Result<(), PrintFault>
     requires lhs { OwnsExpr (bench ast.now) assignment.now.lhs }
     requires rhs { OwnsExpr (bench ast.now) assignment.now.rhs }
-    ensures { Writes (word (pour depth (word (pour depth (Wet out.old) (written (expr_text (tree_of (bench ast.now) assignment.now.lhs)))) sign.now) (written (expr_text (tree_of (bench ast.now) assignment.now.rhs)))) (codes ";")) out.new result }
+    ensures { Writes
+        (word (pour depth
+        (word (pour depth (Wet out.old)
+        (written (expr_text (tree_of (bench ast.now) assignment.now.lhs)))) sign.now)
+        (written (expr_text (tree_of (bench ast.now) assignment.now.rhs)))) (codes ";"))
+        out.new result }
 {
     print_expression(ast, assignment.lhs, depth, out)?;
     out.word(sign)?;
@@ -48,7 +53,11 @@ pub(crate) fn print_continuous(
 ) -> Result<(), PrintFault>
     requires lhs { OwnsExpr (bench ast.now) assignment.now.lhs }
     requires rhs { OwnsExpr (bench ast.now) assignment.now.rhs }
-    ensures { Writes (hang depth (Wet out.old) (statement_page (AssignTree Continuous (tree_of (bench ast.now) assignment.now.lhs) (tree_of (bench ast.now) assignment.now.rhs)))) out.new result }
+    ensures { Writes
+        (hang depth (Wet out.old)
+        (statement_page
+        (AssignTree Continuous (tree_of (bench ast.now) assignment.now.lhs)
+        (tree_of (bench ast.now) assignment.now.rhs)))) out.new result }
 {
     out.next(depth)?;
     out.word("assign ")?;
@@ -64,7 +73,11 @@ pub(crate) fn print_assigned(
     out: &mut Writer,
 ) -> Result<(), PrintFault>
     requires { OwnsStatement (bench ast.now) s }
-    ensures { Writes (pour depth (Wet out.old) (statement_page (assigned_tree (bench ast.now) (slice_get (bench ast.now).assignments (statement_index s))))) out.new result }
+    ensures { Writes
+        (pour depth (Wet out.old)
+        (statement_page
+        (assigned_tree (bench ast.now)
+        (slice_get (bench ast.now).assignments (statement_index s))))) out.new result }
 {
     let assignment = ast.assignment(s);
     print_sides(

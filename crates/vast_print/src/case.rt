@@ -33,7 +33,10 @@ pub(crate) fn print_case(
 ) -> Result<(), PrintFault>
     requires owned { OwnsCase (bench ast.now) c }
     requires room { HasRoom depth (case_index c) }
-    ensures { Writes (hang depth (Wet out.old) (statement_page (switch_statement (families (bench ast.now) (case_index c))))) out.new result }
+    ensures { Writes
+        (hang depth (Wet out.old)
+        (statement_page (switch_statement (families (bench ast.now) (case_index c))))) out.new
+        result }
 {
     let node = ast.case(c);
     print_selector(ast, node, depth, out)?;
@@ -58,7 +61,10 @@ fn print_arm(
     requires label { IfSome arm.label (OwnsExpr (bench ast.now)) }
     requires block { OwnsBlock (bench ast.now) arm.block }
     requires room { HasRoom depth (block_index arm.block) }
-    ensures { Writes (hang depth (Wet out.old) (arm_page kind (maybe_tree_of (bench ast.now) arm.label) (block_tree (bench ast.now) arm.block))) out.new result }
+    ensures { Writes
+        (hang depth (Wet out.old)
+        (arm_page kind (maybe_tree_of (bench ast.now) arm.label)
+        (block_tree (bench ast.now) arm.block))) out.new result }
 {
     print_label(ast, arm.label, depth, out)?;
     match bare_assignment(kind, ast.block(arm.block)) {
@@ -76,7 +82,12 @@ fn print_selector(
     out: &mut Writer,
 ) -> Result<(), PrintFault>
     requires { OwnsExpr (bench ast.now) node.now.selector }
-    ensures { Writes (word (pour depth (word (word (next depth (Wet out.old)) (unique_word node.now.unique)) (case_word node.now.kind)) (written (expr_text (tree_of (bench ast.now) node.now.selector)))) (codes ")")) out.new result }
+    ensures { Writes
+        (word (pour depth
+        (word (word (next depth (Wet out.old)) (unique_word node.now.unique))
+        (case_word node.now.kind))
+        (written (expr_text (tree_of (bench ast.now) node.now.selector)))) (codes ")"))
+        out.new result }
 {
     out.next(depth)?;
     out.word(words::unique(node.unique))?;
@@ -95,7 +106,10 @@ fn print_label(
     out: &mut Writer,
 ) -> Result<(), PrintFault>
     requires { IfSome label (OwnsExpr (bench ast.now)) }
-    ensures { Writes (pour depth (next depth (Wet out.old)) (written (label_text (maybe_tree_of (bench ast.now) label) ⊕ plain_text (codes ": ")))) out.new result }
+    ensures { Writes
+        (pour depth (next depth (Wet out.old))
+        (written (label_text (maybe_tree_of (bench ast.now) label) ⊕ plain_text (codes ": "))))
+        out.new result }
 {
     out.next(depth)?;
     match label {

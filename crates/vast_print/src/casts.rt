@@ -27,7 +27,12 @@ pub(crate) fn begin_width_cast(
     requires width { OwnsExpr (bench ast.now) width }
     requires operand { OwnsExpr (bench ast.now) operand }
     requires owned { PiecesOwned (bench ast.now) work.old.items }
-    ensures { Begins (bench ast.now) depth out.old out.new work.old.items work.new.items (expr_text (WidthCastTree (tree_of (bench ast.now) width) (tree_of (bench ast.now) operand))) (expr_weight (WidthCastTree (tree_of (bench ast.now) width) (tree_of (bench ast.now) operand))) result }
+    ensures { Begins (bench ast.now) depth out.old out.new work.old.items work.new.items
+        (expr_text
+        (WidthCastTree (tree_of (bench ast.now) width) (tree_of (bench ast.now) operand)))
+        (expr_weight
+        (WidthCastTree (tree_of (bench ast.now) width) (tree_of (bench ast.now) operand)))
+        result }
 {
     push_plain(ast, ")", work)?;
     push_part(ast, operand, false, work)?;
@@ -47,7 +52,9 @@ fn begin_scalar_cast(
 ) -> Result<(), PrintFault>
     requires operand { OwnsExpr (bench ast.now) operand }
     requires owned { PiecesOwned (bench ast.now) work.old.items }
-    ensures { Begins (bench ast.now) depth out.old out.new work.old.items work.new.items (expr_text (TypeCastTree (ScalarTree signed) (tree_of (bench ast.now) operand))) (expr_weight (TypeCastTree (ScalarTree signed) (tree_of (bench ast.now) operand))) result }
+    ensures { Begins (bench ast.now) depth out.old out.new work.old.items work.new.items
+        (expr_text (TypeCastTree (ScalarTree signed) (tree_of (bench ast.now) operand)))
+        (expr_weight (TypeCastTree (ScalarTree signed) (tree_of (bench ast.now) operand))) result }
 {
     out.word(scalar_cast(signed))?;
     push_plain(ast, scalar_cast_end(signed), work)?;
@@ -66,7 +73,9 @@ fn begin_integer_cast(
 ) -> Result<(), PrintFault>
     requires operand { OwnsExpr (bench ast.now) operand }
     requires owned { PiecesOwned (bench ast.now) work.old.items }
-    ensures { Begins (bench ast.now) depth out.old out.new work.old.items work.new.items (expr_text (TypeCastTree (IntegerTree signed) (tree_of (bench ast.now) operand))) (expr_weight (TypeCastTree (IntegerTree signed) (tree_of (bench ast.now) operand))) result }
+    ensures { Begins (bench ast.now) depth out.old out.new work.old.items work.new.items
+        (expr_text (TypeCastTree (IntegerTree signed) (tree_of (bench ast.now) operand)))
+        (expr_weight (TypeCastTree (IntegerTree signed) (tree_of (bench ast.now) operand))) result }
 {
     out.word(integer_cast(signed))?;
     push_plain(ast, number_cast_end(signed), work)?;
@@ -85,7 +94,9 @@ fn begin_int_cast(
 ) -> Result<(), PrintFault>
     requires operand { OwnsExpr (bench ast.now) operand }
     requires owned { PiecesOwned (bench ast.now) work.old.items }
-    ensures { Begins (bench ast.now) depth out.old out.new work.old.items work.new.items (expr_text (TypeCastTree (IntTree signed) (tree_of (bench ast.now) operand))) (expr_weight (TypeCastTree (IntTree signed) (tree_of (bench ast.now) operand))) result }
+    ensures { Begins (bench ast.now) depth out.old out.new work.old.items work.new.items
+        (expr_text (TypeCastTree (IntTree signed) (tree_of (bench ast.now) operand)))
+        (expr_weight (TypeCastTree (IntTree signed) (tree_of (bench ast.now) operand))) result }
 {
     out.word(int_cast(signed))?;
     push_plain(ast, number_cast_end(signed), work)?;
@@ -104,7 +115,10 @@ fn begin_external_cast(
 ) -> Result<(), PrintFault>
     requires operand { OwnsExpr (bench ast.now) operand }
     requires owned { PiecesOwned (bench ast.now) work.old.items }
-    ensures { Begins (bench ast.now) depth out.old out.new work.old.items work.new.items (expr_text (TypeCastTree (ExternalTree name.now) (tree_of (bench ast.now) operand))) (expr_weight (TypeCastTree (ExternalTree name.now) (tree_of (bench ast.now) operand))) result }
+    ensures { Begins (bench ast.now) depth out.old out.new work.old.items work.new.items
+        (expr_text (TypeCastTree (ExternalTree name.now) (tree_of (bench ast.now) operand)))
+        (expr_weight (TypeCastTree (ExternalTree name.now) (tree_of (bench ast.now) operand)))
+        result }
 {
     out.written(depth, name)?;
     out.word("'(")?;
@@ -125,7 +139,13 @@ fn begin_package_cast(
 ) -> Result<(), PrintFault>
     requires operand { OwnsExpr (bench ast.now) operand }
     requires owned { PiecesOwned (bench ast.now) work.old.items }
-    ensures { Begins (bench ast.now) depth out.old out.new work.old.items work.new.items (expr_text (TypeCastTree (PackageTree package_name.now name.now) (tree_of (bench ast.now) operand))) (expr_weight (TypeCastTree (PackageTree package_name.now name.now) (tree_of (bench ast.now) operand))) result }
+    ensures { Begins (bench ast.now) depth out.old out.new work.old.items work.new.items
+        (expr_text
+        (TypeCastTree (PackageTree package_name.now name.now)
+        (tree_of (bench ast.now) operand)))
+        (expr_weight
+        (TypeCastTree (PackageTree package_name.now name.now)
+        (tree_of (bench ast.now) operand))) result }
 {
     out.written(depth, package_name)?;
     out.word("::")?;
@@ -149,7 +169,12 @@ pub(crate) fn begin_type_cast(
     requires data_type { OwnsType (bench ast.now) data_type }
     requires operand { OwnsExpr (bench ast.now) operand }
     requires owned { PiecesOwned (bench ast.now) work.old.items }
-    ensures { Begins (bench ast.now) depth out.old out.new work.old.items work.new.items (expr_text (TypeCastTree (type_of (bench ast.now) data_type) (tree_of (bench ast.now) operand))) (expr_weight (TypeCastTree (type_of (bench ast.now) data_type) (tree_of (bench ast.now) operand))) result }
+    ensures { Begins (bench ast.now) depth out.old out.new work.old.items work.new.items
+        (expr_text
+        (TypeCastTree (type_of (bench ast.now) data_type) (tree_of (bench ast.now) operand)))
+        (expr_weight
+        (TypeCastTree (type_of (bench ast.now) data_type) (tree_of (bench ast.now) operand)))
+        result }
 {
     match ast.data_type(data_type) {
         TypeNode::Scalar(signed) => begin_scalar_cast(ast, *signed, operand, depth, out, work),

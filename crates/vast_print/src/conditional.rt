@@ -28,7 +28,10 @@ pub(crate) fn print_conditional(
 ) -> Result<(), PrintFault>
     requires owned { OwnsConditional (bench ast.now) c }
     requires room { HasRoom depth (conditional_index c) }
-    ensures { Writes (hang depth (Wet out.old) (statement_page (branch_statement (families (bench ast.now) (conditional_index c))))) out.new result }
+    ensures { Writes
+        (hang depth (Wet out.old)
+        (statement_page (branch_statement (families (bench ast.now) (conditional_index c)))))
+        out.new result }
 {
     let node = ast.conditional(c);
     out.next(depth)?;
@@ -57,7 +60,10 @@ fn print_condition(
     out: &mut Writer,
 ) -> Result<(), PrintFault>
     requires { OwnsExpr (bench ast.now) condition }
-    ensures { Writes (word (pour depth (word (Wet out.old) opening.now) (written (expr_text (tree_of (bench ast.now) condition)))) (codes ") ")) out.new result }
+    ensures { Writes
+        (word (pour depth (word (Wet out.old) opening.now)
+        (written (expr_text (tree_of (bench ast.now) condition)))) (codes ") ")) out.new
+        result }
 {
     out.word(opening)?;
     print_expression(ast, condition, depth, out)?;

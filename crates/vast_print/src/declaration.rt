@@ -53,7 +53,10 @@ pub(crate) fn print_declaration(
     out: &mut Writer,
 ) -> Result<(), PrintFault>
     requires { OwnsType (bench ast.now) data_type }
-    ensures { Writes (pour depth (Wet out.old) (written (declaration_text (bench ast.now).file_type kind (type_of (bench ast.now) data_type) name.now))) out.new result }
+    ensures { Writes
+        (pour depth (Wet out.old)
+        (written (declaration_text (bench ast.now).file_type kind
+        (type_of (bench ast.now) data_type) name.now))) out.new result }
 {
     out.word(kind_opening(kind))?;
     print_type(ast, data_type, depth, out)?;
@@ -82,7 +85,10 @@ pub(crate) fn print_port(
     out: &mut Writer,
 ) -> Result<(), PrintFault>
     requires { OwnsType (bench ast.now) port.now.data_type }
-    ensures { Writes (pour depth (Wet out.old) (written (port_text (bench ast.now).file_type (declared_port (bench ast.now) (port_record port.now))))) out.new result }
+    ensures { Writes
+        (pour depth (Wet out.old)
+        (written (port_text (bench ast.now).file_type
+        (declared_port (bench ast.now) (port_record port.now))))) out.new result }
 {
     let kind = port_kind(ast, port.kind, port.data_type);
     out.word(direction_word(port.direction))?;

@@ -27,7 +27,8 @@ pub(crate) fn print_expression(
     out: &mut Writer,
 ) -> Result<(), PrintFault>
     requires { OwnsExpr (bench ast.now) e }
-    ensures { Writes (pour depth (Wet out.old) (written (expr_text (tree_of (bench ast.now) e)))) out.new result }
+    ensures { Writes (pour depth (Wet out.old) (written (expr_text (tree_of (bench ast.now) e))))
+        out.new result }
 {
     print_wrapped(ast, e, false, depth, out)
 }
@@ -42,7 +43,9 @@ pub(crate) fn print_wrapped(
     out: &mut Writer,
 ) -> Result<(), PrintFault>
     requires { OwnsExpr (bench ast.now) e }
-    ensures { Writes (pour depth (Wet out.old) (written (wrapped wraps (expr_text (tree_of (bench ast.now) e))))) out.new result }
+    ensures { Writes
+        (pour depth (Wet out.old) (written (wrapped wraps (expr_text (tree_of (bench ast.now) e)))))
+        out.new result }
 {
     let mut work = Vec::new(ast.allocator());
     push_part(ast, e, wraps, &mut work)?;
@@ -63,7 +66,8 @@ fn print_piece(
 ) -> Result<(), PrintFault>
     requires piece { PieceOwned (bench ast.now) piece }
     requires owned { PiecesOwned (bench ast.now) work.old.items }
-    ensures { Begins (bench ast.now) depth out.old out.new work.old.items work.new.items (piece_text (bench ast.now) piece) (piece_weight (bench ast.now) piece) result }
+    ensures { Begins (bench ast.now) depth out.old out.new work.old.items work.new.items
+        (piece_text (bench ast.now) piece) (piece_weight (bench ast.now) piece) result }
 {
     match piece {
         Piece::Plain(text) => {
@@ -90,7 +94,9 @@ fn begin_part(
 ) -> Result<(), PrintFault>
     requires part { OwnsExpr (bench ast.now) e }
     requires owned { PiecesOwned (bench ast.now) work.old.items }
-    ensures { Begins (bench ast.now) depth out.old out.new work.old.items work.new.items (wrapped wraps (expr_text (tree_of (bench ast.now) e))) (expr_weight (tree_of (bench ast.now) e) + 1) result }
+    ensures { Begins (bench ast.now) depth out.old out.new work.old.items work.new.items
+        (wrapped wraps (expr_text (tree_of (bench ast.now) e)))
+        (expr_weight (tree_of (bench ast.now) e) + 1) result }
 {
     if wraps {
         out.word("(")?;
@@ -112,7 +118,8 @@ fn begin(
 ) -> Result<(), PrintFault>
     requires part { OwnsExpr (bench ast.now) e }
     requires owned { PiecesOwned (bench ast.now) work.old.items }
-    ensures { Begins (bench ast.now) depth out.old out.new work.old.items work.new.items (expr_text (tree_of (bench ast.now) e)) (expr_weight (tree_of (bench ast.now) e)) result }
+    ensures { Begins (bench ast.now) depth out.old out.new work.old.items work.new.items
+        (expr_text (tree_of (bench ast.now) e)) (expr_weight (tree_of (bench ast.now) e)) result }
 {
     match ast.expr(e) {
         ExprNode::Name(text, _) => out.written(depth, text)?,

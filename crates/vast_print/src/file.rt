@@ -25,7 +25,9 @@ use vast_literal::{VastError, VastFault};
 /// Writes the inclusion of a file.
 #[tactic(auto, using(crate::proofs::ArenaLaws::items))]
 fn print_include(ast: &Ast, path: &str, out: &mut Writer) -> Result<(), PrintFault>
-    ensures { Writes (hang 0 (Wet out.old) (item_page (bench ast.now).file_type (IncludeItem path.now))) out.new result }
+    ensures { Writes
+        (hang 0 (Wet out.old) (item_page (bench ast.now).file_type (IncludeItem path.now))) out.new
+        result }
 {
     out.next(0)?;
     out.word("`include \"")?;
@@ -38,7 +40,10 @@ fn print_include(ast: &Ast, path: &str, out: &mut Writer) -> Result<(), PrintFau
 #[tactic(auto, using(crate::proofs::ArenaLaws::items))]
 fn print_item(ast: &Ast, item: &FileItem, out: &mut Writer) -> Result<(), PrintFault>
     requires { EntrySound (bench ast.now) (file_entry item.now) }
-    ensures { Writes (hang 0 (Wet out.old) (item_page (bench ast.now).file_type (item_tree (bench ast.now) (file_entry item.now)))) out.new result }
+    ensures { Writes
+        (hang 0 (Wet out.old)
+        (item_page (bench ast.now).file_type (item_tree (bench ast.now) (file_entry item.now))))
+        out.new result }
 {
     match item {
         FileItem::Module(m) => print_module(ast, *m, out),
@@ -78,7 +83,8 @@ fn fault_of(alloc: Global, fault: PrintFault) -> VastFault
 /// The first refusal in the order of the text, a wrong select of a named scalar; or want of memory.
 pub fn print_file(ast: &Ast) -> Result<String, VastFault>
     ensures text { Emits (layout (tree (bench ast.now))) result }
-    ensures derived { IfOk result (λ text. FileDerivesIfPlain (string_bytes text) (tree (bench ast.now))) }
+    ensures derived { IfOk result
+        (λ text. FileDerivesIfPlain (string_bytes text) (tree (bench ast.now))) }
 {
     ast.file_is_well_formed();
     let alloc = ast.allocator();
@@ -97,7 +103,8 @@ pub fn print_file(ast: &Ast) -> Result<String, VastFault>
 pub fn print_expr(ast: &Ast, e: Expr) -> Result<String, VastFault>
     requires { OwnsExpr (bench ast.now) e }
     ensures text { EmitsText (expr_text (tree_of (bench ast.now) e)) result }
-    ensures derived { IfOk result (λ text. DerivesIfPlain (string_bytes text) (tree_of (bench ast.now) e)) }
+    ensures derived { IfOk result
+        (λ text. DerivesIfPlain (string_bytes text) (tree_of (bench ast.now) e)) }
 {
     ast.trees_are_well_formed();
     let alloc = ast.allocator();
@@ -110,7 +117,9 @@ pub fn print_expr(ast: &Ast, e: Expr) -> Result<String, VastFault>
 
 fn print_line(ast: &Ast, e: Expr, out: &mut Writer) -> Result<(), PrintFault>
     requires { OwnsExpr (bench ast.now) e }
-    ensures { Writes (pour 0 (next 0 (Wet out.old)) (written (expr_text (tree_of (bench ast.now) e)))) out.new result }
+    ensures { Writes
+        (pour 0 (next 0 (Wet out.old)) (written (expr_text (tree_of (bench ast.now) e)))) out.new
+        result }
 {
     out.next(0)?;
     print_expression(ast, e, 0, out)

@@ -59,7 +59,10 @@ fn print_input(
     out: &mut Writer,
 ) -> Result<(), PrintFault>
     requires { VariableSound (bench ast.now) (variable_record input.now) }
-    ensures { Writes (pour depth (Wet out.old) (written (input_text (bench ast.now).file_type (variable_tree (bench ast.now) (variable_record input.now))))) out.new result }
+    ensures { Writes
+        (pour depth (Wet out.old)
+        (written (input_text (bench ast.now).file_type
+        (variable_tree (bench ast.now) (variable_record input.now))))) out.new result }
 {
     let kind = port_kind(ast, input.kind, input.data_type);
     out.word("input ")?;
@@ -74,7 +77,11 @@ fn print_inputs(
     out: &mut Writer,
 ) -> Result<(), PrintFault>
     requires { All (λ v. VariableSound (bench ast.now) (variable_record v)) inputs.now }
-    ensures { Writes (pour depth (Wet out.old) (written (inputs_text (bench ast.now).file_type (map (variable_tree (bench ast.now)) (map variable_record inputs.now))))) out.new result }
+    ensures { Writes
+        (pour depth (Wet out.old)
+        (written (inputs_text (bench ast.now).file_type
+        (map (variable_tree (bench ast.now)) (map variable_record inputs.now))))) out.new
+        result }
 {
     for (i, input) in inputs.iter().enumerate() {
         out.word(words::comma_before(i))?;
@@ -92,7 +99,10 @@ fn print_local(
     out: &mut Writer,
 ) -> Result<(), PrintFault>
     requires { VariableSound (bench ast.now) (variable_record local.now) }
-    ensures { Writes (hang depth (Wet out.old) (local_page (bench ast.now).file_type (variable_tree (bench ast.now) (variable_record local.now)))) out.new result }
+    ensures { Writes
+        (hang depth (Wet out.old)
+        (local_page (bench ast.now).file_type
+        (variable_tree (bench ast.now) (variable_record local.now)))) out.new result }
 {
     out.next(depth)?;
     print_declaration(ast, local.kind, local.data_type, &local.name, depth, out)?;
@@ -108,7 +118,11 @@ fn print_locals(
     out: &mut Writer,
 ) -> Result<(), PrintFault>
     requires { All (λ v. VariableSound (bench ast.now) (variable_record v)) locals.now }
-    ensures { Writes (hang depth (Wet out.old) (locals_page (bench ast.now).file_type (map (variable_tree (bench ast.now)) (map variable_record locals.now)))) out.new result }
+    ensures { Writes
+        (hang depth (Wet out.old)
+        (locals_page (bench ast.now).file_type
+        (map (variable_tree (bench ast.now)) (map variable_record locals.now)))) out.new
+        result }
 {
     for local in locals {
         print_local(ast, local, depth, out)?;
@@ -149,7 +163,8 @@ fn print_body(
 ) -> Result<(), PrintFault>
     requires owned { OwnsBlock (bench ast.now) b }
     requires room { HasRoom depth (block_index b) }
-    ensures { Writes (hang depth (Wet out.old) (function_body_page (block_tree (bench ast.now) b))) out.new result }
+    ensures { Writes (hang depth (Wet out.old) (function_body_page (block_tree (bench ast.now) b)))
+        out.new result }
 {
     if is_one_casez(ast, b) {
         print_statements(ast, b, depth, out)
@@ -168,7 +183,10 @@ fn print_result(
     out: &mut Writer,
 ) -> Result<(), PrintFault>
     requires { OwnsType (bench ast.now) t }
-    ensures { Writes (pour depth (Wet out.old) (written (result_text (bench ast.now).file_type (type_of (bench ast.now) t) name.now))) out.new result }
+    ensures { Writes
+        (pour depth (Wet out.old)
+        (written (result_text (bench ast.now).file_type (type_of (bench ast.now) t) name.now)))
+        out.new result }
 {
     print_declaration(ast, result_kind(ast, t), t, name, depth, out)
 }
@@ -183,7 +201,11 @@ pub(crate) fn print_function(
 ) -> Result<(), PrintFault>
     requires owned { OwnsFunction (bench ast.now) f }
     requires room { depth < 2 ^ 62 }
-    ensures { Writes (hang depth (Wet out.old) (member_page (bench ast.now).file_type (function_in (bench ast.now) (families (bench ast.now)) (slice_get (bench ast.now).functions (function_index f))))) out.new result }
+    ensures { Writes
+        (hang depth (Wet out.old)
+        (member_page (bench ast.now).file_type
+        (function_in (bench ast.now) (families (bench ast.now))
+        (slice_get (bench ast.now).functions (function_index f))))) out.new result }
 {
     let function = ast.function(f);
     out.next(depth)?;

@@ -31,7 +31,10 @@ pub(crate) fn print_loop(
 ) -> Result<(), PrintFault>
     requires owned { OwnsLoop (bench ast.now) l }
     requires room { HasRoom depth (loop_index l) }
-    ensures { Writes (hang depth (Wet out.old) (member_page (bench ast.now).file_type (repeat_member (families (bench ast.now) (loop_index l))))) out.new result }
+    ensures { Writes
+        (hang depth (Wet out.old)
+        (member_page (bench ast.now).file_type
+        (repeat_member (families (bench ast.now) (loop_index l))))) out.new result }
 {
     let node = ast.generate_loop(l);
     out.next(depth)?;
@@ -54,7 +57,11 @@ fn print_header(
 ) -> Result<(), PrintFault>
     requires start { OwnsExpr (bench ast.now) node.now.start }
     requires limit { OwnsExpr (bench ast.now) node.now.limit }
-    ensures { Writes (pour depth (Wet out.old) (written (loop_text (string_bytes node.now.name) (tree_of (bench ast.now) node.now.start) (tree_of (bench ast.now) node.now.limit) (label_bytes node.now.label)))) out.new result }
+    ensures { Writes
+        (pour depth (Wet out.old)
+        (written (loop_text (string_bytes node.now.name)
+        (tree_of (bench ast.now) node.now.start) (tree_of (bench ast.now) node.now.limit)
+        (label_bytes node.now.label)))) out.new result }
 {
     let wraps = right_wraps(ast, BinaryOperator::Lt, node.limit);
     out.word(words::for_genvar())?;
@@ -76,7 +83,8 @@ fn print_header(
 /// Writes a loop's label behind the last line.
 #[tactic(auto, using(crate::proofs::ContainerLaws::headers))]
 fn print_label(label: &Option<String>, depth: usize, out: &mut Writer) -> Result<(), PrintFault>
-    ensures { Writes (pour depth (Wet out.old) (written (loop_label_text (label_bytes label.now)))) out.new result }
+    ensures { Writes (pour depth (Wet out.old) (written (loop_label_text (label_bytes label.now))))
+        out.new result }
 {
     match label {
         Some(label) => {

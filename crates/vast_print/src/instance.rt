@@ -27,7 +27,11 @@ fn print_connection(
     out: &mut Writer,
 ) -> Result<(), PrintFault>
     requires { ConnectionSound (bench ast.now) (connection_record connection.now) }
-    ensures { Writes (pour depth (Wet out.old) (written (connection_text (connection_tree (bench ast.now) (connection_record connection.now))))) out.new result }
+    ensures { Writes
+        (pour depth (Wet out.old)
+        (written (connection_text
+        (connection_tree (bench ast.now) (connection_record connection.now))))) out.new
+        result }
 {
     out.word(".")?;
     out.written(depth, &connection.name)?;
@@ -49,9 +53,15 @@ fn print_entries(
     depth: usize,
     out: &mut Writer,
 ) -> Result<(), PrintFault>
-    requires owned { All (λ c. ConnectionSound (bench ast.now) (connection_record c)) connections.now }
+    requires owned { All (λ c. ConnectionSound (bench ast.now) (connection_record c))
+        connections.now }
     requires room { depth + 1 < 2 ^ 64 }
-    ensures { Writes (hang depth (Wet out.old) (entries_page (map connection_text (map (connection_tree (bench ast.now)) (map connection_record connections.now))))) out.new result }
+    ensures { Writes
+        (hang depth (Wet out.old)
+        (entries_page
+        (map connection_text
+        (map (connection_tree (bench ast.now)) (map connection_record connections.now)))))
+        out.new result }
 {
     for (i, connection) in connections.iter().enumerate() {
         out.next(depth + 1)?;
@@ -69,9 +79,15 @@ fn print_head(
     depth: usize,
     out: &mut Writer,
 ) -> Result<(), PrintFault>
-    requires owned { All (λ c. ConnectionSound (bench ast.now) (connection_record c)) instance.now.parameters.items }
+    requires owned { All (λ c. ConnectionSound (bench ast.now) (connection_record c))
+        instance.now.parameters.items }
     requires room { depth + 1 < 2 ^ 64 }
-    ensures { Writes (hang depth (Wet out.old) (instance_head_page (instance_record instance.now).module_name (map (connection_tree (bench ast.now)) (map connection_record instance.now.parameters.items)) (instance_record instance.now).instance_name)) out.new result }
+    ensures { Writes
+        (hang depth (Wet out.old)
+        (instance_head_page (instance_record instance.now).module_name
+        (map (connection_tree (bench ast.now))
+        (map connection_record instance.now.parameters.items))
+        (instance_record instance.now).instance_name)) out.new result }
 {
     out.next(depth)?;
     out.written(depth, &instance.module_name)?;
@@ -96,9 +112,14 @@ fn print_connections(
     depth: usize,
     out: &mut Writer,
 ) -> Result<(), PrintFault>
-    requires owned { All (λ c. ConnectionSound (bench ast.now) (connection_record c)) connections.now }
+    requires owned { All (λ c. ConnectionSound (bench ast.now) (connection_record c))
+        connections.now }
     requires room { depth + 1 < 2 ^ 64 }
-    ensures { Writes (hang depth (Wet out.old) (connections_page (map (connection_tree (bench ast.now)) (map connection_record connections.now)))) out.new result }
+    ensures { Writes
+        (hang depth (Wet out.old)
+        (connections_page
+        (map (connection_tree (bench ast.now)) (map connection_record connections.now))))
+        out.new result }
 {
     if connections.is_empty() {
         out.next(depth)?;
@@ -118,7 +139,10 @@ pub(crate) fn print_instance(
 ) -> Result<(), PrintFault>
     requires owned { OwnsInstantiation (bench ast.now) i }
     requires room { depth + 1 < 2 ^ 64 }
-    ensures { Writes (hang depth (Wet out.old) (member_page (bench ast.now).file_type (member_tree (bench ast.now) (InstanceEntry i)))) out.new result }
+    ensures { Writes
+        (hang depth (Wet out.old)
+        (member_page (bench ast.now).file_type (member_tree (bench ast.now) (InstanceEntry i))))
+        out.new result }
 {
     let instance = ast.instance(i);
     print_head(ast, instance, depth, out)?;

@@ -26,7 +26,12 @@ pub(crate) fn begin_concat(
     requires count { IfSome count (OwnsExpr (bench ast.now)) }
     requires parts { All (OwnsExpr (bench ast.now)) parts.now }
     requires owned { PiecesOwned (bench ast.now) work.old.items }
-    ensures { Begins (bench ast.now) depth out.old out.new work.old.items work.new.items (expr_text (ConcatTree (maybe_tree_of (bench ast.now) count) (trees_of (bench ast.now) parts.now))) (expr_weight (ConcatTree (maybe_tree_of (bench ast.now) count) (trees_of (bench ast.now) parts.now))) result }
+    ensures { Begins (bench ast.now) depth out.old out.new work.old.items work.new.items
+        (expr_text
+        (ConcatTree (maybe_tree_of (bench ast.now) count) (trees_of (bench ast.now) parts.now)))
+        (expr_weight
+        (ConcatTree (maybe_tree_of (bench ast.now) count) (trees_of (bench ast.now) parts.now)))
+        result }
 {
     out.word("{")?;
     push_plain(ast, "}", work)?;
@@ -52,7 +57,9 @@ pub(crate) fn begin_pattern(
 ) -> Result<(), PrintFault>
     requires parts { All (OwnsExpr (bench ast.now)) parts.now }
     requires owned { PiecesOwned (bench ast.now) work.old.items }
-    ensures { Begins (bench ast.now) depth out.old out.new work.old.items work.new.items (expr_text (PatternTree (trees_of (bench ast.now) parts.now))) (expr_weight (PatternTree (trees_of (bench ast.now) parts.now))) result }
+    ensures { Begins (bench ast.now) depth out.old out.new work.old.items work.new.items
+        (expr_text (PatternTree (trees_of (bench ast.now) parts.now)))
+        (expr_weight (PatternTree (trees_of (bench ast.now) parts.now))) result }
 {
     out.word("'{")?;
     push_plain(ast, "}", work)?;
@@ -69,9 +76,13 @@ pub(crate) fn begin_macro(
     out: &mut Writer,
     work: &mut Vec<Piece>,
 ) -> Result<(), PrintFault>
-    requires arguments { IfSome arguments.now (λ parts. All (OwnsExpr (bench ast.now)) parts.items) }
+    requires arguments { IfSome arguments.now
+        (λ parts. All (OwnsExpr (bench ast.now)) parts.items) }
     requires owned { PiecesOwned (bench ast.now) work.old.items }
-    ensures { Begins (bench ast.now) depth out.old out.new work.old.items work.new.items (expr_text (MacroTree name.now (maybe_exprs_in (bench ast.now).nodes arguments.now))) (expr_weight (MacroTree name.now (maybe_exprs_in (bench ast.now).nodes arguments.now))) result }
+    ensures { Begins (bench ast.now) depth out.old out.new work.old.items work.new.items
+        (expr_text (MacroTree name.now (maybe_exprs_in (bench ast.now).nodes arguments.now)))
+        (expr_weight (MacroTree name.now (maybe_exprs_in (bench ast.now).nodes arguments.now)))
+        result }
 {
     out.word("`")?;
     out.written(depth, name)?;
@@ -97,7 +108,9 @@ pub(crate) fn begin_call(
 ) -> Result<(), PrintFault>
     requires arguments { All (OwnsExpr (bench ast.now)) arguments.now }
     requires owned { PiecesOwned (bench ast.now) work.old.items }
-    ensures { Begins (bench ast.now) depth out.old out.new work.old.items work.new.items (expr_text (CallTree name.now (trees_of (bench ast.now) arguments.now))) (expr_weight (CallTree name.now (trees_of (bench ast.now) arguments.now))) result }
+    ensures { Begins (bench ast.now) depth out.old out.new work.old.items work.new.items
+        (expr_text (CallTree name.now (trees_of (bench ast.now) arguments.now)))
+        (expr_weight (CallTree name.now (trees_of (bench ast.now) arguments.now))) result }
 {
     out.written(depth, name)?;
     out.word("(")?;

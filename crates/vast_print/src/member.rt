@@ -38,7 +38,10 @@ fn print_variable(
     out: &mut Writer,
 ) -> Result<(), PrintFault>
     requires { OwnsType (bench ast.now) t }
-    ensures { Writes (hang depth (Wet out.old) (member_page (bench ast.now).file_type (DeclarationMember (declared (bench ast.now) kind name.now t)))) out.new result }
+    ensures { Writes
+        (hang depth (Wet out.old)
+        (member_page (bench ast.now).file_type
+        (DeclarationMember (declared (bench ast.now) kind name.now t)))) out.new result }
 {
     out.next(depth)?;
     print_declaration(ast, kind, t, name, depth, out)?;
@@ -56,7 +59,11 @@ fn print_macro(
     out: &mut Writer,
 ) -> Result<(), PrintFault>
     requires { OwnsMacroRef (bench ast.now) call }
-    ensures { Writes (hang depth (Wet out.old) (member_page (bench ast.now).file_type (MacroMember (tree_of (bench ast.now) (macro_ref_to_expr call)) semicolon))) out.new result }
+    ensures { Writes
+        (hang depth (Wet out.old)
+        (member_page (bench ast.now).file_type
+        (MacroMember (tree_of (bench ast.now) (macro_ref_to_expr call)) semicolon))) out.new
+        result }
 {
     out.next(depth)?;
     print_expression(ast, call.to_expr(), depth, out)?;
@@ -75,7 +82,10 @@ pub(crate) fn print_member(
 ) -> Result<(), PrintFault>
     requires owned { MemberSound (bench ast.now) (member_entry member.now) }
     requires room { MemberFits (bench ast.now) depth (member_entry member.now) }
-    ensures { Writes (hang depth (Wet out.old) (member_page (bench ast.now).file_type (member_tree (bench ast.now) (member_entry member.now)))) out.new result }
+    ensures { Writes
+        (hang depth (Wet out.old)
+        (member_page (bench ast.now).file_type
+        (member_tree (bench ast.now) (member_entry member.now)))) out.new result }
 {
     match member {
         Member::Declaration(kind, name, t) => print_variable(ast, *kind, name, *t, depth, out),
@@ -108,7 +118,10 @@ pub(crate) fn print_members(
 ) -> Result<(), PrintFault>
     requires owned { All (λ m. MemberSound (bench ast.now) (member_entry m)) members.now }
     requires room { depth < 2 ^ 62 }
-    ensures { Writes (hang depth (Wet out.old) (members_page (bench ast.now).file_type (members_tree (bench ast.now) (map member_entry members.now)))) out.new result }
+    ensures { Writes
+        (hang depth (Wet out.old)
+        (members_page (bench ast.now).file_type
+        (members_tree (bench ast.now) (map member_entry members.now)))) out.new result }
 {
     for member in members {
         print_member(ast, member, depth, out)?;

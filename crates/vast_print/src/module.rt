@@ -27,7 +27,10 @@ fn print_listed_port(
     out: &mut Writer,
 ) -> Result<(), PrintFault>
     requires { OwnsPort (bench ast.now) p }
-    ensures { Writes (pour depth (Wet out.old) (written (port_text (bench ast.now).file_type (port_tree (bench ast.now) p)))) out.new result }
+    ensures { Writes
+        (pour depth (Wet out.old)
+        (written (port_text (bench ast.now).file_type (port_tree (bench ast.now) p)))) out.new
+        result }
 {
     let port = ast.port(p);
     print_port(ast, port, depth, out)
@@ -43,7 +46,10 @@ fn print_ports(
 ) -> Result<(), PrintFault>
     requires owned { All (OwnsPort (bench ast.now)) ports.now }
     requires room { depth < 2 ^ 63 }
-    ensures { Writes (hang depth (Wet out.old) (ports_page (bench ast.now).file_type (map (port_tree (bench ast.now)) ports.now))) out.new result }
+    ensures { Writes
+        (hang depth (Wet out.old)
+        (ports_page (bench ast.now).file_type (map (port_tree (bench ast.now)) ports.now)))
+        out.new result }
 {
     for (i, port) in ports.iter().enumerate() {
         out.next(depth + 1)?;
@@ -55,7 +61,9 @@ fn print_ports(
 
 /// Writes the words before a header's first list, or before the end of a header without lists.
 fn print_opening(name: &str, end: &str, out: &mut Writer) -> Result<(), PrintFault>
-    ensures { Writes (word (pour 0 (word (next 0 (Wet out.old)) (codes "module ")) (written (plain_text name.now))) end.now) out.new result }
+    ensures { Writes
+        (word (pour 0 (word (next 0 (Wet out.old)) (codes "module "))
+        (written (plain_text name.now))) end.now) out.new result }
 {
     out.next(0)?;
     out.word("module ")?;
@@ -67,9 +75,15 @@ fn print_opening(name: &str, end: &str, out: &mut Writer) -> Result<(), PrintFau
 /// Writes a module's header; a list that is empty isn't written.
 #[tactic(auto, using(crate::proofs::ArenaLaws::modules))]
 fn print_header(ast: &Ast, node: &Module, out: &mut Writer) -> Result<(), PrintFault>
-    requires parameters { All (λ p. ParameterPortSound (bench ast.now) (parameter_port_record p)) node.now.parameters.items }
+    requires parameters { All (λ p. ParameterPortSound (bench ast.now) (parameter_port_record p))
+        node.now.parameters.items }
     requires ports { All (OwnsPort (bench ast.now)) node.now.ports.items }
-    ensures { Writes (hang 0 (Wet out.old) (header_page (bench ast.now).file_type (module_record node.now).name (map (parameter_port_tree (bench ast.now)) (map parameter_port_record node.now.parameters.items)) (map (port_tree (bench ast.now)) node.now.ports.items))) out.new result }
+    ensures { Writes
+        (hang 0 (Wet out.old)
+        (header_page (bench ast.now).file_type (module_record node.now).name
+        (map (parameter_port_tree (bench ast.now))
+        (map parameter_port_record node.now.parameters.items))
+        (map (port_tree (bench ast.now)) node.now.ports.items))) out.new result }
 {
     if !node.parameters.is_empty() {
         print_opening(&node.name, " #(", out)?;
@@ -96,7 +110,10 @@ fn print_header(ast: &Ast, node: &Module, out: &mut Writer) -> Result<(), PrintF
 #[tactic(auto, using(crate::proofs::ArenaLaws::modules))]
 fn print_body(ast: &Ast, members: &[Member], out: &mut Writer) -> Result<(), PrintFault>
     requires { All (λ m. MemberSound (bench ast.now) (member_entry m)) members.now }
-    ensures { Writes (hang 0 (Wet out.old) (body_page (bench ast.now).file_type (members_tree (bench ast.now) (map member_entry members.now)))) out.new result }
+    ensures { Writes
+        (hang 0 (Wet out.old)
+        (body_page (bench ast.now).file_type
+        (members_tree (bench ast.now) (map member_entry members.now)))) out.new result }
 {
     if members.is_empty() {
         out.next(0)?;
@@ -109,10 +126,15 @@ fn print_body(ast: &Ast, members: &[Member], out: &mut Writer) -> Result<(), Pri
 /// Writes a module: its header, its members and its end.
 #[tactic(auto, using(crate::proofs::ArenaLaws::modules))]
 fn print_parts(ast: &Ast, node: &Module, out: &mut Writer) -> Result<(), PrintFault>
-    requires parameters { All (λ p. ParameterPortSound (bench ast.now) (parameter_port_record p)) node.now.parameters.items }
+    requires parameters { All (λ p. ParameterPortSound (bench ast.now) (parameter_port_record p))
+        node.now.parameters.items }
     requires ports { All (OwnsPort (bench ast.now)) node.now.ports.items }
-    requires members { All (λ m. MemberSound (bench ast.now) (member_entry m)) node.now.members.items }
-    ensures { Writes (hang 0 (Wet out.old) (module_page (bench ast.now).file_type (module_tree (bench ast.now) (module_record node.now)))) out.new result }
+    requires members { All (λ m. MemberSound (bench ast.now) (member_entry m))
+        node.now.members.items }
+    ensures { Writes
+        (hang 0 (Wet out.old)
+        (module_page (bench ast.now).file_type
+        (module_tree (bench ast.now) (module_record node.now)))) out.new result }
 {
     print_header(ast, node, out)?;
     print_body(ast, &node.members, out)?;
@@ -124,7 +146,10 @@ fn print_parts(ast: &Ast, node: &Module, out: &mut Writer) -> Result<(), PrintFa
 /// Writes a module of the file.
 pub(crate) fn print_module(ast: &Ast, m: VastModule, out: &mut Writer) -> Result<(), PrintFault>
     requires { OwnsModule (bench ast.now) m }
-    ensures { Writes (hang 0 (Wet out.old) (item_page (bench ast.now).file_type (item_tree (bench ast.now) (ModuleEntry m)))) out.new result }
+    ensures { Writes
+        (hang 0 (Wet out.old)
+        (item_page (bench ast.now).file_type (item_tree (bench ast.now) (ModuleEntry m))))
+        out.new result }
 {
     let module = ast.module(m);
     print_parts(ast, module, out)

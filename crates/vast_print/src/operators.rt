@@ -23,7 +23,9 @@ pub(crate) fn begin_unary(
 ) -> Result<(), PrintFault>
     requires operand { OwnsExpr (bench ast.now) operand }
     requires owned { PiecesOwned (bench ast.now) work.old.items }
-    ensures { Begins (bench ast.now) depth out.old out.new work.old.items work.new.items (expr_text (UnaryTree operator (tree_of (bench ast.now) operand))) (expr_weight (UnaryTree operator (tree_of (bench ast.now) operand))) result }
+    ensures { Begins (bench ast.now) depth out.old out.new work.old.items work.new.items
+        (expr_text (UnaryTree operator (tree_of (bench ast.now) operand)))
+        (expr_weight (UnaryTree operator (tree_of (bench ast.now) operand))) result }
 {
     let wraps = unary_wraps(ast, operand);
     out.word(unary_sign(operator))?;
@@ -44,7 +46,12 @@ pub(crate) fn begin_binary(
     requires left { OwnsExpr (bench ast.now) left }
     requires right { OwnsExpr (bench ast.now) right }
     requires owned { PiecesOwned (bench ast.now) work.old.items }
-    ensures { Begins (bench ast.now) depth out.old out.new work.old.items work.new.items (expr_text (BinaryTree operator (tree_of (bench ast.now) left) (tree_of (bench ast.now) right))) (expr_weight (BinaryTree operator (tree_of (bench ast.now) left) (tree_of (bench ast.now) right))) result }
+    ensures { Begins (bench ast.now) depth out.old out.new work.old.items work.new.items
+        (expr_text
+        (BinaryTree operator (tree_of (bench ast.now) left) (tree_of (bench ast.now) right)))
+        (expr_weight
+        (BinaryTree operator (tree_of (bench ast.now) left) (tree_of (bench ast.now) right)))
+        result }
 {
     push_part(ast, right, right_wraps(ast, operator, right), work)?;
     push_plain(ast, binary_sign(operator), work)?;
@@ -66,7 +73,13 @@ pub(crate) fn begin_ternary(
     requires consequent { OwnsExpr (bench ast.now) consequent }
     requires alternate { OwnsExpr (bench ast.now) alternate }
     requires owned { PiecesOwned (bench ast.now) work.old.items }
-    ensures { Begins (bench ast.now) depth out.old out.new work.old.items work.new.items (expr_text (TernaryTree (tree_of (bench ast.now) condition) (tree_of (bench ast.now) consequent) (tree_of (bench ast.now) alternate))) (expr_weight (TernaryTree (tree_of (bench ast.now) condition) (tree_of (bench ast.now) consequent) (tree_of (bench ast.now) alternate))) result }
+    ensures { Begins (bench ast.now) depth out.old out.new work.old.items work.new.items
+        (expr_text
+        (TernaryTree (tree_of (bench ast.now) condition) (tree_of (bench ast.now) consequent)
+        (tree_of (bench ast.now) alternate)))
+        (expr_weight
+        (TernaryTree (tree_of (bench ast.now) condition) (tree_of (bench ast.now) consequent)
+        (tree_of (bench ast.now) alternate))) result }
 {
     push_part(ast, alternate, ternary_wraps(ast, alternate), work)?;
     push_plain(ast, " : ", work)?;
@@ -86,7 +99,9 @@ pub(crate) fn begin_posedge(
 ) -> Result<(), PrintFault>
     requires operand { OwnsExpr (bench ast.now) operand }
     requires owned { PiecesOwned (bench ast.now) work.old.items }
-    ensures { Begins (bench ast.now) depth out.old out.new work.old.items work.new.items (expr_text (PosEdgeTree (tree_of (bench ast.now) operand))) (expr_weight (PosEdgeTree (tree_of (bench ast.now) operand))) result }
+    ensures { Begins (bench ast.now) depth out.old out.new work.old.items work.new.items
+        (expr_text (PosEdgeTree (tree_of (bench ast.now) operand)))
+        (expr_weight (PosEdgeTree (tree_of (bench ast.now) operand))) result }
 {
     out.word("posedge ")?;
     push_part(ast, operand, false, work)?;
@@ -103,7 +118,9 @@ pub(crate) fn begin_negedge(
 ) -> Result<(), PrintFault>
     requires operand { OwnsExpr (bench ast.now) operand }
     requires owned { PiecesOwned (bench ast.now) work.old.items }
-    ensures { Begins (bench ast.now) depth out.old out.new work.old.items work.new.items (expr_text (NegEdgeTree (tree_of (bench ast.now) operand))) (expr_weight (NegEdgeTree (tree_of (bench ast.now) operand))) result }
+    ensures { Begins (bench ast.now) depth out.old out.new work.old.items work.new.items
+        (expr_text (NegEdgeTree (tree_of (bench ast.now) operand)))
+        (expr_weight (NegEdgeTree (tree_of (bench ast.now) operand))) result }
 {
     out.word("negedge ")?;
     push_part(ast, operand, false, work)?;

@@ -46,7 +46,11 @@ fn print_parameter_port(
     out: &mut Writer,
 ) -> Result<(), PrintFault>
     requires { ParameterPortSound (bench ast.now) (parameter_port_record parameter.now) }
-    ensures { Writes (pour depth (Wet out.old) (written (parameter_port_text (bench ast.now).file_type (parameter_port_tree (bench ast.now) (parameter_port_record parameter.now))))) out.new result }
+    ensures { Writes
+        (pour depth (Wet out.old)
+        (written (parameter_port_text (bench ast.now).file_type
+        (parameter_port_tree (bench ast.now) (parameter_port_record parameter.now)))))
+        out.new result }
 {
     let name = &parameter.name;
     out.word("parameter ")?;
@@ -65,9 +69,14 @@ pub(crate) fn print_parameter_ports(
     depth: usize,
     out: &mut Writer,
 ) -> Result<(), PrintFault>
-    requires owned { All (λ p. ParameterPortSound (bench ast.now) (parameter_port_record p)) parameters.now }
+    requires owned { All (λ p. ParameterPortSound (bench ast.now) (parameter_port_record p))
+        parameters.now }
     requires room { depth < 2 ^ 63 }
-    ensures { Writes (hang depth (Wet out.old) (parameter_ports_page (bench ast.now).file_type (map (parameter_port_tree (bench ast.now)) (map parameter_port_record parameters.now)))) out.new result }
+    ensures { Writes
+        (hang depth (Wet out.old)
+        (parameter_ports_page (bench ast.now).file_type
+        (map (parameter_port_tree (bench ast.now))
+        (map parameter_port_record parameters.now)))) out.new result }
 {
     for (i, parameter) in parameters.iter().enumerate() {
         out.next(depth + 1)?;
@@ -86,7 +95,10 @@ fn print_form(
     out: &mut Writer,
 ) -> Result<(), PrintFault>
     requires { FormSound (bench ast.now) (form_entry form.now) }
-    ensures { Writes (pour depth (Wet out.old) (written (parameter_text (bench ast.now).file_type (form_tree (bench ast.now) (form_entry form.now))))) out.new result }
+    ensures { Writes
+        (pour depth (Wet out.old)
+        (written (parameter_text (bench ast.now).file_type
+        (form_tree (bench ast.now) (form_entry form.now))))) out.new result }
 {
     match form {
         ParameterForm::Plain(name) => out.written(depth, name)?,
@@ -115,7 +127,11 @@ pub(crate) fn print_parameter(
 ) -> Result<(), PrintFault>
     requires form { FormSound (bench ast.now) (form_entry form.now) }
     requires value { OwnsExpr (bench ast.now) value }
-    ensures { Writes (hang depth (Wet out.old) (member_page (bench ast.now).file_type (ParameterMember local (form_tree (bench ast.now) (form_entry form.now)) (tree_of (bench ast.now) value)))) out.new result }
+    ensures { Writes
+        (hang depth (Wet out.old)
+        (member_page (bench ast.now).file_type
+        (ParameterMember local (form_tree (bench ast.now) (form_entry form.now))
+        (tree_of (bench ast.now) value)))) out.new result }
 {
     out.next(depth)?;
     out.word(words::parameter(local))?;

@@ -33,8 +33,12 @@ pub(crate) fn push_plain(
     work: &mut Vec<Piece>,
 ) -> Result<(), AllocError>
     requires { PiecesOwned (bench ast.now) work.old.items }
-    ensures text { OnOk result (pieces_text (bench ast.now) work.new.items ≡ plain_text text.now ⊕ pieces_text (bench ast.now) work.old.items) }
-    ensures weight { OnOk result (pieces_weight (bench ast.now) work.new.items ≡ pieces_weight (bench ast.now) work.old.items + 1) }
+    ensures text { OnOk result
+        (pieces_text (bench ast.now) work.new.items
+        ≡ plain_text text.now ⊕ pieces_text (bench ast.now) work.old.items) }
+    ensures weight { OnOk result
+        (pieces_weight (bench ast.now) work.new.items
+        ≡ pieces_weight (bench ast.now) work.old.items + 1) }
     ensures owned { OnOk result (PiecesOwned (bench ast.now) work.new.items) }
 {
     work.push(Piece::Plain(text))?;
@@ -44,8 +48,12 @@ pub(crate) fn push_plain(
 #[tactic(auto, using(crate::proofs::PieceLaws::pushes))]
 pub(crate) fn push_number(ast: &Ast, number: i64, work: &mut Vec<Piece>) -> Result<(), AllocError>
     requires { PiecesOwned (bench ast.now) work.old.items }
-    ensures text { OnOk result (pieces_text (bench ast.now) work.new.items ≡ plain_text (signed_decimal number) ⊕ pieces_text (bench ast.now) work.old.items) }
-    ensures weight { OnOk result (pieces_weight (bench ast.now) work.new.items ≡ pieces_weight (bench ast.now) work.old.items + 1) }
+    ensures text { OnOk result
+        (pieces_text (bench ast.now) work.new.items
+        ≡ plain_text (signed_decimal number) ⊕ pieces_text (bench ast.now) work.old.items) }
+    ensures weight { OnOk result
+        (pieces_weight (bench ast.now) work.new.items
+        ≡ pieces_weight (bench ast.now) work.old.items + 1) }
     ensures owned { OnOk result (PiecesOwned (bench ast.now) work.new.items) }
 {
     work.push(Piece::Number(number))?;
@@ -61,8 +69,14 @@ pub(crate) fn push_part(
 ) -> Result<(), AllocError>
     requires part { OwnsExpr (bench ast.now) e }
     requires owned { PiecesOwned (bench ast.now) work.old.items }
-    ensures text { OnOk result (pieces_text (bench ast.now) work.new.items ≡ wrapped wraps (expr_text (tree_of (bench ast.now) e)) ⊕ pieces_text (bench ast.now) work.old.items) }
-    ensures weight { OnOk result (pieces_weight (bench ast.now) work.new.items ≡ pieces_weight (bench ast.now) work.old.items + expr_weight (tree_of (bench ast.now) e) + 1) }
+    ensures text { OnOk result
+        (pieces_text (bench ast.now) work.new.items
+        ≡ wrapped wraps (expr_text (tree_of (bench ast.now) e)) ⊕ pieces_text (bench ast.now)
+        work.old.items) }
+    ensures weight { OnOk result
+        (pieces_weight (bench ast.now) work.new.items
+        ≡ pieces_weight (bench ast.now) work.old.items + expr_weight (tree_of (bench ast.now) e)
+        + 1) }
     ensures owned { OnOk result (PiecesOwned (bench ast.now) work.new.items) }
 {
     work.push(Piece::Part(e, wraps))?;
@@ -78,8 +92,15 @@ pub(crate) fn push_subject(
 ) -> Result<(), AllocError>
     requires part { OwnsExpr (bench ast.now) subject }
     requires owned { PiecesOwned (bench ast.now) work.old.items }
-    ensures text { OnOk result (pieces_text (bench ast.now) work.new.items ≡ wrapped (select_wraps (tree_of (bench ast.now) subject)) (expr_text (tree_of (bench ast.now) subject)) ⊕ (plain_text (codes "[") ⊕ pieces_text (bench ast.now) work.old.items)) }
-    ensures weight { OnOk result (pieces_weight (bench ast.now) work.new.items ≡ pieces_weight (bench ast.now) work.old.items + expr_weight (tree_of (bench ast.now) subject) + 2) }
+    ensures text { OnOk result
+        (pieces_text (bench ast.now) work.new.items
+        ≡ wrapped (select_wraps (tree_of (bench ast.now) subject))
+        (expr_text (tree_of (bench ast.now) subject)) ⊕
+        (plain_text (codes "[") ⊕ pieces_text (bench ast.now) work.old.items)) }
+    ensures weight { OnOk result
+        (pieces_weight (bench ast.now) work.new.items
+        ≡ pieces_weight (bench ast.now) work.old.items
+        + expr_weight (tree_of (bench ast.now) subject) + 2) }
     ensures owned { OnOk result (PiecesOwned (bench ast.now) work.new.items) }
 {
     push_plain(ast, "[", work)?;
@@ -91,8 +112,14 @@ pub(crate) fn push_subject(
 pub(crate) fn push_list(ast: &Ast, parts: &[Expr], work: &mut Vec<Piece>) -> Result<(), AllocError>
     requires parts { All (OwnsExpr (bench ast.now)) parts.now }
     requires owned { PiecesOwned (bench ast.now) work.old.items }
-    ensures text { OnOk result (pieces_text (bench ast.now) work.new.items ≡ list_text (trees_of (bench ast.now) parts.now) ⊕ pieces_text (bench ast.now) work.old.items) }
-    ensures weight { OnOk result (pieces_weight (bench ast.now) work.new.items ≡ pieces_weight (bench ast.now) work.old.items + exprs_weight (trees_of (bench ast.now) parts.now)) }
+    ensures text { OnOk result
+        (pieces_text (bench ast.now) work.new.items
+        ≡ list_text (trees_of (bench ast.now) parts.now) ⊕ pieces_text (bench ast.now)
+        work.old.items) }
+    ensures weight { OnOk result
+        (pieces_weight (bench ast.now) work.new.items
+        ≡ pieces_weight (bench ast.now) work.old.items
+        + exprs_weight (trees_of (bench ast.now) parts.now)) }
     ensures owned { OnOk result (PiecesOwned (bench ast.now) work.new.items) }
 {
     let mut i = parts.len();

@@ -25,7 +25,10 @@ pub(crate) fn begin_index(
     requires subject { OwnsExpr (bench ast.now) subject }
     requires index { OwnsExpr (bench ast.now) index }
     requires owned { PiecesOwned (bench ast.now) work.old.items }
-    ensures { Begins (bench ast.now) depth out.old out.new work.old.items work.new.items (expr_text (IndexTree (tree_of (bench ast.now) subject) (tree_of (bench ast.now) index))) (expr_weight (IndexTree (tree_of (bench ast.now) subject) (tree_of (bench ast.now) index))) result }
+    ensures { Begins (bench ast.now) depth out.old out.new work.old.items work.new.items
+        (expr_text (IndexTree (tree_of (bench ast.now) subject) (tree_of (bench ast.now) index)))
+        (expr_weight (IndexTree (tree_of (bench ast.now) subject) (tree_of (bench ast.now) index)))
+        result }
 {
     if is_scalar_name(ast, subject) {
         if !is_zero(ast, index) {
@@ -55,7 +58,13 @@ pub(crate) fn begin_slice(
     requires high { OwnsExpr (bench ast.now) high }
     requires low { OwnsExpr (bench ast.now) low }
     requires owned { PiecesOwned (bench ast.now) work.old.items }
-    ensures { Begins (bench ast.now) depth out.old out.new work.old.items work.new.items (expr_text (SliceTree (tree_of (bench ast.now) subject) (tree_of (bench ast.now) high) (tree_of (bench ast.now) low))) (expr_weight (SliceTree (tree_of (bench ast.now) subject) (tree_of (bench ast.now) high) (tree_of (bench ast.now) low))) result }
+    ensures { Begins (bench ast.now) depth out.old out.new work.old.items work.new.items
+        (expr_text
+        (SliceTree (tree_of (bench ast.now) subject) (tree_of (bench ast.now) high)
+        (tree_of (bench ast.now) low)))
+        (expr_weight
+        (SliceTree (tree_of (bench ast.now) subject) (tree_of (bench ast.now) high)
+        (tree_of (bench ast.now) low))) result }
 {
     if is_scalar_name(ast, subject) {
         if !(is_zero(ast, high) && is_zero(ast, low)) {
@@ -85,7 +94,12 @@ pub(crate) fn begin_part_select(
     requires subject { OwnsExpr (bench ast.now) subject }
     requires start { OwnsExpr (bench ast.now) start }
     requires owned { PiecesOwned (bench ast.now) work.old.items }
-    ensures { Begins (bench ast.now) depth out.old out.new work.old.items work.new.items (expr_text (PartSelectTree (tree_of (bench ast.now) subject) (tree_of (bench ast.now) start) width)) (expr_weight (PartSelectTree (tree_of (bench ast.now) subject) (tree_of (bench ast.now) start) width)) result }
+    ensures { Begins (bench ast.now) depth out.old out.new work.old.items work.new.items
+        (expr_text
+        (PartSelectTree (tree_of (bench ast.now) subject) (tree_of (bench ast.now) start)
+        width)) (expr_weight
+        (PartSelectTree (tree_of (bench ast.now) subject) (tree_of (bench ast.now) start)
+        width)) result }
 {
     push_plain(ast, "]", work)?;
     push_number(ast, width, work)?;

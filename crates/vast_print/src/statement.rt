@@ -30,7 +30,8 @@ pub(crate) fn print_block(
 ) -> Result<(), PrintFault>
     requires owned { OwnsBlock (bench ast.now) b }
     requires room { HasRoom depth (block_index b) }
-    ensures { Writes (pour depth (Wet out.old) (block_page (block_tree (bench ast.now) b))) out.new result }
+    ensures { Writes (pour depth (Wet out.old) (block_page (block_tree (bench ast.now) b))) out.new
+        result }
 {
     if ast.block(b).is_empty() {
         out.word("begin end")?;
@@ -54,7 +55,8 @@ pub(crate) fn print_statements(
 ) -> Result<(), PrintFault>
     requires owned { OwnsBlock (bench ast.now) b }
     requires room { HasRoom depth (block_index b + 1) }
-    ensures { Writes (hang depth (Wet out.old) (statements_page (block_tree (bench ast.now) b))) out.new result }
+    ensures { Writes (hang depth (Wet out.old) (statements_page (block_tree (bench ast.now) b)))
+        out.new result }
 {
     for statement in ast.block(b) {
         print_statement(ast, statement, depth, out)?;
@@ -72,7 +74,11 @@ fn print_statement(
     out: &mut Writer,
 ) -> Result<(), PrintFault>
     requires { StatementFits (bench ast.now) depth (statement_entry statement.now) }
-    ensures { Writes (hang depth (Wet out.old) (statement_page (statement_in (bench ast.now) (families (bench ast.now)) (statement_entry statement.now)))) out.new result }
+    ensures { Writes
+        (hang depth (Wet out.old)
+        (statement_page
+        (statement_in (bench ast.now) (families (bench ast.now))
+        (statement_entry statement.now)))) out.new result }
 {
     match statement {
         Statement::Assignment(s) => {
@@ -90,7 +96,8 @@ fn print_statement(
 
 /// Writes a text as it is, from a line of its own on.
 pub(crate) fn print_inline(text: &str, depth: usize, out: &mut Writer) -> Result<(), PrintFault>
-    ensures { Writes (pour depth (next depth (Wet out.old)) (written (plain_text text.now))) out.new result }
+    ensures { Writes (pour depth (next depth (Wet out.old)) (written (plain_text text.now))) out.new
+        result }
 {
     out.next(depth)?;
     out.written(depth, text)?;

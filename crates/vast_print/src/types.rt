@@ -44,7 +44,9 @@ pub(crate) fn print_limit(value: i64, out: &mut Writer) -> Result<(), PrintFault
 
 #[tactic(auto, using(crate::proofs::PrintLaws::ranges))]
 fn print_packed_ranges(dimensions: &[i64], depth: usize, out: &mut Writer) -> Result<(), PrintFault>
-    ensures { Writes (pour depth (Wet out.old) (written (plain_text (packed_ranges dimensions.now)))) out.new result }
+    ensures { Writes
+        (pour depth (Wet out.old) (written (plain_text (packed_ranges dimensions.now)))) out.new
+        result }
 {
     for dimension in dimensions.iter() {
         out.word("[")?;
@@ -89,7 +91,9 @@ fn print_packed(
     out: &mut Writer,
 ) -> Result<(), PrintFault>
     requires { OwnsType (bench ast.now) t }
-    ensures { Writes (pour depth (Wet out.old) (written (plain_text (packed_text (type_of (bench ast.now) t))))) out.new result }
+    ensures { Writes
+        (pour depth (Wet out.old) (written (plain_text (packed_text (type_of (bench ast.now) t)))))
+        out.new result }
 {
     let mut inner = t;
     loop {
@@ -118,7 +122,10 @@ fn print_spaced_packed(
     out: &mut Writer,
 ) -> Result<(), PrintFault>
     requires { OwnsType (bench ast.now) t }
-    ensures { Writes (pour depth (Wet out.old) (written (spaced (plain_text (packed_text (type_of (bench ast.now) t)))))) out.new result }
+    ensures { Writes
+        (pour depth (Wet out.old)
+        (written (spaced (plain_text (packed_text (type_of (bench ast.now) t)))))) out.new
+        result }
 {
     if has_packed(ast, t) {
         print_packed(ast, t, depth, out)?;
@@ -130,7 +137,8 @@ fn print_spaced_packed(
 /// Writes a name and the space behind it, where it isn't empty.
 #[tactic(auto, using(crate::proofs::PrintLaws::spaces))]
 fn print_spaced_name(name: &str, depth: usize, out: &mut Writer) -> Result<(), PrintFault>
-    ensures { Writes (pour depth (Wet out.old) (written (spaced (plain_text name.now)))) out.new result }
+    ensures { Writes (pour depth (Wet out.old) (written (spaced (plain_text name.now)))) out.new
+        result }
 {
     if !name.is_empty() {
         out.written(depth, name)?;
@@ -149,7 +157,9 @@ fn print_width_limit(
     out: &mut Writer,
 ) -> Result<(), PrintFault>
     requires { OwnsExpr (bench ast.now) width }
-    ensures { Writes (pour depth (Wet out.old) (written (limit_text (tree_of (bench ast.now) width) value))) out.new result }
+    ensures { Writes
+        (pour depth (Wet out.old) (written (limit_text (tree_of (bench ast.now) width) value)))
+        out.new result }
 {
     match value {
         Some(value) => print_limit(value, out),
@@ -170,7 +180,9 @@ pub(crate) fn print_type(
     out: &mut Writer,
 ) -> Result<(), PrintFault>
     requires { OwnsType (bench ast.now) t }
-    ensures { Writes (pour depth (Wet out.old) (written (spaced (type_text (type_of (bench ast.now) t))))) out.new result }
+    ensures { Writes
+        (pour depth (Wet out.old) (written (spaced (type_text (type_of (bench ast.now) t)))))
+        out.new result }
 {
     match ast.data_type(ast.base_type(t)) {
         TypeNode::Scalar(signed) => {
@@ -217,7 +229,9 @@ fn print_unpacked_range(
     depth: usize,
     out: &mut Writer,
 ) -> Result<(), PrintFault>
-    ensures { Writes (pour depth (Wet out.old) (written (plain_text (unpacked_range file_type dimension)))) out.new result }
+    ensures { Writes
+        (pour depth (Wet out.old) (written (plain_text (unpacked_range file_type dimension))))
+        out.new result }
 {
     match file_type {
         VastFileType::Verilog => {
@@ -240,7 +254,9 @@ fn print_unpacked_ranges(
     depth: usize,
     out: &mut Writer,
 ) -> Result<(), PrintFault>
-    ensures { Writes (pour depth (Wet out.old) (written (plain_text (unpacked_ranges file_type dimensions.now)))) out.new result }
+    ensures { Writes
+        (pour depth (Wet out.old) (written (plain_text (unpacked_ranges file_type dimensions.now))))
+        out.new result }
 {
     for dimension in dimensions.iter() {
         print_unpacked_range(file_type, *dimension, depth, out)?;
@@ -257,7 +273,11 @@ pub(crate) fn print_dimensions(
     out: &mut Writer,
 ) -> Result<(), PrintFault>
     requires { OwnsType (bench ast.now) t }
-    ensures { Writes (pour depth (Wet out.old) (written (plain_text (unpacked_text (bench ast.now).file_type (type_of (bench ast.now) t))))) out.new result }
+    ensures { Writes
+        (pour depth (Wet out.old)
+        (written (plain_text
+        (unpacked_text (bench ast.now).file_type (type_of (bench ast.now) t))))) out.new
+        result }
 {
     let file_type = ast.file_type();
     let mut inner = t;

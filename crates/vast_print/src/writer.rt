@@ -102,7 +102,8 @@ impl Writer {
     /// # Errors
     /// `AllocError` where the text's growth was refused.
     pub fn written(&mut self, depth: usize, text: &str) -> Result<(), AllocError>
-        ensures { OnOk result (pour depth (Wet self.old) (written (plain_text text.now)) ≡ Wet self.new) }
+        ensures { OnOk result
+            (pour depth (Wet self.old) (written (plain_text text.now)) ≡ Wet self.new) }
     {
         let mut rest = text;
         while let Some((line, more)) = rest.split_once('\n') {
@@ -115,7 +116,8 @@ impl Writer {
 
     #[tactic(auto, using(crate::proofs::InkLaws::comments))]
     fn comment_line(&mut self, depth: usize, text: &str) -> Result<(), AllocError>
-        ensures { OnOk result (hang depth (Wet self.old) (commented (line text.now)) ≡ Wet self.new) }
+        ensures { OnOk result
+            (hang depth (Wet self.old) (commented (line text.now)) ≡ Wet self.new) }
     {
         self.next(depth)?;
         if text.is_empty() {
@@ -131,7 +133,8 @@ impl Writer {
     /// # Errors
     /// `AllocError` where the text's growth was refused.
     pub fn comment(&mut self, depth: usize, text: &str) -> Result<(), AllocError>
-        ensures { OnOk result (hang depth (Wet self.old) (commented (written (plain_text text.now))) ≡ Wet self.new) }
+        ensures { OnOk result
+            (hang depth (Wet self.old) (commented (written (plain_text text.now))) ≡ Wet self.new) }
     {
         let mut rest = text;
         while let Some((line, more)) = rest.split_once('\n') {
@@ -165,7 +168,8 @@ impl Writer {
 }
 
 fn indent(depth: usize, text: &mut String) -> Result<(), AllocError>
-    ensures { OnOk result (string_bytes text.new ≡ string_bytes text.old ++ replicate (2 * depth) 32) }
+    ensures { OnOk result
+        (string_bytes text.new ≡ string_bytes text.old ++ replicate (2 * depth) 32) }
 {
     for _ in 0..depth {
         text.push_str("  ")?;

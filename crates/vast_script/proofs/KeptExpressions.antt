@@ -22,10 +22,10 @@ use Rattle.vast_script.proofs.KeptWords.{fixed_index-kept, fixed_replication-kep
 use Rattle.vast_script.specs.Expressions.{make_literal, make_binary_pattern, make_leaf, make_indexable_expression, make_slice, make_index, make_slice_expr, make_index_expr, make_indexed_part_select, make_function_call, make_concat, make_replicated_concat, make_replicated_concat_i64, make_array_assignment_pattern, make_macro_ref, make_macro_ref_with_args, make_ternary, make_width_cast, make_type_cast, make_pos_edge, make_neg_edge, expression_call}
 
 make_literal-keeps : (text : List ℕ) (format : LiteralFormat) → CallKeeps (make_literal text format)
-make_literal-keeps text format b answers = allowed-keeps b (literal_in format text) (λ tree. Made (Expr (next_expr b)) (with_expr b tree)) (λ tree. keeps-root b _)
+make_literal-keeps text format b answers = allowed-keeps b (literal_in format text) (λ tree. Made (Expr (next_expr b)) (with_expr tree b)) (λ tree. keeps-root b _)
 
 make_binary_pattern-keeps : (bits : List ℕ) → CallKeeps (make_binary_pattern bits)
-make_binary_pattern-keeps bits b answers = allowed-keeps b (pattern bits) (λ text. Made (Expr (next_expr b)) (with_expr b (pattern_literal text))) (λ text. keeps-root b _)
+make_binary_pattern-keeps bits b answers = allowed-keeps b (pattern bits) (λ text. Made (Expr (next_expr b)) (with_expr (pattern_literal text) b)) (λ text. keeps-root b _)
 
 make_leaf-keeps : (tree : ExprTree) → CallKeeps (make_leaf tree)
 make_leaf-keeps tree b answers = keeps-root b _

@@ -20,14 +20,14 @@ use Rattle.vast_script.specs.Conditions.{is_named}
 -- Literals.
 
 abbrev pub make_literal : List ℕ → LiteralFormat → Call
-make_literal text format b answers = allowed (literal_in format text) (λ tree. Made (Expr (next_expr b)) (with_expr b tree))
+make_literal text format b answers = allowed (literal_in format text) (λ tree. Made (Expr (next_expr b)) (with_expr tree b))
 
 abbrev pub make_binary_pattern : List ℕ → Call
-make_binary_pattern bits b answers = allowed (pattern bits) (λ text. Made (Expr (next_expr b)) (with_expr b (pattern_literal text)))
+make_binary_pattern bits b answers = allowed (pattern bits) (λ text. Made (Expr (next_expr b)) (with_expr (pattern_literal text) b))
 
 -- An expression that is made of no other.
 abbrev pub make_leaf : ExprTree → Call
-make_leaf tree b answers = Made (Expr (next_expr b)) (with_expr b tree)
+make_leaf tree b answers = Made (Expr (next_expr b)) (with_expr tree b)
 
 -- Selects.
 

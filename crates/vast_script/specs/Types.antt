@@ -17,7 +17,7 @@ use Rattle.vast_script.specs.Conditions.{are_dimensions}
 
 -- A type that is made of no other.
 abbrev pub make_type : TypeTree → Call
-make_type tree b answers = Made (VastDataType (next_type b)) (with_type b tree)
+make_type tree b answers = Made (VastDataType (next_type b)) (with_type tree b)
 
 abbrev pub make_bit_vector_type : ℤ → Bool → Call
 make_bit_vector_type bits signed b answers = provided (int_le (pos 1) bits) (Made (VastDataType (next_bit_vector bits b)) (with_bit_vector bits signed b))

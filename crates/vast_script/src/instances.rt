@@ -30,10 +30,9 @@ fn instance(
     requires ports { length ports.now ≡ length wires.now }
     requires values { All (OwnsExpr (bench file.old)) values.now }
     requires wires { All (λ e. IfSome e (λ x. OwnsExpr (bench file.old) x)) wires.now }
-    ensures { Builds (bench file.old) (bench file.new) result
-        (next_instantiation (bench file.old))
+    ensures { Builds file.old file.new result next_instantiation
         (with_instance (instance module_name.now instance_name.now (map string_bytes parameters.now)
-        values.now (map string_bytes ports.now) wires.now) (bench file.old)) }
+        values.now (map string_bytes ports.now) wires.now)) }
 {
     let parameters = texts(file.allocator(), parameters)?;
     let values = references(file, values)?;

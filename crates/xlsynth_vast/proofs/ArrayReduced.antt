@@ -19,7 +19,7 @@ use Rattle.vast_core.specs.declared.handle.Index.{Index}
 use Rattle.vast_core.specs.declared.handle.Expr.{Expr}
 use Rattle.vast_core.specs.Handles.{expr_to_indexable_expr, index_to_expr}
 use Rattle.vast_core.specs.Bench.{Bench, OwnsExpr, tree_of}
-use Rattle.vast_core.specs.Growth.{Builds, with_expr, next_expr, with_fixed_index, next_fixed_index, known_literal}
+use Rattle.vast_core.specs.Growth.{with_expr, next_expr, with_fixed_index, next_fixed_index, known_literal}
 use Rattle.vast_core.proofs.Lists.{All-cons}
 use Rattle.vast_core.proofs.Laws.{next_owned, next_tree}
 use Rattle.vast_core.proofs.Products.{≤ℤ_trans, at-least, product-positive, All-drop, All-append, dimension-kept}
@@ -152,24 +152,24 @@ slot-subject start now array dimension index before made s h = more_owned start 
 pub slotted-step :
     (start now after : Bench) (array : Expr) (dimension index next : ℤ) (before made longer : List Expr) (slot : Index) →
     Slotted start now array dimension index before made → OwnsExpr start array → index <ℤ dimension → next ≡ index +ℤ pos 1 →
-    Builds now after (Ok slot) (next_fixed_index (selector_text index) index now) (with_fixed_index (expr_to_indexable_expr array) (selector_text index) index now) →
+    (slot ≡ next_fixed_index (selector_text index) index now) × (after ≡ with_fixed_index (expr_to_indexable_expr array) (selector_text index) index now) →
     longer ≡ made ++ index_to_expr slot ∷ [] →
     Slotted start after array dimension next before longer
 slotted-step start now after array dimension index next before made longer slot s h below is built grown =
     let text : List ℕ = selector_text index in
-    let mid : Bench = with_expr now (known_literal text index) in
+    let mid : Bench = with_expr (known_literal text index) now in
     let made-tree : ExprTree = IndexTree (tree_of now array) (known_literal text index) in
-    let wider : HasMoreNodes now (with_expr mid made-tree) = more-root now mid (ExprRoot made-tree) (more-root now now (ExprRoot (known_literal text index)) (more-none now)) in
+    let wider : HasMoreNodes now (with_expr made-tree mid) = more-root now mid (ExprRoot made-tree) (more-root now now (ExprRoot (known_literal text index)) (more-none now)) in
     let same : tree_of now array ≡ tree_of start array = more_tree start now s.more array h in
     rw (grown, built.0, built.1) (record {
       low = omega (arith, ints, s.low, is);
       within = λ k. omega (arith, ints, below, is);
       none = λ k. absurd (omega (arith, ints, s.low, below, k));
-      owned = All-append (OwnsExpr (with_expr mid made-tree)) made (next_expr mid ∷ []) (all-more now (with_expr mid made-tree) wider made s.owned) (All-cons (OwnsExpr (with_expr mid made-tree)) (next_expr mid) [] (next_owned mid made-tree) (λ k d past. absurd (omega arith)));
-      trees = map-append (tree_of (with_expr mid made-tree)) made (next_expr mid ∷ [])
-          ∙ rw (more_trees now (with_expr mid made-tree) wider made s.owned, next_tree mid made-tree, s.trees, slots-more index next (tree_of start array) s.low is, same)
+      owned = All-append (OwnsExpr (with_expr made-tree mid)) made (next_expr mid ∷ []) (all-more now (with_expr made-tree mid) wider made s.owned) (All-cons (OwnsExpr (with_expr made-tree mid)) (next_expr mid) [] (next_owned mid made-tree) (λ k d past. absurd (omega arith)));
+      trees = map-append (tree_of (with_expr made-tree mid)) made (next_expr mid ∷ [])
+          ∙ rw (more_trees now (with_expr made-tree mid) wider made s.owned, next_tree mid made-tree, s.trees, slots-more index next (tree_of start array) s.low is, same)
           (append_assoc (map (tree_of start) before) (slots index (tree_of start array)) (IndexTree (tree_of start array) (known_literal text index) ∷ []));
-      more = more-more start now (with_expr mid made-tree) s.more wider;
+      more = more-more start now (with_expr made-tree mid) s.more wider;
     })
 
 ended : (dimension index : ℤ) (array : ExprTree) → pos 0 ≤ℤ index → (pos 0 ≤ℤ dimension → index ≤ℤ dimension) → (dimension <ℤ pos 0 → index ≡ pos 0) → dimension ≤ℤ index → slots index array ≡ slots dimension array

@@ -8,7 +8,7 @@ use Rattle.vast_literal.specs.declared.operator.UnaryOperator.TheVariants.{Logic
 use Rattle.vast_core.specs.declared.handle.Expr.{Expr}
 use Rattle.vast_core.specs.Nodes.{Root, ExprRoot}
 use Rattle.vast_core.specs.Bench.{Bench, OwnsExpr, tree_of}
-use Rattle.vast_core.specs.Growth.{Builds, with_root, with_expr, next_expr}
+use Rattle.vast_core.specs.Growth.{with_root, with_expr, next_expr}
 use Rattle.vast_core.proofs.Lists.{slice_get-append, All-head, All-tail, All-implies}
 use Rattle.vast_core.proofs.NodeLaws.{Extends, HasExpr-kept, expr_in-kept}
 use Rattle.vast_core.proofs.Laws.{next_owned, next_tree}
@@ -85,7 +85,7 @@ pub joining-step :
     Joining sign start now first whole rest (drop i rest) →
     (values : List Expr) → All (OwnsExpr start) values → values ≡ first ∷ rest →
     (value : Expr) → i < length rest → value ≡ get_or rest i value →
-    (answer : Expr) → Builds now after (Ok answer) (next_expr now) (with_binary sign whole value now) →
+    (answer : Expr) → (answer ≡ next_expr now) × (after ≡ with_binary sign whole value now) →
     Joining sign start after first answer rest (drop (i + 1) rest)
 joining-step sign start now after first whole rest i j values h split value below is answer built =
     let owned : All (OwnsExpr start) (first ∷ rest) = rw split at h in
@@ -103,7 +103,7 @@ joining-step sign start now after first whole rest i j values h split value belo
 pub joined_inverted :
     (old mid new : Bench) (sign : BinaryOp) (of_none : Bool) (trees : List ExprTree) (whole answer : Expr) →
     MakesJoined old mid (Ok (Some whole)) sign trees →
-    Builds mid new (Ok answer) (next_expr mid) (with_unary LogicalNotOp whole mid) →
+    (answer ≡ next_expr mid) × (new ≡ with_unary LogicalNotOp whole mid) →
     MakesTree old new (Ok answer) (Ok (logical_reduction sign of_none true trees))
 joined_inverted old mid new sign of_none [] whole answer j built = absurd cc
 joined_inverted old mid new sign of_none (t ∷ ts) whole answer j built =
@@ -126,7 +126,7 @@ joined_bitwise old new (t ∷ ts) whole j = j
 
 of-none :
     (old mid new : Bench) (made : ExprTree) (answer : Expr) → HasMoreNodes old mid →
-    Builds mid new (Ok answer) (next_expr mid) (with_expr mid made) →
+    (answer ≡ next_expr mid) × (new ≡ with_expr made mid) →
     IsTree new answer made × HasMoreNodes old new
 of-none old mid new made answer more built =
     rw (built.0, built.1) ((next_owned mid made, next_tree mid made), more-root old mid (ExprRoot made) more)
@@ -135,7 +135,7 @@ pub none_logical :
     (old mid new : Bench) (sign : BinaryOp) (of_none invert : Bool) (trees : List ExprTree) (bit : Bool) (answer : Expr) →
     bit_literal bit ≡ logical_reduction sign of_none invert [] →
     MakesJoined old mid (Ok None) sign trees →
-    Builds mid new (Ok answer) (next_expr mid) (with_expr mid (bit_literal bit)) →
+    (answer ≡ next_expr mid) × (new ≡ with_expr (bit_literal bit) mid) →
     MakesTree old new (Ok answer) (Ok (logical_reduction sign of_none invert trees))
 none_logical old mid new sign of_none invert [] bit answer is j built = rw (← is) (of-none old mid new (bit_literal bit) answer j.1 built)
 none_logical old mid new sign of_none invert (t ∷ ts) bit answer is j built = absurd j.0
@@ -149,7 +149,7 @@ bit_of_none sign true true = refl
 pub none_bitwise :
     (old mid new : Bench) (trees : List ExprTree) (answer : Expr) →
     MakesJoined old mid (Ok None) BitwiseOrOp trees →
-    Builds mid new (Ok answer) (next_expr mid) (with_expr mid (LiteralTree (codes "'0") (Some (pos 0)))) →
+    (answer ≡ next_expr mid) × (new ≡ with_expr (LiteralTree (codes "'0") (Some (pos 0))) mid) →
     MakesTree old new (Ok answer) (Ok (bitwise_reduction trees))
 none_bitwise old mid new [] answer j built = of-none old mid new (LiteralTree (codes "'0") (Some (pos 0))) answer j.1 built
 none_bitwise old mid new (t ∷ ts) answer j built = absurd j.0

@@ -17,7 +17,7 @@ abbrev pub next_bit_vector : ℤ → Bench → VastDataType
 next_bit_vector bits b = cond (is_one bits) (next_type b) (next_vector bits b)
 
 abbrev pub with_bit_vector : ℤ → Bool → Bench → Bench
-with_bit_vector bits signed b = cond (is_one bits) (with_type b (ScalarTree signed)) (with_vector bits signed b)
+with_bit_vector bits signed b = cond (is_one bits) (with_type (ScalarTree signed) b) (with_vector bits signed b)
 
 abbrev pub record_name : Option ModuleRecord → List ℕ
 record_name None = []

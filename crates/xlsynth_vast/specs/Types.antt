@@ -9,11 +9,11 @@ use Rattle.vast_core.specs.Growth.{with_type}
 
 -- a vector of this width, whose value is that of a literal
 abbrev pub with_vector_expr : Expr → Bool → Bench → Bench
-with_vector_expr width signed b = with_type b (VectorTree (tree_of b width) (literal_value (tree_of b width)) signed)
+with_vector_expr width signed b = with_type (VectorTree (tree_of b width) (literal_value (tree_of b width)) signed) b
 
 -- arrays of elements of a type
 abbrev pub with_packed : VastDataType → List ℤ → Bench → Bench
-with_packed element dimensions b = with_type b (PackedTree (type_of b element) dimensions)
+with_packed element dimensions b = with_type (PackedTree (type_of b element) dimensions) b
 
 abbrev pub with_unpacked : VastDataType → List ℤ → Bench → Bench
-with_unpacked element dimensions b = with_type b (UnpackedTree (type_of b element) dimensions)
+with_unpacked element dimensions b = with_type (UnpackedTree (type_of b element) dimensions) b

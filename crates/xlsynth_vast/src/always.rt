@@ -32,8 +32,13 @@ impl VastFile {
         requires { All (λ e. OwnsExpr (bench self.now) e.now) expressions.now }
         ensures items { IfOk result (λ events. events.items ≡ map (λ e. e.now) expressions.now) }
         ensures sound { IfOk result (λ events. All (EventSound (bench self.now)) events.items) }
-        ensures allowed { IfOk result (λ events. unless_wrong_event word.now (bench self.now) (map (λ e. e.now) expressions.now) ≡ Ok tt) }
-        ensures refused { IfErr result (λ fault. RefusedBy (unless_wrong_event word.now (bench self.now) (map (λ e. e.now) expressions.now)) fault) }
+        ensures allowed { IfOk result
+            (λ events. unless_wrong_event word.now (bench self.now)
+            (map (λ e. e.now) expressions.now) ≡ Ok tt) }
+        ensures refused { IfErr result
+            (λ fault. RefusedBy
+            (unless_wrong_event word.now (bench self.now) (map (λ e. e.now) expressions.now))
+            fault) }
     {
         let events = self.handles(expressions)?;
         if let Some(index) = self.ast.first_wrong_event(&events) {
@@ -56,7 +61,10 @@ impl VastFile {
     ) -> Result<VastAlwaysBase, VastFault>
         requires owner { OwnsModule (bench self.old) owner }
         requires events { All (λ e. OwnsExpr (bench self.old) e.now) sensitivity_list.now }
-        ensures { MayBuild self.old self.new result (λ b. unless_wrong_event (codes "always_ff") b (map (λ e. e.now) sensitivity_list.now)) next_always (λ _. with_always_member owner AlwaysFF (map (λ e. e.now) sensitivity_list.now)) }
+        ensures { MayBuild self.old self.new result
+            (λ b. unless_wrong_event (codes "always_ff") b (map (λ e. e.now) sensitivity_list.now))
+            next_always
+            (λ _. with_always_member owner AlwaysFF (map (λ e. e.now) sensitivity_list.now)) }
     {
         let events = self.events("always_ff", sensitivity_list)?;
         Ok(self.ast.push_always_ff(Scope::Module(owner), events)?)
@@ -73,7 +81,10 @@ impl VastFile {
     ) -> Result<VastAlwaysBase, VastFault>
         requires owner { OwnsModule (bench self.old) owner }
         requires events { All (λ e. OwnsExpr (bench self.old) e.now) sensitivity_list.now }
-        ensures { MayBuild self.old self.new result (λ b. unless_wrong_event (codes "always @") b (map (λ e. e.now) sensitivity_list.now)) next_always (λ _. with_always_member owner AlwaysAt (map (λ e. e.now) sensitivity_list.now)) }
+        ensures { MayBuild self.old self.new result
+            (λ b. unless_wrong_event (codes "always @") b (map (λ e. e.now) sensitivity_list.now))
+            next_always
+            (λ _. with_always_member owner AlwaysAt (map (λ e. e.now) sensitivity_list.now)) }
     {
         let events = self.events("always @", sensitivity_list)?;
         Ok(self.ast.push_always_at(Scope::Module(owner), events)?)
@@ -85,7 +96,8 @@ impl VastFile {
     /// `Memory` where a growth was refused; the file is unchanged. It is never `Refused`.
     pub fn add_always_comb(&mut self, owner: VastModule) -> Result<VastAlwaysBase, VastFault>
         requires { OwnsModule (bench self.old) owner }
-        ensures { MayBuild self.old self.new result (λ _. no_refusal) next_always (λ _. with_always_member owner AlwaysComb []) }
+        ensures { MayBuild self.old self.new result no_refusal next_always
+            (λ _. with_always_member owner AlwaysComb []) }
     {
         Ok(self.ast.push_always_comb(Scope::Module(owner))?)
     }
@@ -110,7 +122,10 @@ impl VastFile {
     ) -> Result<VastAlwaysBase, VastFault>
         requires generate { OwnsLoop (bench self.old) generate }
         requires events { All (λ e. OwnsExpr (bench self.old) e.now) sensitivity_list.now }
-        ensures { MayBuild self.old self.new result (λ b. unless_wrong_event (codes "always_ff") b (map (λ e. e.now) sensitivity_list.now)) next_always (λ _. with_loop_always generate AlwaysFF (map (λ e. e.now) sensitivity_list.now)) }
+        ensures { MayBuild self.old self.new result
+            (λ b. unless_wrong_event (codes "always_ff") b (map (λ e. e.now) sensitivity_list.now))
+            next_always
+            (λ _. with_loop_always generate AlwaysFF (map (λ e. e.now) sensitivity_list.now)) }
     {
         let events = self.events("always_ff", sensitivity_list)?;
         Ok(self.ast.push_always_ff(Scope::Loop(generate), events)?)
@@ -127,7 +142,10 @@ impl VastFile {
     ) -> Result<VastAlwaysBase, VastFault>
         requires generate { OwnsLoop (bench self.old) generate }
         requires events { All (λ e. OwnsExpr (bench self.old) e.now) sensitivity_list.now }
-        ensures { MayBuild self.old self.new result (λ b. unless_wrong_event (codes "always @") b (map (λ e. e.now) sensitivity_list.now)) next_always (λ _. with_loop_always generate AlwaysAt (map (λ e. e.now) sensitivity_list.now)) }
+        ensures { MayBuild self.old self.new result
+            (λ b. unless_wrong_event (codes "always @") b (map (λ e. e.now) sensitivity_list.now))
+            next_always
+            (λ _. with_loop_always generate AlwaysAt (map (λ e. e.now) sensitivity_list.now)) }
     {
         let events = self.events("always @", sensitivity_list)?;
         Ok(self.ast.push_always_at(Scope::Loop(generate), events)?)
@@ -142,7 +160,8 @@ impl VastFile {
         generate: GenerateLoop,
     ) -> Result<VastAlwaysBase, VastFault>
         requires { OwnsLoop (bench self.old) generate }
-        ensures { MayBuild self.old self.new result (λ _. no_refusal) next_always (λ _. with_loop_always generate AlwaysComb []) }
+        ensures { MayBuild self.old self.new result no_refusal next_always
+            (λ _. with_loop_always generate AlwaysComb []) }
     {
         Ok(self.ast.push_always_comb(Scope::Loop(generate))?)
     }

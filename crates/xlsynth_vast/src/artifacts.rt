@@ -27,7 +27,8 @@ impl VastFile {
         data_type: &VastDataType,
     ) -> Result<Def, AllocError>
         requires { OwnsType (bench self.old) data_type.now }
-        ensures { Builds self.old self.new result next_def (with_definition (record { name = name.now; kind = kind; data_type = data_type.now })) }
+        ensures { Builds self.old self.new result next_def
+            (with_definition (record { name = name.now; kind = kind; data_type = data_type.now })) }
     {
         self.ast.push_def(name, kind, *data_type)
     }
@@ -47,7 +48,8 @@ impl VastFile {
     /// # Errors
     /// `AllocError` where a growth was refused; the file is unchanged.
     pub fn make_comment(&mut self, text: &str) -> Result<Comment, AllocError>
-        ensures { Builds self.old self.new result next_comment (with_artifact (CommentRecord text.now)) }
+        ensures { Builds self.old self.new result next_comment
+            (with_artifact (CommentRecord text.now)) }
     {
         self.ast.push_comment(text)
     }
@@ -60,7 +62,8 @@ impl VastFile {
         &mut self,
         text: &str,
     ) -> Result<InlineVerilogStatement, AllocError>
-        ensures { Builds self.old self.new result next_inline (with_artifact (InlineRecord text.now)) }
+        ensures { Builds self.old self.new result next_inline
+            (with_artifact (InlineRecord text.now)) }
     {
         self.ast.push_inline(text)
     }
@@ -75,7 +78,8 @@ impl VastFile {
         semicolon: bool,
     ) -> Result<MacroStatement, AllocError>
         requires { OwnsMacroRef (bench self.old) macro_ref.now }
-        ensures { Builds self.old self.new result next_macro_statement (with_artifact (MacroRecord macro_ref.now semicolon)) }
+        ensures { Builds self.old self.new result next_macro_statement
+            (with_artifact (MacroRecord macro_ref.now semicolon)) }
     {
         self.ast.push_macro_statement(*macro_ref, semicolon)
     }
@@ -91,7 +95,8 @@ impl VastFile {
     ) -> Result<ContinuousAssignment, AllocError>
         requires lhs { OwnsExpr (bench self.old) lhs.now }
         requires rhs { OwnsExpr (bench self.old) rhs.now }
-        ensures { Builds self.old self.new result next_continuous (with_assignment (record { lhs = lhs.now; rhs = rhs.now; nonblocking = false })) }
+        ensures { Builds self.old self.new result next_continuous
+            (with_assignment (record { lhs = lhs.now; rhs = rhs.now; nonblocking = false })) }
     {
         self.ast.push_continuous(*lhs, *rhs)
     }
@@ -107,7 +112,8 @@ impl VastFile {
     ) -> Result<VastStatement, AllocError>
         requires lhs { OwnsExpr (bench self.old) lhs.now }
         requires rhs { OwnsExpr (bench self.old) rhs.now }
-        ensures { Builds self.old self.new result next_statement (with_assignment (record { lhs = lhs.now; rhs = rhs.now; nonblocking = true })) }
+        ensures { Builds self.old self.new result next_statement
+            (with_assignment (record { lhs = lhs.now; rhs = rhs.now; nonblocking = true })) }
     {
         self.ast.push_assignment(*lhs, *rhs, true)
     }
@@ -123,7 +129,8 @@ impl VastFile {
     ) -> Result<VastStatement, AllocError>
         requires lhs { OwnsExpr (bench self.old) lhs.now }
         requires rhs { OwnsExpr (bench self.old) rhs.now }
-        ensures { Builds self.old self.new result next_statement (with_assignment (record { lhs = lhs.now; rhs = rhs.now; nonblocking = false })) }
+        ensures { Builds self.old self.new result next_statement
+            (with_assignment (record { lhs = lhs.now; rhs = rhs.now; nonblocking = false })) }
     {
         self.ast.push_assignment(*lhs, *rhs, false)
     }

@@ -4,7 +4,7 @@
 ghost use Rattle.std.specs.Prelude.{◌≡◌, true, false};
 ghost use Rattle.vast_core.specs.Bench.{OwnsBlock, OwnsExpr};
 ghost use Rattle.vast_core.specs.Nests.{AssignStatement, ContinuousStatement, BlankStatement, CommentStatement, InlineStatement};
-ghost use Rattle.vast_core.specs.Growth.{Builds, with_assignment};
+ghost use Rattle.vast_core.specs.Growth.{Builds, Leaves, with_assignment};
 ghost use Rattle.vast_core.specs.Artifacts.{next_statement};
 ghost use Rattle.vast_core.specs.Containers.{with_statement};
 ghost use Rattle.vast_core.specs.View.{bench};
@@ -27,7 +27,10 @@ impl VastFile {
         requires block { OwnsBlock (bench self.old) block }
         requires lhs { OwnsExpr (bench self.old) lhs.now }
         requires rhs { OwnsExpr (bench self.old) rhs.now }
-        ensures { Builds self.old self.new result next_statement (λ b. with_statement block (AssignStatement (next_statement b)) (with_assignment (record { lhs = lhs.now; rhs = rhs.now; nonblocking = false }) b)) }
+        ensures { Builds self.old self.new result next_statement
+            (λ b. with_statement block (AssignStatement (next_statement b))
+            (with_assignment (record { lhs = lhs.now; rhs = rhs.now; nonblocking = false })
+            b)) }
     {
         let spot = Spot::Block(block);
         self.ast
@@ -47,7 +50,9 @@ impl VastFile {
         requires block { OwnsBlock (bench self.old) block }
         requires lhs { OwnsExpr (bench self.old) lhs.now }
         requires rhs { OwnsExpr (bench self.old) rhs.now }
-        ensures { Builds self.old self.new result next_statement (λ b. with_statement block (AssignStatement (next_statement b)) (with_assignment (record { lhs = lhs.now; rhs = rhs.now; nonblocking = true }) b)) }
+        ensures { Builds self.old self.new result next_statement
+            (λ b. with_statement block (AssignStatement (next_statement b))
+            (with_assignment (record { lhs = lhs.now; rhs = rhs.now; nonblocking = true }) b)) }
     {
         let spot = Spot::Block(block);
         self.ast
@@ -67,7 +72,10 @@ impl VastFile {
         requires block { OwnsBlock (bench self.old) block }
         requires lhs { OwnsExpr (bench self.old) lhs.now }
         requires rhs { OwnsExpr (bench self.old) rhs.now }
-        ensures { Builds self.old self.new result next_statement (λ b. with_statement block (ContinuousStatement (next_statement b)) (with_assignment (record { lhs = lhs.now; rhs = rhs.now; nonblocking = false }) b)) }
+        ensures { Builds self.old self.new result next_statement
+            (λ b. with_statement block (ContinuousStatement (next_statement b))
+            (with_assignment (record { lhs = lhs.now; rhs = rhs.now; nonblocking = false })
+            b)) }
     {
         let spot = Spot::Block(block);
         self.ast
@@ -84,7 +92,8 @@ impl VastFile {
         text: &str,
     ) -> Result<(), AllocError>
         requires { OwnsBlock (bench self.old) block }
-        ensures { Leaves self.old self.new result (with_statement block (CommentStatement text.now)) }
+        ensures { Leaves self.old self.new result
+            (with_statement block (CommentStatement text.now)) }
     {
         let text = String::from_str(self.ast.allocator(), text)?;
         self.ast.append_statement(block, Statement::Comment(text))
@@ -100,7 +109,8 @@ impl VastFile {
         text: &str,
     ) -> Result<(), AllocError>
         requires { OwnsBlock (bench self.old) block }
-        ensures { Leaves self.old self.new result (with_statement block (InlineStatement text.now)) }
+        ensures { Leaves self.old self.new result
+            (with_statement block (InlineStatement text.now)) }
     {
         let text = String::from_str(self.ast.allocator(), text)?;
         self.ast.append_statement(block, Statement::Inline(text))

@@ -26,7 +26,9 @@ impl VastFile {
     ) -> Result<CaseStatement, AllocError>
         requires block { OwnsBlock (bench self.old) block }
         requires selector { OwnsExpr (bench self.old) selector.now }
-        ensures { Builds self.old self.new result next_case (λ b. with_statement block (CasesStatement (next_case b)) (with_case CaseKind.Case selector.now b)) }
+        ensures { Builds self.old self.new result next_case
+            (λ b. with_statement block (CasesStatement (next_case b))
+            (with_case CaseKind.Case selector.now b)) }
     {
         self.ast.append_block_case(block, CaseKind::Case, *selector)
     }
@@ -42,7 +44,9 @@ impl VastFile {
     ) -> Result<CaseStatement, AllocError>
         requires block { OwnsBlock (bench self.old) block }
         requires selector { OwnsExpr (bench self.old) selector.now }
-        ensures { Builds self.old self.new result next_case (λ b. with_statement block (CasesStatement (next_case b)) (with_case CaseKind.CaseZ selector.now b)) }
+        ensures { Builds self.old self.new result next_case
+            (λ b. with_statement block (CasesStatement (next_case b))
+            (with_case CaseKind.CaseZ selector.now b)) }
     {
         self.ast
             .append_block_case(block, CaseKind::CaseZ, *selector)
@@ -59,7 +63,9 @@ impl VastFile {
     ) -> Result<CaseStatement, AllocError>
         requires block { OwnsBlock (bench self.old) block }
         requires selector { OwnsExpr (bench self.old) selector.now }
-        ensures { Builds self.old self.new result next_case (λ b. with_statement block (CasesStatement (next_case b)) (with_case CaseKind.CaseX selector.now b)) }
+        ensures { Builds self.old self.new result next_case
+            (λ b. with_statement block (CasesStatement (next_case b))
+            (with_case CaseKind.CaseX selector.now b)) }
     {
         self.ast
             .append_block_case(block, CaseKind::CaseX, *selector)
@@ -76,7 +82,8 @@ impl VastFile {
     ) -> Result<VastStatementBlock, AllocError>
         requires case { OwnsCase (bench self.old) case }
         requires pattern { OwnsExpr (bench self.old) pattern.now }
-        ensures { Builds self.old self.new result next_block (with_case_arm case (Some pattern.now)) }
+        ensures { Builds self.old self.new result next_block
+            (with_case_arm case (Some pattern.now)) }
     {
         self.ast.case_add_arm(case, Some(*pattern))
     }
@@ -103,7 +110,8 @@ impl VastFile {
     /// memory for these words was refused. The file is unchanged.
     pub fn case_set_unique(&mut self, case: CaseStatement, unique: bool) -> Result<(), VastFault>
         requires { OwnsCase (bench self.old) case }
-        ensures { MayChange self.old self.new result (λ b. may_be_unique b.file_type unique) (with_case_unique case unique) }
+        ensures { MayChange self.old self.new result (λ b. may_be_unique b.file_type unique)
+            (with_case_unique case unique) }
     {
         if unique && self.ast.file_type() == VastFileType::Verilog {
             let words = "unique case requires SystemVerilog";

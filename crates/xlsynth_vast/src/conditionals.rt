@@ -26,7 +26,9 @@ impl VastFile {
     ) -> Result<Conditional, AllocError>
         requires owner { OwnsModule (bench self.old) owner }
         requires condition { OwnsExpr (bench self.old) condition.now }
-        ensures { Builds self.old self.new result next_conditional (λ b. with_member owner (ConditionalEntry (next_conditional b)) (with_conditional condition.now b)) }
+        ensures { Builds self.old self.new result next_conditional
+            (λ b. with_member owner (ConditionalEntry (next_conditional b))
+            (with_conditional condition.now b)) }
     {
         self.ast
             .push_conditional(Spot::Scope(Scope::Module(owner)), *condition)
@@ -43,7 +45,9 @@ impl VastFile {
     ) -> Result<Conditional, AllocError>
         requires block { OwnsBlock (bench self.old) block }
         requires condition { OwnsExpr (bench self.old) condition.now }
-        ensures { Builds self.old self.new result next_conditional (λ b. with_statement block (ConditionalStatement (next_conditional b)) (with_conditional condition.now b)) }
+        ensures { Builds self.old self.new result next_conditional
+            (λ b. with_statement block (ConditionalStatement (next_conditional b))
+            (with_conditional condition.now b)) }
     {
         self.ast.push_conditional(Spot::Block(block), *condition)
     }
@@ -60,7 +64,8 @@ impl VastFile {
     /// Whether the conditional has an `else`: where it has none, it may be given another arm.
     pub fn conditional_has_else(&self, conditional: Conditional) -> bool
         requires { OwnsConditional (bench self.now) conditional }
-        ensures { result ≡ has_else (slice_get (bench self.now).nests (conditional_index conditional)) }
+        ensures { result
+            ≡ has_else (slice_get (bench self.now).nests (conditional_index conditional)) }
     {
         self.ast.conditional_has_else(conditional)
     }
@@ -77,8 +82,10 @@ impl VastFile {
     ) -> Result<VastStatementBlock, AllocError>
         requires conditional { OwnsConditional (bench self.old) conditional }
         requires condition { OwnsExpr (bench self.old) condition.now }
-        requires no_else { has_else (slice_get (bench self.old).nests (conditional_index conditional)) ≡ false }
-        ensures { Builds self.old self.new result next_block (with_else_if conditional condition.now) }
+        requires no_else { has_else
+            (slice_get (bench self.old).nests (conditional_index conditional)) ≡ false }
+        ensures { Builds self.old self.new result next_block
+            (with_else_if conditional condition.now) }
     {
         self.ast.conditional_add_else_if(conditional, *condition)
     }
@@ -93,7 +100,8 @@ impl VastFile {
         conditional: Conditional,
     ) -> Result<VastStatementBlock, AllocError>
         requires conditional { OwnsConditional (bench self.old) conditional }
-        requires no_else { has_else (slice_get (bench self.old).nests (conditional_index conditional)) ≡ false }
+        requires no_else { has_else
+            (slice_get (bench self.old).nests (conditional_index conditional)) ≡ false }
         ensures { Builds self.old self.new result next_block (with_else conditional) }
     {
         self.ast.conditional_add_else(conditional)

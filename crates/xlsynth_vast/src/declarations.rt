@@ -18,7 +18,8 @@ use vast_literal::{VastError, VastFault};
 
 /// The names, with a comma and a space between each two.
 pub(crate) fn listed_names(alloc: Global, names: &BTreeSet<String>) -> Result<String, AllocError>
-    ensures { IfOk result (λ list. string_bytes list ≡ listed_names (map string_bytes names.now.keys)) }
+    ensures { IfOk result
+        (λ list. string_bytes list ≡ listed_names (map string_bytes names.now.keys)) }
 {
     let taken: Vec<&str> = names.iter().map(|name| name.as_str()).collect(alloc)?;
     taken.join(alloc, ", ")
@@ -31,7 +32,9 @@ fn already_declared(
     name: &str,
     names: &BTreeSet<String>,
 ) -> Result<String, AllocError>
-    ensures { IfOk result (λ text. string_bytes text ≡ already_declared kind.now name.now (map string_bytes names.now.keys)) }
+    ensures { IfOk result
+        (λ text. string_bytes text
+        ≡ already_declared kind.now name.now (map string_bytes names.now.keys)) }
 {
     let list = listed_names(alloc, names)?;
     format!(in alloc;
@@ -48,7 +51,9 @@ impl VastFile {
         name: &str,
     ) -> Result<(), VastFault>
         requires { OwnsModule (bench self.now) owner }
-        ensures answer { MatchResult result (λ _. unless_taken kind.now name.now (names_in (bench self.now) owner) ≡ Ok tt) (OnlyRefusedBy (unless_taken kind.now name.now (names_in (bench self.now) owner))) }
+        ensures answer { MatchResult result
+            (λ _. unless_taken kind.now name.now (names_in (bench self.now) owner) ≡ Ok tt)
+            (OnlyRefusedBy (unless_taken kind.now name.now (names_in (bench self.now) owner))) }
         ensures free { OnOk result (NameIsFree (bench self.now) owner name.now) }
     {
         let module = self.ast.module(owner);
@@ -73,7 +78,8 @@ impl VastFile {
         requires owner { OwnsModule (bench self.old) owner }
         requires data_type { OwnsType (bench self.old) data_type.now }
         requires free { NameIsFree (bench self.old) owner name.now }
-        ensures { Builds self.old self.new result next_logic_ref (with_declaration owner DataKind.Wire name.now data_type.now) }
+        ensures { Builds self.old self.new result next_logic_ref
+            (with_declaration owner DataKind.Wire name.now data_type.now) }
     {
         self.ast
             .push_declaration(owner, DataKind::Wire, name, *data_type)
@@ -93,7 +99,9 @@ impl VastFile {
     ) -> Result<LogicRef, VastFault>
         requires owner { OwnsModule (bench self.old) owner }
         requires data_type { OwnsType (bench self.old) data_type.now }
-        ensures { MayBuild self.old self.new result (λ b. unless_taken (codes "reg") name.now (names_in b owner)) next_logic_ref (λ _. with_declaration owner DataKind.Reg name.now data_type.now) }
+        ensures { MayBuild self.old self.new result
+            (λ b. unless_taken (codes "reg") name.now (names_in b owner)) next_logic_ref
+            (λ _. with_declaration owner DataKind.Reg name.now data_type.now) }
     {
         self.refuse_taken(owner, "reg", name)?;
         Ok(
@@ -114,7 +122,9 @@ impl VastFile {
     ) -> Result<LogicRef, VastFault>
         requires owner { OwnsModule (bench self.old) owner }
         requires data_type { OwnsType (bench self.old) data_type.now }
-        ensures { MayBuild self.old self.new result (λ b. unless_taken (codes "logic") name.now (names_in b owner)) next_logic_ref (λ _. with_declaration owner DataKind.Logic name.now data_type.now) }
+        ensures { MayBuild self.old self.new result
+            (λ b. unless_taken (codes "logic") name.now (names_in b owner)) next_logic_ref
+            (λ _. with_declaration owner DataKind.Logic name.now data_type.now) }
     {
         self.refuse_taken(owner, "logic", name)?;
         Ok(

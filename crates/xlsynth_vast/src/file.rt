@@ -80,7 +80,8 @@ impl VastFile {
     pub fn emit_expression(&self, e: &Expr) -> Result<String, VastFault>
         requires { OwnsExpr (bench self.now) e.now }
         ensures text { EmitsText (expr_text (tree_of (bench self.now) e.now)) result }
-        ensures derived { IfOk result (λ text. DerivesIfPlain (string_bytes text) (tree_of (bench self.now) e.now)) }
+        ensures derived { IfOk result
+            (λ text. DerivesIfPlain (string_bytes text) (tree_of (bench self.now) e.now)) }
     {
         print_expr(&self.ast, *e)
     }
@@ -93,7 +94,8 @@ impl VastFile {
     /// or slice of a named scalar with a bound that is no literal of value zero. `Memory` where a growth was refused.
     pub fn emit(&self) -> Result<String, VastFault>
         ensures text { Emits (layout (tree (bench self.now))) result }
-        ensures derived { IfOk result (λ text. FileDerivesIfPlain (string_bytes text) (tree (bench self.now))) }
+        ensures derived { IfOk result
+            (λ text. FileDerivesIfPlain (string_bytes text) (tree (bench self.now))) }
     {
         print_file(&self.ast)
     }

@@ -31,7 +31,10 @@ fn declared_in_function(
     name: &str,
     owner: &Function,
 ) -> Result<String, AllocError>
-    ensures { IfOk result (λ text. string_bytes text ≡ declared_in_function kind.now name.now (string_bytes owner.now.name) (map string_bytes owner.now.names.keys)) }
+    ensures { IfOk result
+        (λ text. string_bytes text
+        ≡ declared_in_function kind.now name.now (string_bytes owner.now.name)
+        (map string_bytes owner.now.names.keys)) }
 {
     let list = listed_names(alloc, &owner.names)?;
     let function = owner.name.as_str();
@@ -60,7 +63,9 @@ impl VastFile {
     /// Refuses an unpacked array as the type of a function's result.
     fn refuse_unpacked(&self, result_type: VastDataType) -> Result<(), VastFault>
         requires { OwnsType (bench self.now) result_type }
-        ensures { MatchResult result (λ _. unless_unpacked (type_of (bench self.now) result_type) ≡ Ok tt) (OnlyRefusedBy (unless_unpacked (type_of (bench self.now) result_type))) }
+        ensures { MatchResult result
+            (λ _. unless_unpacked (type_of (bench self.now) result_type) ≡ Ok tt)
+            (OnlyRefusedBy (unless_unpacked (type_of (bench self.now) result_type))) }
     {
         if !self.is_unpacked(result_type) {
             return Ok(());
@@ -86,7 +91,9 @@ impl VastFile {
     ) -> Result<VastFunction, VastFault>
         requires owner { OwnsModule (bench self.old) owner }
         requires result_type { OwnsType (bench self.old) result_type.now }
-        ensures { MayBuild self.old self.new result (λ b. may_be_function (type_of b result_type.now) name.now (names_in b owner)) next_function (λ _. with_function_member owner name.now result_type.now) }
+        ensures { MayBuild self.old self.new result
+            (λ b. may_be_function (type_of b result_type.now) name.now (names_in b owner))
+            next_function (λ _. with_function_member owner name.now result_type.now) }
     {
         self.refuse_unpacked(*result_type)?;
         self.refuse_taken(owner, "function", name)?;
@@ -101,7 +108,9 @@ impl VastFile {
         name: &str,
     ) -> Result<(), VastFault>
         requires { OwnsFunction (bench self.now) function }
-        ensures answer { MatchResult result (λ _. unless_taken_in_function kind.now name.now (bench self.now) function ≡ Ok tt) (OnlyRefusedBy (unless_taken_in_function kind.now name.now (bench self.now) function)) }
+        ensures answer { MatchResult result
+            (λ _. unless_taken_in_function kind.now name.now (bench self.now) function ≡ Ok tt)
+            (OnlyRefusedBy (unless_taken_in_function kind.now name.now (bench self.now) function)) }
         ensures free { OnOk result (IsFreeInFunction (bench self.now) function name.now) }
     {
         let owner = self.ast.function(function);
@@ -126,7 +135,10 @@ impl VastFile {
     ) -> Result<LogicRef, VastFault>
         requires function { OwnsFunction (bench self.old) function }
         requires data_type { OwnsType (bench self.old) data_type.now }
-        ensures { MayBuild self.old self.new result (λ b. unless_taken_in_function (codes "input") name.now b function) next_logic_ref (λ _. with_variable function false (record { kind = DataKind.Reg; name = name.now; data_type = data_type.now })) }
+        ensures { MayBuild self.old self.new result
+            (λ b. unless_taken_in_function (codes "input") name.now b function) next_logic_ref
+            (λ _. with_variable function false
+            (record { kind = DataKind.Reg; name = name.now; data_type = data_type.now })) }
     {
         self.refuse_taken_in_function(function, "input", name)?;
         Ok(
@@ -147,7 +159,10 @@ impl VastFile {
     ) -> Result<LogicRef, VastFault>
         requires function { OwnsFunction (bench self.old) function }
         requires data_type { OwnsType (bench self.old) data_type.now }
-        ensures { MayBuild self.old self.new result (λ b. unless_taken_in_function (codes "input") name.now b function) next_logic_ref (λ _. with_variable function false (record { kind = DataKind.Logic; name = name.now; data_type = data_type.now })) }
+        ensures { MayBuild self.old self.new result
+            (λ b. unless_taken_in_function (codes "input") name.now b function) next_logic_ref
+            (λ _. with_variable function false
+            (record { kind = DataKind.Logic; name = name.now; data_type = data_type.now })) }
     {
         self.refuse_taken_in_function(function, "input", name)?;
         Ok(
@@ -168,7 +183,10 @@ impl VastFile {
     ) -> Result<LogicRef, VastFault>
         requires function { OwnsFunction (bench self.old) function }
         requires data_type { OwnsType (bench self.old) data_type.now }
-        ensures { MayBuild self.old self.new result (λ b. unless_taken_in_function (codes "reg") name.now b function) next_logic_ref (λ _. with_variable function true (record { kind = DataKind.Reg; name = name.now; data_type = data_type.now })) }
+        ensures { MayBuild self.old self.new result
+            (λ b. unless_taken_in_function (codes "reg") name.now b function) next_logic_ref
+            (λ _. with_variable function true
+            (record { kind = DataKind.Reg; name = name.now; data_type = data_type.now })) }
     {
         self.refuse_taken_in_function(function, "reg", name)?;
         Ok(
@@ -189,7 +207,10 @@ impl VastFile {
     ) -> Result<LogicRef, VastFault>
         requires function { OwnsFunction (bench self.old) function }
         requires data_type { OwnsType (bench self.old) data_type.now }
-        ensures { MayBuild self.old self.new result (λ b. unless_taken_in_function (codes "logic") name.now b function) next_logic_ref (λ _. with_variable function true (record { kind = DataKind.Logic; name = name.now; data_type = data_type.now })) }
+        ensures { MayBuild self.old self.new result
+            (λ b. unless_taken_in_function (codes "logic") name.now b function) next_logic_ref
+            (λ _. with_variable function true
+            (record { kind = DataKind.Logic; name = name.now; data_type = data_type.now })) }
     {
         self.refuse_taken_in_function(function, "logic", name)?;
         Ok(

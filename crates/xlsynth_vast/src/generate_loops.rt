@@ -5,7 +5,7 @@ ghost use Rattle.std.specs.Prelude.{◌≡◌, false, Some, IfOk, option_copied}
 ghost use Rattle.vast_core.specs.Bench.{OwnsModule, OwnsLoop, OwnsExpr, OwnsLogicRef, OwnsDef, OwnsComment, OwnsInline, OwnsMacroStatement, OwnsInstantiation};
 ghost use Rattle.vast_core.specs.Records.{AssignmentEntry, BlankEntry, CommentEntry, InlineEntry, MacroEntry, InstanceEntry, ConditionalEntry, LoopEntry};
 ghost use Rattle.vast_core.specs.Nests.{label_bytes};
-ghost use Rattle.vast_core.specs.Growth.{Builds, with_member, with_assignment, next_continuous};
+ghost use Rattle.vast_core.specs.Growth.{Builds, Leaves, with_member, with_assignment, next_continuous};
 ghost use Rattle.vast_core.specs.Artifacts.{next_statement};
 ghost use Rattle.vast_core.specs.Containers.{next_conditional, with_conditional};
 ghost use Rattle.vast_core.specs.Parameters.{next_localparam_ref};
@@ -48,7 +48,9 @@ impl VastFile {
         requires owner { OwnsModule (bench self.old) owner }
         requires start { OwnsExpr (bench self.old) start.now }
         requires end { OwnsExpr (bench self.old) end.now }
-        ensures { Builds self.old self.new result next_loop (λ b. with_member owner (LoopEntry (next_loop b)) (with_loop name.now start.now end.now (option_copied label.entry) b)) }
+        ensures { Builds self.old self.new result next_loop
+            (λ b. with_member owner (LoopEntry (next_loop b))
+            (with_loop name.now start.now end.now (option_copied label.entry) b)) }
     {
         let label = own_label(self.ast.allocator(), label)?;
         self.ast
@@ -71,7 +73,9 @@ impl VastFile {
         requires parent { OwnsLoop (bench self.old) parent }
         requires start { OwnsExpr (bench self.old) start.now }
         requires end { OwnsExpr (bench self.old) end.now }
-        ensures { Builds self.old self.new result next_loop (λ b. with_loop_member parent (LoopEntry (next_loop b)) (with_loop name.now start.now end.now (option_copied label.entry) b)) }
+        ensures { Builds self.old self.new result next_loop
+            (λ b. with_loop_member parent (LoopEntry (next_loop b))
+            (with_loop name.now start.now end.now (option_copied label.entry) b)) }
     {
         let label = own_label(self.ast.allocator(), label)?;
         self.ast
@@ -99,7 +103,8 @@ impl VastFile {
     ) -> Result<LocalparamRef, AllocError>
         requires generate { OwnsLoop (bench self.old) generate }
         requires rhs { OwnsExpr (bench self.old) rhs.now }
-        ensures { Builds self.old self.new result next_localparam_ref (with_plain_loop_parameter generate name.now rhs.now) }
+        ensures { Builds self.old self.new result next_localparam_ref
+            (with_plain_loop_parameter generate name.now rhs.now) }
     {
         let form = ParameterForm::Plain(String::from_str(self.ast.allocator(), name)?);
         self.ast.push_localparam(Scope::Loop(generate), form, *rhs)
@@ -118,7 +123,8 @@ impl VastFile {
         requires generate { OwnsLoop (bench self.old) generate }
         requires definition { OwnsDef (bench self.old) definition.now }
         requires rhs { OwnsExpr (bench self.old) rhs.now }
-        ensures { Builds self.old self.new result next_localparam_ref (with_defined_loop_parameter generate definition.now rhs.now) }
+        ensures { Builds self.old self.new result next_localparam_ref
+            (with_defined_loop_parameter generate definition.now rhs.now) }
     {
         let form = ParameterForm::Defined(*definition);
         self.ast.push_localparam(Scope::Loop(generate), form, *rhs)
@@ -137,7 +143,10 @@ impl VastFile {
         requires generate { OwnsLoop (bench self.old) generate }
         requires lhs { OwnsExpr (bench self.old) lhs.now }
         requires rhs { OwnsExpr (bench self.old) rhs.now }
-        ensures { Builds self.old self.new result next_statement (λ b. with_loop_member generate (AssignmentEntry (next_continuous b)) (with_assignment (record { lhs = lhs.now; rhs = rhs.now; nonblocking = false }) b)) }
+        ensures { Builds self.old self.new result next_statement
+            (λ b. with_loop_member generate (AssignmentEntry (next_continuous b))
+            (with_assignment (record { lhs = lhs.now; rhs = rhs.now; nonblocking = false })
+            b)) }
     {
         let spot = Spot::Scope(Scope::Loop(generate));
         self.ast
@@ -155,7 +164,9 @@ impl VastFile {
     ) -> Result<Conditional, AllocError>
         requires generate { OwnsLoop (bench self.old) generate }
         requires condition { OwnsExpr (bench self.old) condition.now }
-        ensures { Builds self.old self.new result next_conditional (λ b. with_loop_member generate (ConditionalEntry (next_conditional b)) (with_conditional condition.now b)) }
+        ensures { Builds self.old self.new result next_conditional
+            (λ b. with_loop_member generate (ConditionalEntry (next_conditional b))
+            (with_conditional condition.now b)) }
     {
         self.ast
             .push_conditional(Spot::Scope(Scope::Loop(generate)), *condition)
@@ -184,7 +195,8 @@ impl VastFile {
     ) -> Result<(), AllocError>
         requires generate { OwnsLoop (bench self.old) generate }
         requires comment { OwnsComment (bench self.old) comment.now }
-        ensures { Leaves self.old self.new result (with_loop_member generate (CommentEntry comment.now)) }
+        ensures { Leaves self.old self.new result
+            (with_loop_member generate (CommentEntry comment.now)) }
     {
         self.ast
             .append_member(Scope::Loop(generate), Member::Comment(*comment))
@@ -201,7 +213,8 @@ impl VastFile {
     ) -> Result<(), AllocError>
         requires generate { OwnsLoop (bench self.old) generate }
         requires instantiation { OwnsInstantiation (bench self.old) instantiation.now }
-        ensures { Leaves self.old self.new result (with_loop_member generate (InstanceEntry instantiation.now)) }
+        ensures { Leaves self.old self.new result
+            (with_loop_member generate (InstanceEntry instantiation.now)) }
     {
         self.ast.append_member(Scope::Loop(generate), Member::Instantiation(*instantiation))
     }
@@ -217,7 +230,8 @@ impl VastFile {
     ) -> Result<(), AllocError>
         requires generate { OwnsLoop (bench self.old) generate }
         requires statement { OwnsInline (bench self.old) statement.now }
-        ensures { Leaves self.old self.new result (with_loop_member generate (InlineEntry statement.now)) }
+        ensures { Leaves self.old self.new result
+            (with_loop_member generate (InlineEntry statement.now)) }
     {
         self.ast
             .append_member(Scope::Loop(generate), Member::Inline(*statement))
@@ -234,7 +248,8 @@ impl VastFile {
     ) -> Result<(), AllocError>
         requires generate { OwnsLoop (bench self.old) generate }
         requires statement { OwnsMacroStatement (bench self.old) statement.now }
-        ensures { Leaves self.old self.new result (with_loop_member generate (MacroEntry statement.now)) }
+        ensures { Leaves self.old self.new result
+            (with_loop_member generate (MacroEntry statement.now)) }
     {
         self.ast
             .append_member(Scope::Loop(generate), Member::Macro(*statement))

@@ -37,7 +37,8 @@ impl VastFile {
         direction: ModulePortDirection,
     ) -> Result<Vec<ModulePort>, AllocError>
         requires { OwnsModule (bench self.now) owner }
-        ensures ports { IfOk result (λ ports. ports.items ≡ ports_towards direction (bench self.now) owner) }
+        ensures ports { IfOk result
+            (λ ports. ports.items ≡ ports_towards direction (bench self.now) owner) }
         ensures owned { IfOk result (λ ports. All (OwnsPort (bench self.now)) ports.items) }
     {
         let mut ports = Vec::new(self.ast.allocator());
@@ -55,7 +56,9 @@ impl VastFile {
     /// `AllocError` where memory for the list was refused.
     pub fn module_input_ports(&self, owner: VastModule) -> Result<Vec<ModulePort>, AllocError>
         requires { OwnsModule (bench self.now) owner }
-        ensures ports { IfOk result (λ ports. ports.items ≡ ports_towards ModulePortDirection.Input (bench self.now) owner) }
+        ensures ports { IfOk result
+            (λ ports. ports.items
+            ≡ ports_towards ModulePortDirection.Input (bench self.now) owner) }
         ensures owned { IfOk result (λ ports. All (OwnsPort (bench self.now)) ports.items) }
     {
         self.ports_towards(owner, ModulePortDirection::Input)
@@ -67,7 +70,9 @@ impl VastFile {
     /// `AllocError` where memory for the list was refused.
     pub fn module_output_ports(&self, owner: VastModule) -> Result<Vec<ModulePort>, AllocError>
         requires { OwnsModule (bench self.now) owner }
-        ensures ports { IfOk result (λ ports. ports.items ≡ ports_towards ModulePortDirection.Output (bench self.now) owner) }
+        ensures ports { IfOk result
+            (λ ports. ports.items
+            ≡ ports_towards ModulePortDirection.Output (bench self.now) owner) }
         ensures owned { IfOk result (λ ports. All (OwnsPort (bench self.now)) ports.items) }
     {
         self.ports_towards(owner, ModulePortDirection::Output)
@@ -130,7 +135,8 @@ impl VastFile {
     #[tactic(auto, using(vast_core::proofs::Laws::conversions))]
     pub fn logic_ref_name(&self, logic_ref: LogicRef) -> Result<String, AllocError>
         requires { OwnsLogicRef (bench self.now) logic_ref }
-        ensures { IfOk result (λ name. name_of_ref (bench self.now) logic_ref ≡ Some (string_bytes name)) }
+        ensures { IfOk result
+            (λ name. name_of_ref (bench self.now) logic_ref ≡ Some (string_bytes name)) }
     {
         let ExprNode::Name(name, _) = self.ast.expr(logic_ref.to_expr()) else {
             unreachable!()

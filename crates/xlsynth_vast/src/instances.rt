@@ -14,7 +14,8 @@ use vast_core::{Connection, Expr, Instantiation};
 
 /// An expression that is given to a parameter or a port by its name; an open port has none.
 fn connection(alloc: Global, name: &str, value: Option<Expr>) -> Result<Connection, AllocError>
-    ensures { IfOk result (λ made. connection_record made ≡ record { name = name.now; value = value }) }
+    ensures { IfOk result
+        (λ made. connection_record made ≡ record { name = name.now; value = value }) }
 {
     let name = String::from_str(alloc, name)?;
     Ok(Connection { name, value })
@@ -27,7 +28,9 @@ fn parameters(
     values: &[&Expr],
 ) -> Result<Vec<Connection>, AllocError>
     requires { length names.now ≡ length values.now }
-    ensures { IfOk result (λ made. map connection_record made.items ≡ connected (map (λ n. n.now) names.now) (map (λ e. Some e.now) values.now)) }
+    ensures { IfOk result
+        (λ made. map connection_record made.items
+        ≡ connected (map (λ n. n.now) names.now) (map (λ e. Some e.now) values.now)) }
 {
     let mut made = Vec::new(alloc);
     for i in 0..names.len() {
@@ -43,7 +46,9 @@ fn connections(
     values: &[Option<&Expr>],
 ) -> Result<Vec<Connection>, AllocError>
     requires { length names.now ≡ length values.now }
-    ensures { IfOk result (λ made. map connection_record made.items ≡ connected (map (λ n. n.now) names.now) (map option_copied values.now)) }
+    ensures { IfOk result
+        (λ made. map connection_record made.items
+        ≡ connected (map (λ n. n.now) names.now) (map option_copied values.now)) }
 {
     let mut made = Vec::new(alloc);
     for i in 0..names.len() {
@@ -69,9 +74,21 @@ impl VastFile {
     ) -> Result<Instantiation, AllocError>
         requires parameters { length parameter_names.now ≡ length parameter_expressions.now }
         requires connections { length connection_names.now ≡ length connection_expressions.now }
-        requires parameter_expressions { All (λ e. OwnsExpr (bench self.old) e.now) parameter_expressions.now }
-        requires connection_expressions { All (λ e. IfSome e (λ x. OwnsExpr (bench self.old) x.now)) connection_expressions.now }
-        ensures { Builds self.old self.new result next_instantiation (with_instance (record { module_name = module_name.now; instance_name = instance_name.now; parameters = connected (map (λ n. n.now) parameter_names.now) (map (λ e. Some e.now) parameter_expressions.now); connections = connected (map (λ n. n.now) connection_names.now) (map option_copied connection_expressions.now) })) }
+        requires parameter_expressions { All (λ e. OwnsExpr (bench self.old) e.now)
+            parameter_expressions.now }
+        requires connection_expressions { All (λ e. IfSome e (λ x. OwnsExpr (bench self.old) x.now))
+            connection_expressions.now }
+        ensures { Builds self.old self.new result next_instantiation
+            (with_instance
+            (record {
+              module_name = module_name.now;
+              instance_name = instance_name.now;
+              parameters = connected (map (λ n. n.now) parameter_names.now)
+                  (map (λ e. Some e.now) parameter_expressions.now);
+              connections = connected
+                  (map (λ n. n.now) connection_names.now)
+                  (map option_copied connection_expressions.now);
+            })) }
     {
         let alloc = self.ast.allocator();
         let parameters = parameters(alloc, parameter_names, parameter_expressions)?;

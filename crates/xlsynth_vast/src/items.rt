@@ -4,7 +4,7 @@
 ghost use Rattle.std.specs.Prelude.{◌≡◌};
 ghost use Rattle.vast_core.specs.Bench.{OwnsBlankLine};
 ghost use Rattle.vast_core.specs.Records.{IncludeEntry, FileCommentEntry, FileBlankEntry};
-ghost use Rattle.vast_core.specs.Growth.{Builds, with_item};
+ghost use Rattle.vast_core.specs.Growth.{Leaves, with_item};
 ghost use Rattle.vast_core.specs.View.{bench};
 
 use crate::file::VastFile;

@@ -3,7 +3,7 @@
 ghost use Rattle.std.specs.Prelude.{◌≡◌};
 ghost use Rattle.vast_core.specs.Bench.{OwnsModule, OwnsContinuous, OwnsBlankLine, OwnsComment, OwnsInline, OwnsMacroStatement, OwnsInstantiation};
 ghost use Rattle.vast_core.specs.Records.{AssignmentEntry, BlankEntry, CommentEntry, InlineEntry, MacroEntry, InstanceEntry};
-ghost use Rattle.vast_core.specs.Growth.{Builds, with_member};
+ghost use Rattle.vast_core.specs.Growth.{Leaves, with_member};
 ghost use Rattle.vast_core.specs.View.{bench};
 
 use crate::file::VastFile;
@@ -25,7 +25,8 @@ impl VastFile {
     ) -> Result<(), AllocError>
         requires owner { OwnsModule (bench self.old) owner }
         requires instantiation { OwnsInstantiation (bench self.old) instantiation }
-        ensures { Leaves self.old self.new result (with_member owner (InstanceEntry instantiation)) }
+        ensures { Leaves self.old self.new result
+            (with_member owner (InstanceEntry instantiation)) }
     {
         self.ast
             .append_member(Scope::Module(owner), Member::Instantiation(instantiation))

@@ -28,7 +28,8 @@ impl VastFile {
     ) -> Result<LogicRef, AllocError>
         requires owner { OwnsModule (bench self.old) owner }
         requires value { OwnsExpr (bench self.old) value.now }
-        ensures { Builds self.old self.new result next_logic_ref (with_parameter_port owner name.now None value.now) }
+        ensures { Builds self.old self.new result next_logic_ref
+            (with_parameter_port owner name.now None value.now) }
     {
         self.ast.push_parameter_port(owner, name, None, *value)
     }
@@ -47,7 +48,8 @@ impl VastFile {
         requires owner { OwnsModule (bench self.old) owner }
         requires data_type { OwnsType (bench self.old) data_type.now }
         requires value { OwnsExpr (bench self.old) value.now }
-        ensures { Builds self.old self.new result next_logic_ref (with_parameter_port owner name.now (Some data_type.now) value.now) }
+        ensures { Builds self.old self.new result next_logic_ref
+            (with_parameter_port owner name.now (Some data_type.now) value.now) }
     {
         self.ast
             .push_parameter_port(owner, name, Some(*data_type), *value)
@@ -65,7 +67,8 @@ impl VastFile {
     ) -> Result<ParameterRef, AllocError>
         requires owner { OwnsModule (bench self.old) owner }
         requires rhs { OwnsExpr (bench self.old) rhs.now }
-        ensures { Builds self.old self.new result next_parameter_ref (with_plain_parameter owner false name.now rhs.now) }
+        ensures { Builds self.old self.new result next_parameter_ref
+            (with_plain_parameter owner false name.now rhs.now) }
     {
         let form = ParameterForm::Plain(String::from_str(self.ast.allocator(), name)?);
         self.ast.push_parameter(owner, form, *rhs)
@@ -84,7 +87,8 @@ impl VastFile {
         requires owner { OwnsModule (bench self.old) owner }
         requires definition { OwnsDef (bench self.old) definition.now }
         requires rhs { OwnsExpr (bench self.old) rhs.now }
-        ensures { Builds self.old self.new result next_parameter_ref (with_defined_parameter owner false definition.now rhs.now) }
+        ensures { Builds self.old self.new result next_parameter_ref
+            (with_defined_parameter owner false definition.now rhs.now) }
     {
         let defined = ParameterForm::Defined(*definition);
         self.ast.push_parameter(owner, defined, *rhs)
@@ -102,7 +106,8 @@ impl VastFile {
     ) -> Result<LocalparamRef, AllocError>
         requires owner { OwnsModule (bench self.old) owner }
         requires rhs { OwnsExpr (bench self.old) rhs.now }
-        ensures { Builds self.old self.new result next_localparam_ref (with_plain_parameter owner true name.now rhs.now) }
+        ensures { Builds self.old self.new result next_localparam_ref
+            (with_plain_parameter owner true name.now rhs.now) }
     {
         let form = ParameterForm::Plain(String::from_str(self.ast.allocator(), name)?);
         self.ast.push_localparam(Scope::Module(owner), form, *rhs)
@@ -120,7 +125,8 @@ impl VastFile {
     ) -> Result<LocalparamRef, AllocError>
         requires owner { OwnsModule (bench self.old) owner }
         requires rhs { OwnsExpr (bench self.old) rhs.now }
-        ensures { Builds self.old self.new result next_localparam_ref (with_int_parameter owner true name.now rhs.now) }
+        ensures { Builds self.old self.new result next_localparam_ref
+            (with_int_parameter owner true name.now rhs.now) }
     {
         let int_form = ParameterForm::Int(String::from_str(self.ast.allocator(), name)?);
         self.ast
@@ -140,7 +146,8 @@ impl VastFile {
         requires owner { OwnsModule (bench self.old) owner }
         requires definition { OwnsDef (bench self.old) definition.now }
         requires rhs { OwnsExpr (bench self.old) rhs.now }
-        ensures { Builds self.old self.new result next_localparam_ref (with_defined_parameter owner true definition.now rhs.now) }
+        ensures { Builds self.old self.new result next_localparam_ref
+            (with_defined_parameter owner true definition.now rhs.now) }
     {
         let defined = ParameterForm::Defined(*definition);
         self.ast

@@ -23,7 +23,8 @@ impl VastFile {
         requires owner { OwnsModule (bench self.old) owner }
         requires data_type { OwnsType (bench self.old) data_type }
         requires free { NameIsFree (bench self.old) owner name.now }
-        ensures { Builds self.old self.new result next_logic_ref (with_port owner direction DataKind.Wire name.now data_type) }
+        ensures { Builds self.old self.new result next_logic_ref
+            (with_port owner direction DataKind.Wire name.now data_type) }
     {
         self.ast
             .push_port(owner, direction, DataKind::Wire, name, data_type)
@@ -39,7 +40,8 @@ impl VastFile {
         requires owner { OwnsModule (bench self.old) owner }
         requires data_type { OwnsType (bench self.old) data_type }
         requires free { NameIsFree (bench self.old) owner name.now }
-        ensures { Builds self.old self.new result next_logic_ref (with_port owner direction DataKind.Logic name.now data_type) }
+        ensures { Builds self.old self.new result next_logic_ref
+            (with_port owner direction DataKind.Logic name.now data_type) }
     {
         self.ast
             .push_port(owner, direction, DataKind::Logic, name, data_type)
@@ -58,7 +60,8 @@ impl VastFile {
         requires owner { OwnsModule (bench self.old) owner }
         requires data_type { OwnsType (bench self.old) data_type.now }
         requires free { NameIsFree (bench self.old) owner name.now }
-        ensures { Builds self.old self.new result next_logic_ref (with_port owner ModulePortDirection.Input DataKind.Wire name.now data_type.now) }
+        ensures { Builds self.old self.new result next_logic_ref
+            (with_port owner ModulePortDirection.Input DataKind.Wire name.now data_type.now) }
     {
         self.wire_port(owner, ModulePortDirection::Input, name, *data_type)
     }
@@ -76,7 +79,8 @@ impl VastFile {
         requires owner { OwnsModule (bench self.old) owner }
         requires data_type { OwnsType (bench self.old) data_type.now }
         requires free { NameIsFree (bench self.old) owner name.now }
-        ensures { Builds self.old self.new result next_logic_ref (with_port owner ModulePortDirection.Output DataKind.Wire name.now data_type.now) }
+        ensures { Builds self.old self.new result next_logic_ref
+            (with_port owner ModulePortDirection.Output DataKind.Wire name.now data_type.now) }
     {
         self.wire_port(owner, ModulePortDirection::Output, name, *data_type)
     }
@@ -94,7 +98,8 @@ impl VastFile {
         requires owner { OwnsModule (bench self.old) owner }
         requires data_type { OwnsType (bench self.old) data_type.now }
         requires free { NameIsFree (bench self.old) owner name.now }
-        ensures { Builds self.old self.new result next_logic_ref (with_port owner ModulePortDirection.InOut DataKind.Wire name.now data_type.now) }
+        ensures { Builds self.old self.new result next_logic_ref
+            (with_port owner ModulePortDirection.InOut DataKind.Wire name.now data_type.now) }
     {
         self.wire_port(owner, ModulePortDirection::InOut, name, *data_type)
     }
@@ -112,7 +117,8 @@ impl VastFile {
         requires owner { OwnsModule (bench self.old) owner }
         requires data_type { OwnsType (bench self.old) data_type.now }
         requires free { NameIsFree (bench self.old) owner name.now }
-        ensures { Builds self.old self.new result next_logic_ref (with_port owner ModulePortDirection.Input DataKind.Logic name.now data_type.now) }
+        ensures { Builds self.old self.new result next_logic_ref
+            (with_port owner ModulePortDirection.Input DataKind.Logic name.now data_type.now) }
     {
         self.logic_port(owner, ModulePortDirection::Input, name, *data_type)
     }
@@ -130,7 +136,8 @@ impl VastFile {
         requires owner { OwnsModule (bench self.old) owner }
         requires data_type { OwnsType (bench self.old) data_type.now }
         requires free { NameIsFree (bench self.old) owner name.now }
-        ensures { Builds self.old self.new result next_logic_ref (with_port owner ModulePortDirection.Output DataKind.Logic name.now data_type.now) }
+        ensures { Builds self.old self.new result next_logic_ref
+            (with_port owner ModulePortDirection.Output DataKind.Logic name.now data_type.now) }
     {
         self.logic_port(owner, ModulePortDirection::Output, name, *data_type)
     }

@@ -15,7 +15,8 @@ use vast_print::print_expr;
 
 /// The refusal of this text, or want of memory where the text could not be made.
 pub(crate) fn refusal(text: Result<String, AllocError>) -> VastFault
-    ensures { MatchResult text (λ t. HasText result (string_bytes t)) (λ error. result ≡ VastFault.Memory error) }
+    ensures { MatchResult text (λ t. HasText result (string_bytes t))
+        (λ error. result ≡ VastFault.Memory error) }
 {
     match text {
         Ok(text) => VastFault::Refused(VastError(text)),

@@ -24,7 +24,7 @@ impl VastFile {
     /// # Errors
     /// `AllocError` where a growth was refused; the file is unchanged.
     pub fn make_scalar_type(&mut self) -> Result<VastDataType, AllocError>
-        ensures { Builds self.old self.new result next_type (λ b. with_type b (ScalarTree false)) }
+        ensures { Builds self.old self.new result next_type (with_type (ScalarTree false)) }
     {
         self.ast.push_type(TypeNode::Scalar(false))
     }
@@ -39,7 +39,8 @@ impl VastFile {
         signed: bool,
     ) -> Result<VastDataType, AllocError>
         requires { pos 1 ≤ℤ bit_count }
-        ensures { Builds self.old self.new result (next_bit_vector bit_count) (with_bit_vector bit_count signed) }
+        ensures { Builds self.old self.new result (next_bit_vector bit_count)
+            (with_bit_vector bit_count signed) }
     {
         if bit_count == 1 {
             self.ast.push_type(TypeNode::Scalar(signed))
@@ -70,7 +71,7 @@ impl VastFile {
     /// # Errors
     /// `AllocError` where a growth was refused; the file is unchanged.
     pub fn make_integer_type(&mut self, signed: bool) -> Result<VastDataType, AllocError>
-        ensures { Builds self.old self.new result next_type (λ b. with_type b (IntegerTree signed)) }
+        ensures { Builds self.old self.new result next_type (with_type (IntegerTree signed)) }
     {
         self.ast.push_type(TypeNode::Integer(signed))
     }
@@ -80,7 +81,7 @@ impl VastFile {
     /// # Errors
     /// `AllocError` where a growth was refused; the file is unchanged.
     pub fn make_int_type(&mut self, signed: bool) -> Result<VastDataType, AllocError>
-        ensures { Builds self.old self.new result next_type (λ b. with_type b (IntTree signed)) }
+        ensures { Builds self.old self.new result next_type (with_type (IntTree signed)) }
     {
         self.ast.push_type(TypeNode::Int(signed))
     }
@@ -90,7 +91,7 @@ impl VastFile {
     /// # Errors
     /// `AllocError` where a growth was refused; the file is unchanged.
     pub fn make_extern_type(&mut self, name: &str) -> Result<VastDataType, AllocError>
-        ensures { Builds self.old self.new result next_type (λ b. with_type b (ExternalTree name.now)) }
+        ensures { Builds self.old self.new result next_type (with_type (ExternalTree name.now)) }
     {
         let name = String::from_str(self.ast.allocator(), name)?;
         self.ast.push_type(TypeNode::External(name))
@@ -105,7 +106,8 @@ impl VastFile {
         package_name: &str,
         name: &str,
     ) -> Result<VastDataType, AllocError>
-        ensures { Builds self.old self.new result next_type (λ b. with_type b (PackageTree package_name.now name.now)) }
+        ensures { Builds self.old self.new result next_type
+            (with_type (PackageTree package_name.now name.now)) }
     {
         let package_name = String::from_str(self.ast.allocator(), package_name)?;
         let name = String::from_str(self.ast.allocator(), name)?;
@@ -177,7 +179,8 @@ impl VastFile {
     pub fn type_width_expr(&self, data_type: VastDataType) -> Option<Expr>
         requires { OwnsType (bench self.now) data_type }
         ensures owned { IfSome result (OwnsExpr (bench self.now)) }
-        ensures width { maybe_tree_of (bench self.now) result ≡ width_of (type_of (bench self.now) data_type) }
+        ensures width { maybe_tree_of (bench self.now) result
+            ≡ width_of (type_of (bench self.now) data_type) }
     {
         self.ast.type_width_expr(data_type)
     }

@@ -1,6 +1,6 @@
 //! Always blocks.
 
-ghost use Rattle.std.specs.Prelude.{◌≡◌, All, None, Some, [], slice_get};
+ghost use Rattle.std.specs.Prelude.{◌≡◌, All, Some, [], slice_get};
 ghost use Rattle.vast_literal.specs.declared.kind.AlwaysKind.TheVariants.{AlwaysFF, AlwaysAt, AlwaysComb};
 ghost use Rattle.vast_core.specs.Handles.{always_index};
 ghost use Rattle.vast_core.specs.Records.{AlwaysEntry};
@@ -31,7 +31,9 @@ impl Ast {
     ) -> Result<VastAlwaysBase, AllocError>
         requires scope { OwnsScope (bench self.old) scope }
         requires events { All (EventSound (bench self.old)) events.items }
-        ensures { Builds self.old self.new result next_always (λ b. with_scope_member scope (AlwaysEntry (next_always b)) (with_always kind events.items b)) }
+        ensures { Builds self.old self.new result next_always
+            (λ b. with_scope_member scope (AlwaysEntry (next_always b))
+            (with_always kind events.items b)) }
     {
         let always_block = VastAlwaysBase {
             id: self.next_always_block(),
@@ -67,7 +69,9 @@ impl Ast {
     ) -> Result<VastAlwaysBase, AllocError>
         requires scope { OwnsScope (bench self.old) scope }
         requires events { All (EventSound (bench self.old)) events.items }
-        ensures { Builds self.old self.new result next_always (λ b. with_scope_member scope (AlwaysEntry (next_always b)) (with_always AlwaysFF events.items b)) }
+        ensures { Builds self.old self.new result next_always
+            (λ b. with_scope_member scope (AlwaysEntry (next_always b))
+            (with_always AlwaysFF events.items b)) }
     {
         self.push_always(scope, AlwaysKind::AlwaysFF, events)
     }
@@ -84,7 +88,9 @@ impl Ast {
     ) -> Result<VastAlwaysBase, AllocError>
         requires scope { OwnsScope (bench self.old) scope }
         requires events { All (EventSound (bench self.old)) events.items }
-        ensures { Builds self.old self.new result next_always (λ b. with_scope_member scope (AlwaysEntry (next_always b)) (with_always AlwaysAt events.items b)) }
+        ensures { Builds self.old self.new result next_always
+            (λ b. with_scope_member scope (AlwaysEntry (next_always b))
+            (with_always AlwaysAt events.items b)) }
     {
         self.push_always(scope, AlwaysKind::AlwaysAt, events)
     }
@@ -95,7 +101,9 @@ impl Ast {
     /// `AllocError` where a growth was refused; nothing changed.
     pub fn push_always_comb(&mut self, scope: Scope) -> Result<VastAlwaysBase, AllocError>
         requires { OwnsScope (bench self.old) scope }
-        ensures { Builds self.old self.new result next_always (λ b. with_scope_member scope (AlwaysEntry (next_always b)) (with_always AlwaysComb [] b)) }
+        ensures { Builds self.old self.new result next_always
+            (λ b. with_scope_member scope (AlwaysEntry (next_always b))
+            (with_always AlwaysComb [] b)) }
     {
         let events = Vec::new(self.alloc);
         self.push_always(scope, AlwaysKind::AlwaysComb, events)
@@ -116,7 +124,9 @@ impl Ast {
         requires events { All (EventSound (bench self.old)) events.items }
         requires spare { (bench self.old).spare ≡ Some block }
         requires older { IsOlder scope block }
-        ensures { Builds self.old self.new result next_always (λ b. with_scope_member scope (AlwaysEntry (next_always b)) (with_always_over AlwaysFF events.items block b)) }
+        ensures { Builds self.old self.new result next_always
+            (λ b. with_scope_member scope (AlwaysEntry (next_always b))
+            (with_always_over AlwaysFF events.items block b)) }
     {
         self.file_is_sound();
         let always_block = VastAlwaysBase {
@@ -141,7 +151,8 @@ impl Ast {
     /// An always block. Its events and its block are the file's.
     pub fn always_block(&self, a: VastAlwaysBase) -> &AlwaysBlock
         requires { OwnsAlways (bench self.now) a }
-        ensures there { slice_get (bench self.now).always_blocks (always_index a) ≡ Some (always_record result.now) }
+        ensures there { slice_get (bench self.now).always_blocks (always_index a)
+            ≡ Some (always_record result.now) }
         ensures events { All (EventSound (bench self.now)) result.now.events.items }
         ensures block { OwnsBlock (bench self.now) result.now.block }
     {

@@ -146,25 +146,43 @@ pub(crate) fn settle_node(
     always_blocks: &mut Vec<AlwaysBlock>,
     node: Node,
 )
-    requires assignments { count_of (fresh_node node).assignment ≤ vec_capacity assignments.old - vec_len assignments.old }
-    requires nests { count_of (fresh_node node).container ≤ vec_capacity nests.old - vec_len nests.old }
+    requires assignments { count_of (fresh_node node).assignment ≤ vec_capacity assignments.old
+        - vec_len assignments.old }
+    requires nests { count_of (fresh_node node).container ≤ vec_capacity nests.old
+        - vec_len nests.old }
     requires ports { count_of (fresh_node node).port ≤ vec_capacity ports.old - vec_len ports.old }
-    requires modules { count_of (fresh_node node).fresh_module ≤ vec_capacity modules.old - vec_len modules.old }
-    requires functions { count_of (fresh_node node).function ≤ vec_capacity functions.old - vec_len functions.old }
-    requires definitions { count_of (fresh_node node).definition ≤ vec_capacity definitions.old - vec_len definitions.old }
-    requires artifacts { count_of (fresh_node node).artifact ≤ vec_capacity artifacts.old - vec_len artifacts.old }
-    requires instances { count_of (fresh_node node).instance ≤ vec_capacity instances.old - vec_len instances.old }
-    requires always_blocks { count_of (fresh_node node).always_block ≤ vec_capacity always_blocks.old - vec_len always_blocks.old }
-    ensures assignments { assignments.new.items ≡ added assignments.old.items (fresh_node node).assignment }
-    ensures nests { map nest_record nests.new.items ≡ added (map nest_record nests.old.items) (fresh_node node).container }
-    ensures ports { map port_record ports.new.items ≡ added (map port_record ports.old.items) (fresh_node node).port }
-    ensures modules { map module_record modules.new.items ≡ added (map module_record modules.old.items) (fresh_node node).fresh_module }
-    ensures functions { map function_record functions.new.items ≡ added (map function_record functions.old.items) (fresh_node node).function }
-    ensures definitions { map definition_record definitions.new.items ≡ added (map definition_record definitions.old.items) (fresh_node node).definition }
-    ensures artifacts { map artifact_record artifacts.new.items ≡ added (map artifact_record artifacts.old.items) (fresh_node node).artifact }
-    ensures instances { map instance_record instances.new.items ≡ added (map instance_record instances.old.items) (fresh_node node).instance }
-    ensures always_blocks { map always_record always_blocks.new.items ≡ added (map always_record always_blocks.old.items) (fresh_node node).always_block }
-    ensures room { vec_capacity nests.old - vec_len nests.old ≤ (vec_capacity nests.new - vec_len nests.new) + count_of (fresh_node node).container }
+    requires modules { count_of (fresh_node node).fresh_module ≤ vec_capacity modules.old
+        - vec_len modules.old }
+    requires functions { count_of (fresh_node node).function ≤ vec_capacity functions.old
+        - vec_len functions.old }
+    requires definitions { count_of (fresh_node node).definition ≤ vec_capacity definitions.old
+        - vec_len definitions.old }
+    requires artifacts { count_of (fresh_node node).artifact ≤ vec_capacity artifacts.old
+        - vec_len artifacts.old }
+    requires instances { count_of (fresh_node node).instance ≤ vec_capacity instances.old
+        - vec_len instances.old }
+    requires always_blocks { count_of (fresh_node node).always_block
+        ≤ vec_capacity always_blocks.old - vec_len always_blocks.old }
+    ensures assignments { assignments.new.items
+        ≡ added assignments.old.items (fresh_node node).assignment }
+    ensures nests { map nest_record nests.new.items
+        ≡ added (map nest_record nests.old.items) (fresh_node node).container }
+    ensures ports { map port_record ports.new.items
+        ≡ added (map port_record ports.old.items) (fresh_node node).port }
+    ensures modules { map module_record modules.new.items
+        ≡ added (map module_record modules.old.items) (fresh_node node).fresh_module }
+    ensures functions { map function_record functions.new.items
+        ≡ added (map function_record functions.old.items) (fresh_node node).function }
+    ensures definitions { map definition_record definitions.new.items
+        ≡ added (map definition_record definitions.old.items) (fresh_node node).definition }
+    ensures artifacts { map artifact_record artifacts.new.items
+        ≡ added (map artifact_record artifacts.old.items) (fresh_node node).artifact }
+    ensures instances { map instance_record instances.new.items
+        ≡ added (map instance_record instances.old.items) (fresh_node node).instance }
+    ensures always_blocks { map always_record always_blocks.new.items
+        ≡ added (map always_record always_blocks.old.items) (fresh_node node).always_block }
+    ensures room { vec_capacity nests.old - vec_len nests.old
+        ≤ (vec_capacity nests.new - vec_len nests.new) + count_of (fresh_node node).container }
 {
     match node {
         Node::Nothing => (),
@@ -185,7 +203,8 @@ pub(crate) fn settle_node(
 /// Adds the empty block, if it comes; there is room for it.
 pub(crate) fn settle_block(nests: &mut Vec<Nest>, block: bool, alloc: Global)
     requires { block_count block ≤ vec_capacity nests.old - vec_len nests.old }
-    ensures { map nest_record nests.new.items ≡ with_empty_block block (map nest_record nests.old.items) }
+    ensures { map nest_record nests.new.items
+        ≡ with_empty_block block (map nest_record nests.old.items) }
 {
     if block {
         nests.push(Nest::Block(Vec::new(alloc))).unwrap();

@@ -1,6 +1,6 @@
 //! Definitions, artifacts and instantiations, which members are made of.
 
-ghost use Rattle.std.specs.Prelude.{◌≡◌, All, Some, length, slice_get, map};
+ghost use Rattle.std.specs.Prelude.{◌≡◌, All, Some, slice_get, map};
 ghost use Rattle.vast_core.specs.Handles.{definition_index, comment_index, inline_index, macro_statement_index, instantiation_index};
 ghost use Rattle.vast_core.specs.Records.{artifact_record, definition_record, connection_record, instance_record, BlankLineRecord, CommentRecord, InlineRecord, MacroRecord};
 ghost use Rattle.vast_core.specs.Bench.{OwnsType, OwnsMacroRef, OwnsDef, OwnsComment, OwnsInline, OwnsMacroStatement, OwnsInstantiation};
@@ -34,7 +34,8 @@ impl Ast {
         data_type: VastDataType,
     ) -> Result<Def, AllocError>
         requires { OwnsType (bench self.old) data_type }
-        ensures { Builds self.old self.new result next_def (with_definition (record { name = name.now; kind = kind; data_type = data_type })) }
+        ensures { Builds self.old self.new result next_def
+            (with_definition (record { name = name.now; kind = kind; data_type = data_type })) }
     {
         let name = String::from_str(self.alloc, name)?;
         let id = self.next_definition();
@@ -56,7 +57,8 @@ impl Ast {
     #[tactic(auto, using(crate::proofs::EntersRecords::enters_records))]
     fn push_artifact(&mut self, artifact: Artifact) -> Result<Id, AllocError>
         requires { ArtifactSound (bench self.old) (artifact_record artifact) }
-        ensures { Builds self.old self.new result next_artifact (with_artifact (artifact_record artifact)) }
+        ensures { Builds self.old self.new result next_artifact
+            (with_artifact (artifact_record artifact)) }
     {
         let id = self.next_artifact();
         self.grow(
@@ -86,7 +88,8 @@ impl Ast {
     /// # Errors
     /// `AllocError` where a growth was refused; nothing changed.
     pub fn push_comment(&mut self, text: &str) -> Result<Comment, AllocError>
-        ensures { Builds self.old self.new result next_comment (with_artifact (CommentRecord text.now)) }
+        ensures { Builds self.old self.new result next_comment
+            (with_artifact (CommentRecord text.now)) }
     {
         let text = String::from_str(self.alloc, text)?;
         let id = self.push_artifact(Artifact::Comment(text))?;
@@ -98,7 +101,8 @@ impl Ast {
     /// # Errors
     /// `AllocError` where a growth was refused; nothing changed.
     pub fn push_inline(&mut self, text: &str) -> Result<InlineVerilogStatement, AllocError>
-        ensures { Builds self.old self.new result next_inline (with_artifact (InlineRecord text.now)) }
+        ensures { Builds self.old self.new result next_inline
+            (with_artifact (InlineRecord text.now)) }
     {
         let text = String::from_str(self.alloc, text)?;
         let id = self.push_artifact(Artifact::Inline(text))?;
@@ -115,7 +119,8 @@ impl Ast {
         semicolon: bool,
     ) -> Result<MacroStatement, AllocError>
         requires { OwnsMacroRef (bench self.old) call }
-        ensures { Builds self.old self.new result next_macro_statement (with_artifact (MacroRecord call semicolon)) }
+        ensures { Builds self.old self.new result next_macro_statement
+            (with_artifact (MacroRecord call semicolon)) }
     {
         let id = self.push_artifact(Artifact::MacroStatement(call, semicolon))?;
         Ok(MacroStatement { id })
@@ -133,10 +138,20 @@ impl Ast {
         parameters: Vec<Connection>,
         connections: Vec<Connection>,
     ) -> Result<Instantiation, AllocError>
-        requires parameters { All (λ c. ConnectionSound (bench self.old) (connection_record c)) parameters.items }
+        requires parameters { All (λ c. ConnectionSound (bench self.old) (connection_record c))
+            parameters.items }
         requires values { All (λ c. HasValue (connection_record c)) parameters.items }
-        requires connections { All (λ c. ConnectionSound (bench self.old) (connection_record c)) connections.items }
-        ensures { Builds self.old self.new result next_instantiation (with_instance (record { module_name = module_name.now; instance_name = instance_name.now; parameters = map connection_record parameters.items; connections = map connection_record connections.items })) }
+        requires connections { All (λ c. ConnectionSound (bench self.old) (connection_record c))
+            connections.items }
+        ensures { Builds self.old self.new result next_instantiation
+            (with_instance
+            (record {
+              module_name = module_name.now;
+              instance_name = instance_name.now;
+              parameters = map connection_record parameters.items;
+              connections = map
+                  connection_record connections.items;
+            })) }
     {
         let module_name = String::from_str(self.alloc, module_name)?;
         let instance_name = String::from_str(self.alloc, instance_name)?;
@@ -160,7 +175,8 @@ impl Ast {
     /// A definition. Its type is the file's.
     pub fn definition(&self, d: Def) -> &Definition
         requires { OwnsDef (bench self.now) d }
-        ensures there { slice_get (bench self.now).definitions (definition_index d) ≡ Some (definition_record result.now) }
+        ensures there { slice_get (bench self.now).definitions (definition_index d)
+            ≡ Some (definition_record result.now) }
         ensures data_type { OwnsType (bench self.now) result.now.data_type }
     {
         &self.definitions[d.id.index]
@@ -169,7 +185,8 @@ impl Ast {
     /// The text of a comment.
     pub fn comment_text(&self, a: Comment) -> &str
         requires { OwnsComment (bench self.now) a }
-        ensures { slice_get (bench self.now).artifacts (comment_index a) ≡ Some (CommentRecord result.now) }
+        ensures { slice_get (bench self.now).artifacts (comment_index a)
+            ≡ Some (CommentRecord result.now) }
     {
         match self.artifact_at(a.id.index) {
             Some(Artifact::Comment(text)) => text.as_str(),
@@ -183,7 +200,8 @@ impl Ast {
     /// The text that is written as it is.
     pub fn inline_text(&self, a: InlineVerilogStatement) -> &str
         requires { OwnsInline (bench self.now) a }
-        ensures { slice_get (bench self.now).artifacts (inline_index a) ≡ Some (InlineRecord result.now) }
+        ensures { slice_get (bench self.now).artifacts (inline_index a)
+            ≡ Some (InlineRecord result.now) }
     {
         match self.artifact_at(a.id.index) {
             Some(Artifact::Inline(text)) => text.as_str(),
@@ -197,7 +215,8 @@ impl Ast {
     /// The macro that is used, and whether a semicolon follows. The macro is the file's.
     pub fn macro_statement(&self, a: MacroStatement) -> (MacroRef, bool)
         requires { OwnsMacroStatement (bench self.now) a }
-        ensures there { slice_get (bench self.now).artifacts (macro_statement_index a) ≡ Some (MacroRecord result.0 result.1) }
+        ensures there { slice_get (bench self.now).artifacts (macro_statement_index a)
+            ≡ Some (MacroRecord result.0 result.1) }
         ensures call { OwnsMacroRef (bench self.now) result.0 }
     {
         match self.artifact_at(a.id.index) {
@@ -212,9 +231,12 @@ impl Ast {
     /// An instantiation. What it gives to parameters and ports is the file's.
     pub fn instance(&self, i: Instantiation) -> &Instance
         requires { OwnsInstantiation (bench self.now) i }
-        ensures there { slice_get (bench self.now).instances (instantiation_index i) ≡ Some (instance_record result.now) }
-        ensures parameters { All (λ c. ConnectionSound (bench self.now) (connection_record c)) result.now.parameters.items }
-        ensures connections { All (λ c. ConnectionSound (bench self.now) (connection_record c)) result.now.connections.items }
+        ensures there { slice_get (bench self.now).instances (instantiation_index i)
+            ≡ Some (instance_record result.now) }
+        ensures parameters { All (λ c. ConnectionSound (bench self.now) (connection_record c))
+            result.now.parameters.items }
+        ensures connections { All (λ c. ConnectionSound (bench self.now) (connection_record c))
+            result.now.connections.items }
     {
         &self.instances[i.id.index]
     }

@@ -26,7 +26,8 @@ impl Ast {
     ) -> Result<ContinuousAssignment, AllocError>
         requires lhs { OwnsExpr (bench self.old) lhs }
         requires rhs { OwnsExpr (bench self.old) rhs }
-        ensures { Builds self.old self.new result next_continuous (with_assignment (record { lhs = lhs; rhs = rhs; nonblocking = false })) }
+        ensures { Builds self.old self.new result next_continuous
+            (with_assignment (record { lhs = lhs; rhs = rhs; nonblocking = false })) }
     {
         let assignment = self.push_assignment(lhs, rhs, false)?;
         Ok(ContinuousAssignment { id: assignment.id })
@@ -45,7 +46,8 @@ impl Ast {
     ) -> Result<VastStatement, AllocError>
         requires lhs { OwnsExpr (bench self.old) lhs }
         requires rhs { OwnsExpr (bench self.old) rhs }
-        ensures { Builds self.old self.new result next_statement (with_assignment (record { lhs = lhs; rhs = rhs; nonblocking = nonblocking })) }
+        ensures { Builds self.old self.new result next_statement
+            (with_assignment (record { lhs = lhs; rhs = rhs; nonblocking = nonblocking })) }
     {
         let id = self.next_assignment();
         self.grow(
@@ -66,7 +68,8 @@ impl Ast {
     /// The sides of an assignment.
     pub fn continuous(&self, a: ContinuousAssignment) -> &Assignment
         requires { OwnsContinuous (bench self.now) a }
-        ensures there { slice_get (bench self.now).assignments (continuous_index a) ≡ Some result.now }
+        ensures there { slice_get (bench self.now).assignments (continuous_index a)
+            ≡ Some result.now }
         ensures lhs { OwnsExpr (bench self.now) result.now.lhs }
         ensures rhs { OwnsExpr (bench self.now) result.now.rhs }
     {
@@ -76,7 +79,8 @@ impl Ast {
     /// The sides of an assignment of a procedural block, and its form.
     pub fn assignment(&self, s: VastStatement) -> &Assignment
         requires { OwnsStatement (bench self.now) s }
-        ensures there { slice_get (bench self.now).assignments (statement_index s) ≡ Some result.now }
+        ensures there { slice_get (bench self.now).assignments (statement_index s)
+            ≡ Some result.now }
         ensures lhs { OwnsExpr (bench self.now) result.now.lhs }
         ensures rhs { OwnsExpr (bench self.now) result.now.rhs }
     {

@@ -30,9 +30,11 @@ impl Ast {
     /// The bits of the type within the arrays.
     fn base_bit_count(&self, data_type: VastDataType) -> Result<i64, BitCountFault>
         requires { OwnsType (bench self.now) data_type }
-        ensures counted { IfOk result (λ n. base_bits (base_of (type_of (bench self.now) data_type)) ≡ Some n) }
+        ensures counted { IfOk result
+            (λ n. base_bits (base_of (type_of (bench self.now) data_type)) ≡ Some n) }
         ensures positive { IfOk result (λ n. pos 1 ≤ℤ n) }
-        ensures refused { IfErr result (λ fault. CountRefused (bench self.now) (type_of (bench self.now) data_type) fault) }
+        ensures refused { IfErr result
+            (λ fault. CountRefused (bench self.now) (type_of (bench self.now) data_type) fault) }
     {
         let base = self.base_type(data_type);
         match self.data_type(base) {
@@ -56,8 +58,10 @@ impl Ast {
     /// [`BitCountFault::Overflow`].
     pub fn flat_bit_count(&self, data_type: VastDataType) -> Result<i64, BitCountFault>
         requires { OwnsType (bench self.now) data_type }
-        ensures counted { IfOk result (λ n. bit_count (type_of (bench self.now) data_type) ≡ Some n) }
-        ensures refused { IfErr result (λ fault. CountRefused (bench self.now) (type_of (bench self.now) data_type) fault) }
+        ensures counted { IfOk result
+            (λ n. bit_count (type_of (bench self.now) data_type) ≡ Some n) }
+        ensures refused { IfErr result
+            (λ fault. CountRefused (bench self.now) (type_of (bench self.now) data_type) fault) }
     {
         let bits = self.base_bit_count(data_type)?;
         let mut count = bits;
@@ -78,8 +82,10 @@ impl Ast {
     /// A symbolic width; or no scalar and no vector.
     pub fn width_value(&self, data_type: VastDataType) -> Result<i64, WidthFault>
         requires { OwnsType (bench self.now) data_type }
-        ensures known { IfOk result (λ n. width_value (type_of (bench self.now) data_type) ≡ Some n) }
-        ensures refused { IfErr result (λ fault. WidthRefused (bench self.now) (type_of (bench self.now) data_type) fault) }
+        ensures known { IfOk result
+            (λ n. width_value (type_of (bench self.now) data_type) ≡ Some n) }
+        ensures refused { IfErr result
+            (λ fault. WidthRefused (bench self.now) (type_of (bench self.now) data_type) fault) }
     {
         let base = self.base_type(data_type);
         match self.data_type(base) {

@@ -7,7 +7,7 @@ ghost use Rattle.vast_core.specs.Parents.{held_by_statement};
 ghost use Rattle.vast_core.specs.Bench.{OwnsBlock};
 ghost use Rattle.vast_core.specs.Sound.{StatementSound};
 ghost use Rattle.vast_core.specs.FileTree.{block_tree, statements_tree};
-ghost use Rattle.vast_core.specs.Growth.{Builds};
+ghost use Rattle.vast_core.specs.Growth.{Leaves};
 ghost use Rattle.vast_core.specs.Containers.{with_statement};
 ghost use Rattle.vast_core.specs.View.{bench};
 
@@ -30,9 +30,11 @@ impl Ast {
         statement: Statement,
     ) -> Result<(), AllocError>
         requires owner { OwnsBlock (bench self.old) owner }
-        requires statement { StatementSound (bench self.old) (block_index owner) (statement_entry statement) }
+        requires statement { StatementSound (bench self.old) (block_index owner)
+            (statement_entry statement) }
         requires no_part { held_by_statement (statement_entry statement) ≡ [] }
-        ensures { Leaves self.old self.new result (with_statement owner (statement_entry statement)) }
+        ensures { Leaves self.old self.new result
+            (with_statement owner (statement_entry statement)) }
     {
         self.grow(
             Place::Nest(owner.id.index, Entry::Statement(statement)),
@@ -43,9 +45,12 @@ impl Ast {
     /// The statements of a block, in order. What they are made of is the file's, and newer than the block.
     pub fn block(&self, b: VastStatementBlock) -> &[Statement]
         requires { OwnsBlock (bench self.now) b }
-        ensures there { slice_get (bench self.now).nests (block_index b) ≡ Some (BlockRecord (map statement_entry result.now)) }
-        ensures tree { block_tree (bench self.now) b ≡ statements_tree (bench self.now) (map statement_entry result.now) }
-        ensures sound { All (λ s. StatementSound (bench self.now) (block_index b) (statement_entry s)) result.now }
+        ensures there { slice_get (bench self.now).nests (block_index b)
+            ≡ Some (BlockRecord (map statement_entry result.now)) }
+        ensures tree { block_tree (bench self.now) b
+            ≡ statements_tree (bench self.now) (map statement_entry result.now) }
+        ensures sound { All
+            (λ s. StatementSound (bench self.now) (block_index b) (statement_entry s)) result.now }
         ensures small { block_index b < 2 ^ 63 }
     {
         match self.nest_at(b.id.index) {

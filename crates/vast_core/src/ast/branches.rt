@@ -7,7 +7,7 @@ ghost use Rattle.vast_core.specs.Bench.{OwnsBlock, OwnsExpr, OwnsConditional, Ow
 ghost use Rattle.vast_core.specs.Sound.{ConditionalSound, CaseSound};
 ghost use Rattle.vast_core.specs.FileTree.{BranchFamily, SwitchFamily, families, block_tree, alternates_tree, case_arms_tree};
 ghost use Rattle.vast_literal.specs.Tree.{CaseTree};
-ghost use Rattle.vast_core.specs.Growth.{Builds};
+ghost use Rattle.vast_core.specs.Growth.{Builds, Leaves};
 ghost use Rattle.vast_core.specs.Containers.{InNest, GrowthSound, new_conditional, fresh_block, with_nest_entry, with_block, with_statement, next_case, with_case, next_block, with_else_if, with_else, with_case_arm, has_else, with_unique, with_case_unique};
 ghost use Rattle.vast_core.specs.Arrivals.{entry_of};
 ghost use Rattle.vast_core.specs.View.{bench};
@@ -67,7 +67,8 @@ impl Ast {
     ) -> Result<CaseStatement, AllocError>
         requires owner { OwnsBlock (bench self.old) owner }
         requires selector { OwnsExpr (bench self.old) selector }
-        ensures { Builds self.old self.new result next_case (λ b. with_statement owner (CasesStatement (next_case b)) (with_case kind selector b)) }
+        ensures { Builds self.old self.new result next_case
+            (λ b. with_statement owner (CasesStatement (next_case b)) (with_case kind selector b)) }
     {
         let case = CaseStatement {
             id: self.next_nest(),
@@ -92,7 +93,8 @@ impl Ast {
     /// Adds an entry that names the next block, and that block, which is empty.
     fn grow_with_block(&mut self, place: usize, entry: Entry) -> Result<(), AllocError>
         requires { GrowthSound (bench self.old) (InNest place (entry_of entry)) fresh_block }
-        ensures { Leaves self.old self.new result (λ b. with_nest_entry place (entry_of entry) (with_block b)) }
+        ensures { Leaves self.old self.new result
+            (λ b. with_nest_entry place (entry_of entry) (with_block b)) }
     {
         self.grow(
             Place::Nest(place, entry),
@@ -117,7 +119,8 @@ impl Ast {
     ) -> Result<VastStatementBlock, AllocError>
         requires owner { OwnsConditional (bench self.old) owner }
         requires condition { OwnsExpr (bench self.old) condition }
-        requires no_else { has_else (slice_get (bench self.old).nests (conditional_index owner)) ≡ false }
+        requires no_else { has_else (slice_get (bench self.old).nests (conditional_index owner))
+            ≡ false }
         ensures { Builds self.old self.new result next_block (with_else_if owner condition) }
     {
         let block = VastStatementBlock {
@@ -138,7 +141,8 @@ impl Ast {
         owner: Conditional,
     ) -> Result<VastStatementBlock, AllocError>
         requires owner { OwnsConditional (bench self.old) owner }
-        requires no_else { has_else (slice_get (bench self.old).nests (conditional_index owner)) ≡ false }
+        requires no_else { has_else (slice_get (bench self.old).nests (conditional_index owner))
+            ≡ false }
         ensures { Builds self.old self.new result next_block (with_else owner) }
     {
         let block = VastStatementBlock {
@@ -172,9 +176,14 @@ impl Ast {
     /// The parts of a conditional. They are the file's, and its blocks are newer than it.
     pub fn conditional(&self, c: Conditional) -> &ConditionalNode
         requires { OwnsConditional (bench self.now) c }
-        ensures there { slice_get (bench self.now).nests (conditional_index c) ≡ Some (BranchRecord (conditional_record result.now)) }
-        ensures tree { families (bench self.now) (conditional_index c) ≡ BranchFamily (tree_of (bench self.now) result.now.condition) (block_tree (bench self.now) result.now.consequent) (alternates_tree (bench self.now) result.now.else_ifs.items result.now.otherwise) }
-        ensures sound { ConditionalSound (bench self.now) (conditional_index c) (conditional_record result.now) }
+        ensures there { slice_get (bench self.now).nests (conditional_index c)
+            ≡ Some (BranchRecord (conditional_record result.now)) }
+        ensures tree { families (bench self.now) (conditional_index c)
+            ≡ BranchFamily (tree_of (bench self.now) result.now.condition)
+            (block_tree (bench self.now) result.now.consequent)
+            (alternates_tree (bench self.now) result.now.else_ifs.items result.now.otherwise) }
+        ensures sound { ConditionalSound (bench self.now) (conditional_index c)
+            (conditional_record result.now) }
         ensures small { conditional_index c < 2 ^ 63 }
     {
         match self.nest_at(c.id.index) {
@@ -197,8 +206,13 @@ impl Ast {
     /// The parts of a case statement. They are the file's, and its blocks are newer than it.
     pub fn case(&self, c: CaseStatement) -> &CaseNode
         requires { OwnsCase (bench self.now) c }
-        ensures there { slice_get (bench self.now).nests (case_index c) ≡ Some (SwitchRecord (case_record result.now)) }
-        ensures tree { families (bench self.now) (case_index c) ≡ SwitchFamily (CaseTree result.now.unique result.now.kind (tree_of (bench self.now) result.now.selector) (case_arms_tree (bench self.now) result.now.arms.items)) }
+        ensures there { slice_get (bench self.now).nests (case_index c)
+            ≡ Some (SwitchRecord (case_record result.now)) }
+        ensures tree { families (bench self.now) (case_index c)
+            ≡ SwitchFamily
+            (CaseTree result.now.unique result.now.kind
+            (tree_of (bench self.now) result.now.selector)
+            (case_arms_tree (bench self.now) result.now.arms.items)) }
         ensures sound { CaseSound (bench self.now) (case_index c) (case_record result.now) }
         ensures small { case_index c < 2 ^ 63 }
     {

@@ -32,9 +32,11 @@ impl Ast {
     /// # Errors
     /// `AllocError` where a growth was refused; nothing changed.
     pub fn push_expr(&mut self, node: ExprNode) -> Result<Expr, AllocError>
-        requires children { ExprChildrenHold (OwnsExpr (bench self.old)) (OwnsType (bench self.old)) node }
+        requires children { ExprChildrenHold (OwnsExpr (bench self.old)) (OwnsType (bench self.old))
+            node }
         requires fits { ExprFits (expr_tree (bench self.old).nodes node) }
-        ensures { Builds self.old self.new result next_expr (λ b. with_expr b (expr_tree b.nodes node)) }
+        ensures { Builds self.old self.new result next_expr
+            (λ b. with_expr (expr_tree b.nodes node) b) }
     {
         let expr = Expr {
             id: self.next_term(),
@@ -50,7 +52,9 @@ impl Ast {
     pub fn push_index(&mut self, subject: IndexableExpr, index: Expr) -> Result<Index, AllocError>
         requires subject { OwnsIndexable (bench self.old) subject }
         requires index { OwnsExpr (bench self.old) index }
-        ensures { Builds self.old self.new result next_index (λ b. with_expr b (IndexTree (tree_of b (indexable_expr_to_expr subject)) (tree_of b index))) }
+        ensures { Builds self.old self.new result next_index
+            (λ b. with_expr
+            (IndexTree (tree_of b (indexable_expr_to_expr subject)) (tree_of b index)) b) }
     {
         let select = self.push_expr(ExprNode::Index(subject.to_expr(), index))?;
         Ok(Index { id: select.id })
@@ -69,7 +73,8 @@ impl Ast {
     ) -> Result<Index, AllocError>
         requires subject { OwnsIndexable (bench self.old) subject }
         requires token { IsTrue (is_literal_text text.now) }
-        ensures { Builds self.old self.new result (next_fixed_index text.now index) (with_fixed_index subject text.now index) }
+        ensures { Builds self.old self.new result (next_fixed_index text.now index)
+            (with_fixed_index subject text.now index) }
     {
         let text = String::from_str(self.alloc, text)?;
         let literal = Expr {
@@ -98,7 +103,10 @@ impl Ast {
         requires subject { OwnsIndexable (bench self.old) subject }
         requires high { OwnsExpr (bench self.old) high }
         requires low { OwnsExpr (bench self.old) low }
-        ensures { Builds self.old self.new result next_slice (λ b. with_expr b (SliceTree (tree_of b (indexable_expr_to_expr subject)) (tree_of b high) (tree_of b low))) }
+        ensures { Builds self.old self.new result next_slice
+            (λ b. with_expr
+            (SliceTree (tree_of b (indexable_expr_to_expr subject)) (tree_of b high)
+            (tree_of b low)) b) }
     {
         let select = self.push_expr(ExprNode::Slice(subject.to_expr(), high, low))?;
         Ok(Slice { id: select.id })
@@ -121,7 +129,9 @@ impl Ast {
         requires subject { OwnsIndexable (bench self.old) subject }
         requires high { IsTrue (is_literal_text high_text.now) }
         requires low { IsTrue (is_literal_text low_text.now) }
-        ensures { Builds self.old self.new result (next_fixed_slice high_text.now high low_text.now low) (with_fixed_slice subject high_text.now high low_text.now low) }
+        ensures { Builds self.old self.new result
+            (next_fixed_slice high_text.now high low_text.now low)
+            (with_fixed_slice subject high_text.now high low_text.now low) }
     {
         let high_text = String::from_str(self.alloc, high_text)?;
         let low_text = String::from_str(self.alloc, low_text)?;
@@ -149,7 +159,8 @@ impl Ast {
     #[tactic(auto, using(crate::proofs::Laws::terms, crate::proofs::Laws::older_terms, vast_literal::proofs::NumberLaws::signed_text))]
     pub fn push_replication_fixed(&mut self, count: i64, parts: &[Expr]) -> Result<Expr, AllocError>
         requires { All (OwnsExpr (bench self.old)) parts.now }
-        ensures { Builds self.old self.new result (next_fixed_replication count) (with_fixed_replication count parts.now) }
+        ensures { Builds self.old self.new result (next_fixed_replication count)
+            (with_fixed_replication count parts.now) }
     {
         let text = format!(in self.alloc; "{count}")?;
         let parts = Vec::from_slice(self.alloc, parts)?;
@@ -176,7 +187,8 @@ impl Ast {
         arguments: Option<Vec<Expr>>,
     ) -> Result<MacroRef, AllocError>
         requires { IfSome arguments (λ parts. All (OwnsExpr (bench self.old)) parts.items) }
-        ensures { Builds self.old self.new result next_macro_ref (λ b. with_expr b (expr_tree b.nodes (Macro name arguments))) }
+        ensures { Builds self.old self.new result next_macro_ref
+            (λ b. with_expr (expr_tree b.nodes (Macro name arguments)) b) }
     {
         let call = self.push_expr(ExprNode::Macro(name, arguments))?;
         Ok(MacroRef { id: call.id })

@@ -34,7 +34,9 @@ impl Ast {
         requires owner { OwnsModule (bench self.old) owner }
         requires result_type { OwnsType (bench self.old) result_type }
         requires free { NameIsFree (bench self.old) owner name.now }
-        ensures { Builds self.old self.new result next_function (λ b. with_named_member owner (FunctionEntry (next_function b)) name.now (with_function name.now result_type b)) }
+        ensures { Builds self.old self.new result next_function
+            (λ b. with_named_member owner (FunctionEntry (next_function b)) name.now
+            (with_function name.now result_type b)) }
     {
         let taken = String::from_str(self.alloc, name)?;
         let variable = String::from_str(self.alloc, name)?;
@@ -72,7 +74,8 @@ impl Ast {
     /// A function. Its types, its result's name and its body are the file's.
     pub fn function(&self, f: VastFunction) -> &Function
         requires { OwnsFunction (bench self.now) f }
-        ensures there { slice_get (bench self.now).functions (function_index f) ≡ Some (function_record result.now) }
+        ensures there { slice_get (bench self.now).functions (function_index f)
+            ≡ Some (function_record result.now) }
         ensures sound { FunctionSound (bench self.now) (function_record result.now) }
     {
         &self.functions[f.id.index]

@@ -6,7 +6,7 @@ ghost use Rattle.vast_core.specs.Nests.{nest_record, statement_entry, function_r
 ghost use Rattle.vast_core.specs.Functions.{with_listed_variable};
 ghost use Rattle.vast_core.specs.Containers.{StatementEnters, ElseIfEnters, ElseEnters, CaseArmEnters, MemberEnters, with_entry, with_listed, listed_modules, listed_nests, listed_functions, listed_items, listed_spare, spare_left, GrowthSound, HasRoom, after_growth};
 ghost use Rattle.vast_core.specs.Arrivals.{entry_of, name_of, listing_of, fresh_of, ListingThere};
-ghost use Rattle.vast_core.specs.Growth.{Builds};
+ghost use Rattle.vast_core.specs.Growth.{Leaves};
 ghost use Rattle.vast_core.specs.View.{bench};
 
 use crate::ast::Ast;
@@ -46,7 +46,9 @@ pub(crate) enum Place {
 
 impl Nest {
     fn add_statement(&mut self, statement: Statement) -> Result<(), AllocError>
-        ensures ok { OnOk result (nest_record self.new ≡ with_entry (StatementEnters (statement_entry statement)) (nest_record self.old)) }
+        ensures ok { OnOk result
+            (nest_record self.new
+            ≡ with_entry (StatementEnters (statement_entry statement)) (nest_record self.old)) }
         ensures err { OnErr result (nest_record self.new ≡ nest_record self.old) }
     {
         if let Nest::Block(statements) = self {
@@ -56,7 +58,8 @@ impl Nest {
     }
 
     fn add_else_if(&mut self, arm: ElseIf) -> Result<(), AllocError>
-        ensures ok { OnOk result (nest_record self.new ≡ with_entry (ElseIfEnters arm) (nest_record self.old)) }
+        ensures ok { OnOk result
+            (nest_record self.new ≡ with_entry (ElseIfEnters arm) (nest_record self.old)) }
         ensures err { OnErr result (nest_record self.new ≡ nest_record self.old) }
     {
         if let Nest::Conditional(node) = self {
@@ -74,7 +77,8 @@ impl Nest {
     }
 
     fn add_case_arm(&mut self, arm: CaseArm) -> Result<(), AllocError>
-        ensures ok { OnOk result (nest_record self.new ≡ with_entry (CaseArmEnters arm) (nest_record self.old)) }
+        ensures ok { OnOk result
+            (nest_record self.new ≡ with_entry (CaseArmEnters arm) (nest_record self.old)) }
         ensures err { OnErr result (nest_record self.new ≡ nest_record self.old) }
     {
         if let Nest::Case(node) = self {
@@ -84,7 +88,9 @@ impl Nest {
     }
 
     fn add_member(&mut self, member: Member) -> Result<(), AllocError>
-        ensures ok { OnOk result (nest_record self.new ≡ with_entry (MemberEnters (member_entry member)) (nest_record self.old)) }
+        ensures ok { OnOk result
+            (nest_record self.new
+            ≡ with_entry (MemberEnters (member_entry member)) (nest_record self.old)) }
         ensures err { OnErr result (nest_record self.new ≡ nest_record self.old) }
     {
         if let Nest::Loop(node) = self {
@@ -95,7 +101,8 @@ impl Nest {
 
     /// Adds the entry, or changes nothing.
     fn enter(&mut self, entry: Entry) -> Result<(), AllocError>
-        ensures ok { OnOk result (nest_record self.new ≡ with_entry (entry_of entry) (nest_record self.old)) }
+        ensures ok { OnOk result
+            (nest_record self.new ≡ with_entry (entry_of entry) (nest_record self.old)) }
         ensures err { OnErr result (nest_record self.new ≡ nest_record self.old) }
     {
         match entry {
@@ -113,7 +120,9 @@ impl Nest {
 
 impl Module {
     fn enter_header(&mut self, parameter: ParameterPort) -> Result<(), AllocError>
-        ensures ok { OnOk result (module_record self.new ≡ with_parameter_port (parameter_port_record parameter) (module_record self.old)) }
+        ensures ok { OnOk result
+            (module_record self.new
+            ≡ with_parameter_port (parameter_port_record parameter) (module_record self.old)) }
         ensures err { OnErr result (module_record self.new ≡ module_record self.old) }
     {
         self.parameters.push(parameter)?;
@@ -122,7 +131,8 @@ impl Module {
 
     /// Lists the port and takes its name, or changes nothing.
     fn enter_port(&mut self, port: ModulePort, name: String) -> Result<(), AllocError>
-        ensures ok { OnOk result (module_record self.new ≡ with_port port (string_bytes name) (module_record self.old)) }
+        ensures ok { OnOk result
+            (module_record self.new ≡ with_port port (string_bytes name) (module_record self.old)) }
         ensures err { OnErr result (module_record self.new ≡ module_record self.old) }
     {
         self.ports.reserve(1)?;
@@ -132,7 +142,8 @@ impl Module {
     }
 
     fn push_member(&mut self, member: Member) -> Result<(), AllocError>
-        ensures ok { OnOk result (module_record self.new ≡ with_member (member_entry member) (module_record self.old)) }
+        ensures ok { OnOk result
+            (module_record self.new ≡ with_member (member_entry member) (module_record self.old)) }
         ensures err { OnErr result (module_record self.new ≡ module_record self.old) }
     {
         self.members.push(member)?;
@@ -141,7 +152,10 @@ impl Module {
 
     /// Appends the member and takes the name, or changes nothing.
     fn enter_member(&mut self, member: Member, name: String) -> Result<(), AllocError>
-        ensures ok { OnOk result (module_record self.new ≡ with_named_member (member_entry member) (string_bytes name) (module_record self.old)) }
+        ensures ok { OnOk result
+            (module_record self.new
+            ≡ with_named_member (member_entry member) (string_bytes name)
+            (module_record self.old)) }
         ensures err { OnErr result (module_record self.new ≡ module_record self.old) }
     {
         self.members.reserve(1)?;
@@ -152,7 +166,9 @@ impl Module {
 
     /// Adds the member, and takes the name where there is one, or changes nothing.
     fn enter(&mut self, member: Member, name: Option<String>) -> Result<(), AllocError>
-        ensures ok { OnOk result (module_record self.new ≡ with_listed (member_entry member) (name_of name) (module_record self.old)) }
+        ensures ok { OnOk result
+            (module_record self.new
+            ≡ with_listed (member_entry member) (name_of name) (module_record self.old)) }
         ensures err { OnErr result (module_record self.new ≡ module_record self.old) }
     {
         match name {
@@ -164,9 +180,12 @@ impl Module {
 
 fn enter_nest(nests: &mut Vec<Nest>, place: usize, entry: Entry) -> Result<(), AllocError>
     requires { place < length nests.old.items }
-    ensures ok { OnOk result (map nest_record nests.new.items ≡ changed_at place (with_entry (entry_of entry)) (map nest_record nests.old.items)) }
+    ensures ok { OnOk result
+        (map nest_record nests.new.items
+        ≡ changed_at place (with_entry (entry_of entry)) (map nest_record nests.old.items)) }
     ensures err { OnErr result (map nest_record nests.new.items ≡ map nest_record nests.old.items) }
-    ensures room { vec_capacity nests.new - vec_len nests.new ≡ vec_capacity nests.old - vec_len nests.old }
+    ensures room { vec_capacity nests.new - vec_len nests.new
+        ≡ vec_capacity nests.old - vec_len nests.old }
 {
     let target = &mut nests[place];
     target.enter(entry)
@@ -178,9 +197,14 @@ fn enter_header(
     parameter: ParameterPort,
 ) -> Result<(), AllocError>
     requires { owner.id.index < length modules.old.items }
-    ensures ok { OnOk result (map module_record modules.new.items ≡ changed_at owner.id.index (with_parameter_port (parameter_port_record parameter)) (map module_record modules.old.items)) }
-    ensures err { OnErr result (map module_record modules.new.items ≡ map module_record modules.old.items) }
-    ensures room { vec_capacity modules.new - vec_len modules.new ≡ vec_capacity modules.old - vec_len modules.old }
+    ensures ok { OnOk result
+        (map module_record modules.new.items
+        ≡ changed_at owner.id.index (with_parameter_port (parameter_port_record parameter))
+        (map module_record modules.old.items)) }
+    ensures err { OnErr result
+        (map module_record modules.new.items ≡ map module_record modules.old.items) }
+    ensures room { vec_capacity modules.new - vec_len modules.new
+        ≡ vec_capacity modules.old - vec_len modules.old }
 {
     let target = &mut modules[owner.id.index];
     target.enter_header(parameter)
@@ -193,9 +217,14 @@ fn enter_port(
     name: String,
 ) -> Result<(), AllocError>
     requires { owner.id.index < length modules.old.items }
-    ensures ok { OnOk result (map module_record modules.new.items ≡ changed_at owner.id.index (with_port port (string_bytes name)) (map module_record modules.old.items)) }
-    ensures err { OnErr result (map module_record modules.new.items ≡ map module_record modules.old.items) }
-    ensures room { vec_capacity modules.new - vec_len modules.new ≡ vec_capacity modules.old - vec_len modules.old }
+    ensures ok { OnOk result
+        (map module_record modules.new.items
+        ≡ changed_at owner.id.index (with_port port (string_bytes name))
+        (map module_record modules.old.items)) }
+    ensures err { OnErr result
+        (map module_record modules.new.items ≡ map module_record modules.old.items) }
+    ensures room { vec_capacity modules.new - vec_len modules.new
+        ≡ vec_capacity modules.old - vec_len modules.old }
 {
     let target = &mut modules[owner.id.index];
     target.enter_port(port, name)
@@ -208,9 +237,14 @@ fn enter_module(
     name: Option<String>,
 ) -> Result<(), AllocError>
     requires { owner.id.index < length modules.old.items }
-    ensures ok { OnOk result (map module_record modules.new.items ≡ changed_at owner.id.index (with_listed (member_entry member) (name_of name)) (map module_record modules.old.items)) }
-    ensures err { OnErr result (map module_record modules.new.items ≡ map module_record modules.old.items) }
-    ensures room { vec_capacity modules.new - vec_len modules.new ≡ vec_capacity modules.old - vec_len modules.old }
+    ensures ok { OnOk result
+        (map module_record modules.new.items
+        ≡ changed_at owner.id.index (with_listed (member_entry member) (name_of name))
+        (map module_record modules.old.items)) }
+    ensures err { OnErr result
+        (map module_record modules.new.items ≡ map module_record modules.old.items) }
+    ensures room { vec_capacity modules.new - vec_len modules.new
+        ≡ vec_capacity modules.old - vec_len modules.old }
 {
     let target = &mut modules[owner.id.index];
     target.enter(member, name)
@@ -224,9 +258,14 @@ fn enter_function(
     alloc: Global,
 ) -> Result<(), AllocError>
     requires { owner.id.index < length functions.old.items }
-    ensures ok { OnOk result (map function_record functions.new.items ≡ changed_at owner.id.index (with_listed_variable local (variable_record variable)) (map function_record functions.old.items)) }
-    ensures err { OnErr result (map function_record functions.new.items ≡ map function_record functions.old.items) }
-    ensures room { vec_capacity functions.new - vec_len functions.new ≡ vec_capacity functions.old - vec_len functions.old }
+    ensures ok { OnOk result
+        (map function_record functions.new.items
+        ≡ changed_at owner.id.index (with_listed_variable local (variable_record variable))
+        (map function_record functions.old.items)) }
+    ensures err { OnErr result
+        (map function_record functions.new.items ≡ map function_record functions.old.items) }
+    ensures room { vec_capacity functions.new - vec_len functions.new
+        ≡ vec_capacity functions.old - vec_len functions.old }
 {
     let name = String::from_str(alloc, &variable.name)?;
     let target = &mut functions[owner.id.index];
@@ -243,20 +282,35 @@ fn enter(
     place: Place,
     alloc: Global,
 ) -> Result<(), AllocError>
-    requires { ListingThere (length modules.old.items) (length nests.old.items) (length functions.old.items) (listing_of place) }
-    ensures modules { OnOk result (map module_record modules.new.items ≡ listed_modules (listing_of place) (map module_record modules.old.items)) }
-    ensures nests { OnOk result (map nest_record nests.new.items ≡ listed_nests (listing_of place) (map nest_record nests.old.items)) }
-    ensures functions { OnOk result (map function_record functions.new.items ≡ listed_functions (listing_of place) (map function_record functions.old.items)) }
-    ensures items { OnOk result (map file_entry items.new.items ≡ listed_items (listing_of place) (map file_entry items.old.items)) }
+    requires { ListingThere (length modules.old.items) (length nests.old.items)
+        (length functions.old.items) (listing_of place) }
+    ensures modules { OnOk result
+        (map module_record modules.new.items
+        ≡ listed_modules (listing_of place) (map module_record modules.old.items)) }
+    ensures nests { OnOk result
+        (map nest_record nests.new.items
+        ≡ listed_nests (listing_of place) (map nest_record nests.old.items)) }
+    ensures functions { OnOk result
+        (map function_record functions.new.items
+        ≡ listed_functions (listing_of place) (map function_record functions.old.items)) }
+    ensures items { OnOk result
+        (map file_entry items.new.items
+        ≡ listed_items (listing_of place) (map file_entry items.old.items)) }
     ensures spare { OnOk result (spare.new ≡ listed_spare (listing_of place) spare.old) }
-    ensures err_modules { OnErr result (map module_record modules.new.items ≡ map module_record modules.old.items) }
-    ensures err_nests { OnErr result (map nest_record nests.new.items ≡ map nest_record nests.old.items) }
-    ensures err_functions { OnErr result (map function_record functions.new.items ≡ map function_record functions.old.items) }
+    ensures err_modules { OnErr result
+        (map module_record modules.new.items ≡ map module_record modules.old.items) }
+    ensures err_nests { OnErr result
+        (map nest_record nests.new.items ≡ map nest_record nests.old.items) }
+    ensures err_functions { OnErr result
+        (map function_record functions.new.items ≡ map function_record functions.old.items) }
     ensures err_items { OnErr result (items.new.items ≡ items.old.items) }
     ensures err_spare { OnErr result (spare.new ≡ spare.old) }
-    ensures modules_room { vec_capacity modules.new - vec_len modules.new ≡ vec_capacity modules.old - vec_len modules.old }
-    ensures nests_room { vec_capacity nests.new - vec_len nests.new ≡ vec_capacity nests.old - vec_len nests.old }
-    ensures functions_room { vec_capacity functions.new - vec_len functions.new ≡ vec_capacity functions.old - vec_len functions.old }
+    ensures modules_room { vec_capacity modules.new - vec_len modules.new
+        ≡ vec_capacity modules.old - vec_len modules.old }
+    ensures nests_room { vec_capacity nests.new - vec_len nests.new
+        ≡ vec_capacity nests.old - vec_len nests.old }
+    ensures functions_room { vec_capacity functions.new - vec_len functions.new
+        ≡ vec_capacity functions.old - vec_len functions.old }
 {
     match place {
         Place::Nowhere => Ok(()),
@@ -290,7 +344,8 @@ impl Ast {
     fn admit(&mut self, place: Place, arrivals: Arrivals) -> Result<(), AllocError>
         requires sound { GrowthSound (bench self.old) (listing_of place) (fresh_of arrivals) }
         requires room { HasRoom self.old (fresh_of arrivals) }
-        ensures { Leaves self.old self.new result (after_growth (listing_of place) (fresh_of arrivals)) }
+        ensures { Leaves self.old self.new result
+            (after_growth (listing_of place) (fresh_of arrivals)) }
     {
         let mut spare = spare_left(arrivals.node.takes_spare(), self.spare);
         enter(
@@ -326,7 +381,8 @@ impl Ast {
     /// `AllocError` where a growth was refused; nothing changed.
     pub(crate) fn grow(&mut self, place: Place, arrivals: Arrivals) -> Result<(), AllocError>
         requires { GrowthSound (bench self.old) (listing_of place) (fresh_of arrivals) }
-        ensures { Leaves self.old self.new result (after_growth (listing_of place) (fresh_of arrivals)) }
+        ensures { Leaves self.old self.new result
+            (after_growth (listing_of place) (fresh_of arrivals)) }
     {
         self.make_room(&arrivals)?;
         self.admit(place, arrivals)

@@ -5,7 +5,7 @@ ghost use Rattle.vast_core.specs.Handles.{module_index};
 ghost use Rattle.vast_core.specs.Records.{module_record, member_entry};
 ghost use Rattle.vast_core.specs.Bench.{OwnsModule};
 ghost use Rattle.vast_core.specs.Hoisting.{is_declaration, members_of, with_members_hoisted, with_hoisted};
-ghost use Rattle.vast_core.specs.Growth.{Builds};
+ghost use Rattle.vast_core.specs.Growth.{Leaves};
 ghost use Rattle.vast_core.specs.View.{bench};
 
 use crate::ast::Ast;
@@ -38,7 +38,8 @@ impl Member {
 impl Module {
     fn hoist(&mut self, start: usize) -> Result<(), AllocError>
         requires { start ≤ length self.old.members.items }
-        ensures ok { OnOk result (module_record self.new ≡ with_members_hoisted start (module_record self.old)) }
+        ensures ok { OnOk result
+            (module_record self.new ≡ with_members_hoisted start (module_record self.old)) }
         ensures err { OnErr result (module_record self.new ≡ module_record self.old) }
     {
         let mut suffix = self.members.split_off(start)?;
@@ -56,7 +57,8 @@ impl Ast {
     /// `AllocError` where memory was refused; nothing changed.
     pub fn hoist_declarations(&mut self, owner: VastModule, start: usize) -> Result<(), AllocError>
         requires owner { OwnsModule (bench self.old) owner }
-        requires start { start ≤ length (members_of (slice_get (bench self.old).modules (module_index owner))) }
+        requires start { start
+            ≤ length (members_of (slice_get (bench self.old).modules (module_index owner))) }
         ensures { Leaves self.old self.new result (with_hoisted owner start) }
     {
         let target = &mut self.modules[owner.id.index];

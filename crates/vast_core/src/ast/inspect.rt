@@ -76,7 +76,8 @@ impl Ast {
     pub fn base_type(&self, data_type: VastDataType) -> VastDataType
         requires { OwnsType (bench self.now) data_type }
         ensures owned { OwnsType (bench self.now) result }
-        ensures base { type_of (bench self.now) result ≡ base_of (type_of (bench self.now) data_type) }
+        ensures base { type_of (bench self.now) result
+            ≡ base_of (type_of (bench self.now) data_type) }
         ensures no_array { IsTrue (is_castable (type_of (bench self.now) result)) }
     {
         let mut base = data_type;
@@ -90,7 +91,8 @@ impl Ast {
     pub fn type_width_expr(&self, data_type: VastDataType) -> Option<Expr>
         requires { OwnsType (bench self.now) data_type }
         ensures owned { IfSome result (OwnsExpr (bench self.now)) }
-        ensures width { maybe_tree_of (bench self.now) result ≡ width_of (type_of (bench self.now) data_type) }
+        ensures width { maybe_tree_of (bench self.now) result
+            ≡ width_of (type_of (bench self.now) data_type) }
     {
         self.own_width(self.base_type(data_type))
     }
@@ -98,7 +100,8 @@ impl Ast {
     fn own_width(&self, data_type: VastDataType) -> Option<Expr>
         requires { OwnsType (bench self.now) data_type }
         ensures owned { IfSome result (OwnsExpr (bench self.now)) }
-        ensures width { maybe_tree_of (bench self.now) result ≡ vector_width (type_of (bench self.now) data_type) }
+        ensures width { maybe_tree_of (bench self.now) result
+            ≡ vector_width (type_of (bench self.now) data_type) }
     {
         match self.data_type(data_type) {
             TypeNode::Vector(width, _, _) => Some(*width),

@@ -38,7 +38,9 @@ impl Ast {
         requires scope { OwnsScope (bench self.old) scope }
         requires start { OwnsExpr (bench self.old) start }
         requires limit { OwnsExpr (bench self.old) limit }
-        ensures { Builds self.old self.new result next_loop (λ b. with_scope_member scope (LoopEntry (next_loop b)) (with_loop name.now start limit (label_bytes label) b)) }
+        ensures { Builds self.old self.new result next_loop
+            (λ b. with_scope_member scope (LoopEntry (next_loop b))
+            (with_loop name.now start limit (label_bytes label) b)) }
     {
         let variable = String::from_str(self.alloc, name)?;
         let name = String::from_str(self.alloc, name)?;
@@ -70,12 +72,19 @@ impl Ast {
     /// The parts of a loop. They are the file's, and the containers in its members are newer than it.
     pub fn generate_loop(&self, l: GenerateLoop) -> &LoopNode
         requires { OwnsLoop (bench self.now) l }
-        ensures there { slice_get (bench self.now).nests (loop_index l) ≡ Some (RepeatRecord (loop_record result.now)) }
-        ensures tree { families (bench self.now) (loop_index l) ≡ RepeatFamily (LoopMember (string_bytes result.now.name) (tree_of (bench self.now) result.now.start) (tree_of (bench self.now) result.now.limit) (label_bytes result.now.label) (members_tree (bench self.now) (map member_entry result.now.members.items))) }
+        ensures there { slice_get (bench self.now).nests (loop_index l)
+            ≡ Some (RepeatRecord (loop_record result.now)) }
+        ensures tree { families (bench self.now) (loop_index l)
+            ≡ RepeatFamily
+            (LoopMember (string_bytes result.now.name) (tree_of (bench self.now) result.now.start)
+            (tree_of (bench self.now) result.now.limit) (label_bytes result.now.label)
+            (members_tree (bench self.now) (map member_entry result.now.members.items))) }
         ensures genvar { OwnsLogicRef (bench self.now) result.now.genvar }
         ensures start { OwnsExpr (bench self.now) result.now.start }
         ensures limit { OwnsExpr (bench self.now) result.now.limit }
-        ensures members { All (λ m. LoopMemberSound (bench self.now) (loop_index l) (member_entry m)) result.now.members.items }
+        ensures members { All
+            (λ m. LoopMemberSound (bench self.now) (loop_index l) (member_entry m))
+            result.now.members.items }
         ensures small { loop_index l < 2 ^ 63 }
     {
         match self.nest_at(l.id.index) {

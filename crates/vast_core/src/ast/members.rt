@@ -32,7 +32,8 @@ impl Ast {
         requires kind { IsOwnKind kind }
         requires data_type { OwnsType (bench self.old) data_type }
         requires free { NameIsFree (bench self.old) owner name.now }
-        ensures { Builds self.old self.new result next_logic_ref (with_declaration owner kind name.now data_type) }
+        ensures { Builds self.old self.new result next_logic_ref
+            (with_declaration owner kind name.now data_type) }
     {
         let node_name = String::from_str(self.alloc, name)?;
         let member_name = String::from_str(self.alloc, name)?;

@@ -5,7 +5,7 @@ ghost use Rattle.vast_core.specs.Handles.{module_index};
 ghost use Rattle.vast_core.specs.Records.{module_record, parameter_port_record, member_entry, file_entry, IsFree, IncludeEntry, FileCommentEntry, FileBlankEntry};
 ghost use Rattle.vast_core.specs.Bench.{OwnsModule, OwnsPort};
 ghost use Rattle.vast_core.specs.Sound.{MemberSound, ParameterPortSound, EntrySound};
-ghost use Rattle.vast_core.specs.Growth.{Builds, next_module, with_module, with_item};
+ghost use Rattle.vast_core.specs.Growth.{Builds, Leaves, next_module, with_module, with_item};
 ghost use Rattle.vast_core.specs.Hoisting.{members_of};
 ghost use Rattle.vast_core.specs.View.{bench};
 
@@ -98,10 +98,14 @@ impl Ast {
     /// A module's name, lists and names. Its ports and what its members are made of are the file's.
     pub fn module(&self, m: VastModule) -> &Module
         requires { OwnsModule (bench self.now) m }
-        ensures there { slice_get (bench self.now).modules (module_index m) ≡ Some (module_record result.now) }
-        ensures parameters { All (λ x. ParameterPortSound (bench self.now) (parameter_port_record x)) result.now.parameters.items }
+        ensures there { slice_get (bench self.now).modules (module_index m)
+            ≡ Some (module_record result.now) }
+        ensures parameters { All
+            (λ x. ParameterPortSound (bench self.now) (parameter_port_record x))
+            result.now.parameters.items }
         ensures ports { All (OwnsPort (bench self.now)) result.now.ports.items }
-        ensures members { All (λ x. MemberSound (bench self.now) (member_entry x)) result.now.members.items }
+        ensures members { All (λ x. MemberSound (bench self.now) (member_entry x))
+            result.now.members.items }
     {
         &self.modules[m.id.index]
     }
@@ -109,7 +113,8 @@ impl Ast {
     /// How many members a module has.
     pub fn member_count(&self, m: VastModule) -> usize
         requires { OwnsModule (bench self.now) m }
-        ensures { result ≡ length (members_of (slice_get (bench self.now).modules (module_index m))) }
+        ensures { result
+            ≡ length (members_of (slice_get (bench self.now).modules (module_index m))) }
     {
         self.module(m).members.len()
     }

@@ -35,7 +35,8 @@ impl Ast {
         requires owner { OwnsModule (bench self.old) owner }
         requires data_type { IfSome data_type (OwnsType (bench self.old)) }
         requires value { OwnsExpr (bench self.old) value }
-        ensures { Builds self.old self.new result next_logic_ref (with_parameter_port owner name.now data_type value) }
+        ensures { Builds self.old self.new result next_logic_ref
+            (with_parameter_port owner name.now data_type value) }
     {
         let node_name = String::from_str(self.alloc, name)?;
         let port_name = String::from_str(self.alloc, name)?;
@@ -88,7 +89,8 @@ impl Ast {
         requires scope { OwnsScope (bench self.old) scope }
         requires form { FormSound (bench self.old) (form_entry form) }
         requires value { OwnsExpr (bench self.old) value }
-        ensures { Builds self.old self.new result next_expr (with_scope_parameter scope local (form_entry form) value) }
+        ensures { Builds self.old self.new result next_expr
+            (with_scope_parameter scope local (form_entry form) value) }
     {
         let (name, data_type) = self.declared_by(&form)?;
         let expr = Expr {
@@ -120,7 +122,8 @@ impl Ast {
         requires owner { OwnsModule (bench self.old) owner }
         requires form { FormSound (bench self.old) (form_entry form) }
         requires value { OwnsExpr (bench self.old) value }
-        ensures { Builds self.old self.new result next_parameter_ref (with_scope_parameter (ScopeModule owner) false (form_entry form) value) }
+        ensures { Builds self.old self.new result next_parameter_ref
+            (with_scope_parameter (ScopeModule owner) false (form_entry form) value) }
     {
         let expr = self.push_parameter_member(Scope::Module(owner), false, form, value)?;
         Ok(ParameterRef { id: expr.id })
@@ -140,7 +143,8 @@ impl Ast {
         requires scope { OwnsScope (bench self.old) scope }
         requires form { FormSound (bench self.old) (form_entry form) }
         requires value { OwnsExpr (bench self.old) value }
-        ensures { Builds self.old self.new result next_localparam_ref (with_scope_parameter scope true (form_entry form) value) }
+        ensures { Builds self.old self.new result next_localparam_ref
+            (with_scope_parameter scope true (form_entry form) value) }
     {
         let expr = self.push_parameter_member(scope, true, form, value)?;
         Ok(LocalparamRef { id: expr.id })

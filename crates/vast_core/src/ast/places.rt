@@ -134,8 +134,10 @@ impl Ast {
 impl Ast {
     pub(crate) fn artifact_at(&self, index: usize) -> Option<&Artifact>
         ensures none { IfNone result (slice_get (bench self.now).artifacts index ≡ None) }
-        ensures some { IfSome result (λ a. slice_get (bench self.now).artifacts index ≡ Some (artifact_record a.now)) }
-        ensures owned { IfSome result (λ a. ArtifactSound (bench self.now) (artifact_record a.now)) }
+        ensures some { IfSome result
+            (λ a. slice_get (bench self.now).artifacts index ≡ Some (artifact_record a.now)) }
+        ensures owned { IfSome result
+            (λ a. ArtifactSound (bench self.now) (artifact_record a.now)) }
     {
         if index < self.artifacts.len() {
             Some(&self.artifacts[index])
@@ -195,9 +197,12 @@ impl Ast {
     /// The container of this index. What it holds is the file's, and newer.
     pub(crate) fn nest_at(&self, index: usize) -> Option<&Nest>
         ensures none { IfNone result (slice_get (bench self.now).nests index ≡ None) }
-        ensures some { IfSome result (λ n. slice_get (bench self.now).nests index ≡ Some (nest_record n.now)) }
+        ensures some { IfSome result
+            (λ n. slice_get (bench self.now).nests index ≡ Some (nest_record n.now)) }
         ensures owned { IfSome result (λ n. NestSound (bench self.now) index (nest_record n.now)) }
-        ensures unfolded { IfSome result (λ n. families (bench self.now) index ≡ family (bench self.now) (families (bench self.now)) (Some (nest_record n.now))) }
+        ensures unfolded { IfSome result
+            (λ n. families (bench self.now) index
+            ≡ family (bench self.now) (families (bench self.now)) (Some (nest_record n.now))) }
         ensures small { IfSome result (λ n. index < 2 ^ 63) }
     {
         if index < self.nests.len() {

@@ -32,7 +32,8 @@ impl Ast {
         requires owner { OwnsModule (bench self.old) owner }
         requires data_type { OwnsType (bench self.old) data_type }
         requires free { NameIsFree (bench self.old) owner name.now }
-        ensures { Builds self.old self.new result next_logic_ref (with_port owner direction kind name.now data_type) }
+        ensures { Builds self.old self.new result next_logic_ref
+            (with_port owner direction kind name.now data_type) }
     {
         let node_name = String::from_str(self.alloc, name)?;
         let port_name = String::from_str(self.alloc, name)?;
@@ -63,7 +64,8 @@ impl Ast {
     /// A port of a module. Its type and its name are the file's.
     pub fn port(&self, p: ModulePort) -> &Port
         requires { OwnsPort (bench self.now) p }
-        ensures there { slice_get (bench self.now).ports (port_index p) ≡ Some (port_record result.now) }
+        ensures there { slice_get (bench self.now).ports (port_index p)
+            ≡ Some (port_record result.now) }
         ensures data_type { OwnsType (bench self.now) result.now.data_type }
         ensures logic_ref { OwnsLogicRef (bench self.now) result.now.logic_ref }
     {

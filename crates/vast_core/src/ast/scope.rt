@@ -4,7 +4,7 @@ ghost use Rattle.std.specs.Prelude.{◌≡◌};
 ghost use Rattle.vast_core.specs.Records.{member_entry};
 ghost use Rattle.vast_core.specs.Scopes.{OwnsScope, IsShared, listing_in, with_scope_member};
 ghost use Rattle.vast_core.specs.Arrivals.{listing_of, fresh_of};
-ghost use Rattle.vast_core.specs.Growth.{Builds};
+ghost use Rattle.vast_core.specs.Growth.{Leaves};
 ghost use Rattle.vast_core.specs.Containers.{GrowthSound, with_fresh};
 ghost use Rattle.vast_core.specs.Sound.{MemberSound};
 ghost use Rattle.vast_core.specs.View.{bench};
@@ -48,8 +48,11 @@ impl Ast {
         member: Member,
         arrivals: Arrivals,
     ) -> Result<(), AllocError>
-        requires { GrowthSound (bench self.old) (listing_in scope (member_entry member)) (fresh_of arrivals) }
-        ensures { Leaves self.old self.new result (λ b. with_scope_member scope (member_entry member) (with_fresh (fresh_of arrivals) b)) }
+        requires { GrowthSound (bench self.old) (listing_in scope (member_entry member))
+            (fresh_of arrivals) }
+        ensures { Leaves self.old self.new result
+            (λ b. with_scope_member scope (member_entry member)
+            (with_fresh (fresh_of arrivals) b)) }
     {
         self.grow(Place::in_scope(scope, member), arrivals)
     }

@@ -94,7 +94,8 @@ impl Ast {
         requires form { IsWrittenIn spot form }
         requires lhs { OwnsExpr (bench self.old) lhs }
         requires rhs { OwnsExpr (bench self.old) rhs }
-        ensures { Builds self.old self.new result next_statement (with_assignment_at spot form lhs rhs) }
+        ensures { Builds self.old self.new result next_statement
+            (with_assignment_at spot form lhs rhs) }
     {
         let assignment = VastStatement {
             id: self.next_assignment(),
@@ -127,7 +128,8 @@ impl Ast {
     ) -> Result<Conditional, AllocError>
         requires spot { OwnsSpot (bench self.old) spot }
         requires condition { OwnsExpr (bench self.old) condition }
-        ensures { Builds self.old self.new result next_conditional (with_conditional_at spot condition) }
+        ensures { Builds self.old self.new result next_conditional
+            (with_conditional_at spot condition) }
     {
         let conditional = Conditional {
             id: self.next_nest(),

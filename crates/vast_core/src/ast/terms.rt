@@ -5,7 +5,7 @@ ghost use Rattle.vast_core.specs.Handles.{rank, type_rank};
 ghost use Rattle.vast_core.specs.Nodes.{IsNodeAt, TermsSound, ExprChildrenHold, TypeChildrenHold, expr_tree, type_tree};
 ghost use Rattle.vast_core.specs.Types.{ExprWellFormed, TypeWellFormed};
 ghost use Rattle.vast_core.specs.Bench.{OwnsExpr, OwnsType, tree_of, type_of};
-ghost use Rattle.vast_core.specs.Growth.{Builds, with_terms};
+ghost use Rattle.vast_core.specs.Growth.{Leaves, with_terms};
 ghost use Rattle.vast_core.specs.Arrivals.{terms_of};
 ghost use Rattle.vast_core.specs.View.{bench};
 
@@ -48,8 +48,10 @@ impl Ast {
     pub fn expr(&self, e: Expr) -> &ExprNode
         requires { OwnsExpr (bench self.now) e }
         ensures tree { tree_of (bench self.now) e ≡ expr_tree (bench self.now).nodes result.now }
-        ensures owned { ExprChildrenHold (OwnsExpr (bench self.now)) (OwnsType (bench self.now)) result.now }
-        ensures older { ExprChildrenHold (λ c. rank c < rank e) (λ c. type_rank c < rank e) result.now }
+        ensures owned { ExprChildrenHold (OwnsExpr (bench self.now)) (OwnsType (bench self.now))
+            result.now }
+        ensures older { ExprChildrenHold (λ c. rank c < rank e) (λ c. type_rank c < rank e)
+            result.now }
         ensures well_formed { ExprWellFormed (tree_of (bench self.now) e) }
     {
         match self.node(e.id.index) {
@@ -64,8 +66,10 @@ impl Ast {
     pub fn data_type(&self, t: VastDataType) -> &TypeNode
         requires { OwnsType (bench self.now) t }
         ensures tree { type_of (bench self.now) t ≡ type_tree (bench self.now).nodes result.now }
-        ensures owned { TypeChildrenHold (OwnsExpr (bench self.now)) (OwnsType (bench self.now)) result.now }
-        ensures older { TypeChildrenHold (λ c. rank c < type_rank t) (λ c. type_rank c < type_rank t) result.now }
+        ensures owned { TypeChildrenHold (OwnsExpr (bench self.now)) (OwnsType (bench self.now))
+            result.now }
+        ensures older { TypeChildrenHold (λ c. rank c < type_rank t)
+            (λ c. type_rank c < type_rank t) result.now }
         ensures well_formed { TypeWellFormed (type_of (bench self.now) t) }
     {
         match self.node(t.id.index) {

@@ -20,9 +20,11 @@ impl Ast {
     /// # Errors
     /// `AllocError` where a growth was refused; nothing changed.
     pub fn push_type(&mut self, node: TypeNode) -> Result<VastDataType, AllocError>
-        requires children { TypeChildrenHold (OwnsExpr (bench self.old)) (OwnsType (bench self.old)) node }
+        requires children { TypeChildrenHold (OwnsExpr (bench self.old)) (OwnsType (bench self.old))
+            node }
         requires fits { TypeFits (type_tree (bench self.old).nodes node) }
-        ensures { Builds self.old self.new result next_type (λ b. with_type b (type_tree b.nodes node)) }
+        ensures { Builds self.old self.new result next_type
+            (λ b. with_type (type_tree b.nodes node) b) }
     {
         let data_type = VastDataType {
             id: self.next_term(),

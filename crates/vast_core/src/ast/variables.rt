@@ -27,7 +27,10 @@ impl Function {
 
     fn enter_input(&mut self, variable: FunctionVariable, name: String) -> Result<(), AllocError>
         requires { string_bytes name ≡ string_bytes variable.name }
-        ensures ok { OnOk result (function_record self.new ≡ with_listed_variable false (variable_record variable) (function_record self.old)) }
+        ensures ok { OnOk result
+            (function_record self.new
+            ≡ with_listed_variable false (variable_record variable)
+            (function_record self.old)) }
         ensures err { OnErr result (function_record self.new ≡ function_record self.old) }
     {
         self.inputs.reserve(1)?;
@@ -38,7 +41,9 @@ impl Function {
 
     fn enter_local(&mut self, variable: FunctionVariable, name: String) -> Result<(), AllocError>
         requires { string_bytes name ≡ string_bytes variable.name }
-        ensures ok { OnOk result (function_record self.new ≡ with_listed_variable true (variable_record variable) (function_record self.old)) }
+        ensures ok { OnOk result
+            (function_record self.new
+            ≡ with_listed_variable true (variable_record variable) (function_record self.old)) }
         ensures err { OnErr result (function_record self.new ≡ function_record self.old) }
     {
         self.locals.reserve(1)?;
@@ -55,7 +60,10 @@ impl Function {
         name: String,
     ) -> Result<(), AllocError>
         requires { string_bytes name ≡ string_bytes variable.name }
-        ensures ok { OnOk result (function_record self.new ≡ with_listed_variable local (variable_record variable) (function_record self.old)) }
+        ensures ok { OnOk result
+            (function_record self.new
+            ≡ with_listed_variable local (variable_record variable)
+            (function_record self.old)) }
         ensures err { OnErr result (function_record self.new ≡ function_record self.old) }
     {
         if local {
@@ -85,7 +93,9 @@ impl Ast {
         requires kind { IsVariableKind local kind }
         requires data_type { OwnsType (bench self.old) data_type }
         requires free { IsFreeInFunction (bench self.old) owner name.now }
-        ensures { Builds self.old self.new result next_logic_ref (with_variable owner local (record { kind = kind; name = name.now; data_type = data_type })) }
+        ensures { Builds self.old self.new result next_logic_ref
+            (with_variable owner local
+            (record { kind = kind; name = name.now; data_type = data_type })) }
     {
         let node_name = String::from_str(self.alloc, name)?;
         let own_name = String::from_str(self.alloc, name)?;

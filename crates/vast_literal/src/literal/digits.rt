@@ -122,7 +122,9 @@ pub fn push_digits(
 ) -> Result<(), AllocError>
     requires bits { digit_bits ≤ 4 }
     requires count { count < 2 ^ 32 }
-    ensures { OnOk result (string_bytes text.new ≡ string_bytes text.old ++ characters (lowest_digits (2 ^ digit_bits) count value)) }
+    ensures { OnOk result
+        (string_bytes text.new
+        ≡ string_bytes text.old ++ characters (lowest_digits (2 ^ digit_bits) count value)) }
 {
     for place in (0..count).rev() {
         text.push(digit_character(digit_at(value, digit_bits, place)))?;
@@ -134,7 +136,8 @@ pub fn push_digits(
 #[tactic(auto, unfolding(crate::specs::Digits::separator))]
 fn push_separated(text: &mut String, digit: u8, behind: usize) -> Result<(), AllocError>
     requires { digit < 36 }
-    ensures { OnOk result (string_bytes text.new ≡ string_bytes text.old ++ digit_char digit ∷ separator behind) }
+    ensures { OnOk result
+        (string_bytes text.new ≡ string_bytes text.old ++ digit_char digit ∷ separator behind) }
 {
     text.push(digit_character(digit))?;
     if behind > 0 && behind % 4 == 0 {
@@ -153,7 +156,9 @@ pub fn push_grouped(
 ) -> Result<(), AllocError>
     requires bits { digit_bits ≤ 4 }
     requires count { count < 2 ^ 32 }
-    ensures { OnOk result (string_bytes text.new ≡ string_bytes text.old ++ grouped (lowest_digits (2 ^ digit_bits) count value)) }
+    ensures { OnOk result
+        (string_bytes text.new
+        ≡ string_bytes text.old ++ grouped (lowest_digits (2 ^ digit_bits) count value)) }
 {
     for place in (0..count).rev() {
         push_separated(text, digit_at(value, digit_bits, place), place)?;

@@ -25,7 +25,8 @@ fn refuse_number(alloc: Global, kind: &str, most: u128, value: u128) -> VastFaul
 /// Refuses a number above a limit.
 #[tactic(auto, unfolding(crate::specs::LiteralText::limited))]
 fn limit(alloc: Global, kind: &str, most: u128, value: u128) -> Result<(), VastFault>
-    ensures { MatchResult result (λ _. limited kind.now most value ≡ Ok tt) (OnlyRefusedBy (limited kind.now most value)) }
+    ensures { MatchResult result (λ _. limited kind.now most value ≡ Ok tt)
+        (OnlyRefusedBy (limited kind.now most value)) }
 {
     if value <= most {
         return Ok(());
@@ -35,7 +36,8 @@ fn limit(alloc: Global, kind: &str, most: u128, value: u128) -> Result<(), VastF
 
 /// Refuses a number above the limit of a format.
 pub fn validate(alloc: Global, format: LiteralFormat, value: u128) -> Result<(), VastFault>
-    ensures { MatchResult result (λ _. taken format value ≡ Ok tt) (OnlyRefusedBy (taken format value)) }
+    ensures { MatchResult result (λ _. taken format value ≡ Ok tt)
+        (OnlyRefusedBy (taken format value)) }
 {
     match format {
         LiteralFormat::UnsizedBinary => limit(alloc, "binary", MOST_BASED, value),

@@ -5,7 +5,8 @@ ghost use Rattle.vast_literal.specs.Literal.{typed_parts, has_minus, without_sig
 
 /// The width and the value of `bits[N]:value`, cut at the first `]:`.
 pub fn split_typed(text: &str) -> Option<(&str, &str)>
-    ensures { MatchOption result (typed_parts text.now ≡ None) (λ parts. typed_parts text.now ≡ Some (parts.0.now, parts.1.now)) }
+    ensures { MatchOption result (typed_parts text.now ≡ None)
+        (λ parts. typed_parts text.now ≡ Some (parts.0.now, parts.1.now)) }
 {
     let Some(rest) = text.strip_prefix("bits[") else {
         return None

@@ -72,7 +72,11 @@ fn padded_text(
     requires narrow { width ≤ 1048576 }
     requires wide_digits { 1 ≤ digit_bits }
     requires few_bits { digit_bits ≤ 4 }
-    ensures { IfOk result (λ text. string_bytes text ≡ sized width base.now (grouped (lowest_digits (2 ^ digit_bits) (padded_count digit_bits width value) value))) }
+    ensures { IfOk result
+        (λ text. string_bytes text
+        ≡ sized width base.now
+        (grouped (lowest_digits (2 ^ digit_bits) (padded_count digit_bits width value)
+        value))) }
 {
     let mut text = format!(in alloc; "{width}{base}")?;
     push_grouped(
@@ -86,7 +90,9 @@ fn padded_text(
 
 /// The text in the unsized binary format.
 fn unsized_binary(alloc: Global, value: u128) -> Result<String, AllocError>
-    ensures { IfOk result (λ text. string_bytes text ≡ codes "'b" ++ characters (lowest_digits 2 (digit_count 2 value) value)) }
+    ensures { IfOk result
+        (λ text. string_bytes text
+        ≡ codes "'b" ++ characters (lowest_digits 2 (digit_count 2 value) value)) }
 {
     let mut text = String::from_str(alloc, "'b")?;
     push_digits(&mut text, value, 1, digit_count(value, 2))?;
@@ -95,7 +101,9 @@ fn unsized_binary(alloc: Global, value: u128) -> Result<String, AllocError>
 
 /// The text in the unsized hexadecimal format.
 fn unsized_hex(alloc: Global, value: u128) -> Result<String, AllocError>
-    ensures { IfOk result (λ text. string_bytes text ≡ codes "'h" ++ grouped (lowest_digits 16 (digit_count 16 value) value)) }
+    ensures { IfOk result
+        (λ text. string_bytes text
+        ≡ codes "'h" ++ grouped (lowest_digits 16 (digit_count 16 value) value)) }
 {
     let mut text = String::from_str(alloc, "'h")?;
     push_grouped(&mut text, value, 4, digit_count(value, 16))?;

@@ -45,7 +45,8 @@ pub fn complement(width: usize, magnitude: u128) -> u128
 #[tactic(auto, using(crate::proofs::Widths::negating))]
 fn negated(width: usize, magnitude: u128) -> Option<u128>
     requires { magnitude ≤ 2 ^ width }
-    ensures { SomeIff result (modulo_width width true magnitude < 2 ^ 128) (modulo_width width true magnitude) }
+    ensures { SomeIff result (modulo_width width true magnitude < 2 ^ 128)
+        (modulo_width width true magnitude) }
 {
     if magnitude == 0 {
         return Some(0);
@@ -92,7 +93,8 @@ fn refuse_value(alloc: Global, text: &str) -> VastFault
 /// The number that a text without a sign writes, below 2^128.
 #[tactic(auto, unfolding(crate::specs::Literal::magnitude_of))]
 fn read_magnitude(alloc: Global, text: &str, number: &[u8]) -> Result<u128, VastFault>
-    ensures { MatchResult result (λ m. magnitude_of text.now number.now ≡ Ok m) (OnlyRefusedBy (magnitude_of text.now number.now)) }
+    ensures { MatchResult result (λ m. magnitude_of text.now number.now ≡ Ok m)
+        (OnlyRefusedBy (magnitude_of text.now number.now)) }
 {
     let (radix, digits) = split_radix(number);
     if !is_numeral(digits, radix) {
@@ -113,7 +115,9 @@ fn fit(
     negative: bool,
     magnitude: u128,
 ) -> Result<u128, VastFault>
-    ensures value { MatchResult result (λ value. fitted text.now width negative magnitude ≡ Ok value) (OnlyRefusedBy (fitted text.now width negative magnitude)) }
+    ensures value { MatchResult result
+        (λ value. fitted text.now width negative magnitude ≡ Ok value)
+        (OnlyRefusedBy (fitted text.now width negative magnitude)) }
     ensures fits { IfOk result (λ value. value < 2 ^ width) }
 {
     if !fits(width, negative, magnitude) {
@@ -136,7 +140,8 @@ pub fn read_value(
     value_text: &str,
     width: usize,
 ) -> Result<u128, VastFault>
-    ensures value { MatchResult result (λ value. value_of text.now value_text.now width ≡ Ok value) (OnlyRefusedBy (value_of text.now value_text.now width)) }
+    ensures value { MatchResult result (λ value. value_of text.now value_text.now width ≡ Ok value)
+        (OnlyRefusedBy (value_of text.now value_text.now width)) }
     ensures fits { IfOk result (λ value. value < 2 ^ width) }
 {
     let (negative, number) = split_sign(value_text.as_bytes());

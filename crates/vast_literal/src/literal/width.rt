@@ -72,7 +72,8 @@ fn refuse_wide(alloc: Global, width: u64) -> VastFault
 /// The width of a literal, 1 to [`MOST_BITS`].
 #[tactic(auto, unfolding(crate::specs::Literal::width_of))]
 pub fn read_width(alloc: Global, text: &str, width_text: &str) -> Result<usize, VastFault>
-    ensures width { MatchResult result (λ width. width_of text.now width_text.now ≡ Ok width) (OnlyRefusedBy (width_of text.now width_text.now)) }
+    ensures width { MatchResult result (λ width. width_of text.now width_text.now ≡ Ok width)
+        (OnlyRefusedBy (width_of text.now width_text.now)) }
     ensures positive { IfOk result (λ width. 1 ≤ width) }
     ensures narrow { IfOk result (λ width. width ≤ 1048576) }
 {

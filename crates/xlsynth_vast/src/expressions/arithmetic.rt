@@ -97,7 +97,8 @@ impl VastFile {
     pub fn make_bitwise_and(&mut self, lhs: &Expr, rhs: &Expr) -> Result<Expr, AllocError>
         requires lhs { OwnsExpr (bench self.old) lhs.now }
         requires rhs { OwnsExpr (bench self.old) rhs.now }
-        ensures { Builds self.old self.new result next_expr (with_binary BitwiseAndOp lhs.now rhs.now) }
+        ensures { Builds self.old self.new result next_expr
+            (with_binary BitwiseAndOp lhs.now rhs.now) }
     {
         self.ast
             .push_expr(ExprNode::Binary(BinaryOperator::BitwiseAnd, *lhs, *rhs))
@@ -110,7 +111,8 @@ impl VastFile {
     pub fn make_bitwise_or(&mut self, lhs: &Expr, rhs: &Expr) -> Result<Expr, AllocError>
         requires lhs { OwnsExpr (bench self.old) lhs.now }
         requires rhs { OwnsExpr (bench self.old) rhs.now }
-        ensures { Builds self.old self.new result next_expr (with_binary BitwiseOrOp lhs.now rhs.now) }
+        ensures { Builds self.old self.new result next_expr
+            (with_binary BitwiseOrOp lhs.now rhs.now) }
     {
         self.ast
             .push_expr(ExprNode::Binary(BinaryOperator::BitwiseOr, *lhs, *rhs))
@@ -123,7 +125,8 @@ impl VastFile {
     pub fn make_bitwise_xor(&mut self, lhs: &Expr, rhs: &Expr) -> Result<Expr, AllocError>
         requires lhs { OwnsExpr (bench self.old) lhs.now }
         requires rhs { OwnsExpr (bench self.old) rhs.now }
-        ensures { Builds self.old self.new result next_expr (with_binary BitwiseXorOp lhs.now rhs.now) }
+        ensures { Builds self.old self.new result next_expr
+            (with_binary BitwiseXorOp lhs.now rhs.now) }
     {
         self.ast
             .push_expr(ExprNode::Binary(BinaryOperator::BitwiseXor, *lhs, *rhs))

@@ -36,7 +36,8 @@ impl VastFile {
         requires data_type { OwnsType (bench self.old) data_type.now }
         requires castable { IsTrue (is_castable (type_of (bench self.old) data_type.now)) }
         requires value { OwnsExpr (bench self.old) value.now }
-        ensures { Builds self.old self.new result next_expr (with_type_cast data_type.now value.now) }
+        ensures { Builds self.old self.new result next_expr
+            (with_type_cast data_type.now value.now) }
     {
         self.ast.push_expr(ExprNode::TypeCast(*data_type, *value))
     }

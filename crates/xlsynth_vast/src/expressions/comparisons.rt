@@ -123,7 +123,8 @@ impl VastFile {
     pub fn make_logical_and(&mut self, lhs: &Expr, rhs: &Expr) -> Result<Expr, AllocError>
         requires lhs { OwnsExpr (bench self.old) lhs.now }
         requires rhs { OwnsExpr (bench self.old) rhs.now }
-        ensures { Builds self.old self.new result next_expr (with_binary LogicalAndOp lhs.now rhs.now) }
+        ensures { Builds self.old self.new result next_expr
+            (with_binary LogicalAndOp lhs.now rhs.now) }
     {
         self.ast
             .push_expr(ExprNode::Binary(BinaryOperator::LogicalAnd, *lhs, *rhs))
@@ -136,7 +137,8 @@ impl VastFile {
     pub fn make_logical_or(&mut self, lhs: &Expr, rhs: &Expr) -> Result<Expr, AllocError>
         requires lhs { OwnsExpr (bench self.old) lhs.now }
         requires rhs { OwnsExpr (bench self.old) rhs.now }
-        ensures { Builds self.old self.new result next_expr (with_binary LogicalOrOp lhs.now rhs.now) }
+        ensures { Builds self.old self.new result next_expr
+            (with_binary LogicalOrOp lhs.now rhs.now) }
     {
         self.ast
             .push_expr(ExprNode::Binary(BinaryOperator::LogicalOr, *lhs, *rhs))
@@ -181,7 +183,8 @@ impl VastFile {
         requires condition { OwnsExpr (bench self.old) condition.now }
         requires consequent { OwnsExpr (bench self.old) consequent.now }
         requires alternate { OwnsExpr (bench self.old) alternate.now }
-        ensures { Builds self.old self.new result next_expr (with_ternary condition.now consequent.now alternate.now) }
+        ensures { Builds self.old self.new result next_expr
+            (with_ternary condition.now consequent.now alternate.now) }
     {
         self.ast
             .push_expr(ExprNode::Ternary(*condition, *consequent, *alternate))

@@ -26,7 +26,8 @@ impl VastFile {
     /// `AllocError` where a growth was refused; the file is unchanged.
     pub fn make_concat(&mut self, expressions: &[&Expr]) -> Result<Expr, AllocError>
         requires { All (λ e. OwnsExpr (bench self.old) e.now) expressions.now }
-        ensures { Builds self.old self.new result next_expr (with_concat (map (λ e. e.now) expressions.now)) }
+        ensures { Builds self.old self.new result next_expr
+            (with_concat (map (λ e. e.now) expressions.now)) }
     {
         let parts = self.handles(expressions)?;
         self.ast.push_expr(ExprNode::Concat(None, parts))
@@ -43,7 +44,8 @@ impl VastFile {
     ) -> Result<Expr, AllocError>
         requires replication { OwnsExpr (bench self.old) replication.now }
         requires elements { All (λ e. OwnsExpr (bench self.old) e.now) elements.now }
-        ensures { Builds self.old self.new result next_expr (with_replication replication.now (map (λ e. e.now) elements.now)) }
+        ensures { Builds self.old self.new result next_expr
+            (with_replication replication.now (map (λ e. e.now) elements.now)) }
     {
         let parts = self.handles(elements)?;
         self.ast
@@ -60,7 +62,8 @@ impl VastFile {
         elements: &[&Expr],
     ) -> Result<Expr, AllocError>
         requires { All (λ e. OwnsExpr (bench self.old) e.now) elements.now }
-        ensures { Builds self.old self.new result (next_fixed_replication replication) (with_fixed_replication replication (map (λ e. e.now) elements.now)) }
+        ensures { Builds self.old self.new result (next_fixed_replication replication)
+            (with_fixed_replication replication (map (λ e. e.now) elements.now)) }
     {
         let parts = self.handles(elements)?;
         self.ast.push_replication_fixed(replication, &parts)
@@ -72,7 +75,8 @@ impl VastFile {
     /// `AllocError` where a growth was refused; the file is unchanged.
     pub fn make_array_assignment_pattern(&mut self, elements: &[&Expr]) -> Result<Expr, AllocError>
         requires { All (λ e. OwnsExpr (bench self.old) e.now) elements.now }
-        ensures { Builds self.old self.new result next_expr (with_pattern (map (λ e. e.now) elements.now)) }
+        ensures { Builds self.old self.new result next_expr
+            (with_pattern (map (λ e. e.now) elements.now)) }
     {
         let parts = self.handles(elements)?;
         self.ast.push_expr(ExprNode::Pattern(parts))
@@ -89,7 +93,8 @@ impl VastFile {
     ) -> Result<Expr, AllocError>
         requires name { name.now ≢ [] }
         requires arguments { All (λ e. OwnsExpr (bench self.old) e.now) arguments.now }
-        ensures { Builds self.old self.new result next_expr (with_call name.now (map (λ e. e.now) arguments.now)) }
+        ensures { Builds self.old self.new result next_expr
+            (with_call name.now (map (λ e. e.now) arguments.now)) }
     {
         let parts = self.handles(arguments)?;
         let name = String::from_str(self.ast.allocator(), name)?;
@@ -117,7 +122,8 @@ impl VastFile {
         arguments: &[&Expr],
     ) -> Result<MacroRef, AllocError>
         requires { All (λ e. OwnsExpr (bench self.old) e.now) arguments.now }
-        ensures { Builds self.old self.new result next_macro_ref (with_macro_call name.now (map (λ e. e.now) arguments.now)) }
+        ensures { Builds self.old self.new result next_macro_ref
+            (with_macro_call name.now (map (λ e. e.now) arguments.now)) }
     {
         let parts = self.handles(arguments)?;
         let name = String::from_str(self.ast.allocator(), name)?;

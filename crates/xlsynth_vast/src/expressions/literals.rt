@@ -4,7 +4,6 @@ ghost use Rattle.std.specs.Prelude.{◌≡◌, pos, codes, None, Some};
 ghost use Rattle.vast_literal.specs.Tree.{LiteralTree};
 ghost use Rattle.vast_literal.specs.Pattern.{pattern};
 ghost use Rattle.vast_core.specs.Growth.{Builds, next_expr, with_expr, decimal_literal};
-ghost use Rattle.vast_core.specs.View.{bench};
 ghost use Rattle.xlsynth_vast.specs.Refusals.{MayBuild};
 ghost use Rattle.xlsynth_vast.specs.Literals.{known_value, literal_in, pattern_literal, string_literal};
 
@@ -28,7 +27,8 @@ impl VastFile {
     /// `Refused` where the text is no literal, and then where the format doesn't take its number: the unsized formats
     /// have limits. `Memory` where a growth was refused. The file is unchanged.
     pub fn make_literal(&mut self, text: &str, format: &LiteralFormat) -> Result<Expr, VastFault>
-        ensures { MayBuild (bench self.old) (bench self.new) result (literal_in format.now text.now) (next_expr (bench self.old)) (with_expr (bench self.old)) }
+        ensures { MayBuild self.old self.new result (λ _. literal_in format.now text.now) next_expr
+            with_expr }
     {
         let alloc = self.ast.allocator();
         let literal = Literal::parse(alloc, text)?;
@@ -44,7 +44,8 @@ impl VastFile {
     /// `Refused` where there are no digits, more than 1,048,576, or others. `Memory` where a growth was refused. The
     /// file is unchanged.
     pub fn make_binary_pattern(&mut self, bits_msb: &str) -> Result<Expr, VastFault>
-        ensures { MayBuild self.old self.new result (λ _. pattern bits_msb.now) next_expr (λ text b. with_expr b (pattern_literal text)) }
+        ensures { MayBuild self.old self.new result (λ _. pattern bits_msb.now) next_expr
+            (λ text. with_expr (pattern_literal text)) }
     {
         let text = pattern_text(self.ast.allocator(), bits_msb)?;
         Ok(self.ast.push_expr(ExprNode::Literal(text, None))?)
@@ -55,7 +56,7 @@ impl VastFile {
     /// # Errors
     /// `AllocError` where a growth was refused; the file is unchanged.
     pub fn make_string_literal(&mut self, value: &str) -> Result<Expr, AllocError>
-        ensures { Builds self.old self.new result next_expr (λ b. with_expr b (string_literal value.now)) }
+        ensures { Builds self.old self.new result next_expr (with_expr (string_literal value.now)) }
     {
         let text = quoted_text(self.ast.allocator(), value)?;
         self.ast.push_expr(ExprNode::StringText(text))
@@ -67,7 +68,7 @@ impl VastFile {
     /// `AllocError` where a growth was refused; the file is unchanged.
     #[tactic(auto, using(vast_literal::proofs::NumberLaws::signed_text))]
     pub fn make_unsized_decimal_literal(&mut self, value: i32) -> Result<Expr, AllocError>
-        ensures { Builds self.old self.new result next_expr (λ b. with_expr b (decimal_literal value)) }
+        ensures { Builds self.old self.new result next_expr (with_expr (decimal_literal value)) }
     {
         let text = format!(in self.ast.allocator(); "{value}")?;
         self.ast
@@ -79,7 +80,8 @@ impl VastFile {
     /// # Errors
     /// `AllocError` where a growth was refused; the file is unchanged.
     pub fn make_unsized_one_literal(&mut self) -> Result<Expr, AllocError>
-        ensures { Builds self.old self.new result next_expr (λ b. with_expr b (LiteralTree (codes "'1") (Some (pos 1)))) }
+        ensures { Builds self.old self.new result next_expr
+            (with_expr (LiteralTree (codes "'1") (Some (pos 1)))) }
     {
         let text = String::from_str(self.ast.allocator(), "'1")?;
         self.ast.push_expr(ExprNode::Literal(text, Some(1)))
@@ -90,7 +92,8 @@ impl VastFile {
     /// # Errors
     /// `AllocError` where a growth was refused; the file is unchanged.
     pub fn make_unsized_zero_literal(&mut self) -> Result<Expr, AllocError>
-        ensures { Builds self.old self.new result next_expr (λ b. with_expr b (LiteralTree (codes "'0") (Some (pos 0)))) }
+        ensures { Builds self.old self.new result next_expr
+            (with_expr (LiteralTree (codes "'0") (Some (pos 0)))) }
     {
         let text = String::from_str(self.ast.allocator(), "'0")?;
         self.ast.push_expr(ExprNode::Literal(text, Some(0)))
@@ -101,7 +104,8 @@ impl VastFile {
     /// # Errors
     /// `AllocError` where a growth was refused; the file is unchanged.
     pub fn make_unsized_x_literal(&mut self) -> Result<Expr, AllocError>
-        ensures { Builds self.old self.new result next_expr (λ b. with_expr b (LiteralTree (codes "'X") None)) }
+        ensures { Builds self.old self.new result next_expr
+            (with_expr (LiteralTree (codes "'X") None)) }
     {
         let text = String::from_str(self.ast.allocator(), "'X")?;
         self.ast.push_expr(ExprNode::Literal(text, None))

@@ -39,7 +39,9 @@ impl VastFile {
         requires subject { OwnsIndexable (bench self.old) subject.now }
         requires hi { pos 0 ≤ℤ hi }
         requires lo { pos 0 ≤ℤ lo }
-        ensures { Builds self.old self.new result (next_fixed_slice (selector_text hi) hi (selector_text lo) lo) (with_fixed_slice subject.now (selector_text hi) hi (selector_text lo) lo) }
+        ensures { Builds self.old self.new result
+            (next_fixed_slice (selector_text hi) hi (selector_text lo) lo)
+            (with_fixed_slice subject.now (selector_text hi) hi (selector_text lo) lo) }
     {
         let alloc = self.ast.allocator();
         let high_text = selector_text(alloc, hi)?;
@@ -55,7 +57,8 @@ impl VastFile {
     pub fn make_index(&mut self, subject: &IndexableExpr, index: i64) -> Result<Index, AllocError>
         requires subject { OwnsIndexable (bench self.old) subject.now }
         requires index { pos 0 ≤ℤ index }
-        ensures { Builds self.old self.new result (next_fixed_index (selector_text index) index) (with_fixed_index subject.now (selector_text index) index) }
+        ensures { Builds self.old self.new result (next_fixed_index (selector_text index) index)
+            (with_fixed_index subject.now (selector_text index) index) }
     {
         let text = selector_text(self.ast.allocator(), index)?;
         self.ast.push_index_fixed(*subject, &text, index)
@@ -74,7 +77,8 @@ impl VastFile {
         requires subject { OwnsIndexable (bench self.old) subject.now }
         requires hi { OwnsExpr (bench self.old) hi.now }
         requires lo { OwnsExpr (bench self.old) lo.now }
-        ensures { Builds self.old self.new result next_slice (with_slice subject.now hi.now lo.now) }
+        ensures { Builds self.old self.new result next_slice
+            (with_slice subject.now hi.now lo.now) }
     {
         self.ast.push_slice(*subject, *hi, *lo)
     }
@@ -108,7 +112,8 @@ impl VastFile {
         requires subject { OwnsIndexable (bench self.old) subject.now }
         requires start { OwnsExpr (bench self.old) start.now }
         requires width { pos 1 ≤ℤ width }
-        ensures { Builds self.old self.new result next_expr (with_part_select subject.now start.now width) }
+        ensures { Builds self.old self.new result next_expr
+            (with_part_select subject.now start.now width) }
     {
         self.ast
             .push_expr(ExprNode::PartSelect(subject.to_expr(), *start, width))

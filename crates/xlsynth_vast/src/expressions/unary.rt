@@ -18,7 +18,8 @@ impl VastFile {
     /// `AllocError` where a growth was refused; the file is unchanged.
     pub fn make_not(&mut self, expression: &Expr) -> Result<Expr, AllocError>
         requires { OwnsExpr (bench self.old) expression.now }
-        ensures { Builds self.old self.new result next_expr (with_unary BitwiseNotOp expression.now) }
+        ensures { Builds self.old self.new result next_expr
+            (with_unary BitwiseNotOp expression.now) }
     {
         self.make_bitwise_not(expression)
     }
@@ -29,7 +30,8 @@ impl VastFile {
     /// `AllocError` where a growth was refused; the file is unchanged.
     pub fn make_bitwise_not(&mut self, expression: &Expr) -> Result<Expr, AllocError>
         requires { OwnsExpr (bench self.old) expression.now }
-        ensures { Builds self.old self.new result next_expr (with_unary BitwiseNotOp expression.now) }
+        ensures { Builds self.old self.new result next_expr
+            (with_unary BitwiseNotOp expression.now) }
     {
         self.ast
             .push_expr(ExprNode::Unary(UnaryOperator::BitwiseNot, *expression))
@@ -53,7 +55,8 @@ impl VastFile {
     /// `AllocError` where a growth was refused; the file is unchanged.
     pub fn make_logical_not(&mut self, expression: &Expr) -> Result<Expr, AllocError>
         requires { OwnsExpr (bench self.old) expression.now }
-        ensures { Builds self.old self.new result next_expr (with_unary LogicalNotOp expression.now) }
+        ensures { Builds self.old self.new result next_expr
+            (with_unary LogicalNotOp expression.now) }
     {
         self.ast
             .push_expr(ExprNode::Unary(UnaryOperator::LogicalNot, *expression))
@@ -65,7 +68,8 @@ impl VastFile {
     /// `AllocError` where a growth was refused; the file is unchanged.
     pub fn make_and_reduce(&mut self, expression: &Expr) -> Result<Expr, AllocError>
         requires { OwnsExpr (bench self.old) expression.now }
-        ensures { Builds self.old self.new result next_expr (with_unary AndReduceOp expression.now) }
+        ensures { Builds self.old self.new result next_expr
+            (with_unary AndReduceOp expression.now) }
     {
         self.ast
             .push_expr(ExprNode::Unary(UnaryOperator::AndReduce, *expression))
@@ -89,7 +93,8 @@ impl VastFile {
     /// `AllocError` where a growth was refused; the file is unchanged.
     pub fn make_xor_reduce(&mut self, expression: &Expr) -> Result<Expr, AllocError>
         requires { OwnsExpr (bench self.old) expression.now }
-        ensures { Builds self.old self.new result next_expr (with_unary XorReduceOp expression.now) }
+        ensures { Builds self.old self.new result next_expr
+            (with_unary XorReduceOp expression.now) }
     {
         self.ast
             .push_expr(ExprNode::Unary(UnaryOperator::XorReduce, *expression))

@@ -43,7 +43,8 @@ fn check_positive(alloc: Global, dimensions: &[i64]) -> Result<(), VastFault>
 /// The dimensions of a type's packed arrays, from the outermost.
 fn packed_dimensions(ast: &Ast, data_type: VastDataType) -> Result<Vec<i64>, AllocError>
     requires { OwnsType (bench ast.now) data_type }
-    ensures { IfOk result (λ made. made.items ≡ packed_dimensions (type_of (bench ast.now) data_type)) }
+    ensures { IfOk result
+        (λ made. made.items ≡ packed_dimensions (type_of (bench ast.now) data_type)) }
 {
     let mut made = Vec::new(ast.allocator());
     let mut array = data_type;
@@ -69,7 +70,9 @@ fn packed_dimensions(ast: &Ast, data_type: VastDataType) -> Result<Vec<i64>, All
 fn known_type(ast: &Ast, e: Expr) -> Option<(VastDataType, usize)>
     requires { OwnsExpr (bench ast.now) e }
     ensures owned { IfSome result (λ known. OwnsType (bench ast.now) known.0) }
-    ensures known { known_dimensions (tree_of (bench ast.now) e) ≡ option_map (λ known. drop known.1 (packed_dimensions (type_of (bench ast.now) known.0))) result }
+    ensures known { known_dimensions (tree_of (bench ast.now) e)
+        ≡ option_map (λ known. drop known.1 (packed_dimensions (type_of (bench ast.now) known.0)))
+        result }
 {
     let mut named = e;
     let mut indexes = 0;
@@ -110,7 +113,8 @@ fn mismatch(alloc: Global, known: &[i64], given: &[i64]) -> Result<String, Alloc
 
 fn check_known(ast: &Ast, array: Expr, dimensions: &[i64]) -> Result<(), VastFault>
     requires { OwnsExpr (bench ast.now) array }
-    ensures { ChecksBy (as_known (known_dimensions (tree_of (bench ast.now) array)) dimensions.now) result }
+    ensures { ChecksBy (as_known (known_dimensions (tree_of (bench ast.now) array)) dimensions.now)
+        result }
 {
     let Some((data_type, indexes)) = known_type(ast, array) else {
         return Ok(());

@@ -26,7 +26,8 @@ fn push_slots(
 ) -> Result<(), AllocError>
     requires array { OwnsExpr (bench file.old) array }
     requires made { All (OwnsExpr (bench file.old)) made.old.items }
-    ensures { AddsTrees (bench file.old) (bench file.new) result made.old.items made.new.items (slots dimension (tree_of (bench file.old) array)) }
+    ensures { AddsTrees (bench file.old) (bench file.new) result made.old.items made.new.items
+        (slots dimension (tree_of (bench file.old) array)) }
 {
     let array = file.make_indexable_expression(&array);
     for index in 0..dimension {
@@ -46,7 +47,8 @@ fn push_all_slots(
 ) -> Result<(), AllocError>
     requires arrays { All (OwnsExpr (bench file.old)) arrays.now }
     requires made { All (OwnsExpr (bench file.old)) made.old.items }
-    ensures { AddsTrees (bench file.old) (bench file.new) result made.old.items made.new.items (flat_map (slots dimension) (map (tree_of (bench file.old)) arrays.now)) }
+    ensures { AddsTrees (bench file.old) (bench file.new) result made.old.items made.new.items
+        (flat_map (slots dimension) (map (tree_of (bench file.old)) arrays.now)) }
 {
     for array in arrays {
         push_slots(*array, dimension, made, file)?;
@@ -62,7 +64,8 @@ fn elements_within(
     file: &mut VastFile,
 ) -> Result<Vec<Expr>, AllocError>
     requires { OwnsExpr (bench file.old) array }
-    ensures { MakesTrees (bench file.old) (bench file.new) result (elements dimensions.now (tree_of (bench file.old) array)) }
+    ensures { MakesTrees (bench file.old) (bench file.new) result
+        (elements dimensions.now (tree_of (bench file.old) array)) }
 {
     let alloc = file.allocator();
     let mut arrays = Vec::new(alloc);
@@ -84,7 +87,8 @@ fn counted_elements(
     file: &mut VastFile,
 ) -> Result<Vec<Expr>, AllocError>
     requires { OwnsExpr (bench file.old) array }
-    ensures { MakesTrees (bench file.old) (bench file.new) result (elements dimensions.now (tree_of (bench file.old) array)) }
+    ensures { MakesTrees (bench file.old) (bench file.new) result
+        (elements dimensions.now (tree_of (bench file.old) array)) }
 {
     let mut made = Vec::with_capacity(file.allocator(), count)?;
     let Some((last, outer)) = dimensions.split_last() else {
@@ -103,7 +107,8 @@ fn array_reduced(
     file: &mut VastFile,
 ) -> Result<Expr, VastFault>
     requires { OwnsIndexable (bench file.old) value.now }
-    ensures { MakesTree (bench file.old) (bench file.new) result (array_reduction dimensions.now (subject_of (bench file.old) value.now)) }
+    ensures { MakesTree (bench file.old) (bench file.new) result
+        (array_reduction dimensions.now (subject_of (bench file.old) value.now)) }
 {
     let array = value.to_expr();
     let count = checked_count(&file.ast, array, dimensions)?;
@@ -127,7 +132,8 @@ pub fn bitwise_or_reduce_array_elements(
     file: &mut VastFile,
 ) -> Result<Expr, VastFault>
     requires { OwnsIndexable (bench file.old) value.now }
-    ensures made { MakesTree (bench file.old) (bench file.new) result (array_reduction dimensions.now (subject_of (bench file.old) value.now)) }
+    ensures made { MakesTree (bench file.old) (bench file.new) result
+        (array_reduction dimensions.now (subject_of (bench file.old) value.now)) }
     ensures unseen { tree (bench file.new) ≡ tree (bench file.old) }
 {
     records_are_sound(file);

@@ -2,7 +2,7 @@
 
 ghost use Rattle.std.specs.Prelude.{◌≡◌, All, Ok, map, false, true};
 ghost use Rattle.vast_literal.specs.declared.operator.BinaryOperator.{BinaryOperator as BinaryOp};
-ghost use Rattle.vast_literal.specs.declared.operator.BinaryOperator.TheVariants.{BitwiseOr as BitwiseOrOp, LogicalAnd as LogicalAndOp, LogicalOr as LogicalOrOp};
+ghost use Rattle.vast_literal.specs.declared.operator.BinaryOperator.TheVariants.{LogicalAnd as LogicalAndOp, LogicalOr as LogicalOrOp};
 ghost use Rattle.vast_core.specs.Bench.{OwnsExpr, tree_of};
 ghost use Rattle.vast_core.specs.FileTree.{tree};
 ghost use Rattle.vast_core.specs.Growth.{Builds, next_expr, with_expr};
@@ -21,10 +21,14 @@ fn joined<F>(values: &[Expr], mut join: F, file: &mut VastFile) -> Result<Option
 where
     F: FnMut(&mut VastFile, &Expr, &Expr) -> Result<Expr, AllocError>,
     ghost sign: { BinaryOp }
-    requires callable { (state : F) (f : _) (a : _) (b : _) → OwnsExpr (bench f.now) a.now → OwnsExpr (bench f.now) b.now → F.pre state f a b }
-    requires joins { (state : F) (f : _) (a : _) (b : _) (r : _) (g : _) (next : F) → F.step state f a b r g next → Builds (bench f.now) (bench g.now) r (next_expr (bench f.now)) (with_binary sign a.now b.now (bench f.now)) }
+    requires callable { (state : F) (f : _) (a : _) (b : _) → OwnsExpr (bench f.now) a.now
+        → OwnsExpr (bench f.now) b.now → F.pre state f a b }
+    requires joins { (state : F) (f : _) (a : _) (b : _) (r : _) (g : _) (next : F)
+        → F.step state f a b r g next
+        → Builds f.now g.now r next_expr (with_binary sign a.now b.now) }
     requires owned { All (OwnsExpr (bench file.old)) values.now }
-    ensures { MakesJoined (bench file.old) (bench file.new) result sign (map (tree_of (bench file.old)) values.now) }
+    ensures { MakesJoined (bench file.old) (bench file.new) result sign
+        (map (tree_of (bench file.old)) values.now) }
 {
     let Some((first, rest)) = values.split_first() else {
         return Ok(None);
@@ -38,7 +42,7 @@ where
 
 /// The literal of one bit.
 fn make_bit(set: bool, file: &mut VastFile) -> Result<Expr, AllocError>
-    ensures { Builds file.old file.new result next_expr (λ b. with_expr b (bit_literal set)) }
+    ensures { Builds file.old file.new result next_expr (with_expr (bit_literal set)) }
 {
     if set {
         let text = String::from_str(file.ast.allocator(), "1'h1")?;
@@ -61,10 +65,14 @@ fn logical_reduced<F>(
 where
     F: FnMut(&mut VastFile, &Expr, &Expr) -> Result<Expr, AllocError>,
     ghost sign: { BinaryOp }
-    requires callable { (state : F) (f : _) (a : _) (b : _) → OwnsExpr (bench f.now) a.now → OwnsExpr (bench f.now) b.now → F.pre state f a b }
-    requires joins { (state : F) (f : _) (a : _) (b : _) (r : _) (g : _) (next : F) → F.step state f a b r g next → Builds (bench f.now) (bench g.now) r (next_expr (bench f.now)) (with_binary sign a.now b.now (bench f.now)) }
+    requires callable { (state : F) (f : _) (a : _) (b : _) → OwnsExpr (bench f.now) a.now
+        → OwnsExpr (bench f.now) b.now → F.pre state f a b }
+    requires joins { (state : F) (f : _) (a : _) (b : _) (r : _) (g : _) (next : F)
+        → F.step state f a b r g next
+        → Builds f.now g.now r next_expr (with_binary sign a.now b.now) }
     requires owned { All (OwnsExpr (bench file.old)) values.now }
-    ensures { MakesTree (bench file.old) (bench file.new) result (Ok (logical_reduction sign of_none invert (map (tree_of (bench file.old)) values.now))) }
+    ensures { MakesTree (bench file.old) (bench file.new) result
+        (Ok (logical_reduction sign of_none invert (map (tree_of (bench file.old)) values.now))) }
 {
     match joined(values, join, file)? {
         Some(whole) if invert => Ok(file.make_logical_not(&whole)?),
@@ -77,7 +85,8 @@ where
 #[tactic(auto, using(crate::proofs::Reduced::reductions))]
 pub(crate) fn bitwise_reduced(values: &[Expr], file: &mut VastFile) -> Result<Expr, VastFault>
     requires { All (OwnsExpr (bench file.old)) values.now }
-    ensures { MakesTree (bench file.old) (bench file.new) result (Ok (bitwise_reduction (map (tree_of (bench file.old)) values.now))) }
+    ensures { MakesTree (bench file.old) (bench file.new) result
+        (Ok (bitwise_reduction (map (tree_of (bench file.old)) values.now))) }
 {
     match joined(values, VastFile::make_bitwise_or, file)? {
         Some(whole) => Ok(whole),
@@ -98,7 +107,9 @@ pub fn logical_or_reduce(
     file: &mut VastFile,
 ) -> Result<Expr, VastFault>
     requires { All (OwnsExpr (bench file.old)) values.now }
-    ensures made { MakesTree (bench file.old) (bench file.new) result (Ok (logical_reduction LogicalOrOp false invert (map (tree_of (bench file.old)) values.now))) }
+    ensures made { MakesTree (bench file.old) (bench file.new) result
+        (Ok (logical_reduction LogicalOrOp false invert
+        (map (tree_of (bench file.old)) values.now))) }
     ensures unseen { tree (bench file.new) ≡ tree (bench file.old) }
 {
     records_are_sound(file);
@@ -117,7 +128,9 @@ pub fn logical_and_reduce(
     file: &mut VastFile,
 ) -> Result<Expr, VastFault>
     requires { All (OwnsExpr (bench file.old)) values.now }
-    ensures made { MakesTree (bench file.old) (bench file.new) result (Ok (logical_reduction LogicalAndOp true invert (map (tree_of (bench file.old)) values.now))) }
+    ensures made { MakesTree (bench file.old) (bench file.new) result
+        (Ok (logical_reduction LogicalAndOp true invert
+        (map (tree_of (bench file.old)) values.now))) }
     ensures unseen { tree (bench file.new) ≡ tree (bench file.old) }
 {
     records_are_sound(file);
@@ -131,7 +144,8 @@ pub fn logical_and_reduce(
 #[tactic(auto, using(crate::proofs::UnseenNodes::unseen))]
 pub fn bitwise_or_reduce(values: &[Expr], file: &mut VastFile) -> Result<Expr, VastFault>
     requires { All (OwnsExpr (bench file.old)) values.now }
-    ensures made { MakesTree (bench file.old) (bench file.new) result (Ok (bitwise_reduction (map (tree_of (bench file.old)) values.now))) }
+    ensures made { MakesTree (bench file.old) (bench file.new) result
+        (Ok (bitwise_reduction (map (tree_of (bench file.old)) values.now))) }
     ensures unseen { tree (bench file.new) ≡ tree (bench file.old) }
 {
     records_are_sound(file);

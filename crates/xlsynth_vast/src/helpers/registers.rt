@@ -1,10 +1,10 @@
 //! Registers of one clock, with resets and enables.
 
-ghost use Rattle.std.specs.Prelude.{◌≡◌, true, [], All, OnErr, OnOk, Some, IfSome};
+ghost use Rattle.std.specs.Prelude.{◌≡◌, [], All, OnErr, OnOk, Some, IfSome};
 ghost use Rattle.std.specs.List.{list_any};
 ghost use Rattle.vast_core.specs.Bench.{OwnsExpr, OwnsBlock};
 ghost use Rattle.vast_core.specs.Sound.{EventSound};
-ghost use Rattle.vast_core.specs.Growth.{Builds};
+ghost use Rattle.vast_core.specs.Growth.{Builds, Leaves};
 ghost use Rattle.vast_core.specs.Containers.{next_block, with_spare_block};
 ghost use Rattle.vast_core.specs.FileTree.{tree};
 ghost use Rattle.vast_core.specs.View.{bench};
@@ -75,7 +75,9 @@ fn check_reset(
     registers: &[RegisterDefinition],
     file: &VastFile,
 ) -> Result<(), VastFault>
-    ensures { ChecksBy (unless_unresettable (maybe_reset_tree (bench file.now) reset) (register_trees (bench file.now) registers.now)) result }
+    ensures { ChecksBy
+        (unless_unresettable (maybe_reset_tree (bench file.now) reset)
+        (register_trees (bench file.now) registers.now)) result }
 {
     if reset.is_some() {
         return Ok(());
@@ -93,7 +95,8 @@ fn make_running_value(
     file: &mut VastFile,
 ) -> Result<Expr, AllocError>
     requires { OwnsRegister (bench file.old) register.now }
-    ensures { Builds file.old file.new result (running_expr register.now) (with_running register.now) }
+    ensures { Builds file.old file.new result (running_expr register.now)
+        (with_running register.now) }
 {
     match register.enable {
         Some(enable) => file.make_ternary(&enable, &register.next, &register.reg),
@@ -107,7 +110,8 @@ fn make_value(
     file: &mut VastFile,
 ) -> Result<Option<Expr>, AllocError>
     requires { OwnsRegister (bench file.old) register.now }
-    ensures { Builds file.old file.new result (value_expr share register.now) (with_value share register.now) }
+    ensures { Builds file.old file.new result (value_expr share register.now)
+        (with_value share register.now) }
 {
     let takes_running_value = match share {
         Share::Unreset => register.reset_value.is_none(),
@@ -129,7 +133,8 @@ fn assign(
 ) -> Result<(), AllocError>
     requires register { OwnsRegister (bench file.old) register.now }
     requires block { OwnsBlock (bench file.old) block }
-    ensures { MayFill (bench file.old) (bench file.new) result block (with_assigned share block register.now (bench file.old)) }
+    ensures { MayFill (bench file.old) (bench file.new) result block
+        (with_assigned share block register.now (bench file.old)) }
 {
     match make_value(share, register, file)? {
         Some(value) => {
@@ -148,7 +153,8 @@ fn assign_all(
 ) -> Result<(), AllocError>
     requires registers { All (OwnsRegister (bench file.old)) registers.now }
     requires block { OwnsBlock (bench file.old) block }
-    ensures { MayFill (bench file.old) (bench file.new) result block (with_all_assigned share block registers.now (bench file.old)) }
+    ensures { MayFill (bench file.old) (bench file.new) result block
+        (with_all_assigned share block registers.now (bench file.old)) }
 {
     for register in registers {
         assign(share, register, block, file)?;
@@ -178,7 +184,8 @@ fn branch(
     requires reset { OwnsReset (bench file.old) reset }
     requires registers { All (OwnsRegister (bench file.old)) registers.now }
     requires block { OwnsBlock (bench file.old) block }
-    ensures { MayFill (bench file.old) (bench file.new) result block (with_reset reset registers.now block (bench file.old)) }
+    ensures { MayFill (bench file.old) (bench file.new) result block
+        (with_reset reset registers.now block (bench file.old)) }
 {
     let condition = make_active(reset, file)?;
     let conditional = file.block_add_cond(block, &condition)?;
@@ -271,8 +278,11 @@ pub fn add_registers(
     requires reset { IfSome reset (OwnsReset (bench file.old)) }
     requires registers { All (OwnsRegister (bench file.old)) registers.now }
     requires scope { OwnsScope (bench file.old) scope }
-    ensures built { MayAddRegisters (bench file.old) (bench file.new) result clk.now reset registers.now scope }
-    ensures values { OnOk result (TakeTheirValues (maybe_reset_tree (bench file.old) reset) (register_trees (bench file.old) registers.now)) }
+    ensures built { MayAddRegisters (bench file.old) (bench file.new) result clk.now reset
+        registers.now scope }
+    ensures values { OnOk result
+        (TakeTheirValues (maybe_reset_tree (bench file.old) reset)
+        (register_trees (bench file.old) registers.now)) }
     ensures unseen { OnErr result (tree (bench file.new) ≡ tree (bench file.old)) }
     ensures none { registers.now ≡ [] → result ≡ Ok tt }
 {
