@@ -75,8 +75,8 @@ loop-comes b variable name start limit label h k =
 
 -- Names of parameters, and assignments.
 
-pub parameter-comes : (b : Bench) (name : String Global) (type : Option VastDataType) → IfSome type (OwnsType b) → FreshSound b (with_fresh (fresh_name name type) b) (fresh_name name type)
-parameter-comes b name type h = record { terms = (h, tt, tt); port = tt; fresh_module = tt; definition = tt; artifact = tt; instance = tt; assignment = tt; container = tt; function = tt; always_block = tt }
+pub name-comes : (b : Bench) (name : String Global) (type : Option VastDataType) → IfSome type (OwnsType b) → FreshSound b (with_fresh (fresh_name name type) b) (fresh_name name type)
+name-comes b name type h = record { terms = (h, tt, tt); port = tt; fresh_module = tt; definition = tt; artifact = tt; instance = tt; assignment = tt; container = tt; function = tt; always_block = tt }
 
 pub next_continuous_owned : (b : Bench) (lhs rhs : Expr) → OwnsContinuous (with_assignment (record { lhs = lhs; rhs = rhs; nonblocking = false }) b) (next_continuous b)
 next_continuous_owned b lhs rhs = record { of_file = refl; of_kind = rw (slice_get-seam b.assignments (record { lhs = lhs; rhs = rhs; nonblocking = false })) refl }

@@ -19,7 +19,7 @@ use Rattle.vast_core.specs.Bench.{Bench, OwnsExpr, OwnsType, OwnsModule, OwnsFun
 use Rattle.vast_core.specs.Growth.{next_port, next_logic_ref}
 use Rattle.vast_core.specs.Sound.{AssignmentSound, EntrySound, DefinitionSound, ArtifactSound, InstanceSound, GivesValues}
 use Rattle.vast_core.specs.WrittenKinds.{IsOwnKind, IsVariableKind}
-use Rattle.vast_core.specs.Containers.{Nowhere, InFile, InHeader, InPorts, InModule, InFunction, GrowthSound, FreshSound, Fresh, no_fresh, fresh_assignment, with_fresh}
+use Rattle.vast_core.specs.Containers.{Nowhere, InFile, InHeader, InPorts, InModule, InFunction, GrowthSound, Fresh, no_fresh, fresh_assignment, with_fresh}
 use Rattle.vast_core.specs.Loops.{fresh_name, name_term}
 use Rattle.vast_core.proofs.Lists.{slice_get-seam}
 use Rattle.vast_core.proofs.NodeLaws.{Extends-root, HasType-kept}
@@ -27,6 +27,7 @@ use Rattle.vast_core.proofs.Sound.{MemberSound-kept, ParameterPortSound-kept, Ar
 use Rattle.vast_core.proofs.Growing.{Grows-fresh}
 use Rattle.vast_core.proofs.Terms.{last-test}
 use Rattle.vast_core.proofs.Enters.{nothing-comes}
+use Rattle.vast_core.proofs.EntersMembers.{name-comes}
 
 -- Records that no list names yet.
 
@@ -60,9 +61,6 @@ instance-stands b i h k =
 
 pub item-enters : (b : Bench) (e : FileEntry) → EntrySound b e → GrowthSound b (InFile e) no_fresh
 item-enters b e h = record { fresh = nothing-comes b b; listing = h; placed = refl }
-
-name-comes : (b : Bench) (name : String Global) (type : Option VastDataType) → IfSome type (OwnsType b) → FreshSound b (with_fresh (fresh_name name type) b) (fresh_name name type)
-name-comes b name type h = record { terms = (h, tt, tt); assignment = tt; container = tt; port = tt; fresh_module = tt; function = tt; definition = tt; artifact = tt; instance = tt; always_block = tt }
 
 -- Members of a module.
 

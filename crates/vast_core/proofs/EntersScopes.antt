@@ -12,7 +12,7 @@ use Rattle.vast_core.specs.declared.handle.VastStatementBlock.{VastStatementBloc
 use Rattle.vast_literal.specs.declared.kind.AlwaysKind.{AlwaysKind}
 use Rattle.vast_core.specs.Handles.{loop_index}
 use Rattle.vast_core.specs.Records.{MemberEntry, DeclarationEntry, AssignmentEntry, ParameterEntry, BlankEntry, CommentEntry, InlineEntry, MacroEntry, InstanceEntry, FunctionEntry, AlwaysEntry, ConditionalEntry, LoopEntry, FormEntry}
-use Rattle.vast_core.specs.Nests.{RepeatRecord, FunctionRecord}
+use Rattle.vast_core.specs.Nests.{LoopNestRecord, FunctionRecord}
 use Rattle.vast_core.specs.Bench.{Bench, OwnsExpr, OwnsType, OwnsBlock}
 use Rattle.vast_core.specs.DeclaredNames.{names_by_member}
 use Rattle.vast_core.specs.Parents.{held_by_member}
@@ -28,7 +28,7 @@ use Rattle.vast_core.proofs.Lists.{slice_get-seam}
 use Rattle.vast_core.proofs.Sound.{MemberSound-kept}
 use Rattle.vast_core.proofs.Growing.{Grows-fresh}
 use Rattle.vast_core.proofs.Enters.{loop-place, nothing-comes, conditional-comes, next_conditional_owned}
-use Rattle.vast_core.proofs.EntersMembers.{always-comes, next_always_owned, loop-comes, loop_owned, parameter-comes, next_continuous_owned}
+use Rattle.vast_core.proofs.EntersMembers.{always-comes, next_always_owned, loop-comes, loop_owned, name-comes, next_continuous_owned}
 use Rattle.vast_core.proofs.Unattached.{fresh_over, over-comes, next_over_owned}
 
 -- A member without a name of its own.
@@ -145,7 +145,7 @@ pub parameter-enters :
     IfSome type (OwnsType b) → GrowthSound b (listing_in scope (ParameterEntry local form value)) (fresh_name name type)
 parameter-enters b scope local form value name type o h k m =
     let f : Fresh = fresh_name name type in
-    scope-enters b scope (ParameterEntry local form value) f o (parameter-comes b name type m) (MemberSound-kept b (with_fresh f b) (Grows-fresh b f) (ParameterEntry local form value) (h, k)) tt
+    scope-enters b scope (ParameterEntry local form value) f o (name-comes b name type m) (MemberSound-kept b (with_fresh f b) (Grows-fresh b f) (ParameterEntry local form value) (h, k)) tt
     (newer-in b (with_fresh f b) scope (ParameterEntry local form value) o (λ i below. tt)) refl
 
 -- Members that hold what comes with them.
@@ -191,7 +191,7 @@ loop-enters b scope variable name start limit label o h k =
 pub loop-enters-as :
     (b : Bench) (scope : Scope) (h : GenerateLoop) (variable : String Global) (g : LogicRef) (name : List ℕ) (start limit : Expr) (label : Option (List ℕ)) (ms : List MemberEntry) →
     h ≡ next_loop b → g ≡ next_logic_ref b → ms ≡ [] → OwnsScope b scope → OwnsExpr b start → OwnsExpr b limit →
-    GrowthSound b (listing_in scope (LoopEntry h)) (fresh_loop variable (RepeatRecord (record { genvar = g; name = name; start = start; limit = limit; label = label; members = ms })))
+    GrowthSound b (listing_in scope (LoopEntry h)) (fresh_loop variable (LoopNestRecord (record { genvar = g; name = name; start = start; limit = limit; label = label; members = ms })))
 loop-enters-as b scope h variable g name start limit label ms e f m o k l = rw (e, f, m) (loop-enters b scope variable name start limit label o k l)
 
 -- What the file is behind these growths.
@@ -203,7 +203,7 @@ scope-grown b (ScopeLoop owner) m f = refl
 pub loop-grown :
     (b : Bench) (scope : Scope) (h : GenerateLoop) (variable : String Global) (n : List ℕ) (g : LogicRef) (name : List ℕ) (start limit : Expr) (label : Option (List ℕ)) (ms : List MemberEntry) →
     h ≡ next_loop b → g ≡ next_logic_ref b → ms ≡ [] → string_bytes variable ≡ n → name ≡ n →
-    with_scope_member scope (LoopEntry h) (with_fresh (fresh_loop variable (RepeatRecord (record { genvar = g; name = name; start = start; limit = limit; label = label; members = ms }))) b)
+    with_scope_member scope (LoopEntry h) (with_fresh (fresh_loop variable (LoopNestRecord (record { genvar = g; name = name; start = start; limit = limit; label = label; members = ms }))) b)
     ≡ with_scope_member scope (LoopEntry (next_loop b)) (with_loop n start limit label b)
 loop-grown b scope h variable n g name start limit label ms e f m v o = rw (e, f, m, v, o) refl
 

@@ -11,7 +11,7 @@ use Rattle.vast_core.specs.Raw.{Raw}
 use Rattle.vast_core.specs.Handles.{module_index, function_index}
 use Rattle.vast_core.specs.Nodes.{no_nodes, TermsSound}
 use Rattle.vast_core.specs.Records.{ParameterPortRecord, ModuleRecord, MemberEntry, InstanceRecord, changed_at, with_port, with_parameter_port, port_record, module_record, definition_record, artifact_record, instance_record, file_entry}
-use Rattle.vast_core.specs.Nests.{NestRecord, BlockRecord, BranchRecord, SwitchRecord, RepeatRecord, VariableRecord, FunctionRecord, nest_kind, is_block_kind, nest_record, function_record, always_record}
+use Rattle.vast_core.specs.Nests.{NestRecord, BlockRecord, ConditionalNestRecord, CaseNestRecord, LoopNestRecord, VariableRecord, FunctionRecord, nest_kind, is_block_kind, nest_record, function_record, always_record}
 use Rattle.vast_core.specs.Functions.{with_listed_variable}
 use Rattle.vast_core.specs.Bench.{Bench, OwnsBlock, OwnsPort, function_names}
 use Rattle.vast_core.specs.View.{bench}
@@ -121,47 +121,47 @@ RecordsSound-fresh b f s h =
 
 entry-kind : (e : NestedEntry) (n : NestRecord) → nest_kind (Some (with_entry e n)) ≡ nest_kind (Some n)
 entry-kind (StatementEnters s) (BlockRecord ss) = refl
-entry-kind (StatementEnters s) (BranchRecord c) = refl
-entry-kind (StatementEnters s) (SwitchRecord c) = refl
-entry-kind (StatementEnters s) (RepeatRecord l) = refl
+entry-kind (StatementEnters s) (ConditionalNestRecord c) = refl
+entry-kind (StatementEnters s) (CaseNestRecord c) = refl
+entry-kind (StatementEnters s) (LoopNestRecord l) = refl
 entry-kind (ElseIfEnters a) (BlockRecord ss) = refl
-entry-kind (ElseIfEnters a) (BranchRecord c) = refl
-entry-kind (ElseIfEnters a) (SwitchRecord c) = refl
-entry-kind (ElseIfEnters a) (RepeatRecord l) = refl
+entry-kind (ElseIfEnters a) (ConditionalNestRecord c) = refl
+entry-kind (ElseIfEnters a) (CaseNestRecord c) = refl
+entry-kind (ElseIfEnters a) (LoopNestRecord l) = refl
 entry-kind (ElseEnters x) (BlockRecord ss) = refl
-entry-kind (ElseEnters x) (BranchRecord c) = refl
-entry-kind (ElseEnters x) (SwitchRecord c) = refl
-entry-kind (ElseEnters x) (RepeatRecord l) = refl
+entry-kind (ElseEnters x) (ConditionalNestRecord c) = refl
+entry-kind (ElseEnters x) (CaseNestRecord c) = refl
+entry-kind (ElseEnters x) (LoopNestRecord l) = refl
 entry-kind (CaseArmEnters a) (BlockRecord ss) = refl
-entry-kind (CaseArmEnters a) (BranchRecord c) = refl
-entry-kind (CaseArmEnters a) (SwitchRecord c) = refl
-entry-kind (CaseArmEnters a) (RepeatRecord l) = refl
+entry-kind (CaseArmEnters a) (ConditionalNestRecord c) = refl
+entry-kind (CaseArmEnters a) (CaseNestRecord c) = refl
+entry-kind (CaseArmEnters a) (LoopNestRecord l) = refl
 entry-kind (MemberEnters m) (BlockRecord ss) = refl
-entry-kind (MemberEnters m) (BranchRecord c) = refl
-entry-kind (MemberEnters m) (SwitchRecord c) = refl
-entry-kind (MemberEnters m) (RepeatRecord l) = refl
+entry-kind (MemberEnters m) (ConditionalNestRecord c) = refl
+entry-kind (MemberEnters m) (CaseNestRecord c) = refl
+entry-kind (MemberEnters m) (LoopNestRecord l) = refl
 
 entry-sound : (b : Bench) (i : ℕ) (e : NestedEntry) → EntersSound b i e → (n : NestRecord) → NestSound b i n → NestSound b i (with_entry e n)
 entry-sound b i (StatementEnters s) h (BlockRecord ss) k = Each-push _ ss s k h
-entry-sound b i (StatementEnters s) h (BranchRecord c) k = k
-entry-sound b i (StatementEnters s) h (SwitchRecord c) k = k
-entry-sound b i (StatementEnters s) h (RepeatRecord l) k = k
+entry-sound b i (StatementEnters s) h (ConditionalNestRecord c) k = k
+entry-sound b i (StatementEnters s) h (CaseNestRecord c) k = k
+entry-sound b i (StatementEnters s) h (LoopNestRecord l) k = k
 entry-sound b i (ElseIfEnters a) h (BlockRecord ss) k = k
-entry-sound b i (ElseIfEnters a) h (BranchRecord c) k = record { condition = k.condition; consequent = k.consequent; else_ifs = Each-push _ c.else_ifs a k.else_ifs h; otherwise = k.otherwise }
-entry-sound b i (ElseIfEnters a) h (SwitchRecord c) k = k
-entry-sound b i (ElseIfEnters a) h (RepeatRecord l) k = k
+entry-sound b i (ElseIfEnters a) h (ConditionalNestRecord c) k = record { condition = k.condition; consequent = k.consequent; else_ifs = Each-push _ c.else_ifs a k.else_ifs h; otherwise = k.otherwise }
+entry-sound b i (ElseIfEnters a) h (CaseNestRecord c) k = k
+entry-sound b i (ElseIfEnters a) h (LoopNestRecord l) k = k
 entry-sound b i (ElseEnters x) h (BlockRecord ss) k = k
-entry-sound b i (ElseEnters x) h (BranchRecord c) k = record { condition = k.condition; consequent = k.consequent; else_ifs = k.else_ifs; otherwise = h }
-entry-sound b i (ElseEnters x) h (SwitchRecord c) k = k
-entry-sound b i (ElseEnters x) h (RepeatRecord l) k = k
+entry-sound b i (ElseEnters x) h (ConditionalNestRecord c) k = record { condition = k.condition; consequent = k.consequent; else_ifs = k.else_ifs; otherwise = h }
+entry-sound b i (ElseEnters x) h (CaseNestRecord c) k = k
+entry-sound b i (ElseEnters x) h (LoopNestRecord l) k = k
 entry-sound b i (CaseArmEnters a) h (BlockRecord ss) k = k
-entry-sound b i (CaseArmEnters a) h (BranchRecord c) k = k
-entry-sound b i (CaseArmEnters a) h (SwitchRecord c) k = record { selector = k.selector; arms = Each-push _ c.arms a k.arms h }
-entry-sound b i (CaseArmEnters a) h (RepeatRecord l) k = k
+entry-sound b i (CaseArmEnters a) h (ConditionalNestRecord c) k = k
+entry-sound b i (CaseArmEnters a) h (CaseNestRecord c) k = record { selector = k.selector; arms = Each-push _ c.arms a k.arms h }
+entry-sound b i (CaseArmEnters a) h (LoopNestRecord l) k = k
 entry-sound b i (MemberEnters m) h (BlockRecord ss) k = k
-entry-sound b i (MemberEnters m) h (BranchRecord c) k = k
-entry-sound b i (MemberEnters m) h (SwitchRecord c) k = k
-entry-sound b i (MemberEnters m) h (RepeatRecord l) k = record { genvar = k.genvar; start = k.start; limit = k.limit; members = Each-push _ l.members m k.members h }
+entry-sound b i (MemberEnters m) h (ConditionalNestRecord c) k = k
+entry-sound b i (MemberEnters m) h (CaseNestRecord c) k = k
+entry-sound b i (MemberEnters m) h (LoopNestRecord l) k = record { genvar = k.genvar; start = k.start; limit = k.limit; members = Each-push _ l.members m k.members h }
 
 EntersSound-kept : (b c : Bench) → Grows b c → (i : ℕ) (e : NestedEntry) → EntersSound b i e → EntersSound c i e
 EntersSound-kept b c g i (StatementEnters s) h = StatementSound-kept b c g i s h

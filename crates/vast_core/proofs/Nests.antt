@@ -6,9 +6,9 @@ use Rattle.vast_core.specs.declared.node.ElseIf.{ElseIf}
 use Rattle.vast_core.specs.declared.node.CaseArm.{CaseArm}
 use Rattle.vast_core.specs.Handles.{block_index, conditional_index, case_index, loop_index, always_index}
 use Rattle.vast_core.specs.Records.{MemberEntry, DeclarationEntry, AssignmentEntry, ParameterEntry, BlankEntry, CommentEntry, InlineEntry, MacroEntry, InstanceEntry, FunctionEntry, AlwaysEntry, ConditionalEntry, LoopEntry, changed_at}
-use Rattle.vast_core.specs.Nests.{StatementEntry, AssignStatement, ContinuousStatement, ConditionalStatement, CasesStatement, BlankStatement, CommentStatement, InlineStatement, NestRecord, BlockRecord, BranchRecord, SwitchRecord, RepeatRecord, AlwaysRecord, NestKind, NoKind, nest_kind}
+use Rattle.vast_core.specs.Nests.{StatementEntry, AssignStatement, ContinuousStatement, ConditionalStatement, CasesStatement, BlankStatement, CommentStatement, InlineStatement, NestRecord, BlockRecord, ConditionalNestRecord, CaseNestRecord, LoopNestRecord, AlwaysRecord, NestKind, NoKind, nest_kind}
 use Rattle.vast_core.specs.Bench.{Bench, tree_of, maybe_tree_of, trees_of}
-use Rattle.vast_core.specs.FileTree.{Family, BlockFamily, BranchFamily, SwitchFamily, RepeatFamily, block_in, branch_statement, switch_statement, branch_member, repeat_member, statement_in, statements_in, otherwise_in, alternates_in, arms_in, always_in, member_in, members_in, family, unfolded, families}
+use Rattle.vast_core.specs.FileTree.{Family, BlockFamily, ConditionalFamily, CaseFamily, LoopFamily, block_in, conditional_statement, case_statement, conditional_member, loop_member, statement_in, statements_in, otherwise_in, alternates_in, arms_in, always_in, member_in, members_in, family, unfolded, families}
 use Rattle.vast_literal.specs.Tree.{ElseIf as ElseIfTree, Else, CaseArm as CaseArmTree, MoreStatements, MoreMembers, CaseTree, LoopMember, AlwaysMember}
 use Rattle.vast_core.specs.Sound.{Each, HoldsBlock, StatementSound, ElseIfSound, CaseArmSound, AlwaysNewer, MemberNewer, LoopMemberSound, NestSound, NestsSound}
 
@@ -26,8 +26,8 @@ pub record Agree (i : ℕ) (f g : ℕ → Family) : Type 0 where
 statement-same : (b : Bench) (f g : ℕ → Family) (i : ℕ) → Agree i f g → (s : StatementEntry) → StatementSound b i s → statement_in b f s ≡ statement_in b g s
 statement-same b f g i q (AssignStatement s) h = refl
 statement-same b f g i q (ContinuousStatement s) h = refl
-statement-same b f g i q (ConditionalStatement c) h = ap branch_statement (q.at (conditional_index c) h.1)
-statement-same b f g i q (CasesStatement c) h = ap switch_statement (q.at (case_index c) h.1)
+statement-same b f g i q (ConditionalStatement c) h = ap conditional_statement (q.at (conditional_index c) h.1)
+statement-same b f g i q (CasesStatement c) h = ap case_statement (q.at (case_index c) h.1)
 statement-same b f g i q BlankStatement h = refl
 statement-same b f g i q (CommentStatement text) h = refl
 statement-same b f g i q (InlineStatement text) h = refl
@@ -71,8 +71,8 @@ member-same b f g i q (MacroEntry a) h = refl
 member-same b f g i q (InstanceEntry x) h = refl
 member-same b f g i q (FunctionEntry x) h = absurd h
 member-same b f g i q (AlwaysEntry a) h = always-same b f g i q (slice_get b.always_blocks (always_index a)) h
-member-same b f g i q (ConditionalEntry c) h = ap branch_member (q.at (conditional_index c) h)
-member-same b f g i q (LoopEntry l) h = ap repeat_member (q.at (loop_index l) h)
+member-same b f g i q (ConditionalEntry c) h = ap conditional_member (q.at (conditional_index c) h)
+member-same b f g i q (LoopEntry l) h = ap loop_member (q.at (loop_index l) h)
 
 members-same : (b : Bench) (f g : ℕ → Family) (i : ℕ) → Agree i f g → (ms : List MemberEntry) → Each (LoopMemberSound b i) ms → members_in b f ms ≡ members_in b g ms
 members-same b f g i q [] h = refl
@@ -82,11 +82,11 @@ members-same b f g i q (m ∷ ms) h =
 
 family-same : (b : Bench) (f g : ℕ → Family) (i : ℕ) → Agree i f g → (n : NestRecord) → NestSound b i n → family b f (Some n) ≡ family b g (Some n)
 family-same b f g i q (BlockRecord ss) h = ap BlockFamily (statements-same b f g i q ss h)
-family-same b f g i q (BranchRecord c) h =
-    ap (λ x. BranchFamily (tree_of b c.condition) (block_in x) (alternates_in b f c.else_ifs c.otherwise)) (q.at (block_index c.consequent) h.consequent.1)
-    ∙ ap (λ x. BranchFamily (tree_of b c.condition) (block_in (g (block_index c.consequent))) x) (alternates-same b f g i q c.else_ifs c.otherwise h.else_ifs h.otherwise)
-family-same b f g i q (SwitchRecord c) h = ap (λ x. SwitchFamily (CaseTree c.unique c.kind (tree_of b c.selector) x)) (arms-same b f g i q c.arms h.arms)
-family-same b f g i q (RepeatRecord l) h = ap (λ x. RepeatFamily (LoopMember l.name (tree_of b l.start) (tree_of b l.limit) l.label x)) (members-same b f g i q l.members h.members)
+family-same b f g i q (ConditionalNestRecord c) h =
+    ap (λ x. ConditionalFamily (tree_of b c.condition) (block_in x) (alternates_in b f c.else_ifs c.otherwise)) (q.at (block_index c.consequent) h.consequent.1)
+    ∙ ap (λ x. ConditionalFamily (tree_of b c.condition) (block_in (g (block_index c.consequent))) x) (alternates-same b f g i q c.else_ifs c.otherwise h.else_ifs h.otherwise)
+family-same b f g i q (CaseNestRecord c) h = ap (λ x. CaseFamily (CaseTree c.unique c.kind (tree_of b c.selector) x)) (arms-same b f g i q c.arms h.arms)
+family-same b f g i q (LoopNestRecord l) h = ap (λ x. LoopFamily (LoopMember l.name (tree_of b l.start) (tree_of b l.limit) l.label x)) (members-same b f g i q l.members h.members)
 
 -- What a container holds is newer.
 

@@ -5,7 +5,7 @@ use Rattle.vast_core.specs.declared.handle.CaseStatement.{CaseStatement}
 use Rattle.vast_core.specs.declared.handle.VastStatementBlock.{VastStatementBlock}
 use Rattle.vast_core.specs.Handles.{module_index, function_index, case_index, block_index}
 use Rattle.vast_core.specs.Records.{ModuleRecord, MemberEntry, with_port, with_parameter_port}
-use Rattle.vast_core.specs.Nests.{ConditionalRecord, NestRecord, BlockRecord, BranchRecord, SwitchRecord, RepeatRecord, VariableRecord, FunctionRecord, AlwaysRecord}
+use Rattle.vast_core.specs.Nests.{ConditionalRecord, NestRecord, BlockRecord, ConditionalNestRecord, CaseNestRecord, LoopNestRecord, VariableRecord, FunctionRecord, AlwaysRecord}
 use Rattle.vast_core.specs.Bench.{Bench}
 use Rattle.vast_core.specs.Functions.{with_listed_variable}
 use Rattle.vast_core.specs.Hoisting.{with_hoisted, with_members_hoisted}
@@ -25,32 +25,32 @@ conditional-places p c =
 -- A container gains at most what its new entry places.
 entered : (p : Part) (e : NestedEntry) (n : NestRecord) → places p (held_by_container (with_entry e n)) ≤ places p (held_by_container n) + places p (held_by_entry e)
 entered p (StatementEnters s) (BlockRecord statements) = let e = over-push (is_same p) held_by_statement statements s in omega (arith, e)
-entered p (StatementEnters s) (BranchRecord c) = omega arith
-entered p (StatementEnters s) (SwitchRecord c) = omega arith
-entered p (StatementEnters s) (RepeatRecord l) = omega arith
+entered p (StatementEnters s) (ConditionalNestRecord c) = omega arith
+entered p (StatementEnters s) (CaseNestRecord c) = omega arith
+entered p (StatementEnters s) (LoopNestRecord l) = omega arith
 entered p (ElseIfEnters a) (BlockRecord statements) = omega arith
-entered p (ElseIfEnters a) (BranchRecord c) =
+entered p (ElseIfEnters a) (ConditionalNestRecord c) =
     let new = conditional-places p (record c { else_ifs = c.else_ifs ++ a ∷ [] }) in
     let more = over-push (is_same p) held_by_else_if c.else_ifs a in
     let old = conditional-places p c in
     omega (arith, new, more, old)
-entered p (ElseIfEnters a) (SwitchRecord c) = omega arith
-entered p (ElseIfEnters a) (RepeatRecord l) = omega arith
+entered p (ElseIfEnters a) (CaseNestRecord c) = omega arith
+entered p (ElseIfEnters a) (LoopNestRecord l) = omega arith
 entered p (ElseEnters x) (BlockRecord statements) = omega arith
-entered p (ElseEnters x) (BranchRecord c) =
+entered p (ElseEnters x) (ConditionalNestRecord c) =
     let new = conditional-places p (record c { otherwise = Some x }) in
     let old = conditional-places p c in
     omega (arith, new, old)
-entered p (ElseEnters x) (SwitchRecord c) = omega arith
-entered p (ElseEnters x) (RepeatRecord l) = omega arith
+entered p (ElseEnters x) (CaseNestRecord c) = omega arith
+entered p (ElseEnters x) (LoopNestRecord l) = omega arith
 entered p (CaseArmEnters a) (BlockRecord statements) = omega arith
-entered p (CaseArmEnters a) (BranchRecord c) = omega arith
-entered p (CaseArmEnters a) (SwitchRecord c) = let e = over-push (is_same p) held_by_case_arm c.arms a in omega (arith, e)
-entered p (CaseArmEnters a) (RepeatRecord l) = omega arith
+entered p (CaseArmEnters a) (ConditionalNestRecord c) = omega arith
+entered p (CaseArmEnters a) (CaseNestRecord c) = let e = over-push (is_same p) held_by_case_arm c.arms a in omega (arith, e)
+entered p (CaseArmEnters a) (LoopNestRecord l) = omega arith
 entered p (MemberEnters m) (BlockRecord statements) = omega arith
-entered p (MemberEnters m) (BranchRecord c) = omega arith
-entered p (MemberEnters m) (SwitchRecord c) = omega arith
-entered p (MemberEnters m) (RepeatRecord l) = let e = over-push (is_same p) held_by_member l.members m in omega (arith, e)
+entered p (MemberEnters m) (ConditionalNestRecord c) = omega arith
+entered p (MemberEnters m) (CaseNestRecord c) = omega arith
+entered p (MemberEnters m) (LoopNestRecord l) = let e = over-push (is_same p) held_by_member l.members m in omega (arith, e)
 
 listed : (p : Part) (entry : MemberEntry) (name : Option (List ℕ)) (m : ModuleRecord) → places p (held_by_module (with_listed entry name m)) ≤ places p (held_by_module m) + places p (held_by_member entry)
 listed p entry None m = let e = over-push (is_same p) held_by_member m.members entry in omega (arith, e)
@@ -274,9 +274,9 @@ HasOneParent-hoisted b owner start h =
 
 same-unique : (p : Part) (unique : Bool) (n : NestRecord) → places p (held_by_container (with_unique unique n)) ≤ places p (held_by_container n) + 0
 same-unique p unique (BlockRecord statements) = omega arith
-same-unique p unique (BranchRecord c) = omega arith
-same-unique p unique (SwitchRecord c) = omega arith
-same-unique p unique (RepeatRecord l) = omega arith
+same-unique p unique (ConditionalNestRecord c) = omega arith
+same-unique p unique (CaseNestRecord c) = omega arith
+same-unique p unique (LoopNestRecord l) = omega arith
 
 present-unique : (p : Part) (c : CaseStatement) (unique : Bool) (b : Bench) → present (with_case_unique c unique b) p ≡ present b p
 present-unique (ContainerPart i) c unique b = ap (below i) (length-changed_at (with_unique unique) b.nests (case_index c))

@@ -13,7 +13,7 @@ use Rattle.vast_core.specs.declared.handle.LogicRef.{LogicRef}
 use Rattle.vast_core.specs.declared.handle.VastStatementBlock.{VastStatementBlock}
 use Rattle.vast_core.specs.declared.node.ElseIf.{ElseIf}
 use Rattle.vast_core.specs.declared.node.CaseArm.{CaseArm}
-use Rattle.vast_core.specs.Nests.{StatementEntry, AssignStatement, ContinuousStatement, ConditionalStatement, CasesStatement, BlankStatement, CommentStatement, InlineStatement, NestRecord, BlockRecord, BranchRecord, SwitchRecord, RepeatRecord, VariableRecord, FunctionRecord, AlwaysRecord, NestKind, NoKind, nest_kind, is_block_kind, is_conditional_kind, is_case_kind, is_loop_kind}
+use Rattle.vast_core.specs.Nests.{StatementEntry, AssignStatement, ContinuousStatement, ConditionalStatement, CasesStatement, BlankStatement, CommentStatement, InlineStatement, NestRecord, BlockRecord, ConditionalNestRecord, CaseNestRecord, LoopNestRecord, VariableRecord, FunctionRecord, AlwaysRecord, NestKind, NoKind, nest_kind, is_block_kind, is_conditional_kind, is_case_kind, is_loop_kind}
 use Rattle.vast_core.specs.Bench.{Bench, OwnsExpr, OwnsType, OwnsLogicRef, OwnsPort, OwnsContinuous, is_continuous, is_comment, is_inline, is_macro_statement}
 use Rattle.vast_core.specs.Sound.{Each, PortSound, AssignmentSound, DefinitionSound, ArtifactSound, ConnectionSound, InstanceSound, FormSound, MemberSound, ParameterPortSound, ModuleSound, EntrySound, RecordsSound, HoldsBlock, StatementSound, ElseIfSound, CaseArmSound, AlwaysNewer, MemberNewer, LoopMemberSound, NestSound, NestsSound, VariableSound, FunctionSound, EventSound, AlwaysSound}
 use Rattle.vast_core.proofs.Lists.{Each-map}
@@ -215,16 +215,16 @@ logic_ref-kept b c g r h = record { of_file = h.of_file ∙ sym g.nodes.same_id;
 
 pub NestSound-kept : (b c : Bench) → Grows b c → (i : ℕ) (n : NestRecord) → NestSound b i n → NestSound c i n
 NestSound-kept b c g i (BlockRecord ss) h = Each-map (StatementSound-kept b c g i) ss h
-NestSound-kept b c g i (BranchRecord x) h =
+NestSound-kept b c g i (ConditionalNestRecord x) h =
     record {
       condition = HasExpr-kept b.nodes c.nodes g.nodes x.condition h.condition;
       consequent = block-kept b c g i x.consequent h.consequent;
       else_ifs = Each-map (ElseIfSound-kept b c g i) x.else_ifs h.else_ifs;
       otherwise = otherwise-kept b c g i x.otherwise h.otherwise;
     }
-NestSound-kept b c g i (SwitchRecord x) h =
+NestSound-kept b c g i (CaseNestRecord x) h =
     record { selector = HasExpr-kept b.nodes c.nodes g.nodes x.selector h.selector; arms = Each-map (CaseArmSound-kept b c g i) x.arms h.arms }
-NestSound-kept b c g i (RepeatRecord l) h =
+NestSound-kept b c g i (LoopNestRecord l) h =
     record {
       genvar = logic_ref-kept b c g l.genvar h.genvar;
       start = HasExpr-kept b.nodes c.nodes g.nodes l.start h.start;

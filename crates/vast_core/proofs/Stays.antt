@@ -28,7 +28,7 @@ use Rattle.vast_core.specs.declared.handle.GenerateLoop.{GenerateLoop}
 use Rattle.vast_core.specs.declared.handle.Id.{Id}
 use Rattle.vast_literal.specs.Tree.{ExprTree}
 use Rattle.vast_core.specs.Nodes.{Nodes, IsOwned, is_root_of, is_name, is_index, is_slice, is_macro}
-use Rattle.vast_core.specs.Nests.{NestRecord, BlockRecord, BranchRecord, SwitchRecord, RepeatRecord, NestKind, NoKind, nest_kind, is_block_kind, is_conditional_kind, is_case_kind, is_loop_kind}
+use Rattle.vast_core.specs.Nests.{NestRecord, BlockRecord, ConditionalNestRecord, CaseNestRecord, LoopNestRecord, NestKind, NoKind, nest_kind, is_block_kind, is_conditional_kind, is_case_kind, is_loop_kind}
 use Rattle.vast_core.specs.Bench.{Bench, OwnsExpr, OwnsIndexable, OwnsType, OwnsLogicRef, OwnsParameterRef, OwnsLocalparamRef, OwnsIndex, OwnsSlice, OwnsMacroRef, OwnsModule, OwnsPort, OwnsFunction, OwnsInstantiation, OwnsAlways, OwnsDef, OwnsStatement, OwnsContinuous, OwnsBlankLine, OwnsComment, OwnsInline, OwnsMacroStatement, OwnsBlock, OwnsConditional, OwnsCase, OwnsLoop, is_continuous, is_blank_line, is_comment, is_inline, is_macro_statement, tree_of, type_of}
 use Rattle.vast_core.specs.Containers.{Listing, Fresh, with_fresh, after_growth}
 use Rattle.vast_core.proofs.NodeLaws.{HasExpr-kept, HasType-kept, shape-kept, expr_in-kept, type_in-kept, Extends}
@@ -45,9 +45,9 @@ is_some_kind _ = true
 record-kind : (n : NestRecord) → IsTrue (is_some_kind (nest_kind (Some n)))
 unfolding is_some_kind
 record-kind (BlockRecord statements) = refl
-record-kind (BranchRecord c) = refl
-record-kind (SwitchRecord c) = refl
-record-kind (RepeatRecord l) = refl
+record-kind (ConditionalNestRecord c) = refl
+record-kind (CaseNestRecord c) = refl
+record-kind (LoopNestRecord l) = refl
 
 kind-of-record : (ns : List NestRecord) (i : ℕ) → i < length ns → IsTrue (is_some_kind (nest_kind (slice_get ns i)))
 kind-of-record [] i below = absurd (omega arith)

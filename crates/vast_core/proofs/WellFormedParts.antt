@@ -17,7 +17,7 @@ use Rattle.vast_core.specs.Nodes.{Root, ExprRoot, TypeRoot, expr_in, expr_of_roo
 use Rattle.vast_core.specs.Nests.{StatementEntry, AssignStatement, ContinuousStatement, ConditionalStatement, CasesStatement, BlankStatement, CommentStatement, InlineStatement}
 use Rattle.vast_core.specs.Bench.{Bench, OwnsExpr, OwnsType, OwnsMacroRef, AreWellFormed, tree_of, type_of, maybe_tree_of, trees_of}
 use Rattle.vast_core.specs.Sound.{Each, AssignmentSound, ElseIfSound, CaseArmSound, EventSound, RecordsSound, is_event}
-use Rattle.vast_core.specs.FileTree.{Family, BlockFamily, BranchFamily, SwitchFamily, RepeatFamily, NoFamily, block_in, branch_statement, switch_statement, branch_member, repeat_member, assigned_tree, continuous_tree, statement_in, statements_in, otherwise_in, alternates_in, arms_in}
+use Rattle.vast_core.specs.FileTree.{Family, BlockFamily, ConditionalFamily, CaseFamily, LoopFamily, NoFamily, block_in, conditional_statement, case_statement, conditional_member, loop_member, assigned_tree, continuous_tree, statement_in, statements_in, otherwise_in, alternates_in, arms_in}
 use Rattle.vast_core.proofs.WellFormed.{well_formed, type_well_formed}
 
 -- What is read at a place of a list, if it is there.
@@ -107,45 +107,45 @@ events-good b w (e ∷ es) h = both_true (event-good (tree_of b e) h.0.1 (expr-g
 
 abbrev pub IsGood : Family → Type 0
 IsGood (BlockFamily held) = are_well_formed_statements held ≡ true
-IsGood (BranchFamily condition consequent alternates) = (is_well_formed condition ≡ true) × (are_well_formed_statements consequent ≡ true) × (are_well_formed_alternates alternates ≡ true)
-IsGood (SwitchFamily s) = is_well_formed_statement s ≡ true
-IsGood (RepeatFamily m) = is_well_formed_member m ≡ true
+IsGood (ConditionalFamily condition consequent alternates) = (is_well_formed condition ≡ true) × (are_well_formed_statements consequent ≡ true) × (are_well_formed_alternates alternates ≡ true)
+IsGood (CaseFamily s) = is_well_formed_statement s ≡ true
+IsGood (LoopFamily m) = is_well_formed_member m ≡ true
 IsGood NoFamily = Unit {0}
 
 pub block-good : (x : Family) → IsGood x → are_well_formed_statements (block_in x) ≡ true
 block-good (BlockFamily held) h = h
-block-good (BranchFamily condition consequent alternates) h = refl
-block-good (SwitchFamily s) h = refl
-block-good (RepeatFamily m) h = refl
+block-good (ConditionalFamily condition consequent alternates) h = refl
+block-good (CaseFamily s) h = refl
+block-good (LoopFamily m) h = refl
 block-good NoFamily h = refl
 
-branch-good : (x : Family) → IsGood x → is_well_formed_statement (branch_statement x) ≡ true
-branch-good (BranchFamily condition consequent alternates) h = both_true h.0 (both_true h.1 h.2)
-branch-good (BlockFamily held) h = refl
-branch-good (SwitchFamily s) h = refl
-branch-good (RepeatFamily m) h = refl
-branch-good NoFamily h = refl
+conditional-good : (x : Family) → IsGood x → is_well_formed_statement (conditional_statement x) ≡ true
+conditional-good (ConditionalFamily condition consequent alternates) h = both_true h.0 (both_true h.1 h.2)
+conditional-good (BlockFamily held) h = refl
+conditional-good (CaseFamily s) h = refl
+conditional-good (LoopFamily m) h = refl
+conditional-good NoFamily h = refl
 
-switch-good : (x : Family) → IsGood x → is_well_formed_statement (switch_statement x) ≡ true
-switch-good (SwitchFamily s) h = h
-switch-good (BlockFamily held) h = refl
-switch-good (BranchFamily condition consequent alternates) h = refl
-switch-good (RepeatFamily m) h = refl
-switch-good NoFamily h = refl
+case-good : (x : Family) → IsGood x → is_well_formed_statement (case_statement x) ≡ true
+case-good (CaseFamily s) h = h
+case-good (BlockFamily held) h = refl
+case-good (ConditionalFamily condition consequent alternates) h = refl
+case-good (LoopFamily m) h = refl
+case-good NoFamily h = refl
 
-pub branch_member-good : (x : Family) → IsGood x → is_well_formed_member (branch_member x) ≡ true
-branch_member-good (BranchFamily condition consequent alternates) h = both_true h.0 (both_true h.1 h.2)
-branch_member-good (BlockFamily held) h = refl
-branch_member-good (SwitchFamily s) h = refl
-branch_member-good (RepeatFamily m) h = refl
-branch_member-good NoFamily h = refl
+pub conditional_member-good : (x : Family) → IsGood x → is_well_formed_member (conditional_member x) ≡ true
+conditional_member-good (ConditionalFamily condition consequent alternates) h = both_true h.0 (both_true h.1 h.2)
+conditional_member-good (BlockFamily held) h = refl
+conditional_member-good (CaseFamily s) h = refl
+conditional_member-good (LoopFamily m) h = refl
+conditional_member-good NoFamily h = refl
 
-pub repeat_member-good : (x : Family) → IsGood x → is_well_formed_member (repeat_member x) ≡ true
-repeat_member-good (RepeatFamily m) h = h
-repeat_member-good (BlockFamily held) h = refl
-repeat_member-good (BranchFamily condition consequent alternates) h = refl
-repeat_member-good (SwitchFamily s) h = refl
-repeat_member-good NoFamily h = refl
+pub loop_member-good : (x : Family) → IsGood x → is_well_formed_member (loop_member x) ≡ true
+loop_member-good (LoopFamily m) h = h
+loop_member-good (BlockFamily held) h = refl
+loop_member-good (ConditionalFamily condition consequent alternates) h = refl
+loop_member-good (CaseFamily s) h = refl
+loop_member-good NoFamily h = refl
 
 -- Statements over such containers.
 
@@ -161,8 +161,8 @@ statement-good :
     (b : Bench) → AreWellFormed b → RecordsSound b → (f : ℕ → Family) → ((i : ℕ) → IsGood (f i)) → (s : StatementEntry) → is_well_formed_statement (statement_in b f s) ≡ true
 statement-good b w r f g (AssignStatement s) = assigned-good b w (slice_get b.assignments (statement_index s)) (Each-read (AssignmentSound b) b.assignments (statement_index s) r.assignments)
 statement-good b w r f g (ContinuousStatement s) = continuous-good b w (slice_get b.assignments (statement_index s)) (Each-read (AssignmentSound b) b.assignments (statement_index s) r.assignments)
-statement-good b w r f g (ConditionalStatement c) = branch-good (f (conditional_index c)) (g (conditional_index c))
-statement-good b w r f g (CasesStatement c) = switch-good (f (case_index c)) (g (case_index c))
+statement-good b w r f g (ConditionalStatement c) = conditional-good (f (conditional_index c)) (g (conditional_index c))
+statement-good b w r f g (CasesStatement c) = case-good (f (case_index c)) (g (case_index c))
 statement-good b w r f g BlankStatement = refl
 statement-good b w r f g (CommentStatement text) = refl
 statement-good b w r f g (InlineStatement text) = refl

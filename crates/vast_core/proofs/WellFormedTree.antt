@@ -12,12 +12,12 @@ use Rattle.vast_core.specs.declared.node.Assignment.{Assignment}
 use Rattle.vast_core.specs.Handles.{module_index, port_index, continuous_index, comment_index, inline_index, macro_statement_index, instantiation_index, function_index, always_index, definition_index, block_index, conditional_index, loop_index}
 use Rattle.vast_core.specs.Nodes.{maybe_type_in}
 use Rattle.vast_core.specs.Records.{ParameterPortRecord, ModuleRecord, MemberEntry, DeclarationEntry, AssignmentEntry, ParameterEntry, BlankEntry, CommentEntry, InlineEntry, MacroEntry, InstanceEntry, FunctionEntry, AlwaysEntry, ConditionalEntry, LoopEntry, FormEntry, PlainForm, IntForm, DefinedForm, FileEntry, ModuleEntry, IncludeEntry, FileCommentEntry, FileBlankEntry, ArtifactRecord, BlankLineRecord, CommentRecord, InlineRecord, MacroRecord, ConnectionRecord, InstanceRecord}
-use Rattle.vast_core.specs.Nests.{NestRecord, BlockRecord, BranchRecord, SwitchRecord, RepeatRecord, VariableRecord, FunctionRecord, AlwaysRecord}
+use Rattle.vast_core.specs.Nests.{NestRecord, BlockRecord, ConditionalNestRecord, CaseNestRecord, LoopNestRecord, VariableRecord, FunctionRecord, AlwaysRecord}
 use Rattle.vast_core.specs.Bench.{Bench, OwnsExpr, OwnsType, OwnsPort, AreWellFormed, maybe_tree_of}
 use Rattle.vast_core.specs.WrittenKinds.{IsGiven, HasOwnKind, HasLocalKind, HasValue}
 use Rattle.vast_core.specs.Sound.{Each, PortSound, AssignmentSound, DefinitionSound, ArtifactSound, ConnectionSound, InstanceSound, FormSound, MemberSound, LoopMemberSound, MemberNewer, ParameterPortSound, ModuleSound, VariableSound, FunctionSound, AlwaysSound, NestSound, NestsSound, RecordsSound, DeclaresOwnKinds, HasLocalKinds, GivesValues, FileSound}
 use Rattle.vast_core.specs.FileTree.{Family, definition_tree, form_tree, assignment_member, artifact_member, connection_tree, instance_member, always_in, variable_tree, function_in, member_in, members_in, family, unfolded, families, maybe_port_tree, port_tree, parameter_port_tree, maybe_module_tree, item_tree, tree}
-use Rattle.vast_core.proofs.WellFormedParts.{Each-read, expr-good, type-good, maybe-good, macro-is, macro-good, events-good, IsGood, block-good, branch_member-good, repeat_member-good, statements-good, alternates-good, arms-good}
+use Rattle.vast_core.proofs.WellFormedParts.{Each-read, expr-good, type-good, maybe-good, macro-is, macro-good, events-good, IsGood, block-good, conditional_member-good, loop_member-good, statements-good, alternates-good, arms-good}
 
 -- What a place of a list holds, where the place is in the list.
 Each-below : {A : Type 0} (P : A → Type 0) (Q : Option A → Type 0) → ((x : A) → P x → Q (Some x)) → (xs : List A) (i : ℕ) → Each P xs → i < length xs → Q (slice_get xs i)
@@ -99,8 +99,8 @@ member-good b w s f g (InstanceEntry i) h k =
 member-good b w s f g (FunctionEntry x) h k =
     function-good b w f g (slice_get b.functions (function_index x)) (Each-read (FunctionSound b) b.functions (function_index x) s.records.functions) (Each-read HasLocalKinds b.functions (function_index x) s.kinds.locals)
 member-good b w s f g (AlwaysEntry a) h k = always-good b w f g (slice_get b.always_blocks (always_index a)) (Each-read (AlwaysSound b) b.always_blocks (always_index a) s.records.always_blocks)
-member-good b w s f g (ConditionalEntry c) h k = branch_member-good (f (conditional_index c)) (g (conditional_index c))
-member-good b w s f g (LoopEntry l) h k = repeat_member-good (f (loop_index l)) (g (loop_index l))
+member-good b w s f g (ConditionalEntry c) h k = conditional_member-good (f (conditional_index c)) (g (conditional_index c))
+member-good b w s f g (LoopEntry l) h k = loop_member-good (f (loop_index l)) (g (loop_index l))
 
 members-good :
     (b : Bench) → AreWellFormed b → FileSound b → (f : ℕ → Family) → ((i : ℕ) → IsGood (f i)) → (ms : List MemberEntry) → Each (MemberSound b) ms → Each HasOwnKind ms → are_well_formed_members (members_in b f ms) ≡ true
@@ -131,9 +131,9 @@ loop_members-good b w s f g n (m ∷ ms) h = both_true (member-good b w s f g m 
 
 nest-good : (b : Bench) → AreWellFormed b → FileSound b → (f : ℕ → Family) → ((i : ℕ) → IsGood (f i)) → (n : ℕ) (x : NestRecord) → NestSound b n x → IsGood (family b f (Some x))
 nest-good b w s f g n (BlockRecord statements) h = statements-good b w s.records f g statements
-nest-good b w s f g n (BranchRecord c) h = (expr-good b w c.condition h.condition, block-good (f (block_index c.consequent)) (g (block_index c.consequent)), alternates-good b w f g n c.else_ifs c.otherwise h.else_ifs)
-nest-good b w s f g n (SwitchRecord c) h = both_true (expr-good b w c.selector h.selector) (arms-good b w f g n c.arms h.arms)
-nest-good b w s f g n (RepeatRecord l) h = both_true (both_true (expr-good b w l.start h.start) (expr-good b w l.limit h.limit)) (loop_members-good b w s f g n l.members h.members)
+nest-good b w s f g n (ConditionalNestRecord c) h = (expr-good b w c.condition h.condition, block-good (f (block_index c.consequent)) (g (block_index c.consequent)), alternates-good b w f g n c.else_ifs c.otherwise h.else_ifs)
+nest-good b w s f g n (CaseNestRecord c) h = both_true (expr-good b w c.selector h.selector) (arms-good b w f g n c.arms h.arms)
+nest-good b w s f g n (LoopNestRecord l) h = both_true (both_true (expr-good b w l.start h.start) (expr-good b w l.limit h.limit)) (loop_members-good b w s f g n l.members h.members)
 
 family-good : (b : Bench) → AreWellFormed b → FileSound b → (f : ℕ → Family) → ((i : ℕ) → IsGood (f i)) → (n : ℕ) (ns : List NestRecord) → NestsSound b n ns → (i : ℕ) → IsGood (family b f (slice_get ns i))
 family-good b w s f g n [] h i = tt

@@ -15,7 +15,7 @@ use Rattle.vast_core.specs.declared.node.Term.{Term}
 use Rattle.vast_core.specs.Handles.{module_index, function_index, block_index, conditional_index, case_index}
 use Rattle.vast_core.specs.Nodes.{TermsSound, built}
 use Rattle.vast_core.specs.Records.{PortRecord, ParameterPortRecord, ModuleRecord, MemberEntry, FileEntry, DefinitionRecord, ArtifactRecord, InstanceRecord, with_port, with_parameter_port, with_member, with_named_member, changed_at}
-use Rattle.vast_core.specs.Nests.{StatementEntry, NestRecord, BlockRecord, BranchRecord, SwitchRecord, RepeatRecord, VariableRecord, FunctionRecord, AlwaysRecord}
+use Rattle.vast_core.specs.Nests.{StatementEntry, NestRecord, BlockRecord, ConditionalNestRecord, CaseNestRecord, LoopNestRecord, VariableRecord, FunctionRecord, AlwaysRecord}
 use Rattle.vast_core.specs.Raw.{Raw}
 use Rattle.vast_core.specs.Bench.{Bench, OwnsModule, OwnsPort, OwnsFunction, OwnsBlock, NameIsFree, IsFreeInFunction}
 use Rattle.vast_core.specs.Functions.{with_listed_variable}
@@ -36,25 +36,25 @@ pub data NestedEntry : Type 0 where
 -- The container with the entry at its end; one that holds no such entries stays.
 abbrev pub with_entry : NestedEntry → NestRecord → NestRecord
 with_entry (StatementEnters s) (BlockRecord statements) = BlockRecord (statements ++ s ∷ [])
-with_entry (StatementEnters s) (BranchRecord c) = BranchRecord c
-with_entry (StatementEnters s) (SwitchRecord c) = SwitchRecord c
-with_entry (StatementEnters s) (RepeatRecord l) = RepeatRecord l
+with_entry (StatementEnters s) (ConditionalNestRecord c) = ConditionalNestRecord c
+with_entry (StatementEnters s) (CaseNestRecord c) = CaseNestRecord c
+with_entry (StatementEnters s) (LoopNestRecord l) = LoopNestRecord l
 with_entry (ElseIfEnters a) (BlockRecord statements) = BlockRecord statements
-with_entry (ElseIfEnters a) (BranchRecord c) = BranchRecord (record c { else_ifs = c.else_ifs ++ a ∷ [] })
-with_entry (ElseIfEnters a) (SwitchRecord c) = SwitchRecord c
-with_entry (ElseIfEnters a) (RepeatRecord l) = RepeatRecord l
+with_entry (ElseIfEnters a) (ConditionalNestRecord c) = ConditionalNestRecord (record c { else_ifs = c.else_ifs ++ a ∷ [] })
+with_entry (ElseIfEnters a) (CaseNestRecord c) = CaseNestRecord c
+with_entry (ElseIfEnters a) (LoopNestRecord l) = LoopNestRecord l
 with_entry (ElseEnters b) (BlockRecord statements) = BlockRecord statements
-with_entry (ElseEnters b) (BranchRecord c) = BranchRecord (record c { otherwise = Some b })
-with_entry (ElseEnters b) (SwitchRecord c) = SwitchRecord c
-with_entry (ElseEnters b) (RepeatRecord l) = RepeatRecord l
+with_entry (ElseEnters b) (ConditionalNestRecord c) = ConditionalNestRecord (record c { otherwise = Some b })
+with_entry (ElseEnters b) (CaseNestRecord c) = CaseNestRecord c
+with_entry (ElseEnters b) (LoopNestRecord l) = LoopNestRecord l
 with_entry (CaseArmEnters a) (BlockRecord statements) = BlockRecord statements
-with_entry (CaseArmEnters a) (BranchRecord c) = BranchRecord c
-with_entry (CaseArmEnters a) (SwitchRecord c) = SwitchRecord (record c { arms = c.arms ++ a ∷ [] })
-with_entry (CaseArmEnters a) (RepeatRecord l) = RepeatRecord l
+with_entry (CaseArmEnters a) (ConditionalNestRecord c) = ConditionalNestRecord c
+with_entry (CaseArmEnters a) (CaseNestRecord c) = CaseNestRecord (record c { arms = c.arms ++ a ∷ [] })
+with_entry (CaseArmEnters a) (LoopNestRecord l) = LoopNestRecord l
 with_entry (MemberEnters m) (BlockRecord statements) = BlockRecord statements
-with_entry (MemberEnters m) (BranchRecord c) = BranchRecord c
-with_entry (MemberEnters m) (SwitchRecord c) = SwitchRecord c
-with_entry (MemberEnters m) (RepeatRecord l) = RepeatRecord (record l { members = l.members ++ m ∷ [] })
+with_entry (MemberEnters m) (ConditionalNestRecord c) = ConditionalNestRecord c
+with_entry (MemberEnters m) (CaseNestRecord c) = CaseNestRecord c
+with_entry (MemberEnters m) (LoopNestRecord l) = LoopNestRecord (record l { members = l.members ++ m ∷ [] })
 
 -- Where a new entry goes: nowhere, to the end of the file's items, of a module's header, ports or members, of a
 -- function's inputs or locals, or into a container. A name is taken from then on. Or a block becomes the file's spare one.
@@ -324,14 +324,14 @@ with_spare_block b = record (with_block b) { spare = Some (next_block b) }
 
 -- A conditional and its first arm, an empty block.
 abbrev pub new_conditional : Bench → Expr → NestRecord
-new_conditional b condition = BranchRecord (record { condition = condition; consequent = record { id = next_id b (suc (length b.nests)) }; else_ifs = []; otherwise = None })
+new_conditional b condition = ConditionalNestRecord (record { condition = condition; consequent = record { id = next_id b (suc (length b.nests)) }; else_ifs = []; otherwise = None })
 
 abbrev pub with_conditional : Expr → Bench → Bench
 with_conditional condition b = with_block (with_nest (new_conditional b condition) b)
 
 -- A case statement without arms.
 abbrev pub new_case : CaseKind → Expr → NestRecord
-new_case kind selector = SwitchRecord (record { kind = kind; unique = false; selector = selector; arms = [] })
+new_case kind selector = CaseNestRecord (record { kind = kind; unique = false; selector = selector; arms = [] })
 
 abbrev pub with_case : CaseKind → Expr → Bench → Bench
 with_case kind selector b = with_nest (new_case kind selector) b
@@ -361,16 +361,16 @@ is_there (Some x) = true
 abbrev pub has_else : Option NestRecord → Bool
 has_else None = false
 has_else (Some (BlockRecord statements)) = false
-has_else (Some (BranchRecord c)) = is_there c.otherwise
-has_else (Some (SwitchRecord c)) = false
-has_else (Some (RepeatRecord l)) = false
+has_else (Some (ConditionalNestRecord c)) = is_there c.otherwise
+has_else (Some (CaseNestRecord c)) = false
+has_else (Some (LoopNestRecord l)) = false
 
 -- The case statement, `unique` or not.
 abbrev pub with_unique : Bool → NestRecord → NestRecord
 with_unique unique (BlockRecord statements) = BlockRecord statements
-with_unique unique (BranchRecord c) = BranchRecord c
-with_unique unique (SwitchRecord c) = SwitchRecord (record c { unique = unique })
-with_unique unique (RepeatRecord l) = RepeatRecord l
+with_unique unique (ConditionalNestRecord c) = ConditionalNestRecord c
+with_unique unique (CaseNestRecord c) = CaseNestRecord (record c { unique = unique })
+with_unique unique (LoopNestRecord l) = LoopNestRecord l
 
 abbrev pub with_case_unique : CaseStatement → Bool → Bench → Bench
 with_case_unique c unique b = record b { nests = changed_at (case_index c) (with_unique unique) b.nests }

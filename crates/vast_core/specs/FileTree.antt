@@ -15,7 +15,7 @@ use Rattle.vast_core.specs.declared.node.Assignment.{Assignment}
 use Rattle.vast_core.specs.Handles.{module_index, port_index, continuous_index, definition_index, comment_index, inline_index, macro_statement_index, instantiation_index, function_index, always_index, statement_index, block_index, conditional_index, case_index, loop_index, macro_ref_to_expr}
 use Rattle.vast_core.specs.Nodes.{maybe_type_in, maybe_expr_in}
 use Rattle.vast_core.specs.Records.{PortRecord, ParameterPortRecord, ModuleRecord, FormEntry, PlainForm, IntForm, DefinedForm, MemberEntry, DeclarationEntry, AssignmentEntry, ParameterEntry, BlankEntry, CommentEntry, InlineEntry, MacroEntry, InstanceEntry, FunctionEntry, AlwaysEntry, ConditionalEntry, LoopEntry, FileEntry, ModuleEntry, IncludeEntry, FileCommentEntry, FileBlankEntry, DefinitionRecord, ArtifactRecord, BlankLineRecord, CommentRecord, InlineRecord, MacroRecord, ConnectionRecord, InstanceRecord}
-use Rattle.vast_core.specs.Nests.{StatementEntry, AssignStatement, ContinuousStatement, ConditionalStatement, CasesStatement, BlankStatement, CommentStatement, InlineStatement, NestRecord, BlockRecord, BranchRecord, SwitchRecord, RepeatRecord, VariableRecord, FunctionRecord, AlwaysRecord}
+use Rattle.vast_core.specs.Nests.{StatementEntry, AssignStatement, ContinuousStatement, ConditionalStatement, CasesStatement, BlankStatement, CommentStatement, InlineStatement, NestRecord, BlockRecord, ConditionalNestRecord, CaseNestRecord, LoopNestRecord, VariableRecord, FunctionRecord, AlwaysRecord}
 use Rattle.vast_core.specs.Bench.{Bench, tree_of, type_of, maybe_tree_of, trees_of}
 
 abbrev pub declared : Bench → DataKind → List ℕ → VastDataType → Declaration
@@ -57,45 +57,45 @@ instance_member b (Some i) = InstanceMember (record { module_name = i.module_nam
 -- The tree of a container: a block, the parts of a conditional, a case statement, or a loop.
 pub data Family : Type 0 where
   BlockFamily : Statements → Family
-  BranchFamily : (condition : ExprTree) (consequent : Statements) (alternates : Alternates) → Family
-  SwitchFamily : StatementTree → Family
-  RepeatFamily : MemberTree → Family
+  ConditionalFamily : (condition : ExprTree) (consequent : Statements) (alternates : Alternates) → Family
+  CaseFamily : StatementTree → Family
+  LoopFamily : MemberTree → Family
   NoFamily : Family
 
 abbrev pub block_in : Family → Statements
 block_in (BlockFamily held) = held
-block_in (BranchFamily condition consequent alternates) = NoStatements
-block_in (SwitchFamily s) = NoStatements
-block_in (RepeatFamily m) = NoStatements
+block_in (ConditionalFamily condition consequent alternates) = NoStatements
+block_in (CaseFamily s) = NoStatements
+block_in (LoopFamily m) = NoStatements
 block_in NoFamily = NoStatements
 
-abbrev pub branch_statement : Family → StatementTree
-branch_statement (BranchFamily condition consequent alternates) = ConditionalTree condition consequent alternates
-branch_statement (BlockFamily held) = BlankTree
-branch_statement (SwitchFamily s) = BlankTree
-branch_statement (RepeatFamily m) = BlankTree
-branch_statement NoFamily = BlankTree
+abbrev pub conditional_statement : Family → StatementTree
+conditional_statement (ConditionalFamily condition consequent alternates) = ConditionalTree condition consequent alternates
+conditional_statement (BlockFamily held) = BlankTree
+conditional_statement (CaseFamily s) = BlankTree
+conditional_statement (LoopFamily m) = BlankTree
+conditional_statement NoFamily = BlankTree
 
-abbrev pub switch_statement : Family → StatementTree
-switch_statement (SwitchFamily s) = s
-switch_statement (BlockFamily held) = BlankTree
-switch_statement (BranchFamily condition consequent alternates) = BlankTree
-switch_statement (RepeatFamily m) = BlankTree
-switch_statement NoFamily = BlankTree
+abbrev pub case_statement : Family → StatementTree
+case_statement (CaseFamily s) = s
+case_statement (BlockFamily held) = BlankTree
+case_statement (ConditionalFamily condition consequent alternates) = BlankTree
+case_statement (LoopFamily m) = BlankTree
+case_statement NoFamily = BlankTree
 
-abbrev pub branch_member : Family → MemberTree
-branch_member (BranchFamily condition consequent alternates) = ConditionalMember condition consequent alternates
-branch_member (BlockFamily held) = BlankMember
-branch_member (SwitchFamily s) = BlankMember
-branch_member (RepeatFamily m) = BlankMember
-branch_member NoFamily = BlankMember
+abbrev pub conditional_member : Family → MemberTree
+conditional_member (ConditionalFamily condition consequent alternates) = ConditionalMember condition consequent alternates
+conditional_member (BlockFamily held) = BlankMember
+conditional_member (CaseFamily s) = BlankMember
+conditional_member (LoopFamily m) = BlankMember
+conditional_member NoFamily = BlankMember
 
-abbrev pub repeat_member : Family → MemberTree
-repeat_member (RepeatFamily m) = m
-repeat_member (BlockFamily held) = BlankMember
-repeat_member (BranchFamily condition consequent alternates) = BlankMember
-repeat_member (SwitchFamily s) = BlankMember
-repeat_member NoFamily = BlankMember
+abbrev pub loop_member : Family → MemberTree
+loop_member (LoopFamily m) = m
+loop_member (BlockFamily held) = BlankMember
+loop_member (ConditionalFamily condition consequent alternates) = BlankMember
+loop_member (CaseFamily s) = BlankMember
+loop_member NoFamily = BlankMember
 
 abbrev pub form_of : Bool → AssignForm
 form_of true = Nonblocking
@@ -112,8 +112,8 @@ continuous_tree b (Some a) = AssignTree Continuous (tree_of b a.lhs) (tree_of b 
 abbrev pub statement_in : Bench → (ℕ → Family) → StatementEntry → StatementTree
 statement_in b f (AssignStatement s) = assigned_tree b (slice_get b.assignments (statement_index s))
 statement_in b f (ContinuousStatement s) = continuous_tree b (slice_get b.assignments (statement_index s))
-statement_in b f (ConditionalStatement c) = branch_statement (f (conditional_index c))
-statement_in b f (CasesStatement c) = switch_statement (f (case_index c))
+statement_in b f (ConditionalStatement c) = conditional_statement (f (conditional_index c))
+statement_in b f (CasesStatement c) = case_statement (f (case_index c))
 statement_in b f BlankStatement = BlankTree
 statement_in b f (CommentStatement text) = CommentTree text
 statement_in b f (InlineStatement text) = InlineTree text
@@ -157,8 +157,8 @@ member_in b f (MacroEntry a) = artifact_member b (slice_get b.artifacts (macro_s
 member_in b f (InstanceEntry i) = instance_member b (slice_get b.instances (instantiation_index i))
 member_in b f (FunctionEntry x) = function_in b f (slice_get b.functions (function_index x))
 member_in b f (AlwaysEntry a) = always_in b f (slice_get b.always_blocks (always_index a))
-member_in b f (ConditionalEntry c) = branch_member (f (conditional_index c))
-member_in b f (LoopEntry l) = repeat_member (f (loop_index l))
+member_in b f (ConditionalEntry c) = conditional_member (f (conditional_index c))
+member_in b f (LoopEntry l) = loop_member (f (loop_index l))
 
 abbrev pub members_in : Bench → (ℕ → Family) → List MemberEntry → Members
 members_in b f [] = NoMembers
@@ -167,9 +167,9 @@ members_in b f (entry ∷ entries) = MoreMembers (member_in b f entry) (members_
 abbrev pub family : Bench → (ℕ → Family) → Option NestRecord → Family
 family b f None = NoFamily
 family b f (Some (BlockRecord statements)) = BlockFamily (statements_in b f statements)
-family b f (Some (BranchRecord c)) = BranchFamily (tree_of b c.condition) (block_in (f (block_index c.consequent))) (alternates_in b f c.else_ifs c.otherwise)
-family b f (Some (SwitchRecord c)) = SwitchFamily (CaseTree c.unique c.kind (tree_of b c.selector) (arms_in b f c.arms))
-family b f (Some (RepeatRecord l)) = RepeatFamily (LoopMember l.name (tree_of b l.start) (tree_of b l.limit) l.label (members_in b f l.members))
+family b f (Some (ConditionalNestRecord c)) = ConditionalFamily (tree_of b c.condition) (block_in (f (block_index c.consequent))) (alternates_in b f c.else_ifs c.otherwise)
+family b f (Some (CaseNestRecord c)) = CaseFamily (CaseTree c.unique c.kind (tree_of b c.selector) (arms_in b f c.arms))
+family b f (Some (LoopNestRecord l)) = LoopFamily (LoopMember l.name (tree_of b l.start) (tree_of b l.limit) l.label (members_in b f l.members))
 
 -- The tree of container i, this many levels deep.
 abbrev pub unfolded : Bench → ℕ → ℕ → Family

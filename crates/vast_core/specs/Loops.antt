@@ -14,7 +14,7 @@ use Rattle.vast_core.specs.declared.node.Term.{Term}
 use Rattle.vast_core.specs.declared.node.Term.TheVariants.{Expression}
 use Rattle.vast_core.specs.Handles.{loop_index, definition_index}
 use Rattle.vast_core.specs.Records.{FormEntry, PlainForm, DefinedForm, MemberEntry, ParameterEntry, with_name}
-use Rattle.vast_core.specs.Nests.{NestRecord, RepeatRecord, AlwaysRecord, FunctionRecord}
+use Rattle.vast_core.specs.Nests.{NestRecord, LoopNestRecord, AlwaysRecord, FunctionRecord}
 use Rattle.vast_core.specs.Bench.{Bench, type_of}
 use Rattle.vast_core.specs.Growth.{next_id, next_logic_ref, with_expr}
 use Rattle.vast_core.specs.Parameters.{defined_name}
@@ -56,7 +56,7 @@ fresh_always a = record no_fresh { block = true; always_block = Some a }
 
 -- A loop without members, and its variable's name as an expression.
 abbrev pub new_loop : Bench → List ℕ → Expr → Expr → Option (List ℕ) → NestRecord
-new_loop b name start limit label = RepeatRecord (record { genvar = next_logic_ref b; name = name; start = start; limit = limit; label = label; members = [] })
+new_loop b name start limit label = LoopNestRecord (record { genvar = next_logic_ref b; name = name; start = start; limit = limit; label = label; members = [] })
 
 abbrev pub with_loop : List ℕ → Expr → Expr → Option (List ℕ) → Bench → Bench
 with_loop name start limit label b = with_expr (NameTree name Untyped) (with_nest (new_loop b name start limit label) b)

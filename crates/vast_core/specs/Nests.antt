@@ -61,9 +61,9 @@ pub record LoopRecord : Type 0 where
 -- A container.
 pub data NestRecord : Type 0 where
   BlockRecord : List StatementEntry → NestRecord
-  BranchRecord : ConditionalRecord → NestRecord
-  SwitchRecord : CaseRecord → NestRecord
-  RepeatRecord : LoopRecord → NestRecord
+  ConditionalNestRecord : ConditionalRecord → NestRecord
+  CaseNestRecord : CaseRecord → NestRecord
+  LoopNestRecord : LoopRecord → NestRecord
 
 -- A name that a function declares.
 pub record VariableRecord : Type 0 where
@@ -119,9 +119,9 @@ loop_record l = record { genvar = l.genvar; name = string_bytes l.name; start = 
 
 abbrev pub nest_record : Nest → NestRecord
 nest_record (BlockNode statements) = BlockRecord (map statement_entry statements.items)
-nest_record (ConditionalNest c) = BranchRecord (conditional_record c)
-nest_record (CaseNest c) = SwitchRecord (case_record c)
-nest_record (LoopNest l) = RepeatRecord (loop_record l)
+nest_record (ConditionalNest c) = ConditionalNestRecord (conditional_record c)
+nest_record (CaseNest c) = CaseNestRecord (case_record c)
+nest_record (LoopNest l) = LoopNestRecord (loop_record l)
 
 abbrev pub variable_record : FunctionVariable → VariableRecord
 variable_record v = record { kind = v.kind; name = string_bytes v.name; data_type = v.data_type }
@@ -143,9 +143,9 @@ pub data NestKind : Type 0 where
 abbrev pub nest_kind : Option NestRecord → NestKind
 nest_kind None = NoKind
 nest_kind (Some (BlockRecord statements)) = BlockKind
-nest_kind (Some (BranchRecord c)) = ConditionalKind
-nest_kind (Some (SwitchRecord c)) = CaseStatementKind
-nest_kind (Some (RepeatRecord l)) = LoopKind
+nest_kind (Some (ConditionalNestRecord c)) = ConditionalKind
+nest_kind (Some (CaseNestRecord c)) = CaseStatementKind
+nest_kind (Some (LoopNestRecord l)) = LoopKind
 
 abbrev pub is_block_kind : NestKind → Bool
 is_block_kind BlockKind = true

@@ -5,7 +5,7 @@ use Rattle.vast_core.specs.declared.node.ElseIf.{ElseIf}
 use Rattle.vast_core.specs.declared.node.CaseArm.{CaseArm}
 use Rattle.vast_core.specs.Handles.{function_index, always_index, block_index, conditional_index, case_index, loop_index}
 use Rattle.vast_core.specs.Records.{MemberEntry, FunctionEntry, AlwaysEntry, ConditionalEntry, LoopEntry, ModuleRecord}
-use Rattle.vast_core.specs.Nests.{StatementEntry, ConditionalStatement, CasesStatement, ConditionalRecord, NestRecord, BlockRecord, BranchRecord, SwitchRecord, RepeatRecord, FunctionRecord, AlwaysRecord}
+use Rattle.vast_core.specs.Nests.{StatementEntry, ConditionalStatement, CasesStatement, ConditionalRecord, NestRecord, BlockRecord, ConditionalNestRecord, CaseNestRecord, LoopNestRecord, FunctionRecord, AlwaysRecord}
 use Rattle.vast_core.specs.Bench.{Bench}
 
 -- What stands in a place of the file: a container, a function or an always block, by its number among its like.
@@ -49,9 +49,9 @@ held_by_conditional c = ContainerPart (block_index c.consequent) ∷ (flat_map h
 
 abbrev pub held_by_container : NestRecord → List Part
 held_by_container (BlockRecord statements) = flat_map held_by_statement statements
-held_by_container (BranchRecord c) = held_by_conditional c
-held_by_container (SwitchRecord c) = flat_map held_by_case_arm c.arms
-held_by_container (RepeatRecord l) = flat_map held_by_member l.members
+held_by_container (ConditionalNestRecord c) = held_by_conditional c
+held_by_container (CaseNestRecord c) = flat_map held_by_case_arm c.arms
+held_by_container (LoopNestRecord l) = flat_map held_by_member l.members
 
 abbrev pub held_by_function : FunctionRecord → List Part
 held_by_function f = ContainerPart (block_index f.body) ∷ []

@@ -7,7 +7,7 @@ use Rattle.vast_core.specs.declared.handle.VastStatementBlock.{VastStatementBloc
 use Rattle.vast_core.specs.declared.node.ElseIf.{ElseIf}
 use Rattle.vast_core.specs.declared.node.CaseArm.{CaseArm}
 use Rattle.vast_core.specs.Handles.{block_index, conditional_index, case_index, loop_index, always_index}
-use Rattle.vast_core.specs.Nests.{StatementEntry, AssignStatement, ContinuousStatement, ConditionalStatement, CasesStatement, BlankStatement, CommentStatement, InlineStatement, ConditionalRecord, CaseRecord, LoopRecord, NestRecord, BlockRecord, BranchRecord, SwitchRecord, RepeatRecord, VariableRecord, FunctionRecord, AlwaysRecord, declared_names}
+use Rattle.vast_core.specs.Nests.{StatementEntry, AssignStatement, ContinuousStatement, ConditionalStatement, CasesStatement, BlankStatement, CommentStatement, InlineStatement, ConditionalRecord, CaseRecord, LoopRecord, NestRecord, BlockRecord, ConditionalNestRecord, CaseNestRecord, LoopNestRecord, VariableRecord, FunctionRecord, AlwaysRecord, declared_names}
 use Rattle.vast_core.specs.declared.node.Assignment.{Assignment}
 use Rattle.vast_core.specs.Nodes.{no_nodes, TermsSound}
 use Rattle.vast_core.specs.Records.{PortRecord, ParameterPortRecord, ModuleRecord, FormEntry, PlainForm, IntForm, DefinedForm, MemberEntry, DeclarationEntry, AssignmentEntry, ParameterEntry, BlankEntry, CommentEntry, InlineEntry, MacroEntry, InstanceEntry, FunctionEntry, AlwaysEntry, ConditionalEntry, LoopEntry, FileEntry, ModuleEntry, IncludeEntry, FileCommentEntry, FileBlankEntry, DefinitionRecord, ArtifactRecord, BlankLineRecord, CommentRecord, InlineRecord, MacroRecord, ConnectionRecord, InstanceRecord, IsFree}
@@ -124,9 +124,9 @@ pub record LoopSound (b : Bench) (i : ℕ) (l : LoopRecord) : Type 0 where
 -- What container i holds is the file's, and newer than it.
 abbrev pub NestSound : Bench → ℕ → NestRecord → Type 0
 NestSound b i (BlockRecord statements) = Each (StatementSound b i) statements
-NestSound b i (BranchRecord c) = ConditionalSound b i c
-NestSound b i (SwitchRecord c) = CaseSound b i c
-NestSound b i (RepeatRecord l) = LoopSound b i l
+NestSound b i (ConditionalNestRecord c) = ConditionalSound b i c
+NestSound b i (CaseNestRecord c) = CaseSound b i c
+NestSound b i (LoopNestRecord l) = LoopSound b i l
 
 -- The containers from the place i on.
 abbrev pub NestsSound : Bench → ℕ → List NestRecord → Type 0

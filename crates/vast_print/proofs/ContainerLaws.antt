@@ -18,8 +18,8 @@ use Rattle.vast_core.specs.Handles.{statement_index, conditional_index, case_ind
 use Rattle.vast_core.specs.Sound.{StatementSound}
 use Rattle.vast_core.proofs.Readers.{below-of}
 use Rattle.vast_core.specs.Bench.{Bench, OwnsStatement, tree_of, maybe_tree_of, trees_of}
-use Rattle.vast_core.specs.Nests.{StatementEntry, AssignStatement, ContinuousStatement, ConditionalStatement, CasesStatement, BlankStatement, CommentStatement, InlineStatement, NestRecord, BlockRecord, BranchRecord, SwitchRecord, RepeatRecord, statement_entry, variable_record}
-use Rattle.vast_core.specs.FileTree.{Family, BlockFamily, BranchFamily, SwitchFamily, RepeatFamily, NoFamily, family, unfolded, families, branch_statement, switch_statement, branch_member, repeat_member, form_of, assigned_tree, continuous_tree, statement_in, statements_tree, block_tree, alternates_tree, case_arms_tree, variable_tree}
+use Rattle.vast_core.specs.Nests.{StatementEntry, AssignStatement, ContinuousStatement, ConditionalStatement, CasesStatement, BlankStatement, CommentStatement, InlineStatement, NestRecord, BlockRecord, ConditionalNestRecord, CaseNestRecord, LoopNestRecord, statement_entry, variable_record}
+use Rattle.vast_core.specs.FileTree.{Family, BlockFamily, ConditionalFamily, CaseFamily, LoopFamily, NoFamily, family, unfolded, families, conditional_statement, case_statement, conditional_member, loop_member, form_of, assigned_tree, continuous_tree, statement_in, statements_tree, block_tree, alternates_tree, case_arms_tree, variable_tree}
 use Rattle.vast_print.specs.Bodies.{assignment_of, bare_assignment}
 use Rattle.vast_print.specs.Printed.{plain_text, ◌⊕◌}
 use Rattle.vast_print.specs.Page.{written}
@@ -93,10 +93,10 @@ pub else-ifs-end : (b : Bench) (otherwise : Option VastStatementBlock) (d : ℕ)
     pour d k (alternates_page (alternates_tree b (drop i xs) otherwise)) ≡ pour d k (alternates_page (alternates_tree b [] otherwise))
 else-ifs-end b otherwise d k xs i h = alternates-end (λ ys. alternates_tree b ys otherwise) d k xs i h
 
-pub hang-branch : (b : Bench) (d : ℕ) (k : Ink) (i : ℕ) (c : ExprTree) (s : Statements) (rest : Alternates) → families b i ≡ BranchFamily c s rest →
-    hang d k (statement_page (branch_statement (families b i)))
+pub hang-held-conditional : (b : Bench) (d : ℕ) (k : Ink) (i : ℕ) (c : ExprTree) (s : Statements) (rest : Alternates) → families b i ≡ ConditionalFamily c s rest →
+    hang d k (statement_page (conditional_statement (families b i)))
     ≡ pour d (pour d (word (pour d (word (next d k) (codes "if (")) (written (expr_text c))) (codes ") ")) (block_page s)) (alternates_page rest)
-hang-branch b d k i c s rest e = rw e (hang-conditional d k c s rest)
+hang-held-conditional b d k i c s rest e = rw e (hang-conditional d k c s rest)
 
 pub ruleset conditionals = (pour-no-else, pour-else, stops)
 
@@ -118,10 +118,10 @@ pour-default d k = simp (pour-then, pour-word, word-word)
 
 pub ruleset labels = (pour-label, pour-default, stops)
 
-pub hang-switch : (b : Bench) (d : ℕ) (k : Ink) (i : ℕ) (unique : Bool) (w : CaseWord) (e : ExprTree) (arms : CaseArms) → families b i ≡ SwitchFamily (CaseTree unique w e arms) →
-    hang d k (statement_page (switch_statement (families b i)))
+pub hang-held-case : (b : Bench) (d : ℕ) (k : Ink) (i : ℕ) (unique : Bool) (w : CaseWord) (e : ExprTree) (arms : CaseArms) → families b i ≡ CaseFamily (CaseTree unique w e arms) →
+    hang d k (statement_page (case_statement (families b i)))
     ≡ word (next d (hang (d + 1) (word (pour d (word (word (next d k) (unique_word unique)) (case_word w)) (written (expr_text e))) (codes ")")) (arms_page w arms))) (codes "endcase")
-hang-switch b d k i unique w e arms h = rw h (hang-case d k unique w e arms)
+hang-held-case b d k i unique w e arms h = rw h (hang-case d k unique w e arms)
 
 -- arms of one assignment
 
@@ -172,33 +172,33 @@ other-continuous : (b : Bench) (o : Option Assignment) → IsOther (continuous_t
 other-continuous b None = refl
 other-continuous b (Some a) = refl
 
-other-branch : (f : Family) → IsOther (branch_statement f)
-other-branch (BlockFamily held) = refl
-other-branch (BranchFamily c s rest) = refl
-other-branch (SwitchFamily s) = refl
-other-branch (RepeatFamily m) = refl
-other-branch NoFamily = refl
+other-conditional : (f : Family) → IsOther (conditional_statement f)
+other-conditional (BlockFamily held) = refl
+other-conditional (ConditionalFamily c s rest) = refl
+other-conditional (CaseFamily s) = refl
+other-conditional (LoopFamily m) = refl
+other-conditional NoFamily = refl
 
-other-switch-record : (b : Bench) (f : ℕ → Family) (o : Option NestRecord) → IsOther (switch_statement (family b f o))
-other-switch-record b f None = refl
-other-switch-record b f (Some (BlockRecord statements)) = refl
-other-switch-record b f (Some (BranchRecord c)) = refl
-other-switch-record b f (Some (SwitchRecord c)) = refl
-other-switch-record b f (Some (RepeatRecord l)) = refl
+other-case-record : (b : Bench) (f : ℕ → Family) (o : Option NestRecord) → IsOther (case_statement (family b f o))
+other-case-record b f None = refl
+other-case-record b f (Some (BlockRecord statements)) = refl
+other-case-record b f (Some (ConditionalNestRecord c)) = refl
+other-case-record b f (Some (CaseNestRecord c)) = refl
+other-case-record b f (Some (LoopNestRecord l)) = refl
 
-other-unfolded : (b : Bench) (n i : ℕ) → IsOther (switch_statement (unfolded b n i))
+other-unfolded : (b : Bench) (n i : ℕ) → IsOther (case_statement (unfolded b n i))
 other-unfolded b zero i = refl
-other-unfolded b (suc n) i = other-switch-record b (unfolded b n) (slice_get b.nests i)
+other-unfolded b (suc n) i = other-case-record b (unfolded b n) (slice_get b.nests i)
 
-other-switch : (b : Bench) (i : ℕ) → IsOther (switch_statement (families b i))
+other-case : (b : Bench) (i : ℕ) → IsOther (case_statement (families b i))
 unfolding families
-other-switch b i = other-unfolded b (length b.nests) i
+other-case b i = other-unfolded b (length b.nests) i
 
 not-bare-entry : (b : Bench) (e : StatementEntry) → None ≡ assignment_of e → IsOther (statement_in b (families b) e)
 not-bare-entry b (AssignStatement t) h = cc
 not-bare-entry b (ContinuousStatement t) h = other-continuous b (slice_get b.assignments (statement_index t))
-not-bare-entry b (ConditionalStatement c) h = other-branch (families b (conditional_index c))
-not-bare-entry b (CasesStatement c) h = other-switch b (case_index c)
+not-bare-entry b (ConditionalStatement c) h = other-conditional (families b (conditional_index c))
+not-bare-entry b (CasesStatement c) h = other-case b (case_index c)
 not-bare-entry b BlankStatement h = refl
 not-bare-entry b (CommentStatement text) h = refl
 not-bare-entry b (InlineStatement text) h = refl
@@ -279,20 +279,20 @@ pub ruleset functions = (hang-function-member, hang-function, hang-local, hang-b
 
 pub ruleset headers = (pour-loop, pour-label-text, pour-no-label, stops)
 
-pub hang-repeat : (b : Bench) (d : ℕ) (k : Ink) (dialect : Dialect) (i : ℕ) (genvar : List ℕ) (start end : ExprTree) (label : Option (List ℕ)) (ms : Members) → families b i ≡ RepeatFamily (LoopMember genvar start end label ms) →
-    hang d k (member_page dialect (repeat_member (families b i)))
+pub hang-held-loop : (b : Bench) (d : ℕ) (k : Ink) (dialect : Dialect) (i : ℕ) (genvar : List ℕ) (start end : ExprTree) (label : Option (List ℕ)) (ms : Members) → families b i ≡ LoopFamily (LoopMember genvar start end label ms) →
+    hang d k (member_page dialect (loop_member (families b i)))
     ≡ word (next d (hang (d + 1) (pour d (next d k) (written (loop_text genvar start end label))) (members_page dialect ms))) (codes "end")
-hang-repeat b d k dialect i genvar start end label ms e = rw e (hang-loop d k dialect genvar start end label ms)
+hang-held-loop b d k dialect i genvar start end label ms e = rw e (hang-loop d k dialect genvar start end label ms)
 
 -- members
 
 -- a conditional of a module is one of a block
-pub hang-branch-same : (d : ℕ) (k : Ink) (dialect : Dialect) (f : Family) → hang d k (member_page dialect (branch_member f)) ≡ hang d k (statement_page (branch_statement f))
+pub hang-held-conditional-same : (d : ℕ) (k : Ink) (dialect : Dialect) (f : Family) → hang d k (member_page dialect (conditional_member f)) ≡ hang d k (statement_page (conditional_statement f))
 unfolding member_page statement_page
-hang-branch-same d k dialect (BlockFamily held) = refl
-hang-branch-same d k dialect (BranchFamily c s rest) = refl
-hang-branch-same d k dialect (SwitchFamily s) = refl
-hang-branch-same d k dialect (RepeatFamily m) = refl
-hang-branch-same d k dialect NoFamily = refl
+hang-held-conditional-same d k dialect (BlockFamily held) = refl
+hang-held-conditional-same d k dialect (ConditionalFamily c s rest) = refl
+hang-held-conditional-same d k dialect (CaseFamily s) = refl
+hang-held-conditional-same d k dialect (LoopFamily m) = refl
+hang-held-conditional-same d k dialect NoFamily = refl
 
-pub ruleset members = (hang-declaration, hang-assign-same, hang-comment-member, hang-blank-member, hang-inline-member, hang-macro, hang-branch-same, stops)
+pub ruleset members = (hang-declaration, hang-assign-same, hang-comment-member, hang-blank-member, hang-inline-member, hang-macro, hang-held-conditional-same, stops)

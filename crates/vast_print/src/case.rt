@@ -4,7 +4,7 @@ ghost use Rattle.std.specs.Prelude.{◌≡◌, codes, map, IfSome};
 ghost use Rattle.vast_core.specs.Bench.{OwnsExpr, OwnsBlock, OwnsCase, tree_of, maybe_tree_of};
 ghost use Rattle.vast_core.specs.Handles.{block_index, case_index};
 ghost use Rattle.vast_core.specs.Nests.{statement_entry};
-ghost use Rattle.vast_core.specs.FileTree.{families, switch_statement, block_tree};
+ghost use Rattle.vast_core.specs.FileTree.{families, case_statement, block_tree};
 ghost use Rattle.vast_core.specs.View.{bench};
 ghost use Rattle.vast_print.specs.Fits.{HasRoom};
 ghost use Rattle.vast_print.specs.Bodies.{assignment_of, bare_assignment};
@@ -35,7 +35,7 @@ pub(crate) fn print_case(
     requires room { HasRoom depth (case_index c) }
     ensures { Writes
         (hang depth (Wet out.old)
-        (statement_page (switch_statement (families (bench ast.now) (case_index c))))) out.new
+        (statement_page (case_statement (families (bench ast.now) (case_index c))))) out.new
         result }
 {
     let node = ast.case(c);

@@ -3,7 +3,7 @@
 ghost use Rattle.std.specs.Prelude.{◌≡◌, codes};
 ghost use Rattle.vast_core.specs.Bench.{OwnsExpr, OwnsConditional, tree_of};
 ghost use Rattle.vast_core.specs.Handles.{conditional_index};
-ghost use Rattle.vast_core.specs.FileTree.{families, branch_statement};
+ghost use Rattle.vast_core.specs.FileTree.{families, conditional_statement};
 ghost use Rattle.vast_core.specs.View.{bench};
 ghost use Rattle.vast_print.specs.Fits.{HasRoom};
 ghost use Rattle.vast_print.specs.Ink.{Writes, Wet, word, hang, pour};
@@ -30,7 +30,7 @@ pub(crate) fn print_conditional(
     requires room { HasRoom depth (conditional_index c) }
     ensures { Writes
         (hang depth (Wet out.old)
-        (statement_page (branch_statement (families (bench ast.now) (conditional_index c)))))
+        (statement_page (conditional_statement (families (bench ast.now) (conditional_index c)))))
         out.new result }
 {
     let node = ast.conditional(c);

@@ -1,6 +1,6 @@
 //! Whole files, and single expressions.
 
-ghost use Rattle.std.specs.Prelude.{◌≡◌, map, IfOk, string_bytes};
+ghost use Rattle.std.specs.Prelude.{◌≡◌, IfOk, string_bytes};
 ghost use Rattle.vast_core.specs.Records.{file_entry};
 ghost use Rattle.vast_core.specs.Bench.{OwnsExpr, tree_of};
 ghost use Rattle.vast_core.specs.Sound.{EntrySound};
@@ -12,7 +12,7 @@ ghost use Rattle.vast_print.specs.Emits.{Emits, EmitsText, Faults};
 ghost use Rattle.vast_print.specs.Ink.{Writes, Wet, hang, pour, next};
 ghost use Rattle.vast_print.specs.Page.{written};
 ghost use Rattle.vast_print.specs.Text.{expr_text};
-ghost use Rattle.vast_print.specs.Layout.{item_page, items_page, layout};
+ghost use Rattle.vast_print.specs.Layout.{item_page, layout};
 
 use crate::expression::print_expression;
 use crate::module::print_module;

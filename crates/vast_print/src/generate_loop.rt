@@ -1,11 +1,10 @@
 //! Generate loops.
 
-ghost use Rattle.std.specs.Prelude.{◌≡◌, codes, string_bytes};
-ghost use Rattle.vast_literal.specs.declared.operator.BinaryOperator.TheVariants.{Lt as LtOp};
+ghost use Rattle.std.specs.Prelude.{◌≡◌, string_bytes};
 ghost use Rattle.vast_core.specs.Bench.{OwnsExpr, OwnsLoop, tree_of};
 ghost use Rattle.vast_core.specs.Handles.{loop_index};
 ghost use Rattle.vast_core.specs.Nests.{label_bytes};
-ghost use Rattle.vast_core.specs.FileTree.{families, repeat_member};
+ghost use Rattle.vast_core.specs.FileTree.{families, loop_member};
 ghost use Rattle.vast_core.specs.View.{bench};
 ghost use Rattle.vast_print.specs.Fits.{HasRoom};
 ghost use Rattle.vast_print.specs.Ink.{Writes, Wet, next, hang, pour};
@@ -34,7 +33,7 @@ pub(crate) fn print_loop(
     ensures { Writes
         (hang depth (Wet out.old)
         (member_page (bench ast.now).file_type
-        (repeat_member (families (bench ast.now) (loop_index l))))) out.new result }
+        (loop_member (families (bench ast.now) (loop_index l))))) out.new result }
 {
     let node = ast.generate_loop(l);
     out.next(depth)?;

@@ -1,7 +1,6 @@
 //! Instantiations of modules.
 
 ghost use Rattle.std.specs.Prelude.{◌≡◌, ◌<◌, ◌+◌, ◌^◌, All, map};
-ghost use Rattle.vast_literal.specs.Tree.{InstanceMember};
 ghost use Rattle.vast_core.specs.Records.{connection_record, instance_record};
 ghost use Rattle.vast_core.specs.Bench.{OwnsInstantiation};
 ghost use Rattle.vast_core.specs.Sound.{ConnectionSound};

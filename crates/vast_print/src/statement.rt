@@ -1,7 +1,7 @@
 //! Blocks and statements.
 
-ghost use Rattle.std.specs.Prelude.{◌≡◌, ◌+◌, map};
-ghost use Rattle.vast_core.specs.Bench.{OwnsBlock, tree_of};
+ghost use Rattle.std.specs.Prelude.{◌≡◌, ◌+◌};
+ghost use Rattle.vast_core.specs.Bench.{OwnsBlock};
 ghost use Rattle.vast_core.specs.Handles.{block_index};
 ghost use Rattle.vast_core.specs.Nests.{statement_entry};
 ghost use Rattle.vast_core.specs.FileTree.{families, statement_in, block_tree};

@@ -4,7 +4,7 @@ use Rattle.std.proofs.lemmas.Option.{slice_get_within}
 use Rattle.vast_core.specs.declared.handle.Id.{Id}
 use Rattle.vast_core.specs.Nodes.{Root, IsOwned, is_name, is_index, is_slice, is_macro}
 use Rattle.vast_core.specs.Records.{ModuleRecord, changed_at}
-use Rattle.vast_core.specs.Nests.{NestRecord, BlockRecord, BranchRecord, SwitchRecord, RepeatRecord, nest_kind, is_block_kind, is_conditional_kind, is_case_kind, is_loop_kind}
+use Rattle.vast_core.specs.Nests.{NestRecord, BlockRecord, ConditionalNestRecord, CaseNestRecord, LoopNestRecord, nest_kind, is_block_kind, is_conditional_kind, is_case_kind, is_loop_kind}
 use Rattle.vast_core.specs.Bench.{Bench, is_blank_line, is_comment, is_inline, is_macro_statement}
 use Rattle.vast_core.specs.Growth.{with_root}
 use Rattle.vast_core.specs.Containers.{Listing, with_listing, Fresh, with_fresh, with_unique}
@@ -174,9 +174,9 @@ keeps-changed b i f = keeps-grown b (record b { modules = changed_at i f b.modul
 
 unique-kind : (unique : Bool) (n : NestRecord) → nest_kind (Some (with_unique unique n)) ≡ nest_kind (Some n)
 unique-kind unique (BlockRecord statements) = refl
-unique-kind unique (BranchRecord c) = refl
-unique-kind unique (SwitchRecord c) = refl
-unique-kind unique (RepeatRecord l) = refl
+unique-kind unique (ConditionalNestRecord c) = refl
+unique-kind unique (CaseNestRecord c) = refl
+unique-kind unique (LoopNestRecord l) = refl
 
 pub keeps-unique : (b : Bench) (i : ℕ) (unique : Bool) → Keeps b (record b { nests = changed_at i (with_unique unique) b.nests })
 keeps-unique b i unique =

@@ -11,7 +11,7 @@ use Rattle.vast_core.specs.declared.node.ElseIf.{ElseIf}
 use Rattle.vast_core.specs.declared.node.CaseArm.{CaseArm}
 use Rattle.vast_core.specs.Nodes.{Root, ExprRoot, TypeRoot, is_expr_root, is_type_root, is_root_of, is_name, is_index, is_slice, is_macro}
 use Rattle.vast_core.specs.Records.{ModuleRecord, MemberEntry, PortRecord, ParameterPortRecord, DefinitionRecord, ArtifactRecord, InstanceRecord, changed_at, with_name, with_port, with_parameter_port, with_member, with_named_member}
-use Rattle.vast_core.specs.Nests.{StatementEntry, NestRecord, BlockRecord, BranchRecord, SwitchRecord, RepeatRecord, FunctionRecord, AlwaysRecord, nest_kind, is_block_kind, is_conditional_kind, is_case_kind, is_loop_kind}
+use Rattle.vast_core.specs.Nests.{StatementEntry, NestRecord, BlockRecord, ConditionalNestRecord, CaseNestRecord, LoopNestRecord, FunctionRecord, AlwaysRecord, nest_kind, is_block_kind, is_conditional_kind, is_case_kind, is_loop_kind}
 use Rattle.vast_core.specs.Bench.{is_continuous, is_blank_line, is_comment, is_inline, is_macro_statement, names_of}
 use Rattle.vast_core.specs.Containers.{NestedEntry, StatementEnters, ElseIfEnters, ElseEnters, CaseArmEnters, MemberEnters, with_entry, has_else}
 use Rattle.vast_core.proofs.Lists.{slice_get-seam, length-changed_at}
@@ -127,25 +127,25 @@ pub ruleset records = (more_modules, more_functions, more_ports, more_instances,
 
 entry_kind : (e : NestedEntry) (n : NestRecord) → nest_kind (Some (with_entry e n)) ≡ nest_kind (Some n)
 entry_kind (StatementEnters s) (BlockRecord ss) = refl
-entry_kind (StatementEnters s) (BranchRecord c) = refl
-entry_kind (StatementEnters s) (SwitchRecord c) = refl
-entry_kind (StatementEnters s) (RepeatRecord l) = refl
+entry_kind (StatementEnters s) (ConditionalNestRecord c) = refl
+entry_kind (StatementEnters s) (CaseNestRecord c) = refl
+entry_kind (StatementEnters s) (LoopNestRecord l) = refl
 entry_kind (ElseIfEnters a) (BlockRecord ss) = refl
-entry_kind (ElseIfEnters a) (BranchRecord c) = refl
-entry_kind (ElseIfEnters a) (SwitchRecord c) = refl
-entry_kind (ElseIfEnters a) (RepeatRecord l) = refl
+entry_kind (ElseIfEnters a) (ConditionalNestRecord c) = refl
+entry_kind (ElseIfEnters a) (CaseNestRecord c) = refl
+entry_kind (ElseIfEnters a) (LoopNestRecord l) = refl
 entry_kind (ElseEnters x) (BlockRecord ss) = refl
-entry_kind (ElseEnters x) (BranchRecord c) = refl
-entry_kind (ElseEnters x) (SwitchRecord c) = refl
-entry_kind (ElseEnters x) (RepeatRecord l) = refl
+entry_kind (ElseEnters x) (ConditionalNestRecord c) = refl
+entry_kind (ElseEnters x) (CaseNestRecord c) = refl
+entry_kind (ElseEnters x) (LoopNestRecord l) = refl
 entry_kind (CaseArmEnters a) (BlockRecord ss) = refl
-entry_kind (CaseArmEnters a) (BranchRecord c) = refl
-entry_kind (CaseArmEnters a) (SwitchRecord c) = refl
-entry_kind (CaseArmEnters a) (RepeatRecord l) = refl
+entry_kind (CaseArmEnters a) (ConditionalNestRecord c) = refl
+entry_kind (CaseArmEnters a) (CaseNestRecord c) = refl
+entry_kind (CaseArmEnters a) (LoopNestRecord l) = refl
 entry_kind (MemberEnters m) (BlockRecord ss) = refl
-entry_kind (MemberEnters m) (BranchRecord c) = refl
-entry_kind (MemberEnters m) (SwitchRecord c) = refl
-entry_kind (MemberEnters m) (RepeatRecord l) = refl
+entry_kind (MemberEnters m) (ConditionalNestRecord c) = refl
+entry_kind (MemberEnters m) (CaseNestRecord c) = refl
+entry_kind (MemberEnters m) (LoopNestRecord l) = refl
 
 pub kind_after_statement : (s : StatementEntry) (xs : List NestRecord) (place i : ℕ) → nest_kind (slice_get (changed_at place (with_entry (StatementEnters s)) xs) i) ≡ nest_kind (slice_get xs i)
 kind_after_statement s xs place i = kind-changed (with_entry (StatementEnters s)) (entry_kind (StatementEnters s)) xs place i
@@ -200,36 +200,36 @@ else-changed f h (x ∷ xs) (suc place) (suc i) = else-changed f h xs place i
 
 statement-else : (s : StatementEntry) (n : NestRecord) → has_else (Some (with_entry (StatementEnters s) n)) ≡ has_else (Some n)
 statement-else s (BlockRecord ss) = refl
-statement-else s (BranchRecord c) = refl
-statement-else s (SwitchRecord c) = refl
-statement-else s (RepeatRecord l) = refl
+statement-else s (ConditionalNestRecord c) = refl
+statement-else s (CaseNestRecord c) = refl
+statement-else s (LoopNestRecord l) = refl
 
 pub else_after_statement : (s : StatementEntry) (xs : List NestRecord) (place i : ℕ) → has_else (slice_get (changed_at place (with_entry (StatementEnters s)) xs) i) ≡ has_else (slice_get xs i)
 else_after_statement s xs place i = else-changed (with_entry (StatementEnters s)) (statement-else s) xs place i
 
 else_if-else : (a : ElseIf) (n : NestRecord) → has_else (Some (with_entry (ElseIfEnters a) n)) ≡ has_else (Some n)
 else_if-else a (BlockRecord ss) = refl
-else_if-else a (BranchRecord c) = refl
-else_if-else a (SwitchRecord c) = refl
-else_if-else a (RepeatRecord l) = refl
+else_if-else a (ConditionalNestRecord c) = refl
+else_if-else a (CaseNestRecord c) = refl
+else_if-else a (LoopNestRecord l) = refl
 
 pub else_after_else_if : (a : ElseIf) (xs : List NestRecord) (place i : ℕ) → has_else (slice_get (changed_at place (with_entry (ElseIfEnters a)) xs) i) ≡ has_else (slice_get xs i)
 else_after_else_if a xs place i = else-changed (with_entry (ElseIfEnters a)) (else_if-else a) xs place i
 
 case_arm-else : (a : CaseArm) (n : NestRecord) → has_else (Some (with_entry (CaseArmEnters a) n)) ≡ has_else (Some n)
 case_arm-else a (BlockRecord ss) = refl
-case_arm-else a (BranchRecord c) = refl
-case_arm-else a (SwitchRecord c) = refl
-case_arm-else a (RepeatRecord l) = refl
+case_arm-else a (ConditionalNestRecord c) = refl
+case_arm-else a (CaseNestRecord c) = refl
+case_arm-else a (LoopNestRecord l) = refl
 
 pub else_after_case_arm : (a : CaseArm) (xs : List NestRecord) (place i : ℕ) → has_else (slice_get (changed_at place (with_entry (CaseArmEnters a)) xs) i) ≡ has_else (slice_get xs i)
 else_after_case_arm a xs place i = else-changed (with_entry (CaseArmEnters a)) (case_arm-else a) xs place i
 
 member-else : (m : MemberEntry) (n : NestRecord) → has_else (Some (with_entry (MemberEnters m) n)) ≡ has_else (Some n)
 member-else m (BlockRecord ss) = refl
-member-else m (BranchRecord c) = refl
-member-else m (SwitchRecord c) = refl
-member-else m (RepeatRecord l) = refl
+member-else m (ConditionalNestRecord c) = refl
+member-else m (CaseNestRecord c) = refl
+member-else m (LoopNestRecord l) = refl
 
 pub else_after_member : (m : MemberEntry) (xs : List NestRecord) (place i : ℕ) → has_else (slice_get (changed_at place (with_entry (MemberEnters m)) xs) i) ≡ has_else (slice_get xs i)
 else_after_member m xs place i = else-changed (with_entry (MemberEnters m)) (member-else m) xs place i

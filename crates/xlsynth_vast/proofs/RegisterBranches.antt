@@ -8,10 +8,10 @@ use Rattle.vast_core.specs.declared.handle.Expr.{Expr}
 use Rattle.vast_core.specs.declared.handle.VastStatementBlock.{VastStatementBlock}
 use Rattle.vast_core.specs.Handles.{block_index}
 use Rattle.vast_core.specs.Nodes.{ExprRoot}
-use Rattle.vast_core.specs.Nests.{StatementEntry, ConditionalStatement, NestRecord, BlockRecord, BranchRecord}
+use Rattle.vast_core.specs.Nests.{StatementEntry, ConditionalStatement, NestRecord, BlockRecord, ConditionalNestRecord}
 use Rattle.vast_core.specs.Bench.{Bench, OwnsExpr, OwnsBlock, OwnsConditional, tree_of}
 use Rattle.vast_core.specs.Containers.{NestedEntry, StatementEnters, ElseEnters, with_entry, with_nest, with_block, with_conditional, new_conditional, next_conditional, next_block, has_else}
-use Rattle.vast_core.specs.FileTree.{block_in, branch_statement, statements_in, unfolded, families}
+use Rattle.vast_core.specs.FileTree.{block_in, conditional_statement, statements_in, unfolded, families}
 use Rattle.vast_core.proofs.Lists.{slice_get-append, slice_get-seam, length-changed_at}
 use Rattle.vast_core.proofs.Laws.{next_owned, next_tree}
 use Rattle.vast_core.proofs.Enters.{block-place, next_block_owned, next_conditional_owned}
@@ -107,7 +107,7 @@ both-changes condition block b =
     changes-then i (length b.nests) b (with_block c) (with_if_else condition block b) one (changes-entry (length b.nests) (with_block c) (ElseEnters (next_block c))) (inr (omega arith))
 
 abbrev branch_of : Expr → VastStatementBlock → Bench → NestRecord
-branch_of condition block b = BranchRecord (record { condition = condition; consequent = first_block b; else_ifs = []; otherwise = Some (second_block condition block b) })
+branch_of condition block b = ConditionalNestRecord (record { condition = condition; consequent = first_block b; else_ifs = []; otherwise = Some (second_block condition block b) })
 
 both-there : (condition : Expr) (block : VastStatementBlock) (b : Bench) → OwnsBlock b block → slice_get (with_if_else condition block b).nests (length b.nests) ≡ Some (branch_of condition block b)
 both-there condition block b h =
@@ -210,7 +210,7 @@ branches-stand condition registers block b all own =
 branches-read :
     (condition : Expr) (registers : List RegisterDefinition) (block : VastStatementBlock) (b d : Bench) (i m : ℕ) → i ≤ length b.nests → OwnsExpr b condition → All (OwnsRegister b) registers → OwnsBlock b block →
     StaysFrom i (with_branches condition registers block b) d →
-    branch_statement (unfolded d (suc (suc m)) (length b.nests))
+    conditional_statement (unfolded d (suc (suc m)) (length b.nests))
     ≡ ConditionalTree (tree_of b condition) (block_of (assigned_all value_at_reset (register_trees b registers))) (Else (block_of (assigned_all value_outside_reset (register_trees b registers))))
 branches-read condition registers block b d i m low h all own s =
     let e : Bench = with_branches condition registers block b in

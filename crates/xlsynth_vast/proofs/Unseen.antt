@@ -14,10 +14,10 @@ use Rattle.vast_core.specs.declared.node.CaseArm.{CaseArm}
 use Rattle.vast_core.specs.Handles.{module_index, port_index, block_index, conditional_index, case_index, loop_index, always_index, function_index, statement_index, continuous_index, definition_index, comment_index, inline_index, macro_statement_index, instantiation_index, macro_ref_to_expr}
 use Rattle.vast_core.specs.Nodes.{maybe_type_in, maybe_expr_in}
 use Rattle.vast_core.specs.Records.{PortRecord, ParameterPortRecord, ModuleRecord, FormEntry, PlainForm, IntForm, DefinedForm, MemberEntry, DeclarationEntry, AssignmentEntry, ParameterEntry, BlankEntry, CommentEntry, InlineEntry, MacroEntry, InstanceEntry, FunctionEntry, AlwaysEntry, ConditionalEntry, LoopEntry, FileEntry, ModuleEntry, IncludeEntry, FileCommentEntry, FileBlankEntry, DefinitionRecord, ArtifactRecord, BlankLineRecord, CommentRecord, InlineRecord, MacroRecord, ConnectionRecord, InstanceRecord}
-use Rattle.vast_core.specs.Nests.{StatementEntry, AssignStatement, ContinuousStatement, ConditionalStatement, CasesStatement, BlankStatement, CommentStatement, InlineStatement, NestRecord, BlockRecord, BranchRecord, SwitchRecord, RepeatRecord, VariableRecord, FunctionRecord, AlwaysRecord}
+use Rattle.vast_core.specs.Nests.{StatementEntry, AssignStatement, ContinuousStatement, ConditionalStatement, CasesStatement, BlankStatement, CommentStatement, InlineStatement, NestRecord, BlockRecord, ConditionalNestRecord, CaseNestRecord, LoopNestRecord, VariableRecord, FunctionRecord, AlwaysRecord}
 use Rattle.vast_core.specs.Bench.{Bench, OwnsExpr, OwnsType, is_continuous, tree_of, type_of, maybe_tree_of, trees_of}
 use Rattle.vast_core.specs.Sound.{Each, HoldsBlock, EventSound, VariableSound, ConnectionSound, PortSound, ParameterPortSound, AssignmentSound, DefinitionSound, ArtifactSound, InstanceSound, MemberSound, StatementSound, ElseIfSound, CaseArmSound, AlwaysNewer, MemberNewer, LoopMemberSound, NestSound, FunctionSound, AlwaysSound, ModuleSound, RecordsSound}
-use Rattle.vast_core.specs.FileTree.{Family, BlockFamily, block_in, branch_statement, switch_statement, branch_member, repeat_member, definition_tree, form_tree, artifact_member, connection_tree, instance_member, statement_in, statements_in, otherwise_in, alternates_in, arms_in, always_in, variable_tree, function_in, member_in, members_in, family, unfolded, families, maybe_port_tree, port_tree, parameter_port_tree, maybe_module_tree, item_tree, tree}
+use Rattle.vast_core.specs.FileTree.{Family, BlockFamily, block_in, conditional_statement, case_statement, conditional_member, loop_member, definition_tree, form_tree, artifact_member, connection_tree, instance_member, statement_in, statements_in, otherwise_in, alternates_in, arms_in, always_in, variable_tree, function_in, member_in, members_in, family, unfolded, families, maybe_port_tree, port_tree, parameter_port_tree, maybe_module_tree, item_tree, tree}
 use Rattle.vast_core.proofs.Lists.{Each-get}
 use Rattle.vast_core.proofs.Laws.{macro_ref_is_expr}
 use Rattle.vast_core.proofs.Readers.{below-of}
@@ -166,8 +166,8 @@ pub record Meet (b : Bench) (from : ℕ) (f g : ℕ → Family) : Type 0 where
 statement-alike : (b c : Bench) → Alike b c → (f g : ℕ → Family) (i : ℕ) → Meet b (suc i) f g → (s : StatementEntry) → StatementSound b i s → statement_in c f s ≡ statement_in b g s
 statement-alike b c a f g i q (AssignStatement s) h = let x = statement-at b c a (statement_index s) h.of_kind in rw (x.here, x.there, x.left, x.right) refl
 statement-alike b c a f g i q (ContinuousStatement s) h = let x = statement-at b c a (statement_index s) h.of_kind in rw (x.here, x.there, x.left, x.right) refl
-statement-alike b c a f g i q (ConditionalStatement x) h = ap branch_statement (q.at (conditional_index x) h.1 (conditional-place b x h.0))
-statement-alike b c a f g i q (CasesStatement x) h = ap switch_statement (q.at (case_index x) h.1 (case-place b x h.0))
+statement-alike b c a f g i q (ConditionalStatement x) h = ap conditional_statement (q.at (conditional_index x) h.1 (conditional-place b x h.0))
+statement-alike b c a f g i q (CasesStatement x) h = ap case_statement (q.at (case_index x) h.1 (case-place b x h.0))
 statement-alike b c a f g i q BlankStatement h = refl
 statement-alike b c a f g i q (CommentStatement text) h = refl
 statement-alike b c a f g i q (InlineStatement text) h = refl
@@ -247,8 +247,8 @@ member-alike b c a f g from q (FunctionEntry x) h k =
     let o = slice_get b.functions (function_index x) in rw a.functions (function-alike b c a f g from q o (found (FunctionSound b) b.functions (function_index x) o a.sound.functions refl) k)
 member-alike b c a f g from q (AlwaysEntry x) h k =
     let o = slice_get b.always_blocks (always_index x) in rw a.always_blocks (always-alike b c a f g from q o (found (AlwaysSound b) b.always_blocks (always_index x) o a.sound.always_blocks refl) k)
-member-alike b c a f g from q (ConditionalEntry x) h k = ap branch_member (q.at (conditional_index x) k (conditional-place b x h))
-member-alike b c a f g from q (LoopEntry x) h k = ap repeat_member (q.at (loop_index x) k (loop-place b x h))
+member-alike b c a f g from q (ConditionalEntry x) h k = ap conditional_member (q.at (conditional_index x) k (conditional-place b x h))
+member-alike b c a f g from q (LoopEntry x) h k = ap loop_member (q.at (loop_index x) k (loop-place b x h))
 
 newer-from : (i : ℕ) (o : Option AlwaysRecord) → AlwaysNewer i o → IfSome o (λ (r : AlwaysRecord). suc i ≤ block_index r.block)
 newer-from i None h = tt
@@ -306,10 +306,10 @@ members-alike b c a f g q (m ∷ ms) h =
 
 family-alike : (b c : Bench) → Alike b c → (f g : ℕ → Family) (i : ℕ) → Meet b (suc i) f g → (n : NestRecord) → NestSound b i n → family c f (Some n) ≡ family b g (Some n)
 family-alike b c a f g i q (BlockRecord ss) h = ap BlockFamily (statements-alike b c a f g i q ss h)
-family-alike b c a f g i q (BranchRecord x) h =
+family-alike b c a f g i q (ConditionalNestRecord x) h =
     rw (expr-alike b c a x.condition h.condition, held-alike b f g i q x.consequent h.consequent, alternates-alike b c a f g i q x.else_ifs x.otherwise h.else_ifs h.otherwise) refl
-family-alike b c a f g i q (SwitchRecord x) h = rw (expr-alike b c a x.selector h.selector, arms-alike b c a f g i q x.arms h.arms) refl
-family-alike b c a f g i q (RepeatRecord l) h = rw (expr-alike b c a l.start h.start, expr-alike b c a l.limit h.limit, loop-members-alike b c a f g i q l.members h.members) refl
+family-alike b c a f g i q (CaseNestRecord x) h = rw (expr-alike b c a x.selector h.selector, arms-alike b c a f g i q x.arms h.arms) refl
+family-alike b c a f g i q (LoopNestRecord l) h = rw (expr-alike b c a l.start h.start, expr-alike b c a l.limit h.limit, loop-members-alike b c a f g i q l.members h.members) refl
 
 maybe-family : (b c : Bench) → Alike b c → (f g : ℕ → Family) (i : ℕ) → Meet b (suc i) f g → (o : Option NestRecord) → slice_get b.nests i ≡ o → family c f o ≡ family b g o
 maybe-family b c a f g i q None e = refl

@@ -14,7 +14,7 @@ use Rattle.vast_literal.specs.declared.kind.ModulePortDirection.{ModulePortDirec
 use Rattle.vast_literal.specs.declared.kind.ModulePortDirection.TheVariants.{Input, Output, InOut}
 use Rattle.vast_core.specs.Handles.{module_index, port_index, function_index, always_index, conditional_index, loop_index, logic_ref_to_expr}
 use Rattle.vast_core.specs.Records.{PortRecord, ModuleRecord, MemberEntry}
-use Rattle.vast_core.specs.Nests.{NestRecord, BlockRecord, BranchRecord, SwitchRecord, RepeatRecord, FunctionRecord, AlwaysRecord}
+use Rattle.vast_core.specs.Nests.{NestRecord, BlockRecord, ConditionalNestRecord, CaseNestRecord, LoopNestRecord, FunctionRecord, AlwaysRecord}
 use Rattle.vast_core.specs.BitCount.{bit_count}
 use Rattle.vast_core.specs.Hoisting.{members_of}
 use Rattle.vast_core.specs.Bench.{Bench, tree_of, type_of}
@@ -92,9 +92,9 @@ block_at b a = option_map (λ (r : AlwaysRecord). r.block) (slice_get b.always_b
 abbrev pub first_block : Option NestRecord → Option VastStatementBlock
 first_block None = None
 first_block (Some (BlockRecord statements)) = None
-first_block (Some (BranchRecord c)) = Some c.consequent
-first_block (Some (SwitchRecord c)) = None
-first_block (Some (RepeatRecord l)) = None
+first_block (Some (ConditionalNestRecord c)) = Some c.consequent
+first_block (Some (CaseNestRecord c)) = None
+first_block (Some (LoopNestRecord l)) = None
 
 abbrev pub then_block_at : Bench → Conditional → Option VastStatementBlock
 then_block_at b c = first_block (slice_get b.nests (conditional_index c))
@@ -103,9 +103,9 @@ then_block_at b c = first_block (slice_get b.nests (conditional_index c))
 abbrev pub variable_of : Option NestRecord → Option LogicRef
 variable_of None = None
 variable_of (Some (BlockRecord statements)) = None
-variable_of (Some (BranchRecord c)) = None
-variable_of (Some (SwitchRecord c)) = None
-variable_of (Some (RepeatRecord l)) = Some l.genvar
+variable_of (Some (ConditionalNestRecord c)) = None
+variable_of (Some (CaseNestRecord c)) = None
+variable_of (Some (LoopNestRecord l)) = Some l.genvar
 
 abbrev pub genvar_at : Bench → GenerateLoop → Option LogicRef
 genvar_at b l = variable_of (slice_get b.nests (loop_index l))

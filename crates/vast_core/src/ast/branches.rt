@@ -2,10 +2,10 @@
 
 ghost use Rattle.std.specs.Prelude.{◌≡◌, ◌<◌, ◌^◌, false, Some, slice_get, IfSome};
 ghost use Rattle.vast_core.specs.Handles.{conditional_index, case_index};
-ghost use Rattle.vast_core.specs.Nests.{nest_record, conditional_record, case_record, BranchRecord, SwitchRecord, CasesStatement};
+ghost use Rattle.vast_core.specs.Nests.{nest_record, conditional_record, case_record, ConditionalNestRecord, CaseNestRecord, CasesStatement};
 ghost use Rattle.vast_core.specs.Bench.{OwnsBlock, OwnsExpr, OwnsConditional, OwnsCase, tree_of};
 ghost use Rattle.vast_core.specs.Sound.{ConditionalSound, CaseSound};
-ghost use Rattle.vast_core.specs.FileTree.{BranchFamily, SwitchFamily, families, block_tree, alternates_tree, case_arms_tree};
+ghost use Rattle.vast_core.specs.FileTree.{ConditionalFamily, CaseFamily, families, block_tree, alternates_tree, case_arms_tree};
 ghost use Rattle.vast_literal.specs.Tree.{CaseTree};
 ghost use Rattle.vast_core.specs.Growth.{Builds, Leaves};
 ghost use Rattle.vast_core.specs.Containers.{InNest, GrowthSound, new_conditional, fresh_block, with_nest_entry, with_block, with_statement, next_case, with_case, next_block, with_else_if, with_else, with_case_arm, has_else, with_unique, with_case_unique};
@@ -177,9 +177,9 @@ impl Ast {
     pub fn conditional(&self, c: Conditional) -> &ConditionalNode
         requires { OwnsConditional (bench self.now) c }
         ensures there { slice_get (bench self.now).nests (conditional_index c)
-            ≡ Some (BranchRecord (conditional_record result.now)) }
+            ≡ Some (ConditionalNestRecord (conditional_record result.now)) }
         ensures tree { families (bench self.now) (conditional_index c)
-            ≡ BranchFamily (tree_of (bench self.now) result.now.condition)
+            ≡ ConditionalFamily (tree_of (bench self.now) result.now.condition)
             (block_tree (bench self.now) result.now.consequent)
             (alternates_tree (bench self.now) result.now.else_ifs.items result.now.otherwise) }
         ensures sound { ConditionalSound (bench self.now) (conditional_index c)
@@ -207,9 +207,9 @@ impl Ast {
     pub fn case(&self, c: CaseStatement) -> &CaseNode
         requires { OwnsCase (bench self.now) c }
         ensures there { slice_get (bench self.now).nests (case_index c)
-            ≡ Some (SwitchRecord (case_record result.now)) }
+            ≡ Some (CaseNestRecord (case_record result.now)) }
         ensures tree { families (bench self.now) (case_index c)
-            ≡ SwitchFamily
+            ≡ CaseFamily
             (CaseTree result.now.unique result.now.kind
             (tree_of (bench self.now) result.now.selector)
             (case_arms_tree (bench self.now) result.now.arms.items)) }

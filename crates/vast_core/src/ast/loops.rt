@@ -3,10 +3,10 @@
 ghost use Rattle.std.specs.Prelude.{[], ◌≡◌, ◌<◌, ◌^◌, All, None, Some, slice_get, map, string_bytes};
 ghost use Rattle.vast_core.specs.Handles.{loop_index};
 ghost use Rattle.vast_core.specs.Records.{member_entry, LoopEntry};
-ghost use Rattle.vast_core.specs.Nests.{label_bytes, loop_record, RepeatRecord};
+ghost use Rattle.vast_core.specs.Nests.{label_bytes, loop_record, LoopNestRecord};
 ghost use Rattle.vast_core.specs.Bench.{OwnsLoop, OwnsExpr, OwnsLogicRef, tree_of};
 ghost use Rattle.vast_core.specs.Sound.{LoopMemberSound};
-ghost use Rattle.vast_core.specs.FileTree.{RepeatFamily, families, members_tree};
+ghost use Rattle.vast_core.specs.FileTree.{LoopFamily, families, members_tree};
 ghost use Rattle.vast_literal.specs.Tree.{LoopMember};
 ghost use Rattle.vast_core.specs.Growth.{Builds};
 ghost use Rattle.vast_core.specs.Loops.{next_loop, with_loop};
@@ -73,9 +73,9 @@ impl Ast {
     pub fn generate_loop(&self, l: GenerateLoop) -> &LoopNode
         requires { OwnsLoop (bench self.now) l }
         ensures there { slice_get (bench self.now).nests (loop_index l)
-            ≡ Some (RepeatRecord (loop_record result.now)) }
+            ≡ Some (LoopNestRecord (loop_record result.now)) }
         ensures tree { families (bench self.now) (loop_index l)
-            ≡ RepeatFamily
+            ≡ LoopFamily
             (LoopMember (string_bytes result.now.name) (tree_of (bench self.now) result.now.start)
             (tree_of (bench self.now) result.now.limit) (label_bytes result.now.label)
             (members_tree (bench self.now) (map member_entry result.now.members.items))) }

@@ -1,6 +1,6 @@
 //! The parts of a literal's text.
 
-ghost use Rattle.std.specs.Prelude.{◌≡◌, ◌≤◌, IfSome, IfNone, MatchOption, None, Some};
+ghost use Rattle.std.specs.Prelude.{◌≡◌, ◌≤◌, IfSome, MatchOption, None, Some};
 ghost use Rattle.vast_literal.specs.Literal.{typed_parts, has_minus, without_sign, marked_radix, radix_and_digits};
 
 /// The width and the value of `bits[N]:value`, cut at the first `]:`.

@@ -1,7 +1,7 @@
 use Rattle.std.proofs.Common.{◌≡◌, ◌+◌, drop, map, codes}
 use Rattle.vast_core.specs.Handles.{loop_index}
 use Rattle.vast_core.specs.Records.{member_entry}
-use Rattle.vast_core.specs.FileTree.{families, repeat_member, members_tree}
+use Rattle.vast_core.specs.FileTree.{families, loop_member, members_tree}
 use Rattle.vast_core.specs.View.{bench}
 use Rattle.vast_print.specs.Ink.{Wet, word, next, hang}
 use Rattle.vast_print.specs.Members.{member_page, members_page}
@@ -16,5 +16,5 @@ decreases-generate_loop::print_loop l = height (loop_index l.l)
 
 abbrev pub invariant-generate_loop::print_loop-loop-member : goal.invariant-generate_loop::print_loop-loop-member
 invariant-generate_loop::print_loop-loop-member l =
-    hang l.depth (Wet l.fn.out) (member_page (bench l.ast).file_type (repeat_member (families (bench l.ast) (loop_index l.fn.l))))
+    hang l.depth (Wet l.fn.out) (member_page (bench l.ast).file_type (loop_member (families (bench l.ast) (loop_index l.fn.l))))
     ≡ word (next l.depth (hang (l.depth + 1) (Wet l.out) (members_page (bench l.ast).file_type (members_tree (bench l.ast) (map member_entry (drop l.member-index l.member-items)))))) (codes "end")

@@ -10,7 +10,7 @@ use Rattle.vast_core.specs.FileTree.{block_tree, alternates_tree, case_arms_tree
 use Rattle.vast_core.specs.View.{bench}
 use Rattle.vast_print.specs.Ink.{Wet}
 use Rattle.vast_print.proofs.ArenaLaws.{stops}
-use Rattle.vast_print.proofs.ContainerLaws.{block-step, block-end, hang-branch, else-ifs-step, else-ifs-end, conditionals, hang-switch, arms-left, no-arms-left, cases, pour-arm-bare, pour-arm-full}
+use Rattle.vast_print.proofs.ContainerLaws.{block-step, block-end, hang-held-conditional, else-ifs-step, else-ifs-end, conditionals, hang-held-case, arms-left, no-arms-left, cases, pour-arm-bare, pour-arm-full}
 use Rattle.vast_print.proofs.+print.Goals as goal
 
 pub statement::print_statements-loop-statement-preserved : goal.statement::print_statements-loop-statement-preserved
@@ -30,27 +30,27 @@ statement::print_statements-returns t c =
 pub case::print_case-returns-in_err-print_selector : goal.case::print_case-returns-in_err-print_selector
 case::print_case-returns-in_err-print_selector t c =
     let n = c.case-node.result.now in
-    grind (arith, stops, hang-switch (bench c.args.ast.now) c.args.depth (Wet c.args.out.now) (case_index c.args.c) n.unique n.kind (tree_of (bench c.args.ast.now) n.selector) (case_arms_tree (bench c.args.ast.now) n.arms.items) c.case-node.ensures.tree)
+    grind (arith, stops, hang-held-case (bench c.args.ast.now) c.args.depth (Wet c.args.out.now) (case_index c.args.c) n.unique n.kind (tree_of (bench c.args.ast.now) n.selector) (case_arms_tree (bench c.args.ast.now) n.arms.items) c.case-node.ensures.tree)
 
 pub case::print_case-loop-arm-init : goal.case::print_case-loop-arm-init
 case::print_case-loop-arm-init t c =
     let n = c.case-node.result.now in
-    grind (arith, hang-switch (bench c.args.ast.now) c.args.depth (Wet c.args.out.now) (case_index c.args.c) n.unique n.kind (tree_of (bench c.args.ast.now) n.selector) (case_arms_tree (bench c.args.ast.now) n.arms.items) c.case-node.ensures.tree)
+    grind (arith, hang-held-case (bench c.args.ast.now) c.args.depth (Wet c.args.out.now) (case_index c.args.c) n.unique n.kind (tree_of (bench c.args.ast.now) n.selector) (case_arms_tree (bench c.args.ast.now) n.arms.items) c.case-node.ensures.tree)
 
 pub conditional::print_conditional-returns-in_err-print_condition : goal.conditional::print_conditional-returns-in_err-print_condition
 conditional::print_conditional-returns-in_err-print_condition t c =
     let n = c.conditional-node.result.now in
-    grind (arith, stops, hang-branch (bench c.args.ast.now) c.args.depth (Wet c.args.out.now) (conditional_index c.args.c) (tree_of (bench c.args.ast.now) n.condition) (block_tree (bench c.args.ast.now) n.consequent) (alternates_tree (bench c.args.ast.now) n.else_ifs.items n.otherwise) c.conditional-node.ensures.tree)
+    grind (arith, stops, hang-held-conditional (bench c.args.ast.now) c.args.depth (Wet c.args.out.now) (conditional_index c.args.c) (tree_of (bench c.args.ast.now) n.condition) (block_tree (bench c.args.ast.now) n.consequent) (alternates_tree (bench c.args.ast.now) n.else_ifs.items n.otherwise) c.conditional-node.ensures.tree)
 
 pub conditional::print_conditional-returns-in_err-print_block : goal.conditional::print_conditional-returns-in_err-print_block
 conditional::print_conditional-returns-in_err-print_block t c =
     let n = c.conditional-node.result.now in
-    grind (arith, stops, hang-branch (bench c.args.ast.now) c.args.depth (Wet c.args.out.now) (conditional_index c.args.c) (tree_of (bench c.args.ast.now) n.condition) (block_tree (bench c.args.ast.now) n.consequent) (alternates_tree (bench c.args.ast.now) n.else_ifs.items n.otherwise) c.conditional-node.ensures.tree)
+    grind (arith, stops, hang-held-conditional (bench c.args.ast.now) c.args.depth (Wet c.args.out.now) (conditional_index c.args.c) (tree_of (bench c.args.ast.now) n.condition) (block_tree (bench c.args.ast.now) n.consequent) (alternates_tree (bench c.args.ast.now) n.else_ifs.items n.otherwise) c.conditional-node.ensures.tree)
 
 pub conditional::print_conditional-loop-arm-init : goal.conditional::print_conditional-loop-arm-init
 conditional::print_conditional-loop-arm-init t c =
     let n = c.conditional-node.result.now in
-    grind (arith, hang-branch (bench c.args.ast.now) c.args.depth (Wet c.args.out.now) (conditional_index c.args.c) (tree_of (bench c.args.ast.now) n.condition) (block_tree (bench c.args.ast.now) n.consequent) (alternates_tree (bench c.args.ast.now) n.else_ifs.items n.otherwise) c.conditional-node.ensures.tree)
+    grind (arith, hang-held-conditional (bench c.args.ast.now) c.args.depth (Wet c.args.out.now) (conditional_index c.args.c) (tree_of (bench c.args.ast.now) n.condition) (block_tree (bench c.args.ast.now) n.consequent) (alternates_tree (bench c.args.ast.now) n.else_ifs.items n.otherwise) c.conditional-node.ensures.tree)
 
 pub case::print_arm-returns-in-Some : goal.case::print_arm-returns-in-Some
 case::print_arm-returns-in-Some t c =

@@ -1,7 +1,7 @@
 use Rattle.std.proofs.Common.{◌≡◌, ◌+◌, drop, map, codes}
 use Rattle.vast_core.specs.Handles.{block_index, conditional_index, case_index}
 use Rattle.vast_core.specs.Nests.{statement_entry}
-use Rattle.vast_core.specs.FileTree.{families, branch_statement, switch_statement, block_tree, statements_tree, alternates_tree, case_arms_tree}
+use Rattle.vast_core.specs.FileTree.{families, conditional_statement, case_statement, block_tree, statements_tree, alternates_tree, case_arms_tree}
 use Rattle.vast_core.specs.View.{bench}
 use Rattle.vast_print.specs.Ink.{Wet, word, next, hang, pour}
 use Rattle.vast_print.specs.Statements.{statement_page, statements_page, alternates_page, arms_page}
@@ -33,10 +33,10 @@ invariant-statement::print_statements-loop-statement l =
 
 abbrev pub invariant-conditional::print_conditional-loop-arm : goal.invariant-conditional::print_conditional-loop-arm
 invariant-conditional::print_conditional-loop-arm l =
-    hang l.depth (Wet l.fn.out) (statement_page (branch_statement (families (bench l.ast) (conditional_index l.fn.c))))
+    hang l.depth (Wet l.fn.out) (statement_page (conditional_statement (families (bench l.ast) (conditional_index l.fn.c))))
     ≡ pour l.depth (Wet l.out) (alternates_page (alternates_tree (bench l.ast) (drop l.arm-index l.arm-items) l.node.otherwise))
 
 abbrev pub invariant-case::print_case-loop-arm : goal.invariant-case::print_case-loop-arm
 invariant-case::print_case-loop-arm l =
-    hang l.depth (Wet l.fn.out) (statement_page (switch_statement (families (bench l.ast) (case_index l.fn.c))))
+    hang l.depth (Wet l.fn.out) (statement_page (case_statement (families (bench l.ast) (case_index l.fn.c))))
     ≡ word (next l.depth (hang (l.depth + 1) (Wet l.out) (arms_page l.node.kind (case_arms_tree (bench l.ast) (drop l.arm-index l.arm-items))))) (codes "endcase")

@@ -1,6 +1,6 @@
 //! The checks of an array that is to be reduced.
 
-ghost use Rattle.std.specs.Prelude.{◌≡◌, ◌^◌, ◌≤ℤ◌, pos, All, IfOk, IfNone, IfSome, IsTrue, string_bytes, drop, option_map};
+ghost use Rattle.std.specs.Prelude.{◌≡◌, ◌^◌, ◌≤ℤ◌, pos, IfOk, IfNone, IfSome, IsTrue, string_bytes, drop, option_map};
 ghost use Rattle.std.specs.List.{list_all};
 ghost use Rattle.std.specs.Int.{is_positive};
 ghost use Rattle.vast_core.specs.BitCount.{product};
