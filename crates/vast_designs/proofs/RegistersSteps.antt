@@ -1,5 +1,5 @@
 -- The file of the registers: each call in turn, from the file before it, its answer and the file after it.
-use Rattle.std.proofs.Common.{◌≡◌, ℕ, pos, false, List, ◌∷◌, [], All, Some, refl, codes}
+use Rattle.std.proofs.Common.{◌≡◌, ℕ, pos, false, List, ◌∷◌, [], All, Some, IsOkAnd, refl, codes}
 use Rattle.std.proofs.lemmas.List.Elements.{All-cons, All-nil}
 use Rattle.vast_literal.specs.declared.literal.LiteralFormat.TheVariants.{Hex}
 use Rattle.vast_literal.specs.Digits.{is_numeral, digits_in, number_in, lowest_digits, digit_count, separator}
