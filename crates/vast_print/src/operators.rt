@@ -1,11 +1,13 @@
-//! Signs and their operands, and edges.
+//! Operators and their operands, and edges.
 
 ghost use Rattle.vast_literal.specs.Tree.{UnaryTree, BinaryTree, TernaryTree, PosEdgeTree, NegEdgeTree};
 ghost use Rattle.vast_core.specs.Bench.{OwnsExpr, tree_of};
 ghost use Rattle.vast_core.specs.View.{bench};
 ghost use Rattle.vast_print.specs.Pieces.{PiecesOwned, BeginsExpr};
 
-use crate::levels::{binary_sign, left_wraps, right_wraps, ternary_wraps, unary_sign, unary_wraps};
+use crate::levels::{
+    binary_operator_text, left_wraps, right_wraps, ternary_wraps, unary_operator_text, unary_wraps,
+};
 use crate::pieces::{Piece, push_part, push_plain};
 use crate::refusal::PrintFault;
 use crate::writer::Writer;
@@ -26,7 +28,7 @@ pub(crate) fn begin_unary(
         (UnaryTree operator (tree_of (bench ast.now) operand)) result }
 {
     let wraps = unary_wraps(ast, operand);
-    out.word(unary_sign(operator))?;
+    out.word(unary_operator_text(operator))?;
     push_part(ast, operand, wraps, work)?;
     Ok(())
 }
@@ -49,7 +51,7 @@ pub(crate) fn begin_binary(
         result }
 {
     push_part(ast, right, right_wraps(ast, operator, right), work)?;
-    push_plain(ast, binary_sign(operator), work)?;
+    push_plain(ast, binary_operator_text(operator), work)?;
     push_part(ast, left, left_wraps(ast, operator, left), work)?;
     Ok(())
 }
