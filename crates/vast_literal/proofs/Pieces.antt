@@ -3,7 +3,7 @@ use Rattle.std.proofs.Common.{◌≡◌, ℕ, List, [], ◌∷◌, ◌++◌, Boo
 use Rattle.vast_literal.specs.Tokens.{Op, BitOr, BitXor, BitAnd, Minus, BitNot, LogicNot, OpenParen, CloseParen, OpenBracket, CloseBracket, OpenBrace, CloseBrace, Comma, Colon, Question, Apostrophe, Token, Number, Operator, Mark, word_token}
 use Rattle.vast_literal.specs.Tree.{UnaryOp, NegateOp, BitwiseNotOp, LogicalNotOp, AndReduceOp, OrReduceOp, XorReduceOp}
 use Rattle.vast_literal.specs.Scan.{Gap, cons_token, add_tokens, scan}
-use Rattle.vast_literal.specs.NormalExpr.{unary_sign}
+use Rattle.vast_literal.specs.NormalExpr.{unary_operator_token}
 use Rattle.vast_literal.specs.Spelling.{op_text}
 use Rattle.vast_literal.specs.LiteralToken.{is_number}
 use Rattle.vast_literal.specs.Plain.{is_identifier}
@@ -110,8 +110,8 @@ pub opens-append : (tight : Bool) (a b : List ℕ) → opens tight a ≡ true �
 opens-append tight [] b h = cc
 opens-append tight (c ∷ cs) b h = h
 
-pub sign_reads : (o : UnaryOp) (a : List ℕ) {ts : List Token} → opens true a ≡ true → Reads a ts → Reads (op_text (unary_sign o) ++ a) (Operator (unary_sign o) ∷ ts)
-unfolding scan unary_sign
+pub sign_reads : (o : UnaryOp) (a : List ℕ) {ts : List Token} → opens true a ≡ true → Reads a ts → Reads (op_text (unary_operator_token o) ++ a) (Operator (unary_operator_token o) ∷ ts)
+unfolding scan unary_operator_token
 sign_reads NegateOp a k f = record { at = λ rest h. ap (cons_token (Operator Minus)) (f.at rest h) }
 sign_reads BitwiseNotOp a k f = record { at = λ rest h. ap (cons_token (Operator BitNot)) (f.at rest h) }
 sign_reads XorReduceOp a k f = record { at = λ rest h. ap (cons_token (Operator BitXor)) (f.at rest h) }

@@ -4,7 +4,7 @@ use Rattle.std.proofs.lemmas.Bool.{ltb-false}
 use Rattle.vast_literal.specs.Tokens.{level}
 use Rattle.vast_literal.specs.Tree.{BinaryOp, AddOp, ExprTree, LiteralTree, UnaryTree, BinaryTree, TernaryTree}
 use Rattle.vast_literal.specs.Shape.{binary_precedence, precedence, starts_with_minus, is_reduction, is_width_cast, is_negative_literal, unary_wraps, left_child_wraps, right_child_wraps, ternary_wraps, select_wraps, limit_wraps}
-use Rattle.vast_literal.specs.NormalExpr.{binary_sign}
+use Rattle.vast_literal.specs.NormalExpr.{binary_operator_token}
 use Rattle.vast_literal.proofs.ScanLaws.{or_left}
 use Rattle.vast_literal.proofs.Sound.{level_small}
 
@@ -14,19 +14,19 @@ literal_level text = cond (starts_with_minus text) 12 13
 
 abbrev pub spelled_level : ExprTree → ℕ
 spelled_level (TernaryTree condition consequent alternate) = 0
-spelled_level (BinaryTree op left right) = level (binary_sign op)
+spelled_level (BinaryTree op left right) = level (binary_operator_token op)
 spelled_level (UnaryTree op operand) = 12
 spelled_level (LiteralTree text value) = literal_level text
 spelled_level _ = 13
 
 -- The precedence that the layout goes by is the grammar's.
-level_same : (op : BinaryOp) → binary_precedence op ≡ level (binary_sign op)
-unfolding level binary_sign
+level_same : (op : BinaryOp) → binary_precedence op ≡ level (binary_operator_token op)
+unfolding level binary_operator_token
 level_same AddOp = refl
 level_same _ = refl
 
-pub positive : (op : BinaryOp) → 0 < level (binary_sign op)
-unfolding level binary_sign
+pub positive : (op : BinaryOp) → 0 < level (binary_operator_token op)
+unfolding level binary_operator_token
 positive AddOp = omega arith
 positive _ = omega arith
 
@@ -40,7 +40,7 @@ literal_least true = omega arith
 literal_least false = omega arith
 
 pub level_bound : (e : ExprTree) → spelled_level e ≤ 13
-level_bound (BinaryTree op left right) = let small = level_small (binary_sign op) in omega arith
+level_bound (BinaryTree op left right) = let small = level_small (binary_operator_token op) in omega arith
 level_bound (TernaryTree condition consequent alternate) = omega arith
 level_bound (UnaryTree op operand) = omega arith
 level_bound (LiteralTree text value) = literal_bound (starts_with_minus text)
@@ -60,19 +60,19 @@ or_right false b h = h
 
 -- What stands without parentheses binds tightly enough where it stands.
 
-pub left_bound : (op : BinaryOp) (e : ExprTree) → left_child_wraps op e ≡ false → level (binary_sign op) ≤ spelled_level e
+pub left_bound : (op : BinaryOp) (e : ExprTree) → left_child_wraps op e ≡ false → level (binary_operator_token op) ≤ spelled_level e
 left_bound op e h =
     let same = level_same op in
-    let small = level_small (binary_sign op) in
+    let small = level_small (binary_operator_token op) in
     let bare = ltb-false (precedence e) (binary_precedence op) (or_left _ (is_reduction e) h) in
-    at_least (level (binary_sign op)) e (omega arith) (omega arith)
+    at_least (level (binary_operator_token op)) e (omega arith) (omega arith)
 
-pub right_bound : (op : BinaryOp) (e : ExprTree) → right_child_wraps op e ≡ false → suc (level (binary_sign op)) ≤ spelled_level e
+pub right_bound : (op : BinaryOp) (e : ExprTree) → right_child_wraps op e ≡ false → suc (level (binary_operator_token op)) ≤ spelled_level e
 right_bound op e h =
     let same = level_same op in
-    let small = level_small (binary_sign op) in
+    let small = level_small (binary_operator_token op) in
     let bare = leb-false (precedence e) (binary_precedence op) (or_left _ (is_reduction e) h) in
-    at_least (suc (level (binary_sign op))) e (omega arith) (omega arith)
+    at_least (suc (level (binary_operator_token op))) e (omega arith) (omega arith)
 
 pub operand_bound : (e : ExprTree) → unary_wraps e ≡ false → 12 ≤ spelled_level e
 operand_bound e h =

@@ -7,7 +7,7 @@ use Rattle.vast_literal.specs.Tokens.{Minus, level, is_unary, OpenParen, ClosePa
 use Rattle.vast_literal.specs.Tree.{UnaryOp, NegateOp, ExprTree, NameTree, LiteralTree, StringTree, UnaryTree, BinaryTree, TernaryTree, IndexTree, SliceTree, PartSelectTree, ConcatTree, PatternTree, WidthCastTree, TypeCastTree, PosEdgeTree, NegEdgeTree, MacroTree, CallTree, MissingExpr, TypeTree, ScalarTree, VectorTree, IntegerTree, IntTree, ExternalTree, PackageTree, PackedTree, UnpackedTree, MissingType, NoExpr, SomeExpr, Exprs, NoExprs, MoreExprs, NoArguments, SomeArguments}
 use Rattle.vast_literal.specs.Shape.{is_scalar_name, is_zero, is_elided_index, is_elided_slice, unary_wraps, left_child_wraps, right_child_wraps, ternary_wraps, select_wraps}
 use Rattle.vast_literal.specs.Scan.{is_digit}
-use Rattle.vast_literal.specs.NormalExpr.{NormalExpr, Name, Literal, Unary, Call, Cast, NormalExprs, NoNormals, MoreNormals, unary_sign, binary_sign, normal_literal, sign_key, normal_word_cast, scalar_sign, integer_sign, normal, normal_cast, normals}
+use Rattle.vast_literal.specs.NormalExpr.{NormalExpr, Name, Literal, Unary, Call, Cast, NormalExprs, NoNormals, MoreNormals, unary_operator_token, binary_operator_token, normal_literal, signing_key, normal_word_cast, scalar_sign, integer_sign, normal, normal_cast, normals}
 use Rattle.vast_literal.specs.Grammar.{is_cast_word, Spells, ternary, binary, unary, index, slice, part_select, name, number, based, quoted, paren, call, system_call, concat, replicated, array_pattern, macro_alone, macro_call, number_cast, name_cast, package_cast, paren_cast, word_cast, SpellsList, none, some, SpellsJoined, last, next}
 use Rattle.vast_literal.specs.LiteralToken.{is_number, bare_token, literal_tokens}
 use Rattle.vast_literal.specs.Plain.{is_edgeless, is_edgeless_type, are_edgeless}
@@ -134,8 +134,8 @@ unfolding integer_sign is_cast_word
 integer_word true k h = absurd (cc h)
 integer_word false k h = subst (λ (v : Key). is_cast_word v ≡ true) (same_Some _ _ h) refl
 
-sign_word : (signed : Bool) → IsTrue (is_cast_word (sign_key signed))
-unfolding sign_key is_cast_word
+sign_word : (signed : Bool) → IsTrue (is_cast_word (signing_key signed))
+unfolding signing_key is_cast_word
 sign_word true = refl
 sign_word false = refl
 
@@ -151,8 +151,8 @@ int_word : IsTrue (is_cast_word IntKey)
 unfolding is_cast_word
 int_word = refl
 
-unary_word : (op : UnaryOp) → IsTrue (is_unary (unary_sign op))
-unfolding is_unary unary_sign
+unary_word : (op : UnaryOp) → IsTrue (is_unary (unary_operator_token op))
+unfolding is_unary unary_operator_token
 unary_word NegateOp = refl
 unary_word _ = refl
 
@@ -180,14 +180,14 @@ mutual
   spelled (LiteralTree text value) l w = literal_spells text
   spelled (StringTree text) l w = below (quoted text)
   spelled (UnaryTree op e) l w = let b = level_bound e in
-      unary (unary_sign op) (unary_word op) (wrapped_spells (unary_wraps e) (spelled_level e) 12 _ _ (omega arith) (omega arith) (λ h. let c = operand_bound e h in omega arith) (spelled e l w))
+      unary (unary_operator_token op) (unary_word op) (wrapped_spells (unary_wraps e) (spelled_level e) 12 _ _ (omega arith) (omega arith) (λ h. let c = operand_bound e h in omega arith) (spelled e l w))
   spelled (BinaryTree op a c) l w =
-      let small = level_small (binary_sign op) in
+      let small = level_small (binary_operator_token op) in
       let ba = level_bound a in
       let bc = level_bound c in
-      binary (binary_sign op) (positive op)
-      (wrapped_spells (left_child_wraps op a) (spelled_level a) (level (binary_sign op)) _ _ (omega arith) (omega arith) (left_bound op a) (spelled a (and_left _ _ l) (and_left _ _ w)))
-      (wrapped_spells (right_child_wraps op c) (spelled_level c) (suc (level (binary_sign op))) _ _ (omega arith) (omega arith) (right_bound op c) (spelled c (and_right (is_edgeless a) _ l) (and_right (is_well_formed a) _ w)))
+      binary (binary_operator_token op) (positive op)
+      (wrapped_spells (left_child_wraps op a) (spelled_level a) (level (binary_operator_token op)) _ _ (omega arith) (omega arith) (left_bound op a) (spelled a (and_left _ _ l) (and_left _ _ w)))
+      (wrapped_spells (right_child_wraps op c) (spelled_level c) (suc (level (binary_operator_token op))) _ _ (omega arith) (omega arith) (right_bound op c) (spelled c (and_right (is_edgeless a) _ l) (and_right (is_well_formed a) _ w)))
   spelled (TernaryTree c a b) l w =
       let l1 = and_right (is_edgeless c) (is_edgeless a && is_edgeless b) l in
       let w1 = and_right (is_well_formed c) (is_well_formed a && is_well_formed b) w in
@@ -228,7 +228,7 @@ mutual
   cast_spelled (ScalarTree signed) e c l w = below (word_spells (scalar_sign signed) LogicKey (scalar_word signed) logic_word e)
   cast_spelled (VectorTree h value signed) e c l w =
       let b = level_bound h in
-      below (word_cast (sign_key signed) (sign_word signed) (lower 14 0 _ _ (omega arith) (omega arith) (width_spells h (spelled_level h) (omega arith) (spelled h l w) e)))
+      below (word_cast (signing_key signed) (sign_word signed) (lower 14 0 _ _ (omega arith) (omega arith) (width_spells h (spelled_level h) (omega arith) (spelled h l w) e)))
   cast_spelled (IntegerTree signed) e c l w = below (word_spells (integer_sign signed) IntegerKey (integer_word signed) whole_word e)
   cast_spelled (IntTree signed) e c l w = below (word_spells (integer_sign signed) IntKey (integer_word signed) int_word e)
   cast_spelled (ExternalTree n) e c l w = below (name_cast n e)

@@ -3,7 +3,7 @@ use Rattle.std.proofs.Common.{◌≡◌, negsuc, true, Some, refl, codes}
 use Rattle.vast_literal.specs.Keyword.{is_keyword}
 use Rattle.vast_literal.specs.Tokens.{Minus, Power}
 use Rattle.vast_literal.specs.Tree.{SubOp, PowerOp, LiteralTree, BinaryTree, WidthCastTree, TypeCastTree, ExternalTree}
-use Rattle.vast_literal.specs.NormalExpr.{Name, Literal, Unary, Binary, binary_sign, normal_literal, normal}
+use Rattle.vast_literal.specs.NormalExpr.{Name, Literal, Unary, Binary, binary_operator_token, normal_literal, normal}
 use Rattle.vast_literal.specs.PlainFile.{is_plain_file}
 use Rattle.vast_literal.specs.WorkedTexts.{named, passthrough_file, WorkedTexts}
 use Rattle.vast_literal.proofs.Pins
@@ -13,11 +13,11 @@ use Rattle.vast_literal.proofs.LoopPin.{no_disjunction}
 groups_differ :
     normal (BinaryTree SubOp (named (codes "a")) (BinaryTree SubOp (named (codes "b")) (named (codes "c"))))
     ≡ normal (BinaryTree SubOp (BinaryTree SubOp (named (codes "a")) (named (codes "b"))) (named (codes "c"))) → ⊥
-unfolding normal binary_sign
+unfolding normal binary_operator_token
 groups_differ e = absurd (cc e)
 
 negated_base : normal (BinaryTree PowerOp (LiteralTree (codes "-1") (Some (negsuc 0))) (named (codes "a"))) ≡ Binary Power (Unary Minus (Literal (codes "1"))) (Name (codes "a"))
-unfolding normal binary_sign normal_literal
+unfolding normal binary_operator_token normal_literal
 negated_base = refl
 
 width_or_type : normal (WidthCastTree (named (codes "W")) (named (codes "x"))) ≡ normal (TypeCastTree (ExternalTree (codes "W")) (named (codes "x")))

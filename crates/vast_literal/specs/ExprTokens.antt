@@ -5,7 +5,7 @@ use Rattle.vast_literal.specs.Tokens.{Key, LogicKey, IntegerKey, IntKey, Posedge
 use Rattle.vast_literal.specs.Tree.{ExprTree, NameTree, LiteralTree, StringTree, UnaryTree, BinaryTree, TernaryTree, IndexTree, SliceTree, PartSelectTree, ConcatTree, PatternTree, WidthCastTree, TypeCastTree, PosEdgeTree, NegEdgeTree, MacroTree, CallTree, MissingExpr}
 use Rattle.vast_literal.specs.Tree.{TypeTree, ScalarTree, VectorTree, IntegerTree, IntTree, ExternalTree, PackageTree, PackedTree, UnpackedTree, MissingType}
 use Rattle.vast_literal.specs.Tree.{NoExpr, SomeExpr, Exprs, NoExprs, MoreExprs, NoArguments, SomeArguments}
-use Rattle.vast_literal.specs.NormalExpr.{unary_sign, binary_sign, sign_key, scalar_sign, integer_sign}
+use Rattle.vast_literal.specs.NormalExpr.{unary_operator_token, binary_operator_token, signing_key, scalar_sign, integer_sign}
 use Rattle.vast_literal.specs.Shape.{is_elided_index, is_elided_slice, unary_wraps, left_child_wraps, right_child_wraps, ternary_wraps, select_wraps}
 use Rattle.vast_literal.specs.LiteralToken.{is_number, literal_tokens}
 use Rattle.vast_literal.specs.Plain.{is_identifier}
@@ -56,9 +56,9 @@ unfoldable mutual
   expr_tokens (NameTree name type) = Word name ∷ []
   expr_tokens (LiteralTree text value) = literal_tokens text
   expr_tokens (StringTree text) = Quoted text ∷ []
-  expr_tokens (UnaryTree op operand) = Operator (unary_sign op) ∷ wrapped_tokens (unary_wraps operand) (expr_tokens operand)
+  expr_tokens (UnaryTree op operand) = Operator (unary_operator_token op) ∷ wrapped_tokens (unary_wraps operand) (expr_tokens operand)
   expr_tokens (BinaryTree op left right) =
-      wrapped_tokens (left_child_wraps op left) (expr_tokens left) ++ (Operator (binary_sign op) ∷ wrapped_tokens (right_child_wraps op right) (expr_tokens right))
+      wrapped_tokens (left_child_wraps op left) (expr_tokens left) ++ (Operator (binary_operator_token op) ∷ wrapped_tokens (right_child_wraps op right) (expr_tokens right))
   expr_tokens (TernaryTree condition consequent alternate) =
       wrapped_tokens (ternary_wraps condition) (expr_tokens condition) ++ (Mark Question ∷
       (wrapped_tokens (ternary_wraps consequent) (expr_tokens consequent) ++ (Mark Colon ∷ wrapped_tokens (ternary_wraps alternate) (expr_tokens alternate))))
@@ -85,7 +85,7 @@ unfoldable mutual
   pub cast_tokens : TypeTree → List Token → List Token
   cast_tokens (ScalarTree signed) ts = word_cast_tokens (scalar_sign signed) LogicKey ts
   cast_tokens (VectorTree width value signed) ts =
-      Reserved (sign_key signed) ∷ cast_operand (wrapped_tokens (not (is_bare_head width)) (expr_tokens width) ++ cast_operand ts)
+      Reserved (signing_key signed) ∷ cast_operand (wrapped_tokens (not (is_bare_head width)) (expr_tokens width) ++ cast_operand ts)
   cast_tokens (IntegerTree signed) ts = word_cast_tokens (integer_sign signed) IntegerKey ts
   cast_tokens (IntTree signed) ts = word_cast_tokens (integer_sign signed) IntKey ts
   cast_tokens (ExternalTree name) ts = Word name ∷ cast_operand ts

@@ -10,7 +10,7 @@ use Rattle.vast_literal.specs.Tree.{TypeTree, ScalarTree, VectorTree, IntegerTre
 use Rattle.vast_literal.specs.Tree.{NoExpr, SomeExpr, Exprs, NoExprs, MoreExprs, NoArguments, SomeArguments}
 use Rattle.vast_literal.specs.Shape.{is_elided_index, is_elided_slice}
 
--- A normal expression: names and tokens as they are written, signs and subexpressions; no parentheses and no types of names.
+-- A normal expression: names and tokens as they are written, operators and subexpressions; no parentheses and no types of names.
 mutual
   pub data NormalExpr : Type 0 where
     Name Literal Text MacroAlone : (bytes : List ℕ) → NormalExpr
@@ -32,51 +32,51 @@ mutual
     NoNormals : NormalExprs
     MoreNormals : NormalExpr → NormalExprs → NormalExprs
 
--- The sign of a unary operator.
-unfoldable pub unary_sign : UnaryOp → Op
-unary_sign NegateOp = Minus
-unary_sign BitwiseNotOp = BitNot
-unary_sign LogicalNotOp = LogicNot
-unary_sign AndReduceOp = BitAnd
-unary_sign OrReduceOp = BitOr
-unary_sign XorReduceOp = BitXor
+-- The token of a unary operator.
+unfoldable pub unary_operator_token : UnaryOp → Op
+unary_operator_token NegateOp = Minus
+unary_operator_token BitwiseNotOp = BitNot
+unary_operator_token LogicalNotOp = LogicNot
+unary_operator_token AndReduceOp = BitAnd
+unary_operator_token OrReduceOp = BitOr
+unary_operator_token XorReduceOp = BitXor
 
--- The sign of a binary operator; the comparisons with x are the case comparisons.
-unfoldable pub binary_sign : BinaryOp → Op
-binary_sign AddOp = Plus
-binary_sign SubOp = Minus
-binary_sign MulOp = Times
-binary_sign DivOp = Divide
-binary_sign ModOp = Modulo
-binary_sign PowerOp = Power
-binary_sign BitwiseAndOp = BitAnd
-binary_sign BitwiseOrOp = BitOr
-binary_sign BitwiseXorOp = BitXor
-binary_sign ShllOp = ShiftLeft
-binary_sign ShraOp = ShiftRightSigned
-binary_sign ShrlOp = ShiftRight
-binary_sign NeOp = NotEqual
-binary_sign CaseNeOp = CaseNotEqual
-binary_sign EqOp = Equal
-binary_sign CaseEqOp = CaseEqual
-binary_sign GeOp = GreaterEqual
-binary_sign GtOp = Greater
-binary_sign LeOp = LessEqual
-binary_sign LtOp = Less
-binary_sign LogicalAndOp = LogicAnd
-binary_sign LogicalOrOp = LogicOr
-binary_sign NeXOp = CaseNotEqual
-binary_sign EqXOp = CaseEqual
+-- The token of a binary operator; the comparisons with x are the case comparisons.
+unfoldable pub binary_operator_token : BinaryOp → Op
+binary_operator_token AddOp = Plus
+binary_operator_token SubOp = Minus
+binary_operator_token MulOp = Times
+binary_operator_token DivOp = Divide
+binary_operator_token ModOp = Modulo
+binary_operator_token PowerOp = Power
+binary_operator_token BitwiseAndOp = BitAnd
+binary_operator_token BitwiseOrOp = BitOr
+binary_operator_token BitwiseXorOp = BitXor
+binary_operator_token ShllOp = ShiftLeft
+binary_operator_token ShraOp = ShiftRightSigned
+binary_operator_token ShrlOp = ShiftRight
+binary_operator_token NeOp = NotEqual
+binary_operator_token CaseNeOp = CaseNotEqual
+binary_operator_token EqOp = Equal
+binary_operator_token CaseEqOp = CaseEqual
+binary_operator_token GeOp = GreaterEqual
+binary_operator_token GtOp = Greater
+binary_operator_token LeOp = LessEqual
+binary_operator_token LtOp = Less
+binary_operator_token LogicalAndOp = LogicAnd
+binary_operator_token LogicalOrOp = LogicOr
+binary_operator_token NeXOp = CaseNotEqual
+binary_operator_token EqXOp = CaseEqual
 
 -- A literal is its token, after a minus the negation of the token that is left.
 unfoldable pub normal_literal : (text : List ℕ) → NormalExpr
 normal_literal [] = Literal []
 normal_literal (c ∷ cs) = cond (eqb c 45) (Unary Minus (Literal cs)) (Literal (c ∷ cs))
 
--- The keyword of a sign.
-unfoldable pub sign_key : (signed : Bool) → Key
-sign_key true = SignedKey
-sign_key false = UnsignedKey
+-- The keyword that makes a value signed or unsigned.
+unfoldable pub signing_key : (signed : Bool) → Key
+signing_key true = SignedKey
+signing_key false = UnsignedKey
 
 -- A cast to `logic`, `integer` or `int`, and another by `word` around it where one is written.
 unfoldable pub normal_word_cast : (word : Option Key) (base : Key) (operand : NormalExpr) → NormalExpr
@@ -100,8 +100,8 @@ unfoldable mutual
   normal (NameTree name type) = Name name
   normal (LiteralTree text value) = normal_literal text
   normal (StringTree text) = Text text
-  normal (UnaryTree op operand) = Unary (unary_sign op) (normal operand)
-  normal (BinaryTree op left right) = Binary (binary_sign op) (normal left) (normal right)
+  normal (UnaryTree op operand) = Unary (unary_operator_token op) (normal operand)
+  normal (BinaryTree op left right) = Binary (binary_operator_token op) (normal left) (normal right)
   normal (TernaryTree condition consequent alternate) = Ternary (normal condition) (normal consequent) (normal alternate)
   normal (IndexTree subject index) = cond (is_elided_index subject index) (normal subject) (Index (normal subject) (normal index))
   normal (SliceTree subject high low) = cond (is_elided_slice subject high low) (normal subject) (Slice (normal subject) (normal high) (normal low))
@@ -121,7 +121,7 @@ unfoldable mutual
   -- The casts that a cast to a type is written as: a signed vector's is a cast by its width inside one by `signed`.
   pub normal_cast : TypeTree → (operand : NormalExpr) → NormalExpr
   normal_cast (ScalarTree signed) operand = normal_word_cast (scalar_sign signed) LogicKey operand
-  normal_cast (VectorTree width value signed) operand = WordCast (sign_key signed) (Cast (normal width) operand)
+  normal_cast (VectorTree width value signed) operand = WordCast (signing_key signed) (Cast (normal width) operand)
   normal_cast (IntegerTree signed) operand = normal_word_cast (integer_sign signed) IntegerKey operand
   normal_cast (IntTree signed) operand = normal_word_cast (integer_sign signed) IntKey operand
   normal_cast (ExternalTree name) operand = Cast (Name name) operand

@@ -42,16 +42,16 @@ precedence (BinaryTree o l r) = binary_precedence o
 precedence (UnaryTree o e) = 12
 precedence _ = 13
 
-abbrev pub is_reduction_sign : UnaryOp → Bool
-is_reduction_sign NegateOp = false
-is_reduction_sign BitwiseNotOp = false
-is_reduction_sign LogicalNotOp = false
-is_reduction_sign AndReduceOp = true
-is_reduction_sign OrReduceOp = true
-is_reduction_sign XorReduceOp = true
+abbrev pub is_reduction_operator : UnaryOp → Bool
+is_reduction_operator NegateOp = false
+is_reduction_operator BitwiseNotOp = false
+is_reduction_operator LogicalNotOp = false
+is_reduction_operator AndReduceOp = true
+is_reduction_operator OrReduceOp = true
+is_reduction_operator XorReduceOp = true
 
 abbrev pub is_reduction : ExprTree → Bool
-is_reduction (UnaryTree o e) = is_reduction_sign o
+is_reduction (UnaryTree o e) = is_reduction_operator o
 is_reduction _ = false
 
 abbrev pub is_width_cast : ExprTree → Bool
@@ -99,15 +99,15 @@ is_elided_index subject index = is_scalar_name subject && is_zero index
 abbrev pub is_elided_slice : (subject high low : ExprTree) → Bool
 is_elided_slice subject high low = is_scalar_name subject && (is_zero high && is_zero low)
 
--- Under a unary sign: what binds no more tightly than a unary, a width cast, a literal with a minus.
+-- Under a unary operator: what binds no more tightly than a unary, a width cast, a literal with a minus.
 abbrev pub unary_wraps : ExprTree → Bool
 unary_wraps e = nat_le (precedence e) 12 || (is_width_cast e || is_negative_literal e)
 
--- To the left of a binary sign: what binds less tightly, a reduction.
+-- To the left of a binary operator: what binds less tightly, a reduction.
 abbrev pub left_child_wraps : BinaryOp → ExprTree → Bool
 left_child_wraps o e = nat_lt (precedence e) (binary_precedence o) || is_reduction e
 
--- To the right of a binary sign: what binds no more tightly, a reduction.
+-- To the right of a binary operator: what binds no more tightly, a reduction.
 abbrev pub right_child_wraps : BinaryOp → ExprTree → Bool
 right_child_wraps o e = nat_le (precedence e) (binary_precedence o) || is_reduction e
 
@@ -115,7 +115,7 @@ right_child_wraps o e = nat_le (precedence e) (binary_precedence o) || is_reduct
 abbrev pub ternary_wraps : ExprTree → Bool
 ternary_wraps e = precedence e == 0
 
--- Before brackets: whatever has a sign, a literal with a minus.
+-- Before brackets: whatever has an operator, a literal with a minus.
 abbrev pub select_wraps : ExprTree → Bool
 select_wraps e = nat_lt (precedence e) 13 || is_negative_literal e
 

@@ -1,6 +1,6 @@
-//! The signs of expressions, by the names of the crate xlsynth-vast's `UnaryOp` and `BinaryOp`.
+//! The operators of expressions, by the names of the crate xlsynth-vast's `UnaryOp` and `BinaryOp`.
 
-/// The sign before an operand.
+/// The operator before an operand.
 #[derive(Clone, Copy, Debug, PartialEq, Eq, Hash)]
 pub enum UnaryOperator {
     Negate,
@@ -11,7 +11,7 @@ pub enum UnaryOperator {
     XorReduce,
 }
 
-/// The sign between two operands. `NeX` and `EqX` compare with an unknown value, as `CaseNe` and `CaseEq` do.
+/// The operator between two operands. `NeX` and `EqX` compare with an unknown value, as `CaseNe` and `CaseEq` do.
 #[derive(Clone, Copy, Debug, PartialEq, Eq, Hash)]
 pub enum BinaryOperator {
     Add,

@@ -14,7 +14,7 @@ use Rattle.vast_literal.specs.Shape.{is_scalar_name, is_zero}
 use Rattle.vast_print.specs.declared.refusal.Refusal.{Refusal}
 use Rattle.vast_print.specs.declared.refusal.Refusal.TheVariants.{ScalarIndex, ScalarSlice}
 use Rattle.vast_print.specs.Printed.{Printed, plain_text, refused, ◌⊕◌, wrapped}
-use Rattle.vast_print.specs.Levels.{unary_sign_text, binary_sign_text}
+use Rattle.vast_print.specs.Levels.{unary_operator_text, binary_operator_text}
 use Rattle.vast_print.specs.Bare.{is_number, begins_word, continues_word, is_word, is_bare, is_bare_head}
 use Rattle.vast_print.specs.Text.{elided, cast_to, width_cast, expr_text, type_cast}
 
@@ -111,7 +111,7 @@ broken-cast : (head p : Printed) → Broken (cast_to head p).text
 unfolding cast_to
 broken-cast head p = broken-ends (head ⊕ plain_text (codes "'(") ⊕ p) (codes ")") (record { broken = refl })
 
-broken-unary : (o : UnaryOp) → Broken (unary_sign_text o)
+broken-unary : (o : UnaryOp) → Broken (unary_operator_text o)
 broken-unary NegateOp = record { broken = refl }
 broken-unary BitwiseNotOp = record { broken = refl }
 broken-unary LogicalNotOp = record { broken = refl }
@@ -119,7 +119,7 @@ broken-unary AndReduceOp = record { broken = refl }
 broken-unary OrReduceOp = record { broken = refl }
 broken-unary XorReduceOp = record { broken = refl }
 
-broken-binary : (o : BinaryOp) → Broken (binary_sign_text o)
+broken-binary : (o : BinaryOp) → Broken (binary_operator_text o)
 broken-binary AddOp = record { broken = refl }
 broken-binary SubOp = record { broken = refl }
 broken-binary MulOp = record { broken = refl }
@@ -186,8 +186,8 @@ unfolding expr_text is_bare_head plain_text
 bare-head (NameTree name type) = refl
 bare-head (LiteralTree text value) = refl
 bare-head (StringTree text) = refl
-bare-head (UnaryTree o e) = broken-bare _ (broken-begins (unary_sign_text o) _ (broken-unary o))
-bare-head (BinaryTree o l r) = broken-bare _ (broken-then _ _ (broken-ends _ (binary_sign_text o) (broken-binary o)))
+bare-head (UnaryTree o e) = broken-bare _ (broken-begins (unary_operator_text o) _ (broken-unary o))
+bare-head (BinaryTree o l r) = broken-bare _ (broken-then _ _ (broken-ends _ (binary_operator_text o) (broken-binary o)))
 bare-head (TernaryTree c l r) =
     broken-bare _ (broken-then _ _ (broken-ends _ (codes " : ") (record { broken = refl })))
 bare-head (IndexTree s i) =

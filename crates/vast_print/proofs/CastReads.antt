@@ -13,7 +13,7 @@ use Rattle.vast_literal.specs.Tree.{TypeTree, ScalarTree, VectorTree, IntegerTre
 use Rattle.vast_literal.specs.Scan.{is_letter, is_digit, is_word_byte}
 use Rattle.vast_literal.specs.Spelling.{op_text}
 use Rattle.vast_literal.specs.LiteralToken.{every, is_number, is_bare_literal, is_literal_text, is_string_text}
-use Rattle.vast_literal.specs.NormalExpr.{unary_sign, binary_sign, scalar_sign, integer_sign, sign_key}
+use Rattle.vast_literal.specs.NormalExpr.{unary_operator_token, binary_operator_token, scalar_sign, integer_sign, signing_key}
 use Rattle.vast_literal.specs.Plain.{is_identifier, is_plain_name}
 use Rattle.vast_literal.specs.ExprTokens.{expr_tokens, cast_tokens, each_tokens, comma_tokens, comma_tail_tokens, argument_tokens, called_token, cast_operand, wrapped_tokens, word_cast_tokens}
 use Rattle.vast_literal.specs.ExprTokens as Tokens
@@ -27,7 +27,7 @@ use Rattle.vast_literal.specs.Shape.{is_scalar_name, is_zero, select_wraps, unar
 use Rattle.vast_print.specs.declared.refusal.Refusal.{Refusal}
 use Rattle.vast_print.specs.declared.refusal.Refusal.TheVariants.{ScalarIndex, ScalarSlice}
 use Rattle.vast_print.specs.Printed.{Printed, plain_text, ◌⊕◌, wrapped}
-use Rattle.vast_print.specs.Levels.{unary_sign_text, binary_sign_text}
+use Rattle.vast_print.specs.Levels.{unary_operator_text, binary_operator_text}
 use Rattle.vast_print.specs.Bare.{is_bare}
 use Rattle.vast_print.specs.Bare as Bare
 use Rattle.vast_print.specs.Text.{elided, cast_to, width_cast, sign_cast, scalar_cast, number_cast, package_text, expr_text, type_cast}
@@ -39,21 +39,21 @@ use Rattle.vast_print.proofs.Shapes.{cast_left, head_reads}
 
 -- signs
 
-pub unary_same : (o : UnaryOp) → unary_sign_text o ≡ op_text (unary_sign o)
-unfolding unary_sign
+pub unary_same : (o : UnaryOp) → unary_operator_text o ≡ op_text (unary_operator_token o)
+unfolding unary_operator_token
 unary_same NegateOp = refl
 unary_same _ = refl
 
-pub binary_same : (o : BinaryOp) → binary_sign_text o ≡ (32 ∷ (op_text (binary_sign o) ++ (32 ∷ [])))
-unfolding binary_sign
+pub binary_same : (o : BinaryOp) → binary_operator_text o ≡ (32 ∷ (op_text (binary_operator_token o) ++ (32 ∷ [])))
+unfolding binary_operator_token
 binary_same AddOp = refl
 binary_same _ = refl
 
-pub binary_divides : (o : BinaryOp) → Divides (binary_sign_text o) (Operator (binary_sign o) ∷ [])
-binary_divides o = subst (λ (a : List ℕ). Divides a (Operator (binary_sign o) ∷ [])) (sym (binary_same o)) (operator_divides (binary_sign o))
+pub binary_divides : (o : BinaryOp) → Divides (binary_operator_text o) (Operator (binary_operator_token o) ∷ [])
+binary_divides o = subst (λ (a : List ℕ). Divides a (Operator (binary_operator_token o) ∷ [])) (sym (binary_same o)) (operator_divides (binary_operator_token o))
 
-pub unary_reads : (o : UnaryOp) (a : List ℕ) {ts : List Token} → opens true a ≡ true → Reads a ts → Reads (unary_sign_text o ++ a) (Operator (unary_sign o) ∷ ts)
-unary_reads o a {ts = ts} h f = subst (λ (s : List ℕ). Reads (s ++ a) (Operator (unary_sign o) ∷ ts)) (sym (unary_same o)) (sign_reads o a h f)
+pub unary_reads : (o : UnaryOp) (a : List ℕ) {ts : List Token} → opens true a ≡ true → Reads a ts → Reads (unary_operator_text o ++ a) (Operator (unary_operator_token o) ∷ ts)
+unary_reads o a {ts = ts} h f = subst (λ (s : List ℕ). Reads (s ++ a) (Operator (unary_operator_token o) ∷ ts)) (sym (unary_same o)) (sign_reads o a h f)
 
 binary_never : (o : BinaryOp) → nat_le (binary_precedence o) 12 ≡ true
 binary_never AddOp = refl
@@ -163,8 +163,8 @@ package_reads s n p h k f = cast_reads (package_text s n) p (Word s ∷ (Mark Do
 
 -- casts to types
 
-pub sign_reads_cast : (signed : Bool) (p : Printed) {ts : List Token} → Reads p.text ts → Reads (cast_to (sign_cast signed) p).text (Reserved (sign_key signed) ∷ cast_operand ts)
-unfolding sign_key key_text
+pub sign_reads_cast : (signed : Bool) (p : Printed) {ts : List Token} → Reads p.text ts → Reads (cast_to (sign_cast signed) p).text (Reserved (signing_key signed) ∷ cast_operand ts)
+unfolding signing_key key_text
 sign_reads_cast true p f = key_reads SignedKey p (codes "signed") refl f
 sign_reads_cast false p f = key_reads UnsignedKey p (codes "unsigned") refl f
 

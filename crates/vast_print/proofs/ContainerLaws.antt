@@ -26,7 +26,7 @@ use Rattle.vast_print.specs.Page.{written}
 use Rattle.vast_print.specs.Ink.{Ink, word, next, hang, pour}
 use Rattle.vast_print.specs.Text.{expr_text}
 use Rattle.vast_print.specs.Words.{separator}
-use Rattle.vast_print.specs.Statements.{assign_sign, unique_word, case_word, label_text, statement_page, statements_page, block_page, alternates_page, arms_page, arm_page, arm_body_page}
+use Rattle.vast_print.specs.Statements.{assignment_operator, unique_word, case_word, label_text, statement_page, statements_page, block_page, alternates_page, arms_page, arm_page, arm_body_page}
 use Rattle.vast_print.specs.Members.{input_text, local_page, locals_page, loop_text, member_page, members_page}
 use Rattle.vast_literal.specs.Shape.{is_one_casez}
 use Rattle.vast_print.proofs.Lines.{word-nothing, word-word}
@@ -41,7 +41,7 @@ use Rattle.vast_print.proofs.ArenaLaws.{stops, declarations, map-map}
 
 pub pour-assigned : (d : ℕ) (k : Ink) (nonblocking : Bool) (l r : ExprTree) →
     pour d k (statement_page (AssignTree (form_of nonblocking) l r))
-    ≡ word (pour d (word (pour d k (written (expr_text l))) (assign_sign (form_of nonblocking))) (written (expr_text r))) (codes ";")
+    ≡ word (pour d (word (pour d k (written (expr_text l))) (assignment_operator (form_of nonblocking))) (written (expr_text r))) (codes ";")
 pour-assigned d k true l r = rw (word-nothing k) at (pour-assign d k Nonblocking l r)
 pour-assigned d k false l r = rw (word-nothing k) at (pour-assign d k Blocking l r)
 

@@ -18,7 +18,7 @@ use Rattle.vast_literal.specs.Shape.{is_scalar_name, is_zero, left_child_wraps, 
 use Rattle.vast_print.specs.declared.refusal.Refusal.{Refusal}
 use Rattle.vast_print.specs.declared.refusal.Refusal.TheVariants.{ScalarIndex, ScalarSlice}
 use Rattle.vast_print.specs.Printed.{Printed, plain_text, ◌⊕◌, wrapped}
-use Rattle.vast_print.specs.Levels.{unary_sign_text}
+use Rattle.vast_print.specs.Levels.{unary_operator_text}
 use Rattle.vast_print.specs.Bare.{is_bare}
 use Rattle.vast_print.specs.Text.{elided, cast_to, width_cast, package_text, expr_text, type_cast}
 use Rattle.vast_print.proofs.FaultLaws.{elided_text}
@@ -112,7 +112,7 @@ low : (o : BinaryOp) → not (nat_lt (binary_precedence o) 13 || false) ≡ fals
 low AddOp = refl
 low _ = refl
 
-sign_opens : (o : UnaryOp) (p : Printed) → opens false (plain_text (unary_sign_text o) ⊕ p).text ≡ true
+sign_opens : (o : UnaryOp) (p : Printed) → opens false (plain_text (unary_operator_text o) ⊕ p).text ≡ true
 unfolding ◌⊕◌ plain_text
 sign_opens NegateOp p = refl
 sign_opens _ p = refl

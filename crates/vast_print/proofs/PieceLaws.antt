@@ -13,7 +13,7 @@ use Rattle.vast_print.specs.declared.refusal.Refusal.{Refusal}
 use Rattle.vast_print.specs.Printed.{Printed, first_fault, plain_text, ◌⊕◌, wrapped}
 use Rattle.vast_print.specs.Page.{written}
 use Rattle.vast_print.specs.Ink.{Ink, word, pour}
-use Rattle.vast_print.specs.Levels.{binary_sign_text}
+use Rattle.vast_print.specs.Levels.{binary_operator_text}
 use Rattle.vast_print.specs.Text.{expr_text, list_text, more_text, type_cast}
 use Rattle.vast_print.specs.Words.{separator, scalar_cast_closing, number_cast_closing}
 use Rattle.vast_print.specs.Pieces.{piece_text, piece_weight, PieceOwned, pieces_text, pieces_weight, PiecesOwned, exprs_weight, expr_weight}
@@ -88,7 +88,7 @@ pub ruleset pushes = (text-push, weight-push, owned-push, owned-pop, no-pieces-t
 
 pub pour-operands : (d : ℕ) (k : Ink) (o : BinaryOp) (l r : ExprTree) →
     pour d k (written (expr_text (BinaryTree o l r)))
-    ≡ pour d (pour d (pour d k (written (wrapped (left_child_wraps o l) (expr_text l)))) (written (plain_text (binary_sign_text o)))) (written (wrapped (right_child_wraps o r) (expr_text r)))
+    ≡ pour d (pour d (pour d k (written (wrapped (left_child_wraps o l) (expr_text l)))) (written (plain_text (binary_operator_text o)))) (written (wrapped (right_child_wraps o r) (expr_text r)))
 unfolding expr_text
 pour-operands d k o l r = simp pour-then
 

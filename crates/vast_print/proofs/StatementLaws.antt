@@ -11,7 +11,7 @@ use Rattle.vast_print.specs.Printed.{plain_text, ◌⊕◌}
 use Rattle.vast_print.specs.Page.{line, inner, above, written, commented}
 use Rattle.vast_print.specs.Ink.{Ink, word, next, hang, pour}
 use Rattle.vast_print.specs.Text.{expr_text}
-use Rattle.vast_print.specs.Statements.{assign_opening, assign_sign, case_word, unique_word, label_text, begin_end, statement_page, statements_page, block_page, alternates_page, arms_page, arm_body_page, arm_page}
+use Rattle.vast_print.specs.Statements.{assign_opening, assignment_operator, case_word, unique_word, label_text, begin_end, statement_page, statements_page, block_page, alternates_page, arms_page, arm_body_page, arm_page}
 use Rattle.vast_print.proofs.InkLaws.{hang-line, pour-line, hang-none, pour-none, hang-blank, hang-above, pour-above, pour-beside, hang-beside, hang-line-above, hang-inner, hang-written, pour-then, pour-word}
 
 pour-opening : (d : ℕ) (k : Ink) (form : AssignForm) → pour d k (written (plain_text (assign_opening form))) ≡ word k (assign_opening form)
@@ -19,20 +19,20 @@ pour-opening d k Blocking = pour-word d k [] refl
 pour-opening d k Nonblocking = pour-word d k [] refl
 pour-opening d k Continuous = pour-word d k (codes "assign ") refl
 
-pour-sign : (d : ℕ) (k : Ink) (form : AssignForm) → pour d k (written (plain_text (assign_sign form))) ≡ word k (assign_sign form)
+pour-sign : (d : ℕ) (k : Ink) (form : AssignForm) → pour d k (written (plain_text (assignment_operator form))) ≡ word k (assignment_operator form)
 pour-sign d k Blocking = pour-word d k (codes " = ") refl
 pour-sign d k Nonblocking = pour-word d k (codes " <= ") refl
 pour-sign d k Continuous = pour-word d k (codes " = ") refl
 
 pub hang-assign : (d : ℕ) (k : Ink) (form : AssignForm) (l r : ExprTree) →
     hang d k (statement_page (AssignTree form l r))
-    ≡ word (pour d (word (pour d (word (next d k) (assign_opening form)) (written (expr_text l))) (assign_sign form)) (written (expr_text r))) (codes ";")
+    ≡ word (pour d (word (pour d (word (next d k) (assign_opening form)) (written (expr_text l))) (assignment_operator form)) (written (expr_text r))) (codes ";")
 unfolding statement_page
 hang-assign d k form l r = hang-written d k _ ∙ simp (pour-then, pour-opening, pour-sign, pour-word)
 
 pub pour-assign : (d : ℕ) (k : Ink) (form : AssignForm) (l r : ExprTree) →
     pour d k (statement_page (AssignTree form l r))
-    ≡ word (pour d (word (pour d (word k (assign_opening form)) (written (expr_text l))) (assign_sign form)) (written (expr_text r))) (codes ";")
+    ≡ word (pour d (word (pour d (word k (assign_opening form)) (written (expr_text l))) (assignment_operator form)) (written (expr_text r))) (codes ";")
 unfolding statement_page
 pour-assign d k form l r = simp (pour-then, pour-opening, pour-sign, pour-word)
 

@@ -11,7 +11,7 @@ use Rattle.vast_print.specs.Printed.{Printed, plain_text, wrapped}
 use Rattle.vast_print.specs.Page.{written}
 use Rattle.vast_print.specs.Draft.{Draft}
 use Rattle.vast_print.specs.Ink.{Ink, Wet, Stopped, word, pour}
-use Rattle.vast_print.specs.Levels.{unary_sign_text}
+use Rattle.vast_print.specs.Levels.{unary_operator_text}
 use Rattle.vast_print.specs.Bare.{is_bare, is_bare_head}
 use Rattle.vast_print.specs.Text.{elided, cast_to, width_cast, package_text, expr_text, arguments_text, replicated, list_text, type_cast}
 use Rattle.vast_print.specs.Words.{cast_sign_word, scalar_cast_opening, scalar_cast_closing, number_cast_opening, number_cast_closing}
@@ -45,7 +45,7 @@ pour-string d k text = refl
 
 -- operators
 
-pour-unary-sign : (d : ℕ) (k : Ink) (o : UnaryOp) → pour d k (written (plain_text (unary_sign_text o))) ≡ word k (unary_sign_text o)
+pour-unary-sign : (d : ℕ) (k : Ink) (o : UnaryOp) → pour d k (written (plain_text (unary_operator_text o))) ≡ word k (unary_operator_text o)
 pour-unary-sign d k NegateOp = pour-word d k (codes "-") refl
 pour-unary-sign d k BitwiseNotOp = pour-word d k (codes "~") refl
 pour-unary-sign d k LogicalNotOp = pour-word d k (codes "!") refl
@@ -54,10 +54,10 @@ pour-unary-sign d k OrReduceOp = pour-word d k (codes "|") refl
 pour-unary-sign d k XorReduceOp = pour-word d k (codes "^") refl
 
 pub pour-unary : (d : ℕ) (k : Ink) (o : UnaryOp) (e : ExprTree) →
-    pour d k (written (expr_text (UnaryTree o e))) ≡ pour d (word k (unary_sign_text o)) (written (wrapped (unary_wraps e) (expr_text e)))
+    pour d k (written (expr_text (UnaryTree o e))) ≡ pour d (word k (unary_operator_text o)) (written (wrapped (unary_wraps e) (expr_text e)))
 unfolding expr_text
 pour-unary d k o e =
-    pour-then d k (plain_text (unary_sign_text o)) (wrapped (unary_wraps e) (expr_text e))
+    pour-then d k (plain_text (unary_operator_text o)) (wrapped (unary_wraps e) (expr_text e))
     ∙ ap (λ j. pour d j (written (wrapped (unary_wraps e) (expr_text e)))) (pour-unary-sign d k o)
 
 pub pour-ternary : (d : ℕ) (k : Ink) (c l r : ExprTree) →

@@ -96,3 +96,7 @@ Begins b d old new before after p weight (Ok _) =
     × PiecesOwned b after
 Begins b d old new before after p weight (Err (Refused r)) = pour d (Wet old) (written p) ≡ Stopped r
 Begins b d old new before after p weight (Err (Memory error)) = Unit {0}
+
+-- an expression is begun
+abbrev pub BeginsExpr : Bench → ℕ → (old new : Draft) → (before after : List Piece) → ExprTree → Result (Unit {0}) PrintFault → Type 0
+BeginsExpr b d old new before after e result = Begins b d old new before after (expr_text e) (expr_weight e) result

@@ -16,13 +16,13 @@ assign_opening Blocking = []
 assign_opening Nonblocking = []
 assign_opening Continuous = codes "assign "
 
-abbrev pub assign_sign : AssignForm → List ℕ
-assign_sign Blocking = codes " = "
-assign_sign Nonblocking = codes " <= "
-assign_sign Continuous = codes " = "
+abbrev pub assignment_operator : AssignForm → List ℕ
+assignment_operator Blocking = codes " = "
+assignment_operator Nonblocking = codes " <= "
+assignment_operator Continuous = codes " = "
 
 abbrev pub assign_text : AssignForm → (left right : Printed) → Printed
-assign_text form left right = plain_text (assign_opening form) ⊕ left ⊕ plain_text (assign_sign form) ⊕ right ⊕ plain_text (codes ";")
+assign_text form left right = plain_text (assign_opening form) ⊕ left ⊕ plain_text (assignment_operator form) ⊕ right ⊕ plain_text (codes ";")
 
 abbrev pub case_word : CaseWord → List ℕ
 case_word CaseExact = codes "case ("

@@ -9,7 +9,7 @@ use Rattle.vast_print.specs.declared.refusal.Refusal.{Refusal}
 use Rattle.vast_print.specs.declared.refusal.Refusal.TheVariants.{ScalarIndex, ScalarSlice}
 use Rattle.vast_print.specs.Printed.{Printed, plain_text, refused, ◌⊕◌, wrapped}
 use Rattle.vast_print.specs.Bare.{is_bare}
-use Rattle.vast_print.specs.Levels.{unary_sign_text, binary_sign_text}
+use Rattle.vast_print.specs.Levels.{unary_operator_text, binary_operator_text}
 
 -- a select of a scalar is its name alone, and refused where a bound isn't zero
 unfoldable pub elided : Bool → Refusal → Printed → Printed
@@ -46,10 +46,10 @@ unfoldable mutual
   expr_text (NameTree name type) = plain_text name
   expr_text (LiteralTree text value) = plain_text text
   expr_text (StringTree text) = plain_text text
-  expr_text (UnaryTree o e) = plain_text (unary_sign_text o) ⊕ wrapped (unary_wraps e) (expr_text e)
+  expr_text (UnaryTree o e) = plain_text (unary_operator_text o) ⊕ wrapped (unary_wraps e) (expr_text e)
   expr_text (BinaryTree o l r) =
       wrapped (left_child_wraps o l) (expr_text l)
-      ⊕ plain_text (binary_sign_text o)
+      ⊕ plain_text (binary_operator_text o)
       ⊕ wrapped (right_child_wraps o r) (expr_text r)
   expr_text (TernaryTree c l r) =
       wrapped (ternary_wraps c) (expr_text c)

@@ -18,7 +18,7 @@ use crate::words;
 use crate::writer::Writer;
 use vast_core::{Assignment, Ast, VastStatement};
 
-/// Writes both sides of an assignment behind the last line, with this sign between them.
+/// Writes both sides of an assignment behind the last line, with this operator between them.
 #[tactic(auto, using(crate::proofs::ArenaLaws::stops))]
 fn print_sides(
     ast: &Ast,
@@ -83,7 +83,7 @@ pub(crate) fn print_assigned(
     print_sides(
         ast,
         assignment,
-        words::assign_sign(assignment.nonblocking),
+        words::assignment_operator(assignment.nonblocking),
         depth,
         out,
     )

@@ -3,8 +3,7 @@
 ghost use Rattle.vast_literal.specs.Tree.{WidthCastTree, TypeCastTree, ScalarTree, IntegerTree, IntTree, ExternalTree, PackageTree};
 ghost use Rattle.vast_core.specs.Bench.{OwnsExpr, OwnsType, tree_of, type_of};
 ghost use Rattle.vast_core.specs.View.{bench};
-ghost use Rattle.vast_print.specs.Pieces.{expr_weight, PiecesOwned, Begins};
-ghost use Rattle.vast_print.specs.Text.{expr_text};
+ghost use Rattle.vast_print.specs.Pieces.{PiecesOwned, BeginsExpr};
 
 use crate::levels::is_bare_expr;
 use crate::pieces::{Piece, push_part, push_plain};
@@ -27,12 +26,8 @@ pub(crate) fn begin_width_cast(
     requires width { OwnsExpr (bench ast.now) width }
     requires operand { OwnsExpr (bench ast.now) operand }
     requires owned { PiecesOwned (bench ast.now) work.old.items }
-    ensures { Begins (bench ast.now) depth out.old out.new work.old.items work.new.items
-        (expr_text
-        (WidthCastTree (tree_of (bench ast.now) width) (tree_of (bench ast.now) operand)))
-        (expr_weight
-        (WidthCastTree (tree_of (bench ast.now) width) (tree_of (bench ast.now) operand)))
-        result }
+    ensures { BeginsExpr (bench ast.now) depth out.old out.new work.old.items work.new.items
+        (WidthCastTree (tree_of (bench ast.now) width) (tree_of (bench ast.now) operand)) result }
 {
     push_plain(ast, ")", work)?;
     push_part(ast, operand, false, work)?;
@@ -52,9 +47,8 @@ fn begin_scalar_cast(
 ) -> Result<(), PrintFault>
     requires operand { OwnsExpr (bench ast.now) operand }
     requires owned { PiecesOwned (bench ast.now) work.old.items }
-    ensures { Begins (bench ast.now) depth out.old out.new work.old.items work.new.items
-        (expr_text (TypeCastTree (ScalarTree signed) (tree_of (bench ast.now) operand)))
-        (expr_weight (TypeCastTree (ScalarTree signed) (tree_of (bench ast.now) operand))) result }
+    ensures { BeginsExpr (bench ast.now) depth out.old out.new work.old.items work.new.items
+        (TypeCastTree (ScalarTree signed) (tree_of (bench ast.now) operand)) result }
 {
     out.word(scalar_cast(signed))?;
     push_plain(ast, scalar_cast_end(signed), work)?;
@@ -73,9 +67,8 @@ fn begin_integer_cast(
 ) -> Result<(), PrintFault>
     requires operand { OwnsExpr (bench ast.now) operand }
     requires owned { PiecesOwned (bench ast.now) work.old.items }
-    ensures { Begins (bench ast.now) depth out.old out.new work.old.items work.new.items
-        (expr_text (TypeCastTree (IntegerTree signed) (tree_of (bench ast.now) operand)))
-        (expr_weight (TypeCastTree (IntegerTree signed) (tree_of (bench ast.now) operand))) result }
+    ensures { BeginsExpr (bench ast.now) depth out.old out.new work.old.items work.new.items
+        (TypeCastTree (IntegerTree signed) (tree_of (bench ast.now) operand)) result }
 {
     out.word(integer_cast(signed))?;
     push_plain(ast, number_cast_end(signed), work)?;
@@ -94,9 +87,8 @@ fn begin_int_cast(
 ) -> Result<(), PrintFault>
     requires operand { OwnsExpr (bench ast.now) operand }
     requires owned { PiecesOwned (bench ast.now) work.old.items }
-    ensures { Begins (bench ast.now) depth out.old out.new work.old.items work.new.items
-        (expr_text (TypeCastTree (IntTree signed) (tree_of (bench ast.now) operand)))
-        (expr_weight (TypeCastTree (IntTree signed) (tree_of (bench ast.now) operand))) result }
+    ensures { BeginsExpr (bench ast.now) depth out.old out.new work.old.items work.new.items
+        (TypeCastTree (IntTree signed) (tree_of (bench ast.now) operand)) result }
 {
     out.word(int_cast(signed))?;
     push_plain(ast, number_cast_end(signed), work)?;
@@ -115,10 +107,8 @@ fn begin_external_cast(
 ) -> Result<(), PrintFault>
     requires operand { OwnsExpr (bench ast.now) operand }
     requires owned { PiecesOwned (bench ast.now) work.old.items }
-    ensures { Begins (bench ast.now) depth out.old out.new work.old.items work.new.items
-        (expr_text (TypeCastTree (ExternalTree name.now) (tree_of (bench ast.now) operand)))
-        (expr_weight (TypeCastTree (ExternalTree name.now) (tree_of (bench ast.now) operand)))
-        result }
+    ensures { BeginsExpr (bench ast.now) depth out.old out.new work.old.items work.new.items
+        (TypeCastTree (ExternalTree name.now) (tree_of (bench ast.now) operand)) result }
 {
     out.written(depth, name)?;
     out.word("'(")?;
@@ -139,13 +129,9 @@ fn begin_package_cast(
 ) -> Result<(), PrintFault>
     requires operand { OwnsExpr (bench ast.now) operand }
     requires owned { PiecesOwned (bench ast.now) work.old.items }
-    ensures { Begins (bench ast.now) depth out.old out.new work.old.items work.new.items
-        (expr_text
-        (TypeCastTree (PackageTree package_name.now name.now)
-        (tree_of (bench ast.now) operand)))
-        (expr_weight
-        (TypeCastTree (PackageTree package_name.now name.now)
-        (tree_of (bench ast.now) operand))) result }
+    ensures { BeginsExpr (bench ast.now) depth out.old out.new work.old.items work.new.items
+        (TypeCastTree (PackageTree package_name.now name.now) (tree_of (bench ast.now) operand))
+        result }
 {
     out.written(depth, package_name)?;
     out.word("::")?;
@@ -169,11 +155,8 @@ pub(crate) fn begin_type_cast(
     requires data_type { OwnsType (bench ast.now) data_type }
     requires operand { OwnsExpr (bench ast.now) operand }
     requires owned { PiecesOwned (bench ast.now) work.old.items }
-    ensures { Begins (bench ast.now) depth out.old out.new work.old.items work.new.items
-        (expr_text
-        (TypeCastTree (type_of (bench ast.now) data_type) (tree_of (bench ast.now) operand)))
-        (expr_weight
-        (TypeCastTree (type_of (bench ast.now) data_type) (tree_of (bench ast.now) operand)))
+    ensures { BeginsExpr (bench ast.now) depth out.old out.new work.old.items work.new.items
+        (TypeCastTree (type_of (bench ast.now) data_type) (tree_of (bench ast.now) operand))
         result }
 {
     match ast.data_type(data_type) {

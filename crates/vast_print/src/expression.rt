@@ -7,7 +7,7 @@ ghost use Rattle.vast_print.specs.Ink.{Writes, Wet, pour};
 ghost use Rattle.vast_print.specs.Page.{written};
 ghost use Rattle.vast_print.specs.Printed.{wrapped};
 ghost use Rattle.vast_print.specs.Text.{expr_text};
-ghost use Rattle.vast_print.specs.Pieces.{expr_weight, piece_weight, piece_text, PieceOwned, PiecesOwned, Begins};
+ghost use Rattle.vast_print.specs.Pieces.{expr_weight, piece_weight, piece_text, PieceOwned, PiecesOwned, Begins, BeginsExpr};
 
 use crate::casts::{begin_type_cast, begin_width_cast};
 use crate::lists::{begin_call, begin_concat, begin_macro, begin_pattern};
@@ -118,8 +118,8 @@ fn begin(
 ) -> Result<(), PrintFault>
     requires part { OwnsExpr (bench ast.now) e }
     requires owned { PiecesOwned (bench ast.now) work.old.items }
-    ensures { Begins (bench ast.now) depth out.old out.new work.old.items work.new.items
-        (expr_text (tree_of (bench ast.now) e)) (expr_weight (tree_of (bench ast.now) e)) result }
+    ensures { BeginsExpr (bench ast.now) depth out.old out.new work.old.items work.new.items
+        (tree_of (bench ast.now) e) result }
 {
     match ast.expr(e) {
         ExprNode::Name(text, _) => out.written(depth, text)?,

@@ -1,18 +1,18 @@
 //! Operators, their precedence, and where parentheses stand.
 
 ghost use Rattle.std.specs.Prelude.{◌≡◌};
-ghost use Rattle.vast_literal.specs.Shape.{binary_precedence, is_negative_literal, is_reduction, is_reduction_sign, is_scalar_name, is_scalar_type, is_width_cast, is_zero, left_child_wraps, limit_wraps, precedence, right_child_wraps, select_wraps, ternary_wraps, unary_wraps};
+ghost use Rattle.vast_literal.specs.Shape.{binary_precedence, is_negative_literal, is_reduction, is_reduction_operator, is_scalar_name, is_scalar_type, is_width_cast, is_zero, left_child_wraps, limit_wraps, precedence, right_child_wraps, select_wraps, ternary_wraps, unary_wraps};
 ghost use Rattle.vast_core.specs.Bench.{OwnsExpr, OwnsType, tree_of, type_of};
 ghost use Rattle.vast_core.specs.View.{bench};
 ghost use Rattle.vast_print.specs.Bare.{is_bare_head};
-ghost use Rattle.vast_print.specs.Levels.{unary_sign_text, binary_sign_text};
+ghost use Rattle.vast_print.specs.Levels.{unary_operator_text, binary_operator_text};
 
 use crate::bare::is_bare;
 use vast_core::{Ast, BinaryOperator, Expr, ExprNode, TypeNode, UnaryOperator, VastDataType};
 
-/// The sign before an operand.
-pub(crate) fn unary_sign(operator: UnaryOperator) -> &'static str
-    ensures { result.now ≡ unary_sign_text operator }
+/// The operator before an operand.
+pub(crate) fn unary_operator_text(operator: UnaryOperator) -> &'static str
+    ensures { result.now ≡ unary_operator_text operator }
 {
     match operator {
         UnaryOperator::Negate => "-",
@@ -24,9 +24,9 @@ pub(crate) fn unary_sign(operator: UnaryOperator) -> &'static str
     }
 }
 
-/// The sign between two operands, with its spaces.
-pub(crate) fn binary_sign(operator: BinaryOperator) -> &'static str
-    ensures { result.now ≡ binary_sign_text operator }
+/// The operator between two operands, with its spaces.
+pub(crate) fn binary_operator_text(operator: BinaryOperator) -> &'static str
+    ensures { result.now ≡ binary_operator_text operator }
 {
     match operator {
         BinaryOperator::Add => " + ",
@@ -85,8 +85,8 @@ fn precedence(ast: &Ast, e: Expr) -> u8
     }
 }
 
-fn is_reduction_sign(operator: UnaryOperator) -> bool
-    ensures { result ≡ is_reduction_sign operator }
+fn is_reduction_operator(operator: UnaryOperator) -> bool
+    ensures { result ≡ is_reduction_operator operator }
 {
     match operator {
         UnaryOperator::Negate | UnaryOperator::BitwiseNot | UnaryOperator::LogicalNot => false,
@@ -99,7 +99,7 @@ fn is_reduction(ast: &Ast, e: Expr) -> bool
     ensures { result ≡ is_reduction (tree_of (bench ast.now) e) }
 {
     match ast.expr(e) {
-        ExprNode::Unary(operator, _) => is_reduction_sign(*operator),
+        ExprNode::Unary(operator, _) => is_reduction_operator(*operator),
         _ => false,
     }
 }
@@ -176,7 +176,7 @@ pub(crate) fn is_bare_expr(ast: &Ast, e: Expr) -> bool
     }
 }
 
-/// Whether an operand needs parentheses under a unary sign.
+/// Whether an operand needs parentheses under a unary operator.
 pub(crate) fn unary_wraps(ast: &Ast, e: Expr) -> bool
     requires { OwnsExpr (bench ast.now) e }
     ensures { result ≡ unary_wraps (tree_of (bench ast.now) e) }
@@ -184,7 +184,7 @@ pub(crate) fn unary_wraps(ast: &Ast, e: Expr) -> bool
     precedence(ast, e) <= 12 || is_width_cast(ast, e) || is_negative_literal(ast, e)
 }
 
-/// Whether an operand needs parentheses to the left of a binary sign.
+/// Whether an operand needs parentheses to the left of a binary operator.
 pub(crate) fn left_wraps(ast: &Ast, operator: BinaryOperator, e: Expr) -> bool
     requires { OwnsExpr (bench ast.now) e }
     ensures { result ≡ left_child_wraps operator (tree_of (bench ast.now) e) }
@@ -192,7 +192,7 @@ pub(crate) fn left_wraps(ast: &Ast, operator: BinaryOperator, e: Expr) -> bool
     precedence(ast, e) < binary_precedence(operator) || is_reduction(ast, e)
 }
 
-/// Whether an operand needs parentheses to the right of a binary sign.
+/// Whether an operand needs parentheses to the right of a binary operator.
 pub(crate) fn right_wraps(ast: &Ast, operator: BinaryOperator, e: Expr) -> bool
     requires { OwnsExpr (bench ast.now) e }
     ensures { result ≡ right_child_wraps operator (tree_of (bench ast.now) e) }

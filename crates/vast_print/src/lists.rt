@@ -5,8 +5,7 @@ ghost use Rattle.vast_literal.specs.Tree.{ConcatTree, PatternTree, MacroTree, Ca
 ghost use Rattle.vast_core.specs.Bench.{OwnsExpr, maybe_tree_of, trees_of};
 ghost use Rattle.vast_core.specs.Nodes.{maybe_exprs_in};
 ghost use Rattle.vast_core.specs.View.{bench};
-ghost use Rattle.vast_print.specs.Pieces.{expr_weight, PiecesOwned, Begins};
-ghost use Rattle.vast_print.specs.Text.{expr_text};
+ghost use Rattle.vast_print.specs.Pieces.{PiecesOwned, BeginsExpr};
 
 use crate::pieces::{Piece, push_list, push_part, push_plain};
 use crate::refusal::PrintFault;
@@ -26,11 +25,8 @@ pub(crate) fn begin_concat(
     requires count { IfSome count (OwnsExpr (bench ast.now)) }
     requires parts { All (OwnsExpr (bench ast.now)) parts.now }
     requires owned { PiecesOwned (bench ast.now) work.old.items }
-    ensures { Begins (bench ast.now) depth out.old out.new work.old.items work.new.items
-        (expr_text
-        (ConcatTree (maybe_tree_of (bench ast.now) count) (trees_of (bench ast.now) parts.now)))
-        (expr_weight
-        (ConcatTree (maybe_tree_of (bench ast.now) count) (trees_of (bench ast.now) parts.now)))
+    ensures { BeginsExpr (bench ast.now) depth out.old out.new work.old.items work.new.items
+        (ConcatTree (maybe_tree_of (bench ast.now) count) (trees_of (bench ast.now) parts.now))
         result }
 {
     out.word("{")?;
@@ -57,9 +53,8 @@ pub(crate) fn begin_pattern(
 ) -> Result<(), PrintFault>
     requires parts { All (OwnsExpr (bench ast.now)) parts.now }
     requires owned { PiecesOwned (bench ast.now) work.old.items }
-    ensures { Begins (bench ast.now) depth out.old out.new work.old.items work.new.items
-        (expr_text (PatternTree (trees_of (bench ast.now) parts.now)))
-        (expr_weight (PatternTree (trees_of (bench ast.now) parts.now))) result }
+    ensures { BeginsExpr (bench ast.now) depth out.old out.new work.old.items work.new.items
+        (PatternTree (trees_of (bench ast.now) parts.now)) result }
 {
     out.word("'{")?;
     push_plain(ast, "}", work)?;
@@ -79,10 +74,8 @@ pub(crate) fn begin_macro(
     requires arguments { IfSome arguments.now
         (λ parts. All (OwnsExpr (bench ast.now)) parts.items) }
     requires owned { PiecesOwned (bench ast.now) work.old.items }
-    ensures { Begins (bench ast.now) depth out.old out.new work.old.items work.new.items
-        (expr_text (MacroTree name.now (maybe_exprs_in (bench ast.now).nodes arguments.now)))
-        (expr_weight (MacroTree name.now (maybe_exprs_in (bench ast.now).nodes arguments.now)))
-        result }
+    ensures { BeginsExpr (bench ast.now) depth out.old out.new work.old.items work.new.items
+        (MacroTree name.now (maybe_exprs_in (bench ast.now).nodes arguments.now)) result }
 {
     out.word("`")?;
     out.written(depth, name)?;
@@ -108,9 +101,8 @@ pub(crate) fn begin_call(
 ) -> Result<(), PrintFault>
     requires arguments { All (OwnsExpr (bench ast.now)) arguments.now }
     requires owned { PiecesOwned (bench ast.now) work.old.items }
-    ensures { Begins (bench ast.now) depth out.old out.new work.old.items work.new.items
-        (expr_text (CallTree name.now (trees_of (bench ast.now) arguments.now)))
-        (expr_weight (CallTree name.now (trees_of (bench ast.now) arguments.now))) result }
+    ensures { BeginsExpr (bench ast.now) depth out.old out.new work.old.items work.new.items
+        (CallTree name.now (trees_of (bench ast.now) arguments.now)) result }
 {
     out.written(depth, name)?;
     out.word("(")?;

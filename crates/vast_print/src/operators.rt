@@ -1,12 +1,13 @@
-//! Signs and their operands, and edges.
+//! Operators and their operands, and edges.
 
 ghost use Rattle.vast_literal.specs.Tree.{UnaryTree, BinaryTree, TernaryTree, PosEdgeTree, NegEdgeTree};
 ghost use Rattle.vast_core.specs.Bench.{OwnsExpr, tree_of};
 ghost use Rattle.vast_core.specs.View.{bench};
-ghost use Rattle.vast_print.specs.Pieces.{expr_weight, PiecesOwned, Begins};
-ghost use Rattle.vast_print.specs.Text.{expr_text};
+ghost use Rattle.vast_print.specs.Pieces.{PiecesOwned, BeginsExpr};
 
-use crate::levels::{binary_sign, left_wraps, right_wraps, ternary_wraps, unary_sign, unary_wraps};
+use crate::levels::{
+    binary_operator_text, left_wraps, right_wraps, ternary_wraps, unary_operator_text, unary_wraps,
+};
 use crate::pieces::{Piece, push_part, push_plain};
 use crate::refusal::PrintFault;
 use crate::writer::Writer;
@@ -23,12 +24,11 @@ pub(crate) fn begin_unary(
 ) -> Result<(), PrintFault>
     requires operand { OwnsExpr (bench ast.now) operand }
     requires owned { PiecesOwned (bench ast.now) work.old.items }
-    ensures { Begins (bench ast.now) depth out.old out.new work.old.items work.new.items
-        (expr_text (UnaryTree operator (tree_of (bench ast.now) operand)))
-        (expr_weight (UnaryTree operator (tree_of (bench ast.now) operand))) result }
+    ensures { BeginsExpr (bench ast.now) depth out.old out.new work.old.items work.new.items
+        (UnaryTree operator (tree_of (bench ast.now) operand)) result }
 {
     let wraps = unary_wraps(ast, operand);
-    out.word(unary_sign(operator))?;
+    out.word(unary_operator_text(operator))?;
     push_part(ast, operand, wraps, work)?;
     Ok(())
 }
@@ -46,15 +46,12 @@ pub(crate) fn begin_binary(
     requires left { OwnsExpr (bench ast.now) left }
     requires right { OwnsExpr (bench ast.now) right }
     requires owned { PiecesOwned (bench ast.now) work.old.items }
-    ensures { Begins (bench ast.now) depth out.old out.new work.old.items work.new.items
-        (expr_text
-        (BinaryTree operator (tree_of (bench ast.now) left) (tree_of (bench ast.now) right)))
-        (expr_weight
-        (BinaryTree operator (tree_of (bench ast.now) left) (tree_of (bench ast.now) right)))
+    ensures { BeginsExpr (bench ast.now) depth out.old out.new work.old.items work.new.items
+        (BinaryTree operator (tree_of (bench ast.now) left) (tree_of (bench ast.now) right))
         result }
 {
     push_part(ast, right, right_wraps(ast, operator, right), work)?;
-    push_plain(ast, binary_sign(operator), work)?;
+    push_plain(ast, binary_operator_text(operator), work)?;
     push_part(ast, left, left_wraps(ast, operator, left), work)?;
     Ok(())
 }
@@ -73,13 +70,9 @@ pub(crate) fn begin_ternary(
     requires consequent { OwnsExpr (bench ast.now) consequent }
     requires alternate { OwnsExpr (bench ast.now) alternate }
     requires owned { PiecesOwned (bench ast.now) work.old.items }
-    ensures { Begins (bench ast.now) depth out.old out.new work.old.items work.new.items
-        (expr_text
+    ensures { BeginsExpr (bench ast.now) depth out.old out.new work.old.items work.new.items
         (TernaryTree (tree_of (bench ast.now) condition) (tree_of (bench ast.now) consequent)
-        (tree_of (bench ast.now) alternate)))
-        (expr_weight
-        (TernaryTree (tree_of (bench ast.now) condition) (tree_of (bench ast.now) consequent)
-        (tree_of (bench ast.now) alternate))) result }
+        (tree_of (bench ast.now) alternate)) result }
 {
     push_part(ast, alternate, ternary_wraps(ast, alternate), work)?;
     push_plain(ast, " : ", work)?;
@@ -99,9 +92,8 @@ pub(crate) fn begin_posedge(
 ) -> Result<(), PrintFault>
     requires operand { OwnsExpr (bench ast.now) operand }
     requires owned { PiecesOwned (bench ast.now) work.old.items }
-    ensures { Begins (bench ast.now) depth out.old out.new work.old.items work.new.items
-        (expr_text (PosEdgeTree (tree_of (bench ast.now) operand)))
-        (expr_weight (PosEdgeTree (tree_of (bench ast.now) operand))) result }
+    ensures { BeginsExpr (bench ast.now) depth out.old out.new work.old.items work.new.items
+        (PosEdgeTree (tree_of (bench ast.now) operand)) result }
 {
     out.word("posedge ")?;
     push_part(ast, operand, false, work)?;
@@ -118,9 +110,8 @@ pub(crate) fn begin_negedge(
 ) -> Result<(), PrintFault>
     requires operand { OwnsExpr (bench ast.now) operand }
     requires owned { PiecesOwned (bench ast.now) work.old.items }
-    ensures { Begins (bench ast.now) depth out.old out.new work.old.items work.new.items
-        (expr_text (NegEdgeTree (tree_of (bench ast.now) operand)))
-        (expr_weight (NegEdgeTree (tree_of (bench ast.now) operand))) result }
+    ensures { BeginsExpr (bench ast.now) depth out.old out.new work.old.items work.new.items
+        (NegEdgeTree (tree_of (bench ast.now) operand)) result }
 {
     out.word("negedge ")?;
     push_part(ast, operand, false, work)?;

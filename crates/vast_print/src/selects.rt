@@ -3,8 +3,7 @@
 ghost use Rattle.vast_literal.specs.Tree.{IndexTree, SliceTree, PartSelectTree};
 ghost use Rattle.vast_core.specs.Bench.{OwnsExpr, tree_of};
 ghost use Rattle.vast_core.specs.View.{bench};
-ghost use Rattle.vast_print.specs.Pieces.{expr_weight, PiecesOwned, Begins};
-ghost use Rattle.vast_print.specs.Text.{expr_text};
+ghost use Rattle.vast_print.specs.Pieces.{PiecesOwned, BeginsExpr};
 
 use crate::levels::{is_scalar_name, is_zero};
 use crate::pieces::{Piece, push_number, push_part, push_plain, push_subject};
@@ -25,10 +24,8 @@ pub(crate) fn begin_index(
     requires subject { OwnsExpr (bench ast.now) subject }
     requires index { OwnsExpr (bench ast.now) index }
     requires owned { PiecesOwned (bench ast.now) work.old.items }
-    ensures { Begins (bench ast.now) depth out.old out.new work.old.items work.new.items
-        (expr_text (IndexTree (tree_of (bench ast.now) subject) (tree_of (bench ast.now) index)))
-        (expr_weight (IndexTree (tree_of (bench ast.now) subject) (tree_of (bench ast.now) index)))
-        result }
+    ensures { BeginsExpr (bench ast.now) depth out.old out.new work.old.items work.new.items
+        (IndexTree (tree_of (bench ast.now) subject) (tree_of (bench ast.now) index)) result }
 {
     if is_scalar_name(ast, subject) {
         if !is_zero(ast, index) {
@@ -58,13 +55,9 @@ pub(crate) fn begin_slice(
     requires high { OwnsExpr (bench ast.now) high }
     requires low { OwnsExpr (bench ast.now) low }
     requires owned { PiecesOwned (bench ast.now) work.old.items }
-    ensures { Begins (bench ast.now) depth out.old out.new work.old.items work.new.items
-        (expr_text
+    ensures { BeginsExpr (bench ast.now) depth out.old out.new work.old.items work.new.items
         (SliceTree (tree_of (bench ast.now) subject) (tree_of (bench ast.now) high)
-        (tree_of (bench ast.now) low)))
-        (expr_weight
-        (SliceTree (tree_of (bench ast.now) subject) (tree_of (bench ast.now) high)
-        (tree_of (bench ast.now) low))) result }
+        (tree_of (bench ast.now) low)) result }
 {
     if is_scalar_name(ast, subject) {
         if !(is_zero(ast, high) && is_zero(ast, low)) {
@@ -94,12 +87,9 @@ pub(crate) fn begin_part_select(
     requires subject { OwnsExpr (bench ast.now) subject }
     requires start { OwnsExpr (bench ast.now) start }
     requires owned { PiecesOwned (bench ast.now) work.old.items }
-    ensures { Begins (bench ast.now) depth out.old out.new work.old.items work.new.items
-        (expr_text
-        (PartSelectTree (tree_of (bench ast.now) subject) (tree_of (bench ast.now) start)
-        width)) (expr_weight
-        (PartSelectTree (tree_of (bench ast.now) subject) (tree_of (bench ast.now) start)
-        width)) result }
+    ensures { BeginsExpr (bench ast.now) depth out.old out.new work.old.items work.new.items
+        (PartSelectTree (tree_of (bench ast.now) subject) (tree_of (bench ast.now) start) width)
+        result }
 {
     push_plain(ast, "]", work)?;
     push_number(ast, width, work)?;

@@ -3,7 +3,7 @@
 ghost use Rattle.std.specs.Prelude.{◌≡◌, codes};
 ghost use Rattle.vast_print.specs.Words.{signed_opening, unsigned_opening, scalar_cast_opening, scalar_cast_closing, cast_sign_word, number_cast_opening, number_cast_closing, comma, separator, endfunction_word, function_opening, for_opening, step_word, always_ff_opening, always_at_opening, always_comb_opening};
 ghost use Rattle.vast_print.specs.Members.{parameter_word, semicolon_text};
-ghost use Rattle.vast_print.specs.Statements.{assign_sign, case_word, unique_word};
+ghost use Rattle.vast_print.specs.Statements.{assignment_operator, case_word, unique_word};
 ghost use Rattle.vast_core.specs.FileTree.{form_of};
 
 use vast_core::CaseKind;
@@ -90,8 +90,8 @@ pub(crate) fn semicolon(stands: bool) -> &'static str
 }
 
 /// Between the sides of an assignment of a block.
-pub(crate) fn assign_sign(nonblocking: bool) -> &'static str
-    ensures { result.now ≡ assign_sign (form_of nonblocking) }
+pub(crate) fn assignment_operator(nonblocking: bool) -> &'static str
+    ensures { result.now ≡ assignment_operator (form_of nonblocking) }
 {
     if nonblocking { " <= " } else { " = " }
 }
