@@ -12,7 +12,7 @@ ghost use Rattle.vast_print.specs.Pieces.{expr_weight, piece_weight, piece_text,
 use crate::casts::{begin_type_cast, begin_width_cast};
 use crate::lists::{begin_call, begin_concat, begin_macro, begin_pattern};
 use crate::operators::{begin_binary, begin_negedge, begin_posedge, begin_ternary, begin_unary};
-use crate::pieces::{Piece, push_part, push_plain};
+use crate::pieces::{Piece, push_plain};
 use crate::refusal::PrintFault;
 use crate::selects::{begin_index, begin_part_select, begin_slice};
 use crate::writer::Writer;
@@ -48,7 +48,8 @@ pub(crate) fn print_wrapped(
         out.new result }
 {
     let mut work = Vec::new(ast.allocator());
-    push_part(ast, e, wraps, &mut work)?;
+    // A name or a literal leaves nothing to be listed, so it takes no memory.
+    begin_part(ast, e, wraps, depth, out, &mut work)?;
     while let Some(piece) = work.pop() {
         print_piece(ast, piece, depth, out, &mut work)?;
     }
