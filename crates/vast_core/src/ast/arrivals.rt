@@ -49,6 +49,7 @@ pub(crate) struct Arrivals {
 
 impl Arrivals {
     /// Nothing comes.
+    #[inline(always)]
     pub(crate) fn none() -> Arrivals
         ensures { result ≡ no_arrivals }
     {
@@ -61,6 +62,7 @@ impl Arrivals {
 }
 
 impl Terms {
+    #[inline(always)]
     fn count(&self) -> usize
         ensures { result ≡ length (terms_of self.now) }
     {
@@ -75,6 +77,7 @@ impl Terms {
 
 impl Node {
     /// Whether it is over the spare block.
+    #[inline(always)]
     pub(crate) fn takes_spare(&self) -> bool
         ensures { result ≡ (fresh_node self.now).takes_spare }
     {
@@ -94,6 +97,7 @@ impl Node {
     }
 
     /// How many containers come.
+    #[inline(always)]
     fn container_count(&self) -> usize
         ensures { result ≡ count_of (fresh_node self.now).container }
     {
@@ -114,6 +118,7 @@ impl Node {
 }
 
 /// Adds the expressions and types, for which there is room.
+#[inline(always)]
 pub(crate) fn settle_terms(items: &mut Vec<Term>, terms: Terms)
     requires { length (terms_of terms) ≤ vec_capacity items.old - vec_len items.old }
     ensures { items.new.items ≡ items.old.items ++ terms_of terms }
@@ -134,6 +139,7 @@ pub(crate) fn settle_terms(items: &mut Vec<Term>, terms: Terms)
 }
 
 /// Adds the node to its arena, where there is room for it.
+#[inline(always)]
 pub(crate) fn settle_node(
     assignments: &mut Vec<Assignment>,
     nests: &mut Vec<Nest>,
@@ -201,6 +207,7 @@ pub(crate) fn settle_node(
 }
 
 /// Adds the empty block, if it comes; there is room for it.
+#[inline(always)]
 pub(crate) fn settle_block(nests: &mut Vec<Nest>, block: bool, alloc: Global)
     requires { block_count block ≤ vec_capacity nests.old - vec_len nests.old }
     ensures { map nest_record nests.new.items
@@ -213,6 +220,7 @@ pub(crate) fn settle_block(nests: &mut Vec<Nest>, block: bool, alloc: Global)
 
 impl Ast {
     /// Makes room for what comes.
+    #[inline(always)]
     #[tactic(auto, unfolding(crate::specs::View::bench))]
     pub(crate) fn make_room(&mut self, arrivals: &Arrivals) -> Result<(), AllocError>
         ensures unchanged { bench self.new ≡ bench self.old }

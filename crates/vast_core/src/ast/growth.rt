@@ -273,6 +273,7 @@ fn enter_function(
 }
 
 /// Adds the entry where it goes, or changes nothing.
+#[inline(always)]
 fn enter(
     modules: &mut Vec<Module>,
     nests: &mut Vec<Nest>,
@@ -333,6 +334,7 @@ fn enter(
 }
 
 /// The spare block, unless it is taken.
+#[inline(always)]
 fn spare_left(taken: bool, spare: Option<VastStatementBlock>) -> Option<VastStatementBlock>
     ensures { result ≡ spare_left taken spare }
 {
@@ -341,6 +343,7 @@ fn spare_left(taken: bool, spare: Option<VastStatementBlock>) -> Option<VastStat
 
 impl Ast {
     /// Adds the entry and the nodes, for which there is room, or changes nothing.
+    #[inline(always)]
     fn admit(&mut self, place: Place, arrivals: Arrivals) -> Result<(), AllocError>
         requires sound { GrowthSound (bench self.old) (listing_of place) (fresh_of arrivals) }
         requires room { HasRoom self.old (fresh_of arrivals) }
@@ -379,6 +382,7 @@ impl Ast {
     ///
     /// # Errors
     /// `AllocError` where a growth was refused; nothing changed.
+    #[inline(always)]
     pub(crate) fn grow(&mut self, place: Place, arrivals: Arrivals) -> Result<(), AllocError>
         requires { GrowthSound (bench self.old) (listing_of place) (fresh_of arrivals) }
         ensures { Leaves self.old self.new result

@@ -27,6 +27,7 @@ pub enum Scope {
 
 impl Place {
     /// At the end of the scope's members, without a name.
+    #[inline(always)]
     pub(crate) fn in_scope(scope: Scope, member: Member) -> Place
         ensures { listing_of result ≡ listing_in scope (member_entry member) }
     {
@@ -42,6 +43,7 @@ impl Ast {
     ///
     /// # Errors
     /// `AllocError` where a growth was refused; nothing changed.
+    #[inline(always)]
     pub(crate) fn grow_in(
         &mut self,
         scope: Scope,

@@ -18,6 +18,7 @@ use std::alloc::AllocError;
 
 impl Ast {
     /// Adds expressions and types, the older first.
+    #[inline(always)]
     pub(crate) fn grow_terms(&mut self, terms: Terms) -> Result<(), AllocError>
         requires { TermsSound (bench self.old).nodes (terms_of terms) }
         ensures { Leaves self.old self.new result (with_terms (terms_of terms)) }
