@@ -121,7 +121,7 @@ abbrev pub nest_record : Nest → NestRecord
 nest_record (BlockNode statements) = BlockRecord (map statement_entry statements.items)
 nest_record (ConditionalNest c) = ConditionalNestRecord (conditional_record c)
 nest_record (CaseNest c) = CaseNestRecord (case_record c)
-nest_record (LoopNest l) = LoopNestRecord (loop_record l)
+nest_record (LoopNest l) = LoopNestRecord (loop_record l.value)
 
 abbrev pub variable_record : FunctionVariable → VariableRecord
 variable_record v = record { kind = v.kind; name = string_bytes v.name; data_type = v.data_type }

@@ -271,11 +271,12 @@ pub struct LoopNode {
     pub members: Vec<Member>,
 }
 
-/// The containers that nest in one another, in one arena: what a container holds is newer than it.
+/// The containers that nest in one another, in one arena: what a container holds is newer than it. A loop is boxed,
+/// since loops are few and each block would else take as much memory as a loop.
 #[derive(Drop)]
 pub(crate) enum Nest {
     Block(Vec<Statement>),
     Conditional(ConditionalNode),
     Case(CaseNode),
-    Loop(LoopNode),
+    Loop(Box<LoopNode>),
 }

@@ -47,16 +47,18 @@ impl Ast {
         let generate_loop = GenerateLoop {
             id: self.next_nest(),
         };
+        let genvar = LogicRef {
+            id: self.next_term(),
+        };
         let node = LoopNode {
-            genvar: LogicRef {
-                id: self.next_term(),
-            },
+            genvar,
             name,
             start,
             limit,
             label,
             members: Vec::new(self.alloc),
         };
+        let node = Box::new(self.alloc, node)?;
         self.grow_in(
             scope,
             Member::Loop(generate_loop),

@@ -8,4 +8,4 @@ use Rattle.vast_core.proofs.ast.Ast.generate_loop.Goals as goal
 pub returns-clause-members : goal.returns-clause-members
 returns-clause-members c =
     let h = rw c.in-Some-Loop.field-0-is at c.in-Some-Loop.ensures.owned in
-    All-Each member_entry (LoopMemberSound (bench c.args.self.now) c.args.l.id.index) c.in-Some-Loop.node.members.items h.members
+    rw c.deref.ensures (All-Each member_entry (LoopMemberSound (bench c.args.self.now) c.args.l.id.index) c.in-Some-Loop.node.value.members.items h.members)
