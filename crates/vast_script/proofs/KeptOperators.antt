@@ -16,11 +16,11 @@ use Rattle.vast_script.proofs.Kept.{keeps-root}
 use Rattle.vast_script.proofs.KeptOutcomes.{CallKeeps, given-keeps}
 use Rattle.vast_script.specs.Operators.{unary, binary, operator_call}
 
-unary-keeps : (sign : UnaryOp) (e : ℕ) → CallKeeps (unary sign e)
-unary-keeps sign e b answers = given-keeps b (one an_expr b answers e) (λ e. Made (Expr (next_expr b)) (with_unary sign e b)) (λ e. keeps-root b _)
+unary-keeps : (operator : UnaryOp) (e : ℕ) → CallKeeps (unary operator e)
+unary-keeps operator e b answers = given-keeps b (one an_expr b answers e) (λ e. Made (Expr (next_expr b)) (with_unary operator e b)) (λ e. keeps-root b _)
 
-binary-keeps : (sign : BinaryOp) (l : ℕ) (r : ℕ) → CallKeeps (binary sign l r)
-binary-keeps sign l r b answers = given-keeps b (two an_expr an_expr b answers l r) (λ (l, r). Made (Expr (next_expr b)) (with_binary sign l r b)) (λ (l, r). keeps-root b _)
+binary-keeps : (operator : BinaryOp) (l : ℕ) (r : ℕ) → CallKeeps (binary operator l r)
+binary-keeps operator l r b answers = given-keeps b (two an_expr an_expr b answers l r) (λ (l, r). Made (Expr (next_expr b)) (with_binary operator l r b)) (λ (l, r). keeps-root b _)
 
 pub operator-keeps : (step : OperatorStep) → CallKeeps (operator_call step)
 operator-keeps (MakeNot e) = unary-keeps BitwiseNotOp e

@@ -56,9 +56,9 @@ more-more b c d h k =
     }
 
 -- Joining what is left to what there is makes what is asked.
-pub record Joining (sign : BinaryOp) (start now : Bench) (first whole : Expr) (rest left : List Expr) : Type 0 where
+pub record Joining (operator : BinaryOp) (start now : Bench) (first whole : Expr) (rest left : List Expr) : Type 0 where
   pub owned : OwnsExpr now whole
-  pub same : joined sign (tree_of now whole) (map (tree_of start) left) ≡ joined sign (tree_of start first) (map (tree_of start) rest)
+  pub same : joined operator (tree_of now whole) (map (tree_of start) left) ≡ joined operator (tree_of start first) (map (tree_of start) rest)
   pub more : HasMoreNodes start now
 
 drop-next : {A : Type 0} (xs : List A) (i : ℕ) (x : A) → i < length xs → x ≡ get_or xs i x → drop i xs ≡ x ∷ drop (suc i) xs
@@ -72,26 +72,26 @@ All-at P (y ∷ xs) zero x h below is = rw is (All-head P y xs h)
 All-at P (y ∷ xs) (suc i) x h below is = All-at P xs i x (All-tail P y xs h) (omega arith) is
 
 pub value_owned :
-    (sign : BinaryOp) (start now : Bench) (first whole : Expr) (rest left : List Expr) → Joining sign start now first whole rest left →
+    (operator : BinaryOp) (start now : Bench) (first whole : Expr) (rest left : List Expr) → Joining operator start now first whole rest left →
     (values : List Expr) → All (OwnsExpr start) values → values ≡ first ∷ rest →
     (i : ℕ) (value : Expr) → i < length rest → value ≡ get_or rest i value → OwnsExpr now value
-value_owned sign start now first whole rest left j values h split i value below is =
+value_owned operator start now first whole rest left j values h split i value below is =
     let owned : All (OwnsExpr start) (first ∷ rest) = rw split at h in
     more_owned start now j.more value (All-at (OwnsExpr start) rest i value (All-tail (OwnsExpr start) first rest owned) below is)
 
 -- A step that joins one value more.
 pub joining-step :
-    (sign : BinaryOp) (start now after : Bench) (first whole : Expr) (rest : List Expr) (i : ℕ) →
-    Joining sign start now first whole rest (drop i rest) →
+    (operator : BinaryOp) (start now after : Bench) (first whole : Expr) (rest : List Expr) (i : ℕ) →
+    Joining operator start now first whole rest (drop i rest) →
     (values : List Expr) → All (OwnsExpr start) values → values ≡ first ∷ rest →
     (value : Expr) → i < length rest → value ≡ get_or rest i value →
-    (answer : Expr) → (answer ≡ next_expr now) × (after ≡ with_binary sign whole value now) →
-    Joining sign start after first answer rest (drop (i + 1) rest)
-joining-step sign start now after first whole rest i j values h split value below is answer built =
+    (answer : Expr) → (answer ≡ next_expr now) × (after ≡ with_binary operator whole value now) →
+    Joining operator start after first answer rest (drop (i + 1) rest)
+joining-step operator start now after first whole rest i j values h split value below is answer built =
     let owned : All (OwnsExpr start) (first ∷ rest) = rw split at h in
     let old : OwnsExpr start value = All-at (OwnsExpr start) rest i value (All-tail (OwnsExpr start) first rest owned) below is in
     let tree : tree_of now value ≡ tree_of start value = more_tree start now j.more value old in
-    let made : ExprTree = BinaryTree sign (tree_of now whole) (tree_of now value) in
+    let made : ExprTree = BinaryTree operator (tree_of now whole) (tree_of now value) in
     rw (built.0, built.1) (record {
       owned = next_owned now made;
       same = rw (add-one, next_tree now made, tree) (rw (drop-next rest i value below is) at j.same);
@@ -101,21 +101,21 @@ joining-step sign start now after first whole rest i j values h split value belo
 -- What a helper makes of the joined whole, or of none.
 
 pub joined_inverted :
-    (old mid new : Bench) (sign : BinaryOp) (of_none : Bool) (trees : List ExprTree) (whole answer : Expr) →
-    MakesJoined old mid (Ok (Some whole)) sign trees →
+    (old mid new : Bench) (operator : BinaryOp) (of_none : Bool) (trees : List ExprTree) (whole answer : Expr) →
+    MakesJoined old mid (Ok (Some whole)) operator trees →
     (answer ≡ next_expr mid) × (new ≡ with_unary LogicalNotOp whole mid) →
-    MakesTree old new (Ok answer) (Ok (logical_reduction sign of_none true trees))
-joined_inverted old mid new sign of_none [] whole answer j built = absurd cc
-joined_inverted old mid new sign of_none (t ∷ ts) whole answer j built =
+    MakesTree old new (Ok answer) (Ok (logical_reduction operator of_none true trees))
+joined_inverted old mid new operator of_none [] whole answer j built = absurd cc
+joined_inverted old mid new operator of_none (t ∷ ts) whole answer j built =
     let made : ExprTree = UnaryTree LogicalNotOp (tree_of mid whole) in
     rw (built.0, built.1) ((next_owned mid made, rw (← j.0.1) (next_tree mid made)), more-root old mid (ExprRoot made) j.1)
 
 pub joined_plain :
-    (old new : Bench) (sign : BinaryOp) (of_none : Bool) (trees : List ExprTree) (whole : Expr) →
-    MakesJoined old new (Ok (Some whole)) sign trees →
-    MakesTree old new (Ok whole) (Ok (logical_reduction sign of_none false trees))
-joined_plain old new sign of_none [] whole j = absurd cc
-joined_plain old new sign of_none (t ∷ ts) whole j = j
+    (old new : Bench) (operator : BinaryOp) (of_none : Bool) (trees : List ExprTree) (whole : Expr) →
+    MakesJoined old new (Ok (Some whole)) operator trees →
+    MakesTree old new (Ok whole) (Ok (logical_reduction operator of_none false trees))
+joined_plain old new operator of_none [] whole j = absurd cc
+joined_plain old new operator of_none (t ∷ ts) whole j = j
 
 pub joined_bitwise :
     (old new : Bench) (trees : List ExprTree) (whole : Expr) →
@@ -132,19 +132,19 @@ of-none old mid new made answer more built =
     rw (built.0, built.1) ((next_owned mid made, next_tree mid made), more-root old mid (ExprRoot made) more)
 
 pub none_logical :
-    (old mid new : Bench) (sign : BinaryOp) (of_none invert : Bool) (trees : List ExprTree) (bit : Bool) (answer : Expr) →
-    bit_literal bit ≡ logical_reduction sign of_none invert [] →
-    MakesJoined old mid (Ok None) sign trees →
+    (old mid new : Bench) (operator : BinaryOp) (of_none invert : Bool) (trees : List ExprTree) (bit : Bool) (answer : Expr) →
+    bit_literal bit ≡ logical_reduction operator of_none invert [] →
+    MakesJoined old mid (Ok None) operator trees →
     (answer ≡ next_expr mid) × (new ≡ with_expr (bit_literal bit) mid) →
-    MakesTree old new (Ok answer) (Ok (logical_reduction sign of_none invert trees))
-none_logical old mid new sign of_none invert [] bit answer is j built = rw (← is) (of-none old mid new (bit_literal bit) answer j.1 built)
-none_logical old mid new sign of_none invert (t ∷ ts) bit answer is j built = absurd j.0
+    MakesTree old new (Ok answer) (Ok (logical_reduction operator of_none invert trees))
+none_logical old mid new operator of_none invert [] bit answer is j built = rw (← is) (of-none old mid new (bit_literal bit) answer j.1 built)
+none_logical old mid new operator of_none invert (t ∷ ts) bit answer is j built = absurd j.0
 
-pub bit_of_none : (sign : BinaryOp) (of_none invert : Bool) → bit_literal (not (beq of_none invert)) ≡ logical_reduction sign of_none invert []
-bit_of_none sign false false = refl
-bit_of_none sign false true = refl
-bit_of_none sign true false = refl
-bit_of_none sign true true = refl
+pub bit_of_none : (operator : BinaryOp) (of_none invert : Bool) → bit_literal (not (beq of_none invert)) ≡ logical_reduction operator of_none invert []
+bit_of_none operator false false = refl
+bit_of_none operator false true = refl
+bit_of_none operator true false = refl
+bit_of_none operator true true = refl
 
 pub none_bitwise :
     (old mid new : Bench) (trees : List ExprTree) (answer : Expr) →

@@ -25,8 +25,8 @@ name-self : (t : ExprTree) → IsTrue (is_name t) → is_named (name_in t) t ≡
 name-self (NameTree name type) h = pointwise-self name
 name-self (LiteralTree text value) h = absurd cc
 name-self (StringTree text) h = absurd cc
-name-self (UnaryTree sign operand) h = absurd cc
-name-self (BinaryTree sign left right) h = absurd cc
+name-self (UnaryTree operator operand) h = absurd cc
+name-self (BinaryTree operator left right) h = absurd cc
 name-self (TernaryTree condition consequent alternate) h = absurd cc
 name-self (IndexTree subject index) h = absurd cc
 name-self (SliceTree subject high low) h = absurd cc
@@ -45,8 +45,8 @@ name-other : (t : ExprTree) (name : List ℕ) → name_in t ≢ name → is_name
 name-other (NameTree other type) name h = not-same name other (pointwise nat_eq name other) refl h
 name-other (LiteralTree text value) name h = refl
 name-other (StringTree text) name h = refl
-name-other (UnaryTree sign operand) name h = refl
-name-other (BinaryTree sign left right) name h = refl
+name-other (UnaryTree operator operand) name h = refl
+name-other (BinaryTree operator left right) name h = refl
 name-other (TernaryTree condition consequent alternate) name h = refl
 name-other (IndexTree subject index) name h = refl
 name-other (SliceTree subject high low) name h = refl
@@ -65,8 +65,8 @@ settle-name : (v : ExprTree → Bool) (t : ExprTree) → IsTrue (is_name t) → 
 settle-name v (NameTree name type) h = refl
 settle-name v (LiteralTree text value) h = refl
 settle-name v (StringTree text) h = refl
-settle-name v (UnaryTree sign operand) h = refl
-settle-name v (BinaryTree sign left right) h = refl
+settle-name v (UnaryTree operator operand) h = refl
+settle-name v (BinaryTree operator left right) h = refl
 settle-name v (TernaryTree condition consequent alternate) h = absurd cc
 settle-name v (IndexTree subject index) h = refl
 settle-name v (SliceTree subject high low) h = refl

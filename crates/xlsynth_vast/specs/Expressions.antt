@@ -10,13 +10,13 @@ use Rattle.vast_core.specs.Handles.{indexable_expr_to_expr}
 use Rattle.vast_core.specs.Bench.{Bench, tree_of, type_of, trees_of}
 use Rattle.vast_core.specs.Growth.{with_expr}
 
--- a sign before its operand
+-- an operator before its operand
 abbrev pub with_unary : UnaryOp → Expr → Bench → Bench
-with_unary sign operand b = with_expr (UnaryTree sign (tree_of b operand)) b
+with_unary operator operand b = with_expr (UnaryTree operator (tree_of b operand)) b
 
--- a sign between its operands
+-- an operator between its operands
 abbrev pub with_binary : BinaryOp → Expr → Expr → Bench → Bench
-with_binary sign left right b = with_expr (BinaryTree sign (tree_of b left) (tree_of b right)) b
+with_binary operator left right b = with_expr (BinaryTree operator (tree_of b left) (tree_of b right)) b
 
 -- a choice between two expressions
 abbrev pub with_ternary : Expr → Expr → Expr → Bench → Bench

@@ -1,4 +1,4 @@
--- Many expressions joined by one sign, and what a helper leaves that makes them.
+-- Many expressions joined by one operator, and what a helper leaves that makes them.
 use Rattle.std.specs.Prelude.{◌≡◌, All, Vec, map, ℕ, pos, Bool, true, false, List, [], ◌∷◌, ◌++◌, Option, Some, None, Result, Ok, Err, IsOkAnd, not, codes, string_bytes}
 use Rattle.std.specs.List.{fold}
 use Rattle.std.specs.declared.alloc.AllocError.{AllocError}
@@ -16,7 +16,7 @@ use Rattle.vast_core.specs.Bench.{Bench, OwnsExpr, tree_of}
 
 -- A first tree and others, joined from the left: `((a | b) | c) | d`.
 abbrev pub joined : BinaryOp → ExprTree → List ExprTree → ExprTree
-joined sign first others = fold (λ whole next. BinaryTree sign whole next) first others
+joined operator first others = fold (λ whole next. BinaryTree operator whole next) first others
 
 -- The literal of one bit.
 abbrev pub bit_literal : Bool → ExprTree
@@ -24,11 +24,11 @@ bit_literal false = LiteralTree (codes "1'h0") (Some (pos 0))
 bit_literal true = LiteralTree (codes "1'h1") (Some (pos 1))
 
 -- No trees stand for a bit. To invert is one `!` over the whole, and of no trees the other bit.
-abbrev pub logical_reduction : (sign : BinaryOp) (of_none invert : Bool) → List ExprTree → ExprTree
-logical_reduction sign of_none false [] = bit_literal of_none
-logical_reduction sign of_none true [] = bit_literal (not of_none)
-logical_reduction sign of_none false (t ∷ ts) = joined sign t ts
-logical_reduction sign of_none true (t ∷ ts) = UnaryTree LogicalNotOp (joined sign t ts)
+abbrev pub logical_reduction : (operator : BinaryOp) (of_none invert : Bool) → List ExprTree → ExprTree
+logical_reduction operator of_none false [] = bit_literal of_none
+logical_reduction operator of_none true [] = bit_literal (not of_none)
+logical_reduction operator of_none false (t ∷ ts) = joined operator t ts
+logical_reduction operator of_none true (t ∷ ts) = UnaryTree LogicalNotOp (joined operator t ts)
 
 -- No trees stand for a zero of any width.
 abbrev pub bitwise_reduction : List ExprTree → ExprTree
@@ -56,13 +56,13 @@ MakesTree old new (Err (Memory e)) rule = HasMoreNodes old new
 
 -- The same of trees that are joined, if there are any.
 abbrev pub IsJoined : Bench → Option Expr → BinaryOp → List ExprTree → Type 0
-IsJoined b e sign [] = e ≡ None
-IsJoined b None sign (t ∷ ts) = ⊥
-IsJoined b (Some e) sign (t ∷ ts) = IsTree b e (joined sign t ts)
+IsJoined b e operator [] = e ≡ None
+IsJoined b None operator (t ∷ ts) = ⊥
+IsJoined b (Some e) operator (t ∷ ts) = IsTree b e (joined operator t ts)
 
 abbrev pub MakesJoined : (old new : Bench) → Result (Option Expr) AllocError → BinaryOp → List ExprTree → Type 0
-MakesJoined old new (Ok e) sign trees = IsJoined new e sign trees × HasMoreNodes old new
-MakesJoined old new (Err e) sign trees = HasMoreNodes old new
+MakesJoined old new (Ok e) operator trees = IsJoined new e operator trees × HasMoreNodes old new
+MakesJoined old new (Err e) operator trees = HasMoreNodes old new
 
 -- A helper's steps: a list with expressions of these trees more, and a list of expressions of these trees.
 abbrev pub AddsTrees : (old new : Bench) → Result (Unit {0}) AllocError → (before after : List Expr) → List ExprTree → Type 0

@@ -1,4 +1,4 @@
-//! Many expressions joined by one sign.
+//! Many expressions joined by one operator.
 
 ghost use Rattle.std.specs.Prelude.{◌≡◌, All, Ok, map, false, true};
 ghost use Rattle.vast_literal.specs.declared.operator.BinaryOperator.{BinaryOperator as BinaryOp};
@@ -20,14 +20,14 @@ use vast_literal::VastFault;
 fn joined<F>(values: &[Expr], mut join: F, file: &mut VastFile) -> Result<Option<Expr>, AllocError>
 where
     F: FnMut(&mut VastFile, &Expr, &Expr) -> Result<Expr, AllocError>,
-    ghost sign: { BinaryOp }
+    ghost operator: { BinaryOp }
     requires callable { (state : F) (f : _) (a : _) (b : _) → OwnsExpr (bench f.now) a.now
         → OwnsExpr (bench f.now) b.now → F.pre state f a b }
     requires joins { (state : F) (f : _) (a : _) (b : _) (r : _) (g : _) (next : F)
         → F.step state f a b r g next
-        → Builds f.now g.now r next_expr (with_binary sign a.now b.now) }
+        → Builds f.now g.now r next_expr (with_binary operator a.now b.now) }
     requires owned { All (OwnsExpr (bench file.old)) values.now }
-    ensures { MakesJoined (bench file.old) (bench file.new) result sign
+    ensures { MakesJoined (bench file.old) (bench file.new) result operator
         (map (tree_of (bench file.old)) values.now) }
 {
     let Some((first, rest)) = values.split_first() else {
@@ -64,15 +64,15 @@ fn logical_reduced<F>(
 ) -> Result<Expr, VastFault>
 where
     F: FnMut(&mut VastFile, &Expr, &Expr) -> Result<Expr, AllocError>,
-    ghost sign: { BinaryOp }
+    ghost operator: { BinaryOp }
     requires callable { (state : F) (f : _) (a : _) (b : _) → OwnsExpr (bench f.now) a.now
         → OwnsExpr (bench f.now) b.now → F.pre state f a b }
     requires joins { (state : F) (f : _) (a : _) (b : _) (r : _) (g : _) (next : F)
         → F.step state f a b r g next
-        → Builds f.now g.now r next_expr (with_binary sign a.now b.now) }
+        → Builds f.now g.now r next_expr (with_binary operator a.now b.now) }
     requires owned { All (OwnsExpr (bench file.old)) values.now }
     ensures { MakesTree (bench file.old) (bench file.new) result
-        (Ok (logical_reduction sign of_none invert (map (tree_of (bench file.old)) values.now))) }
+        (Ok (logical_reduction operator of_none invert (map (tree_of (bench file.old)) values.now))) }
 {
     match joined(values, join, file)? {
         Some(whole) if invert => Ok(file.make_logical_not(&whole)?),

@@ -12,11 +12,11 @@ join-requires g c =
     let rest = c.in-Some.rest.now in
     let i = c.loop-value.value-index in
     let value : Expr = get_or rest i none in
-    c.requires.1.0 _ _ _ _ c.loop-value.invariant.owned (value_owned g.sign _ _ _ _ _ _ c.loop-value.invariant _ c.requires.1.1.1 c.in-Some.ensures.cases.0 i value c.loop-value-test.true (get_or_default rest i none value c.loop-value-test.true))
+    c.requires.1.0 _ _ _ _ c.loop-value.invariant.owned (value_owned g.operator _ _ _ _ _ _ c.loop-value.invariant _ c.requires.1.1.1 c.in-Some.ensures.cases.0 i value c.loop-value-test.true (get_or_default rest i none value c.loop-value-test.true))
 
 pub loop-value-preserved : goal.loop-value-preserved
 loop-value-preserved g c =
     let rest = c.in-Some.rest.now in
     let i = c.loop-value.value-index in
     let value : Expr = get_or rest i none in
-    joining-step g.sign _ _ _ _ _ _ _ c.loop-value.invariant _ c.requires.1.1.1 c.in-Some.ensures.cases.0 value c.loop-value-test.true (get_or_default rest i none value c.loop-value-test.true) c.in_ok-whole.whole (c.requires.1.1.0 _ _ _ _ (Ok c.in_ok-whole.whole) _ _ c.in_ok-whole.ensures)
+    joining-step g.operator _ _ _ _ _ _ _ c.loop-value.invariant _ c.requires.1.1.1 c.in-Some.ensures.cases.0 value c.loop-value-test.true (get_or_default rest i none value c.loop-value-test.true) c.in_ok-whole.whole (c.requires.1.1.0 _ _ _ _ (Ok c.in_ok-whole.whole) _ _ c.in_ok-whole.ensures)

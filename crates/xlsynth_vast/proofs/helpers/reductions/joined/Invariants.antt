@@ -4,4 +4,4 @@ use Rattle.xlsynth_vast.proofs.Reduced.{Joining}
 use Rattle.xlsynth_vast.proofs.helpers.reductions.joined.Given as goal
 
 abbrev pub invariant-loop-value : goal.invariant-loop-value
-invariant-loop-value g l = Joining g.sign (bench l.fn.file) (bench l.file) l.initial.whole l.whole l.rest (drop l.value-index l.rest)
+invariant-loop-value g l = Joining g.operator (bench l.fn.file) (bench l.file) l.initial.whole l.whole l.rest (drop l.value-index l.rest)
