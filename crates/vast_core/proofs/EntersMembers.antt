@@ -42,18 +42,18 @@ always-comes b kind events h =
 -- Loops.
 
 abbrev pub grown_loop : Bench → String Global → List ℕ → Expr → Expr → Option (List ℕ) → Bench
-grown_loop b variable name start limit label = with_fresh (fresh_loop variable (new_loop b name start limit label)) b
+grown_loop b variable name start end label = with_fresh (fresh_loop variable (new_loop b name start end label)) b
 
-pub loop_owned : (b : Bench) (variable : String Global) (name : List ℕ) (start limit : Expr) (label : Option (List ℕ)) → OwnsLoop (grown_loop b variable name start limit label) (next_loop b)
-loop_owned b variable name start limit label = record { of_file = refl; of_kind = rw (slice_get-seam b.nests (new_loop b name start limit label)) refl }
+pub loop_owned : (b : Bench) (variable : String Global) (name : List ℕ) (start end : Expr) (label : Option (List ℕ)) → OwnsLoop (grown_loop b variable name start end label) (next_loop b)
+loop_owned b variable name start end label = record { of_file = refl; of_kind = rw (slice_get-seam b.nests (new_loop b name start end label)) refl }
 
 pub named_owned : (b c : Bench) (r : Root) (name : List ℕ) (type : MaybeType) → c.nodes ≡ with_node b.nodes r → r ≡ ExprRoot (NameTree name type) → OwnsLogicRef c (next_logic_ref b)
 named_owned b c r name type n e = record { of_file = rw n refl; of_kind = rw (n, slice_get-seam b.nodes.roots r, e) refl }
 
 pub loop-comes :
-    (b : Bench) (variable : String Global) (name : List ℕ) (start limit : Expr) (label : Option (List ℕ)) → OwnsExpr b start → OwnsExpr b limit →
-    FreshSound b (grown_loop b variable name start limit label) (fresh_loop variable (new_loop b name start limit label))
-loop-comes b variable name start limit label h k =
+    (b : Bench) (variable : String Global) (name : List ℕ) (start end : Expr) (label : Option (List ℕ)) → OwnsExpr b start → OwnsExpr b end →
+    FreshSound b (grown_loop b variable name start end label) (fresh_loop variable (new_loop b name start end label))
+loop-comes b variable name start end label h k =
     let r : Root = ExprRoot (NameTree (string_bytes variable) Untyped) in
     record {
       terms = (tt, tt, tt);
@@ -64,9 +64,9 @@ loop-comes b variable name start limit label h k =
       instance = tt;
       assignment = tt;
       container = record {
-        genvar = named_owned b (grown_loop b variable name start limit label) r (string_bytes variable) Untyped refl refl;
+        genvar = named_owned b (grown_loop b variable name start end label) r (string_bytes variable) Untyped refl refl;
         start = HasExpr-kept b.nodes (with_node b.nodes r) (Extends-root b.nodes r) start h;
-        limit = HasExpr-kept b.nodes (with_node b.nodes r) (Extends-root b.nodes r) limit k;
+        end = HasExpr-kept b.nodes (with_node b.nodes r) (Extends-root b.nodes r) end k;
         members = tt;
       };
       function = tt;

@@ -20,7 +20,7 @@ use Rattle.vast_core.specs.WrittenKinds.{HasOwnKind}
 use Rattle.vast_core.specs.Sound.{EventSound, FormSound, MemberSound, MemberNewer}
 use Rattle.vast_core.specs.Growth.{next_logic_ref, next_continuous, with_expr}
 use Rattle.vast_core.specs.Parameters.{IsDeclaredBy}
-use Rattle.vast_core.specs.Containers.{Fresh, FreshSound, GrowthSound, with_fresh, after_growth, no_fresh, fresh_assignment, fresh_container, next_conditional, new_conditional, made, held_by_fresh, spare_taken}
+use Rattle.vast_core.specs.Containers.{Fresh, FreshSound, GrowthSound, with_fresh, after_growth, no_fresh, fresh_assignment, fresh_container, next_conditional, new_conditional, made, held_by_fresh, spare_used}
 use Rattle.vast_core.specs.Loops.{next_always, next_loop, new_always, fresh_always, new_loop, fresh_loop, fresh_name, with_loop}
 use Rattle.vast_core.specs.Unattached.{always_over}
 use Rattle.vast_core.specs.Scopes.{OwnsScope, IsShared, IsOlder, listing_in, with_scope_member, with_scope_parameter}
@@ -73,7 +73,7 @@ NewerIn (ScopeLoop l) c entry = MemberNewer c (loop_index l) entry
 -- The entry of a scope is sound where the member is, and places what is made.
 scope-enters :
     (b : Bench) (scope : Scope) (m : MemberEntry) (f : Fresh) → OwnsScope b scope → FreshSound b (with_fresh f b) f → MemberSound (with_fresh f b) m → IsUnnamed m → NewerIn scope (with_fresh f b) m →
-    held_by_member m ++ held_by_fresh f ≡ made b f ++ spare_taken f.takes_spare b.spare → GrowthSound b (listing_in scope m) f
+    held_by_member m ++ held_by_fresh f ≡ made b f ++ spare_used f.takes_spare b.spare → GrowthSound b (listing_in scope m) f
 scope-enters b (ScopeModule owner) m f o h k unnamed newer placed =
     record { fresh = h; listing = record { owner_there = o; member = k; kind = own-kind m unnamed; declares = no-names (with_fresh f b).functions m unnamed; free = tt }; placed = placed }
 scope-enters b (ScopeLoop owner) m f o h k unnamed newer placed = record { fresh = h; listing = (loop-place b owner o, (k, newer)); placed = placed }
@@ -180,19 +180,19 @@ conditional-enters b scope condition o h =
     (newer-in b (with_fresh f b) scope (ConditionalEntry (next_conditional b)) o (λ i below. below)) refl
 
 pub loop-enters :
-    (b : Bench) (scope : Scope) (variable : String Global) (name : List ℕ) (start limit : Expr) (label : Option (List ℕ)) → OwnsScope b scope → OwnsExpr b start → OwnsExpr b limit →
-    GrowthSound b (listing_in scope (LoopEntry (next_loop b))) (fresh_loop variable (new_loop b name start limit label))
-loop-enters b scope variable name start limit label o h k =
-    let f : Fresh = fresh_loop variable (new_loop b name start limit label) in
-    scope-enters b scope (LoopEntry (next_loop b)) f o (loop-comes b variable name start limit label h k) (loop_owned b variable name start limit label) tt
+    (b : Bench) (scope : Scope) (variable : String Global) (name : List ℕ) (start end : Expr) (label : Option (List ℕ)) → OwnsScope b scope → OwnsExpr b start → OwnsExpr b end →
+    GrowthSound b (listing_in scope (LoopEntry (next_loop b))) (fresh_loop variable (new_loop b name start end label))
+loop-enters b scope variable name start end label o h k =
+    let f : Fresh = fresh_loop variable (new_loop b name start end label) in
+    scope-enters b scope (LoopEntry (next_loop b)) f o (loop-comes b variable name start end label h k) (loop_owned b variable name start end label) tt
     (newer-in b (with_fresh f b) scope (LoopEntry (next_loop b)) o (λ i below. below)) refl
 
 -- The same, of nodes that are known to be these.
 pub loop-enters-as :
-    (b : Bench) (scope : Scope) (h : GenerateLoop) (variable : String Global) (g : LogicRef) (name : List ℕ) (start limit : Expr) (label : Option (List ℕ)) (ms : List MemberEntry) →
-    h ≡ next_loop b → g ≡ next_logic_ref b → ms ≡ [] → OwnsScope b scope → OwnsExpr b start → OwnsExpr b limit →
-    GrowthSound b (listing_in scope (LoopEntry h)) (fresh_loop variable (LoopNestRecord (record { genvar = g; name = name; start = start; limit = limit; label = label; members = ms })))
-loop-enters-as b scope h variable g name start limit label ms e f m o k l = rw (e, f, m) (loop-enters b scope variable name start limit label o k l)
+    (b : Bench) (scope : Scope) (h : GenerateLoop) (variable : String Global) (g : LogicRef) (name : List ℕ) (start end : Expr) (label : Option (List ℕ)) (ms : List MemberEntry) →
+    h ≡ next_loop b → g ≡ next_logic_ref b → ms ≡ [] → OwnsScope b scope → OwnsExpr b start → OwnsExpr b end →
+    GrowthSound b (listing_in scope (LoopEntry h)) (fresh_loop variable (LoopNestRecord (record { genvar = g; name = name; start = start; end = end; label = label; members = ms })))
+loop-enters-as b scope h variable g name start end label ms e f m o k l = rw (e, f, m) (loop-enters b scope variable name start end label o k l)
 
 -- What the file is behind these growths.
 
@@ -201,11 +201,11 @@ scope-grown b (ScopeModule owner) m f = refl
 scope-grown b (ScopeLoop owner) m f = refl
 
 pub loop-grown :
-    (b : Bench) (scope : Scope) (h : GenerateLoop) (variable : String Global) (n : List ℕ) (g : LogicRef) (name : List ℕ) (start limit : Expr) (label : Option (List ℕ)) (ms : List MemberEntry) →
+    (b : Bench) (scope : Scope) (h : GenerateLoop) (variable : String Global) (n : List ℕ) (g : LogicRef) (name : List ℕ) (start end : Expr) (label : Option (List ℕ)) (ms : List MemberEntry) →
     h ≡ next_loop b → g ≡ next_logic_ref b → ms ≡ [] → string_bytes variable ≡ n → name ≡ n →
-    with_scope_member scope (LoopEntry h) (with_fresh (fresh_loop variable (LoopNestRecord (record { genvar = g; name = name; start = start; limit = limit; label = label; members = ms }))) b)
-    ≡ with_scope_member scope (LoopEntry (next_loop b)) (with_loop n start limit label b)
-loop-grown b scope h variable n g name start limit label ms e f m v o = rw (e, f, m, v, o) refl
+    with_scope_member scope (LoopEntry h) (with_fresh (fresh_loop variable (LoopNestRecord (record { genvar = g; name = name; start = start; end = end; label = label; members = ms }))) b)
+    ≡ with_scope_member scope (LoopEntry (next_loop b)) (with_loop n start end label b)
+loop-grown b scope h variable n g name start end label ms e f m v o = rw (e, f, m, v, o) refl
 
 -- A name may come before the member or after it.
 pub parameter-grown :

@@ -161,7 +161,7 @@ entry-sound b i (CaseArmEnters a) h (LoopNestRecord l) k = k
 entry-sound b i (MemberEnters m) h (BlockRecord ss) k = k
 entry-sound b i (MemberEnters m) h (ConditionalNestRecord c) k = k
 entry-sound b i (MemberEnters m) h (CaseNestRecord c) k = k
-entry-sound b i (MemberEnters m) h (LoopNestRecord l) k = record { genvar = k.genvar; start = k.start; limit = k.limit; members = Each-push _ l.members m k.members h }
+entry-sound b i (MemberEnters m) h (LoopNestRecord l) k = record { genvar = k.genvar; start = k.start; end = k.end; members = Each-push _ l.members m k.members h }
 
 EntersSound-kept : (b c : Bench) → Grows b c → (i : ℕ) (e : NestedEntry) → EntersSound b i e → EntersSound c i e
 EntersSound-kept b c g i (StatementEnters s) h = StatementSound-kept b c g i s h

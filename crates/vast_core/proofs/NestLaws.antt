@@ -42,8 +42,8 @@ old_block_owned b n x h = after-nest is_block_kind b n x.id never h
 
 -- Always blocks, loops and functions.
 
-pub next_loop_owned : (b : Bench) (name : List ℕ) (start limit : Expr) (label : Option (List ℕ)) → OwnsLoop (with_loop name start limit label b) (next_loop b)
-next_loop_owned b name start limit label = record { of_file = refl; of_kind = rw (slice_get-seam b.nests (new_loop b name start limit label)) refl }
+pub next_loop_owned : (b : Bench) (name : List ℕ) (start end : Expr) (label : Option (List ℕ)) → OwnsLoop (with_loop name start end label b) (next_loop b)
+next_loop_owned b name start end label = record { of_file = refl; of_kind = rw (slice_get-seam b.nests (new_loop b name start end label)) refl }
 
 pub next_function_owned : (b : Bench) (name : List ℕ) (type : VastDataType) → OwnsFunction (with_function name type b) (next_function b)
 next_function_owned b name type = record { of_file = refl; of_kind = rw (length-append b.functions (new_function b name type ∷ [])) (last-test (length b.functions)) }

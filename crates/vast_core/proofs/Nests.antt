@@ -86,7 +86,7 @@ family-same b f g i q (ConditionalNestRecord c) h =
     ap (λ x. ConditionalFamily (tree_of b c.condition) (block_in x) (alternates_in b f c.else_ifs c.otherwise)) (q.at (block_index c.consequent) h.consequent.1)
     ∙ ap (λ x. ConditionalFamily (tree_of b c.condition) (block_in (g (block_index c.consequent))) x) (alternates-same b f g i q c.else_ifs c.otherwise h.else_ifs h.otherwise)
 family-same b f g i q (CaseNestRecord c) h = ap (λ x. CaseFamily (CaseTree c.unique c.kind (tree_of b c.selector) x)) (arms-same b f g i q c.arms h.arms)
-family-same b f g i q (LoopNestRecord l) h = ap (λ x. LoopFamily (LoopMember l.name (tree_of b l.start) (tree_of b l.limit) l.label x)) (members-same b f g i q l.members h.members)
+family-same b f g i q (LoopNestRecord l) h = ap (λ x. LoopFamily (LoopMember l.name (tree_of b l.start) (tree_of b l.end) l.label x)) (members-same b f g i q l.members h.members)
 
 -- What a container holds is newer.
 

@@ -9,7 +9,7 @@ use Rattle.vast_core.specs.Nests.{ConditionalRecord, NestRecord, BlockRecord, Co
 use Rattle.vast_core.specs.Bench.{Bench}
 use Rattle.vast_core.specs.Functions.{with_listed_variable}
 use Rattle.vast_core.specs.Hoisting.{with_hoisted, with_members_hoisted}
-use Rattle.vast_core.specs.Containers.{NestedEntry, StatementEnters, ElseIfEnters, ElseEnters, CaseArmEnters, MemberEnters, with_entry, Listing, Nowhere, InFile, InHeader, InPorts, InModule, InFunction, InNest, AsSpare, with_listed, listed_functions, listed_nests, with_listing, added, Fresh, with_fresh, with_empty_block, spare_left, after_growth, read_off, held_by_entry, held_by_listing, held_by_fresh, made_containers, made, spare_taken, with_unique, with_case_unique}
+use Rattle.vast_core.specs.Containers.{NestedEntry, StatementEnters, ElseIfEnters, ElseEnters, CaseArmEnters, MemberEnters, with_entry, Listing, Nowhere, InFile, InHeader, InPorts, InModule, InFunction, InNest, AsSpare, with_listed, listed_functions, listed_nests, with_listing, added, Fresh, with_fresh, with_empty_block, spare_left, after_growth, read_off, held_by_entry, held_by_listing, held_by_fresh, made_containers, made, spare_used, with_unique, with_case_unique}
 use Rattle.vast_core.specs.Parents.{Part, ContainerPart, FunctionPart, AlwaysPart, is_same, held_by_statement, held_by_member, held_by_else_if, held_by_block, held_by_case_arm, held_by_conditional, held_by_container, held_by_function, held_by_always, held_by_module, held, places, present, HasOneParent}
 use Rattle.vast_core.proofs.Lists.{length-changed_at}
 use Rattle.vast_core.proofs.Counts.{count-append, over-push, over-added, over-changed, over-hoisted}
@@ -75,7 +75,7 @@ empty-block : (p : Part) (block : Bool) (nests : List NestRecord) → places p (
 empty-block p false nests = refl
 empty-block p true nests = let e = over-push (is_same p) held_by_container nests (BlockRecord []) in omega (arith, e)
 
-spare-parts : (p : Part) (takes : Bool) (spare : Option VastStatementBlock) → places p (held_by_block (spare_left takes spare)) + places p (spare_taken takes spare) ≡ places p (held_by_block spare)
+spare-parts : (p : Part) (takes : Bool) (spare : Option VastStatementBlock) → places p (held_by_block (spare_left takes spare)) + places p (spare_used takes spare) ≡ places p (held_by_block spare)
 spare-parts p false spare = omega arith
 spare-parts p true spare = omega arith
 
@@ -84,7 +84,7 @@ module-parts p o h ms = let e = over-added (is_same p) held_by_module ms o in om
 
 nodes-come :
     (p : Part) (f : Fresh) (b : Bench) → places p (read_off held_by_module f.fresh_module) ≡ 0 →
-    places p (held (with_fresh f b)) + places p (spare_taken f.takes_spare b.spare) ≡ places p (held b) + places p (held_by_fresh f)
+    places p (held (with_fresh f b)) + places p (spare_used f.takes_spare b.spare) ≡ places p (held b) + places p (held_by_fresh f)
 nodes-come p f b none =
     let t = is_same p in
     let old = file-places p b in
@@ -243,7 +243,7 @@ present-listed (AlwaysPart i) l b = refl
 -- A growth that places what it makes, each once.
 pub HasOneParent-growth :
     (b : Bench) (l : Listing) (f : Fresh) → ((p : Part) → places p (read_off held_by_module f.fresh_module) ≡ 0) →
-    held_by_listing l ++ held_by_fresh f ≡ made b f ++ spare_taken f.takes_spare b.spare → HasOneParent b → HasOneParent (after_growth l f b)
+    held_by_listing l ++ held_by_fresh f ≡ made b f ++ spare_used f.takes_spare b.spare → HasOneParent b → HasOneParent (after_growth l f b)
 HasOneParent-growth b l f none placed h =
     record {
       once = λ p.
@@ -255,7 +255,7 @@ HasOneParent-growth b l f none placed h =
           let more = present-made p f b in
           let same = ap (places p) placed in
           let left = count-append t (held_by_listing l) (held_by_fresh f) in
-          let right = count-append t (made b f) (spare_taken f.takes_spare b.spare) in
+          let right = count-append t (made b f) (spare_used f.takes_spare b.spare) in
           omega (arith, old, nodes, entry, there, more, same, left, right);
     }
 

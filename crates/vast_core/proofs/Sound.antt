@@ -228,7 +228,7 @@ NestSound-kept b c g i (LoopNestRecord l) h =
     record {
       genvar = logic_ref-kept b c g l.genvar h.genvar;
       start = HasExpr-kept b.nodes c.nodes g.nodes l.start h.start;
-      limit = HasExpr-kept b.nodes c.nodes g.nodes l.limit h.limit;
+      end = HasExpr-kept b.nodes c.nodes g.nodes l.end h.end;
       members = Each-map (LoopMemberSound-kept b c g i) l.members h.members;
     }
 

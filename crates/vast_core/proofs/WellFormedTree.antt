@@ -133,7 +133,7 @@ nest-good : (b : Bench) → AreWellFormed b → FileSound b → (f : ℕ → Fam
 nest-good b w s f g n (BlockRecord statements) h = statements-good b w s.records f g statements
 nest-good b w s f g n (ConditionalNestRecord c) h = (expr-good b w c.condition h.condition, block-good (f (block_index c.consequent)) (g (block_index c.consequent)), alternates-good b w f g n c.else_ifs c.otherwise h.else_ifs)
 nest-good b w s f g n (CaseNestRecord c) h = both_true (expr-good b w c.selector h.selector) (arms-good b w f g n c.arms h.arms)
-nest-good b w s f g n (LoopNestRecord l) h = both_true (both_true (expr-good b w l.start h.start) (expr-good b w l.limit h.limit)) (loop_members-good b w s f g n l.members h.members)
+nest-good b w s f g n (LoopNestRecord l) h = both_true (both_true (expr-good b w l.start h.start) (expr-good b w l.end h.end)) (loop_members-good b w s f g n l.members h.members)
 
 family-good : (b : Bench) → AreWellFormed b → FileSound b → (f : ℕ → Family) → ((i : ℕ) → IsGood (f i)) → (n : ℕ) (ns : List NestRecord) → NestsSound b n ns → (i : ℕ) → IsGood (family b f (slice_get ns i))
 family-good b w s f g n [] h i = tt

@@ -252,15 +252,15 @@ made_containers n (Some x) true = ContainerPart n ∷ ContainerPart (suc n) ∷ 
 abbrev pub made : Bench → Fresh → List Part
 made b f = read_off (λ x. FunctionPart (length b.functions) ∷ []) f.function ++ (read_off (λ x. AlwaysPart (length b.always_blocks) ∷ []) f.always_block ++ made_containers (length b.nests) f.container f.block)
 
-abbrev pub spare_taken : Bool → Option VastStatementBlock → List Part
-spare_taken false spare = []
-spare_taken true spare = held_by_block spare
+abbrev pub spare_used : Bool → Option VastStatementBlock → List Part
+spare_used false spare = []
+spare_used true spare = held_by_block spare
 
 pub record GrowthSound (b : Bench) (l : Listing) (f : Fresh) : Type 0 where
   pub fresh : FreshSound b (with_fresh f b) f
   pub listing : ListingSound b (with_fresh f b) l
   -- What is made is placed, each once, and so is the spare block that is taken.
-  pub placed : held_by_listing l ++ held_by_fresh f ≡ made b f ++ spare_taken f.takes_spare b.spare
+  pub placed : held_by_listing l ++ held_by_fresh f ≡ made b f ++ spare_used f.takes_spare b.spare
 
 abbrev pub after_growth : Listing → Fresh → Bench → Bench
 after_growth l f b = with_listing l (with_fresh f b)

@@ -169,7 +169,7 @@ family b f None = NoFamily
 family b f (Some (BlockRecord statements)) = BlockFamily (statements_in b f statements)
 family b f (Some (ConditionalNestRecord c)) = ConditionalFamily (tree_of b c.condition) (block_in (f (block_index c.consequent))) (alternates_in b f c.else_ifs c.otherwise)
 family b f (Some (CaseNestRecord c)) = CaseFamily (CaseTree c.unique c.kind (tree_of b c.selector) (arms_in b f c.arms))
-family b f (Some (LoopNestRecord l)) = LoopFamily (LoopMember l.name (tree_of b l.start) (tree_of b l.limit) l.label (members_in b f l.members))
+family b f (Some (LoopNestRecord l)) = LoopFamily (LoopMember l.name (tree_of b l.start) (tree_of b l.end) l.label (members_in b f l.members))
 
 -- The tree of container i, this many levels deep.
 abbrev pub unfolded : Bench → ℕ → ℕ → Family

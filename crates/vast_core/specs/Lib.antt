@@ -4,6 +4,7 @@ pub mod Nodes
 pub mod Records
 pub mod Nests
 pub mod Raw
+pub mod Arenas
 pub mod Bench
 pub mod BitCount
 pub mod View

@@ -56,10 +56,10 @@ fresh_always a = record no_fresh { block = true; always_block = Some a }
 
 -- A loop without members, and its variable's name as an expression.
 abbrev pub new_loop : Bench → List ℕ → Expr → Expr → Option (List ℕ) → NestRecord
-new_loop b name start limit label = LoopNestRecord (record { genvar = next_logic_ref b; name = name; start = start; limit = limit; label = label; members = [] })
+new_loop b name start end label = LoopNestRecord (record { genvar = next_logic_ref b; name = name; start = start; end = end; label = label; members = [] })
 
 abbrev pub with_loop : List ℕ → Expr → Expr → Option (List ℕ) → Bench → Bench
-with_loop name start limit label b = with_expr (NameTree name Untyped) (with_nest (new_loop b name start limit label) b)
+with_loop name start end label b = with_expr (NameTree name Untyped) (with_nest (new_loop b name start end label) b)
 
 abbrev pub name_term : String Global → Option VastDataType → Term
 name_term name type = Expression (Name name type)

@@ -49,12 +49,12 @@ pub record CaseRecord : Type 0 where
   pub selector : Expr
   pub arms : List CaseArm
 
--- A generate loop; its variable runs from a start on while it is below a limit.
+-- A generate loop; its variable runs from a start on while it is below an end.
 pub record LoopRecord : Type 0 where
   pub genvar : LogicRef
   pub name : List ℕ
   pub start : Expr
-  pub limit : Expr
+  pub end : Expr
   pub label : Option (List ℕ)
   pub members : List MemberEntry
 
@@ -115,7 +115,7 @@ label_bytes None = None
 label_bytes (Some text) = Some (string_bytes text)
 
 abbrev pub loop_record : LoopNode → LoopRecord
-loop_record l = record { genvar = l.genvar; name = string_bytes l.name; start = l.start; limit = l.limit; label = label_bytes l.label; members = map member_entry l.members.items }
+loop_record l = record { genvar = l.genvar; name = string_bytes l.name; start = l.start; end = l.end; label = label_bytes l.label; members = map member_entry l.members.items }
 
 abbrev pub nest_record : Nest → NestRecord
 nest_record (BlockNode statements) = BlockRecord (map statement_entry statements.items)

@@ -118,7 +118,7 @@ LoopMemberSound b i entry = MemberSound b entry × MemberNewer b i entry
 pub record LoopSound (b : Bench) (i : ℕ) (l : LoopRecord) : Type 0 where
   pub genvar : OwnsLogicRef b l.genvar
   pub start : OwnsExpr b l.start
-  pub limit : OwnsExpr b l.limit
+  pub end : OwnsExpr b l.end
   pub members : Each (LoopMemberSound b i) l.members
 
 -- What container i holds is the file's, and newer than it.

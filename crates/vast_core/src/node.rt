@@ -259,14 +259,14 @@ pub struct CaseNode {
     pub arms: Vec<CaseArm>,
 }
 
-/// A generate loop: its variable runs from `start` on while it is below `limit`.
+/// A generate loop: its variable runs from `start` on while it is below `end`.
 #[derive(Drop)]
 pub struct LoopNode {
     /// The variable as an expression.
     pub genvar: LogicRef,
     pub name: String,
     pub start: Expr,
-    pub limit: Expr,
+    pub end: Expr,
     pub label: Option<String>,
     pub members: Vec<Member>,
 }

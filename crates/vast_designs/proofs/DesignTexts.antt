@@ -10,7 +10,7 @@ use Rattle.vast_core.specs.FileTree.{tree, families}
 use Rattle.vast_print.specs.Printed.{plain_text, ◌⊕◌, spaced}
 use Rattle.vast_print.specs.Text.{expr_text, list_text, more_text}
 use Rattle.vast_print.specs.Statements.{begin_end, statement_page, statements_page, block_page, arms_page}
-use Rattle.vast_print.specs.Declaration.{packed_text, unpacked_text, limit_text, joined, based_text, type_text, name_text, declaration_text}
+use Rattle.vast_print.specs.Declaration.{packed_text, unpacked_text, highest_index_text, with_dimensions, based_text, type_text, name_text, declaration_text}
 use Rattle.vast_print.specs.Page.{print_lines, print, no_lines, line, inner_lines, inner, lead_lines, lead, above, beside_lines, written_lines, written, beside, commented_lines, commented}
 use Rattle.vast_print.specs.Members.{entries_page, input_text, inputs_text, more_inputs_text, local_page, locals_page, function_body_page, function_page, member_page, members_page}
 use Rattle.vast_print.specs.Layout.{port_text, ports_page, opening_page, header_page, body_page, module_page, item_page, items_page, layout}
@@ -29,11 +29,11 @@ use Rattle.vast_designs.specs.DesignTexts.{passthrough_text, cases_text}
 -- A design's calls print its text.
 
 pub passthrough_printed : calls_text passthrough_calls ≡ passthrough_text
-unfolding calls_text passthrough_calls passthrough_text found one two is_free tree families expr_in type_in print print_lines layout items_page item_page module_page header_page opening_page ports_page port_text entries_page body_page members_page member_page expr_text declaration_text name_text type_text based_text packed_text unpacked_text limit_text joined spaced inner inner_lines lead lead_lines no_lines line above beside_lines written written_lines plain_text ◌⊕◌ digits
+unfolding calls_text passthrough_calls passthrough_text found one two is_free tree families expr_in type_in print print_lines layout items_page item_page module_page header_page opening_page ports_page port_text entries_page body_page members_page member_page expr_text declaration_text name_text type_text based_text packed_text unpacked_text highest_index_text with_dimensions spaced inner inner_lines lead lead_lines no_lines line above beside_lines written written_lines plain_text ◌⊕◌ digits
 passthrough_printed = refl
 
 pub cases_printed : calls_text cases_calls ≡ cases_text
-unfolding calls_text cases_calls cases_text found one two three many is_free is_pattern pattern already_declared declared_in_function tree families expr_in type_in print print_lines layout items_page item_page module_page header_page opening_page ports_page port_text entries_page body_page members_page member_page function_page local_page locals_page input_text inputs_text more_inputs_text function_body_page begin_end statement_page statements_page block_page arms_page list_text more_text expr_text declaration_text name_text type_text based_text packed_text unpacked_text limit_text joined spaced inner inner_lines lead lead_lines no_lines line above beside beside_lines written written_lines commented commented_lines plain_text ◌⊕◌ digits
+unfolding calls_text cases_calls cases_text found one two three many is_free is_pattern pattern already_declared declared_in_function tree families expr_in type_in print print_lines layout items_page item_page module_page header_page opening_page ports_page port_text entries_page body_page members_page member_page function_page local_page locals_page input_text inputs_text more_inputs_text function_body_page begin_end statement_page statements_page block_page arms_page list_text more_text expr_text declaration_text name_text type_text based_text packed_text unpacked_text highest_index_text with_dimensions spaced inner inner_lines lead lead_lines no_lines line above beside beside_lines written written_lines commented commented_lines plain_text ◌⊕◌ digits
 cases_printed = refl
 
 -- A file that a run of the steps has built prints what their calls print.

@@ -4,7 +4,7 @@ use Rattle.std.proofs.lemmas.List.Elements.{All-cons, All-nil}
 use Rattle.vast_literal.specs.declared.literal.LiteralFormat.TheVariants.{Hex}
 use Rattle.vast_literal.specs.Digits.{is_numeral, digits_in, number_in, lowest_digits, digit_count, separator}
 use Rattle.vast_literal.specs.Literal.{literal_of, typed_parts, split_at, without_sign, has_minus, radix_and_digits, is_decimal, width_of, fits_in, modulo_width, magnitude_of, fitted, value_of}
-use Rattle.vast_literal.specs.LiteralText.{spelled}
+use Rattle.vast_literal.specs.LiteralText.{format_text}
 use Rattle.vast_literal.specs.Tree.{LiteralTree, ScalarTree}
 use Rattle.std.specs.Fmt.{digits}
 use Rattle.vast_core.specs.declared.handle.Expr.{Expr}
@@ -107,11 +107,11 @@ step10 b c m t r e em et h =
     rw (made.1, made.0, e, em, et) (refl, refl)
 
 step11 : (b c : Bench) (x : Expr) → b ≡ state_made → IsOkAnd (literal_in Hex (codes "bits[8]:0xaa")) (λ tree. (x ≡ next_expr b) × (c ≡ with_expr tree b)) → (x ≡ first_value) × (c ≡ b11)
-unfolding signals_made state_made b11 is_numeral digits_in number_in lowest_digits digit_count separator literal_of typed_parts split_at without_sign has_minus radix_and_digits is_decimal width_of fits_in modulo_width magnitude_of fitted value_of spelled digits
+unfolding signals_made state_made b11 is_numeral digits_in number_in lowest_digits digit_count separator literal_of typed_parts split_at without_sign has_minus radix_and_digits is_decimal width_of fits_in modulo_width magnitude_of fitted value_of format_text digits
 step11 b c x e h = rw (h.1, h.0, e) (refl, refl)
 
 step12 : (b c : Bench) (x : Expr) → b ≡ b11 → IsOkAnd (literal_in Hex (codes "bits[8]:0x55")) (λ tree. (x ≡ next_expr b) × (c ≡ with_expr tree b)) → (x ≡ second_value) × (c ≡ values_made)
-unfolding signals_made state_made b11 values_made is_numeral digits_in number_in lowest_digits digit_count separator literal_of typed_parts split_at without_sign has_minus radix_and_digits is_decimal width_of fits_in modulo_width magnitude_of fitted value_of spelled digits
+unfolding signals_made state_made b11 values_made is_numeral digits_in number_in lowest_digits digit_count separator literal_of typed_parts split_at without_sign has_minus radix_and_digits is_decimal width_of fits_in modulo_width magnitude_of fitted value_of format_text digits
 step12 b c x e h = rw (h.1, h.0, e) (refl, refl)
 
 -- The handles that the calls take are the file's.

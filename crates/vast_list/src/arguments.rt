@@ -16,7 +16,7 @@ pub(crate) struct Arguments<'a> {
 }
 
 /// What stands as one or more arguments.
-pub(crate) trait Taken: Sized + Drop {
+pub(crate) trait FromArguments: Sized + Drop {
     /// Takes it from the front.
     ///
     /// # Errors
@@ -118,7 +118,7 @@ impl<'a> Arguments<'a> {
     }
 
     /// What is made of one argument.
-    pub(crate) fn one<A: Taken, R, M>(mut self, make: M) -> Result<R, Problem>
+    pub(crate) fn one<A: FromArguments, R, M>(mut self, make: M) -> Result<R, Problem>
     where
         M: FnOnce(A) -> R + Drop,
         requires { M.IsAlwaysCallable make }
@@ -129,7 +129,7 @@ impl<'a> Arguments<'a> {
     }
 
     /// What is made of two arguments.
-    pub(crate) fn two<A: Taken, B: Taken, R, M>(mut self, make: M) -> Result<R, Problem>
+    pub(crate) fn two<A: FromArguments, B: FromArguments, R, M>(mut self, make: M) -> Result<R, Problem>
     where
         M: FnOnce(A, B) -> R + Drop,
         requires { M.IsAlwaysCallable make }
@@ -141,7 +141,7 @@ impl<'a> Arguments<'a> {
     }
 
     /// What is made of three arguments.
-    pub(crate) fn three<A: Taken, B: Taken, C: Taken, R, M>(mut self, make: M) -> Result<R, Problem>
+    pub(crate) fn three<A: FromArguments, B: FromArguments, C: FromArguments, R, M>(mut self, make: M) -> Result<R, Problem>
     where
         M: FnOnce(A, B, C) -> R + Drop,
         requires { M.IsAlwaysCallable make }
@@ -154,7 +154,7 @@ impl<'a> Arguments<'a> {
     }
 
     /// What is made of four arguments.
-    pub(crate) fn four<A: Taken, B: Taken, C: Taken, D: Taken, R, M>(
+    pub(crate) fn four<A: FromArguments, B: FromArguments, C: FromArguments, D: FromArguments, R, M>(
         mut self,
         make: M,
     ) -> Result<R, Problem>
@@ -171,7 +171,7 @@ impl<'a> Arguments<'a> {
     }
 
     /// What is made of five arguments.
-    pub(crate) fn five<A: Taken, B: Taken, C: Taken, D: Taken, E: Taken, R, M>(
+    pub(crate) fn five<A: FromArguments, B: FromArguments, C: FromArguments, D: FromArguments, E: FromArguments, R, M>(
         mut self,
         make: M,
     ) -> Result<R, Problem>
@@ -189,7 +189,7 @@ impl<'a> Arguments<'a> {
     }
 
     /// What is made of six arguments.
-    pub(crate) fn six<A: Taken, B: Taken, C: Taken, D: Taken, E: Taken, F: Taken, R, M>(
+    pub(crate) fn six<A: FromArguments, B: FromArguments, C: FromArguments, D: FromArguments, E: FromArguments, F: FromArguments, R, M>(
         mut self,
         make: M,
     ) -> Result<R, Problem>

@@ -6,6 +6,7 @@
 mod again;
 mod arguments;
 mod calls;
+mod from_arguments;
 mod handles;
 mod lines;
 mod list;
@@ -14,7 +15,6 @@ mod problem;
 mod questions;
 mod refusal;
 mod report;
-mod taken;
 mod tries;
 
 pub use lines::{HEADER, ListLines};

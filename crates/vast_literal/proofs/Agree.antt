@@ -1,7 +1,7 @@
 -- Two readings that agree, and leave fewer tokens than a bound.
 use Rattle.std.proofs.Common.{◌≡◌, ℕ, suc, ◌+◌, ◌*◌, ◌≤◌, ◌<◌, true, false, cond, nat_eq, List, [], ◌∷◌, length, Option, Some, None, refl, sym, ◌∙◌, subst, arith}
 use Rattle.vast_literal.specs.Tokens.{LessEqual, Punct, Assign, Key, Token, Reserved, Operator, Mark}
-use Rattle.vast_literal.specs.Parser.{◌>>=◌, Parser, after, key_at, enclosed}
+use Rattle.vast_literal.specs.Parser.{◌>>=◌, Parser, after, key_at, enclosed_at}
 use Rattle.vast_literal.specs.StatementParser.{key_code, after_key_on, after_key, arrow_at}
 use Rattle.vast_literal.proofs.Sound.{after_is}
 use Rattle.vast_literal.proofs.Same.{Within, Same, FewerIn}
@@ -124,6 +124,6 @@ fewer_arrow (Mark _ ∷ us) = tt
 fewer_arrow (Operator _ ∷ us) = tt
 fewer_arrow (_ ∷ us) = tt
 
-pub enclosed_agree : (n : ℕ) (p q : Parser) → Both n p q → (close : Punct) (ts : List Token) → 5 * length ts + 3 < n → Agree (length ts) (enclosed p close ts) (enclosed q close ts)
-unfolding enclosed
+pub enclosed_agree : (n : ℕ) (p q : Parser) → Both n p q → (close : Punct) (ts : List Token) → 5 * length ts + 3 < n → Agree (length ts) (enclosed_at p close ts) (enclosed_at q close ts)
+unfolding enclosed_at
 enclosed_agree n p q b close ts h = chain (of_same (b.expression_at ts h)) (λ x s. behind close x.1 (λ us l. ready (x.0, us) (omega arith)))

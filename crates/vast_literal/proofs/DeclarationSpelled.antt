@@ -7,15 +7,15 @@ use Rattle.vast_literal.specs.NormalExpr.{scalar_sign, integer_sign, normal}
 use Rattle.vast_literal.specs.Grammar.{Spells, binary, number}
 use Rattle.vast_literal.specs.FileGrammar.{IsMany, no_items, more_items, is_kind, is_sign, IsGroup, one, range, IsMaybe, absent, present, IsTypeName, no_type, own_type, packaged, IsDeclaration, declares}
 use Rattle.vast_literal.specs.Plain.{is_plain_name, is_plain, is_plain_type, is_edgeless, is_edgeless_type}
-use Rattle.vast_literal.specs.Shape.{starts_with_minus, limit_wraps, base_of, port_kind}
+use Rattle.vast_literal.specs.Shape.{starts_with_minus, highest_index_wraps, base_of, port_kind}
 use Rattle.vast_literal.specs.ExprTokens.{expr_tokens}
 use Rattle.vast_literal.specs.WellFormed.{is_well_formed, is_well_formed_type}
-use Rattle.vast_literal.specs.NormalTree.{kind_key, package_of, type_name_of, sign_of, number_expr, zero_expr, limit_expr, vector_groups, packed_ranges, packed_groups, unpacked_group, unpacked_ranges, unpacked_groups, normal_declaration, normal_declared, normal_port_declaration}
-use Rattle.vast_literal.specs.FileTokens.{maybe_tokens, type_name_tokens, number_tokens, zero_tokens, limit_tokens, vector_tokens, packed_range_tokens, packed_tokens, unpacked_dimension_tokens, unpacked_range_tokens, unpacked_tokens, declaration_tokens, declared_tokens, port_declaration_tokens}
+use Rattle.vast_literal.specs.NormalTree.{kind_key, package_of, type_name_of, sign_of, number_expr, zero_expr, highest_index_expr, vector_groups, packed_ranges, packed_groups, unpacked_group, unpacked_ranges, unpacked_groups, normal_declaration, normal_declared, normal_port_declaration}
+use Rattle.vast_literal.specs.FileTokens.{maybe_tokens, type_name_tokens, number_tokens, zero_tokens, highest_index_tokens, vector_tokens, packed_range_tokens, packed_tokens, unpacked_dimension_tokens, unpacked_range_tokens, unpacked_tokens, declaration_tokens, declared_tokens, port_declaration_tokens}
 use Rattle.vast_literal.specs.PlainFile.{is_plain_value, is_left_side, is_plain_declaration, is_plain_declared}
 use Rattle.vast_literal.proofs.ScanLaws.{and_left, and_right}
 use Rattle.vast_literal.proofs.Sound.{lower}
-use Rattle.vast_literal.proofs.Precedence.{literal_level, spelled_level, literal_bound, level_bound, limit_bound}
+use Rattle.vast_literal.proofs.Precedence.{literal_level, spelled_level, literal_bound, level_bound, highest_index_bound}
 use Rattle.vast_literal.proofs.Spelled.{wrapped_spells, literal_spells, low, spelled}
 
 pub many_append : {A : Type 0} {P : List Token → A → Type 0} {ts us : List Token} {xs ys : List A} → IsMany P ts xs → IsMany P us ys → IsMany P (ts ++ us) (xs ++ ys)
@@ -49,17 +49,17 @@ number_spelled z = let t = signed_decimal z in let b = literal_bound (starts_wit
 zero_spelled : Spells 0 zero_tokens zero_expr
 zero_spelled = lower 14 0 _ _ (omega arith) (omega arith) (number (codes "0"))
 
-limit_spelled : (w : ExprTree) (v : Option ℤ) → is_edgeless w ≡ true → is_well_formed w ≡ true → Spells 0 (limit_tokens w v) (limit_expr w v)
-unfolding limit_tokens limit_expr level
-limit_spelled w (Some v) l f = number_spelled (v -ℤ pos 1)
-limit_spelled w None l f = let b = level_bound w in
-    lower 9 0 _ _ (omega arith) (omega arith) (binary Minus (omega arith) (wrapped_spells (limit_wraps w) (spelled_level w) 9 _ _ (omega arith) (omega arith) (limit_bound w) (spelled w l f)) (lower 14 10 _ _ (omega arith) (omega arith) (number (codes "1"))))
+highest_index_spelled : (w : ExprTree) (v : Option ℤ) → is_edgeless w ≡ true → is_well_formed w ≡ true → Spells 0 (highest_index_tokens w v) (highest_index_expr w v)
+unfolding highest_index_tokens highest_index_expr level
+highest_index_spelled w (Some v) l f = number_spelled (v -ℤ pos 1)
+highest_index_spelled w None l f = let b = level_bound w in
+    lower 9 0 _ _ (omega arith) (omega arith) (binary Minus (omega arith) (wrapped_spells (highest_index_wraps w) (spelled_level w) 9 _ _ (omega arith) (omega arith) (highest_index_bound w) (spelled w l f)) (lower 14 10 _ _ (omega arith) (omega arith) (number (codes "1"))))
 
 -- groups
 
 vector_spelled : (base : TypeTree) → is_edgeless_type base ≡ true → is_well_formed_type base ≡ true → IsMany IsGroup (vector_tokens base) (vector_groups base)
 unfolding vector_tokens vector_groups
-vector_spelled (VectorTree w v signed) l f = many_one (range (limit_spelled w v l f) zero_spelled)
+vector_spelled (VectorTree w v signed) l f = many_one (range (highest_index_spelled w v l f) zero_spelled)
 vector_spelled _ l f = no_items
 
 packed_range_spelled : (ds : List ℤ) → IsMany IsGroup (packed_range_tokens ds) (packed_ranges ds)

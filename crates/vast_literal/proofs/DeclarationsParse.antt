@@ -6,7 +6,7 @@ use Rattle.vast_literal.specs.NormalFile.{Group, One, Range, NormalDeclaration}
 use Rattle.vast_literal.specs.FileGrammar.{OneDeclaration, IsMany, no_items, more_items, is_kind, is_sign, IsGroup, one, range, IsMaybe, absent, present, IsTypeName, no_type, own_type, packaged, IsDeclaration, declares}
 use Rattle.vast_literal.specs.Parser.{Parser, lead, code, after, key_at, word_at, run}
 use Rattle.vast_literal.specs.StatementParser.{ReadOf}
-use Rattle.vast_literal.specs.DeclarationParser.{many_on, many, group_on, group_at, is_bracket, Fueled, groups_at, maybe_on, maybe_at, signed_at, sign_on, named_on, unscoped, worded, typed_on, kinded, declaration_at}
+use Rattle.vast_literal.specs.DeclarationParser.{many_on, many, group_on, group_at, is_bracket, Fueled, groups_at, maybe_on, maybe_at, signed_at, sign_on, named_on, unscoped_on, worded_on, typed_on, kind_on, declaration_at}
 use Rattle.vast_literal.proofs.Gives.{Gives, Soon, by_fuel, now, same, same2, later2, one_result}
 use Rattle.vast_literal.proofs.Moves.{bound, after_self, enclosed_gives}
 use Rattle.vast_literal.proofs.StatementsParse.{expression_parses}
@@ -140,28 +140,28 @@ sign_parses k s p t g h n ss gs hs q us (present x ok) ig ih iq = same (λ m e. 
 -- behind a word that is no package
 
 named_type : (f : Fueled) (m : ℕ) (k : Option Key) (w n : List ℕ) (g h : List Group) (ts us rest : List Token) → groups_at f m ts ≡ Some (g, Word n ∷ us) → groups_at f m us ≡ Some (h, rest) →
-    unscoped f m k w (None, ts) ≡ Some (made k None (Some w) None g n h, rest)
-unfolding unscoped named_on
+    unscoped_on f m k w (None, ts) ≡ Some (made k None (Some w) None g n h, rest)
+unfolding unscoped_on named_on
 named_type f m k w n g h ts us rest e d = bound _ e (subst (λ o. named_on f m k w g (Word n ∷ us) o ≡ Some (made k None (Some w) None g n h, rest)) (sym (word_word n us)) (bound _ d refl))
 
-named_alone : (f : Fueled) (m : ℕ) (k : Option Key) (w : List ℕ) (g : List Group) (ts rest : List Token) → groups_at f m ts ≡ Some (g, rest) → word_at rest ≡ None → unscoped f m k w (None, ts) ≡ Some (made k None None None [] w g, rest)
-unfolding unscoped named_on
+named_alone : (f : Fueled) (m : ℕ) (k : Option Key) (w : List ℕ) (g : List Group) (ts rest : List Token) → groups_at f m ts ≡ Some (g, rest) → word_at rest ≡ None → unscoped_on f m k w (None, ts) ≡ Some (made k None None None [] w g, rest)
+unfolding unscoped_on named_on
 named_alone f m k w g ts rest e h = bound _ e (subst (λ o. named_on f m k w g rest o ≡ Some (made k None None None [] w g, rest)) (sym h) refl)
 
 -- a own_type with no package
 type_parses : (k s : Option Key) (t : List ℕ) (g h : List Group) (n : List ℕ) (ss gs hs : List Token) (q : Punct) (us : List Token) → IsMaybe is_sign ss s → IsMany IsGroup gs g → IsMany IsGroup hs h → IsEnd q →
-    Soon (λ m. unscoped run m k t (maybe_at is_sign (ss ++ (gs ++ (Word n ∷ (hs ++ (Mark q ∷ us))))))) (made k None (Some t) s g n h, Mark q ∷ us)
-unfolding unscoped
-type_parses k s t g h n ss gs hs q us absent ig ih iq = same2 (λ m e d. subst (λ v. unscoped run m k t v ≡ Some (made k None (Some t) None g n h, Mark q ∷ us)) (sym ((groups_follow gs g ig _ (word_follows n _)).sign))
+    Soon (λ m. unscoped_on run m k t (maybe_at is_sign (ss ++ (gs ++ (Word n ∷ (hs ++ (Mark q ∷ us))))))) (made k None (Some t) s g n h, Mark q ∷ us)
+unfolding unscoped_on
+type_parses k s t g h n ss gs hs q us absent ig ih iq = same2 (λ m e d. subst (λ v. unscoped_on run m k t v ≡ Some (made k None (Some t) None g n h, Mark q ∷ us)) (sym ((groups_follow gs g ig _ (word_follows n _)).sign))
     (named_type run m k t n g h _ (hs ++ (Mark q ∷ us)) (Mark q ∷ us) e d))
     (groups_parse gs g ig (Word n ∷ (hs ++ (Mark q ∷ us))) (word_bracket n _)) (groups_parse hs h ih (Mark q ∷ us) (end_bracket q us iq))
-type_parses k s t g h n ss gs hs q us (present x ok) ig ih iq = same (λ m e. subst (λ v. unscoped run m k t v ≡ Some (made k None (Some t) (Some x) g n h, Mark q ∷ us)) (sym (maybe_present is_sign x _ ok)) e)
+type_parses k s t g h n ss gs hs q us (present x ok) ig ih iq = same (λ m e. subst (λ v. unscoped_on run m k t v ≡ Some (made k None (Some t) (Some x) g n h, Mark q ∷ us)) (sym (maybe_present is_sign x _ ok)) e)
     (signed_parses k (Some x) None (Some t) g h n gs hs q us ig ih iq)
 
 -- a name and silent before it
 name_parses : (k : Option Key) (h : List Group) (n : List ℕ) (hs : List Token) (q : Punct) (us : List Token) → IsMany IsGroup hs h → IsEnd q →
-    Soon (λ m. unscoped run m k n (maybe_at is_sign (hs ++ (Mark q ∷ us)))) (made k None None None [] n h, Mark q ∷ us)
-name_parses k h n hs q us ih iq = same (λ m e. subst (λ v. unscoped run m k n v ≡ Some (made k None None None [] n h, Mark q ∷ us)) (sym ((groups_follow hs h ih _ (end_follows q us iq)).sign))
+    Soon (λ m. unscoped_on run m k n (maybe_at is_sign (hs ++ (Mark q ∷ us)))) (made k None None None [] n h, Mark q ∷ us)
+name_parses k h n hs q us ih iq = same (λ m e. subst (λ v. unscoped_on run m k n v ≡ Some (made k None None None [] n h, Mark q ∷ us)) (sym ((groups_follow hs h ih _ (end_follows q us iq)).sign))
     (named_alone run m k n h _ (Mark q ∷ us) e (end_no_word q us)))
     (groups_parse hs h ih (Mark q ∷ us) (end_bracket q us iq))
 
@@ -171,15 +171,15 @@ sign_scope ss s absent rest h = h
 sign_scope ss s (present k ok) rest h = refl
 
 -- from the own_type on
-word_first : (f : Fueled) (m : ℕ) (k : Option Key) (w : List ℕ) (ts : List Token) (x : NormalDeclaration × List Token) → after DoubleColon ts ≡ None → unscoped f m k w (maybe_at is_sign ts) ≡ Some x → typed_on f m k (Word w ∷ ts) (word_at (Word w ∷ ts)) ≡ Some x
-unfolding typed_on worded
-word_first f m k w ts x h e = subst (λ o. typed_on f m k (Word w ∷ ts) o ≡ Some x) (sym (word_word w ts)) (subst (λ o. worded f m k w ts o ≡ Some x) (sym h) e)
+word_first : (f : Fueled) (m : ℕ) (k : Option Key) (w : List ℕ) (ts : List Token) (x : NormalDeclaration × List Token) → after DoubleColon ts ≡ None → unscoped_on f m k w (maybe_at is_sign ts) ≡ Some x → typed_on f m k (Word w ∷ ts) (word_at (Word w ∷ ts)) ≡ Some x
+unfolding typed_on worded_on
+word_first f m k w ts x h e = subst (λ o. typed_on f m k (Word w ∷ ts) o ≡ Some x) (sym (word_word w ts)) (subst (λ o. worded_on f m k w ts o ≡ Some x) (sym h) e)
 
 package_first : (f : Fueled) (m : ℕ) (k : Option Key) (p t : List ℕ) (ts : List Token) (x : NormalDeclaration × List Token) → sign_on f m k (Some p) (Some t) (maybe_at is_sign ts) ≡ Some x →
     typed_on f m k (Word p ∷ (Mark DoubleColon ∷ (Word t ∷ ts))) (word_at (Word p ∷ (Mark DoubleColon ∷ (Word t ∷ ts)))) ≡ Some x
-unfolding typed_on worded
+unfolding typed_on worded_on
 package_first f m k p t ts x e = subst (λ o. typed_on f m k (Word p ∷ (Mark DoubleColon ∷ (Word t ∷ ts))) o ≡ Some x) (sym (word_word p _))
-    (subst (λ o. worded f m k p (Mark DoubleColon ∷ (Word t ∷ ts)) o ≡ Some x) (sym (after_self DoubleColon _)) (bound _ (word_word t ts) e))
+    (subst (λ o. worded_on f m k p (Mark DoubleColon ∷ (Word t ∷ ts)) o ≡ Some x) (sym (after_self DoubleColon _)) (bound _ (word_word t ts) e))
 
 no_word_first : (f : Fueled) (m : ℕ) (k : Option Key) (ts : List Token) (x : NormalDeclaration × List Token) → word_at ts ≡ None → sign_on f m k None None (maybe_at is_sign ts) ≡ Some x → typed_on f m k ts (word_at ts) ≡ Some x
 unfolding typed_on
@@ -214,8 +214,8 @@ no_kind s p t g n ts ss gs us (own_type w) is ig = refl
 no_kind s p t g n ts ss gs us (packaged v w) is ig = refl
 
 kind_gives : (f : Fueled) (m : ℕ) (k : Option Key) (all ts : List Token) (x : NormalDeclaration × List Token) → ◌≡◌ {A = Option Key × List Token} (maybe_at is_kind all) (k, ts) → typed_on f m k ts (word_at ts) ≡ Some x → declaration_at f m all ≡ Some x
-unfolding declaration_at kinded
-kind_gives f m k all ts x h e = subst (λ v. kinded f m v ≡ Some x) (sym h) e
+unfolding declaration_at kind_on
+kind_gives f m k all ts x h e = subst (λ v. kind_on f m v ≡ Some x) (sym h) e
 
 kind_parses : (ks ts : List Token) (k : Option Key) → IsMaybe is_kind ks k → ◌≡◌ {A = Option Key × List Token} (maybe_at is_kind ts) (None, ts) → ◌≡◌ {A = Option Key × List Token} (maybe_at is_kind (ks ++ ts)) (k, ts)
 kind_parses ks ts k absent h = h

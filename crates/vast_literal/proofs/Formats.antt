@@ -8,7 +8,7 @@ use Rattle.std.proofs.Math.Pow.{pow_mono}
 use Rattle.vast_literal.specs.declared.literal.LiteralFormat.{LiteralFormat}
 use Rattle.vast_literal.specs.declared.literal.LiteralFormat.TheVariants.{Binary, Hex, SignedDecimal, UnsignedDecimal, UnsizedBinary, UnsizedDecimal, UnsizedHex}
 use Rattle.vast_literal.specs.Digits.{lowest_digits, digit_count, characters, grouped}
-use Rattle.vast_literal.specs.LiteralText.{padded_count, is_below_half, sized, signed_text, spelled}
+use Rattle.vast_literal.specs.LiteralText.{padded_count, is_below_half, sized, signed_text, format_text}
 use Rattle.vast_literal.specs.Denotes.{IsModulo}
 use Rattle.vast_literal.specs.Spells.{IsWritten, IsSeparated, Spells}
 use Rattle.vast_literal.proofs.Numbers.{pow-pow, both_parts}
@@ -54,8 +54,8 @@ signed_cases n v false e h s =
     let small : 2 ^ n - v < 2 ^ 128 = omega arith in
     (2 ^ n - v, decimal (2 ^ n - v), refl, omega arith, modulo_minus n v h, written-decimal (2 ^ n - v) small, decimal_no_gaps (2 ^ n - v) small)
 
-pub spells : (format : LiteralFormat) (n v : ℕ) → 1 ≤ n → v < 2 ^ n → v < 2 ^ 128 → Spells format n v (spelled format n v)
-unfolding spelled signed_text
+pub spells : (format : LiteralFormat) (n v : ℕ) → 1 ≤ n → v < 2 ^ n → v < 2 ^ 128 → Spells format n v (format_text format n v)
+unfolding format_text signed_text
 spells Binary n v p h s = record {
   number = v;
   digits = grouped (lowest_digits 2 (padded_count 1 n v) v);

@@ -7,7 +7,7 @@ use Rattle.vast_literal.specs.NormalFile.{NormalDeclaration, Event, EdgeEvent, N
 use Rattle.vast_literal.specs.FileGrammar.{IsMany, IsJoined, last_item, next_item, IsList, empty, full, absent, present, IsDeclaration, declares, is_local_kind, is_edge, IsEvent, edge, plain, IsInput, input, IsDeclared, declared, IsGiven, given, IsConnection, connected, unconnected}
 use Rattle.vast_literal.specs.Parser.{◌>>=◌, Parser, lead, code, after, key_at, word_at, run}
 use Rattle.vast_literal.specs.StatementParser.{ReadOf, after_key_on, after_key}
-use Rattle.vast_literal.specs.DeclarationParser.{joined_on, joined, listed_on, listed, declaration_at}
+use Rattle.vast_literal.specs.DeclarationParser.{joined_on, joined_at, listed_on, listed_at, declaration_at}
 use Rattle.vast_literal.specs.MemberParser.{event_on, event_at, connection_on, connection_at, given_at, connections_at, givens_at, input_at, inputs_at, local_on, is_local, local_at, locals_at}
 use Rattle.vast_literal.proofs.Gives.{Soon, by_fuel, at_once, same, later, later2}
 use Rattle.vast_literal.proofs.Moves.{Quiet, bound, after_self, enclosed_gives}
@@ -17,27 +17,27 @@ use Rattle.vast_literal.proofs.DeclarationsParse.{many_parses, IsEnd, at_semicol
 
 -- lists with something between
 
-joined_last : {A : Type 0} (m : ℕ) (between : List Token → Option (List Token)) (item : ℕ → List Token → ReadOf A) (x : A) (ts us : List Token) → item m ts ≡ Some (x, us) → between us ≡ None → joined (suc m) between item ts ≡ Some (x ∷ [], us)
-unfolding joined joined_on
-joined_last m between item x ts us e h = bound _ e (subst (λ o. joined_on (λ vs. joined m between item vs) x us o ≡ Some (x ∷ [], us)) (sym h) refl)
+joined_last : {A : Type 0} (m : ℕ) (between : List Token → Option (List Token)) (item : ℕ → List Token → ReadOf A) (x : A) (ts us : List Token) → item m ts ≡ Some (x, us) → between us ≡ None → joined_at (suc m) between item ts ≡ Some (x ∷ [], us)
+unfolding joined_at joined_on
+joined_last m between item x ts us e h = bound _ e (subst (λ o. joined_on (λ vs. joined_at m between item vs) x us o ≡ Some (x ∷ [], us)) (sym h) refl)
 
 joined_next : {A : Type 0} (m : ℕ) (between : List Token → Option (List Token)) (item : ℕ → List Token → ReadOf A) (x : A) (xs : List A) (ts us vs rest : List Token) → item m ts ≡ Some (x, us) → between us ≡ Some vs →
-    joined m between item vs ≡ Some (xs, rest) → joined (suc m) between item ts ≡ Some (x ∷ xs, rest)
-unfolding joined joined_on
-joined_next m between item x xs ts us vs rest e h d = bound _ e (subst (λ o. joined_on (λ ws. joined m between item ws) x us o ≡ Some (x ∷ xs, rest)) (sym h) (bound _ d refl))
+    joined_at m between item vs ≡ Some (xs, rest) → joined_at (suc m) between item ts ≡ Some (x ∷ xs, rest)
+unfolding joined_at joined_on
+joined_next m between item x xs ts us vs rest e h d = bound _ e (subst (λ o. joined_on (λ ws. joined_at m between item ws) x us o ≡ Some (x ∷ xs, rest)) (sym h) (bound _ d refl))
 
 module _ {A : Type 0} (P : List Token → A → Type 0) (Q : List Token → Type 0) (mark : Token) (between : List Token → Option (List Token)) (item : ℕ → List Token → ReadOf A)
     (meets : (us : List Token) → between (mark ∷ us) ≡ Some us) (goes : (us : List Token) → Q (mark ∷ us))
     (reads_one : (ts : List Token) (x : A) → P ts x → (rest : List Token) → Q rest → Soon (λ m. item m (ts ++ rest)) (x, rest)) where
-  pub joined_parses : (ts : List Token) (xs : List A) → IsJoined P mark ts xs → (rest : List Token) → Q rest → between rest ≡ None → Soon (λ m. joined m between item (ts ++ rest)) (xs, rest)
+  pub joined_parses : (ts : List Token) (xs : List A) → IsJoined P mark ts xs → (rest : List Token) → Q rest → between rest ≡ None → Soon (λ m. joined_at m between item (ts ++ rest)) (xs, rest)
   joined_parses ts xs (last_item {ts = us} {x = x} p) rest q h = later (λ m e. joined_last m between item x _ rest e h) (reads_one us x p rest q)
   joined_parses ts xs (next_item {ts = us} {us = vs} {x = x} {xs = ys} p ps) rest q h = simp append_assoc
       (later2 (λ m e d. joined_next m between item x ys _ (mark ∷ (vs ++ rest)) (vs ++ rest) rest e (meets (vs ++ rest)) d) (reads_one us x p (mark ∷ (vs ++ rest)) (goes (vs ++ rest))) (joined_parses vs ys ps rest q h))
 
   -- up to the closing mark, which begins no item
   pub listed_parses : (close : Punct) (starts : (ts : List Token) (x : A) → P ts x → (rest : List Token) → after close (ts ++ rest) ≡ None) → ((us : List Token) → Q (Mark close ∷ us)) → ((us : List Token) → between (Mark close ∷ us) ≡ None) →
-      (ts : List Token) (xs : List A) → IsList P mark ts xs → (rest : List Token) → Soon (λ m. listed m close between item (ts ++ (Mark close ∷ rest))) (xs, rest)
-  unfolding listed listed_on
+      (ts : List Token) (xs : List A) → IsList P mark ts xs → (rest : List Token) → Soon (λ m. listed_at m close between item (ts ++ (Mark close ∷ rest))) (xs, rest)
+  unfolding listed_at listed_on
   listed_parses close starts q n ts xs empty rest = at_once (λ m. subst (λ o. listed_on m close between item (Mark close ∷ rest) o ≡ Some ([], rest)) (sym (after_self close rest)) refl)
   listed_parses close starts q n ts xs (full j) rest = same (λ m e. subst (λ o. listed_on m close between item (ts ++ (Mark close ∷ rest)) o ≡ Some (xs, rest)) (sym (first ts xs j (Mark close ∷ rest))) (bound _ e (bound _ (after_self close rest) refl)))
       (joined_parses ts xs j (Mark close ∷ rest) (q rest) (n rest))
@@ -77,7 +77,7 @@ pub close_no_key : (k : Key) (us : List Token) → after_key k (Mark CloseParen 
 unfolding after_key after_key_on key_at
 close_no_key k us = refl
 
-pub events_parse : (ts : List Token) (xs : List Event) → IsList IsEvent (Reserved OrKey) ts xs → (rest : List Token) → Soon (λ m. listed m CloseParen (after_key OrKey) (λ j vs. event_at (run j) vs) (ts ++ (Mark CloseParen ∷ rest))) (xs, rest)
+pub events_parse : (ts : List Token) (xs : List Event) → IsList IsEvent (Reserved OrKey) ts xs → (rest : List Token) → Soon (λ m. listed_at m CloseParen (after_key OrKey) (λ j vs. event_at (run j) vs) (ts ++ (Mark CloseParen ∷ rest))) (xs, rest)
 events_parse ts xs h rest = listed_parses IsEvent (λ us. Quiet 0 us) (Reserved OrKey) (after_key OrKey) (λ j vs. event_at (run j) vs) (key_self OrKey) or_quiet event_parses CloseParen event_starts close_quiet (close_no_key OrKey) ts xs h rest
 
 connected_gives : (p : Parser) (n : List ℕ) (x : NormalExpr) (ts rest : List Token) → after CloseParen ts ≡ None → p.expression_at ts ≡ Some (x, Mark CloseParen ∷ rest) → connection_at p (Mark Dot ∷ (Word n ∷ (Mark OpenParen ∷ ts))) ≡ Some (record { name = n; value = Some x }, rest)

@@ -5,7 +5,7 @@ use Rattle.std.specs.Fmt.{digits}
 use Rattle.vast_literal.specs.declared.literal.LiteralFormat.TheVariants.{Binary, Hex, SignedDecimal, UnsizedHex}
 use Rattle.vast_literal.specs.Digits.{is_numeral, digits_in, number_in, lowest_digits, separator}
 use Rattle.vast_literal.specs.Literal.{split_at, typed_parts, without_sign, has_minus, radix_and_digits, is_decimal, width_of, fits_in, modulo_width, magnitude_of, fitted, value_of, literal_of, bad_digits_text, large_value_text}
-use Rattle.vast_literal.specs.LiteralText.{limit_text, limited, taken, is_below_half, signed_text, spelled}
+use Rattle.vast_literal.specs.LiteralText.{above_limit_text, within_limit, format_takes, is_below_half, signed_text, format_text}
 use Rattle.vast_literal.specs.Pattern.{is_pattern, pattern}
 use Rattle.vast_literal.specs.Quoted.{escaped, quoted}
 use Rattle.vast_literal.specs.WorkedLiterals.{WorkedLiterals}
@@ -29,20 +29,20 @@ large : literal_of (codes "bits[129]:-1") ≡ Err (codes "literal `bits[129]:-1`
 unfolding literal_of typed_parts split_at width_of is_decimal value_of magnitude_of fitted fits_in modulo_width without_sign has_minus radix_and_digits is_numeral number_in digits_in large_value_text
 large = refl
 
-padded : spelled Binary 9 3 ≡ codes "9'b0_0000_0011"
-unfolding spelled lowest_digits separator digits
+padded : format_text Binary 9 3 ≡ codes "9'b0_0000_0011"
+unfolding format_text lowest_digits separator digits
 padded = refl
 
-compact : spelled Hex 1025 0 ≡ codes "1025'h0"
-unfolding spelled lowest_digits separator digits
+compact : format_text Hex 1025 0 ≡ codes "1025'h0"
+unfolding format_text lowest_digits separator digits
 compact = refl
 
-negative : spelled SignedDecimal 128 (2 ^ 128 - 1) ≡ codes "-128'sd1"
-unfolding spelled signed_text is_below_half digits
+negative : format_text SignedDecimal 128 (2 ^ 128 - 1) ≡ codes "-128'sd1"
+unfolding format_text signed_text is_below_half digits
 negative = refl
 
-above : taken UnsizedHex 8589934591 ≡ Err (codes "unsized hexadecimal literal magnitude 8589934591 exceeds maximum 4294967295")
-unfolding limited limit_text digits
+above : format_takes UnsizedHex 8589934591 ≡ Err (codes "unsized hexadecimal literal magnitude 8589934591 exceeds maximum 4294967295")
+unfolding within_limit above_limit_text digits
 above = refl
 
 unknown : pattern (codes "1?0") ≡ Ok (codes "3'b1?0")

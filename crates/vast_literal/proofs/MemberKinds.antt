@@ -5,10 +5,10 @@ use Rattle.vast_literal.specs.NormalExpr.{NormalExpr, NormalExprs}
 use Rattle.vast_literal.specs.NormalFile.{NormalStatements, Arms, NormalDeclaration, Event, NormalMember, DeclarationPart, AssignPart, ParameterPart, MacroPart, AlwaysPart, ConditionalPart, NormalMembers, NoParts, MoreParts}
 use Rattle.vast_literal.specs.Grammar.{Spells, SpellsList}
 use Rattle.vast_literal.specs.FileGrammar.{IsList, IsDeclaration, is_member_kind, is_parameter_word, is_clocked, IsEvent, IsSemicolon, with_one, without}
-use Rattle.vast_literal.specs.Parser.{lead, code, after, key_at, arguments, selected, run}
+use Rattle.vast_literal.specs.Parser.{lead, code, after, key_at, arguments, selected_at, run}
 use Rattle.vast_literal.specs.StatementParser.{ReadOf, key_code, after_key_on, after_key, read_with}
-use Rattle.vast_literal.specs.DeclarationParser.{listed, declaration_at}
-use Rattle.vast_literal.specs.MemberParser.{event_at, semicolon_on, macro_end, macro_member, plain_member, block_with, keyed, member_on, members_on, members}
+use Rattle.vast_literal.specs.DeclarationParser.{listed_at, declaration_at}
+use Rattle.vast_literal.specs.MemberParser.{event_at, semicolon_on, macro_end, macro_member, plain_member, block_with, keyed_on, member_on, members_on, members}
 use Rattle.vast_literal.proofs.Gives.{Soon, by_fuel, now, at_once, same, same2, later2}
 use Rattle.vast_literal.proofs.Moves.{bound, after_self, enclosed_gives}
 use Rattle.vast_literal.proofs.Complete.{all_parsed}
@@ -52,7 +52,7 @@ macro_next w us = record { else_word = refl; open_paren = refl; semicolon = refl
 
 pub declared_gives : (n : ℕ) (k : Key) (d : NormalDeclaration) (us rest : List Token) → IsTrue (is_member_kind k) → declaration_at run n (Reserved k ∷ us) ≡ Some (d, Mark Semicolon ∷ rest) →
     member_by n (Reserved k ∷ us) ≡ Some (DeclarationPart d, rest)
-unfolding member_by key_at member_on keyed is_member_kind
+unfolding member_by key_at member_on keyed_on is_member_kind
 declared_gives n WireKey d us rest h e = bound _ e (bound _ (after_self Semicolon rest) refl)
 declared_gives n RegKey d us rest h e = bound _ e (bound _ (after_self Semicolon rest) refl)
 declared_gives n LogicKey d us rest h e = bound _ e (bound _ (after_self Semicolon rest) refl)
@@ -83,7 +83,7 @@ declared_parses ds us d k e h x = subst (λ (v : List Token). MemberParses (v ++
 })
 
 pub conditional_gives : (n : ℕ) (a : Arms) (us rest : List Token) → (read_with n).choice us ≡ Some (a, rest) → member_by n (Reserved IfKey ∷ us) ≡ Some (ConditionalPart a, rest)
-unfolding member_by key_at member_on keyed
+unfolding member_by key_at member_on keyed_on
 conditional_gives n a us rest e = bound _ e refl
 
 pub macro_gives : (n : ℕ) (m : List ℕ) (s : Bool) (ss rest : List Token) → IsSemicolon ss s → Next rest → member_by n (MacroWord m ∷ (ss ++ rest)) ≡ Some (MacroPart m None s, rest)
@@ -131,8 +131,8 @@ and_parses k ts us x xs c h hs = record {
   parses = λ rest. simp append_assoc (later2 (λ n e d. members_more n k x xs _ (us ++ rest) rest (h.open_end k c _) e d) (h.parses (us ++ rest) (hs.next_to rest)) (hs.parses rest));
 }
 
-pub continuous_gives : (n : ℕ) (l r : NormalExpr) (ts us rest : List Token) → selected (run n) ts ≡ Some (l, Mark Assign ∷ us) → (run n).expression_at us ≡ Some (r, Mark Semicolon ∷ rest) → member_by n (Reserved AssignKey ∷ ts) ≡ Some (AssignPart l r, rest)
-unfolding member_by key_at member_on keyed
+pub continuous_gives : (n : ℕ) (l r : NormalExpr) (ts us rest : List Token) → selected_at (run n) ts ≡ Some (l, Mark Assign ∷ us) → (run n).expression_at us ≡ Some (r, Mark Semicolon ∷ rest) → member_by n (Reserved AssignKey ∷ ts) ≡ Some (AssignPart l r, rest)
+unfolding member_by key_at member_on keyed_on
 continuous_gives n l r ts us rest e d = bound _ e (bound _ (after_self Assign us) (bound _ (enclosed_gives (run n) Semicolon us rest r d) refl))
 
 -- a reserved word that is neither closer nor `else`
@@ -152,7 +152,7 @@ continuous_parses ls rs l r el er = record {
 
 pub parameter_gives : (n : ℕ) (k : Key) (d : NormalDeclaration) (x : NormalExpr) (ts us rest : List Token) → IsTrue (is_parameter_word k) → declaration_at run n ts ≡ Some (d, Mark Assign ∷ us) → (run n).expression_at us ≡ Some (x, Mark Semicolon ∷ rest) →
     member_by n (Reserved k ∷ ts) ≡ Some (ParameterPart k d x, rest)
-unfolding member_by key_at member_on keyed is_member_kind is_parameter_word
+unfolding member_by key_at member_on keyed_on is_member_kind is_parameter_word
 parameter_gives n ParameterKey d x ts us rest h e f = bound _ e (bound _ (after_self Assign us) (bound _ (enclosed_gives (run n) Semicolon us rest x f) refl))
 parameter_gives n LocalparamKey d x ts us rest h e f = bound _ e (bound _ (after_self Assign us) (bound _ (enclosed_gives (run n) Semicolon us rest x f) refl))
 parameter_gives n _ d x ts us rest h e f = absurd (cc h)
@@ -198,7 +198,7 @@ unfolding block_with
 block_gives n ts x e = bound _ (key_self BeginKey ts) e
 
 pub combinational_gives : (n : ℕ) (b : NormalStatements) (ts rest : List Token) → (read_with n).statements ts ≡ Some (b, rest) → member_by n (Reserved AlwaysCombKey ∷ (Reserved BeginKey ∷ ts)) ≡ Some (AlwaysPart AlwaysCombKey [] b, rest)
-unfolding member_by key_at member_on keyed
+unfolding member_by key_at member_on keyed_on
 combinational_gives n b ts rest e = bound _ (block_gives n ts (b, rest) e) refl
 
 pub combinational_parses : (bs : List Token) (b : NormalStatements) → StatementsParse bs b → MemberParses (Reserved AlwaysCombKey ∷ (Reserved BeginKey ∷ bs)) (AlwaysPart AlwaysCombKey [] b)
@@ -213,9 +213,9 @@ combinational_parses bs b h = record {
     no_closer c at_end rest = refl
     no_closer c at_endmodule rest = refl
 
-pub clocked_gives : (n : ℕ) (k : Key) (e : List Event) (b : NormalStatements) (ts us rest : List Token) → IsTrue (is_clocked k) → listed n CloseParen (after_key OrKey) (λ j vs. event_at (run j) vs) ts ≡ Some (e, Reserved BeginKey ∷ us) → (read_with n).statements us ≡ Some (b, rest) →
+pub clocked_gives : (n : ℕ) (k : Key) (e : List Event) (b : NormalStatements) (ts us rest : List Token) → IsTrue (is_clocked k) → listed_at n CloseParen (after_key OrKey) (λ j vs. event_at (run j) vs) ts ≡ Some (e, Reserved BeginKey ∷ us) → (read_with n).statements us ≡ Some (b, rest) →
     member_by n (Reserved k ∷ (Mark At ∷ (Mark OpenParen ∷ ts))) ≡ Some (AlwaysPart k e b, rest)
-unfolding member_by key_at member_on keyed is_member_kind is_parameter_word is_clocked
+unfolding member_by key_at member_on keyed_on is_member_kind is_parameter_word is_clocked
 clocked_gives n AlwaysFFKey e b ts us rest h d f = bound _ (after_self At _) (bound _ (after_self OpenParen ts) (bound _ d (bound _ (block_gives n us (b, rest) f) refl)))
 clocked_gives n AlwaysKey e b ts us rest h d f = bound _ (after_self At _) (bound _ (after_self OpenParen ts) (bound _ d (bound _ (block_gives n us (b, rest) f) refl)))
 clocked_gives n _ e b ts us rest h d f = absurd (cc h)

@@ -9,7 +9,7 @@ use Rattle.vast_literal.specs.FileGrammar.{IsMany, IsList, IsUnique, unique, not
 use Rattle.vast_literal.specs.Parser.{lead, after, key_at, word_at, number_at, run}
 use Rattle.vast_literal.specs.StatementParser.{key_code, after_key_on, after_key, cases_at, read_with}
 use Rattle.vast_literal.specs.DeclarationParser.{declaration_at}
-use Rattle.vast_literal.specs.MemberParser.{connections_at, givens_at, instance_at, instance_on, plain_member, bound_of, same_word, step_word, label_on, loop_body, loop_at, inputs_at, local_on, is_local, locals_at, casez_alone, function_body, function_end, function_at, keyed, member_on, members}
+use Rattle.vast_literal.specs.MemberParser.{connections_at, givens_at, instance_at, instance_on, plain_member, bound_of, same_word, step_word, label_on, loop_body, loop_at, inputs_at, local_on, is_local, locals_at, casez_alone, function_body, function_end, function_at, keyed_on, member_on, members}
 use Rattle.vast_literal.proofs.Gives.{Soon, by_fuel, same, same2, same3, one_result}
 use Rattle.vast_literal.proofs.Moves.{bound, after_self, enclosed_gives}
 use Rattle.vast_literal.proofs.StatementsParse.{key_self, expression_parses, StatementsParse, CasesParse, cases_parse, statements_parse, choice_parse}
@@ -45,7 +45,7 @@ loop_gives : (n : ℕ) (i : List ℕ) (x e : NormalExpr) (l : Option (List ℕ))
     (run n).expression_at us ≡ Some (Binary Less (Name i) e, Mark Semicolon ∷ (Word i ∷ (Mark Assign ∷ (Word i ∷ (Operator Plus ∷ (Number (codes "1") ∷ (Mark CloseParen ∷ (Reserved BeginKey ∷ (ls ++ ms))))))))) →
     IsLabel ls l → after Colon ms ≡ None → members n EndKey ms ≡ Some (m, rest) →
     member_by n (Reserved ForKey ∷ (Mark OpenParen ∷ (Reserved GenvarKey ∷ (Word i ∷ (Mark Assign ∷ ts))))) ≡ Some (LoopPart i x e l m, rest)
-unfolding member_by key_at member_on keyed loop_at word_at
+unfolding member_by key_at member_on keyed_on loop_at word_at
 loop_gives n i x e l m ts us ls ms rest a b il h d = bound _ (after_self OpenParen _) (bound _ (key_self GenvarKey _) (bound _ refl (bound _ (after_self Assign _) (bound _ (enclosed_gives (run n) Semicolon ts us x a)
     (bound _ (enclosed_gives (run n) Semicolon us _ _ b) (bound _ (bound_gives i e) (bound _ (same_word_gives i _) (bound _ (after_self Assign _) (bound _ (same_word_gives i _) (bound _ (step_gives _) (bound _ (after_self CloseParen _)
     (body_gives n i x e l m ls ms rest il h d))))))))))))
@@ -139,7 +139,7 @@ function_end_gives n d i l b ts us rest e f = bound _ e (bound _ f (bound _ (key
 
 function_gives : (n : ℕ) (d : NormalDeclaration) (i : List NormalDeclaration) (ts us vs : List Token) (x : NormalMember × List Token) → declaration_at run n ts ≡ Some (d, Mark OpenParen ∷ us) → inputs_at n us ≡ Some (i, Mark Semicolon ∷ vs) →
     function_end n d i vs ≡ Some x → member_by n (Reserved FunctionKey ∷ (Reserved AutomaticKey ∷ ts)) ≡ Some x
-unfolding member_by member_on keyed key_at function_at
+unfolding member_by member_on keyed_on key_at function_at
 function_gives n d i ts us vs x e f g = bound _ (key_self AutomaticKey ts) (bound _ e (bound _ (after_self OpenParen us) (bound _ f (bound _ (after_self Semicolon vs) g))))
 
 function_parses : (ds is ls bs : List Token) (d : NormalDeclaration) (i l : List NormalDeclaration) (b : NormalStatements) → IsDeclaration ds d → IsList IsInput (Mark Comma) is i → IsMany (IsDeclared is_local_kind) ls l → FunctionBodyParses bs b →

@@ -4,7 +4,7 @@ use Rattle.std.proofs.lemmas.Bool.Decides.{nat_tests}
 use Rattle.vast_literal.specs.Tokens.{Op, level, is_unary, Punct, OpenParen, CloseParen, OpenBracket, CloseBracket, OpenBrace, CloseBrace, Comma, Colon, Question, DoubleColon, PlusColon, Apostrophe, Key, Token, Reserved, Word, SystemWord, MacroWord, Number, Based, Quoted, Operator, Mark}
 use Rattle.vast_literal.specs.NormalExpr.{NormalExpr, Name, Literal, Text, MacroAlone, Unary, Binary, Ternary, Index, Slice, PartSelect, Concat, Pattern, Replicated, Call, MacroCall, Cast, PackageCast, WordCast, NormalExprs, NoNormals, MoreNormals}
 use Rattle.vast_literal.specs.Grammar.{is_cast_word}
-use Rattle.vast_literal.specs.Parser.{◌>>=◌, Parser, Lead, Ends, Opens, Ticks, Scopes, Brackets, Asks, Closes, Colons, PlusColons, Infix, lead, code, after, prefix, word_at, number_at, enclosed, cast, list_on, list_step, arguments_on, arguments, applied, word_on, number_on, macro_on, paren_on, brace_next, brace_on, primary, select, selects_on, selects_step, selected, operand_on, operand_step, climb_on, climb_step, binary_step, expression_on, expression_step}
+use Rattle.vast_literal.specs.Parser.{◌>>=◌, Parser, Lead, Ends, Opens, Ticks, Scopes, Brackets, Asks, Closes, Colons, PlusColons, Infix, lead, code, after, prefix, word_at, number_at, enclosed_at, cast, list_on, list_step, arguments_on, arguments, applied_at, word_on, number_on, macro_on, paren_on, brace_next, brace_on, primary, select, selects_on, selects_step, selected_at, operand_on, operand_step, climb_on, climb_step, binary_step, expression_on, expression_step}
 
 -- what stands next goes on with no expression of this level
 abbrev pub QuietAt : ℕ → Lead → Type 0
@@ -48,8 +48,8 @@ pub after_self : (q : Punct) (us : List Token) → after q (Mark q ∷ us) ≡ S
 unfolding after
 after_self q us = subst (λ b. cond b (Some us) None ≡ Some us) (sym (eq-eqb (code q) (code q) refl)) refl
 
-pub enclosed_gives : (p : Parser) (close : Punct) (ts us : List Token) (x : NormalExpr) → p.expression_at ts ≡ Some (x, Mark close ∷ us) → enclosed p close ts ≡ Some (x, us)
-unfolding enclosed
+pub enclosed_gives : (p : Parser) (close : Punct) (ts us : List Token) (x : NormalExpr) → p.expression_at ts ≡ Some (x, Mark close ∷ us) → enclosed_at p close ts ≡ Some (x, us)
+unfolding enclosed_at
 enclosed_gives p close ts us x e = bound _ e (bound _ (after_self close us) refl)
 
 pub cast_gives : (p : Parser) (head : NormalExpr → NormalExpr) (ts us : List Token) (x : NormalExpr) → p.expression_at ts ≡ Some (x, Mark CloseParen ∷ us) →
@@ -73,7 +73,7 @@ pub expression_ternary : (p : Parser) (c a b : NormalExpr) (ts us vs rest : List
 unfolding expression_step expression_on lead
 expression_ternary p c a b ts us vs rest e d f = bound _ e (bound _ d (bound _ (after_self Colon vs) (bound _ f refl)))
 
--- infix signs
+-- infix operators
 
 stop_climb_on : (p : Parser) (j : ℕ) (t : NormalExpr) (ts : List Token) (l : Lead) → QuietAt j l → climb_on p j t ts l ≡ Some (t, ts)
 unfolding climb_on
@@ -95,18 +95,18 @@ pub binary_gives : (p : Parser) (j : ℕ) (t : NormalExpr) (ts rest : List Token
 unfolding binary_step
 binary_gives p j t ts rest x e d = bound _ e d
 
--- unary signs
+-- unary operators
 
 pub operand_sign : (p : Parser) (op : Op) (t : NormalExpr) (ts rest : List Token) → IsTrue (is_unary op) → p.operand_at ts ≡ Some (t, rest) → operand_step p (Operator op ∷ ts) ≡ Some (Unary op t, rest)
 unfolding operand_step operand_on prefix
 operand_sign p op t ts rest h e = subst (λ b. operand_on p (Operator op ∷ ts) (cond b (Some (op, ts)) None) ≡ Some (Unary op t, rest)) (sym h) (bound _ e refl)
 
-pub operand_selected : (p : Parser) (ts : List Token) (x : NormalExpr × List Token) → prefix ts ≡ None → selected p ts ≡ Some x → operand_step p ts ≡ Some x
+pub operand_selected : (p : Parser) (ts : List Token) (x : NormalExpr × List Token) → prefix ts ≡ None → selected_at p ts ≡ Some x → operand_step p ts ≡ Some x
 unfolding operand_step operand_on
 operand_selected p ts x h e = subst (λ o. operand_on p ts o ≡ Some x) (sym h) e
 
-pub selected_gives : (p : Parser) (t : NormalExpr) (ts rest : List Token) (x : NormalExpr × List Token) → primary p ts ≡ Some (t, rest) → p.selects_at t rest ≡ Some x → selected p ts ≡ Some x
-unfolding selected
+pub selected_gives : (p : Parser) (t : NormalExpr) (ts rest : List Token) (x : NormalExpr × List Token) → primary p ts ≡ Some (t, rest) → p.selects_at t rest ≡ Some x → selected_at p ts ≡ Some x
+unfolding selected_at
 selected_gives p t ts rest x e d = bound _ e d
 
 -- selects
@@ -145,8 +145,8 @@ pub arguments_some : (p : Parser) (close : Punct) (ts rest : List Token) (xs : N
 unfolding arguments arguments_on
 arguments_some p close ts rest xs h e = subst (λ o. arguments_on p close ts o ≡ Some (xs, rest)) (sym h) (bound _ e (bound _ (after_self close rest) refl))
 
-pub applied_gives : (p : Parser) (close : Punct) (f : NormalExprs → NormalExpr) (ts rest : List Token) (xs : NormalExprs) → arguments p close ts ≡ Some (xs, rest) → applied p close f ts ≡ Some (f xs, rest)
-unfolding applied
+pub applied_gives : (p : Parser) (close : Punct) (f : NormalExprs → NormalExpr) (ts rest : List Token) (xs : NormalExprs) → arguments p close ts ≡ Some (xs, rest) → applied_at p close f ts ≡ Some (f xs, rest)
+unfolding applied_at
 applied_gives p close f ts rest xs e = bound _ e refl
 
 pub list_last : (p : Parser) (t : NormalExpr) (ts : List Token) → after Comma ts ≡ None → list_on p t ts (after Comma ts) ≡ Some (MoreNormals t NoNormals, ts)

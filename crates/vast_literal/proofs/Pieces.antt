@@ -105,7 +105,7 @@ pub paren_reads : (b : Bool) {a : List ℕ} {ts : List Token} → Reads a ts →
 paren_reads true f = as_reads (enclosed open_paren f close_paren).free
 paren_reads false f = f
 
--- a unary sign before a text that makes it no longer
+-- a unary operator before a text that makes it no longer
 pub opens-append : (tight : Bool) (a b : List ℕ) → opens tight a ≡ true → opens tight (a ++ b) ≡ true
 opens-append tight [] b h = cc
 opens-append tight (c ∷ cs) b h = h
@@ -119,7 +119,7 @@ sign_reads LogicalNotOp a k f = record { at = λ rest h. scan_not (a ++ rest) (o
 sign_reads AndReduceOp a k f = record { at = λ rest h. scan_and (a ++ rest) (opens-append true a rest k) ∙ ap (cons_token (Operator BitAnd)) (f.at rest h) }
 sign_reads OrReduceOp a k f = record { at = λ rest h. scan_or (a ++ rest) (opens-append true a rest k) ∙ ap (cons_token (Operator BitOr)) (f.at rest h) }
 
--- an infix sign between two spaces
+-- an infix operator between two spaces
 pub operator_divides : (op : Op) → Divides (32 ∷ (op_text op ++ (32 ∷ []))) (Operator op ∷ [])
 operator_divides op = record { free = free_free space (record { at = λ rest. rw append_assoc (scan_operator op rest) }); stop = λ rest. refl }
 

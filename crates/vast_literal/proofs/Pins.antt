@@ -6,7 +6,7 @@ use Rattle.vast_literal.specs.Tokens.{Minus, LogicAnd, level, is_unary, OpenPare
 use Rattle.vast_literal.specs.Scan.{tokens}
 use Rattle.vast_literal.specs.NormalExpr.{NormalExpr, Name, Literal, Unary, Binary, Ternary, Concat, Replicated, Cast, NoNormals, MoreNormals}
 use Rattle.vast_literal.specs.Grammar.{Spells}
-use Rattle.vast_literal.specs.Parser.{◌>>=◌, lead, code, after, prefix, word_at, number_at, enclosed, cast, list_on, list_step, arguments_on, arguments, applied, word_on, number_on, macro_on, paren_on, brace_next, brace_on, primary, select, selects_on, selects_step, selected, operand_on, operand_step, climb_on, climb_step, binary_step, expression_on, expression_step, run}
+use Rattle.vast_literal.specs.Parser.{◌>>=◌, lead, code, after, prefix, word_at, number_at, enclosed_at, cast, list_on, list_step, arguments_on, arguments, applied_at, word_on, number_on, macro_on, paren_on, brace_next, brace_on, primary, select, selects_on, selects_step, selected_at, operand_on, operand_step, climb_on, climb_step, binary_step, expression_on, expression_step, run}
 use Rattle.vast_literal.specs.WorkedTexts.{HasOneTree, HasNoTree}
 use Rattle.vast_literal.proofs.Complete.{read_all, one_tree}
 use Rattle.vast_literal.proofs.Answers.{derived}
@@ -38,75 +38,75 @@ none text ts r e p never t x =
 
 -- Two pairs of parentheses are one name.
 pub nested_parentheses : HasOneTree (codes "((a))") (Name (codes "a"))
-unfolding tokens word_token is_keyword level is_unary ◌>>=◌ lead code after prefix word_at number_at enclosed cast list_on list_step arguments_on arguments applied word_on number_on macro_on paren_on brace_next brace_on primary select selects_on selects_step selected operand_on operand_step climb_on climb_step binary_step expression_on expression_step run
+unfolding tokens word_token is_keyword level is_unary ◌>>=◌ lead code after prefix word_at number_at enclosed_at cast list_on list_step arguments_on arguments applied_at word_on number_on macro_on paren_on brace_next brace_on primary select selects_on selects_step selected_at operand_on operand_step climb_on climb_step binary_step expression_on expression_step run
 nested_parentheses = only (codes "((a))") (Mark OpenParen ∷ Mark OpenParen ∷ Word (codes "a") ∷ Mark CloseParen ∷ Mark CloseParen ∷ []) (Name (codes "a")) refl (λ n. refl)
 
--- Spaces around a sign may be left out.
+-- Spaces around an operator may be left out.
 pub no_spaces : HasOneTree (codes "a-b") (Binary Minus (Name (codes "a")) (Name (codes "b")))
-unfolding tokens word_token is_keyword level is_unary ◌>>=◌ lead code after prefix word_at number_at enclosed cast list_on list_step arguments_on arguments applied word_on number_on macro_on paren_on brace_next brace_on primary select selects_on selects_step selected operand_on operand_step climb_on climb_step binary_step expression_on expression_step run
+unfolding tokens word_token is_keyword level is_unary ◌>>=◌ lead code after prefix word_at number_at enclosed_at cast list_on list_step arguments_on arguments applied_at word_on number_on macro_on paren_on brace_next brace_on primary select selects_on selects_step selected_at operand_on operand_step climb_on climb_step binary_step expression_on expression_step run
 no_spaces = only (codes "a-b") (Word (codes "a") ∷ Operator Minus ∷ Word (codes "b") ∷ []) (Binary Minus (Name (codes "a")) (Name (codes "b"))) refl (λ n. refl)
 
 -- Two names are no expression.
 pub two_names : HasNoTree (codes "a b")
-unfolding tokens word_token is_keyword level is_unary ◌>>=◌ lead code after prefix word_at number_at enclosed cast list_on list_step arguments_on arguments applied word_on number_on macro_on paren_on brace_next brace_on primary select selects_on selects_step selected operand_on operand_step climb_on climb_step binary_step expression_on expression_step run
+unfolding tokens word_token is_keyword level is_unary ◌>>=◌ lead code after prefix word_at number_at enclosed_at cast list_on list_step arguments_on arguments applied_at word_on number_on macro_on paren_on brace_next brace_on primary select selects_on selects_step selected_at operand_on operand_step climb_on climb_step binary_step expression_on expression_step run
 two_names = none (codes "a b") (Word (codes "a") ∷ Word (codes "b") ∷ []) (Some (Name (codes "a"), Word (codes "b") ∷ [])) refl (λ n. refl) (λ t e. let d : (Word (codes "b") ∷ []) ≡ [] = ap (λ (r : NormalExpr × List Token). r.1) (same_Some _ _ e) in absurd (cc d))
 
 -- A difference less a name.
 pub left_group : HasOneTree (codes "(a - b) - c") (Binary Minus (Binary Minus (Name (codes "a")) (Name (codes "b"))) (Name (codes "c")))
-unfolding tokens word_token is_keyword level is_unary ◌>>=◌ lead code after prefix word_at number_at enclosed cast list_on list_step arguments_on arguments applied word_on number_on macro_on paren_on brace_next brace_on primary select selects_on selects_step selected operand_on operand_step climb_on climb_step binary_step expression_on expression_step run
+unfolding tokens word_token is_keyword level is_unary ◌>>=◌ lead code after prefix word_at number_at enclosed_at cast list_on list_step arguments_on arguments applied_at word_on number_on macro_on paren_on brace_next brace_on primary select selects_on selects_step selected_at operand_on operand_step climb_on climb_step binary_step expression_on expression_step run
 left_group = only (codes "(a - b) - c") (Mark OpenParen ∷ Word (codes "a") ∷ Operator Minus ∷ Word (codes "b") ∷ Mark CloseParen ∷ Operator Minus ∷ Word (codes "c") ∷ []) (Binary Minus (Binary Minus (Name (codes "a")) (Name (codes "b"))) (Name (codes "c"))) refl (λ n. refl)
 
 -- A name less a difference.
 pub right_group : HasOneTree (codes "a - (b - c)") (Binary Minus (Name (codes "a")) (Binary Minus (Name (codes "b")) (Name (codes "c"))))
-unfolding tokens word_token is_keyword level is_unary ◌>>=◌ lead code after prefix word_at number_at enclosed cast list_on list_step arguments_on arguments applied word_on number_on macro_on paren_on brace_next brace_on primary select selects_on selects_step selected operand_on operand_step climb_on climb_step binary_step expression_on expression_step run
+unfolding tokens word_token is_keyword level is_unary ◌>>=◌ lead code after prefix word_at number_at enclosed_at cast list_on list_step arguments_on arguments applied_at word_on number_on macro_on paren_on brace_next brace_on primary select selects_on selects_step selected_at operand_on operand_step climb_on climb_step binary_step expression_on expression_step run
 right_group = only (codes "a - (b - c)") (Word (codes "a") ∷ Operator Minus ∷ Mark OpenParen ∷ Word (codes "b") ∷ Operator Minus ∷ Word (codes "c") ∷ Mark CloseParen ∷ []) (Binary Minus (Name (codes "a")) (Binary Minus (Name (codes "b")) (Name (codes "c")))) refl (λ n. refl)
 
--- Signs of one level group from the left.
+-- Operators of one level group from the left.
 pub no_group : HasOneTree (codes "a - b - c") (Binary Minus (Binary Minus (Name (codes "a")) (Name (codes "b"))) (Name (codes "c")))
-unfolding tokens word_token is_keyword level is_unary ◌>>=◌ lead code after prefix word_at number_at enclosed cast list_on list_step arguments_on arguments applied word_on number_on macro_on paren_on brace_next brace_on primary select selects_on selects_step selected operand_on operand_step climb_on climb_step binary_step expression_on expression_step run
+unfolding tokens word_token is_keyword level is_unary ◌>>=◌ lead code after prefix word_at number_at enclosed_at cast list_on list_step arguments_on arguments applied_at word_on number_on macro_on paren_on brace_next brace_on primary select selects_on selects_step selected_at operand_on operand_step climb_on climb_step binary_step expression_on expression_step run
 no_group = only (codes "a - b - c") (Word (codes "a") ∷ Operator Minus ∷ Word (codes "b") ∷ Operator Minus ∷ Word (codes "c") ∷ []) (Binary Minus (Binary Minus (Name (codes "a")) (Name (codes "b"))) (Name (codes "c"))) refl (λ n. refl)
 
--- A sign before a name.
+-- An operator before a name.
 pub negated_name : HasOneTree (codes "- a") (Unary Minus (Name (codes "a")))
-unfolding tokens word_token is_keyword level is_unary ◌>>=◌ lead code after prefix word_at number_at enclosed cast list_on list_step arguments_on arguments applied word_on number_on macro_on paren_on brace_next brace_on primary select selects_on selects_step selected operand_on operand_step climb_on climb_step binary_step expression_on expression_step run
+unfolding tokens word_token is_keyword level is_unary ◌>>=◌ lead code after prefix word_at number_at enclosed_at cast list_on list_step arguments_on arguments applied_at word_on number_on macro_on paren_on brace_next brace_on primary select selects_on selects_step selected_at operand_on operand_step climb_on climb_step binary_step expression_on expression_step run
 negated_name = only (codes "- a") (Operator Minus ∷ Word (codes "a") ∷ []) (Unary Minus (Name (codes "a"))) refl (λ n. refl)
 
--- A sign between and a sign before.
+-- An operator between and an operator before.
 pub minus_minus : HasOneTree (codes "a - - 1") (Binary Minus (Name (codes "a")) (Unary Minus (Literal (codes "1"))))
-unfolding tokens word_token is_keyword level is_unary ◌>>=◌ lead code after prefix word_at number_at enclosed cast list_on list_step arguments_on arguments applied word_on number_on macro_on paren_on brace_next brace_on primary select selects_on selects_step selected operand_on operand_step climb_on climb_step binary_step expression_on expression_step run
+unfolding tokens word_token is_keyword level is_unary ◌>>=◌ lead code after prefix word_at number_at enclosed_at cast list_on list_step arguments_on arguments applied_at word_on number_on macro_on paren_on brace_next brace_on primary select selects_on selects_step selected_at operand_on operand_step climb_on climb_step binary_step expression_on expression_step run
 minus_minus = only (codes "a - - 1") (Word (codes "a") ∷ Operator Minus ∷ Operator Minus ∷ Number (codes "1") ∷ []) (Binary Minus (Name (codes "a")) (Unary Minus (Literal (codes "1")))) refl (λ n. refl)
 
 -- Ternaries group from the right.
 pub two_choices : HasOneTree (codes "a ? b : c ? d : e") (Ternary (Name (codes "a")) (Name (codes "b")) (Ternary (Name (codes "c")) (Name (codes "d")) (Name (codes "e"))))
-unfolding tokens word_token is_keyword level is_unary ◌>>=◌ lead code after prefix word_at number_at enclosed cast list_on list_step arguments_on arguments applied word_on number_on macro_on paren_on brace_next brace_on primary select selects_on selects_step selected operand_on operand_step climb_on climb_step binary_step expression_on expression_step run
+unfolding tokens word_token is_keyword level is_unary ◌>>=◌ lead code after prefix word_at number_at enclosed_at cast list_on list_step arguments_on arguments applied_at word_on number_on macro_on paren_on brace_next brace_on primary select selects_on selects_step selected_at operand_on operand_step climb_on climb_step binary_step expression_on expression_step run
 two_choices = only (codes "a ? b : c ? d : e") (Word (codes "a") ∷ Mark Question ∷ Word (codes "b") ∷ Mark Colon ∷ Word (codes "c") ∷ Mark Question ∷ Word (codes "d") ∷ Mark Colon ∷ Word (codes "e") ∷ []) (Ternary (Name (codes "a")) (Name (codes "b")) (Ternary (Name (codes "c")) (Name (codes "d")) (Name (codes "e")))) refl (λ n. refl)
 
 -- A cast by a name.
 pub bare_cast : HasOneTree (codes "W'(x)") (Cast (Name (codes "W")) (Name (codes "x")))
-unfolding tokens word_token is_keyword level is_unary ◌>>=◌ lead code after prefix word_at number_at enclosed cast list_on list_step arguments_on arguments applied word_on number_on macro_on paren_on brace_next brace_on primary select selects_on selects_step selected operand_on operand_step climb_on climb_step binary_step expression_on expression_step run
+unfolding tokens word_token is_keyword level is_unary ◌>>=◌ lead code after prefix word_at number_at enclosed_at cast list_on list_step arguments_on arguments applied_at word_on number_on macro_on paren_on brace_next brace_on primary select selects_on selects_step selected_at operand_on operand_step climb_on climb_step binary_step expression_on expression_step run
 bare_cast = only (codes "W'(x)") (Word (codes "W") ∷ Mark Apostrophe ∷ Mark OpenParen ∷ Word (codes "x") ∷ Mark CloseParen ∷ []) (Cast (Name (codes "W")) (Name (codes "x"))) refl (λ n. refl)
 
 -- A cast by a name in parentheses.
 pub wrapped_cast : HasOneTree (codes "(W)'(x)") (Cast (Name (codes "W")) (Name (codes "x")))
-unfolding tokens word_token is_keyword level is_unary ◌>>=◌ lead code after prefix word_at number_at enclosed cast list_on list_step arguments_on arguments applied word_on number_on macro_on paren_on brace_next brace_on primary select selects_on selects_step selected operand_on operand_step climb_on climb_step binary_step expression_on expression_step run
+unfolding tokens word_token is_keyword level is_unary ◌>>=◌ lead code after prefix word_at number_at enclosed_at cast list_on list_step arguments_on arguments applied_at word_on number_on macro_on paren_on brace_next brace_on primary select selects_on selects_step selected_at operand_on operand_step climb_on climb_step binary_step expression_on expression_step run
 wrapped_cast = only (codes "(W)'(x)") (Mark OpenParen ∷ Word (codes "W") ∷ Mark CloseParen ∷ Mark Apostrophe ∷ Mark OpenParen ∷ Word (codes "x") ∷ Mark CloseParen ∷ []) (Cast (Name (codes "W")) (Name (codes "x"))) refl (λ n. refl)
 
 -- A replication.
 pub replication : HasOneTree (codes "{a{b}}") (Replicated (Name (codes "a")) (MoreNormals (Name (codes "b")) NoNormals))
-unfolding tokens word_token is_keyword level is_unary ◌>>=◌ lead code after prefix word_at number_at enclosed cast list_on list_step arguments_on arguments applied word_on number_on macro_on paren_on brace_next brace_on primary select selects_on selects_step selected operand_on operand_step climb_on climb_step binary_step expression_on expression_step run
+unfolding tokens word_token is_keyword level is_unary ◌>>=◌ lead code after prefix word_at number_at enclosed_at cast list_on list_step arguments_on arguments applied_at word_on number_on macro_on paren_on brace_next brace_on primary select selects_on selects_step selected_at operand_on operand_step climb_on climb_step binary_step expression_on expression_step run
 replication = only (codes "{a{b}}") (Mark OpenBrace ∷ Word (codes "a") ∷ Mark OpenBrace ∷ Word (codes "b") ∷ Mark CloseBrace ∷ Mark CloseBrace ∷ []) (Replicated (Name (codes "a")) (MoreNormals (Name (codes "b")) NoNormals)) refl (λ n. refl)
 
 -- A concatenation in a concatenation.
 pub nested_concatenation : HasOneTree (codes "{a, {b}}") (Concat (MoreNormals (Name (codes "a")) (MoreNormals (Concat (MoreNormals (Name (codes "b")) NoNormals)) NoNormals)))
-unfolding tokens word_token is_keyword level is_unary ◌>>=◌ lead code after prefix word_at number_at enclosed cast list_on list_step arguments_on arguments applied word_on number_on macro_on paren_on brace_next brace_on primary select selects_on selects_step selected operand_on operand_step climb_on climb_step binary_step expression_on expression_step run
+unfolding tokens word_token is_keyword level is_unary ◌>>=◌ lead code after prefix word_at number_at enclosed_at cast list_on list_step arguments_on arguments applied_at word_on number_on macro_on paren_on brace_next brace_on primary select selects_on selects_step selected_at operand_on operand_step climb_on climb_step binary_step expression_on expression_step run
 nested_concatenation = only (codes "{a, {b}}") (Mark OpenBrace ∷ Word (codes "a") ∷ Mark Comma ∷ Mark OpenBrace ∷ Word (codes "b") ∷ Mark CloseBrace ∷ Mark CloseBrace ∷ []) (Concat (MoreNormals (Name (codes "a")) (MoreNormals (Concat (MoreNormals (Name (codes "b")) NoNormals)) NoNormals))) refl (λ n. refl)
 
--- A sign that stands between two operands alone begins no expression.
+-- An operator that stands between two operands alone begins no expression.
 pub two_ands : HasNoTree (codes "&&a")
-unfolding tokens word_token is_keyword level is_unary ◌>>=◌ lead code after prefix word_at number_at enclosed cast list_on list_step arguments_on arguments applied word_on number_on macro_on paren_on brace_next brace_on primary select selects_on selects_step selected operand_on operand_step climb_on climb_step binary_step expression_on expression_step run
+unfolding tokens word_token is_keyword level is_unary ◌>>=◌ lead code after prefix word_at number_at enclosed_at cast list_on list_step arguments_on arguments applied_at word_on number_on macro_on paren_on brace_next brace_on primary select selects_on selects_step selected_at operand_on operand_step climb_on climb_step binary_step expression_on expression_step run
 two_ands = none (codes "&&a") (Operator LogicAnd ∷ Word (codes "a") ∷ []) (None) refl (λ n. refl) (λ t e. absurd (cc e))
 
 -- As they do with parentheses.
 pub grouped_choices : HasOneTree (codes "a ? b : (c ? d : e)") (Ternary (Name (codes "a")) (Name (codes "b")) (Ternary (Name (codes "c")) (Name (codes "d")) (Name (codes "e"))))
-unfolding tokens word_token is_keyword level is_unary ◌>>=◌ lead code after prefix word_at number_at enclosed cast list_on list_step arguments_on arguments applied word_on number_on macro_on paren_on brace_next brace_on primary select selects_on selects_step selected operand_on operand_step climb_on climb_step binary_step expression_on expression_step run
+unfolding tokens word_token is_keyword level is_unary ◌>>=◌ lead code after prefix word_at number_at enclosed_at cast list_on list_step arguments_on arguments applied_at word_on number_on macro_on paren_on brace_next brace_on primary select selects_on selects_step selected_at operand_on operand_step climb_on climb_step binary_step expression_on expression_step run
 grouped_choices = only (codes "a ? b : (c ? d : e)") (Word (codes "a") ∷ Mark Question ∷ Word (codes "b") ∷ Mark Colon ∷ Mark OpenParen ∷ Word (codes "c") ∷ Mark Question ∷ Word (codes "d") ∷ Mark Colon ∷ Word (codes "e") ∷ Mark CloseParen ∷ []) (Ternary (Name (codes "a")) (Name (codes "b")) (Ternary (Name (codes "c")) (Name (codes "d")) (Name (codes "e")))) refl (λ n. refl)

@@ -3,7 +3,7 @@ use Rattle.std.proofs.Common.{◌≡◌, ℕ, suc, ◌<◌, ◌≤◌, List, Boo
 use Rattle.std.proofs.lemmas.Bool.{ltb-false}
 use Rattle.vast_literal.specs.Tokens.{level}
 use Rattle.vast_literal.specs.Tree.{BinaryOp, AddOp, ExprTree, LiteralTree, UnaryTree, BinaryTree, TernaryTree}
-use Rattle.vast_literal.specs.Shape.{binary_precedence, precedence, starts_with_minus, is_reduction, is_width_cast, is_negative_literal, unary_wraps, left_child_wraps, right_child_wraps, ternary_wraps, select_wraps, limit_wraps}
+use Rattle.vast_literal.specs.Shape.{binary_precedence, precedence, starts_with_minus, is_reduction, is_width_cast, is_negative_literal, unary_wraps, left_child_wraps, right_child_wraps, ternary_wraps, select_wraps, highest_index_wraps}
 use Rattle.vast_literal.specs.NormalExpr.{binary_operator_token}
 use Rattle.vast_literal.proofs.ScanLaws.{or_left}
 use Rattle.vast_literal.proofs.Sound.{level_small}
@@ -98,5 +98,5 @@ ternary_bound (BinaryTree op left right) h = positive op
 ternary_bound (LiteralTree text value) h = let least = literal_least (starts_with_minus text) in omega arith
 ternary_bound _ h = omega arith
 
-pub limit_bound : (e : ExprTree) → limit_wraps e ≡ false → 9 ≤ spelled_level e
-limit_bound e h = let bare = ltb-false (precedence e) 9 h in at_least 9 e (omega arith) (omega arith)
+pub highest_index_bound : (e : ExprTree) → highest_index_wraps e ≡ false → 9 ≤ spelled_level e
+highest_index_bound e h = let bare = ltb-false (precedence e) 9 h in at_least 9 e (omega arith) (omega arith)

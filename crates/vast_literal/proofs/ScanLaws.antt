@@ -167,7 +167,7 @@ unfolding scan
 scan_string [] rest h = cc
 scan_string (c ∷ t) rest h = rw (eqb-true c 34 (and_left _ _ h)) (scan_string_rest false (34 ∷ []) t rest (and_right _ _ h))
 
--- each sign before a space
+-- each operator before a space
 pub scan_operator : (op : Op) (rest : List ℕ) → scan Gap (op_text op ++ (32 ∷ rest)) ≡ cons_token (Operator op) (scan Gap rest)
 unfolding scan
 scan_operator LogicOr rest = refl
@@ -207,7 +207,7 @@ opens_and c cs h = not_or_left (eqb c 38) (eqb c 124) (and_right _ _ h)
 opens_or : (c : ℕ) (cs : List ℕ) → opens true (c ∷ cs) ≡ true → eqb c 124 ≡ false
 opens_or c cs h = not_or_right (eqb c 38) (eqb c 124) (and_right _ _ h)
 
--- a sign that may grow, before a byte that does not make it longer
+-- an operator that may grow, before a byte that does not make it longer
 scan_pending : (g : Token) (c : ℕ) (cs : List ℕ) → grown g c ≡ None → scan (Pending g) (c ∷ cs) ≡ cons_token g (scan Gap (c ∷ cs))
 unfolding scan
 scan_pending g c cs e = rw e (join_after g (start c).out (scan (start c).state cs))

@@ -4,8 +4,8 @@ use Rattle.vast_literal.specs.Tokens.{Key, OpenBracket, CloseBracket, Colon, Dou
 use Rattle.vast_literal.specs.NormalExpr.{NormalExpr}
 use Rattle.vast_literal.specs.NormalFile.{Group, One, Range}
 use Rattle.vast_literal.specs.FileGrammar.{is_kind, is_sign}
-use Rattle.vast_literal.specs.Parser.{◌>>=◌, Parser, lead, code, after, key_at, word_at, enclosed, run}
-use Rattle.vast_literal.specs.DeclarationParser.{many_on, group_on, group_at, is_bracket, groups_at, maybe_on, maybe_at, signed_at, sign_on, named_on, unscoped, worded, typed_on, kinded, declaration_at}
+use Rattle.vast_literal.specs.Parser.{◌>>=◌, Parser, lead, code, after, key_at, word_at, enclosed_at, run}
+use Rattle.vast_literal.specs.DeclarationParser.{many_on, group_on, group_at, is_bracket, groups_at, maybe_on, maybe_at, signed_at, sign_on, named_on, unscoped_on, worded_on, typed_on, kind_on, declaration_at}
 use Rattle.vast_literal.specs.Settled.{either, settled}
 use Rattle.vast_literal.specs.Nexts.{key_with}
 use Rattle.vast_literal.specs.SettledDeclarations.{group_end, settled_group, settled_groups, named_end, signed_end, type_or_name, plain_word, scoped_type, behind_word, behind_kind, settled_declaration}
@@ -17,7 +17,7 @@ use Rattle.vast_literal.proofs.SettledLists.{choose, choose_past, many_of_agree,
 -- groups
 
 group_is : (p : Parser) (x : NormalExpr) (ts : List Token) → group_on p x (lead ts) ≡
-    either (after CloseBracket ts) (λ us. Some (One x, us)) (after Colon ts >>= λ us. enclosed p CloseBracket us >>= λ l. Some (Range x l.0, l.1))
+    either (after CloseBracket ts) (λ us. Some (One x, us)) (after Colon ts >>= λ us. enclosed_at p CloseBracket us >>= λ l. Some (Range x l.0, l.1))
 unfolding lead group_on either after code ◌>>=◌
 group_is p x [] = refl
 group_is p x (Mark CloseBracket ∷ us) = refl
@@ -87,19 +87,19 @@ type_agree n k w g ts h = begun (type_is n k w g ts (word_at ts)) (choose (word_
     (λ v l. chain (groups_agree n v.1 (omega arith)) (λ b s. ready (record { kind = k; package_name = None; type_name = Some w; sign = None; groups = g; name = v.0; behind = b.0 }, b.1) (omega arith)))
     (ready (record { kind = k; package_name = None; type_name = None; sign = None; groups = []; name = w; behind = g }, ts) (omega arith)))
 
-plain_is : (n : ℕ) (k : Option Key) (w : List ℕ) (ts : List Token) → unscoped run n k w (maybe_at is_sign ts) ≡
+plain_is : (n : ℕ) (k : Option Key) (w : List ℕ) (ts : List Token) → unscoped_on run n k w (maybe_at is_sign ts) ≡
     either (key_with is_sign ts) (λ s. signed_at run n k None (Some w) (Some s.0) s.1) (groups_at run n ts >>= λ g. named_on run n k w g.0 g.1 (word_at g.1))
-unfolding maybe_at maybe_on key_at key_with unscoped either
+unfolding maybe_at maybe_on key_at key_with unscoped_on either
 plain_is n k w [] = refl
 plain_is n k w (Reserved s ∷ us) = go (is_sign s)
   where
-    go : (b : Bool) → unscoped run n k w (cond {A = Option Key × List Token} b (Some s, us) (None, Reserved s ∷ us)) ≡
+    go : (b : Bool) → unscoped_on run n k w (cond {A = Option Key × List Token} b (Some s, us) (None, Reserved s ∷ us)) ≡
         either (cond {A = Option (Key × List Token)} b (Some (s, us)) None) (λ v. signed_at run n k None (Some w) (Some v.0) v.1) (groups_at run n (Reserved s ∷ us) >>= λ g. named_on run n k w g.0 g.1 (word_at g.1))
     go true = refl
     go false = refl
 plain_is n k w (_ ∷ us) = refl
 
-plain_agree : (n : ℕ) (k : Option Key) (w : List ℕ) (ts : List Token) → 5 * length ts + 1 < n → Agree (suc (length ts)) (unscoped run n k w (maybe_at is_sign ts)) (plain_word k w ts)
+plain_agree : (n : ℕ) (k : Option Key) (w : List ℕ) (ts : List Token) → 5 * length ts + 1 < n → Agree (suc (length ts)) (unscoped_on run n k w (maybe_at is_sign ts)) (plain_word k w ts)
 unfolding plain_word
 plain_agree n k w ts h = begun (plain_is n k w ts) (choose (key_with is_sign ts) (key_with_fewer is_sign ts) (λ s l. wide (omega arith) (named_agree n k None (Some w) (Some s.0) s.1 (omega arith)))
     (chain (groups_agree n ts h) (λ g i. wide (omega arith) (type_agree n k w g.0 g.1 (omega arith)))))
@@ -109,18 +109,18 @@ scoped_agree : (n : ℕ) (k : Option Key) (w : List ℕ) (ts : List Token) → 5
 unfolding scoped_type
 scoped_agree n k w ts h = read (word_at ts) (fewer_word ts) (λ t l. wide (omega arith) (signed_agree n k (Some w) (Some t.0) t.1 (omega arith)))
 
-word_is : (n : ℕ) (k : Option Key) (w : List ℕ) (ts : List Token) (o : Option (List Token)) → worded run n k w ts o ≡
-    either o (λ us. word_at us >>= λ t. sign_on run n k (Some w) (Some t.0) (maybe_at is_sign t.1)) (unscoped run n k w (maybe_at is_sign ts))
-unfolding worded either
+word_is : (n : ℕ) (k : Option Key) (w : List ℕ) (ts : List Token) (o : Option (List Token)) → worded_on run n k w ts o ≡
+    either o (λ us. word_at us >>= λ t. sign_on run n k (Some w) (Some t.0) (maybe_at is_sign t.1)) (unscoped_on run n k w (maybe_at is_sign ts))
+unfolding worded_on either
 word_is n k w ts None = refl
 word_is n k w ts (Some us) = refl
 
-word_agree : (n : ℕ) (k : Option Key) (w : List ℕ) (ts : List Token) → 5 * length ts + 1 < n → Agree (suc (length ts)) (worded run n k w ts (after DoubleColon ts)) (behind_word k w ts)
+word_agree : (n : ℕ) (k : Option Key) (w : List ℕ) (ts : List Token) → 5 * length ts + 1 < n → Agree (suc (length ts)) (worded_on run n k w ts (after DoubleColon ts)) (behind_word k w ts)
 unfolding behind_word
 word_agree n k w ts h = begun (word_is n k w ts (after DoubleColon ts)) (choose_past (after DoubleColon ts) (shorter_mark DoubleColon ts) (λ us l. wide (omega arith) (scoped_agree n k w us (omega arith))) (plain_agree n k w ts h))
 
 kind_is : (n : ℕ) (k : Option Key) (ts : List Token) (o : Option (List ℕ × List Token)) → typed_on run n k ts o ≡
-    either o (λ v. worded run n k v.0 v.1 (after DoubleColon v.1)) (sign_on run n k None None (maybe_at is_sign ts))
+    either o (λ v. worded_on run n k v.0 v.1 (after DoubleColon v.1)) (sign_on run n k None None (maybe_at is_sign ts))
 unfolding typed_on either
 kind_is n k ts None = refl
 kind_is n k ts (Some v) = refl
@@ -130,7 +130,7 @@ unfolding behind_kind
 kind_agree n k ts h = begun (kind_is n k ts (word_at ts)) (choose (word_at ts) (fewer_word ts) (λ v l. wide l (word_agree n k v.0 v.1 (omega arith))) (signed_agree n k None None ts h))
 
 pub declaration_agree : (n : ℕ) (ts : List Token) → 5 * length ts + 1 < n → Agree (length ts) (declaration_at run n ts) (settled_declaration ts)
-unfolding declaration_at kinded settled_declaration
+unfolding declaration_at kind_on settled_declaration
 declaration_agree n ts h = let l : length (maybe_at is_kind ts).1 ≤ length ts = maybe_fewer is_kind ts in
     wide l (kind_agree n (maybe_at is_kind ts).0 (maybe_at is_kind ts).1 (omega arith))
 

@@ -3,7 +3,7 @@ use Rattle.std.proofs.Common.{◌≡◌, ℕ, zero, suc, ◌+◌, ◌*◌, ◌<�
 use Rattle.vast_literal.specs.Tokens.{Punct, Token}
 use Rattle.vast_literal.specs.Parser.{◌>>=◌, after}
 use Rattle.vast_literal.specs.StatementParser.{ReadOf}
-use Rattle.vast_literal.specs.DeclarationParser.{many_on, many, joined_on, joined, listed_on, listed}
+use Rattle.vast_literal.specs.DeclarationParser.{many_on, many, joined_on, joined_at, listed_on, listed_at}
 use Rattle.vast_literal.specs.Settled.{either}
 use Rattle.vast_literal.specs.SettledDeclarations.{many_of, joined_of, others_of, listed_of}
 use Rattle.vast_literal.proofs.Same.{FewerIn}
@@ -64,11 +64,11 @@ module _ {A : Type 0} (between : List Token → Option (List Token)) (item : Lis
   joined_on_agree rest others x ts m (Some us) w s r = chain (r us w) (λ xs t. ready (x ∷ xs.0, xs.1) (omega arith))
 
   joined_enough : ((ts : List Token) → Agree (suc (length ts)) (item ts) (item ts)) → (n m : ℕ) (ts : List Token) → length ts < n → length ts < m →
-      Agree (suc (length ts)) (joined n between (λ _ us. item us) ts) (joined m between (λ _ us. item us) ts)
-  unfolding joined
+      Agree (suc (length ts)) (joined_at n between (λ _ us. item us) ts) (joined_at m between (λ _ us. item us) ts)
+  unfolding joined_at
   joined_enough f zero m ts h i = absurd (omega arith)
   joined_enough f (suc n) zero ts h i = absurd (omega arith)
-  joined_enough f (suc n) (suc m) ts h i = chain (f ts) (λ x s. joined_on_agree (λ us. joined m between (λ _ vs. item vs) us) (λ us. joined n between (λ _ vs. item vs) us) x.0 x.1 (suc (length ts)) (between x.1) (shorter x.1) s
+  joined_enough f (suc n) (suc m) ts h i = chain (f ts) (λ x s. joined_on_agree (λ us. joined_at m between (λ _ vs. item vs) us) (λ us. joined_at n between (λ _ vs. item vs) us) x.0 x.1 (suc (length ts)) (between x.1) (shorter x.1) s
       (λ us l. joined_enough f n m us (omega arith) (omega arith)))
 
   others_is : (x : A) (ts : List Token) (o : Option (List Token)) → joined_on (λ us. joined_of between item us) x ts o ≡
@@ -78,26 +78,26 @@ module _ {A : Type 0} (between : List Token → Option (List Token)) (item : Lis
   others_is x ts (Some us) = refl
 
   pub joined_reads : ((ts : List Token) → Agree (suc (length ts)) (item ts) (item ts)) → (ts : List Token) → joined_of between item ts ≡ (item ts >>= λ x. others_of between item x.1 >>= λ xs. Some (x.0 ∷ xs.0, xs.1))
-  unfolding joined_of others_of joined
-  joined_reads f ts = (chain {c = suc (length ts)} (f ts) (λ x s. meets (joined_on_agree (λ us. joined (suc (length us)) between (λ _ vs. item vs) us) (λ us. joined (length ts) between (λ _ vs. item vs) us) x.0 x.1 (suc (length ts)) (between x.1) (shorter x.1) s
+  unfolding joined_of others_of joined_at
+  joined_reads f ts = (chain {c = suc (length ts)} (f ts) (λ x s. meets (joined_on_agree (λ us. joined_at (suc (length us)) between (λ _ vs. item vs) us) (λ us. joined_at (length ts) between (λ _ vs. item vs) us) x.0 x.1 (suc (length ts)) (between x.1) (shorter x.1) s
       (λ us l. joined_enough f (length ts) (suc (length us)) us (omega arith) (omega arith))) (others_is x.0 x.1 (between x.1)))).same
 
   joined_agree : (given : ℕ → List Token → ReadOf A) (a : ℕ) → ((n : ℕ) (ts : List Token) → 5 * length ts + a < n → Agree (suc (length ts)) (given n ts) (item ts)) →
-      (n m : ℕ) (ts : List Token) → 5 * length ts + suc a < n → length ts < m → Agree (suc (length ts)) (joined n between given ts) (joined m between (λ _ us. item us) ts)
-  unfolding joined
+      (n m : ℕ) (ts : List Token) → 5 * length ts + suc a < n → length ts < m → Agree (suc (length ts)) (joined_at n between given ts) (joined_at m between (λ _ us. item us) ts)
+  unfolding joined_at
   joined_agree given a f zero m ts h i = absurd (omega arith)
   joined_agree given a f (suc n) zero ts h i = absurd (omega arith)
-  joined_agree given a f (suc n) (suc m) ts h i = chain (f n ts (omega arith)) (λ x s. joined_on_agree (λ us. joined m between (λ _ vs. item vs) us) (λ us. joined n between given us) x.0 x.1 (suc (length ts)) (between x.1) (shorter x.1) s
+  joined_agree given a f (suc n) (suc m) ts h i = chain (f n ts (omega arith)) (λ x s. joined_on_agree (λ us. joined_at m between (λ _ vs. item vs) us) (λ us. joined_at n between given us) x.0 x.1 (suc (length ts)) (between x.1) (shorter x.1) s
       (λ us l. joined_agree given a f n m us (omega arith) (omega arith)))
 
   pub joined_of_agree : (given : ℕ → List Token → ReadOf A) (a : ℕ) → ((n : ℕ) (ts : List Token) → 5 * length ts + a < n → Agree (suc (length ts)) (given n ts) (item ts)) →
-      (n : ℕ) (ts : List Token) → 5 * length ts + suc a < n → Agree (suc (length ts)) (joined n between given ts) (joined_of between item ts)
+      (n : ℕ) (ts : List Token) → 5 * length ts + suc a < n → Agree (suc (length ts)) (joined_at n between given ts) (joined_of between item ts)
   unfolding joined_of
   joined_of_agree given a f n ts h = joined_agree given a f n (suc (length ts)) ts h (omega arith)
 
   pub listed_agree : (close : Punct) (given : ℕ → List Token → ReadOf A) (a : ℕ) → ((n : ℕ) (ts : List Token) → 5 * length ts + a < n → Agree (suc (length ts)) (given n ts) (item ts)) →
-      (n : ℕ) (ts : List Token) → 5 * length ts + suc a < n → Agree (length ts) (listed n close between given ts) (listed_of close between item ts)
-  unfolding listed listed_on listed_of either
+      (n : ℕ) (ts : List Token) → 5 * length ts + suc a < n → Agree (length ts) (listed_at n close between given ts) (listed_of close between item ts)
+  unfolding listed_at listed_on listed_of either
   listed_agree close given a f n ts h = go (after close ts) (shorter_mark close ts)
     where
       go : (o : Option (List Token)) → Shorter (length ts) o → Agree (length ts) (listed_on n close between given ts o)

@@ -4,7 +4,7 @@ use Rattle.vast_literal.specs.Tokens.{OpenParen, CloseParen, Comma, Semicolon, D
 use Rattle.vast_literal.specs.NormalExpr.{NormalExprs}
 use Rattle.vast_literal.specs.NormalFile.{Done, Then, NormalDeclaration, Event, EdgeEvent, NameEvent, NormalConnection, MacroPart, InstancePart, FunctionPart}
 use Rattle.vast_literal.specs.FileGrammar.{is_edge}
-use Rattle.vast_literal.specs.Parser.{◌>>=◌, Parser, after, key_at, word_at, enclosed, arguments, run}
+use Rattle.vast_literal.specs.Parser.{◌>>=◌, Parser, after, key_at, word_at, enclosed_at, arguments, run}
 use Rattle.vast_literal.specs.StatementParser.{key_code, after_key_on, after_key, cases_at, read_with}
 use Rattle.vast_literal.specs.MemberParser.{event_on, event_at, connection_on, connection_at, given_at, connections_at, givens_at, instance_at, instance_on, semicolon_on, macro_end, macro_member, plain_member, input_at, inputs_at, is_local, local_at, locals_at, casez_alone, function_body, function_end, function_at}
 use Rattle.vast_literal.specs.Settled.{either, settled, settled_reader}
@@ -17,7 +17,7 @@ use Rattle.vast_literal.proofs.Agree.{Agree, nothing, ready, wide, of_same, chai
 use Rattle.vast_literal.proofs.SettledLists.{choose, choose_past, many_of_agree, joined_of_agree, listed_agree}
 use Rattle.vast_literal.proofs.SettledDeclarations.{key_with_fewer, declaration_agree}
 
-pub closed_agree : (n : ℕ) (close : _) (ts : List Token) → 5 * length ts + 3 < n → Agree (length ts) (enclosed (run n) close ts) (enclosed settled close ts)
+pub closed_agree : (n : ℕ) (close : _) (ts : List Token) → 5 * length ts + 3 < n → Agree (length ts) (enclosed_at (run n) close ts) (enclosed_at settled close ts)
 closed_agree n close ts h = enclosed_agree n (run n) settled (run_settled n) close ts h
 
 -- events
@@ -41,7 +41,7 @@ event_agree n ts h = begun (event_is (run n) ts) (choose (key_with is_edge ts) (
 -- connections
 
 value_is : (p : Parser) (n : List ℕ) (ts : List Token) (o : Option (List Token)) → connection_on p n ts o ≡
-    either o (λ us. Some (record { name = n; value = None }, us)) (enclosed p CloseParen ts >>= λ x. Some (record { name = n; value = Some x.0 }, x.1))
+    either o (λ us. Some (record { name = n; value = None }, us)) (enclosed_at p CloseParen ts >>= λ x. Some (record { name = n; value = Some x.0 }, x.1))
 unfolding connection_on either
 value_is p n ts None = refl
 value_is p n ts (Some us) = refl

@@ -4,10 +4,10 @@ use Rattle.vast_literal.specs.Tokens.{Op, Plus, OpenParen, CloseParen, Colon, Se
 use Rattle.vast_literal.specs.NormalExpr.{NormalExpr}
 use Rattle.vast_literal.specs.NormalFile.{DeclarationPart, AssignPart, ParameterPart, AlwaysPart, ConditionalPart, LoopPart, NormalMembers, NoParts, MoreParts}
 use Rattle.vast_literal.specs.FileGrammar.{is_member_kind, is_parameter_word, is_clocked}
-use Rattle.vast_literal.specs.Parser.{◌>>=◌, after, key_at, word_at, number_at, enclosed, selected, run}
+use Rattle.vast_literal.specs.Parser.{◌>>=◌, after, key_at, word_at, number_at, enclosed_at, selected_at, run}
 use Rattle.vast_literal.specs.StatementParser.{ReadOf, key_code, after_key_on, after_key, block_at, read_with}
-use Rattle.vast_literal.specs.DeclarationParser.{listed, declaration_at}
-use Rattle.vast_literal.specs.MemberParser.{event_at, plain_member, block_with, bound_of, same_word, step_word, label_on, loop_body, loop_at, function_at, keyed, member_on, members_on, members}
+use Rattle.vast_literal.specs.DeclarationParser.{listed_at, declaration_at}
+use Rattle.vast_literal.specs.MemberParser.{event_at, plain_member, block_with, bound_of, same_word, step_word, label_on, loop_body, loop_at, function_at, keyed_on, member_on, members_on, members}
 use Rattle.vast_literal.specs.Settled.{either, settled, settled_reader}
 use Rattle.vast_literal.specs.Nexts.{key_with, begins_with, sign_with, is_plus}
 use Rattle.vast_literal.specs.SettledDeclarations.{settled_declaration}
@@ -80,7 +80,7 @@ label_agree : (ts : List Token) → Agree (suc (length ts)) (label_on ts (after 
 unfolding loop_label
 label_agree ts = begun (label_is ts (after Colon ts)) (choose_past (after Colon ts) (shorter_mark Colon ts) (λ us l. read (word_at us) (fewer_word us) (λ w k. ready (Some w.0, w.1) (omega arith))) (ready (None, ts) (omega arith)))
 
-loop_split : (ts : List Token) → (after OpenParen ts >>= λ a. after_key GenvarKey a >>= λ b. word_at b >>= λ i. after Assign i.1 >>= λ c. enclosed settled Semicolon c >>= λ x. enclosed settled Semicolon x.1 >>= λ d. bound_of i.0 d.0 >>=
+loop_split : (ts : List Token) → (after OpenParen ts >>= λ a. after_key GenvarKey a >>= λ b. word_at b >>= λ i. after Assign i.1 >>= λ c. enclosed_at settled Semicolon c >>= λ x. enclosed_at settled Semicolon x.1 >>= λ d. bound_of i.0 d.0 >>=
     λ e. same_word i.0 d.1 >>= λ f. after Assign f >>= λ g. same_word i.0 g >>= λ h. step_word h >>= λ j. after CloseParen j >>= λ k. loop_block i.0 x.0 e k) ≡ settled_loop ts
 unfolding settled_loop loop_start loop_end loop_bound loop_step
 loop_split ts = simp (chained, some_then, step_is)
@@ -107,15 +107,15 @@ unfolding block_with block_at
 block_with_agree n ts h = behind_key BeginKey ts (λ us l. wide (omega arith) ((reader_settled n).statements us (omega arith)))
 
 member_is : (n : ℕ) (rest : Key → List Token → ReadOf NormalMembers) (ts : List Token) → member_on n rest ts (key_at ts) ≡
-    either (after_key AssignKey ts) (λ us. selected (run n) us >>= λ l. after Assign l.1 >>= λ vs. enclosed (run n) Semicolon vs >>= λ r. Some (AssignPart l.0 r.0, r.1))
+    either (after_key AssignKey ts) (λ us. selected_at (run n) us >>= λ l. after Assign l.1 >>= λ vs. enclosed_at (run n) Semicolon vs >>= λ r. Some (AssignPart l.0 r.0, r.1))
     (either (after_key AlwaysCombKey ts) (λ us. block_with n us >>= λ b. Some (AlwaysPart AlwaysCombKey [] b.0, b.1))
     (either (after_key IfKey ts) (λ us. (read_with n).choice us >>= λ a. Some (ConditionalPart a.0, a.1))
     (either (after_key ForKey ts) (λ us. loop_at n rest us)
     (either (after_key FunctionKey ts) (λ us. function_at n us)
-    (either (key_with is_parameter_word ts) (λ k. declaration_at run n k.1 >>= λ d. after Assign d.1 >>= λ vs. enclosed (run n) Semicolon vs >>= λ x. Some (ParameterPart k.0 d.0 x.0, x.1))
-    (either (key_with is_clocked ts) (λ k. after At k.1 >>= λ a. after OpenParen a >>= λ b. listed n CloseParen (after_key OrKey) (λ j vs. event_at (run j) vs) b >>= λ e. block_with n e.1 >>= λ s. Some (AlwaysPart k.0 e.0 s.0, s.1))
+    (either (key_with is_parameter_word ts) (λ k. declaration_at run n k.1 >>= λ d. after Assign d.1 >>= λ vs. enclosed_at (run n) Semicolon vs >>= λ x. Some (ParameterPart k.0 d.0 x.0, x.1))
+    (either (key_with is_clocked ts) (λ k. after At k.1 >>= λ a. after OpenParen a >>= λ b. listed_at n CloseParen (after_key OrKey) (λ j vs. event_at (run j) vs) b >>= λ e. block_with n e.1 >>= λ s. Some (AlwaysPart k.0 e.0 s.0, s.1))
     (cond (begins_with is_member_kind ts) (declaration_at run n ts >>= λ d. after Semicolon d.1 >>= λ vs. Some (DeclarationPart d.0, vs)) (plain_member n ts))))))))
-unfolding member_on keyed key_at after_key after_key_on key_code key_with begins_with is_member_kind is_parameter_word is_clocked plain_member either
+unfolding member_on keyed_on key_at after_key after_key_on key_code key_with begins_with is_member_kind is_parameter_word is_clocked plain_member either
 member_is n rest [] = refl
 member_is n rest (Reserved AssignKey ∷ us) = refl
 member_is n rest (Reserved _ ∷ us) = refl
@@ -126,21 +126,21 @@ unfolding declaration_part settled_local
 local_split ts = simp (chained, some_then)
 
 assign_agree : (n : ℕ) (ts : List Token) → 5 * length ts < n →
-    Agree (length ts) (selected (run n) ts >>= λ l. after Assign l.1 >>= λ vs. enclosed (run n) Semicolon vs >>= λ r. Some (AssignPart l.0 r.0, r.1)) (assign_part ts)
+    Agree (length ts) (selected_at (run n) ts >>= λ l. after Assign l.1 >>= λ vs. enclosed_at (run n) Semicolon vs >>= λ r. Some (AssignPart l.0 r.0, r.1)) (assign_part ts)
 unfolding assign_part
 assign_agree n ts h = chain (of_same (selected_same n (run n) settled (run_settled n) ts h)) (λ l s. behind Assign l.1 (λ us k. chain (closed_agree n Semicolon us (omega arith)) (λ r t. ready (AssignPart l.0 r.0, r.1) (omega arith))))
 
 parameter_agree : (n : ℕ) (k : Key) (ts : List Token) → 5 * length ts + 1 < n →
-    Agree (length ts) (declaration_at run n ts >>= λ d. after Assign d.1 >>= λ vs. enclosed (run n) Semicolon vs >>= λ x. Some (ParameterPart k d.0 x.0, x.1)) (parameter_part k ts)
+    Agree (length ts) (declaration_at run n ts >>= λ d. after Assign d.1 >>= λ vs. enclosed_at (run n) Semicolon vs >>= λ x. Some (ParameterPart k d.0 x.0, x.1)) (parameter_part k ts)
 unfolding parameter_part
 parameter_agree n k ts h = chain (declaration_agree n ts h) (λ d s. behind Assign d.1 (λ us l. chain (closed_agree n Semicolon us (omega arith)) (λ x t. ready (ParameterPart k d.0 x.0, x.1) (omega arith))))
 
-events_agree : (n : ℕ) (ts : List Token) → 5 * length ts + 1 < n → Agree (length ts) (listed n CloseParen (after_key OrKey) (λ j vs. event_at (run j) vs) ts) (settled_events ts)
+events_agree : (n : ℕ) (ts : List Token) → 5 * length ts + 1 < n → Agree (length ts) (listed_at n CloseParen (after_key OrKey) (λ j vs. event_at (run j) vs) ts) (settled_events ts)
 unfolding settled_events
 events_agree n ts h = listed_agree (after_key OrKey) settled_event (shorter_key OrKey) CloseParen (λ j vs. event_at (run j) vs) 0 (λ m us k. wide (omega arith) (event_agree m us k)) n ts h
 
 clocked_agree : (n : ℕ) (k : Key) (ts : List Token) → 5 * length ts + 1 < n →
-    Agree (length ts) (after At ts >>= λ a. after OpenParen a >>= λ b. listed n CloseParen (after_key OrKey) (λ j vs. event_at (run j) vs) b >>= λ e. block_with n e.1 >>= λ s. Some (AlwaysPart k e.0 s.0, s.1)) (clocked_part k ts)
+    Agree (length ts) (after At ts >>= λ a. after OpenParen a >>= λ b. listed_at n CloseParen (after_key OrKey) (λ j vs. event_at (run j) vs) b >>= λ e. block_with n e.1 >>= λ s. Some (AlwaysPart k e.0 s.0, s.1)) (clocked_part k ts)
 unfolding clocked_part
 clocked_agree n k ts h = behind At ts (λ a l. behind OpenParen a (λ b i. chain (events_agree n b (omega arith)) (λ e s. chain (block_with_agree n e.1 (omega arith)) (λ x t. ready (AlwaysPart k e.0 x.0, x.1) (omega arith)))))
 

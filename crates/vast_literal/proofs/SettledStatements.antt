@@ -5,7 +5,7 @@ use Rattle.vast_literal.specs.NormalExpr.{NormalExpr}
 use Rattle.vast_literal.specs.NormalFile.{AssignStatement, ChoiceStatement, CaseStatement, NormalStatements, Done, Then, Only, Otherwise, Or, NoLabels, Label}
 use Rattle.vast_literal.specs.Grammar.{is_cast_word}
 use Rattle.vast_literal.specs.FileGrammar.{assignment}
-use Rattle.vast_literal.specs.Parser.{Parser, key_at, enclosed}
+use Rattle.vast_literal.specs.Parser.{Parser, key_at, enclosed_at}
 use Rattle.vast_literal.specs.StatementParser.{Reader, after_key, arrow_at, simple_at, block_at, cases_at, case_of, statement_on, statement_step, statements_on, statements_step, tail_on, choice_on, choice_step, body_on, arm_at, labels_on, labels_step, reader_step, read_with}
 use Rattle.vast_literal.specs.Settled.{settled, settled_reader}
 use Rattle.vast_literal.proofs.Gives.{low_is}
@@ -26,7 +26,7 @@ simple_agree n p q b ts h = chain (of_same (selected_same n p q b ts h)) (λ l s
     chain (enclosed_agree n p q b Semicolon a.1 (omega arith)) (λ r t. ready (assignment a.0 l.0 r.0, r.1) (omega arith))))
 
 module _ (n : ℕ) (p q : Reader) (b : ReadersAgree n p q) where
-  enclosed_alike : (close : _) (ts : List Token) → 5 * length ts + 3 < n → Agree (length ts) (enclosed p.low close ts) (enclosed q.low close ts)
+  enclosed_alike : (close : _) (ts : List Token) → 5 * length ts + 3 < n → Agree (length ts) (enclosed_at p.low close ts) (enclosed_at q.low close ts)
   enclosed_alike close ts h = enclosed_agree n p.low q.low b.low close ts h
 
   pub block_agree : (ts : List Token) → 5 * length ts < n → Agree (length ts) (block_at p ts) (block_at q ts)

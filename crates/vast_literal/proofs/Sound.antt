@@ -151,7 +151,7 @@ abbrev pub BelowAt : ℕ → Lead → Type 0
 BelowAt k (Infix op us) = level op < k
 BelowAt k _ = Unit {0}
 
--- no infix sign of the level k or above stands next
+-- no infix operator of the level k or above stands next
 abbrev pub Below : ℕ → List Token → Type 0
 Below k ts = BelowAt k (lead ts)
 

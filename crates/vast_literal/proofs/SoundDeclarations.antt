@@ -6,7 +6,7 @@ use Rattle.vast_literal.specs.NormalFile.{Group, NormalDeclaration}
 use Rattle.vast_literal.specs.Grammar.{Spells}
 use Rattle.vast_literal.specs.FileGrammar.{IsMany, no_items, more_items, is_kind, is_sign, IsGroup, one, range, IsMaybe, absent, present, IsTypeName, no_type, own_type, packaged, IsDeclaration, declares}
 use Rattle.vast_literal.specs.Parser.{Parser, Lead, Closes, Colons, lead, after, key_at, word_at}
-use Rattle.vast_literal.specs.DeclarationParser.{group_on, group_at, is_bracket, Fueled, groups_at, maybe_on, maybe_at, signed_at, sign_on, named_on, unscoped, worded, typed_on, kinded, declaration_at}
+use Rattle.vast_literal.specs.DeclarationParser.{group_on, group_at, is_bracket, Fueled, groups_at, maybe_on, maybe_at, signed_at, sign_on, named_on, unscoped_on, worded_on, typed_on, kind_on, declaration_at}
 use Rattle.vast_literal.proofs.Sound.{bind_some, after_is, word_is, lead_is, Sound}
 use Rattle.vast_literal.proofs.SoundPrimary.{enclosed_sound}
 use Rattle.vast_literal.proofs.SoundLists.{Fronted, answers, moved, key_is, many_sound}
@@ -95,9 +95,9 @@ module _ (f : Fueled) (sound_at : (n : ℕ) → Sound (f n)) (n : ℕ) where
       let u = x.whole in
       answers (ks ++ (Word w ∷ (gs ++ (Word v.0 ∷ x.front)))) (declares v.0 ik (own_type w) absent ig x.spelled) (simp append_assoc (cc (c, d, u))) a.2
 
-  unscoped_sound : (k : Option Key) (w : List ℕ) (ks us : List Token) (v : Option Key × List Token) (r : NormalDeclaration × List Token) → IsMaybe is_kind ks k → Fronted (IsMaybe is_sign) us v → unscoped f n k w v ≡ Some r →
+  unscoped_sound : (k : Option Key) (w : List ℕ) (ks us : List Token) (v : Option Key × List Token) (r : NormalDeclaration × List Token) → IsMaybe is_kind ks k → Fronted (IsMaybe is_sign) us v → unscoped_on f n k w v ≡ Some r →
       Fronted IsDeclaration (ks ++ (Word w ∷ us)) r
-  unfolding unscoped
+  unfolding unscoped_on
   unscoped_sound k w ks us (Some s, vs) r ik m e = moved (ap (λ (v : List Token). ks ++ (Word w ∷ v)) m.whole) (signed_sound k (Some s) None (Some w) ks (Word w ∷ []) m.front vs r ik (own_type w) m.spelled e)
   unscoped_sound k w ks us (None, vs) r ik m e =
       let a = bind_some _ _ r e in
@@ -107,8 +107,8 @@ module _ (f : Fueled) (sound_at : (n : ℕ) → Sound (f n)) (n : ℕ) where
       let u = g.whole in
       named_on_sound k w ks us g.front a.0.1 a.0.0 (word_at a.0.1) r ik (let e : us ≡ vs = subst (λ (x : List Token). us ≡ (x ++ vs)) c d in cc (e, u)) g.spelled refl a.2
 
-  worded_sound : (k : Option Key) (w : List ℕ) (ks us : List Token) (o : Option (List Token)) (r : NormalDeclaration × List Token) → IsMaybe is_kind ks k → after DoubleColon us ≡ o → worded f n k w us o ≡ Some r → Fronted IsDeclaration (ks ++ (Word w ∷ us)) r
-  unfolding worded
+  worded_sound : (k : Option Key) (w : List ℕ) (ks us : List Token) (o : Option (List Token)) (r : NormalDeclaration × List Token) → IsMaybe is_kind ks k → after DoubleColon us ≡ o → worded_on f n k w us o ≡ Some r → Fronted IsDeclaration (ks ++ (Word w ∷ us)) r
+  unfolding worded_on
   worded_sound k w ks us None r ik h e = unscoped_sound k w ks us (maybe_at is_sign us) r ik (maybe_sound is_sign us) e
   worded_sound k w ks us (Some vs) r ik h e =
       let a = bind_some _ _ r e in
@@ -121,8 +121,8 @@ module _ (f : Fueled) (sound_at : (n : ℕ) → Sound (f n)) (n : ℕ) where
   typed_on_sound k ks us None r ik h e = sign_on_sound k None None ks [] us r ik no_type e
   typed_on_sound k ks us (Some v) r ik h e = moved (ap (λ (x : List Token). ks ++ x) (word_is us v h)) (worded_sound k v.0 ks v.1 (after DoubleColon v.1) r ik refl e)
 
-  kinded_sound : (ts : List Token) (v : Option Key × List Token) (r : NormalDeclaration × List Token) → Fronted (IsMaybe is_kind) ts v → kinded f n v ≡ Some r → Fronted IsDeclaration ts r
-  unfolding kinded
+  kinded_sound : (ts : List Token) (v : Option Key × List Token) (r : NormalDeclaration × List Token) → Fronted (IsMaybe is_kind) ts v → kind_on f n v ≡ Some r → Fronted IsDeclaration ts r
+  unfolding kind_on
   kinded_sound ts v r m e = moved m.whole (typed_on_sound v.0 m.front v.1 (word_at v.1) r m.spelled refl e)
 
   pub declaration_sound : (ts : List Token) (r : NormalDeclaration × List Token) → declaration_at f n ts ≡ Some r → Fronted IsDeclaration ts r

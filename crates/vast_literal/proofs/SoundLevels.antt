@@ -4,7 +4,7 @@ use Rattle.std.proofs.lemmas.Option.{same_Some}
 use Rattle.vast_literal.specs.Tokens.{Op, level, OpenBracket, CloseBracket, Colon, Question, PlusColon, Token, Number, Operator, Mark}
 use Rattle.vast_literal.specs.NormalExpr.{NormalExpr, Binary, Index, Slice, PartSelect}
 use Rattle.vast_literal.specs.Grammar.{Spells, up, ternary, binary, unary, index, slice, part_select}
-use Rattle.vast_literal.specs.Parser.{◌>>=◌, Parser, Lead, Brackets, Asks, Closes, Colons, PlusColons, Infix, lead, prefix, select, selects_on, selects_step, selected, operand_on, operand_step, climb_on, climb_step, binary_step, expression_on, expression_step, step, silent, run}
+use Rattle.vast_literal.specs.Parser.{◌>>=◌, Parser, Lead, Brackets, Asks, Closes, Colons, PlusColons, Infix, lead, prefix, select, selects_on, selects_step, selected_at, operand_on, operand_step, climb_on, climb_step, binary_step, expression_on, expression_step, step, silent, run}
 use Rattle.vast_literal.proofs.Sound.{bind_some, chosen, after_is, prefix_is, number_is, lead_is, level_small, lower, From, BelowAt, Below, Climbs, Sound, stays}
 use Rattle.vast_literal.proofs.SoundPrimary.{enclosed_sound, list_sound, primary_sound}
 
@@ -52,10 +52,10 @@ module _ (p : Parser) (s : Sound p) where
   unfolding selects_step
   selects_sound fs x ts r ex e = selects_on_sound fs x ts (lead ts) r ex refl e
 
-  -- unary and infix signs
+  -- unary and infix operators
 
-  pub selected_sound : (ts : List Token) (r : NormalExpr × List Token) → selected p ts ≡ Some r → From 13 [] ts r
-  unfolding selected
+  pub selected_sound : (ts : List Token) (r : NormalExpr × List Token) → selected_at p ts ≡ Some r → From 13 [] ts r
+  unfolding selected_at
   selected_sound ts r e =
       let a = bind_some _ _ r e in
       let x = primary_sound p s ts a.0 a.1 in

@@ -5,7 +5,7 @@ use Rattle.vast_literal.specs.Tokens.{Punct, Key, IfKey, reserved_keys, Token, R
 use Rattle.vast_literal.specs.FileGrammar.{IsMany, no_items, more_items, IsJoined, last_item, next_item, IsList, empty, full}
 use Rattle.vast_literal.specs.Parser.{after, key_at}
 use Rattle.vast_literal.specs.StatementParser.{ReadOf, key_code, after_key_on, after_key}
-use Rattle.vast_literal.specs.DeclarationParser.{many_on, many, joined_on, joined, listed_on, listed}
+use Rattle.vast_literal.specs.DeclarationParser.{many_on, many, joined_on, joined_at, listed_on, listed_at}
 use Rattle.vast_literal.proofs.Sound.{bind_some, after_is}
 
 -- a front of the tokens spells what was read, and the rest is behind it
@@ -99,13 +99,13 @@ module _ {A : Type 0} (P : List Token → A → Type 0) (mark : Token) (between 
       let v = xs.whole in
       answers (front ++ (mark ∷ xs.front)) (next_item p xs.spelled) (simp append_assoc (cc (w, c, v))) a.2
 
-  pub joined_sound : (n : ℕ) (ts : List Token) (r : List A × List Token) → joined n between item ts ≡ Some r → Fronted (IsJoined P mark) ts r
-  unfolding joined
+  pub joined_sound : (n : ℕ) (ts : List Token) (r : List A × List Token) → joined_at n between item ts ≡ Some r → Fronted (IsJoined P mark) ts r
+  unfolding joined_at
   joined_sound zero ts r e = absurd (cc)
   joined_sound (suc n) ts r e =
       let a = bind_some _ _ r e in
       let x = one_sound n ts a.0 a.1 in
-      joined_on_sound (λ us. joined n between item us) (λ us s d. joined_sound n us s d) ts x.front a.0.1 a.0.0 (between a.0.1) r x.whole x.spelled refl a.2
+      joined_on_sound (λ us. joined_at n between item us) (λ us s d. joined_sound n us s d) ts x.front a.0.1 a.0.0 (between a.0.1) r x.whole x.spelled refl a.2
 
   listed_on_sound : (n : ℕ) (close : Punct) (ts : List Token) (o : Option (List Token)) (r : List A × List Token) → after close ts ≡ o → listed_on n close between item ts o ≡ Some r →
       FrontedBy (IsList P mark) (Mark close) ts r
@@ -120,6 +120,6 @@ module _ {A : Type 0} (P : List Token → A → Type 0) (mark : Token) (between 
       let w = xs.whole in
       subst (λ (v : List A × List Token). FrontedBy (IsList P mark) (Mark close) ts v) (same_Some _ _ b.2) (record { front = xs.front; whole = cc (w, c); spelled = full xs.spelled })
 
-  pub listed_sound : (n : ℕ) (close : Punct) (ts : List Token) (r : List A × List Token) → listed n close between item ts ≡ Some r → FrontedBy (IsList P mark) (Mark close) ts r
-  unfolding listed
+  pub listed_sound : (n : ℕ) (close : Punct) (ts : List Token) (r : List A × List Token) → listed_at n close between item ts ≡ Some r → FrontedBy (IsList P mark) (Mark close) ts r
+  unfolding listed_at
   listed_sound n close ts r e = listed_on_sound n close ts (after close ts) r refl e

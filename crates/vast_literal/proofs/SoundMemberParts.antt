@@ -6,9 +6,9 @@ use Rattle.vast_literal.specs.Tokens.{Less, Plus, OpenParen, CloseParen, Comma, 
 use Rattle.vast_literal.specs.NormalExpr.{NormalExpr, Name, Binary}
 use Rattle.vast_literal.specs.NormalFile.{NormalStatement, NormalStatements, NormalDeclaration, Event, NormalConnection}
 use Rattle.vast_literal.specs.FileGrammar.{unique, not_unique, IsCases, IsStatements, IsMany, IsJoined, IsList, is_kind, is_member_kind, is_local_kind, is_edge, IsEvent, edge, plain, IsInput, input, IsDeclared, declared, IsGiven, given, IsConnection, connected, unconnected, IsSemicolon, with_one, without, IsLabel, no_label, labelled, IsFunctionBody, block_body, casez_body}
-use Rattle.vast_literal.specs.Parser.{◌>>=◌, Parser, after, key_at, enclosed, run}
+use Rattle.vast_literal.specs.Parser.{◌>>=◌, Parser, after, key_at, enclosed_at, run}
 use Rattle.vast_literal.specs.StatementParser.{ReadOf, after_key, block_at, cases_at, read_with}
-use Rattle.vast_literal.specs.DeclarationParser.{listed, declaration_at}
+use Rattle.vast_literal.specs.DeclarationParser.{listed_at, declaration_at}
 use Rattle.vast_literal.specs.MemberParser.{event_on, event_at, connection_on, connection_at, given_at, connections_at, givens_at, semicolon_on, block_with, bound_of, same_word, step_word, label_on, input_at, inputs_at, local_on, is_local, local_at, locals_at, casez_alone, function_body}
 use Rattle.vast_literal.proofs.Sound.{bind_some, after_is, word_is, number_is, Sound}
 use Rattle.vast_literal.proofs.SoundPrimary.{enclosed_sound}
@@ -40,7 +40,7 @@ module _ (p : Parser) (s : Sound p) where
   event_sound ts r e = event_on_sound ts (key_at ts) r refl e
 
   value_sound : (n : List ℕ) (ts us : List Token) (r : NormalConnection × List Token) → ts ≡ (Mark Dot ∷ (Word n ∷ (Mark OpenParen ∷ us))) →
-      (◌>>=◌ {B = NormalConnection × List Token} (enclosed p CloseParen us) (λ x. Some (record { name = n; value = Some x.0 }, x.1))) ≡ Some r → Fronted IsGiven ts r
+      (◌>>=◌ {B = NormalConnection × List Token} (enclosed_at p CloseParen us) (λ x. Some (record { name = n; value = Some x.0 }, x.1))) ≡ Some r → Fronted IsGiven ts r
   value_sound n ts us r w e =
       let a = bind_some _ _ r e in
       let x = enclosed_sound p s CloseParen us a.0 a.1 in
@@ -75,7 +75,7 @@ module _ (p : Parser) (s : Sound p) where
       let u = after_is OpenParen b.0.1 c.0 c.1 in
       connection_on_sound b.0.0 ts c.0 (after CloseParen c.0) r (cc (w, v, u)) refl c.2
 
-pub events_sound : (n : ℕ) (ts : List Token) (r : List Event × List Token) → listed n CloseParen (after_key OrKey) (λ j vs. event_at (run j) vs) ts ≡ Some r → FrontedBy (IsList IsEvent (Reserved OrKey)) (Mark CloseParen) ts r
+pub events_sound : (n : ℕ) (ts : List Token) (r : List Event × List Token) → listed_at n CloseParen (after_key OrKey) (λ j vs. event_at (run j) vs) ts ≡ Some r → FrontedBy (IsList IsEvent (Reserved OrKey)) (Mark CloseParen) ts r
 events_sound n ts r e = listed_sound IsEvent (Reserved OrKey) (after_key OrKey) (λ j vs. event_at (run j) vs) (λ us vs d. after_key_is OrKey us vs d) (λ m us v d. event_sound (run m) (sound m) us v d) n CloseParen ts r e
 
 pub connections_sound : (n : ℕ) (ts : List Token) (r : List NormalConnection × List Token) → connections_at n ts ≡ Some r → FrontedBy (IsList IsConnection (Mark Comma)) (Mark CloseParen) ts r

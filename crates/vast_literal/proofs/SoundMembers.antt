@@ -5,10 +5,10 @@ use Rattle.vast_literal.specs.NormalExpr.{NormalExpr, Name, Binary}
 use Rattle.vast_literal.specs.NormalFile.{NormalDeclaration, NormalConnection, NormalMember, DeclarationPart, AssignPart, ParameterPart, AlwaysPart, ConditionalPart, NormalMembers}
 use Rattle.vast_literal.specs.Grammar.{Spells}
 use Rattle.vast_literal.specs.FileGrammar.{IsDeclaration, IsList, IsInput, is_member_kind, is_parameter_word, is_clocked, IsGivenList, no_parameters, with_parameters, IsMember, declaration, continuous, parameter, macro, macro_with, instance, combinational, clocked, conditional, function, loop, IsMembers, closed, and_member}
-use Rattle.vast_literal.specs.Parser.{◌>>=◌, after, key_at, enclosed, selected, run}
+use Rattle.vast_literal.specs.Parser.{◌>>=◌, after, key_at, enclosed_at, selected_at, run}
 use Rattle.vast_literal.specs.StatementParser.{ReadOf, after_key, read_with}
-use Rattle.vast_literal.specs.DeclarationParser.{listed, declaration_at}
-use Rattle.vast_literal.specs.MemberParser.{event_at, instance_at, instance_on, macro_end, macro_member, plain_member, block_with, bound_of, same_word, step_word, loop_body, loop_at, function_end, function_at, keyed, member_on, members_on, members}
+use Rattle.vast_literal.specs.DeclarationParser.{listed_at, declaration_at}
+use Rattle.vast_literal.specs.MemberParser.{event_at, instance_at, instance_on, macro_end, macro_member, plain_member, block_with, bound_of, same_word, step_word, loop_body, loop_at, function_end, function_at, keyed_on, member_on, members_on, members}
 use Rattle.vast_literal.proofs.Sound.{bind_some, after_is, word_is}
 use Rattle.vast_literal.proofs.SoundPrimary.{enclosed_sound, arguments_sound}
 use Rattle.vast_literal.proofs.SoundLevels.{selected_sound, sound}
@@ -140,7 +140,7 @@ module _ (rest : Key → List Token → ReadOf NormalMembers) (rest_sound : (c :
 
   -- from behind the first `=`
   loop_bound_sound : (n : ℕ) (i : List ℕ) (ts us : List Token) (r : NormalMember × List Token) → ts ≡ (Reserved ForKey ∷ (Mark OpenParen ∷ (Reserved GenvarKey ∷ (Word i ∷ (Mark Assign ∷ us))))) →
-      (enclosed (run n) Semicolon us >>= λ x. enclosed (run n) Semicolon x.1 >>= λ d. bound_of i d.0 >>= λ e. same_word i d.1 >>= λ f. after Assign f >>= λ g. same_word i g >>= λ h. step_word h >>= λ j. after CloseParen j >>= λ k. loop_body rest i x.0 e k) ≡ Some r →
+      (enclosed_at (run n) Semicolon us >>= λ x. enclosed_at (run n) Semicolon x.1 >>= λ d. bound_of i d.0 >>= λ e. same_word i d.1 >>= λ f. after Assign f >>= λ g. same_word i g >>= λ h. step_word h >>= λ j. after CloseParen j >>= λ k. loop_body rest i x.0 e k) ≡ Some r →
       Fronted IsMember ts r
   loop_bound_sound n i ts us r k e =
       let a = bind_some _ _ r e in
@@ -167,7 +167,7 @@ module _ (rest : Key → List Token → ReadOf NormalMembers) (rest_sound : (c :
 
   -- members that begin with a keyword
   continuous_sound : (n : ℕ) (ts us : List Token) (r : NormalMember × List Token) → ts ≡ (Reserved AssignKey ∷ us) →
-      (selected (run n) us >>= λ l. after Assign l.1 >>= λ vs. enclosed (run n) Semicolon vs >>= λ x. Some (AssignPart l.0 x.0, x.1)) ≡ Some r → Fronted IsMember ts r
+      (selected_at (run n) us >>= λ l. after Assign l.1 >>= λ vs. enclosed_at (run n) Semicolon vs >>= λ x. Some (AssignPart l.0 x.0, x.1)) ≡ Some r → Fronted IsMember ts r
   continuous_sound n ts us r k e =
       let a = bind_some _ _ r e in
       let b = bind_some _ _ r a.2 in
@@ -193,7 +193,7 @@ module _ (rest : Key → List Token → ReadOf NormalMembers) (rest_sound : (c :
       moved k (answers x.front (conditional x.spelled) x.whole a.2)
 
   parameter_sound : (n : ℕ) (w : Key) (ts us : List Token) (r : NormalMember × List Token) → IsTrue (is_parameter_word w) → ts ≡ (Reserved w ∷ us) →
-      (declaration_at run n us >>= λ d. after Assign d.1 >>= λ vs. enclosed (run n) Semicolon vs >>= λ x. Some (ParameterPart w d.0 x.0, x.1)) ≡ Some r → Fronted IsMember ts r
+      (declaration_at run n us >>= λ d. after Assign d.1 >>= λ vs. enclosed_at (run n) Semicolon vs >>= λ x. Some (ParameterPart w d.0 x.0, x.1)) ≡ Some r → Fronted IsMember ts r
   parameter_sound n key ts us r h k e =
       let a = bind_some _ _ r e in
       let b = bind_some _ _ r a.2 in
@@ -206,7 +206,7 @@ module _ (rest : Key → List Token → ReadOf NormalMembers) (rest_sound : (c :
       answers (Reserved key ∷ (d.front ++ (Mark Assign ∷ (x.front ++ (Mark Semicolon ∷ []))))) (parameter key h d.spelled x.tree) (simp append_assoc (cc (k, w, v, u))) c.2
 
   clocked_sound : (n : ℕ) (key : Key) (ts us : List Token) (r : NormalMember × List Token) → IsTrue (is_clocked key) → ts ≡ (Reserved key ∷ us) →
-      (after At us >>= λ a. after OpenParen a >>= λ b. listed n CloseParen (after_key OrKey) (λ j vs. event_at (run j) vs) b >>= λ e. block_with n e.1 >>= λ s. Some (AlwaysPart key e.0 s.0, s.1)) ≡ Some r → Fronted IsMember ts r
+      (after At us >>= λ a. after OpenParen a >>= λ b. listed_at n CloseParen (after_key OrKey) (λ j vs. event_at (run j) vs) b >>= λ e. block_with n e.1 >>= λ s. Some (AlwaysPart key e.0 s.0, s.1)) ≡ Some r → Fronted IsMember ts r
   clocked_sound n key ts us r h k e =
       let a = bind_some _ _ r e in
       let b = bind_some _ _ r a.2 in
@@ -221,14 +221,14 @@ module _ (rest : Key → List Token → ReadOf NormalMembers) (rest_sound : (c :
 
   word_sound : (n : ℕ) (k : Key) (ts us : List Token) (r : NormalMember × List Token) → ts ≡ (Reserved k ∷ us) →
       (cond (is_member_kind k) (declaration_at run n ts >>= λ d. after Semicolon d.1 >>= λ vs. Some (DeclarationPart d.0, vs))
-      (cond (is_parameter_word k) (declaration_at run n us >>= λ d. after Assign d.1 >>= λ vs. enclosed (run n) Semicolon vs >>= λ x. Some (ParameterPart k d.0 x.0, x.1))
-      (cond (is_clocked k) (after At us >>= λ a. after OpenParen a >>= λ b. listed n CloseParen (after_key OrKey) (λ j vs. event_at (run j) vs) b >>= λ e. block_with n e.1 >>= λ s. Some (AlwaysPart k e.0 s.0, s.1)) None))) ≡ Some r →
+      (cond (is_parameter_word k) (declaration_at run n us >>= λ d. after Assign d.1 >>= λ vs. enclosed_at (run n) Semicolon vs >>= λ x. Some (ParameterPart k d.0 x.0, x.1))
+      (cond (is_clocked k) (after At us >>= λ a. after OpenParen a >>= λ b. listed_at n CloseParen (after_key OrKey) (λ j vs. event_at (run j) vs) b >>= λ e. block_with n e.1 >>= λ s. Some (AlwaysPart k e.0 s.0, s.1)) None))) ≡ Some r →
       Fronted IsMember ts r
   word_sound n k ts us r w e = either_way (is_member_kind k) _ _ _ e (λ h d. declared_sound IsMember DeclarationPart is_member_kind n k ts us r (λ vs x y. declaration y) h (member_kind k h) w d)
       (λ _ f. either_way (is_parameter_word k) _ _ _ f (λ h d. parameter_sound n k ts us r h w d) (λ _ g. either_way (is_clocked k) _ _ _ g (λ h d. clocked_sound n k ts us r h w d) (λ _ d. absurd (cc d))))
 
-  keyed_sound : (n : ℕ) (k : Key) (ts us : List Token) (r : NormalMember × List Token) → ts ≡ (Reserved k ∷ us) → keyed n rest ts k us ≡ Some r → Fronted IsMember ts r
-  unfolding keyed
+  keyed_sound : (n : ℕ) (k : Key) (ts us : List Token) (r : NormalMember × List Token) → ts ≡ (Reserved k ∷ us) → keyed_on n rest ts k us ≡ Some r → Fronted IsMember ts r
+  unfolding keyed_on
   keyed_sound n AssignKey ts us r w e = continuous_sound n ts us r w e
   keyed_sound n AlwaysCombKey ts us r w e = combinational_sound n ts us r w e
   keyed_sound n IfKey ts us r w e = conditional_sound n ts us r w e

@@ -4,12 +4,12 @@ use Rattle.std.proofs.lemmas.Option.{same_Some}
 use Rattle.vast_literal.specs.Tokens.{Punct, OpenParen, CloseParen, OpenBrace, CloseBrace, Comma, DoubleColon, Apostrophe, Key, Token, Reserved, Word, SystemWord, MacroWord, Number, Based, Quoted, Mark}
 use Rattle.vast_literal.specs.NormalExpr.{NormalExpr, Name, Literal, Pattern, Call, MacroCall, Cast, PackageCast, WordCast, NormalExprs}
 use Rattle.vast_literal.specs.Grammar.{is_cast_word, Spells, name, number, based, quoted, paren, call, system_call, concat, replicated, array_pattern, macro_alone, macro_call, number_cast, name_cast, package_cast, paren_cast, word_cast, SpellsList, none, some, last, next}
-use Rattle.vast_literal.specs.Parser.{◌>>=◌, Parser, Lead, Opens, Ticks, Scopes, lead, after, enclosed, cast, list_on, list_step, arguments_on, arguments, applied, word_on, number_on, macro_on, paren_on, brace_next, brace_on, primary}
+use Rattle.vast_literal.specs.Parser.{◌>>=◌, Parser, Lead, Opens, Ticks, Scopes, lead, after, enclosed_at, cast, list_on, list_step, arguments_on, arguments, applied_at, word_on, number_on, macro_on, paren_on, brace_next, brace_on, primary}
 use Rattle.vast_literal.proofs.Sound.{bind_some, chosen, after_is, word_is, lead_is, same_tree, From, FromList, FromArguments, FromEnclosed, Sound}
 
 module _ (p : Parser) (s : Sound p) where
-  pub enclosed_sound : (close : Punct) (ts : List Token) (r : NormalExpr × List Token) → enclosed p close ts ≡ Some r → FromEnclosed close ts r
-  unfolding enclosed
+  pub enclosed_sound : (close : Punct) (ts : List Token) (r : NormalExpr × List Token) → enclosed_at p close ts ≡ Some r → FromEnclosed close ts r
+  unfolding enclosed_at
   enclosed_sound close ts r e =
       let a = bind_some _ _ r e in
       let b = bind_some _ _ r a.2 in
@@ -67,9 +67,9 @@ module _ (p : Parser) (s : Sound p) where
   unfolding arguments
   arguments_sound close ts r e = arguments_on_sound close ts (after close ts) r refl e
 
-  pub applied_sound : (close : Punct) (f : NormalExprs → NormalExpr) (ts : List Token) (r : NormalExpr × List Token) → applied p close f ts ≡ Some r →
+  pub applied_sound : (close : Punct) (f : NormalExprs → NormalExpr) (ts : List Token) (r : NormalExpr × List Token) → applied_at p close f ts ≡ Some r →
       (front : List Token) × (xs : NormalExprs) × (ts ≡ (front ++ (Mark close ∷ r.1))) × SpellsList front xs × (f xs ≡ r.0)
-  unfolding applied
+  unfolding applied_at
   applied_sound close f ts r e =
       let a = bind_some _ _ r e in
       let x = arguments_sound close ts a.0 a.1 in

@@ -7,7 +7,7 @@ use Rattle.vast_literal.specs.NormalExpr.{NormalExpr}
 use Rattle.vast_literal.specs.NormalFile.{NormalStatement, AssignStatement, ChoiceStatement, NormalStatements, Arms, Otherwise, Labels, Label}
 use Rattle.vast_literal.specs.Grammar.{is_cast_word, Spells}
 use Rattle.vast_literal.specs.FileGrammar.{arrow, IsUnique, unique, not_unique, IsCase, case_word, casez_word, casex_word, IsStatement, simple, assigned, choice, cases, IsCases, cased, IsAssign, assigns, IsStatements, done, then, IsChoice, only, otherwise, or, IsLabels, no_labels, label, default, IsBody, body, bare}
-use Rattle.vast_literal.specs.Parser.{◌>>=◌, Parser, after, key_at, enclosed, selected}
+use Rattle.vast_literal.specs.Parser.{◌>>=◌, Parser, after, key_at, enclosed_at, selected_at}
 use Rattle.vast_literal.specs.StatementParser.{Reader, after_key, arrow_at, simple_at, block_at, cases_at, case_of, statement_on, statement_step, statements_on, statements_step, tail_on, choice_on, choice_step, body_on, arm_at, labels_on, labels_step, reader_step, silent_reader, read_with}
 use Rattle.vast_literal.proofs.Sound.{bind_some, chosen, after_is, Sound}
 use Rattle.vast_literal.proofs.SoundPrimary.{enclosed_sound}
@@ -94,7 +94,7 @@ module _ (q : Reader) (s : SoundReader q) where
   plain_sound ts r e = let x = simple_sound q.low s.low ts r e in record { front = x.front; whole = x.whole; spelled = simple x.spelled }
 
   assigned_sound : (ts us : List Token) (r : NormalStatement × List Token) → key_at ts ≡ Some (AssignKey, us) →
-      (selected q.low us >>= λ l. after Assign l.1 >>= λ vs. enclosed q.low Semicolon vs >>= λ x. Some (AssignStatement l.0 x.0, x.1)) ≡ Some r → Fronted IsStatement ts r
+      (selected_at q.low us >>= λ l. after Assign l.1 >>= λ vs. enclosed_at q.low Semicolon vs >>= λ x. Some (AssignStatement l.0 x.0, x.1)) ≡ Some r → Fronted IsStatement ts r
   assigned_sound ts us r h e =
       let a = bind_some _ _ r e in
       let b = bind_some _ _ r a.2 in
@@ -224,7 +224,7 @@ module _ (q : Reader) (s : SoundReader q) where
       let v = after_is Colon us a.0 a.1 in
       arm_sound z None (Reserved DefaultKey ∷ []) ts a.0 r (λ bs ys b l x y. default x y) (cc (w, v)) a.2
 
-  label_sound : (z : Bool) (ts : List Token) (r : Labels × List Token) → (enclosed q.low Colon ts >>= λ x. arm_at q z (Some x.0) x.1) ≡ Some r → Fronted (IsLabels z) ts r
+  label_sound : (z : Bool) (ts : List Token) (r : Labels × List Token) → (enclosed_at q.low Colon ts >>= λ x. arm_at q z (Some x.0) x.1) ≡ Some r → Fronted (IsLabels z) ts r
   label_sound z ts r e =
       let a = bind_some _ _ r e in
       let x = enclosed_sound q.low s.low Colon ts a.0 a.1 in

@@ -6,7 +6,7 @@ use Rattle.vast_literal.specs.NormalExpr.{NormalExpr}
 use Rattle.vast_literal.specs.NormalFile.{NormalStatement, AssignStatement, ChoiceStatement, CaseStatement, NormalStatements, Done, Then, Arms, Only, Otherwise, Or, Labels, NoLabels, Label}
 use Rattle.vast_literal.specs.Grammar.{is_cast_word, Spells}
 use Rattle.vast_literal.specs.FileGrammar.{OneStatement, arrow, assignment, IsUnique, unique, not_unique, IsCase, case_word, casez_word, casex_word, IsStatement, simple, assigned, choice, cases, IsCases, cased, IsAssign, assigns, IsStatements, done, then, IsChoice, only, otherwise, or, IsLabels, no_labels, label, default, IsBody, body, bare}
-use Rattle.vast_literal.specs.Parser.{◌>>=◌, Parser, lead, key_at, enclosed, selected}
+use Rattle.vast_literal.specs.Parser.{◌>>=◌, Parser, lead, key_at, enclosed_at, selected_at}
 use Rattle.vast_literal.specs.StatementParser.{Reader, key_code, after_key_on, after_key, arrow_at, simple_at, block_at, cases_at, case_of, statement_on, statement_step, statements_on, statements_step, tail_on, choice_on, choice_step, body_on, arm_at, labels_on, labels_step}
 use Rattle.vast_literal.proofs.Gives.{Gives, ReaderGives, now, same, same2, later, later2, later3, one_result, lifted}
 use Rattle.vast_literal.proofs.Moves.{Quiet, bound, after_self, enclosed_gives, stop_selects}
@@ -54,7 +54,7 @@ no_key k ts w h = no_key_on k (key_at ts) w h
 pub expression_parses : (ts rest : List Token) (t : NormalExpr) → Spells 0 ts t → Quiet 0 rest → Gives (λ p. p.expression_at (ts ++ rest)) (t, rest)
 expression_parses ts rest t e q = let h = parses 0 ts t e in h.expression_at rest q
 
-pub left_parses : (ts rest : List Token) (t : NormalExpr) → Spells 13 ts t → Quiet 13 rest → Quiet 14 rest → Gives (λ p. selected p (ts ++ rest)) (t, rest)
+pub left_parses : (ts rest : List Token) (t : NormalExpr) → Spells 13 ts t → Quiet 13 rest → Quiet 14 rest → Gives (λ p. selected_at p (ts ++ rest)) (t, rest)
 left_parses ts rest t e q q' = let h = parses 13 ts t e in h.selects_at (omega arith) rest (t, rest) q' (now (λ p. stop_selects p t rest q))
 
 quiet_arrow : (b : Bool) (us : List Token) → Quiet 13 (arrow b ∷ us) × Quiet 14 (arrow b ∷ us)
@@ -67,7 +67,7 @@ unfolding arrow arrow_at
 arrow_parses true us = refl
 arrow_parses false us = refl
 
-simple_gives : (p : Parser) (b : Bool) (l r : NormalExpr) (ts us rest : List Token) → selected p ts ≡ Some (l, arrow b ∷ us) → p.expression_at us ≡ Some (r, Mark Semicolon ∷ rest) → simple_at p ts ≡ Some (assignment b l r, rest)
+simple_gives : (p : Parser) (b : Bool) (l r : NormalExpr) (ts us rest : List Token) → selected_at p ts ≡ Some (l, arrow b ∷ us) → p.expression_at us ≡ Some (r, Mark Semicolon ∷ rest) → simple_at p ts ≡ Some (assignment b l r, rest)
 unfolding simple_at
 simple_gives p b l r ts us rest e d = bound _ e (bound _ (arrow_parses b us) (bound _ (enclosed_gives p Semicolon us rest r d) refl))
 
@@ -129,7 +129,7 @@ simple_parses ts s h = record {
   parses = λ rest _. later (λ q e. simple_step q (ts ++ rest) (s, rest) (h.key rest) e) (lifted (h.parses rest));
 }
 
-assigned_step : (q : Reader) (l r : NormalExpr) (ts us rest : List Token) → selected q.low ts ≡ Some (l, Mark Assign ∷ us) → q.low.expression_at us ≡ Some (r, Mark Semicolon ∷ rest) →
+assigned_step : (q : Reader) (l r : NormalExpr) (ts us rest : List Token) → selected_at q.low ts ≡ Some (l, Mark Assign ∷ us) → q.low.expression_at us ≡ Some (r, Mark Semicolon ∷ rest) →
     statement_step q (Reserved AssignKey ∷ ts) ≡ Some (AssignStatement l r, rest)
 unfolding statement_step statement_on key_at
 assigned_step q l r ts us rest e d = bound _ e (bound _ (after_self Assign us) (bound _ (enclosed_gives q.low Semicolon us rest r d) refl))
@@ -300,7 +300,7 @@ default_step : (q : Reader) (z : Bool) (ts : List Token) (x : Labels × List Tok
 unfolding labels_step labels_on key_at
 default_step q z ts x e = bound _ (after_self Colon ts) e
 
-label_on_word : (q : Reader) (z : Bool) (ts : List Token) (o : Option (Key × List Token)) (x : Labels × List Token) → CastOnly o → (enclosed q.low Colon ts >>= λ v. arm_at q z (Some v.0) v.1) ≡ Some x → labels_on q z ts o ≡ Some x
+label_on_word : (q : Reader) (z : Bool) (ts : List Token) (o : Option (Key × List Token)) (x : Labels × List Token) → CastOnly o → (enclosed_at q.low Colon ts >>= λ v. arm_at q z (Some v.0) v.1) ≡ Some x → labels_on q z ts o ≡ Some x
 unfolding labels_on is_cast_word
 label_on_word q z ts None x h e = e
 label_on_word q z ts (Some (LogicKey, us)) x h e = e

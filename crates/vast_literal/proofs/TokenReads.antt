@@ -12,7 +12,7 @@ abbrev pub stops : List ℕ → Bool
 stops [] = true
 stops (c ∷ cs) = stop c
 
--- A text whose first byte makes no colon before it longer and, where `tight`, no unary sign.
+-- A text whose first byte makes no colon before it longer and, where `tight`, no unary operator.
 abbrev pub opens : (tight : Bool) → List ℕ → Bool
 opens tight [] = false
 opens tight (c ∷ cs) = not (eqb c 61 || eqb c 58) && (not tight || not (eqb c 38 || eqb c 124))

@@ -17,7 +17,7 @@ use Rattle.vast_literal.specs.declared.literal.LiteralFormat.TheVariants.{Binary
 use Rattle.vast_literal.specs.Scan.{is_digit, is_based_digit}
 use Rattle.vast_literal.specs.LiteralToken.{every, is_number, is_based_number, is_based_tail, is_based, is_bare_literal, is_literal_text}
 use Rattle.vast_literal.specs.Digits.{lowest_digits, digit_count, characters, grouped}
-use Rattle.vast_literal.specs.LiteralText.{padded_count, is_below_half, sized, signed_text, spelled}
+use Rattle.vast_literal.specs.LiteralText.{padded_count, is_below_half, sized, signed_text, format_text}
 use Rattle.vast_literal.specs.Pattern.{is_pattern_digit, is_pattern}
 use Rattle.vast_literal.proofs.Numbers.{both_parts, length-lowest_digits}
 use Rattle.vast_literal.proofs.Widths.{positive_from_high, narrow_from_high}
@@ -139,15 +139,15 @@ signed_literal n v false m s e h =
     bare_from_based (sized n (39 ∷ 115 ∷ 100 ∷ []) (decimal (2 ^ n - v))) (sized_based n (115 ∷ 100 ∷ []) (decimal (2 ^ n - v)) m (decimal_based (2 ^ n - v) (omega arith)))
 
 -- The text of a number v of n bits in any format is the text of a literal.
-pub spelled_literal : (format : LiteralFormat) (n v : ℕ) → 1 ≤ n → n ≤ 1048576 → v < 2 ^ n → v < 2 ^ 128 → is_literal_text (spelled format n v) ≡ true
-unfolding spelled signed_text
-spelled_literal Binary n v p q h s = literal_from_based (spelled Binary n v) (sized_based n (98 ∷ []) _ (omega arith) (grouped_based 1 (padded_count 1 n v) v (lit≤ tt) (padded_some n v (eqb v 0 && ltb 1024 n) p)))
-spelled_literal Hex n v p q h s = literal_from_based (spelled Hex n v) (sized_based n (104 ∷ []) _ (omega arith) (grouped_based 4 (padded_count 4 n v) v (lit≤ tt) (padded_some_4 n v (eqb v 0 && ltb 1024 n) p)))
+pub spelled_literal : (format : LiteralFormat) (n v : ℕ) → 1 ≤ n → n ≤ 1048576 → v < 2 ^ n → v < 2 ^ 128 → is_literal_text (format_text format n v) ≡ true
+unfolding format_text signed_text
+spelled_literal Binary n v p q h s = literal_from_based (format_text Binary n v) (sized_based n (98 ∷ []) _ (omega arith) (grouped_based 1 (padded_count 1 n v) v (lit≤ tt) (padded_some n v (eqb v 0 && ltb 1024 n) p)))
+spelled_literal Hex n v p q h s = literal_from_based (format_text Hex n v) (sized_based n (104 ∷ []) _ (omega arith) (grouped_based 4 (padded_count 4 n v) v (lit≤ tt) (padded_some_4 n v (eqb v 0 && ltb 1024 n) p)))
 spelled_literal SignedDecimal n v p q h s = signed_literal n v (is_below_half n v) (omega arith) s refl h
-spelled_literal UnsignedDecimal n v p q h s = literal_from_based (spelled UnsignedDecimal n v) (sized_based n (100 ∷ []) _ (omega arith) (decimal_based v s))
-spelled_literal UnsizedBinary n v p q h s = literal_from_based (spelled UnsizedBinary n v) (characters_based 1 (digit_count 2 v) v (lit≤ tt) (digit_count-some 2 v))
+spelled_literal UnsignedDecimal n v p q h s = literal_from_based (format_text UnsignedDecimal n v) (sized_based n (100 ∷ []) _ (omega arith) (decimal_based v s))
+spelled_literal UnsizedBinary n v p q h s = literal_from_based (format_text UnsizedBinary n v) (characters_based 1 (digit_count 2 v) v (lit≤ tt) (digit_count-some 2 v))
 spelled_literal UnsizedDecimal n v p q h s = literal_from_number (decimal v) (decimal_number v s)
-spelled_literal UnsizedHex n v p q h s = literal_from_based (spelled UnsizedHex n v) (grouped_based 4 (digit_count 16 v) v (lit≤ tt) (digit_count-some 16 v))
+spelled_literal UnsizedHex n v p q h s = literal_from_based (format_text UnsizedHex n v) (grouped_based 4 (digit_count 16 v) v (lit≤ tt) (digit_count-some 16 v))
 
 -- So is the text of a pattern.
 pattern_digit_based : (c : ℕ) → is_pattern_digit c ≡ true → is_based_digit c ≡ true

@@ -4,7 +4,7 @@ use Rattle.vast_literal.specs.Tokens.{Key, Punct, CloseBracket, OpenBracket, Dou
 use Rattle.vast_literal.specs.NormalExpr.{NormalExpr}
 use Rattle.vast_literal.specs.NormalFile.{Group, One, Range, NormalDeclaration}
 use Rattle.vast_literal.specs.FileGrammar.{is_kind, is_sign}
-use Rattle.vast_literal.specs.Parser.{◌>>=◌, Parser, Lead, Closes, Colons, lead, after, key_at, word_at, enclosed}
+use Rattle.vast_literal.specs.Parser.{◌>>=◌, Parser, Lead, Closes, Colons, lead, after, key_at, word_at, enclosed_at}
 use Rattle.vast_literal.specs.StatementParser.{ReadOf}
 
 unfoldable pub many_on : {A : Type 0} → (List Token → ReadOf A) → (List Token → ReadOf (List A)) → List Token → Bool → ReadOf (List A)
@@ -21,23 +21,23 @@ joined_on rest x ts None = Some (x ∷ [], ts)
 joined_on rest x ts (Some us) = rest us >>= λ xs. Some (x ∷ xs.0, xs.1)
 
 -- Items with something between them.
-unfoldable pub joined : {A : Type 0} → ℕ → (List Token → Option (List Token)) → (ℕ → List Token → ReadOf A) → List Token → ReadOf (List A)
-joined zero between item ts = None
-joined (suc n) between item ts = item n ts >>= λ x. joined_on (λ us. joined n between item us) x.0 x.1 (between x.1)
+unfoldable pub joined_at : {A : Type 0} → ℕ → (List Token → Option (List Token)) → (ℕ → List Token → ReadOf A) → List Token → ReadOf (List A)
+joined_at zero between item ts = None
+joined_at (suc n) between item ts = item n ts >>= λ x. joined_on (λ us. joined_at n between item us) x.0 x.1 (between x.1)
 
 unfoldable pub listed_on : {A : Type 0} → ℕ → Punct → (List Token → Option (List Token)) → (ℕ → List Token → ReadOf A) → List Token → Option (List Token) → ReadOf (List A)
 listed_on n close between item ts (Some us) = Some ([], us)
-listed_on n close between item ts None = joined n between item ts >>= λ xs. after close xs.1 >>= λ us. Some (xs.0, us)
+listed_on n close between item ts None = joined_at n between item ts >>= λ xs. after close xs.1 >>= λ us. Some (xs.0, us)
 
 -- A list, perhaps of none, and what closes it.
-unfoldable pub listed : {A : Type 0} → ℕ → Punct → (List Token → Option (List Token)) → (ℕ → List Token → ReadOf A) → List Token → ReadOf (List A)
-listed n close between item ts = listed_on n close between item ts (after close ts)
+unfoldable pub listed_at : {A : Type 0} → ℕ → Punct → (List Token → Option (List Token)) → (ℕ → List Token → ReadOf A) → List Token → ReadOf (List A)
+listed_at n close between item ts = listed_on n close between item ts (after close ts)
 
 -- Groups.
 
 unfoldable pub group_on : Parser → NormalExpr → Lead → ReadOf Group
 group_on p x (Closes us) = Some (One x, us)
-group_on p x (Colons us) = enclosed p CloseBracket us >>= λ l. Some (Range x l.0, l.1)
+group_on p x (Colons us) = enclosed_at p CloseBracket us >>= λ l. Some (Range x l.0, l.1)
 group_on p x _ = None
 
 unfoldable pub group_at : Parser → List Token → ReadOf Group
@@ -77,20 +77,20 @@ unfoldable pub named_on : Fueled → ℕ → Option Key → List ℕ → List Gr
 named_on f n k w g ts None = Some (record { kind = k; package_name = None; type_name = None; sign = None; groups = []; name = w; behind = g }, ts)
 named_on f n k w g ts (Some v) = groups_at f n v.1 >>= λ h. Some (record { kind = k; package_name = None; type_name = Some w; sign = None; groups = g; name = v.0; behind = h.0 }, h.1)
 
-unfoldable pub unscoped : Fueled → ℕ → Option Key → List ℕ → Option Key × List Token → ReadOf NormalDeclaration
-unscoped f n k w (Some s, us) = signed_at f n k None (Some w) (Some s) us
-unscoped f n k w (None, us) = groups_at f n us >>= λ g. named_on f n k w g.0 g.1 (word_at g.1)
+unfoldable pub unscoped_on : Fueled → ℕ → Option Key → List ℕ → Option Key × List Token → ReadOf NormalDeclaration
+unscoped_on f n k w (Some s, us) = signed_at f n k None (Some w) (Some s) us
+unscoped_on f n k w (None, us) = groups_at f n us >>= λ g. named_on f n k w g.0 g.1 (word_at g.1)
 
-unfoldable pub worded : Fueled → ℕ → Option Key → List ℕ → List Token → Option (List Token) → ReadOf NormalDeclaration
-worded f n k w us (Some vs) = word_at vs >>= λ t. sign_on f n k (Some w) (Some t.0) (maybe_at is_sign t.1)
-worded f n k w us None = unscoped f n k w (maybe_at is_sign us)
+unfoldable pub worded_on : Fueled → ℕ → Option Key → List ℕ → List Token → Option (List Token) → ReadOf NormalDeclaration
+worded_on f n k w us (Some vs) = word_at vs >>= λ t. sign_on f n k (Some w) (Some t.0) (maybe_at is_sign t.1)
+worded_on f n k w us None = unscoped_on f n k w (maybe_at is_sign us)
 
 unfoldable pub typed_on : Fueled → ℕ → Option Key → List Token → Option (List ℕ × List Token) → ReadOf NormalDeclaration
 typed_on f n k ts None = sign_on f n k None None (maybe_at is_sign ts)
-typed_on f n k ts (Some v) = worded f n k v.0 v.1 (after DoubleColon v.1)
+typed_on f n k ts (Some v) = worded_on f n k v.0 v.1 (after DoubleColon v.1)
 
-unfoldable pub kinded : Fueled → ℕ → Option Key × List Token → ReadOf NormalDeclaration
-kinded f n k = typed_on f n k.0 k.1 (word_at k.1)
+unfoldable pub kind_on : Fueled → ℕ → Option Key × List Token → ReadOf NormalDeclaration
+kind_on f n k = typed_on f n k.0 k.1 (word_at k.1)
 
 unfoldable pub declaration_at : Fueled → ℕ → List Token → ReadOf NormalDeclaration
-declaration_at f n ts = kinded f n (maybe_at is_kind ts)
+declaration_at f n ts = kind_on f n (maybe_at is_kind ts)

@@ -5,7 +5,7 @@ use Rattle.vast_literal.specs.NormalFile.{NormalParameter, NormalPort, NormalIte
 use Rattle.vast_literal.specs.FileGrammar.{is_direction}
 use Rattle.vast_literal.specs.Parser.{◌>>=◌, after, key_at, word_at, run}
 use Rattle.vast_literal.specs.StatementParser.{ReadOf, after_key}
-use Rattle.vast_literal.specs.DeclarationParser.{many, joined, declaration_at}
+use Rattle.vast_literal.specs.DeclarationParser.{many, joined_at, declaration_at}
 use Rattle.vast_literal.specs.MemberParser.{members}
 
 unfoldable pub parameter_at : ℕ → List Token → ReadOf NormalParameter
@@ -19,10 +19,10 @@ unfoldable pub port_at : ℕ → List Token → ReadOf NormalPort
 port_at n ts = port_on n (key_at ts)
 
 unfoldable pub header_parameters_at : ℕ → List Token → ReadOf (List NormalParameter)
-header_parameters_at n ts = joined n (after Comma) parameter_at ts
+header_parameters_at n ts = joined_at n (after Comma) parameter_at ts
 
 unfoldable pub header_ports_at : ℕ → List Token → ReadOf (List NormalPort)
-header_ports_at n ts = joined n (after Comma) port_at ts
+header_ports_at n ts = joined_at n (after Comma) port_at ts
 
 -- # ( parameters ), or nothing
 unfoldable pub parameters_on : ℕ → List Token → Option (List Token) → ReadOf (List NormalParameter)

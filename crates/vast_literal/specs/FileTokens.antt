@@ -10,7 +10,7 @@ use Rattle.vast_literal.specs.Tree.{AlwaysWord, AlwaysFFWord, AlwaysAtWord, Alwa
 use Rattle.vast_literal.specs.Tree.{MemberTree, DeclarationMember, AssignMember, ParameterMember, CommentMember, BlankMember, InlineMember, MacroMember, InstanceMember, AlwaysMember, ConditionalMember, FunctionMember, LoopMember, Members, NoMembers, MoreMembers}
 use Rattle.vast_literal.specs.Tree.{PortTree, ParameterPortTree, ModuleTree, FileItemTree, ModuleItem, IncludeItem, CommentItem, BlankItem, FileTree}
 use Rattle.vast_literal.specs.LiteralToken.{literal_tokens}
-use Rattle.vast_literal.specs.Shape.{right_child_wraps, limit_wraps, base_of, port_kind, base_kind, result_kind, is_bare_arm, is_one_casez}
+use Rattle.vast_literal.specs.Shape.{right_child_wraps, highest_index_wraps, base_of, port_kind, base_kind, result_kind, is_bare_arm, is_one_casez}
 use Rattle.vast_literal.specs.ExprTokens.{wrapped_tokens, expr_tokens}
 use Rattle.vast_literal.specs.NormalTree.{kind_key, sign_of, case_key, parameter_key, direction_key}
 
@@ -39,12 +39,12 @@ abbrev pub range_tokens : (high low : List Token) → List Token
 range_tokens hs ls = Mark OpenBracket ∷ (hs ++ (Mark Colon ∷ (ls ++ (Mark CloseBracket ∷ []))))
 
 -- A width in parentheses where it binds less tightly than a minus.
-unfoldable pub limit_tokens : ExprTree → Option ℤ → List Token
-limit_tokens width (Some value) = number_tokens (value -ℤ pos 1)
-limit_tokens width None = wrapped_tokens (limit_wraps width) (expr_tokens width) ++ (Operator Minus ∷ (Number (codes "1") ∷ []))
+unfoldable pub highest_index_tokens : ExprTree → Option ℤ → List Token
+highest_index_tokens width (Some value) = number_tokens (value -ℤ pos 1)
+highest_index_tokens width None = wrapped_tokens (highest_index_wraps width) (expr_tokens width) ++ (Operator Minus ∷ (Number (codes "1") ∷ []))
 
 unfoldable pub vector_tokens : (base : TypeTree) → List Token
-vector_tokens (VectorTree width value signed) = range_tokens (limit_tokens width value) zero_tokens
+vector_tokens (VectorTree width value signed) = range_tokens (highest_index_tokens width value) zero_tokens
 vector_tokens _ = []
 
 unfoldable pub packed_range_tokens : List ℤ → List Token

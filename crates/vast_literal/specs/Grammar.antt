@@ -16,7 +16,7 @@ is_cast_word IntKey = true
 is_cast_word _ = false
 
 mutual
-  -- The tokens spell the normal expression at the level: 0 a ternary, 1 to 11 an infix sign, 12 a unary sign, 13 a select, 14 a primary.
+  -- The tokens spell the normal expression at the level: 0 a ternary, 1 to 11 an infix operator, 12 a unary operator, 13 a select, 14 a primary.
   pub data Spells : ℕ → List Token → NormalExpr → Type 0 where
     -- What stands at a level stands at each lower one.
     up : {k : ℕ} {ts : List Token} {t : NormalExpr} → k < 14 → Spells (suc k) ts t → Spells k ts t
@@ -56,7 +56,7 @@ mutual
     -- ` m and ` m ( es )
     macro_alone : (m : List ℕ) → Spells 14 (MacroWord m ∷ []) (MacroAlone m)
     macro_call : {ts : List Token} {xs : NormalExprs} (m : List ℕ) → SpellsList ts xs → Spells 14 (MacroWord m ∷ (Mark OpenParen ∷ (ts ++ (Mark CloseParen ∷ [])))) (MacroCall m xs)
-    -- head ' ( x ), the head being a number, a name, p :: T, ( h ) or a keyword of a type or a sign
+    -- head ' ( x ), the head being a number, a name, p :: T, ( h ) or a keyword of a type or of signedness
     number_cast : {ts : List Token} {x : NormalExpr} (n : List ℕ) → Spells 0 ts x →
         Spells 14 (Number n ∷ (Mark Apostrophe ∷ (Mark OpenParen ∷ (ts ++ (Mark CloseParen ∷ []))))) (Cast (Literal n) x)
     name_cast : {ts : List Token} {x : NormalExpr} (w : List ℕ) → Spells 0 ts x →

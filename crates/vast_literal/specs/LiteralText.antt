@@ -7,22 +7,22 @@ use Rattle.vast_literal.specs.declared.literal.LiteralFormat.TheVariants.{Binary
 use Rattle.vast_literal.specs.Digits.{lowest_digits, digit_count, characters, grouped}
 
 -- The refusal of a number that an unsized format does not take.
-unfoldable pub limit_text : List ℕ → ℕ → ℕ → List ℕ
-limit_text kind most v = codes "unsized " ++ kind ++ codes " literal magnitude " ++ decimal v ++ codes " exceeds maximum " ++ decimal most
+unfoldable pub above_limit_text : List ℕ → ℕ → ℕ → List ℕ
+above_limit_text kind most v = codes "unsized " ++ kind ++ codes " literal magnitude " ++ decimal v ++ codes " exceeds maximum " ++ decimal most
 
 -- Whether a number is at most a limit.
-unfoldable pub limited : List ℕ → ℕ → ℕ → Result (Unit {0}) (List ℕ)
-limited kind most v = if nat_le v most then Ok tt else Err (limit_text kind most v)
+unfoldable pub within_limit : List ℕ → ℕ → ℕ → Result (Unit {0}) (List ℕ)
+within_limit kind most v = if nat_le v most then Ok tt else Err (above_limit_text kind most v)
 
 -- Which numbers a format takes: the unsized ones have a limit.
-abbrev pub taken : LiteralFormat → ℕ → Result (Unit {0}) (List ℕ)
-taken Binary v = Ok tt
-taken Hex v = Ok tt
-taken SignedDecimal v = Ok tt
-taken UnsignedDecimal v = Ok tt
-taken UnsizedBinary v = limited (codes "binary") 4294967295 v
-taken UnsizedDecimal v = limited (codes "decimal") 2147483647 v
-taken UnsizedHex v = limited (codes "hexadecimal") 4294967295 v
+abbrev pub format_takes : LiteralFormat → ℕ → Result (Unit {0}) (List ℕ)
+format_takes Binary v = Ok tt
+format_takes Hex v = Ok tt
+format_takes SignedDecimal v = Ok tt
+format_takes UnsignedDecimal v = Ok tt
+format_takes UnsizedBinary v = within_limit (codes "binary") 4294967295 v
+format_takes UnsizedDecimal v = within_limit (codes "decimal") 2147483647 v
+format_takes UnsizedHex v = within_limit (codes "hexadecimal") 4294967295 v
 
 -- How many digits of so many bits a number of n bits has: one for a zero of more than 1024 bits.
 abbrev pub padded_count : ℕ → ℕ → ℕ → ℕ
@@ -41,11 +41,11 @@ unfoldable pub signed_text : ℕ → ℕ → List ℕ
 signed_text n v = if is_below_half n v then sized n (codes "'sd") (decimal v) else 45 ∷ sized n (codes "'sd") (decimal (2 ^ n - v))
 
 -- The text of a number v of n bits.
-unfoldable pub spelled : LiteralFormat → ℕ → ℕ → List ℕ
-spelled Binary n v = sized n (codes "'b") (grouped (lowest_digits 2 (padded_count 1 n v) v))
-spelled Hex n v = sized n (codes "'h") (grouped (lowest_digits 16 (padded_count 4 n v) v))
-spelled SignedDecimal n v = signed_text n v
-spelled UnsignedDecimal n v = sized n (codes "'d") (decimal v)
-spelled UnsizedBinary n v = codes "'b" ++ characters (lowest_digits 2 (digit_count 2 v) v)
-spelled UnsizedDecimal n v = decimal v
-spelled UnsizedHex n v = codes "'h" ++ grouped (lowest_digits 16 (digit_count 16 v) v)
+unfoldable pub format_text : LiteralFormat → ℕ → ℕ → List ℕ
+format_text Binary n v = sized n (codes "'b") (grouped (lowest_digits 2 (padded_count 1 n v) v))
+format_text Hex n v = sized n (codes "'h") (grouped (lowest_digits 16 (padded_count 4 n v) v))
+format_text SignedDecimal n v = signed_text n v
+format_text UnsignedDecimal n v = sized n (codes "'d") (decimal v)
+format_text UnsizedBinary n v = codes "'b" ++ characters (lowest_digits 2 (digit_count 2 v) v)
+format_text UnsizedDecimal n v = decimal v
+format_text UnsizedHex n v = codes "'h" ++ grouped (lowest_digits 16 (digit_count 16 v) v)

@@ -4,9 +4,9 @@ use Rattle.vast_literal.specs.Tokens.{Less, Plus, OpenParen, CloseParen, Comma, 
 use Rattle.vast_literal.specs.NormalExpr.{NormalExpr, Name, Binary, NormalExprs}
 use Rattle.vast_literal.specs.NormalFile.{NormalStatement, NormalStatements, Done, Then, NormalDeclaration, Event, EdgeEvent, NameEvent, NormalConnection, NormalMember, DeclarationPart, AssignPart, ParameterPart, MacroPart, InstancePart, AlwaysPart, ConditionalPart, FunctionPart, LoopPart, NormalMembers, NoParts, MoreParts}
 use Rattle.vast_literal.specs.FileGrammar.{is_member_kind, is_local_kind, is_parameter_word, is_clocked, is_edge}
-use Rattle.vast_literal.specs.Parser.{◌>>=◌, Parser, after, key_at, word_at, number_at, enclosed, arguments, selected, run}
+use Rattle.vast_literal.specs.Parser.{◌>>=◌, Parser, after, key_at, word_at, number_at, enclosed_at, arguments, selected_at, run}
 use Rattle.vast_literal.specs.StatementParser.{ReadOf, after_key, cases_at, read_with}
-use Rattle.vast_literal.specs.DeclarationParser.{many, joined, listed, declaration_at}
+use Rattle.vast_literal.specs.DeclarationParser.{many, joined_at, listed_at, declaration_at}
 
 unfoldable pub event_on : Parser → List Token → Option (Key × List Token) → ReadOf Event
 event_on p ts (Some v) = cond (is_edge v.0) (p.expression_at v.1 >>= λ x. Some (EdgeEvent v.0 x.0, x.1)) None
@@ -17,20 +17,20 @@ event_at p ts = event_on p ts (key_at ts)
 
 unfoldable pub connection_on : Parser → List ℕ → List Token → Option (List Token) → ReadOf NormalConnection
 connection_on p n ts (Some us) = Some (record { name = n; value = None }, us)
-connection_on p n ts None = enclosed p CloseParen ts >>= λ x. Some (record { name = n; value = Some x.0 }, x.1)
+connection_on p n ts None = enclosed_at p CloseParen ts >>= λ x. Some (record { name = n; value = Some x.0 }, x.1)
 
 unfoldable pub connection_at : Parser → List Token → ReadOf NormalConnection
 connection_at p ts = after Dot ts >>= λ us. word_at us >>= λ n. after OpenParen n.1 >>= λ vs. connection_on p n.0 vs (after CloseParen vs)
 
 -- . n ( X )
 unfoldable pub given_at : Parser → List Token → ReadOf NormalConnection
-given_at p ts = after Dot ts >>= λ us. word_at us >>= λ n. after OpenParen n.1 >>= λ vs. enclosed p CloseParen vs >>= λ x. Some (record { name = n.0; value = Some x.0 }, x.1)
+given_at p ts = after Dot ts >>= λ us. word_at us >>= λ n. after OpenParen n.1 >>= λ vs. enclosed_at p CloseParen vs >>= λ x. Some (record { name = n.0; value = Some x.0 }, x.1)
 
 unfoldable pub connections_at : ℕ → List Token → ReadOf (List NormalConnection)
-connections_at n ts = listed n CloseParen (after Comma) (λ j vs. connection_at (run j) vs) ts
+connections_at n ts = listed_at n CloseParen (after Comma) (λ j vs. connection_at (run j) vs) ts
 
 unfoldable pub givens_at : ℕ → List Token → ReadOf (List NormalConnection)
-givens_at n ts = joined n (after Comma) (λ j vs. given_at (run j) vs) ts
+givens_at n ts = joined_at n (after Comma) (λ j vs. given_at (run j) vs) ts
 
 -- The instance and its connections, behind the parameters.
 unfoldable pub instance_at : ℕ → List ℕ → List NormalConnection → List Token → ReadOf NormalMember
@@ -80,14 +80,14 @@ unfoldable pub loop_body : (Key → List Token → ReadOf NormalMembers) → Lis
 loop_body rest i x e ts = after_key BeginKey ts >>= λ us. label_on us (after Colon us) >>= λ l. rest EndKey l.1 >>= λ m. Some (LoopPart i x e l.0 m.0, m.1)
 
 unfoldable pub loop_at : ℕ → (Key → List Token → ReadOf NormalMembers) → List Token → ReadOf NormalMember
-loop_at n rest ts = after OpenParen ts >>= λ a. after_key GenvarKey a >>= λ b. word_at b >>= λ i. after Assign i.1 >>= λ c. enclosed (run n) Semicolon c >>= λ x.
-    enclosed (run n) Semicolon x.1 >>= λ d. bound_of i.0 d.0 >>= λ e. same_word i.0 d.1 >>= λ f. after Assign f >>= λ g. same_word i.0 g >>= λ h. step_word h >>= λ j. after CloseParen j >>= λ k. loop_body rest i.0 x.0 e k
+loop_at n rest ts = after OpenParen ts >>= λ a. after_key GenvarKey a >>= λ b. word_at b >>= λ i. after Assign i.1 >>= λ c. enclosed_at (run n) Semicolon c >>= λ x.
+    enclosed_at (run n) Semicolon x.1 >>= λ d. bound_of i.0 d.0 >>= λ e. same_word i.0 d.1 >>= λ f. after Assign f >>= λ g. same_word i.0 g >>= λ h. step_word h >>= λ j. after CloseParen j >>= λ k. loop_body rest i.0 x.0 e k
 
 unfoldable pub input_at : ℕ → List Token → ReadOf NormalDeclaration
 input_at n ts = after_key InputKey ts >>= λ us. declaration_at run n us
 
 unfoldable pub inputs_at : ℕ → List Token → ReadOf (List NormalDeclaration)
-inputs_at n ts = listed n CloseParen (after Comma) input_at ts
+inputs_at n ts = listed_at n CloseParen (after Comma) input_at ts
 
 unfoldable pub local_on : Option (Key × List Token) → Bool
 local_on None = false
@@ -120,19 +120,19 @@ function_end n d i ts = locals_at n ts >>= λ l. function_body n (key_at l.1) >>
 unfoldable pub function_at : ℕ → List Token → ReadOf NormalMember
 function_at n ts = after_key AutomaticKey ts >>= λ a. declaration_at run n a >>= λ d. after OpenParen d.1 >>= λ b. inputs_at n b >>= λ i. after Semicolon i.1 >>= λ c. function_end n d.0 i.0 c
 
-unfoldable pub keyed : ℕ → (Key → List Token → ReadOf NormalMembers) → List Token → Key → List Token → ReadOf NormalMember
-keyed n rest ts AssignKey us = selected (run n) us >>= λ l. after Assign l.1 >>= λ vs. enclosed (run n) Semicolon vs >>= λ r. Some (AssignPart l.0 r.0, r.1)
-keyed n rest ts AlwaysCombKey us = block_with n us >>= λ b. Some (AlwaysPart AlwaysCombKey [] b.0, b.1)
-keyed n rest ts IfKey us = (read_with n).choice us >>= λ a. Some (ConditionalPart a.0, a.1)
-keyed n rest ts ForKey us = loop_at n rest us
-keyed n rest ts FunctionKey us = function_at n us
-keyed n rest ts k us = cond (is_member_kind k) (declaration_at run n ts >>= λ d. after Semicolon d.1 >>= λ vs. Some (DeclarationPart d.0, vs))
-    (cond (is_parameter_word k) (declaration_at run n us >>= λ d. after Assign d.1 >>= λ vs. enclosed (run n) Semicolon vs >>= λ x. Some (ParameterPart k d.0 x.0, x.1))
-    (cond (is_clocked k) (after At us >>= λ a. after OpenParen a >>= λ b. listed n CloseParen (after_key OrKey) (λ j vs. event_at (run j) vs) b >>= λ e. block_with n e.1 >>= λ s. Some (AlwaysPart k e.0 s.0, s.1)) None))
+unfoldable pub keyed_on : ℕ → (Key → List Token → ReadOf NormalMembers) → List Token → Key → List Token → ReadOf NormalMember
+keyed_on n rest ts AssignKey us = selected_at (run n) us >>= λ l. after Assign l.1 >>= λ vs. enclosed_at (run n) Semicolon vs >>= λ r. Some (AssignPart l.0 r.0, r.1)
+keyed_on n rest ts AlwaysCombKey us = block_with n us >>= λ b. Some (AlwaysPart AlwaysCombKey [] b.0, b.1)
+keyed_on n rest ts IfKey us = (read_with n).choice us >>= λ a. Some (ConditionalPart a.0, a.1)
+keyed_on n rest ts ForKey us = loop_at n rest us
+keyed_on n rest ts FunctionKey us = function_at n us
+keyed_on n rest ts k us = cond (is_member_kind k) (declaration_at run n ts >>= λ d. after Semicolon d.1 >>= λ vs. Some (DeclarationPart d.0, vs))
+    (cond (is_parameter_word k) (declaration_at run n us >>= λ d. after Assign d.1 >>= λ vs. enclosed_at (run n) Semicolon vs >>= λ x. Some (ParameterPart k d.0 x.0, x.1))
+    (cond (is_clocked k) (after At us >>= λ a. after OpenParen a >>= λ b. listed_at n CloseParen (after_key OrKey) (λ j vs. event_at (run j) vs) b >>= λ e. block_with n e.1 >>= λ s. Some (AlwaysPart k e.0 s.0, s.1)) None))
 
 unfoldable pub member_on : ℕ → (Key → List Token → ReadOf NormalMembers) → List Token → Option (Key × List Token) → ReadOf NormalMember
 member_on n rest ts None = plain_member n ts
-member_on n rest ts (Some v) = keyed n rest ts v.0 v.1
+member_on n rest ts (Some v) = keyed_on n rest ts v.0 v.1
 
 unfoldable pub members_on : (Key → List Token → ReadOf NormalMembers) → ℕ → Key → List Token → Option (List Token) → ReadOf NormalMembers
 members_on rest n c ts (Some us) = Some (NoParts, us)

@@ -19,7 +19,7 @@ begins_with test [] = false
 begins_with test (Reserved k ∷ us) = test k
 begins_with test (_ ∷ us) = false
 
--- What is behind the next sign, where it passes the test.
+-- What is behind the next operator, where it passes the test.
 unfoldable pub sign_with : (Op → Bool) → List Token → Option (List Token)
 sign_with test [] = None
 sign_with test (Operator op ∷ us) = cond (test op) (Some us) None

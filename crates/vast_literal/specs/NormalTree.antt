@@ -52,12 +52,12 @@ abbrev pub zero_expr : NormalExpr
 zero_expr = Literal (codes "0")
 
 -- A vector's highest index: its width minus one, computed where the width has a value.
-unfoldable pub limit_expr : ExprTree → Option ℤ → NormalExpr
-limit_expr width (Some value) = number_expr (value -ℤ pos 1)
-limit_expr width None = Binary Minus (normal width) (Literal (codes "1"))
+unfoldable pub highest_index_expr : ExprTree → Option ℤ → NormalExpr
+highest_index_expr width (Some value) = number_expr (value -ℤ pos 1)
+highest_index_expr width None = Binary Minus (normal width) (Literal (codes "1"))
 
 unfoldable pub vector_groups : (base : TypeTree) → List Group
-vector_groups (VectorTree width value signed) = Range (limit_expr width value) zero_expr ∷ []
+vector_groups (VectorTree width value signed) = Range (highest_index_expr width value) zero_expr ∷ []
 vector_groups _ = []
 
 -- [d-1:0] for each dimension

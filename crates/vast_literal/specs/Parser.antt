@@ -86,12 +86,12 @@ number_at (Number w ∷ us) = Some (w, us)
 number_at (_ ∷ us) = None
 
 -- an expression and what closes it
-unfoldable pub enclosed : Parser → Punct → List Token → Read
-enclosed p close ts = p.expression_at ts >>= λ x. after close x.1 >>= λ us. Some (x.0, us)
+unfoldable pub enclosed_at : Parser → Punct → List Token → Read
+enclosed_at p close ts = p.expression_at ts >>= λ x. after close x.1 >>= λ us. Some (x.0, us)
 
 -- the operand of a cast, from its parenthesis on
 unfoldable pub cast : Parser → (NormalExpr → NormalExpr) → List Token → Read
-cast p head ts = after OpenParen ts >>= λ us. enclosed p CloseParen us >>= λ x. Some (head x.0, x.1)
+cast p head ts = after OpenParen ts >>= λ us. enclosed_at p CloseParen us >>= λ x. Some (head x.0, x.1)
 
 unfoldable pub list_on : Parser → NormalExpr → List Token → Option (List Token) → Option (NormalExprs × List Token)
 list_on p x ts None = Some (MoreNormals x NoNormals, ts)
@@ -108,11 +108,11 @@ arguments_on p close ts None = p.list_at ts >>= λ xs. after close xs.1 >>= λ u
 unfoldable pub arguments : Parser → Punct → List Token → Option (NormalExprs × List Token)
 arguments p close ts = arguments_on p close ts (after close ts)
 
-unfoldable pub applied : Parser → Punct → (NormalExprs → NormalExpr) → List Token → Read
-applied p close f ts = arguments p close ts >>= λ xs. Some (f xs.0, xs.1)
+unfoldable pub applied_at : Parser → Punct → (NormalExprs → NormalExpr) → List Token → Read
+applied_at p close f ts = arguments p close ts >>= λ xs. Some (f xs.0, xs.1)
 
 unfoldable pub word_on : Parser → List ℕ → List Token → Lead → Read
-word_on p w ts (Opens us) = applied p CloseParen (Call w) us
+word_on p w ts (Opens us) = applied_at p CloseParen (Call w) us
 word_on p w ts (Ticks us) = cast p (Cast (Name w)) us
 word_on p w ts (Scopes us) = word_at us >>= λ v. after Apostrophe v.1 >>= λ vs. cast p (PackageCast w v.0) vs
 word_on p w ts _ = Some (Name w, ts)
@@ -122,7 +122,7 @@ number_on p w ts (Ticks us) = cast p (Cast (Literal w)) us
 number_on p w ts _ = Some (Literal w, ts)
 
 unfoldable pub macro_on : Parser → List ℕ → List Token → Lead → Read
-macro_on p w ts (Opens us) = applied p CloseParen (MacroCall w) us
+macro_on p w ts (Opens us) = applied_at p CloseParen (MacroCall w) us
 macro_on p w ts _ = Some (MacroAlone w, ts)
 
 unfoldable pub paren_on : Parser → NormalExpr → List Token → Lead → Read
@@ -141,19 +141,19 @@ unfoldable pub primary : Parser → List Token → Read
 primary p [] = None
 primary p (Word w ∷ ts) = word_on p w ts (lead ts)
 primary p (Reserved w ∷ ts) = cond (is_cast_word w) (after Apostrophe ts >>= λ us. cast p (WordCast w) us) None
-primary p (SystemWord w ∷ ts) = after OpenParen ts >>= λ us. applied p CloseParen (Call w) us
+primary p (SystemWord w ∷ ts) = after OpenParen ts >>= λ us. applied_at p CloseParen (Call w) us
 primary p (MacroWord w ∷ ts) = macro_on p w ts (lead ts)
 primary p (Number w ∷ ts) = number_on p w ts (lead ts)
 primary p (Based w ∷ ts) = Some (Literal w, ts)
 primary p (Quoted w ∷ ts) = Some (Text w, ts)
-primary p (Mark OpenParen ∷ ts) = enclosed p CloseParen ts >>= λ h. paren_on p h.0 h.1 (lead h.1)
+primary p (Mark OpenParen ∷ ts) = enclosed_at p CloseParen ts >>= λ h. paren_on p h.0 h.1 (lead h.1)
 primary p (Mark OpenBrace ∷ ts) = brace_on p ts (after CloseBrace ts)
-primary p (Mark Apostrophe ∷ ts) = after OpenBrace ts >>= λ us. applied p CloseBrace Pattern us
+primary p (Mark Apostrophe ∷ ts) = after OpenBrace ts >>= λ us. applied_at p CloseBrace Pattern us
 primary p (_ ∷ ts) = None
 
 unfoldable pub select : Parser → NormalExpr → NormalExpr → Lead → Read
 select p s i (Closes us) = p.selects_at (Index s i) us
-select p s i (Colons us) = enclosed p CloseBracket us >>= λ l. p.selects_at (Slice s i l.0) l.1
+select p s i (Colons us) = enclosed_at p CloseBracket us >>= λ l. p.selects_at (Slice s i l.0) l.1
 select p s i (PlusColons us) = number_at us >>= λ n. after CloseBracket n.1 >>= λ vs. p.selects_at (PartSelect s i n.0) vs
 select p s i _ = None
 
@@ -165,12 +165,12 @@ unfoldable pub selects_step : Parser → NormalExpr → List Token → Read
 selects_step p s ts = selects_on p s ts (lead ts)
 
 -- a primary with its selects
-unfoldable pub selected : Parser → List Token → Read
-selected p ts = primary p ts >>= λ x. p.selects_at x.0 x.1
+unfoldable pub selected_at : Parser → List Token → Read
+selected_at p ts = primary p ts >>= λ x. p.selects_at x.0 x.1
 
 unfoldable pub operand_on : Parser → List Token → Option (Op × List Token) → Read
 operand_on p ts (Some o) = p.operand_at o.1 >>= λ x. Some (Unary o.0 x.0, x.1)
-operand_on p ts None = selected p ts
+operand_on p ts None = selected_at p ts
 
 unfoldable pub operand_step : Parser → List Token → Read
 operand_step p ts = operand_on p ts (prefix ts)

@@ -79,20 +79,20 @@ fail = record { state = Gap; out = None }
 abbrev pub follow : List Token → Step → Step
 follow ts s = record { state = s.state; out = join_tokens (Some ts) s.out }
 
--- The signs of one byte that no byte makes longer.
+-- The operators and marks of one byte that no byte makes longer.
 abbrev pub whole_signs : List (ℕ × Token)
 whole_signs =
     (40, Mark OpenParen) ∷ (41, Mark CloseParen) ∷ (91, Mark OpenBracket) ∷ (93, Mark CloseBracket) ∷ (123, Mark OpenBrace) ∷ (125, Mark CloseBrace) ∷
     (44, Mark Comma) ∷ (59, Mark Semicolon) ∷ (46, Mark Dot) ∷ (35, Mark Hash) ∷ (64, Mark At) ∷ (63, Mark Question) ∷
     (94, Operator BitXor) ∷ (45, Operator Minus) ∷ (37, Operator Modulo) ∷ (126, Operator BitNot) ∷ []
 
--- The signs of one byte that may grow.
+-- The operators and marks of one byte that may grow.
 abbrev pub growing_signs : List (ℕ × Token)
 growing_signs =
     (58, Mark Colon) ∷ (61, Mark Assign) ∷ (33, Operator LogicNot) ∷ (60, Operator Less) ∷ (62, Operator Greater) ∷
     (38, Operator BitAnd) ∷ (124, Operator BitOr) ∷ (43, Operator Plus) ∷ (42, Operator Times) ∷ (47, Operator Divide) ∷ []
 
--- The sign of a byte.
+-- The operator or mark of a byte.
 abbrev pub find_sign : List (ℕ × Token) → ℕ → Option Token
 find_sign [] c = None
 find_sign (sign ∷ signs) c = cond (eqb c sign.0) (Some sign.1) (find_sign signs c)
@@ -117,7 +117,7 @@ start_other c =
 abbrev pub start : ℕ → Step
 start c = cond (is_letter c) (keep (InWord (c ∷ []))) (cond (is_digit c) (keep (InNumber (c ∷ []))) (start_other c))
 
--- The growth of a sign by a byte; `//` begins a comment.
+-- The growth of an operator by a byte; `//` begins a comment.
 abbrev pub grown : Token → ℕ → Option Step
 grown (Mark Colon) c = cond (eqb c 58) (Some (give (Mark DoubleColon ∷ []))) None
 grown (Mark Assign) c = cond (eqb c 61) (Some (keep (Pending (Operator Equal)))) None

@@ -4,9 +4,9 @@ use Rattle.vast_literal.specs.Tokens.{Key, Punct, OpenBracket, CloseBracket, Col
 use Rattle.vast_literal.specs.NormalExpr.{NormalExpr}
 use Rattle.vast_literal.specs.NormalFile.{Group, One, Range, NormalDeclaration}
 use Rattle.vast_literal.specs.FileGrammar.{is_kind, is_sign}
-use Rattle.vast_literal.specs.Parser.{◌>>=◌, after, word_at, enclosed}
+use Rattle.vast_literal.specs.Parser.{◌>>=◌, after, word_at, enclosed_at}
 use Rattle.vast_literal.specs.StatementParser.{ReadOf}
-use Rattle.vast_literal.specs.DeclarationParser.{many, joined, is_bracket, maybe_at}
+use Rattle.vast_literal.specs.DeclarationParser.{many, joined_at, is_bracket, maybe_at}
 use Rattle.vast_literal.specs.Settled.{either, settled}
 use Rattle.vast_literal.specs.Nexts.{key_with}
 
@@ -16,7 +16,7 @@ many_of begins item ts = many (suc (length ts)) begins (λ n us. item us) ts
 
 -- Items with something between them.
 unfoldable pub joined_of : {A : Type 0} → (between : List Token → Option (List Token)) → (item : List Token → ReadOf A) → List Token → ReadOf (List A)
-joined_of between item ts = joined (suc (length ts)) between (λ n us. item us) ts
+joined_of between item ts = joined_at (suc (length ts)) between (λ n us. item us) ts
 
 -- Items behind the first.
 unfoldable pub others_of : {A : Type 0} → (between : List Token → Option (List Token)) → (item : List Token → ReadOf A) → List Token → ReadOf (List A)
@@ -28,7 +28,7 @@ listed_of close between item ts = either (after close ts) (λ us. Some ([], us))
 
 -- What stands behind the first expression of a group.
 unfoldable pub group_end : NormalExpr → List Token → ReadOf Group
-group_end x ts = either (after CloseBracket ts) (λ us. Some (One x, us)) (after Colon ts >>= λ us. enclosed settled CloseBracket us >>= λ l. Some (Range x l.0, l.1))
+group_end x ts = either (after CloseBracket ts) (λ us. Some (One x, us)) (after Colon ts >>= λ us. enclosed_at settled CloseBracket us >>= λ l. Some (Range x l.0, l.1))
 
 unfoldable pub settled_group : List Token → ReadOf Group
 settled_group ts = after OpenBracket ts >>= λ us. settled.expression_at us >>= λ x. group_end x.0 x.1

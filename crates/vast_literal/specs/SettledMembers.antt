@@ -4,7 +4,7 @@ use Rattle.vast_literal.specs.Tokens.{OpenParen, CloseParen, Comma, Colon, Semic
 use Rattle.vast_literal.specs.NormalExpr.{NormalExpr, NormalExprs}
 use Rattle.vast_literal.specs.NormalFile.{NormalStatements, Done, Then, NormalDeclaration, Event, EdgeEvent, NameEvent, NormalConnection, NormalMember, DeclarationPart, AssignPart, ParameterPart, MacroPart, InstancePart, AlwaysPart, ConditionalPart, FunctionPart, LoopPart, NormalMembers}
 use Rattle.vast_literal.specs.FileGrammar.{is_member_kind, is_parameter_word, is_clocked, is_edge}
-use Rattle.vast_literal.specs.Parser.{◌>>=◌, after, word_at, number_at, enclosed, arguments, selected}
+use Rattle.vast_literal.specs.Parser.{◌>>=◌, after, word_at, number_at, enclosed_at, arguments, selected_at}
 use Rattle.vast_literal.specs.StatementParser.{ReadOf, after_key, block_at, cases_at}
 use Rattle.vast_literal.specs.MemberParser.{bound_of, same_word, is_local, members}
 use Rattle.vast_literal.specs.Settled.{either, fuel, settled, settled_reader}
@@ -24,13 +24,13 @@ settled_events ts = listed_of CloseParen (after_key OrKey) settled_event ts
 
 -- What is given to a port, behind its parenthesis.
 unfoldable pub connection_value : List ℕ → List Token → ReadOf NormalConnection
-connection_value n ts = either (after CloseParen ts) (λ us. Some (record { name = n; value = None }, us)) (enclosed settled CloseParen ts >>= λ x. Some (record { name = n; value = Some x.0 }, x.1))
+connection_value n ts = either (after CloseParen ts) (λ us. Some (record { name = n; value = None }, us)) (enclosed_at settled CloseParen ts >>= λ x. Some (record { name = n; value = Some x.0 }, x.1))
 
 unfoldable pub settled_connection : List Token → ReadOf NormalConnection
 settled_connection ts = after Dot ts >>= λ us. word_at us >>= λ n. after OpenParen n.1 >>= λ vs. connection_value n.0 vs
 
 unfoldable pub settled_given : List Token → ReadOf NormalConnection
-settled_given ts = after Dot ts >>= λ us. word_at us >>= λ n. after OpenParen n.1 >>= λ vs. enclosed settled CloseParen vs >>= λ x. Some (record { name = n.0; value = Some x.0 }, x.1)
+settled_given ts = after Dot ts >>= λ us. word_at us >>= λ n. after OpenParen n.1 >>= λ vs. enclosed_at settled CloseParen vs >>= λ x. Some (record { name = n.0; value = Some x.0 }, x.1)
 
 unfoldable pub settled_connections : List Token → ReadOf (List NormalConnection)
 settled_connections ts = listed_of CloseParen (after Comma) settled_connection ts
@@ -70,11 +70,11 @@ plain_part (_ ∷ us) = None
 
 -- ( genvar i = X ;
 unfoldable pub loop_start : List Token → ReadOf (List ℕ × NormalExpr)
-loop_start ts = after OpenParen ts >>= λ a. after_key GenvarKey a >>= λ b. word_at b >>= λ i. after Assign i.1 >>= λ c. enclosed settled Semicolon c >>= λ x. Some ((i.0, x.0), x.1)
+loop_start ts = after OpenParen ts >>= λ a. after_key GenvarKey a >>= λ b. word_at b >>= λ i. after Assign i.1 >>= λ c. enclosed_at settled Semicolon c >>= λ x. Some ((i.0, x.0), x.1)
 
 -- i < e ;
 unfoldable pub loop_bound : List ℕ → List Token → ReadOf NormalExpr
-loop_bound i ts = enclosed settled Semicolon ts >>= λ d. bound_of i d.0 >>= λ e. Some (e, d.1)
+loop_bound i ts = enclosed_at settled Semicolon ts >>= λ d. bound_of i d.0 >>= λ e. Some (e, d.1)
 
 unfoldable pub number_one : List Token → Option (List Token)
 number_one ts = number_at ts >>= λ n. cond (bytes_eq n.0 (codes "1")) (Some n.1) None
@@ -133,7 +133,7 @@ settled_function ts = after_key AutomaticKey ts >>= λ a. settled_declaration a 
 -- Members by their keyword.
 
 unfoldable pub assign_part : List Token → ReadOf NormalMember
-assign_part ts = selected settled ts >>= λ l. after Assign l.1 >>= λ us. enclosed settled Semicolon us >>= λ r. Some (AssignPart l.0 r.0, r.1)
+assign_part ts = selected_at settled ts >>= λ l. after Assign l.1 >>= λ us. enclosed_at settled Semicolon us >>= λ r. Some (AssignPart l.0 r.0, r.1)
 
 unfoldable pub combinational_part : List Token → ReadOf NormalMember
 combinational_part ts = block_at settled_reader ts >>= λ b. Some (AlwaysPart AlwaysCombKey [] b.0, b.1)
@@ -142,7 +142,7 @@ unfoldable pub conditional_part : List Token → ReadOf NormalMember
 conditional_part ts = settled_reader.choice ts >>= λ a. Some (ConditionalPart a.0, a.1)
 
 unfoldable pub parameter_part : (word : Key) → List Token → ReadOf NormalMember
-parameter_part k ts = settled_declaration ts >>= λ d. after Assign d.1 >>= λ us. enclosed settled Semicolon us >>= λ x. Some (ParameterPart k d.0 x.0, x.1)
+parameter_part k ts = settled_declaration ts >>= λ d. after Assign d.1 >>= λ us. enclosed_at settled Semicolon us >>= λ x. Some (ParameterPart k d.0 x.0, x.1)
 
 unfoldable pub clocked_part : (word : Key) → List Token → ReadOf NormalMember
 clocked_part k ts = after At ts >>= λ a. after OpenParen a >>= λ b. settled_events b >>= λ e. block_at settled_reader e.1 >>= λ s. Some (AlwaysPart k e.0 s.0, s.1)

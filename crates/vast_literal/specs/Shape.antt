@@ -120,8 +120,8 @@ abbrev pub select_wraps : ExprTree → Bool
 select_wraps e = nat_lt (precedence e) 13 || is_negative_literal e
 
 -- Before ` - 1` in a range: what binds less tightly than the minus.
-abbrev pub limit_wraps : ExprTree → Bool
-limit_wraps e = nat_lt (precedence e) 9
+abbrev pub highest_index_wraps : ExprTree → Bool
+highest_index_wraps e = nat_lt (precedence e) 9
 
 -- Types.
 

@@ -1,8 +1,8 @@
--- How signs and marks are written.
+-- How operators and marks are written.
 use Rattle.std.specs.Prelude.{ℕ, List, [], ◌∷◌}
 use Rattle.vast_literal.specs.Tokens.{Op, LogicOr, LogicAnd, BitOr, BitXor, BitAnd, NotEqual, CaseNotEqual, Equal, CaseEqual, GreaterEqual, Greater, LessEqual, Less, ShiftLeft, ShiftRightSigned, ShiftRight, Plus, Minus, Times, Divide, Modulo, Power, BitNot, LogicNot}
 
--- An operator's sign as it is written.
+-- An operator as it is written.
 abbrev pub op_text : Op → List ℕ
 op_text LogicOr = 124 ∷ 124 ∷ []
 op_text LogicAnd = 38 ∷ 38 ∷ []

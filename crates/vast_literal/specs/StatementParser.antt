@@ -6,7 +6,7 @@ use Rattle.vast_literal.specs.NormalExpr.{NormalExpr}
 use Rattle.vast_literal.specs.NormalFile.{NormalStatement, AssignStatement, ChoiceStatement, CaseStatement, NormalStatements, Done, Then, Arms, Only, Otherwise, Or, Labels, NoLabels, Label}
 use Rattle.vast_literal.specs.Grammar.{is_cast_word}
 use Rattle.vast_literal.specs.FileGrammar.{assignment}
-use Rattle.vast_literal.specs.Parser.{◌>>=◌, Parser, after, key_at, enclosed, selected, step, silent}
+use Rattle.vast_literal.specs.Parser.{◌>>=◌, Parser, after, key_at, enclosed_at, selected_at, step, silent}
 
 -- What was read, and the tokens behind it.
 abbrev pub ReadOf : Type 0 → Type 0
@@ -74,14 +74,14 @@ arrow_at (_ ∷ us) = None
 
 -- L = X ; and L <= X ;
 unfoldable pub simple_at : Parser → List Token → ReadOf NormalStatement
-simple_at p ts = selected p ts >>= λ l. arrow_at l.1 >>= λ a. enclosed p Semicolon a.1 >>= λ r. Some (assignment a.0 l.0 r.0, r.1)
+simple_at p ts = selected_at p ts >>= λ l. arrow_at l.1 >>= λ a. enclosed_at p Semicolon a.1 >>= λ r. Some (assignment a.0 l.0 r.0, r.1)
 
 unfoldable pub block_at : Reader → List Token → ReadOf NormalStatements
 block_at q ts = after_key BeginKey ts >>= λ us. q.statements us
 
 -- Behind the word of a case.
 unfoldable pub cases_at : Reader → Bool → Key → Bool → List Token → ReadOf NormalStatement
-cases_at q u k z ts = after OpenParen ts >>= λ us. enclosed q.low CloseParen us >>= λ x. q.labels z x.1 >>= λ a. Some (CaseStatement u k x.0 a.0, a.1)
+cases_at q u k z ts = after OpenParen ts >>= λ us. enclosed_at q.low CloseParen us >>= λ x. q.labels z x.1 >>= λ a. Some (CaseStatement u k x.0 a.0, a.1)
 
 unfoldable pub case_of : Reader → Bool → Option (Key × List Token) → ReadOf NormalStatement
 case_of q u (Some (CaseKey, us)) = cases_at q u CaseKey false us
@@ -91,7 +91,7 @@ case_of q u _ = None
 
 unfoldable pub statement_on : Reader → List Token → Option (Key × List Token) → ReadOf NormalStatement
 statement_on q ts None = simple_at q.low ts
-statement_on q ts (Some (AssignKey, us)) = selected q.low us >>= λ l. after Assign l.1 >>= λ vs. enclosed q.low Semicolon vs >>= λ r. Some (AssignStatement l.0 r.0, r.1)
+statement_on q ts (Some (AssignKey, us)) = selected_at q.low us >>= λ l. after Assign l.1 >>= λ vs. enclosed_at q.low Semicolon vs >>= λ r. Some (AssignStatement l.0 r.0, r.1)
 statement_on q ts (Some (IfKey, us)) = q.choice us >>= λ a. Some (ChoiceStatement a.0, a.1)
 statement_on q ts (Some (UniqueKey, us)) = case_of q true (key_at us)
 statement_on q ts (Some (k, us)) = cond (is_cast_word k) (simple_at q.low ts) (case_of q false (Some (k, us)))
@@ -116,7 +116,7 @@ choice_on q c b ts (Some us) = tail_on q c b us (key_at us)
 
 -- Behind `if`.
 unfoldable pub choice_step : Reader → List Token → ReadOf Arms
-choice_step q ts = after OpenParen ts >>= λ us. enclosed q.low CloseParen us >>= λ c. block_at q c.1 >>= λ b. choice_on q c.0 b.0 b.1 (after_key ElseKey b.1)
+choice_step q ts = after OpenParen ts >>= λ us. enclosed_at q.low CloseParen us >>= λ c. block_at q c.1 >>= λ b. choice_on q c.0 b.0 b.1 (after_key ElseKey b.1)
 
 unfoldable pub body_on : Reader → Bool → List Token → Option (List Token) → ReadOf NormalStatements
 body_on q z ts (Some us) = q.statements us
@@ -129,7 +129,7 @@ arm_at q z x ts = body_on q z ts (after_key BeginKey ts) >>= λ b. q.labels z b.
 unfoldable pub labels_on : Reader → Bool → List Token → Option (Key × List Token) → ReadOf Labels
 labels_on q z ts (Some (EndCaseKey, us)) = Some (NoLabels, us)
 labels_on q z ts (Some (DefaultKey, us)) = after Colon us >>= λ vs. arm_at q z None vs
-labels_on q z ts _ = enclosed q.low Colon ts >>= λ x. arm_at q z (Some x.0) x.1
+labels_on q z ts _ = enclosed_at q.low Colon ts >>= λ x. arm_at q z (Some x.0) x.1
 
 unfoldable pub labels_step : Reader → Bool → List Token → ReadOf Labels
 labels_step q z ts = labels_on q z ts (key_at ts)

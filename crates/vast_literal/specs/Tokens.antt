@@ -1,16 +1,16 @@
--- The tokens of a text: signs, marks, keywords, names, literals and strings.
+-- The tokens of a text: operators, marks, keywords, names, literals and strings.
 use Rattle.std.specs.Prelude.{ℕ, List, [], ◌∷◌, Bool, true, false, cond, Option, Some, None, codes}
 use Rattle.std.specs.Str.{bytes_eq}
 use Rattle.vast_literal.specs.Keyword.{is_keyword}
 
--- The signs of operators; some stand between two operands, some before one, some in both places.
+-- Operators; some stand between two operands, some before one, some in both places.
 pub data Op : Type 0 where
   LogicOr LogicAnd BitOr BitXor BitAnd : Op
   NotEqual CaseNotEqual Equal CaseEqual GreaterEqual Greater LessEqual Less : Op
   ShiftLeft ShiftRightSigned ShiftRight Plus Minus Times Divide Modulo Power : Op
   BitNot LogicNot : Op
 
--- How tightly a sign binds its two operands (IEEE Std 1800, operator precedence); 0 for one that only stands before.
+-- How tightly an operator binds its two operands (IEEE Std 1800, operator precedence); 0 for one that only stands before.
 unfoldable pub level : Op → ℕ
 level LogicOr = 1
 level LogicAnd = 2
@@ -37,7 +37,7 @@ level Power = 11
 level BitNot = 0
 level LogicNot = 0
 
--- Whether a sign may stand before an operand.
+-- Whether an operator may stand before an operand.
 unfoldable pub is_unary : Op → Bool
 is_unary Minus = true
 is_unary BitNot = true

@@ -86,16 +86,16 @@ passthrough_file = record {
 pub record WorkedTexts : Type 0 where
   -- Parentheses leave nothing behind.
   pub nested_parentheses : HasOneTree (codes "((a))") (Name (codes "a"))
-  -- Spaces around a sign may be left out.
+  -- Spaces around an operator may be left out.
   pub no_spaces : HasOneTree (codes "a-b") (minus (Name (codes "a")) (Name (codes "b")))
   -- Two names are no expression.
   pub two_names : HasNoTree (codes "a b")
-  -- A sign that stands between two operands alone begins no expression.
+  -- An operator that stands between two operands alone begins no expression.
   pub two_ands : HasNoTree (codes "&&a")
-  -- A sign before a name, and one after a sign between.
+  -- An operator before a name, and one after an operator between.
   pub negated_name : HasOneTree (codes "- a") (Unary Minus (Name (codes "a")))
   pub minus_minus : HasOneTree (codes "a - - 1") (minus (Name (codes "a")) (Unary Minus (Literal (codes "1"))))
-  -- Signs of one level group from the left, unless parentheses say otherwise.
+  -- Operators of one level group from the left, unless parentheses say otherwise.
   pub no_group : HasOneTree (codes "a - b - c") (minus (minus (Name (codes "a")) (Name (codes "b"))) (Name (codes "c")))
   pub left_group : HasOneTree (codes "(a - b) - c") (minus (minus (Name (codes "a")) (Name (codes "b"))) (Name (codes "c")))
   pub right_group : HasOneTree (codes "a - (b - c)") (minus (Name (codes "a")) (minus (Name (codes "b")) (Name (codes "c"))))

@@ -4,7 +4,7 @@ ghost use Rattle.std.specs.Prelude.{◌≡◌, ◌^◌, ◌<◌, ◌≤◌, Ok, 
 ghost use Rattle.vast_literal.specs.Fault.{HasText, OnlyRefusedBy};
 ghost use Rattle.vast_literal.specs.Literal.{Bits, IsLiteral, untyped_text, literal_of};
 ghost use Rattle.vast_literal.specs.Denotes.{Denotes};
-ghost use Rattle.vast_literal.specs.LiteralText.{taken, spelled};
+ghost use Rattle.vast_literal.specs.LiteralText.{format_takes, format_text};
 ghost use Rattle.vast_literal.specs.LiteralToken.{is_literal_text};
 ghost use Rattle.vast_literal.specs.Spells.{Spells};
 
@@ -96,8 +96,8 @@ impl Literal {
     /// # Errors
     /// `Refused` above the format's limit.
     pub fn validate_format(&self, alloc: Global, format: LiteralFormat) -> Result<(), VastFault>
-        ensures { MatchResult result (λ _. taken format self.now.value ≡ Ok tt)
-            (OnlyRefusedBy (taken format self.now.value)) }
+        ensures { MatchResult result (λ _. format_takes format self.now.value ≡ Ok tt)
+            (OnlyRefusedBy (format_takes format self.now.value)) }
     {
         limits::validate(alloc, format, self.value)
     }
@@ -108,7 +108,7 @@ impl Literal {
     /// `AllocError` where memory was refused.
     pub fn format(&self, alloc: Global, format: LiteralFormat) -> Result<String, AllocError>
         ensures exact { IfOk result
-            (λ text. string_bytes text ≡ spelled format self.now.width self.now.value) }
+            (λ text. string_bytes text ≡ format_text format self.now.width self.now.value) }
 
         // The digits write the number modulo 2 to the power of the width, or with a minus its opposite.
         ensures spells { IfOk result

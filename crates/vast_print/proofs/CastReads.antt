@@ -1,4 +1,4 @@
--- Signs, elided selects and casts in the text of an expression.
+-- Operators, elided selects and casts in the text of an expression.
 use Rattle.std.proofs.Common.{◌≡◌, ℕ, ℤ, pos, List, [], ◌∷◌, ◌++◌, Bool, true, false, cond, not, ◌&&◌, ◌||◌, eqb, eqb-true, None, refl, sym, subst, ◌∙◌, ap, append_assoc, arith, codes, nat_le}
 use Rattle.std.proofs.lemmas.Bool.Decides.{nat_tests}
 use Rattle.std.specs.Prelude.{negsuc, if◌then◌else◌}
@@ -37,7 +37,7 @@ use Rattle.vast_print.proofs.FaultLaws.{both_fine, wrapped_fine, elided_fine, el
 use Rattle.vast_print.proofs.ExprOpens.{is_tight, literal_first}
 use Rattle.vast_print.proofs.Shapes.{cast_left, head_reads}
 
--- signs
+-- operators
 
 pub unary_same : (o : UnaryOp) → unary_operator_text o ≡ op_text (unary_operator_token o)
 unfolding unary_operator_token

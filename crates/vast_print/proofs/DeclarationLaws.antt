@@ -8,12 +8,12 @@ use Rattle.vast_literal.specs.declared.kind.DataKind.{DataKind as Kind}
 use Rattle.vast_literal.specs.declared.kind.DataKind.TheVariants.{Reg as RegKind, Wire as WireKind, Logic as LogicKind, Integer as IntegerKind, Int as IntKind, User as UserKind, UntypedEnum as UntypedEnumKind, Genvar as GenvarKind}
 use Rattle.vast_literal.specs.declared.kind.ModulePortDirection.{ModulePortDirection as PortDirection}
 use Rattle.vast_literal.specs.declared.kind.ModulePortDirection.TheVariants.{Input as InputDirection, Output as OutputDirection, InOut as InOutDirection}
-use Rattle.vast_literal.specs.Shape.{base_kind, base_of, limit_wraps}
+use Rattle.vast_literal.specs.Shape.{base_kind, base_of, highest_index_wraps}
 use Rattle.vast_print.specs.Printed.{Printed, plain_text, ◌⊕◌, gapped, spaced, wrapped}
 use Rattle.vast_print.specs.Page.{written, written_lines, beside_lines}
 use Rattle.vast_print.specs.Ink.{Ink, word, pour, pour_lines, hang_lines, stop}
 use Rattle.vast_print.specs.Text.{expr_text, package_text}
-use Rattle.vast_print.specs.Declaration.{unpacked_text, limit_text, signed_word, unsigned_word, joined, type_text, name_text, kind_word, declaration_text, port_declaration_text}
+use Rattle.vast_print.specs.Declaration.{unpacked_text, highest_index_text, signed_word, unsigned_word, with_dimensions, type_text, name_text, kind_word, declaration_text, port_declaration_text}
 use Rattle.vast_print.specs.Layout.{port_text, parameter_port_text, direction_word}
 use Rattle.vast_print.specs.Words.{has_text, kind_opening, signed_opening, unsigned_opening}
 use Rattle.vast_print.proofs.InkLaws.{pour-then, pour-empty, pour-word}
@@ -104,11 +104,11 @@ pour-unsigned-word d k true = refl
 pour-unsigned-word d k false = refl
 
 -- a base type, and its packed dimensions behind it
-pub pour-joined : (d : ℕ) (k : Ink) (p : Printed) (ds : List ℕ) →
-    pour d k (written (spaced (joined p ds))) ≡ pour d (pour d k (written (spaced p))) (written (spaced (plain_text ds)))
-unfolding joined
-pour-joined d k p [] = sym (ap (λ x. pour d (pour d k (written (spaced p))) (written x)) spaced-empty ∙ pour-empty d (pour d k (written (spaced p))))
-pour-joined d k p (c ∷ ds) =
+pub pour-with-dimensions : (d : ℕ) (k : Ink) (p : Printed) (ds : List ℕ) →
+    pour d k (written (spaced (with_dimensions p ds))) ≡ pour d (pour d k (written (spaced p))) (written (spaced (plain_text ds)))
+unfolding with_dimensions
+pour-with-dimensions d k p [] = sym (ap (λ x. pour d (pour d k (written (spaced p))) (written x)) spaced-empty ∙ pour-empty d (pour d k (written (spaced p))))
+pour-with-dimensions d k p (c ∷ ds) =
     let a : pour d k (written (spaced p ⊕ plain_text (c ∷ ds) ⊕ plain_text (codes " "))) ≡ pour d (pour d (pour d k (written (spaced p))) (written (plain_text (c ∷ ds)))) (written (plain_text (codes " "))) = simp pour-then in
     let b : pour d (pour d k (written (spaced p))) (written (plain_text (c ∷ ds) ⊕ plain_text (codes " "))) ≡ pour d (pour d (pour d k (written (spaced p))) (written (plain_text (c ∷ ds)))) (written (plain_text (codes " "))) = simp pour-then in
     ap (λ x. pour d k (written x)) (spaced-then (spaced p) c ds)
@@ -123,12 +123,12 @@ pub pour-spaced-none : (d : ℕ) (k : Ink) (w : List ℕ) → has_text w ≡ fal
 pour-spaced-none d k [] h = ap (λ x. pour d k (written x)) spaced-empty ∙ pour-empty d k
 pour-spaced-none d k (c ∷ w) h = absurd (cc (h))
 
--- limits of vectors
+-- highest_indices of vectors
 
-pub pour-limit-value : (d : ℕ) (k : Ink) (w : ExprTree) (v : ℤ) → pour d k (written (limit_text w (Some v))) ≡ pour d k (written (plain_text (signed_decimal (v -ℤ pos 1))))
-unfolding limit_text
-pour-limit-value d k w v = refl
+pub pour-highest-value : (d : ℕ) (k : Ink) (w : ExprTree) (v : ℤ) → pour d k (written (highest_index_text w (Some v))) ≡ pour d k (written (plain_text (signed_decimal (v -ℤ pos 1))))
+unfolding highest_index_text
+pour-highest-value d k w v = refl
 
-pub pour-limit : (d : ℕ) (k : Ink) (w : ExprTree) → pour d k (written (limit_text w None)) ≡ word (pour d k (written (wrapped (limit_wraps w) (expr_text w)))) (codes " - 1")
-unfolding limit_text
-pour-limit d k w = simp (pour-then, pour-word)
+pub pour-highest-index : (d : ℕ) (k : Ink) (w : ExprTree) → pour d k (written (highest_index_text w None)) ≡ word (pour d k (written (wrapped (highest_index_wraps w) (expr_text w)))) (codes " - 1")
+unfolding highest_index_text
+pour-highest-index d k w = simp (pour-then, pour-word)

@@ -15,7 +15,7 @@ use Rattle.vast_literal.specs.Plain.{is_plain_name, is_plain, is_plain_type, is_
 use Rattle.vast_literal.specs.PlainFile.{is_plain_declaration}
 use Rattle.vast_literal.specs.WellFormed.{is_well_formed, is_well_formed_type}
 use Rattle.vast_literal.specs.NormalTree.{kind_key, sign_of}
-use Rattle.vast_literal.specs.FileTokens.{maybe_tokens, type_name_tokens, number_tokens, zero_tokens, range_tokens, limit_tokens, vector_tokens, packed_range_tokens, packed_tokens, unpacked_dimension_tokens, unpacked_range_tokens, unpacked_tokens, declaration_tokens}
+use Rattle.vast_literal.specs.FileTokens.{maybe_tokens, type_name_tokens, number_tokens, zero_tokens, range_tokens, highest_index_tokens, vector_tokens, packed_range_tokens, packed_tokens, unpacked_dimension_tokens, unpacked_range_tokens, unpacked_tokens, declaration_tokens}
 use Rattle.vast_literal.proofs.DeclarationSpelled.{base_edgeless, base_formed}
 use Rattle.vast_literal.proofs.TokenReads.{stops, opens, Free, Divides, Reads}
 use Rattle.vast_literal.proofs.ScanLaws.{and_left, and_right, scan_colon}
@@ -23,10 +23,10 @@ use Rattle.vast_literal.proofs.Pieces.{add_tokens-nil, free_reads, free_free, re
 use Rattle.vast_literal.proofs.LiteralLaws.{literal_reads}
 use Rattle.vast_literal.proofs.NumberLaws.{signed_text}
 use Rattle.vast_literal.proofs.Words.{key_reads, name_reads, number_reads, double_colon}
-use Rattle.vast_literal.specs.Shape.{base_of, limit_wraps}
+use Rattle.vast_literal.specs.Shape.{base_of, highest_index_wraps}
 use Rattle.vast_print.specs.Printed.{Printed, plain_text, ◌⊕◌, gapped, spaced}
 use Rattle.vast_print.specs.Text.{expr_text, package_text}
-use Rattle.vast_print.specs.Declaration.{packed_range, packed_ranges, packed_text, unpacked_range, unpacked_ranges, unpacked_text, limit_text, signed_word, unsigned_word, joined, based_text, type_text, name_text, kind_word, declaration_text}
+use Rattle.vast_print.specs.Declaration.{packed_range, packed_ranges, packed_text, unpacked_range, unpacked_ranges, unpacked_text, highest_index_text, signed_word, unsigned_word, with_dimensions, based_text, type_text, name_text, kind_word, declaration_text}
 use Rattle.vast_print.proofs.FaultLaws.{both_fine, wrapped_fine}
 use Rattle.vast_print.proofs.ExprOpens.{literal_opens}
 use Rattle.vast_print.proofs.ExprReads.{expr_reads}
@@ -120,20 +120,20 @@ unpacked_told dialect _ = no_dimensions
 
 -- the highest index of a vector
 
-limit_fine : (w : ExprTree) → (limit_text w None).fault ≡ None → (expr_text w).fault ≡ None
-unfolding limit_text
-limit_fine w f = wrapped_fine (limit_wraps w) (expr_text w) ((both_fine _ _ f).0)
+highest_index_fine : (w : ExprTree) → (highest_index_text w None).fault ≡ None → (expr_text w).fault ≡ None
+unfolding highest_index_text
+highest_index_fine w f = wrapped_fine (highest_index_wraps w) (expr_text w) ((both_fine _ _ f).0)
 
 less_one : {a : List ℕ} {ts : List Token} → Reads a ts → Reads (a ++ (32 ∷ 45 ∷ 32 ∷ 49 ∷ [])) (ts ++ (Operator Minus ∷ (Number (codes "1") ∷ [])))
 less_one f = reads_sep f (operator_divides Minus) (number_reads (49 ∷ []) refl)
 
-limit_told : (w : ExprTree) (v : Option ℤ) → is_plain w ≡ true → is_edgeless w ≡ true → is_well_formed w ≡ true → (limit_text w v).fault ≡ None → Reads (limit_text w v).text (limit_tokens w v)
-unfolding limit_text limit_tokens ◌⊕◌ plain_text
-limit_told w (Some v) p l h f = number_told (v -ℤ pos 1)
-limit_told w None p l h f = less_one (wrapped_reads (limit_wraps w) (limit_wraps w) (expr_text w) refl (expr_reads w p l h (limit_fault w f)))
+highest_index_told : (w : ExprTree) (v : Option ℤ) → is_plain w ≡ true → is_edgeless w ≡ true → is_well_formed w ≡ true → (highest_index_text w v).fault ≡ None → Reads (highest_index_text w v).text (highest_index_tokens w v)
+unfolding highest_index_text highest_index_tokens ◌⊕◌ plain_text
+highest_index_told w (Some v) p l h f = number_told (v -ℤ pos 1)
+highest_index_told w None p l h f = less_one (wrapped_reads (highest_index_wraps w) (highest_index_wraps w) (expr_text w) refl (expr_reads w p l h (highest_index_fault w f)))
   where
-    limit_fault : (e : ExprTree) → (limit_text e None).fault ≡ None → (expr_text e).fault ≡ None
-    limit_fault e g = limit_fine e g
+    highest_index_fault : (e : ExprTree) → (highest_index_text e None).fault ≡ None → (expr_text e).fault ≡ None
+    highest_index_fault e g = highest_index_fine e g
 
 -- types
 
@@ -150,10 +150,10 @@ unsigned_told false = key_reads UnsignedKey
 empty_free : (us : List Token) → Free [] us → us ≡ []
 empty_free us f = empty_tokens us (as_reads f)
 
-joined_told : (p : Printed) (ds : List ℕ) {ts us : List Token} → Reads p.text ts → Dimensions ds us → Reads (joined p ds).text (ts ++ us)
-unfolding joined ◌⊕◌ plain_text
-joined_told p [] {us = us} f g = let h = empty_free us g.free in rw (h, append-nil) f
-joined_told p (c ∷ w) f g = free_reads (spaced_free p f) (as_reads g.free)
+with_dimensions_told : (p : Printed) (ds : List ℕ) {ts us : List Token} → Reads p.text ts → Dimensions ds us → Reads (with_dimensions p ds).text (ts ++ us)
+unfolding with_dimensions ◌⊕◌ plain_text
+with_dimensions_told p [] {us = us} f g = let h = empty_free us g.free in rw (h, append-nil) f
+with_dimensions_told p (c ∷ w) f g = free_reads (spaced_free p f) (as_reads g.free)
 
 package_told : (s n : List ℕ) → is_plain_name s ≡ true → is_plain_name n ≡ true → Reads (package_text s n).text (Word s ∷ (Mark DoubleColon ∷ (Word n ∷ [])))
 unfolding package_text ◌⊕◌ plain_text
@@ -165,7 +165,7 @@ package_told s n p q = go (reads_sep (name_reads s p) double_colon (name_reads n
 vector_left : {s ds l : List ℕ} {ss us ls : List Token} → Free s ss → Dimensions ds us → Reads l ls → Reads ((((s ++ ds) ++ (91 ∷ [])) ++ l) ++ (58 ∷ 48 ∷ 93 ∷ [])) (ss ++ (us ++ range_tokens ls zero_tokens))
 vector_left f g h = simp append_assoc (free_reads f (free_reads g.free (as_reads (enclosed open_bracket h zero_close).free)))
 
-base_fine : (w : ExprTree) (v : Option ℤ) (signed : Bool) (ds : List ℕ) → (based_text (VectorTree w v signed) ds).fault ≡ None → (limit_text w v).fault ≡ None
+base_fine : (w : ExprTree) (v : Option ℤ) (signed : Bool) (ds : List ℕ) → (based_text (VectorTree w v signed) ds).fault ≡ None → (highest_index_text w v).fault ≡ None
 unfolding based_text
 base_fine w v signed ds f = (both_fine _ _ ((both_fine _ _ f).0)).1
 
@@ -175,28 +175,28 @@ plain_reads a f = f
 
 scalar_based : (signed : Bool) (ds : List ℕ) {us : List Token} → Dimensions ds us → Reads (based_text (ScalarTree signed) ds).text (maybe_tokens (scalar_sign signed) ++ us)
 unfolding based_text
-scalar_based signed ds g = joined_told _ ds (plain_reads (signed_word signed) (signed_told signed)) g
+scalar_based signed ds g = with_dimensions_told _ ds (plain_reads (signed_word signed) (signed_told signed)) g
 
 integer_based : (signed : Bool) (ds : List ℕ) {us : List Token} → Dimensions ds us → Reads (based_text (IntegerTree signed) ds).text (maybe_tokens (integer_sign signed) ++ us)
 unfolding based_text
-integer_based signed ds g = joined_told _ ds (plain_reads (unsigned_word signed) (unsigned_told signed)) g
+integer_based signed ds g = with_dimensions_told _ ds (plain_reads (unsigned_word signed) (unsigned_told signed)) g
 
 int_based : (signed : Bool) (ds : List ℕ) {us : List Token} → Dimensions ds us → Reads (based_text (IntTree signed) ds).text (maybe_tokens (integer_sign signed) ++ us)
 unfolding based_text
-int_based signed ds g = joined_told _ ds (plain_reads (unsigned_word signed) (unsigned_told signed)) g
+int_based signed ds g = with_dimensions_told _ ds (plain_reads (unsigned_word signed) (unsigned_told signed)) g
 
 external_based : (n : List ℕ) (ds : List ℕ) {us : List Token} → is_plain_name n ≡ true → Dimensions ds us → Reads (based_text (ExternalTree n) ds).text (Word n ∷ us)
 unfolding based_text
-external_based n ds p g = joined_told _ ds (plain_reads n (name_reads n p)) g
+external_based n ds p g = with_dimensions_told _ ds (plain_reads n (name_reads n p)) g
 
 package_based : (s n : List ℕ) (ds : List ℕ) {us : List Token} → is_plain_name s ≡ true → is_plain_name n ≡ true → Dimensions ds us → Reads (based_text (PackageTree s n) ds).text (Word s ∷ (Mark DoubleColon ∷ (Word n ∷ us)))
 unfolding based_text
-package_based s n ds p q g = joined_told (package_text s n) ds (package_told s n p q) g
+package_based s n ds p q g = with_dimensions_told (package_text s n) ds (package_told s n p q) g
 
-vector_based : (w : ExprTree) (v : Option ℤ) (signed : Bool) (ds : List ℕ) {us : List Token} → is_plain w ≡ true → is_edgeless w ≡ true → is_well_formed w ≡ true → (limit_text w v).fault ≡ None → Dimensions ds us →
-    Reads (based_text (VectorTree w v signed) ds).text (maybe_tokens (scalar_sign signed) ++ (us ++ range_tokens (limit_tokens w v) zero_tokens))
+vector_based : (w : ExprTree) (v : Option ℤ) (signed : Bool) (ds : List ℕ) {us : List Token} → is_plain w ≡ true → is_edgeless w ≡ true → is_well_formed w ≡ true → (highest_index_text w v).fault ≡ None → Dimensions ds us →
+    Reads (based_text (VectorTree w v signed) ds).text (maybe_tokens (scalar_sign signed) ++ (us ++ range_tokens (highest_index_tokens w v) zero_tokens))
 unfolding based_text ◌⊕◌ plain_text
-vector_based w v signed ds p l h f g = vector_left (spaced_free (plain_text (signed_word signed)) (plain_reads (signed_word signed) (signed_told signed))) g (limit_told w v p l h f)
+vector_based w v signed ds p l h f g = vector_left (spaced_free (plain_text (signed_word signed)) (plain_reads (signed_word signed) (signed_told signed))) g (highest_index_told w v p l h f)
 
 -- a type that is no array
 is_base : TypeTree → Bool

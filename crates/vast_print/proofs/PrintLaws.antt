@@ -5,13 +5,13 @@ use Rattle.vast_literal.specs.Shape.{base_of}
 use Rattle.vast_print.specs.Printed.{plain_text, spaced}
 use Rattle.vast_print.specs.Page.{written}
 use Rattle.vast_print.specs.Ink.{Ink, word, pour}
-use Rattle.vast_print.specs.Declaration.{packed_ranges, packed_text, based_text, type_text, signed_word, unsigned_word, limit_text}
+use Rattle.vast_print.specs.Declaration.{packed_ranges, packed_text, based_text, type_text, signed_word, unsigned_word, highest_index_text}
 use Rattle.vast_print.specs.Words.{has_text, signed_opening, unsigned_opening}
 use Rattle.vast_print.specs.Text.{package_text}
 use Rattle.vast_print.proofs.InkLaws.{pour-word, pour-then, pour-empty, pour-stopped}
 use Rattle.vast_print.proofs.Lines.{word-word, word-stopped}
 use Rattle.vast_print.proofs.NumberLaws.{pour-number}
-use Rattle.vast_print.proofs.DeclarationLaws.{pour-joined, spaced-then, spaced-package, package_then, pour-signed-word, pour-unsigned-word, pour-spaced, pour-spaced-none, pour-limit-value, pour-limit}
+use Rattle.vast_print.proofs.DeclarationLaws.{pour-with-dimensions, spaced-then, spaced-package, package_then, pour-signed-word, pour-unsigned-word, pour-spaced, pour-spaced-none, pour-highest-value, pour-highest-index}
 use Rattle.vast_print.proofs.TypeLaws.{packed-scalar, packed-vector, packed-integer, packed-int, packed-external, packed-package, packed-packed, packed-unpacked, unpacked-scalar, unpacked-vector, unpacked-integer, unpacked-int, unpacked-external, unpacked-package, unpacked-packed, unpacked-unpacked, pour-append, pour-verilog-range, pour-system-range}
 
 -- packed dimensions are there or not
@@ -43,34 +43,34 @@ type-based d k t = refl
 pub pour-scalar-base : (d : ℕ) (k : Ink) (signed : Bool) (ds : List ℕ) →
     pour d k (written (spaced (based_text (ScalarTree signed) ds))) ≡ pour d (word k (signed_opening signed)) (written (spaced (plain_text ds)))
 unfolding based_text
-pour-scalar-base d k signed ds = pour-joined d k (plain_text (signed_word signed)) ds ∙ ap (λ j. pour d j (written (spaced (plain_text ds)))) (pour-signed-word d k signed)
+pour-scalar-base d k signed ds = pour-with-dimensions d k (plain_text (signed_word signed)) ds ∙ ap (λ j. pour d j (written (spaced (plain_text ds)))) (pour-signed-word d k signed)
 
 pub pour-integer-base : (d : ℕ) (k : Ink) (signed : Bool) (ds : List ℕ) →
     pour d k (written (spaced (based_text (IntegerTree signed) ds))) ≡ pour d (word k (unsigned_opening signed)) (written (spaced (plain_text ds)))
 unfolding based_text
-pour-integer-base d k signed ds = pour-joined d k (plain_text (unsigned_word signed)) ds ∙ ap (λ j. pour d j (written (spaced (plain_text ds)))) (pour-unsigned-word d k signed)
+pour-integer-base d k signed ds = pour-with-dimensions d k (plain_text (unsigned_word signed)) ds ∙ ap (λ j. pour d j (written (spaced (plain_text ds)))) (pour-unsigned-word d k signed)
 
 pub pour-int-base : (d : ℕ) (k : Ink) (signed : Bool) (ds : List ℕ) →
     pour d k (written (spaced (based_text (IntTree signed) ds))) ≡ pour d (word k (unsigned_opening signed)) (written (spaced (plain_text ds)))
 unfolding based_text
-pour-int-base d k signed ds = pour-joined d k (plain_text (unsigned_word signed)) ds ∙ ap (λ j. pour d j (written (spaced (plain_text ds)))) (pour-unsigned-word d k signed)
+pour-int-base d k signed ds = pour-with-dimensions d k (plain_text (unsigned_word signed)) ds ∙ ap (λ j. pour d j (written (spaced (plain_text ds)))) (pour-unsigned-word d k signed)
 
 pub pour-external-base : (d : ℕ) (k : Ink) (name ds : List ℕ) →
     pour d k (written (spaced (based_text (ExternalTree name) ds))) ≡ pour d (pour d k (written (spaced (plain_text name)))) (written (spaced (plain_text ds)))
 unfolding based_text
-pour-external-base d k name ds = pour-joined d k (plain_text name) ds
+pour-external-base d k name ds = pour-with-dimensions d k (plain_text name) ds
 
 pub pour-package-base : (d : ℕ) (k : Ink) (scope name ds : List ℕ) →
     pour d k (written (spaced (based_text (PackageTree scope name) ds)))
     ≡ pour d (word (pour d (word (pour d k (written (plain_text scope))) (codes "::")) (written (plain_text name))) (codes " ")) (written (spaced (plain_text ds)))
 unfolding based_text
 pour-package-base d k scope name ds =
-    pour-joined d k (package_text scope name) ds
+    pour-with-dimensions d k (package_text scope name) ds
     ∙ ap (λ j. pour d j (written (spaced (plain_text ds)))) (ap (λ x. pour d k (written x)) (spaced-package scope name) ∙ simp (package_then, pour-then, pour-word))
 
 pub pour-vector-base : (d : ℕ) (k : Ink) (w : ExprTree) (v : Option ℤ) (signed : Bool) (ds : List ℕ) →
     pour d k (written (spaced (based_text (VectorTree w v signed) ds)))
-    ≡ word (pour d (word (pour d (word k (signed_opening signed)) (written (plain_text ds))) (codes "[")) (written (limit_text w v))) (codes ":0] ")
+    ≡ word (pour d (word (pour d (word k (signed_opening signed)) (written (plain_text ds))) (codes "[")) (written (highest_index_text w v))) (codes ":0] ")
 unfolding based_text
 pour-vector-base d k w v signed ds = simp (spaced-then, pour-then, pour-signed-word, pour-word, word-word)
 
@@ -94,6 +94,6 @@ pub ruleset range_parts = (pour-verilog-range, pour-system-range, word-stopped)
 
 pub ruleset spaces = (pour-spaced, pour-spaced-none, has-some, has-none, word-stopped)
 
-pub ruleset limits = (pour-limit-value, pour-limit, pour-number, word-stopped)
+pub ruleset highest_indices = (pour-highest-value, pour-highest-index, pour-number, word-stopped)
 
 pub ruleset types = (type-based, pour-scalar-base, pour-integer-base, pour-int-base, pour-external-base, pour-package-base, pour-vector-base, pour-packed-base, pour-unpacked-base, word-stopped, pour-stopped)

@@ -8,7 +8,7 @@ use Rattle.vast_literal.specs.Tree.{TypeTree, ScalarTree, VectorTree, IntegerTre
 use Rattle.vast_literal.specs.Tree.{Declaration}
 use Rattle.vast_literal.specs.declared.kind.DataKind.{DataKind as Kind}
 use Rattle.vast_literal.specs.declared.kind.DataKind.TheVariants.{Reg as RegKind, Wire as WireKind, Logic as LogicKind, Integer as IntegerKind, Int as IntKind, User as UserKind, UntypedEnum as UntypedEnumKind, Genvar as GenvarKind}
-use Rattle.vast_literal.specs.Shape.{limit_wraps, base_of, port_kind}
+use Rattle.vast_literal.specs.Shape.{highest_index_wraps, base_of, port_kind}
 use Rattle.vast_print.specs.Printed.{Printed, plain_text, ◌⊕◌, wrapped, spaced}
 use Rattle.vast_print.specs.Text.{expr_text, package_text}
 
@@ -42,9 +42,9 @@ unpacked_text dialect (PackedTree t ds) = unpacked_text dialect t
 unpacked_text dialect _ = []
 
 -- a vector's highest index: its width minus one, computed where the width has a value
-unfoldable pub limit_text : ExprTree → Option ℤ → Printed
-limit_text w (Some v) = plain_text (signed_decimal (v -ℤ pos 1))
-limit_text w None = wrapped (limit_wraps w) (expr_text w) ⊕ plain_text (codes " - 1")
+unfoldable pub highest_index_text : ExprTree → Option ℤ → Printed
+highest_index_text w (Some v) = plain_text (signed_decimal (v -ℤ pos 1))
+highest_index_text w None = wrapped (highest_index_wraps w) (expr_text w) ⊕ plain_text (codes " - 1")
 
 abbrev pub signed_word : Bool → List ℕ
 signed_word true = codes "signed"
@@ -54,18 +54,18 @@ abbrev pub unsigned_word : Bool → List ℕ
 unsigned_word true = []
 unsigned_word false = codes "unsigned"
 
-unfoldable pub joined : Printed → List ℕ → Printed
-joined p [] = p
-joined p (c ∷ w) = spaced p ⊕ plain_text (c ∷ w)
+unfoldable pub with_dimensions : Printed → List ℕ → Printed
+with_dimensions p [] = p
+with_dimensions p (c ∷ w) = spaced p ⊕ plain_text (c ∷ w)
 
 -- a base type's text with packed dimensions, which stand before a vector's own and behind any other type
 unfoldable pub based_text : TypeTree → List ℕ → Printed
-based_text (VectorTree w v signed) ds = spaced (plain_text (signed_word signed)) ⊕ plain_text ds ⊕ plain_text (codes "[") ⊕ limit_text w v ⊕ plain_text (codes ":0]")
-based_text (ScalarTree signed) ds = joined (plain_text (signed_word signed)) ds
-based_text (IntegerTree signed) ds = joined (plain_text (unsigned_word signed)) ds
-based_text (IntTree signed) ds = joined (plain_text (unsigned_word signed)) ds
-based_text (ExternalTree name) ds = joined (plain_text name) ds
-based_text (PackageTree scope name) ds = joined (package_text scope name) ds
+based_text (VectorTree w v signed) ds = spaced (plain_text (signed_word signed)) ⊕ plain_text ds ⊕ plain_text (codes "[") ⊕ highest_index_text w v ⊕ plain_text (codes ":0]")
+based_text (ScalarTree signed) ds = with_dimensions (plain_text (signed_word signed)) ds
+based_text (IntegerTree signed) ds = with_dimensions (plain_text (unsigned_word signed)) ds
+based_text (IntTree signed) ds = with_dimensions (plain_text (unsigned_word signed)) ds
+based_text (ExternalTree name) ds = with_dimensions (plain_text name) ds
+based_text (PackageTree scope name) ds = with_dimensions (package_text scope name) ds
 based_text (PackedTree t own) ds = plain_text ds
 based_text (UnpackedTree t own) ds = plain_text ds
 based_text MissingType ds = plain_text ds

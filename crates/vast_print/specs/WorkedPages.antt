@@ -39,8 +39,8 @@ pub record WorkedPages : Type 0 where
   -- In Verilog an array of four has the range from 0 to 3.
   pub verilog_array :
       declaration_text VerilogDialect RegKind (UnpackedTree (bits 8 false (codes "8")) (pos 4 ∷ [])) (codes "m") ≡ plain_text (codes "reg [7:0] m[0:3]")
-  -- A width without a value is written less one, in parentheses where its sign is weaker.
-  pub symbolic_limit :
+  -- A width without a value is written less one, in parentheses where its operator is weaker.
+  pub symbolic_highest_index :
       declaration_text SystemVerilogDialect WireKind (VectorTree (BinaryTree LogicalOrOp (name (codes "a")) (name (codes "b"))) None false) (codes "v") ≡ plain_text (codes "wire [(a || b) - 1:0] v")
   -- The name part of a declaration always stands.
   pub nameless : declaration_text SystemVerilogDialect WireKind (ScalarTree false) [] ≡ plain_text (codes "wire ")

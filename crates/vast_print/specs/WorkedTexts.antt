@@ -22,13 +22,13 @@ pub record WorkedTexts : Type 0 where
   pub right_child : (expr_text (BinaryTree SubOp (name (codes "a")) (BinaryTree SubOp (name (codes "b")) (name (codes "c"))))).text ≡ codes "a - (b - c)"
   -- A left child of equal level stands bare.
   pub left_child : (expr_text (BinaryTree PowerOp (BinaryTree PowerOp (name (codes "a")) (name (codes "b"))) (BinaryTree PowerOp (name (codes "c")) (name (codes "d"))))).text ≡ codes "a ** b ** (c ** d)"
-  -- A reduction is in parentheses on either side of a sign between.
+  -- A reduction is in parentheses on either side of an operator between.
   pub reductions : (expr_text (BinaryTree LogicalOrOp (UnaryTree OrReduceOp (name (codes "a"))) (UnaryTree AndReduceOp (name (codes "b"))))).text ≡ codes "(|a) || (&b)"
   -- So is the condition of a ternary that is one.
   pub ternary_condition :
       (expr_text (TernaryTree (TernaryTree (name (codes "a")) (name (codes "b")) (name (codes "c"))) (UnaryTree OrReduceOp (name (codes "b"))) (name (codes "c")))).text
       ≡ codes "(a ? b : c) ? |b : c"
-  -- A literal with a minus is in parentheses under a sign and before brackets, and bare beside a binary sign.
+  -- A literal with a minus is in parentheses under a unary operator and before brackets, and bare beside a binary one.
   pub negative_operand : (expr_text (UnaryTree NegateOp (number (codes "-1") (negsuc 0)))).text ≡ codes "-(-1)"
   pub negative_subject : (expr_text (IndexTree (number (codes "-1") (negsuc 0)) (number (codes "0") (pos 0)))).text ≡ codes "(-1)[0]"
   pub negative_child : (expr_text (BinaryTree SubOp (name (codes "a")) (number (codes "-1") (negsuc 0)))).text ≡ codes "a - -1"
@@ -47,9 +47,9 @@ pub record WorkedTexts : Type 0 where
   -- The width of a cast is in parentheses unless it is a numeral or a name, also one whose index is elided.
   pub based_cast : expr_text (WidthCastTree (number (codes "8'h08") (pos 8)) (name (codes "x"))) ≡ plain_text (codes "(8'h08)'(x)")
   pub named_cast : expr_text (WidthCastTree (IndexTree (scalar (codes "W")) (number (codes "0") (pos 0))) (name (codes "x"))) ≡ plain_text (codes "W'(x)")
-  -- A cast by a width is in parentheses under a sign.
+  -- A cast by a width is in parentheses under a unary operator.
   pub negated_cast : expr_text (UnaryTree NegateOp (WidthCastTree (number (codes "8") (pos 8)) (name (codes "x")))) ≡ plain_text (codes "-(8'(x))")
   -- A name of no bytes is not bare.
   pub nameless_cast : expr_text (WidthCastTree (scalar []) (name (codes "x"))) ≡ plain_text (codes "()'(x)")
-  -- A cast to a vector is one by its width inside one by its sign.
+  -- A cast to a vector is one by its width inside one by its signedness.
   pub vector_cast : expr_text (TypeCastTree (VectorTree (number (codes "-8'sd1") (pos 255)) (Some (pos 255)) false) (scalar (codes "a"))) ≡ plain_text (codes "unsigned'((-8'sd1)'(a))")

@@ -1,9 +1,12 @@
 //! Casts.
 
-ghost use Rattle.vast_literal.specs.Tree.{WidthCastTree, TypeCastTree, ScalarTree, IntegerTree, IntTree, ExternalTree, PackageTree};
+ghost use Rattle.std.specs.Prelude.{◌≡◌, ◌+◌, OnOk};
+ghost use Rattle.vast_literal.specs.Tree.{WidthCastTree, TypeCastTree, ExternalTree, PackageTree};
 ghost use Rattle.vast_core.specs.Bench.{OwnsExpr, OwnsType, tree_of, type_of};
 ghost use Rattle.vast_core.specs.View.{bench};
-ghost use Rattle.vast_print.specs.Pieces.{PiecesOwned, BeginsExpr};
+ghost use Rattle.vast_print.specs.Pieces.{expr_weight, pieces_text, pieces_weight, PiecesOwned, BeginsExpr};
+ghost use Rattle.vast_print.specs.Printed.{plain_text, ◌⊕◌, wrapped};
+ghost use Rattle.vast_print.specs.Text.{expr_text};
 
 use crate::levels::is_bare_expr;
 use crate::pieces::{Piece, push_part, push_plain};
@@ -12,7 +15,32 @@ use crate::words::{
     int_cast, integer_cast, number_cast_end, scalar_cast, scalar_cast_end, vector_cast,
 };
 use crate::writer::Writer;
+use std::alloc::AllocError;
 use vast_core::{Ast, Expr, TypeNode, VastDataType};
+
+/// Puts what is cast, and what stands behind it, on the list of work.
+#[tactic(auto, using(crate::proofs::PieceLaws::pushes))]
+fn push_operand(
+    ast: &Ast,
+    operand: Expr,
+    closing: &'static str,
+    work: &mut Vec<Piece>,
+) -> Result<(), AllocError>
+    requires part { OwnsExpr (bench ast.now) operand }
+    requires owned { PiecesOwned (bench ast.now) work.old.items }
+    ensures text { OnOk result
+        (pieces_text (bench ast.now) work.new.items
+        ≡ wrapped false (expr_text (tree_of (bench ast.now) operand)) ⊕
+        (plain_text closing.now ⊕ pieces_text (bench ast.now) work.old.items)) }
+    ensures weight { OnOk result
+        (pieces_weight (bench ast.now) work.new.items
+        ≡ pieces_weight (bench ast.now) work.old.items
+        + expr_weight (tree_of (bench ast.now) operand) + 2) }
+    ensures owned { OnOk result (PiecesOwned (bench ast.now) work.new.items) }
+{
+    push_plain(ast, closing, work)?;
+    push_part(ast, operand, false, work)
+}
 
 #[tactic(auto, using(crate::proofs::PieceLaws::cast_parts))]
 pub(crate) fn begin_width_cast(
@@ -29,70 +57,9 @@ pub(crate) fn begin_width_cast(
     ensures { BeginsExpr (bench ast.now) depth out.old out.new work.old.items work.new.items
         (WidthCastTree (tree_of (bench ast.now) width) (tree_of (bench ast.now) operand)) result }
 {
-    push_plain(ast, ")", work)?;
-    push_part(ast, operand, false, work)?;
+    push_operand(ast, operand, ")", work)?;
     push_plain(ast, "'(", work)?;
     push_part(ast, width, !is_bare_expr(ast, width), work)?;
-    Ok(())
-}
-
-#[tactic(auto, using(crate::proofs::PieceLaws::cast_parts))]
-fn begin_scalar_cast(
-    ast: &Ast,
-    signed: bool,
-    operand: Expr,
-    depth: usize,
-    out: &mut Writer,
-    work: &mut Vec<Piece>,
-) -> Result<(), PrintFault>
-    requires operand { OwnsExpr (bench ast.now) operand }
-    requires owned { PiecesOwned (bench ast.now) work.old.items }
-    ensures { BeginsExpr (bench ast.now) depth out.old out.new work.old.items work.new.items
-        (TypeCastTree (ScalarTree signed) (tree_of (bench ast.now) operand)) result }
-{
-    out.word(scalar_cast(signed))?;
-    push_plain(ast, scalar_cast_end(signed), work)?;
-    push_part(ast, operand, false, work)?;
-    Ok(())
-}
-
-#[tactic(auto, using(crate::proofs::PieceLaws::cast_parts))]
-fn begin_integer_cast(
-    ast: &Ast,
-    signed: bool,
-    operand: Expr,
-    depth: usize,
-    out: &mut Writer,
-    work: &mut Vec<Piece>,
-) -> Result<(), PrintFault>
-    requires operand { OwnsExpr (bench ast.now) operand }
-    requires owned { PiecesOwned (bench ast.now) work.old.items }
-    ensures { BeginsExpr (bench ast.now) depth out.old out.new work.old.items work.new.items
-        (TypeCastTree (IntegerTree signed) (tree_of (bench ast.now) operand)) result }
-{
-    out.word(integer_cast(signed))?;
-    push_plain(ast, number_cast_end(signed), work)?;
-    push_part(ast, operand, false, work)?;
-    Ok(())
-}
-
-#[tactic(auto, using(crate::proofs::PieceLaws::cast_parts))]
-fn begin_int_cast(
-    ast: &Ast,
-    signed: bool,
-    operand: Expr,
-    depth: usize,
-    out: &mut Writer,
-    work: &mut Vec<Piece>,
-) -> Result<(), PrintFault>
-    requires operand { OwnsExpr (bench ast.now) operand }
-    requires owned { PiecesOwned (bench ast.now) work.old.items }
-    ensures { BeginsExpr (bench ast.now) depth out.old out.new work.old.items work.new.items
-        (TypeCastTree (IntTree signed) (tree_of (bench ast.now) operand)) result }
-{
-    out.word(int_cast(signed))?;
-    push_plain(ast, number_cast_end(signed), work)?;
-    push_part(ast, operand, false, work)?;
     Ok(())
 }
 
@@ -112,8 +79,7 @@ fn begin_external_cast(
 {
     out.written(depth, name)?;
     out.word("'(")?;
-    push_plain(ast, ")", work)?;
-    push_part(ast, operand, false, work)?;
+    push_operand(ast, operand, ")", work)?;
     Ok(())
 }
 
@@ -137,8 +103,7 @@ fn begin_package_cast(
     out.word("::")?;
     out.written(depth, name)?;
     out.word("'(")?;
-    push_plain(ast, ")", work)?;
-    push_part(ast, operand, false, work)?;
+    push_operand(ast, operand, ")", work)?;
     Ok(())
 }
 
@@ -160,17 +125,28 @@ pub(crate) fn begin_type_cast(
         result }
 {
     match ast.data_type(data_type) {
-        TypeNode::Scalar(signed) => begin_scalar_cast(ast, *signed, operand, depth, out, work),
+        TypeNode::Scalar(signed) => {
+            out.word(scalar_cast(*signed))?;
+            push_operand(ast, operand, scalar_cast_end(*signed), work)?;
+            Ok(())
+        }
         TypeNode::Vector(width, _, signed) => {
             out.word(vector_cast(*signed))?;
-            push_plain(ast, "))", work)?;
-            push_part(ast, operand, false, work)?;
+            push_operand(ast, operand, "))", work)?;
             push_plain(ast, "'(", work)?;
             push_part(ast, *width, !is_bare_expr(ast, *width), work)?;
             Ok(())
         }
-        TypeNode::Integer(signed) => begin_integer_cast(ast, *signed, operand, depth, out, work),
-        TypeNode::Int(signed) => begin_int_cast(ast, *signed, operand, depth, out, work),
+        TypeNode::Integer(signed) => {
+            out.word(integer_cast(*signed))?;
+            push_operand(ast, operand, number_cast_end(*signed), work)?;
+            Ok(())
+        }
+        TypeNode::Int(signed) => {
+            out.word(int_cast(*signed))?;
+            push_operand(ast, operand, number_cast_end(*signed), work)?;
+            Ok(())
+        }
         TypeNode::External(name) => begin_external_cast(ast, name, operand, depth, out, work),
         TypeNode::Package(package_name, name) => {
             begin_package_cast(ast, package_name, name, operand, depth, out, work)

@@ -46,7 +46,7 @@ pub(crate) fn print_loop(
     Ok(())
 }
 
-/// Writes the words before a loop's members behind the last line. The limit stands as the right child of the comparison.
+/// Writes the words before a loop's members behind the last line. The end stands as the right child of the comparison.
 #[tactic(auto, using(crate::proofs::ContainerLaws::headers))]
 fn print_header(
     ast: &Ast,
@@ -55,14 +55,14 @@ fn print_header(
     out: &mut Writer,
 ) -> Result<(), PrintFault>
     requires start { OwnsExpr (bench ast.now) node.now.start }
-    requires limit { OwnsExpr (bench ast.now) node.now.limit }
+    requires end { OwnsExpr (bench ast.now) node.now.end }
     ensures { Writes
         (pour depth (Wet out.old)
         (written (loop_text (string_bytes node.now.name)
-        (tree_of (bench ast.now) node.now.start) (tree_of (bench ast.now) node.now.limit)
+        (tree_of (bench ast.now) node.now.start) (tree_of (bench ast.now) node.now.end)
         (label_bytes node.now.label)))) out.new result }
 {
-    let wraps = right_wraps(ast, BinaryOperator::Lt, node.limit);
+    let wraps = right_wraps(ast, BinaryOperator::Lt, node.end);
     out.word(words::for_genvar())?;
     out.written(depth, &node.name)?;
     out.word(" = ")?;
@@ -70,7 +70,7 @@ fn print_header(
     out.word("; ")?;
     out.written(depth, &node.name)?;
     out.word(" < ")?;
-    print_wrapped(ast, node.limit, wraps, depth, out)?;
+    print_wrapped(ast, node.end, wraps, depth, out)?;
     out.word("; ")?;
     out.written(depth, &node.name)?;
     out.word(" = ")?;

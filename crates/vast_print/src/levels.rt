@@ -1,7 +1,7 @@
 //! Operators, their precedence, and where parentheses stand.
 
 ghost use Rattle.std.specs.Prelude.{◌≡◌};
-ghost use Rattle.vast_literal.specs.Shape.{binary_precedence, is_negative_literal, is_reduction, is_reduction_operator, is_scalar_name, is_scalar_type, is_width_cast, is_zero, left_child_wraps, limit_wraps, precedence, right_child_wraps, select_wraps, ternary_wraps, unary_wraps};
+ghost use Rattle.vast_literal.specs.Shape.{binary_precedence, is_negative_literal, is_reduction, is_reduction_operator, is_scalar_name, is_scalar_type, is_width_cast, is_zero, left_child_wraps, highest_index_wraps, precedence, right_child_wraps, select_wraps, ternary_wraps, unary_wraps};
 ghost use Rattle.vast_core.specs.Bench.{OwnsExpr, OwnsType, tree_of, type_of};
 ghost use Rattle.vast_core.specs.View.{bench};
 ghost use Rattle.vast_print.specs.Bare.{is_bare_head};
@@ -217,9 +217,9 @@ pub(crate) fn select_wraps(ast: &Ast, e: Expr) -> bool
 }
 
 /// Whether a width needs parentheses before ` - 1`.
-pub(crate) fn limit_wraps(ast: &Ast, e: Expr) -> bool
+pub(crate) fn highest_index_wraps(ast: &Ast, e: Expr) -> bool
     requires { OwnsExpr (bench ast.now) e }
-    ensures { result ≡ limit_wraps (tree_of (bench ast.now) e) }
+    ensures { result ≡ highest_index_wraps (tree_of (bench ast.now) e) }
 {
     precedence(ast, e) < 9
 }

@@ -29,5 +29,3 @@ mod words;
 mod writer;
 
 pub use file::{print_expr, print_file};
-pub use refusal::{PrintFault, Refusal};
-pub use writer::Writer;

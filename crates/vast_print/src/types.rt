@@ -8,11 +8,11 @@ ghost use Rattle.vast_core.specs.View.{bench};
 ghost use Rattle.vast_print.specs.Ink.{Writes, Wet, word, pour};
 ghost use Rattle.vast_print.specs.Page.{written};
 ghost use Rattle.vast_print.specs.Printed.{plain_text, spaced};
-ghost use Rattle.vast_print.specs.Declaration.{packed_ranges, packed_text, unpacked_range, unpacked_ranges, unpacked_text, type_text, limit_text};
+ghost use Rattle.vast_print.specs.Declaration.{packed_ranges, packed_text, unpacked_range, unpacked_ranges, unpacked_text, type_text, highest_index_text};
 ghost use Rattle.vast_print.specs.Words.{has_text};
 
 use crate::expression::print_wrapped;
-use crate::levels::limit_wraps;
+use crate::levels::highest_index_wraps;
 use crate::refusal::PrintFault;
 use crate::words;
 use crate::writer::Writer;
@@ -31,7 +31,7 @@ pub(crate) fn is_external(ast: &Ast, t: VastDataType) -> bool
 }
 
 /// The highest index of a number of elements or bits: the number minus one.
-pub(crate) fn print_limit(value: i64, out: &mut Writer) -> Result<(), PrintFault>
+pub(crate) fn print_highest_index(value: i64, out: &mut Writer) -> Result<(), PrintFault>
     ensures { Writes (word (Wet out.old) (signed_decimal (value -ℤ pos 1))) out.new result }
 {
     if value == i64::MIN {
@@ -50,7 +50,7 @@ fn print_packed_ranges(dimensions: &[i64], depth: usize, out: &mut Writer) -> Re
 {
     for dimension in dimensions.iter() {
         out.word("[")?;
-        print_limit(*dimension, out)?;
+        print_highest_index(*dimension, out)?;
         out.word(":0]")?;
     }
     Ok(())
@@ -148,8 +148,8 @@ fn print_spaced_name(name: &str, depth: usize, out: &mut Writer) -> Result<(), P
 }
 
 /// Writes a vector's highest index: computed where the width has a value, else the width less one.
-#[tactic(auto, using(crate::proofs::PrintLaws::limits))]
-fn print_width_limit(
+#[tactic(auto, using(crate::proofs::PrintLaws::highest_indices))]
+fn print_highest_bit(
     ast: &Ast,
     width: Expr,
     value: Option<i64>,
@@ -158,13 +158,13 @@ fn print_width_limit(
 ) -> Result<(), PrintFault>
     requires { OwnsExpr (bench ast.now) width }
     ensures { Writes
-        (pour depth (Wet out.old) (written (limit_text (tree_of (bench ast.now) width) value)))
+        (pour depth (Wet out.old) (written (highest_index_text (tree_of (bench ast.now) width) value)))
         out.new result }
 {
     match value {
-        Some(value) => print_limit(value, out),
+        Some(value) => print_highest_index(value, out),
         None => {
-            print_wrapped(ast, width, limit_wraps(ast, width), depth, out)?;
+            print_wrapped(ast, width, highest_index_wraps(ast, width), depth, out)?;
             out.word(" - 1")?;
             Ok(())
         }
@@ -193,7 +193,7 @@ pub(crate) fn print_type(
             out.word(words::signed(*signed))?;
             print_packed(ast, t, depth, out)?;
             out.word("[")?;
-            print_width_limit(ast, *width, *value, depth, out)?;
+            print_highest_bit(ast, *width, *value, depth, out)?;
             out.word(":0] ")?;
             Ok(())
         }
@@ -236,7 +236,7 @@ fn print_unpacked_range(
     match file_type {
         VastFileType::Verilog => {
             out.word("[0:")?;
-            print_limit(dimension, out)?;
+            print_highest_index(dimension, out)?;
         }
         VastFileType::SystemVerilog => {
             out.word("[")?;

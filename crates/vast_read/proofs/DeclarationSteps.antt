@@ -4,7 +4,7 @@ use Rattle.vast_literal.specs.Tokens.{Key, OpenBracket, CloseBracket, Colon, Dou
 use Rattle.vast_literal.specs.NormalExpr.{NormalExpr}
 use Rattle.vast_literal.specs.NormalFile.{Group, One, Range}
 use Rattle.vast_literal.specs.FileGrammar.{is_kind, is_sign}
-use Rattle.vast_literal.specs.Parser.{◌>>=◌, code, after, key_at, word_at, enclosed}
+use Rattle.vast_literal.specs.Parser.{◌>>=◌, code, after, key_at, word_at, enclosed_at}
 use Rattle.vast_literal.specs.DeclarationParser.{is_bracket, maybe_on, maybe_at}
 use Rattle.vast_literal.specs.Settled.{either, settled}
 use Rattle.vast_literal.specs.Nexts.{key_with}
@@ -22,7 +22,7 @@ unfolding group_rest
 group_rest_reads ts = refl
 
 pub group_end_reads : (x : NormalExpr) (ts : List Token) → group_end x ts ≡
-    either (after CloseBracket ts) (λ us. Some (One x, us)) (after Colon ts >>= λ us. enclosed settled CloseBracket us >>= λ l. Some (Range x l.0, l.1))
+    either (after CloseBracket ts) (λ us. Some (One x, us)) (after Colon ts >>= λ us. enclosed_at settled CloseBracket us >>= λ l. Some (Range x l.0, l.1))
 unfolding group_end
 group_end_reads x ts = refl
 

@@ -5,7 +5,7 @@ use Rattle.vast_literal.specs.Tokens.{Op, Punct, OpenParen, CloseParen, Colon, S
 use Rattle.vast_literal.specs.NormalExpr.{NormalExpr, NormalExprs}
 use Rattle.vast_literal.specs.NormalFile.{Done, Then, NormalDeclaration, EdgeEvent, NameEvent, NormalConnection, NormalMember, DeclarationPart, AssignPart, ParameterPart, MacroPart, InstancePart, AlwaysPart, ConditionalPart, FunctionPart, LoopPart, NormalMembers, NoParts, MoreParts}
 use Rattle.vast_literal.specs.FileGrammar.{is_member_kind, is_parameter_word, is_clocked, is_edge}
-use Rattle.vast_literal.specs.Parser.{◌>>=◌, after, word_at, number_at, enclosed, arguments, selected}
+use Rattle.vast_literal.specs.Parser.{◌>>=◌, after, word_at, number_at, enclosed_at, arguments, selected_at}
 use Rattle.vast_literal.specs.StatementParser.{ReadOf, after_key, block_at, cases_at}
 use Rattle.vast_literal.specs.MemberParser.{bound_of, same_word}
 use Rattle.vast_literal.specs.Settled.{either, settled, settled_reader}
@@ -53,7 +53,7 @@ unfolding settled_event
 event_reads ts = refl
 
 pub value_reads : (n : List ℕ) (ts : List Token) → connection_value n ts ≡
-    either (after CloseParen ts) (λ us. Some (record { name = n; value = None }, us)) (enclosed settled CloseParen ts >>= λ x. Some (record { name = n; value = Some x.0 }, x.1))
+    either (after CloseParen ts) (λ us. Some (record { name = n; value = None }, us)) (enclosed_at settled CloseParen ts >>= λ x. Some (record { name = n; value = Some x.0 }, x.1))
 unfolding connection_value
 value_reads n ts = refl
 
@@ -61,7 +61,7 @@ pub connection_reads : (ts : List Token) → settled_connection ts ≡ (after Do
 unfolding settled_connection
 connection_reads ts = refl
 
-pub given_reads : (ts : List Token) → settled_given ts ≡ (after Dot ts >>= λ us. word_at us >>= λ n. after OpenParen n.1 >>= λ vs. enclosed settled CloseParen vs >>= λ x. Some (record { name = n.0; value = Some x.0 }, x.1))
+pub given_reads : (ts : List Token) → settled_given ts ≡ (after Dot ts >>= λ us. word_at us >>= λ n. after OpenParen n.1 >>= λ vs. enclosed_at settled CloseParen vs >>= λ x. Some (record { name = n.0; value = Some x.0 }, x.1))
 unfolding settled_given
 given_reads ts = refl
 
@@ -122,11 +122,11 @@ pub number_one_none : (ts : List Token) → number_at ts ≡ None → number_one
 unfolding number_one
 number_one_none ts e = rw (e, then_none)
 
-pub loop_start_reads : (ts : List Token) → loop_start ts ≡ (after OpenParen ts >>= λ a. after_key GenvarKey a >>= λ b. word_at b >>= λ i. after Assign i.1 >>= λ c. enclosed settled Semicolon c >>= λ x. Some ((i.0, x.0), x.1))
+pub loop_start_reads : (ts : List Token) → loop_start ts ≡ (after OpenParen ts >>= λ a. after_key GenvarKey a >>= λ b. word_at b >>= λ i. after Assign i.1 >>= λ c. enclosed_at settled Semicolon c >>= λ x. Some ((i.0, x.0), x.1))
 unfolding loop_start
 loop_start_reads ts = refl
 
-pub loop_bound_reads : (i : List ℕ) (ts : List Token) → loop_bound i ts ≡ (enclosed settled Semicolon ts >>= λ d. bound_of i d.0 >>= λ e. Some (e, d.1))
+pub loop_bound_reads : (i : List ℕ) (ts : List Token) → loop_bound i ts ≡ (enclosed_at settled Semicolon ts >>= λ d. bound_of i d.0 >>= λ e. Some (e, d.1))
 unfolding loop_bound
 loop_bound_reads i ts = refl
 
@@ -189,7 +189,7 @@ function_reads ts = refl
 
 -- members by their keyword
 
-pub assign_part_reads : (ts : List Token) → assign_part ts ≡ (selected settled ts >>= λ l. after Assign l.1 >>= λ us. enclosed settled Semicolon us >>= λ r. Some (AssignPart l.0 r.0, r.1))
+pub assign_part_reads : (ts : List Token) → assign_part ts ≡ (selected_at settled ts >>= λ l. after Assign l.1 >>= λ us. enclosed_at settled Semicolon us >>= λ r. Some (AssignPart l.0 r.0, r.1))
 unfolding assign_part
 assign_part_reads ts = refl
 
@@ -201,7 +201,7 @@ pub conditional_reads : (ts : List Token) → conditional_part ts ≡ (choice_st
 unfolding conditional_part choice_statement
 conditional_reads ts = simp (chained, then_some)
 
-pub parameter_part_reads : (k : Key) (ts : List Token) → parameter_part k ts ≡ (settled_declaration ts >>= λ d. after Assign d.1 >>= λ us. enclosed settled Semicolon us >>= λ x. Some (ParameterPart k d.0 x.0, x.1))
+pub parameter_part_reads : (k : Key) (ts : List Token) → parameter_part k ts ≡ (settled_declaration ts >>= λ d. after Assign d.1 >>= λ us. enclosed_at settled Semicolon us >>= λ x. Some (ParameterPart k d.0 x.0, x.1))
 unfolding parameter_part
 parameter_part_reads k ts = refl
 

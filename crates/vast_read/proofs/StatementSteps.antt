@@ -5,7 +5,7 @@ use Rattle.vast_literal.specs.NormalExpr.{NormalExpr}
 use Rattle.vast_literal.specs.NormalFile.{NormalStatement, AssignStatement, ChoiceStatement, CaseStatement, NormalStatements, Done, Then, Arms, Only, Otherwise, Or, Labels, NoLabels, Label}
 use Rattle.vast_literal.specs.Grammar.{is_cast_word}
 use Rattle.vast_literal.specs.FileGrammar.{assignment}
-use Rattle.vast_literal.specs.Parser.{◌>>=◌, after, key_at, enclosed, selected, primary}
+use Rattle.vast_literal.specs.Parser.{◌>>=◌, after, key_at, enclosed_at, selected_at, primary}
 use Rattle.vast_literal.specs.StatementParser.{ReadOf, key_code, after_key_on, after_key, arrow_at, simple_at, block_at, cases_at, case_of, statement_on, statement_step, statements_on, statements_step, tail_on, choice_on, choice_step, body_on, arm_at, labels_on, labels_step}
 use Rattle.vast_literal.specs.Settled.{either, settled, settled_reader}
 use Rattle.vast_literal.proofs.SettledStatements.{statement_settled, statements_settled, choice_settled, labels_settled}
@@ -31,11 +31,11 @@ low_settled = refl
 
 -- assignments
 
-pub simple_reads : (ts : List Token) → simple_at settled ts ≡ (selected settled ts >>= λ l. arrow_at l.1 >>= λ a. enclosed settled Semicolon a.1 >>= λ r. Some (assignment a.0 l.0 r.0, r.1))
+pub simple_reads : (ts : List Token) → simple_at settled ts ≡ (selected_at settled ts >>= λ l. arrow_at l.1 >>= λ a. enclosed_at settled Semicolon a.1 >>= λ r. Some (assignment a.0 l.0 r.0, r.1))
 unfolding simple_at
 simple_reads ts = refl
 
-pub assign_reads : (ts : List Token) → assign_at ts ≡ (selected settled ts >>= λ l. after Assign l.1 >>= λ us. enclosed settled Semicolon us >>= λ r. Some (AssignStatement l.0 r.0, r.1))
+pub assign_reads : (ts : List Token) → assign_at ts ≡ (selected_at settled ts >>= λ l. after Assign l.1 >>= λ us. enclosed_at settled Semicolon us >>= λ r. Some (AssignStatement l.0 r.0, r.1))
 unfolding assign_at
 assign_reads ts = refl
 
@@ -82,7 +82,7 @@ choice_statement_reads ts = refl
 
 -- behind a keyword that begins no statement
 no_simple : (k : Key) (us : List Token) → is_cast_word k ≡ false → simple_at settled (Reserved k ∷ us) ≡ None
-unfolding simple_at selected primary ◌>>=◌
+unfolding simple_at selected_at primary ◌>>=◌
 no_simple k us e = rw e
 
 -- behind any other keyword
@@ -221,7 +221,7 @@ more_arms_read ps ts = rw (choice_reads ts) (simp (chained, more_end))
 
 -- arms of a case
 
-pub label_reads : (ts : List Token) → label_at ts ≡ either (after_key DefaultKey ts) (λ us. after Colon us >>= λ vs. Some (None, vs)) (enclosed settled Colon ts >>= λ x. Some (Some x.0, x.1))
+pub label_reads : (ts : List Token) → label_at ts ≡ either (after_key DefaultKey ts) (λ us. after Colon us >>= λ vs. Some (None, vs)) (enclosed_at settled Colon ts >>= λ x. Some (Some x.0, x.1))
 unfolding label_at
 label_reads ts = refl
 
@@ -254,7 +254,7 @@ arm_same z x ts = simp body_same
 
 labels_key : (z : Bool) (ts : List Token) → labels_on settled_reader z ts (key_at ts) ≡
     either (after_key EndCaseKey ts) (λ us. Some (NoLabels, us))
-    (either (after_key DefaultKey ts) (λ us. after Colon us >>= λ vs. arm_at settled_reader z None vs) (enclosed settled_reader.low Colon ts >>= λ x. arm_at settled_reader z (Some x.0) x.1))
+    (either (after_key DefaultKey ts) (λ us. after Colon us >>= λ vs. arm_at settled_reader z None vs) (enclosed_at settled_reader.low Colon ts >>= λ x. arm_at settled_reader z (Some x.0) x.1))
 unfolding labels_on key_at after_key after_key_on key_code either
 labels_key z [] = refl
 labels_key z (Reserved EndCaseKey ∷ us) = refl

@@ -3,7 +3,7 @@ use Rattle.std.specs.Prelude.{List, Bool, true, false, cond, Option, Some, None}
 use Rattle.vast_literal.specs.Tokens.{Key, IfKey, ElseKey, CaseKey, CasezKey, CasexKey, DefaultKey, BeginKey, Colon, Semicolon, Assign, Token}
 use Rattle.vast_literal.specs.NormalExpr.{NormalExpr}
 use Rattle.vast_literal.specs.NormalFile.{NormalStatement, AssignStatement, ChoiceStatement, CaseStatement, NormalStatements, Done, Then, Arms, Labels}
-use Rattle.vast_literal.specs.Parser.{◌>>=◌, after, enclosed, selected}
+use Rattle.vast_literal.specs.Parser.{◌>>=◌, after, enclosed_at, selected_at}
 use Rattle.vast_literal.specs.StatementParser.{ReadOf, after_key, simple_at}
 use Rattle.vast_literal.specs.Nexts.{key_with}
 use Rattle.vast_literal.specs.Settled.{either, settled, settled_reader}
@@ -23,7 +23,7 @@ is_casez _ = false
 
 -- What stands behind `assign`.
 unfoldable pub assign_at : List Token → ReadOf NormalStatement
-assign_at ts = selected settled ts >>= λ l. after Assign l.1 >>= λ us. enclosed settled Semicolon us >>= λ r. Some (AssignStatement l.0 r.0, r.1)
+assign_at ts = selected_at settled ts >>= λ l. after Assign l.1 >>= λ us. enclosed_at settled Semicolon us >>= λ r. Some (AssignStatement l.0 r.0, r.1)
 
 -- What stands behind `if`.
 unfoldable pub choice_statement : List Token → ReadOf NormalStatement
@@ -62,7 +62,7 @@ arms_end ps ts = either (after_key ElseKey ts) (λ us. else_arm ps us) (Some (ar
 
 -- The label of an arm of a case, with its colon.
 unfoldable pub label_at : List Token → ReadOf (Option NormalExpr)
-label_at ts = either (after_key DefaultKey ts) (λ us. after Colon us >>= λ vs. Some (None, vs)) (enclosed settled Colon ts >>= λ x. Some (Some x.0, x.1))
+label_at ts = either (after_key DefaultKey ts) (λ us. after Colon us >>= λ vs. Some (None, vs)) (enclosed_at settled Colon ts >>= λ x. Some (Some x.0, x.1))
 
 -- A block of one assignment.
 unfoldable pub bare_body : List Token → ReadOf NormalStatements

@@ -13,7 +13,7 @@ use Rattle.vast_core.proofs.Lists.{slice_get-append, All-head, All-tail, All-imp
 use Rattle.vast_core.proofs.NodeLaws.{Extends, HasExpr-kept, expr_in-kept}
 use Rattle.vast_core.proofs.Laws.{next_owned, next_tree}
 use Rattle.xlsynth_vast.specs.Expressions.{with_unary, with_binary}
-use Rattle.xlsynth_vast.specs.Reductions.{joined, with_nodes, bit_literal, logical_reduction, bitwise_reduction, HasMoreNodes, IsTree, MakesTree, MakesJoined}
+use Rattle.xlsynth_vast.specs.Reductions.{chain, with_nodes, bit_literal, logical_reduction, bitwise_reduction, HasMoreNodes, IsTree, MakesTree, MakesChain}
 
 -- Nodes more.
 
@@ -58,7 +58,7 @@ more-more b c d h k =
 -- Joining what is left to what there is makes what is asked.
 pub record Joining (operator : BinaryOp) (start now : Bench) (first whole : Expr) (rest left : List Expr) : Type 0 where
   pub owned : OwnsExpr now whole
-  pub same : joined operator (tree_of now whole) (map (tree_of start) left) ≡ joined operator (tree_of start first) (map (tree_of start) rest)
+  pub same : chain operator (tree_of now whole) (map (tree_of start) left) ≡ chain operator (tree_of start first) (map (tree_of start) rest)
   pub more : HasMoreNodes start now
 
 drop-next : {A : Type 0} (xs : List A) (i : ℕ) (x : A) → i < length xs → x ≡ get_or xs i x → drop i xs ≡ x ∷ drop (suc i) xs
@@ -102,7 +102,7 @@ joining-step operator start now after first whole rest i j values h split value 
 
 pub joined_inverted :
     (old mid new : Bench) (operator : BinaryOp) (of_none : Bool) (trees : List ExprTree) (whole answer : Expr) →
-    MakesJoined old mid (Ok (Some whole)) operator trees →
+    MakesChain old mid (Ok (Some whole)) operator trees →
     (answer ≡ next_expr mid) × (new ≡ with_unary LogicalNotOp whole mid) →
     MakesTree old new (Ok answer) (Ok (logical_reduction operator of_none true trees))
 joined_inverted old mid new operator of_none [] whole answer j built = absurd cc
@@ -112,14 +112,14 @@ joined_inverted old mid new operator of_none (t ∷ ts) whole answer j built =
 
 pub joined_plain :
     (old new : Bench) (operator : BinaryOp) (of_none : Bool) (trees : List ExprTree) (whole : Expr) →
-    MakesJoined old new (Ok (Some whole)) operator trees →
+    MakesChain old new (Ok (Some whole)) operator trees →
     MakesTree old new (Ok whole) (Ok (logical_reduction operator of_none false trees))
 joined_plain old new operator of_none [] whole j = absurd cc
 joined_plain old new operator of_none (t ∷ ts) whole j = j
 
 pub joined_bitwise :
     (old new : Bench) (trees : List ExprTree) (whole : Expr) →
-    MakesJoined old new (Ok (Some whole)) BitwiseOrOp trees →
+    MakesChain old new (Ok (Some whole)) BitwiseOrOp trees →
     MakesTree old new (Ok whole) (Ok (bitwise_reduction trees))
 joined_bitwise old new [] whole j = absurd cc
 joined_bitwise old new (t ∷ ts) whole j = j
@@ -134,7 +134,7 @@ of-none old mid new made answer more built =
 pub none_logical :
     (old mid new : Bench) (operator : BinaryOp) (of_none invert : Bool) (trees : List ExprTree) (bit : Bool) (answer : Expr) →
     bit_literal bit ≡ logical_reduction operator of_none invert [] →
-    MakesJoined old mid (Ok None) operator trees →
+    MakesChain old mid (Ok None) operator trees →
     (answer ≡ next_expr mid) × (new ≡ with_expr (bit_literal bit) mid) →
     MakesTree old new (Ok answer) (Ok (logical_reduction operator of_none invert trees))
 none_logical old mid new operator of_none invert [] bit answer is j built = rw (← is) (of-none old mid new (bit_literal bit) answer j.1 built)
@@ -148,7 +148,7 @@ bit_of_none operator true true = refl
 
 pub none_bitwise :
     (old mid new : Bench) (trees : List ExprTree) (answer : Expr) →
-    MakesJoined old mid (Ok None) BitwiseOrOp trees →
+    MakesChain old mid (Ok None) BitwiseOrOp trees →
     (answer ≡ next_expr mid) × (new ≡ with_expr (LiteralTree (codes "'0") (Some (pos 0))) mid) →
     MakesTree old new (Ok answer) (Ok (bitwise_reduction trees))
 none_bitwise old mid new [] answer j built = of-none old mid new (LiteralTree (codes "'0") (Some (pos 0))) answer j.1 built

@@ -9,7 +9,7 @@ use Rattle.vast_core.specs.Bench.{Bench}
 use Rattle.xlsynth_vast.specs.declared.helpers.registers.RegisterDefinition.{RegisterDefinition}
 use Rattle.vast_core.specs.Records.{IsFree}
 use Rattle.vast_core.specs.Sound.{AreDistinct}
-use Rattle.xlsynth_vast.specs.Registers.{RegisterTree, ResetTree, has_reset_value, is_given, unless_unresettable, running_value, unreset_value, value_at_reset, value_outside_reset, given, assigned_all, block_of, active_tree, register_block, holds, settle, is_named, assigned_in, assigned, is_active, taken_outside, taken_with, taken, name_in, register_trees, TakeTheirValues, RegistersTakeTheirValues}
+use Rattle.xlsynth_vast.specs.Registers.{RegisterTree, ResetTree, has_reset_value, is_given, unless_unresettable, running_value, unreset_value, value_at_reset, value_outside_reset, given, assigned_all, block_of, active_tree, register_block, holds, settle, is_named, assigned_in, assigned, is_active, next_value_outside, next_value_with, next_value, name_in, register_trees, TakeTheirValues, RegistersTakeTheirValues}
 
 -- Names.
 
@@ -134,7 +134,7 @@ share-value v value (q ∷ rs) (suc i) r before d named e =
 
 -- One register.
 
-running : (v : ExprTree → Bool) (r : RegisterTree) (o : Option ExprTree) → r.enable ≡ o → IsTrue (is_name r.target) → settle v (running_value r) ≡ taken_outside v r
+running : (v : ExprTree → Bool) (r : RegisterTree) (o : Option ExprTree) → r.enable ≡ o → IsTrue (is_name r.target) → settle v (running_value r) ≡ next_value_outside v r
 running v r None e named = rw e refl
 running v r (Some enable) e named = rw (e, settle-name v r.target named) refl
 
@@ -158,7 +158,7 @@ none-given (q ∷ rs) (suc i) r none e = none-given rs i r (rest (has_reset_valu
 -- Without a conditional, a register that has no reset value takes what it takes outside of reset.
 alone :
     (v : ExprTree → Bool) (active : Bool) (rs : List RegisterTree) (i : ℕ) (r : RegisterTree) (o : Option ExprTree) → r.reset_value ≡ o → is_given o ≡ false → AreDistinct (names rs) → IsTrue (is_name r.target) → slice_get rs i ≡ Some r →
-    assigned_in v (name_in r.target) (block_of (assigned_all unreset_value rs ++ [])) None ≡ Some (taken_with v o active r)
+    assigned_in v (name_in r.target) (block_of (assigned_all unreset_value rs ++ [])) None ≡ Some (next_value_with v o active r)
 alone v active rs i r (Some x) is none d named e = cc
 alone v active rs i r None is none d named e =
     in-append v (name_in r.target) (assigned_all unreset_value rs) [] None
@@ -168,7 +168,7 @@ alone v active rs i r None is none d named e =
 branched :
     (v : ExprTree → Bool) (active : Bool) (rs : List RegisterTree) (i : ℕ) (r : RegisterTree) (o : Option ExprTree) → r.reset_value ≡ o → AreDistinct (names rs) → IsTrue (is_name r.target) → slice_get rs i ≡ Some r →
     (if active then assigned_in v (name_in r.target) (block_of (assigned_all value_at_reset rs)) (after v (unreset_value r) None) else assigned_in v (name_in r.target) (block_of (assigned_all value_outside_reset rs)) (after v (unreset_value r) None))
-    ≡ Some (taken_with v o active r)
+    ≡ Some (next_value_with v o active r)
 branched v true rs i r None is d named e = rw (share-value v value_at_reset rs i r (after v (unreset_value r) None) d named e, is, running v r r.enable refl named) refl
 branched v true rs i r (Some x) is d named e = rw (share-value v value_at_reset rs i r (after v (unreset_value r) None) d named e, is) refl
 branched v false rs i r None is d named e = rw (share-value v value_outside_reset rs i r (after v (unreset_value r) None) d named e, is, running v r r.enable refl named) refl
@@ -177,7 +177,7 @@ branched v false rs i r (Some x) is d named e = rw (share-value v value_outside_
 takes :
     (v : ExprTree → Bool) (reset : Option ResetTree) (rs : List RegisterTree) (any : Bool) → list_any has_reset_value rs ≡ any → unless_unresettable reset rs ≡ Ok tt →
     (i : ℕ) (r : RegisterTree) → AreDistinct (names rs) → IsTrue (is_name r.target) → slice_get rs i ≡ Some r →
-    assigned v (register_block reset rs) (name_in r.target) ≡ Some (taken v reset r)
+    assigned v (register_block reset rs) (name_in r.target) ≡ Some (next_value v reset r)
 takes v None rs true e rule i r d named there = let h = rw e at rule in cc
 takes v None rs false e rule i r d named there = alone v false rs i r r.reset_value refl (none-given rs i r e there) d named there
 takes v (Some s) rs false e rule i r d named there = rw e (alone v (is_active v (Some s)) rs i r r.reset_value refl (none-given rs i r e there) d named there)

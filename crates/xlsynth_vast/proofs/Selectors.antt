@@ -12,7 +12,7 @@ use Rattle.vast_literal.specs.declared.error.VastFault.{VastFault}
 use Rattle.vast_literal.specs.declared.error.VastFault.TheVariants.{Refused, Memory}
 use Rattle.vast_literal.specs.declared.literal.LiteralFormat.TheVariants.{Hex}
 use Rattle.vast_literal.specs.Fault.{OnlyRefusedBy}
-use Rattle.vast_literal.specs.LiteralText.{spelled}
+use Rattle.vast_literal.specs.LiteralText.{format_text}
 use Rattle.vast_literal.proofs.Decimals.{written-decimal}
 
 parts : (ds : List ℕ) → typed_parts (codes "bits[64]:" ++ ds) ≡ Some (codes "64", ds)
@@ -68,5 +68,5 @@ never_refused rule bits (Refused e) s h = cc
 never_refused rule bits (Memory e) s h = let k = rw s at h in cc
 
 -- The literal that a text denotes is one.
-pub spelled_by : (rule : Result Bits (List ℕ)) (a b : Bits) → rule ≡ Ok a → rule ≡ Ok b → spelled Hex a.width a.value ≡ spelled Hex b.width b.value
-spelled_by rule a b h k = let e : a ≡ b = cc in ap (λ (c : Bits). spelled Hex c.width c.value) e
+pub spelled_by : (rule : Result Bits (List ℕ)) (a b : Bits) → rule ≡ Ok a → rule ≡ Ok b → format_text Hex a.width a.value ≡ format_text Hex b.width b.value
+spelled_by rule a b h k = let e : a ≡ b = cc in ap (λ (c : Bits). format_text Hex c.width c.value) e

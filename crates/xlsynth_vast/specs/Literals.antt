@@ -6,7 +6,7 @@ use Rattle.vast_literal.specs.declared.literal.LiteralFormat.TheVariants.{Hex}
 use Rattle.vast_literal.specs.Tree.{ExprTree, LiteralTree, StringTree}
 use Rattle.vast_literal.specs.Literal.{Bits, literal_of}
 use Rattle.vast_literal.specs.Quoted.{quoted}
-use Rattle.vast_literal.specs.LiteralText.{taken, spelled}
+use Rattle.vast_literal.specs.LiteralText.{format_takes, format_text}
 
 -- A value that tools know is one that a signed number of 64 bits can be.
 abbrev pub known_value : ℕ → Option ℤ
@@ -14,7 +14,7 @@ known_value v = if nat_lt v (2 ^ 63) then Some (pos v) else None
 
 -- A number of a width, written in a format.
 abbrev pub formatted : LiteralFormat → Bits → ExprTree
-formatted format bits = LiteralTree (spelled format bits.width bits.value) (known_value bits.value)
+formatted format bits = LiteralTree (format_text format bits.width bits.value) (known_value bits.value)
 
 -- The number, if the format takes it.
 abbrev pub formatted_if : LiteralFormat → Bits → Result (Unit {0}) (List ℕ) → Result ExprTree (List ℕ)
@@ -22,7 +22,7 @@ formatted_if format bits (Ok _) = Ok (formatted format bits)
 formatted_if format bits (Err refusal) = Err refusal
 
 abbrev pub formatted_as : LiteralFormat → Result Bits (List ℕ) → Result ExprTree (List ℕ)
-formatted_as format (Ok bits) = formatted_if format bits (taken format bits.value)
+formatted_as format (Ok bits) = formatted_if format bits (format_takes format bits.value)
 formatted_as format (Err refusal) = Err refusal
 
 -- The literal that a text denotes, written in a format; or the refusal of the text, and then that of the format.
@@ -39,5 +39,5 @@ string_literal content = StringTree (quoted content)
 
 -- A number that selects: in decimal while every tool reads it so, above that in base 16 with a width of 64 bits.
 abbrev pub selector_text : ℤ → List ℕ
-selector_text (pos n) = if nat_le n 2147483647 then decimal n else spelled Hex 64 n
+selector_text (pos n) = if nat_le n 2147483647 then decimal n else format_text Hex 64 n
 selector_text n = signed_decimal n

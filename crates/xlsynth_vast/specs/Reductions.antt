@@ -15,8 +15,8 @@ use Rattle.vast_core.specs.Nodes.{Root}
 use Rattle.vast_core.specs.Bench.{Bench, OwnsExpr, tree_of}
 
 -- A first tree and others, joined from the left: `((a | b) | c) | d`.
-abbrev pub joined : BinaryOp → ExprTree → List ExprTree → ExprTree
-joined operator first others = fold (λ whole next. BinaryTree operator whole next) first others
+abbrev pub chain : BinaryOp → ExprTree → List ExprTree → ExprTree
+chain operator first others = fold (λ whole next. BinaryTree operator whole next) first others
 
 -- The literal of one bit.
 abbrev pub bit_literal : Bool → ExprTree
@@ -27,13 +27,13 @@ bit_literal true = LiteralTree (codes "1'h1") (Some (pos 1))
 abbrev pub logical_reduction : (operator : BinaryOp) (of_none invert : Bool) → List ExprTree → ExprTree
 logical_reduction operator of_none false [] = bit_literal of_none
 logical_reduction operator of_none true [] = bit_literal (not of_none)
-logical_reduction operator of_none false (t ∷ ts) = joined operator t ts
-logical_reduction operator of_none true (t ∷ ts) = UnaryTree LogicalNotOp (joined operator t ts)
+logical_reduction operator of_none false (t ∷ ts) = chain operator t ts
+logical_reduction operator of_none true (t ∷ ts) = UnaryTree LogicalNotOp (chain operator t ts)
 
 -- No trees stand for a zero of any width.
 abbrev pub bitwise_reduction : List ExprTree → ExprTree
 bitwise_reduction [] = LiteralTree (codes "'0") (Some (pos 0))
-bitwise_reduction (t ∷ ts) = joined BitwiseOrOp t ts
+bitwise_reduction (t ∷ ts) = chain BitwiseOrOp t ts
 
 -- The file has these nodes more, and all else is as it was.
 abbrev pub with_nodes : List Root → Bench → Bench
@@ -55,14 +55,14 @@ MakesTree old new (Err (Refused e)) rule = (rule ≡ Err (string_bytes e.0)) × 
 MakesTree old new (Err (Memory e)) rule = HasMoreNodes old new
 
 -- The same of trees that are joined, if there are any.
-abbrev pub IsJoined : Bench → Option Expr → BinaryOp → List ExprTree → Type 0
-IsJoined b e operator [] = e ≡ None
-IsJoined b None operator (t ∷ ts) = ⊥
-IsJoined b (Some e) operator (t ∷ ts) = IsTree b e (joined operator t ts)
+abbrev pub IsChain : Bench → Option Expr → BinaryOp → List ExprTree → Type 0
+IsChain b e operator [] = e ≡ None
+IsChain b None operator (t ∷ ts) = ⊥
+IsChain b (Some e) operator (t ∷ ts) = IsTree b e (chain operator t ts)
 
-abbrev pub MakesJoined : (old new : Bench) → Result (Option Expr) AllocError → BinaryOp → List ExprTree → Type 0
-MakesJoined old new (Ok e) operator trees = IsJoined new e operator trees × HasMoreNodes old new
-MakesJoined old new (Err e) operator trees = HasMoreNodes old new
+abbrev pub MakesChain : (old new : Bench) → Result (Option Expr) AllocError → BinaryOp → List ExprTree → Type 0
+MakesChain old new (Ok e) operator trees = IsChain new e operator trees × HasMoreNodes old new
+MakesChain old new (Err e) operator trees = HasMoreNodes old new
 
 -- A helper's steps: a list with expressions of these trees more, and a list of expressions of these trees.
 abbrev pub AddsTrees : (old new : Bench) → Result (Unit {0}) AllocError → (before after : List Expr) → List ExprTree → Type 0

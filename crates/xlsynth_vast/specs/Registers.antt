@@ -156,16 +156,16 @@ abbrev pub is_enabled : (ExprTree → Bool) → Option ExprTree → Bool
 is_enabled v None = true
 is_enabled v (Some enable) = holds v enable
 
-abbrev pub taken_outside : (ExprTree → Bool) → RegisterTree → ExprTree
-taken_outside v r = if is_enabled v r.enable then settle v r.next else r.target
+abbrev pub next_value_outside : (ExprTree → Bool) → RegisterTree → ExprTree
+next_value_outside v r = if is_enabled v r.enable then settle v r.next else r.target
 
-abbrev pub taken_with : (ExprTree → Bool) → Option ExprTree → (active : Bool) → RegisterTree → ExprTree
-taken_with v (Some value) true r = settle v value
-taken_with v (Some value) false r = taken_outside v r
-taken_with v None active r = taken_outside v r
+abbrev pub next_value_with : (ExprTree → Bool) → Option ExprTree → (active : Bool) → RegisterTree → ExprTree
+next_value_with v (Some value) true r = settle v value
+next_value_with v (Some value) false r = next_value_outside v r
+next_value_with v None active r = next_value_outside v r
 
-abbrev pub taken : (ExprTree → Bool) → Option ResetTree → RegisterTree → ExprTree
-taken v reset r = taken_with v r.reset_value (is_active v reset) r
+abbrev pub next_value : (ExprTree → Bool) → Option ResetTree → RegisterTree → ExprTree
+next_value v reset r = next_value_with v r.reset_value (is_active v reset) r
 
 abbrev pub name_in : ExprTree → List ℕ
 name_in (NameTree name type) = name
@@ -180,7 +180,7 @@ pub record AreDistinctRegisters (registers : List RegisterTree) : Type 0 where
 abbrev pub TakeTheirValues : Option ResetTree → List RegisterTree → Type 0
 TakeTheirValues reset registers =
     AreDistinctRegisters registers → (v : ExprTree → Bool) (i : ℕ) (r : RegisterTree) → slice_get registers i ≡ Some r →
-    assigned v (register_block reset registers) (name_in r.target) ≡ Some (taken v reset r)
+    assigned v (register_block reset registers) (name_in r.target) ≡ Some (next_value v reset r)
 
 abbrev pub RegistersTakeTheirValues : Type 0
 RegistersTakeTheirValues = (reset : Option ResetTree) (registers : List RegisterTree) → unless_unresettable reset registers ≡ Ok tt → TakeTheirValues reset registers

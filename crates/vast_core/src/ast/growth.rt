@@ -333,12 +333,12 @@ fn enter(
     }
 }
 
-/// The spare block, unless it is taken.
+/// The spare block, unless it is used.
 #[inline(always)]
-fn spare_left(taken: bool, spare: Option<VastStatementBlock>) -> Option<VastStatementBlock>
-    ensures { result ≡ spare_left taken spare }
+fn spare_left(used: bool, spare: Option<VastStatementBlock>) -> Option<VastStatementBlock>
+    ensures { result ≡ spare_left used spare }
 {
-    if taken { None } else { spare }
+    if used { None } else { spare }
 }
 
 impl Ast {

@@ -32,15 +32,15 @@ impl Ast {
         scope: Scope,
         name: &str,
         start: Expr,
-        limit: Expr,
+        end: Expr,
         label: Option<String>,
     ) -> Result<GenerateLoop, AllocError>
         requires scope { OwnsScope (bench self.old) scope }
         requires start { OwnsExpr (bench self.old) start }
-        requires limit { OwnsExpr (bench self.old) limit }
+        requires end { OwnsExpr (bench self.old) end }
         ensures { Builds self.old self.new result next_loop
             (λ b. with_scope_member scope (LoopEntry (next_loop b))
-            (with_loop name.now start limit (label_bytes label) b)) }
+            (with_loop name.now start end (label_bytes label) b)) }
     {
         let variable = String::from_str(self.alloc, name)?;
         let name = String::from_str(self.alloc, name)?;
@@ -54,7 +54,7 @@ impl Ast {
             genvar,
             name,
             start,
-            limit,
+            end,
             label,
             members: Vec::new(self.alloc),
         };
@@ -79,11 +79,11 @@ impl Ast {
         ensures tree { families (bench self.now) (loop_index l)
             ≡ LoopFamily
             (LoopMember (string_bytes result.now.name) (tree_of (bench self.now) result.now.start)
-            (tree_of (bench self.now) result.now.limit) (label_bytes result.now.label)
+            (tree_of (bench self.now) result.now.end) (label_bytes result.now.label)
             (members_tree (bench self.now) (map member_entry result.now.members.items))) }
         ensures genvar { OwnsLogicRef (bench self.now) result.now.genvar }
         ensures start { OwnsExpr (bench self.now) result.now.start }
-        ensures limit { OwnsExpr (bench self.now) result.now.limit }
+        ensures end { OwnsExpr (bench self.now) result.now.end }
         ensures members { All
             (λ m. LoopMemberSound (bench self.now) (loop_index l) (member_entry m))
             result.now.members.items }

@@ -4,7 +4,7 @@ ghost use Rattle.std.specs.Prelude.{IfOk};
 ghost use Rattle.vast_core.specs.Bench.{OwnsExpr};
 ghost use Rattle.vast_core.specs.View.{bench};
 
-use crate::arguments::{Arguments, Taken};
+use crate::arguments::{Arguments, FromArguments};
 use crate::handles::{handle, handles};
 use crate::problem::Problem;
 use crate::questions::registers::{RegisterNumbers, ResetNumbers, add_registers};

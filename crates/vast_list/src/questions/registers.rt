@@ -5,7 +5,7 @@ ghost use Rattle.vast_core.specs.Bench.{OwnsExpr};
 ghost use Rattle.vast_core.specs.View.{bench};
 ghost use Rattle.xlsynth_vast.specs.Registers.{OwnsRegister, OwnsReset, OwnsScope};
 
-use crate::arguments::{Arguments, Taken};
+use crate::arguments::{Arguments, FromArguments};
 use crate::handles::handle;
 use crate::problem::Problem;
 use crate::refusal::Refusal;
@@ -29,7 +29,7 @@ pub(crate) struct RegisterNumbers {
     enable: Option<usize>,
 }
 
-impl Taken for ResetNumbers {
+impl FromArguments for ResetNumbers {
     fn take(arguments: &mut Arguments<'_>) -> Result<ResetNumbers, Problem> {
         arguments.open()?;
         let signal = usize::take(arguments)?;
@@ -39,13 +39,13 @@ impl Taken for ResetNumbers {
     }
 }
 
-impl Taken for RegisterNumbers {
+impl FromArguments for RegisterNumbers {
     fn take(arguments: &mut Arguments<'_>) -> Result<RegisterNumbers, Problem> {
         arguments.open()?;
         let reg = usize::take(arguments)?;
         let next = usize::take(arguments)?;
-        let reset_value = <Option<usize> as Taken>::take(arguments)?;
-        let enable = <Option<usize> as Taken>::take(arguments)?;
+        let reset_value = <Option<usize> as FromArguments>::take(arguments)?;
+        let enable = <Option<usize> as FromArguments>::take(arguments)?;
         arguments.close()?;
         Ok(RegisterNumbers {
             reg,

@@ -2,7 +2,7 @@
 
 ghost use Rattle.std.specs.Prelude.{◌≡◌, Ok, MatchResult};
 ghost use Rattle.vast_literal.specs.Fault.{HasText, OnlyRefusedBy};
-ghost use Rattle.vast_literal.specs.LiteralText.{limit_text, limited, taken};
+ghost use Rattle.vast_literal.specs.LiteralText.{above_limit_text, within_limit, format_takes};
 
 use crate::refusal::refusal;
 use crate::{LiteralFormat, VastFault};
@@ -15,18 +15,18 @@ const MOST_DECIMAL: u128 = 2_147_483_647;
 const MOST_BASED: u128 = 4_294_967_295;
 
 /// The refusal of a number above a limit.
-#[tactic(auto, unfolding(crate::specs::LiteralText::limit_text))]
+#[tactic(auto, unfolding(crate::specs::LiteralText::above_limit_text))]
 fn refuse_number(alloc: Global, kind: &str, most: u128, value: u128) -> VastFault
-    ensures { HasText result (limit_text kind.now most value) }
+    ensures { HasText result (above_limit_text kind.now most value) }
 {
     refusal(format!(in alloc; "unsized {kind} literal magnitude {value} exceeds maximum {most}"))
 }
 
 /// Refuses a number above a limit.
-#[tactic(auto, unfolding(crate::specs::LiteralText::limited))]
-fn limit(alloc: Global, kind: &str, most: u128, value: u128) -> Result<(), VastFault>
-    ensures { MatchResult result (λ _. limited kind.now most value ≡ Ok tt)
-        (OnlyRefusedBy (limited kind.now most value)) }
+#[tactic(auto, unfolding(crate::specs::LiteralText::within_limit))]
+fn within_limit(alloc: Global, kind: &str, most: u128, value: u128) -> Result<(), VastFault>
+    ensures { MatchResult result (λ _. within_limit kind.now most value ≡ Ok tt)
+        (OnlyRefusedBy (within_limit kind.now most value)) }
 {
     if value <= most {
         return Ok(());
@@ -36,13 +36,13 @@ fn limit(alloc: Global, kind: &str, most: u128, value: u128) -> Result<(), VastF
 
 /// Refuses a number above the limit of a format.
 pub fn validate(alloc: Global, format: LiteralFormat, value: u128) -> Result<(), VastFault>
-    ensures { MatchResult result (λ _. taken format value ≡ Ok tt)
-        (OnlyRefusedBy (taken format value)) }
+    ensures { MatchResult result (λ _. format_takes format value ≡ Ok tt)
+        (OnlyRefusedBy (format_takes format value)) }
 {
     match format {
-        LiteralFormat::UnsizedBinary => limit(alloc, "binary", MOST_BASED, value),
-        LiteralFormat::UnsizedDecimal => limit(alloc, "decimal", MOST_DECIMAL, value),
-        LiteralFormat::UnsizedHex => limit(alloc, "hexadecimal", MOST_BASED, value),
+        LiteralFormat::UnsizedBinary => within_limit(alloc, "binary", MOST_BASED, value),
+        LiteralFormat::UnsizedDecimal => within_limit(alloc, "decimal", MOST_DECIMAL, value),
+        LiteralFormat::UnsizedHex => within_limit(alloc, "hexadecimal", MOST_BASED, value),
         LiteralFormat::Binary
         | LiteralFormat::Hex
         | LiteralFormat::SignedDecimal

@@ -2,7 +2,7 @@
 
 ghost use Rattle.std.specs.Prelude.{◌≡◌, ◌^◌, ◌<◌, ◌≤◌, ◌-◌, ◌++◌, codes, IfOk, string_bytes};
 ghost use Rattle.std.specs.Fmt.{decimal};
-ghost use Rattle.vast_literal.specs.LiteralText.{padded_count, is_below_half, sized, signed_text, spelled};
+ghost use Rattle.vast_literal.specs.LiteralText.{padded_count, is_below_half, sized, signed_text, format_text};
 ghost use Rattle.vast_literal.specs.Digits.{characters, grouped, lowest_digits, digit_count};
 
 use crate::LiteralFormat;
@@ -111,7 +111,7 @@ fn unsized_hex(alloc: Global, value: u128) -> Result<String, AllocError>
 }
 
 /// The text of a number of a width in a format.
-#[tactic(auto, unfolding(crate::specs::LiteralText::spelled))]
+#[tactic(auto, unfolding(crate::specs::LiteralText::format_text))]
 pub fn literal_text(
     alloc: Global,
     format: LiteralFormat,
@@ -121,7 +121,7 @@ pub fn literal_text(
     requires positive { 1 ≤ width }
     requires narrow { width ≤ 1048576 }
     requires fits { value < 2 ^ width }
-    ensures { IfOk result (λ text. string_bytes text ≡ spelled format width value) }
+    ensures { IfOk result (λ text. string_bytes text ≡ format_text format width value) }
 {
     match format {
         LiteralFormat::Binary => padded_text(alloc, "'b", 1, width, value),

@@ -29,10 +29,10 @@ pub generate_loop::print_loop-loop-member-init : goal.generate_loop::print_loop-
 generate_loop::print_loop-loop-member-init t c =
     let n = c.generate_loop-node.result.now in
     let b = bench c.args.ast.now in
-    grind (arith, hang-held-loop b c.args.depth (Wet c.args.out.now) b.file_type (loop_index c.args.l) (string_bytes n.name) (tree_of b n.start) (tree_of b n.limit) (label_bytes n.label) (members_tree b (map member_entry n.members.items)) c.generate_loop-node.ensures.tree)
+    grind (arith, hang-held-loop b c.args.depth (Wet c.args.out.now) b.file_type (loop_index c.args.l) (string_bytes n.name) (tree_of b n.start) (tree_of b n.end) (label_bytes n.label) (members_tree b (map member_entry n.members.items)) c.generate_loop-node.ensures.tree)
 
 pub generate_loop::print_loop-returns-in_err-print_header : goal.generate_loop::print_loop-returns-in_err-print_header
 generate_loop::print_loop-returns-in_err-print_header t c =
     let n = c.generate_loop-node.result.now in
     let b = bench c.args.ast.now in
-    grind (arith, stops, hang-held-loop b c.args.depth (Wet c.args.out.now) b.file_type (loop_index c.args.l) (string_bytes n.name) (tree_of b n.start) (tree_of b n.limit) (label_bytes n.label) (members_tree b (map member_entry n.members.items)) c.generate_loop-node.ensures.tree)
+    grind (arith, stops, hang-held-loop b c.args.depth (Wet c.args.out.now) b.file_type (loop_index c.args.l) (string_bytes n.name) (tree_of b n.start) (tree_of b n.end) (label_bytes n.label) (members_tree b (map member_entry n.members.items)) c.generate_loop-node.ensures.tree)

@@ -3,7 +3,7 @@
 ghost use Rattle.std.specs.Prelude.{◌≡◌, ℕ, ◌≤◌, length};
 ghost use Rattle.vast_literal.specs.Tokens.{Comma, CloseBrace, CloseParen};
 ghost use Rattle.vast_literal.specs.NormalExpr.{Name, Call, Cast};
-ghost use Rattle.vast_literal.specs.Parser.{after, lead, enclosed, arguments, list_on, word_on, number_on, macro_on, brace_on, selected, primary, applied, cast};
+ghost use Rattle.vast_literal.specs.Parser.{after, lead, enclosed_at, arguments, list_on, word_on, number_on, macro_on, brace_on, selected_at, primary, applied_at, cast};
 ghost use Rattle.vast_literal.specs.Settled.{settled};
 ghost use Rattle.vast_read.specs.Steps.{one_select, select_end, part_at, in_parens, choice_at, package_at, replicated_at, concat_at, system_at, pattern_at, grouped, key_cast, marked_at};
 ghost use Rattle.vast_read.specs.Answers.{Reads, ReadsList};
@@ -79,7 +79,7 @@ impl<'t> Reader<'t> {
     #[cycle(expressions)]
     #[tactic(auto, using(crate::proofs::Laws::selections))]
     pub(crate) fn selected(&mut self) -> Result<NormalExpr, Fault>
-        ensures reads { Reads result self.new (selected settled self.old) }
+        ensures reads { Reads result self.new (selected_at settled self.old) }
         ensures fewer { length self.new ≤ length self.old }
     {
         let mut subject = self.primary()?;
@@ -141,7 +141,7 @@ impl<'t> Reader<'t> {
     #[cycle(expressions)]
     #[tactic(auto, using(crate::proofs::Laws::enclosures))]
     pub(crate) fn enclosed(&mut self, close: Mark) -> Result<NormalExpr, Fault>
-        ensures reads { Reads result self.new (enclosed settled (mark_view close) self.old) }
+        ensures reads { Reads result self.new (enclosed_at settled (mark_view close) self.old) }
         ensures fewer { length self.new ≤ length self.old }
     {
         let inner = self.expression()?;

@@ -1,4 +1,4 @@
-//! Comparisons, logical signs and the choice between two expressions.
+//! Comparisons, logical operators and the choice between two expressions.
 
 ghost use Rattle.std.specs.Prelude.{◌≡◌};
 ghost use Rattle.vast_literal.specs.declared.operator.BinaryOperator.TheVariants.{Ne as NeOp, CaseNe as CaseNeOp, Eq as EqOp, CaseEq as CaseEqOp, Ge as GeOp, Gt as GtOp, Le as LeOp, Lt as LtOp, LogicalAnd as LogicalAndOp, LogicalOr as LogicalOrOp, NeX as NeXOp, EqX as EqXOp};

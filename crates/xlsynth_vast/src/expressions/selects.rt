@@ -1,7 +1,7 @@
 //! Selects: single bits and ranges of an expression.
 
 ghost use Rattle.std.specs.Prelude.{◌≡◌, ◌≤ℤ◌, pos, IfOk, IsTrue, string_bytes};
-ghost use Rattle.vast_literal.specs.LiteralText.{spelled};
+ghost use Rattle.vast_literal.specs.LiteralText.{format_text};
 ghost use Rattle.vast_literal.specs.LiteralToken.{is_literal_text};
 ghost use Rattle.vast_core.specs.Handles.{expr_to_indexable_expr};
 ghost use Rattle.vast_core.specs.Bench.{OwnsExpr, OwnsIndexable};
@@ -137,7 +137,7 @@ fn selector_text(alloc: Global, index: i64) -> Result<String, AllocError>
 
 /// The number in base 16 with a width of 64 bits.
 fn wide_text(alloc: Global, number: u64) -> Result<String, AllocError>
-    ensures text { IfOk result (λ text. string_bytes text ≡ spelled LiteralFormat.Hex 64 number) }
+    ensures text { IfOk result (λ text. string_bytes text ≡ format_text LiteralFormat.Hex 64 number) }
     ensures token { IfOk result (λ text. IsTrue (is_literal_text (string_bytes text))) }
 {
     let text = format!(in alloc; "bits[64]:{number}")?;

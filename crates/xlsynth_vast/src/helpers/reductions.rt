@@ -8,7 +8,7 @@ ghost use Rattle.vast_core.specs.FileTree.{tree};
 ghost use Rattle.vast_core.specs.Growth.{Builds, next_expr, with_expr};
 ghost use Rattle.vast_core.specs.View.{bench};
 ghost use Rattle.xlsynth_vast.specs.Expressions.{with_binary};
-ghost use Rattle.xlsynth_vast.specs.Reductions.{MakesTree, MakesJoined, bit_literal, logical_reduction, bitwise_reduction};
+ghost use Rattle.xlsynth_vast.specs.Reductions.{MakesTree, MakesChain, bit_literal, logical_reduction, bitwise_reduction};
 
 use crate::file::VastFile;
 use crate::helpers::records_are_sound;
@@ -17,7 +17,7 @@ use vast_core::{Expr, ExprNode};
 use vast_literal::VastFault;
 
 /// The values joined from the left by a call that makes an expression of two; `None` where there are no values.
-fn joined<F>(values: &[Expr], mut join: F, file: &mut VastFile) -> Result<Option<Expr>, AllocError>
+fn join_all<F>(values: &[Expr], mut join: F, file: &mut VastFile) -> Result<Option<Expr>, AllocError>
 where
     F: FnMut(&mut VastFile, &Expr, &Expr) -> Result<Expr, AllocError>,
     ghost operator: { BinaryOp }
@@ -27,7 +27,7 @@ where
         → F.step state f a b r g next
         → Builds f.now g.now r next_expr (with_binary operator a.now b.now) }
     requires owned { All (OwnsExpr (bench file.old)) values.now }
-    ensures { MakesJoined (bench file.old) (bench file.new) result operator
+    ensures { MakesChain (bench file.old) (bench file.new) result operator
         (map (tree_of (bench file.old)) values.now) }
 {
     let Some((first, rest)) = values.split_first() else {
@@ -74,7 +74,7 @@ where
     ensures { MakesTree (bench file.old) (bench file.new) result
         (Ok (logical_reduction operator of_none invert (map (tree_of (bench file.old)) values.now))) }
 {
-    match joined(values, join, file)? {
+    match join_all(values, join, file)? {
         Some(whole) if invert => Ok(file.make_logical_not(&whole)?),
         Some(whole) => Ok(whole),
         None => Ok(make_bit(of_none != invert, file)?),
@@ -88,7 +88,7 @@ pub(crate) fn bitwise_reduced(values: &[Expr], file: &mut VastFile) -> Result<Ex
     ensures { MakesTree (bench file.old) (bench file.new) result
         (Ok (bitwise_reduction (map (tree_of (bench file.old)) values.now))) }
 {
-    match joined(values, VastFile::make_bitwise_or, file)? {
+    match join_all(values, VastFile::make_bitwise_or, file)? {
         Some(whole) => Ok(whole),
         None => Ok(file.make_unsized_zero_literal()?),
     }

@@ -10,8 +10,8 @@ loop-dimension-preserved c =
     let x : ℤ = get_or c.args.dimensions.now c.loop-dimension.dimension-index (pos 0) in
     grind (arith, packed-step c.args.depth (Wet c.loop-dimension.out) c.args.dimensions.now c.loop-dimension.dimension-index x c.loop-dimension-test.true (get_or_default c.args.dimensions.now c.loop-dimension.dimension-index (pos 0) x c.loop-dimension-test.true))
 
-pub returns-in_err-print_limit : goal.returns-in_err-print_limit
-returns-in_err-print_limit c =
+pub returns-in_err-print_highest_index : goal.returns-in_err-print_highest_index
+returns-in_err-print_highest_index c =
     let x : ℤ = get_or c.args.dimensions.now c.loop-dimension.dimension-index (pos 0) in
     grind (arith, stops, packed-step c.args.depth (Wet c.loop-dimension.out) c.args.dimensions.now c.loop-dimension.dimension-index x c.loop-dimension-test.true (get_or_default c.args.dimensions.now c.loop-dimension.dimension-index (pos 0) x c.loop-dimension-test.true))
 

@@ -2,5 +2,5 @@ use Rattle.vast_literal.specs.declared.operator.BinaryOperator.TheVariants.{Bitw
 use Rattle.xlsynth_vast.proofs.helpers.reductions.bitwise_reduced.Given as goal
 
 -- The operator that joins.
-abbrev pub ghost-joined : goal.ghost-joined
-ghost-joined a = BitwiseOrOp
+abbrev pub ghost-join_all : goal.ghost-join_all
+ghost-join_all a = BitwiseOrOp

@@ -1,6 +1,6 @@
 //! What may stand as an argument.
 
-use crate::arguments::{Arguments, Taken};
+use crate::arguments::{Arguments, FromArguments};
 use crate::problem::Problem;
 use std::str::FromStr;
 use xlsynth_vast::{DataKind, LiteralFormat};
@@ -37,7 +37,7 @@ pub(crate) fn is_name(word: &str) -> bool {
 }
 
 /// The number of a step, or the name of one.
-impl Taken for usize {
+impl FromArguments for usize {
     fn take(arguments: &mut Arguments<'_>) -> Result<usize, Problem> {
         let word = arguments.word()?;
         if is_name(word) {
@@ -48,19 +48,19 @@ impl Taken for usize {
     }
 }
 
-impl Taken for i64 {
+impl FromArguments for i64 {
     fn take(arguments: &mut Arguments<'_>) -> Result<i64, Problem> {
         number(arguments.word()?)
     }
 }
 
-impl Taken for i32 {
+impl FromArguments for i32 {
     fn take(arguments: &mut Arguments<'_>) -> Result<i32, Problem> {
         number(arguments.word()?)
     }
 }
 
-impl Taken for bool {
+impl FromArguments for bool {
     fn take(arguments: &mut Arguments<'_>) -> Result<bool, Problem> {
         match arguments.word()? {
             "true" => Ok(true),
@@ -70,13 +70,13 @@ impl Taken for bool {
     }
 }
 
-impl Taken for String {
+impl FromArguments for String {
     fn take(arguments: &mut Arguments<'_>) -> Result<String, Problem> {
         arguments.text()
     }
 }
 
-impl<T: Taken> Taken for Vec<T> {
+impl<T: FromArguments> FromArguments for Vec<T> {
     fn take(arguments: &mut Arguments<'_>) -> Result<Vec<T>, Problem> {
         arguments.open()?;
         let mut items = Vec::new(arguments.allocator());
@@ -91,7 +91,7 @@ impl<T: Taken> Taken for Vec<T> {
     }
 }
 
-impl<T: Taken> Taken for Option<T> {
+impl<T: FromArguments> FromArguments for Option<T> {
     fn take(arguments: &mut Arguments<'_>) -> Result<Option<T>, Problem> {
         if arguments.skip("-") {
             return Ok(None);
@@ -103,7 +103,7 @@ impl<T: Taken> Taken for Option<T> {
     }
 }
 
-impl Taken for LiteralFormat {
+impl FromArguments for LiteralFormat {
     fn take(arguments: &mut Arguments<'_>) -> Result<LiteralFormat, Problem> {
         match arguments.word()? {
             "Binary" => Ok(LiteralFormat::Binary),
@@ -118,7 +118,7 @@ impl Taken for LiteralFormat {
     }
 }
 
-impl Taken for DataKind {
+impl FromArguments for DataKind {
     fn take(arguments: &mut Arguments<'_>) -> Result<DataKind, Problem> {
         match arguments.word()? {
             "Reg" => Ok(DataKind::Reg),

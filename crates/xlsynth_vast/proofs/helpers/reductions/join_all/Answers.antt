@@ -2,7 +2,7 @@ use Rattle.std.proofs.Common.{Ok, get_or}
 use Rattle.std.proofs.lemmas.List.{get_or_default}
 use Rattle.vast_core.specs.declared.handle.Expr.{Expr}
 use Rattle.xlsynth_vast.proofs.Reduced.{value_owned, joining-step}
-use Rattle.xlsynth_vast.proofs.helpers.reductions.joined.Goals as goal
+use Rattle.xlsynth_vast.proofs.helpers.reductions.join_all.Goals as goal
 
 abbrev none : Expr
 none = record { id = record { file_id = 0; index = 0 } }
