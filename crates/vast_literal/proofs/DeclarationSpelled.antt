@@ -7,11 +7,11 @@ use Rattle.vast_literal.specs.NormalExpr.{scalar_sign, integer_sign, normal}
 use Rattle.vast_literal.specs.Grammar.{Spells, binary, number}
 use Rattle.vast_literal.specs.FileGrammar.{IsMany, no_items, more_items, is_kind, is_sign, IsGroup, one, range, IsMaybe, absent, present, IsTypeName, no_type, own_type, packaged, IsDeclaration, declares}
 use Rattle.vast_literal.specs.Plain.{is_plain_name, is_plain, is_plain_type, is_edgeless, is_edgeless_type}
-use Rattle.vast_literal.specs.Shape.{starts_with_minus, highest_index_wraps, base_of, port_kind}
+use Rattle.vast_literal.specs.Shape.{starts_with_minus, highest_index_wraps, base_of, packed_dimensions, unpacked_dimensions, port_kind}
 use Rattle.vast_literal.specs.ExprTokens.{expr_tokens}
 use Rattle.vast_literal.specs.WellFormed.{is_well_formed, is_well_formed_type}
-use Rattle.vast_literal.specs.NormalTree.{kind_key, package_of, type_name_of, sign_of, number_expr, zero_expr, highest_index_expr, vector_groups, packed_ranges, packed_groups, unpacked_group, unpacked_ranges, unpacked_groups, normal_declaration, normal_declared, normal_port_declaration}
-use Rattle.vast_literal.specs.FileTokens.{maybe_tokens, type_name_tokens, number_tokens, zero_tokens, highest_index_tokens, vector_tokens, packed_range_tokens, packed_tokens, unpacked_dimension_tokens, unpacked_range_tokens, unpacked_tokens, declaration_tokens, declared_tokens, port_declaration_tokens}
+use Rattle.vast_literal.specs.NormalTree.{kind_key, package_of, type_name_of, sign_of, number_expr, zero_expr, highest_index_expr, vector_groups, packed_groups, unpacked_group, unpacked_groups, normal_declaration, normal_declared, normal_port_declaration}
+use Rattle.vast_literal.specs.FileTokens.{maybe_tokens, type_name_tokens, number_tokens, zero_tokens, highest_index_tokens, vector_tokens, packed_tokens, unpacked_dimension_tokens, unpacked_tokens, declaration_tokens, declared_tokens, port_declaration_tokens}
 use Rattle.vast_literal.specs.PlainFile.{is_plain_value, is_left_side, is_plain_declaration, is_plain_declared}
 use Rattle.vast_literal.proofs.ScanLaws.{and_left, and_right}
 use Rattle.vast_literal.proofs.Sound.{lower}
@@ -62,32 +62,20 @@ unfolding vector_tokens vector_groups
 vector_spelled (VectorTree w v signed) l f = many_one (range (highest_index_spelled w v l f) zero_spelled)
 vector_spelled _ l f = no_items
 
-packed_range_spelled : (ds : List ℤ) → IsMany IsGroup (packed_range_tokens ds) (packed_ranges ds)
-unfolding packed_range_tokens packed_ranges
-packed_range_spelled [] = no_items
-packed_range_spelled (d ∷ ds) = more_items (range (number_spelled (d -ℤ pos 1)) zero_spelled) (packed_range_spelled ds)
-
-packed_spelled : (t : TypeTree) → IsMany IsGroup (packed_tokens t) (packed_groups t)
+packed_spelled : (ds : List ℤ) → IsMany IsGroup (packed_tokens ds) (packed_groups ds)
 unfolding packed_tokens packed_groups
-packed_spelled (PackedTree t ds) = many_append (packed_range_spelled ds) (packed_spelled t)
-packed_spelled (UnpackedTree t ds) = packed_spelled t
-packed_spelled _ = no_items
+packed_spelled [] = no_items
+packed_spelled (d ∷ ds) = more_items (range (number_spelled (d -ℤ pos 1)) zero_spelled) (packed_spelled ds)
 
 dimension_spelled : (dialect : Dialect) (d : ℤ) → IsGroup (unpacked_dimension_tokens dialect d) (unpacked_group dialect d)
 unfolding unpacked_dimension_tokens unpacked_group
 dimension_spelled SystemVerilogDialect d = one (number_spelled d)
 dimension_spelled VerilogDialect d = range zero_spelled (number_spelled (d -ℤ pos 1))
 
-unpacked_range_spelled : (dialect : Dialect) (ds : List ℤ) → IsMany IsGroup (unpacked_range_tokens dialect ds) (unpacked_ranges dialect ds)
-unfolding unpacked_range_tokens unpacked_ranges
-unpacked_range_spelled dialect [] = no_items
-unpacked_range_spelled dialect (d ∷ ds) = more_items (dimension_spelled dialect d) (unpacked_range_spelled dialect ds)
-
-unpacked_spelled : (dialect : Dialect) (t : TypeTree) → IsMany IsGroup (unpacked_tokens dialect t) (unpacked_groups dialect t)
+unpacked_spelled : (dialect : Dialect) (ds : List ℤ) → IsMany IsGroup (unpacked_tokens dialect ds) (unpacked_groups dialect ds)
 unfolding unpacked_tokens unpacked_groups
-unpacked_spelled dialect (UnpackedTree t ds) = many_append (unpacked_range_spelled dialect ds) (unpacked_spelled dialect t)
-unpacked_spelled dialect (PackedTree t ds) = unpacked_spelled dialect t
-unpacked_spelled dialect _ = no_items
+unpacked_spelled dialect [] = no_items
+unpacked_spelled dialect (d ∷ ds) = more_items (dimension_spelled dialect d) (unpacked_spelled dialect ds)
 
 -- declarations
 
@@ -139,7 +127,7 @@ sign_spelled _ = absent
 -- The tokens of a declaration spell its written parts.
 pub declaration_spelled : (dialect : Dialect) (kind : Kind) (t : TypeTree) (n : List ℕ) → is_edgeless_type t ≡ true → is_well_formed_type t ≡ true → IsDeclaration (declaration_tokens dialect kind t n) (normal_declaration dialect kind t n)
 unfolding declaration_tokens normal_declaration
-declaration_spelled dialect kind t n l f = declares n (kind_spelled kind) (type_spelled (base_of t)) (sign_spelled (base_of t)) (many_append (packed_spelled t) (vector_spelled (base_of t) (base_edgeless t l) (base_formed t f))) (unpacked_spelled dialect t)
+declaration_spelled dialect kind t n l f = declares n (kind_spelled kind) (type_spelled (base_of t)) (sign_spelled (base_of t)) (many_append (packed_spelled (packed_dimensions t)) (vector_spelled (base_of t) (base_edgeless t l) (base_formed t f))) (unpacked_spelled dialect (unpacked_dimensions t))
 
 plain_edgeless : (t : TypeTree) (n : List ℕ) → is_plain_declaration t n ≡ true → is_edgeless_type t ≡ true
 plain_edgeless t n p = and_right (is_plain_type t) (is_edgeless_type t) (and_right (is_plain_name n) (is_plain_type t && is_edgeless_type t) p)

@@ -4,13 +4,13 @@ use Rattle.std.specs.Fmt.{signed_decimal}
 use Rattle.vast_literal.specs.Tokens.{Less, LessEqual, Plus, Minus, Key, IfKey, ElseKey, EndCaseKey, DefaultKey, UniqueKey, BeginKey, EndKey, AssignKey, IntKey, GenvarKey, ModuleKey, EndModuleKey, ParameterKey, AlwaysCombKey, AlwaysFFKey, AlwaysKey, OrKey, FunctionKey, AutomaticKey, EndFunctionKey, InputKey, ForKey}
 use Rattle.vast_literal.specs.Tokens.{OpenParen, CloseParen, OpenBracket, CloseBracket, Comma, Colon, Semicolon, Dot, Hash, At, DoubleColon, Assign, Token, Reserved, Word, MacroWord, Number, Quoted, Operator, Mark}
 use Rattle.vast_literal.specs.Tree.{Dialect, VerilogDialect, SystemVerilogDialect, ExprTree, Exprs, NoExprs, MoreExprs, MaybeExpr, NoExpr, SomeExpr, MaybeType, Untyped, Typed}
-use Rattle.vast_literal.specs.Tree.{LtOp, TypeTree, VectorTree, ExternalTree, PackageTree, PackedTree, UnpackedTree, Kind, Declaration}
+use Rattle.vast_literal.specs.Tree.{LtOp, TypeTree, VectorTree, ExternalTree, PackageTree, Kind, Declaration}
 use Rattle.vast_literal.specs.Tree.{AssignForm, Blocking, Nonblocking, Continuous, CaseWord, StatementTree, AssignTree, CommentTree, BlankTree, InlineTree, ConditionalTree, CaseTree, Statements, NoStatements, MoreStatements, Alternates, NoElse, ElseIf, Else, CaseArms, NoCaseArms, CaseArm}
 use Rattle.vast_literal.specs.Tree.{AlwaysWord, AlwaysFFWord, AlwaysAtWord, AlwaysCombWord, ParameterName, PlainParameter, IntParameter, DefinedParameter, Connection, InstanceTree, FunctionTree}
 use Rattle.vast_literal.specs.Tree.{MemberTree, DeclarationMember, AssignMember, ParameterMember, CommentMember, BlankMember, InlineMember, MacroMember, InstanceMember, AlwaysMember, ConditionalMember, FunctionMember, LoopMember, Members, NoMembers, MoreMembers}
 use Rattle.vast_literal.specs.Tree.{PortTree, ParameterPortTree, ModuleTree, FileItemTree, ModuleItem, IncludeItem, CommentItem, BlankItem, FileTree}
 use Rattle.vast_literal.specs.LiteralToken.{literal_tokens}
-use Rattle.vast_literal.specs.Shape.{right_child_wraps, highest_index_wraps, base_of, port_kind, base_kind, result_kind, is_bare_arm, is_one_casez}
+use Rattle.vast_literal.specs.Shape.{right_child_wraps, highest_index_wraps, base_of, packed_dimensions, unpacked_dimensions, port_kind, base_kind, result_kind, is_bare_arm, is_one_casez}
 use Rattle.vast_literal.specs.ExprTokens.{wrapped_tokens, expr_tokens}
 use Rattle.vast_literal.specs.NormalTree.{kind_key, sign_of, case_key, parameter_key, direction_key}
 
@@ -47,32 +47,22 @@ unfoldable pub vector_tokens : (base : TypeTree) → List Token
 vector_tokens (VectorTree width value signed) = range_tokens (highest_index_tokens width value) zero_tokens
 vector_tokens _ = []
 
-unfoldable pub packed_range_tokens : List ℤ → List Token
-packed_range_tokens [] = []
-packed_range_tokens (d ∷ ds) = range_tokens (number_tokens (d -ℤ pos 1)) zero_tokens ++ packed_range_tokens ds
-
-unfoldable pub packed_tokens : TypeTree → List Token
-packed_tokens (PackedTree element dimensions) = packed_range_tokens dimensions ++ packed_tokens element
-packed_tokens (UnpackedTree element dimensions) = packed_tokens element
-packed_tokens _ = []
+unfoldable pub packed_tokens : List ℤ → List Token
+packed_tokens [] = []
+packed_tokens (d ∷ ds) = range_tokens (number_tokens (d -ℤ pos 1)) zero_tokens ++ packed_tokens ds
 
 unfoldable pub unpacked_dimension_tokens : Dialect → ℤ → List Token
 unpacked_dimension_tokens SystemVerilogDialect d = one_tokens (number_tokens d)
 unpacked_dimension_tokens VerilogDialect d = range_tokens zero_tokens (number_tokens (d -ℤ pos 1))
 
-unfoldable pub unpacked_range_tokens : Dialect → List ℤ → List Token
-unpacked_range_tokens dialect [] = []
-unpacked_range_tokens dialect (d ∷ ds) = unpacked_dimension_tokens dialect d ++ unpacked_range_tokens dialect ds
-
-unfoldable pub unpacked_tokens : Dialect → TypeTree → List Token
-unpacked_tokens dialect (UnpackedTree element dimensions) = unpacked_range_tokens dialect dimensions ++ unpacked_tokens dialect element
-unpacked_tokens dialect (PackedTree element dimensions) = unpacked_tokens dialect element
-unpacked_tokens dialect _ = []
+unfoldable pub unpacked_tokens : Dialect → List ℤ → List Token
+unpacked_tokens dialect [] = []
+unpacked_tokens dialect (d ∷ ds) = unpacked_dimension_tokens dialect d ++ unpacked_tokens dialect ds
 
 unfoldable pub declaration_tokens : Dialect → Kind → TypeTree → (name : List ℕ) → List Token
 declaration_tokens dialect kind type name =
     maybe_tokens (kind_key kind) ++ (type_name_tokens (base_of type) ++ (maybe_tokens (sign_of (base_of type)) ++
-    ((packed_tokens type ++ vector_tokens (base_of type)) ++ (Word name ∷ unpacked_tokens dialect type))))
+    ((packed_tokens (packed_dimensions type) ++ vector_tokens (base_of type)) ++ (Word name ∷ unpacked_tokens dialect (unpacked_dimensions type)))))
 
 unfoldable pub declared_tokens : Dialect → Declaration → List Token
 declared_tokens dialect d = declaration_tokens dialect d.kind d.type d.name

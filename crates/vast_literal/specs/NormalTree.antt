@@ -10,7 +10,7 @@ use Rattle.vast_literal.specs.Tree.{AssignForm, Blocking, Nonblocking, Continuou
 use Rattle.vast_literal.specs.Tree.{AlwaysWord, AlwaysFFWord, AlwaysAtWord, AlwaysCombWord, ParameterName, PlainParameter, IntParameter, DefinedParameter, Connection, FunctionTree}
 use Rattle.vast_literal.specs.Tree.{MemberTree, DeclarationMember, AssignMember, ParameterMember, CommentMember, BlankMember, InlineMember, MacroMember, InstanceMember, AlwaysMember, ConditionalMember, FunctionMember, LoopMember, Members, NoMembers, MoreMembers}
 use Rattle.vast_literal.specs.Tree.{PortDirection, InputDirection, OutputDirection, InOutDirection, PortTree, ParameterPortTree, ModuleTree, FileItemTree, ModuleItem, IncludeItem, CommentItem, BlankItem, FileTree}
-use Rattle.vast_literal.specs.Shape.{base_of, port_kind, base_kind, result_kind}
+use Rattle.vast_literal.specs.Shape.{base_of, packed_dimensions, unpacked_dimensions, port_kind, base_kind, result_kind}
 use Rattle.vast_literal.specs.NormalExpr.{NormalExpr, Literal, Binary, NormalExprs, normal_literal, scalar_sign, integer_sign, normal, normals}
 use Rattle.vast_literal.specs.NormalFile.{NormalStatement, BlockingStatement, NonblockingStatement, AssignStatement, ChoiceStatement, CaseStatement, NormalStatements, Done, Then, Arms, Only, Otherwise, Or, Labels, NoLabels, Label, Group, One, Range, NormalDeclaration, Event, EdgeEvent, NameEvent, NormalConnection, NormalMember, DeclarationPart, AssignPart, ParameterPart, MacroPart, InstancePart, AlwaysPart, ConditionalPart, FunctionPart, LoopPart, NormalMembers, NoParts, MoreParts, NormalParameter, NormalPort, NormalModule, NormalItem, ModulePart, IncludePart, NormalFile}
 
@@ -61,30 +61,18 @@ vector_groups (VectorTree width value signed) = Range (highest_index_expr width 
 vector_groups _ = []
 
 -- [d-1:0] for each dimension
-unfoldable pub packed_ranges : List ℤ → List Group
-packed_ranges [] = []
-packed_ranges (d ∷ ds) = Range (number_expr (d -ℤ pos 1)) zero_expr ∷ packed_ranges ds
-
--- The packed dimensions, outermost wrapper first.
-unfoldable pub packed_groups : TypeTree → List Group
-packed_groups (PackedTree element dimensions) = packed_ranges dimensions ++ packed_groups element
-packed_groups (UnpackedTree element dimensions) = packed_groups element
-packed_groups _ = []
+unfoldable pub packed_groups : List ℤ → List Group
+packed_groups [] = []
+packed_groups (d ∷ ds) = Range (number_expr (d -ℤ pos 1)) zero_expr ∷ packed_groups ds
 
 -- [d] in SystemVerilog, [0:d-1] in Verilog
 unfoldable pub unpacked_group : Dialect → ℤ → Group
 unpacked_group SystemVerilogDialect d = One (number_expr d)
 unpacked_group VerilogDialect d = Range zero_expr (number_expr (d -ℤ pos 1))
 
-unfoldable pub unpacked_ranges : Dialect → List ℤ → List Group
-unpacked_ranges dialect [] = []
-unpacked_ranges dialect (d ∷ ds) = unpacked_group dialect d ∷ unpacked_ranges dialect ds
-
--- The unpacked dimensions, outermost wrapper first.
-unfoldable pub unpacked_groups : Dialect → TypeTree → List Group
-unpacked_groups dialect (UnpackedTree element dimensions) = unpacked_ranges dialect dimensions ++ unpacked_groups dialect element
-unpacked_groups dialect (PackedTree element dimensions) = unpacked_groups dialect element
-unpacked_groups dialect _ = []
+unfoldable pub unpacked_groups : Dialect → List ℤ → List Group
+unpacked_groups dialect [] = []
+unpacked_groups dialect (d ∷ ds) = unpacked_group dialect d ∷ unpacked_groups dialect ds
 
 unfoldable pub normal_declaration : Dialect → Kind → TypeTree → (name : List ℕ) → NormalDeclaration
 normal_declaration dialect kind type name = record {
@@ -92,9 +80,9 @@ normal_declaration dialect kind type name = record {
   package_name = package_of (base_of type);
   type_name = type_name_of (base_of type);
   sign = sign_of (base_of type);
-  groups = packed_groups type ++ vector_groups (base_of type);
+  groups = packed_groups (packed_dimensions type) ++ vector_groups (base_of type);
   name = name;
-  behind = unpacked_groups dialect type;
+  behind = unpacked_groups dialect (unpacked_dimensions type);
 }
 
 -- A name and nothing else.

@@ -1,6 +1,6 @@
--- What the shape of a tree decides: where parentheses stand, which selects are left out, with which kind something is
--- declared, and which arms stand bare. The layout, the tokens of its text and the normal form go by these.
-use Rattle.std.specs.Prelude.{ℕ, ℤ, pos, Bool, true, false, cond, ◌&&◌, ◌||◌, ◌==◌, List, [], ◌∷◌, Option, Some, None, nat_lt, nat_le}
+-- What the shape of a tree decides: where parentheses stand, which selects are left out, which dimensions an
+-- array has, with which kind something is declared, and which arms stand bare. The layout, the tokens of its text and the normal form go by these.
+use Rattle.std.specs.Prelude.{ℕ, ℤ, pos, Bool, true, false, cond, ◌&&◌, ◌||◌, ◌==◌, List, [], ◌∷◌, ◌++◌, Option, Some, None, nat_lt, nat_le}
 use Rattle.vast_literal.specs.Tree.{UnaryOp, NegateOp, BitwiseNotOp, LogicalNotOp, AndReduceOp, OrReduceOp, XorReduceOp}
 use Rattle.vast_literal.specs.Tree.{BinaryOp, AddOp, SubOp, MulOp, DivOp, ModOp, PowerOp, BitwiseAndOp, BitwiseOrOp, BitwiseXorOp, ShllOp, ShraOp, ShrlOp, NeOp, CaseNeOp, EqOp, CaseEqOp, GeOp, GtOp, LeOp, LtOp, LogicalAndOp, LogicalOrOp, NeXOp, EqXOp}
 use Rattle.vast_literal.specs.Tree.{ExprTree, NameTree, LiteralTree, UnaryTree, BinaryTree, TernaryTree, WidthCastTree}
@@ -136,6 +136,17 @@ base_of (IntTree signed) = IntTree signed
 base_of (ExternalTree name) = ExternalTree name
 base_of (PackageTree package_name name) = PackageTree package_name name
 base_of MissingType = MissingType
+
+-- The dimensions of the arrays around it, packed and unpacked, the outermost array's first.
+abbrev pub packed_dimensions : TypeTree → List ℤ
+packed_dimensions (PackedTree element dimensions) = dimensions ++ packed_dimensions element
+packed_dimensions (UnpackedTree element dimensions) = packed_dimensions element
+packed_dimensions _ = []
+
+abbrev pub unpacked_dimensions : TypeTree → List ℤ
+unpacked_dimensions (UnpackedTree element dimensions) = dimensions ++ unpacked_dimensions element
+unpacked_dimensions (PackedTree element dimensions) = unpacked_dimensions element
+unpacked_dimensions _ = []
 
 -- A type that is declared elsewhere.
 abbrev pub is_external : TypeTree → Bool

@@ -8,7 +8,7 @@ use Rattle.vast_literal.specs.declared.kind.DataKind.{DataKind as Kind}
 use Rattle.vast_literal.specs.declared.kind.DataKind.TheVariants.{Reg as RegKind, Wire as WireKind, Logic as LogicKind, Integer as IntegerKind, Int as IntKind, User as UserKind, UntypedEnum as UntypedEnumKind, Genvar as GenvarKind}
 use Rattle.vast_literal.specs.declared.kind.ModulePortDirection.{ModulePortDirection as PortDirection}
 use Rattle.vast_literal.specs.declared.kind.ModulePortDirection.TheVariants.{Input as InputDirection, Output as OutputDirection, InOut as InOutDirection}
-use Rattle.vast_literal.specs.Shape.{base_kind, base_of, highest_index_wraps}
+use Rattle.vast_literal.specs.Shape.{base_kind, base_of, unpacked_dimensions, highest_index_wraps}
 use Rattle.vast_print.specs.Printed.{Printed, plain_text, ◌⊕◌, gapped, spaced, wrapped}
 use Rattle.vast_print.specs.Page.{written, written_lines, beside_lines}
 use Rattle.vast_print.specs.Ink.{Ink, word, pour, pour_lines, hang_lines, stop}
@@ -37,7 +37,7 @@ pour-kind d k GenvarKind = refl
 
 pub pour-declaration : (d : ℕ) (k : Ink) (dialect : Dialect) (kind : Kind) (t : TypeTree) (name : List ℕ) →
     pour d k (written (declaration_text dialect kind t name))
-    ≡ pour d (pour d (pour d (word k (kind_opening kind)) (written (spaced (type_text t)))) (written (plain_text name))) (written (plain_text (unpacked_text dialect t)))
+    ≡ pour d (pour d (pour d (word k (kind_opening kind)) (written (spaced (type_text t)))) (written (plain_text name))) (written (plain_text (unpacked_text dialect (unpacked_dimensions t))))
 unfolding declaration_text name_text
 pour-declaration d k dialect kind t name = simp (pour-then, pour-kind)
 

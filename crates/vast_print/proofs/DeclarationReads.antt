@@ -15,7 +15,7 @@ use Rattle.vast_literal.specs.Plain.{is_plain_name, is_plain, is_plain_type, is_
 use Rattle.vast_literal.specs.PlainFile.{is_plain_declaration}
 use Rattle.vast_literal.specs.WellFormed.{is_well_formed, is_well_formed_type}
 use Rattle.vast_literal.specs.NormalTree.{kind_key, sign_of}
-use Rattle.vast_literal.specs.FileTokens.{maybe_tokens, type_name_tokens, number_tokens, zero_tokens, range_tokens, highest_index_tokens, vector_tokens, packed_range_tokens, packed_tokens, unpacked_dimension_tokens, unpacked_range_tokens, unpacked_tokens, declaration_tokens}
+use Rattle.vast_literal.specs.FileTokens.{maybe_tokens, type_name_tokens, number_tokens, zero_tokens, range_tokens, highest_index_tokens, vector_tokens, packed_tokens, unpacked_dimension_tokens, unpacked_tokens, declaration_tokens}
 use Rattle.vast_literal.proofs.DeclarationSpelled.{base_edgeless, base_formed}
 use Rattle.vast_literal.proofs.TokenReads.{stops, opens, Free, Divides, Reads}
 use Rattle.vast_literal.proofs.ScanLaws.{and_left, and_right, scan_colon}
@@ -23,10 +23,10 @@ use Rattle.vast_literal.proofs.Pieces.{add_tokens-nil, free_reads, free_free, re
 use Rattle.vast_literal.proofs.LiteralLaws.{literal_reads}
 use Rattle.vast_literal.proofs.NumberLaws.{signed_text}
 use Rattle.vast_literal.proofs.Words.{key_reads, name_reads, number_reads, double_colon}
-use Rattle.vast_literal.specs.Shape.{base_of, highest_index_wraps}
+use Rattle.vast_literal.specs.Shape.{base_of, packed_dimensions, unpacked_dimensions, highest_index_wraps}
 use Rattle.vast_print.specs.Printed.{Printed, plain_text, ◌⊕◌, gapped, spaced}
 use Rattle.vast_print.specs.Text.{expr_text, package_text}
-use Rattle.vast_print.specs.Declaration.{packed_range, packed_ranges, packed_text, unpacked_range, unpacked_ranges, unpacked_text, highest_index_text, signed_word, unsigned_word, with_dimensions, based_text, type_text, name_text, kind_word, declaration_text}
+use Rattle.vast_print.specs.Declaration.{packed_range, packed_text, unpacked_range, unpacked_text, highest_index_text, signed_word, unsigned_word, with_dimensions, based_text, type_text, name_text, kind_word, declaration_text}
 use Rattle.vast_print.proofs.FaultLaws.{both_fine, wrapped_fine}
 use Rattle.vast_print.proofs.ExprOpens.{literal_opens}
 use Rattle.vast_print.proofs.ExprReads.{expr_reads}
@@ -75,16 +75,10 @@ number_told z = literal_reads (signed_decimal z) (signed_text z)
 packed_range_told : (d : ℤ) → Divides (packed_range d) (range_tokens (number_tokens (d -ℤ pos 1)) zero_tokens)
 packed_range_told d = enclosed open_bracket (number_told (d -ℤ pos 1)) zero_close
 
-packed_ranges_told : (ds : List ℤ) → Dimensions (packed_ranges ds) (packed_range_tokens ds)
-unfolding packed_ranges packed_range_tokens
-packed_ranges_told [] = no_dimensions
-packed_ranges_told (d ∷ ds) = dimensions_append (one_dimension (packed_range_told d)) (packed_ranges_told ds)
-
-packed_told : (t : TypeTree) → Dimensions (packed_text t) (packed_tokens t)
+packed_told : (ds : List ℤ) → Dimensions (packed_text ds) (packed_tokens ds)
 unfolding packed_text packed_tokens
-packed_told (PackedTree t ds) = dimensions_append (packed_ranges_told ds) (packed_told t)
-packed_told (UnpackedTree t ds) = packed_told t
-packed_told _ = no_dimensions
+packed_told [] = no_dimensions
+packed_told (d ∷ ds) = dimensions_append (one_dimension (packed_range_told d)) (packed_told ds)
 
 colon_free : (a : List ℕ) {ts : List Token} → opens false a ≡ true → Free a ts → Free (58 ∷ a) (Mark Colon ∷ ts)
 unfolding scan
@@ -107,16 +101,10 @@ unfolding unpacked_dimension_tokens
 unpacked_dimension_told SystemVerilogDialect d = enclosed open_bracket (number_told d) close_bracket
 unpacked_dimension_told VerilogDialect d = verilog_range (d -ℤ pos 1)
 
-unpacked_ranges_told : (dialect : Dialect) (ds : List ℤ) → Dimensions (unpacked_ranges dialect ds) (unpacked_range_tokens dialect ds)
-unfolding unpacked_ranges unpacked_range_tokens
-unpacked_ranges_told dialect [] = no_dimensions
-unpacked_ranges_told dialect (d ∷ ds) = dimensions_append (one_dimension (unpacked_dimension_told dialect d)) (unpacked_ranges_told dialect ds)
-
-unpacked_told : (dialect : Dialect) (t : TypeTree) → Dimensions (unpacked_text dialect t) (unpacked_tokens dialect t)
+unpacked_told : (dialect : Dialect) (ds : List ℤ) → Dimensions (unpacked_text dialect ds) (unpacked_tokens dialect ds)
 unfolding unpacked_text unpacked_tokens
-unpacked_told dialect (UnpackedTree t ds) = dimensions_append (unpacked_ranges_told dialect ds) (unpacked_told dialect t)
-unpacked_told dialect (PackedTree t ds) = unpacked_told dialect t
-unpacked_told dialect _ = no_dimensions
+unpacked_told dialect [] = no_dimensions
+unpacked_told dialect (d ∷ ds) = dimensions_append (one_dimension (unpacked_dimension_told dialect d)) (unpacked_told dialect ds)
 
 -- the highest index of a vector
 
@@ -231,9 +219,9 @@ base_plain (UnpackedTree t ds) h = base_plain t h
 base_plain _ h = h
 
 type_told : (t : TypeTree) → is_plain_type t ≡ true → is_edgeless_type t ≡ true → is_well_formed_type t ≡ true → (type_text t).fault ≡ None →
-    Reads (type_text t).text (type_name_tokens (base_of t) ++ (maybe_tokens (sign_of (base_of t)) ++ (packed_tokens t ++ vector_tokens (base_of t))))
+    Reads (type_text t).text (type_name_tokens (base_of t) ++ (maybe_tokens (sign_of (base_of t)) ++ (packed_tokens (packed_dimensions t) ++ vector_tokens (base_of t))))
 unfolding type_text
-type_told t p l w f = based_told (base_of t) (packed_text t) (base_is t) (base_plain t p) (base_edgeless t l) (base_formed t w) f (packed_told t)
+type_told t p l w f = based_told (base_of t) (packed_text (packed_dimensions t)) (base_is t) (base_plain t p) (base_edgeless t l) (base_formed t w) f (packed_told (packed_dimensions t))
 
 kind_told : (kind : Kind) → Reads (kind_word kind) (maybe_tokens (kind_key kind))
 unfolding kind_key key_text
@@ -266,10 +254,10 @@ pub declaration_reads : (dialect : Dialect) (kind : Kind) (t : TypeTree) (n : Li
 unfolding declaration_text declaration_tokens name_text ◌⊕◌ plain_text
 declaration_reads dialect kind t n p w f =
     let p1 = and_right (is_plain_name n) (is_plain_type t && is_edgeless_type t) p in
-    declaration_left (type_name_tokens (base_of t)) (maybe_tokens (sign_of (base_of t))) (packed_tokens t ++ vector_tokens (base_of t))
+    declaration_left (type_name_tokens (base_of t)) (maybe_tokens (sign_of (base_of t))) (packed_tokens (packed_dimensions t) ++ vector_tokens (base_of t))
     (spaced_free (plain_text (kind_word kind)) (plain_reads (kind_word kind) (kind_told kind)))
     (spaced_free (type_text t) (type_told t (and_left _ _ p1) (and_right (is_plain_type t) (is_edgeless_type t) p1) w (declaration_fault dialect kind t n f)))
-    (name_reads n (and_left _ _ p)) (unpacked_told dialect t)
+    (name_reads n (and_left _ _ p)) (unpacked_told dialect (unpacked_dimensions t))
   where
     declaration_fault : (e : Dialect) (k : Kind) (u : TypeTree) (m : List ℕ) → (declaration_text e k u m).fault ≡ None → (type_text u).fault ≡ None
     declaration_fault e k u m g = declaration_fine e k u m g

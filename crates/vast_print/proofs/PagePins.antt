@@ -1,6 +1,6 @@
 -- Worked declarations, members and files.
 use Rattle.std.proofs.Common.{◌≡◌, None, refl}
-use Rattle.vast_print.specs.Declaration.{declaration_text, name_text, type_text, based_text, packed_text, packed_ranges, unpacked_text, highest_index_text, with_dimensions, unpacked_ranges}
+use Rattle.vast_print.specs.Declaration.{declaration_text, name_text, type_text, based_text, packed_text, unpacked_text, highest_index_text, with_dimensions}
 use Rattle.vast_print.specs.Printed.{spaced, plain_text, ◌⊕◌, wrapped}
 use Rattle.std.specs.Fmt.{digits}
 use Rattle.vast_print.specs.Text.{expr_text}
@@ -22,7 +22,7 @@ unfolding is_keyword digits
 passthrough_prints_plainly = record { plain = refl; well_formed = refl; printed = passthrough_printed }
 
 pub worked_pages : WorkedPages
-unfolding declaration_text name_text type_text based_text packed_text packed_ranges unpacked_text highest_index_text with_dimensions spaced plain_text ◌⊕◌ digits unpacked_ranges expr_text wrapped print print_lines layout items_page no_lines item_page module_page header_page opening_page body_page line above written written_lines beside_lines members_page member_page inner inner_lines commented commented_lines ports_page port_text entries_page lead lead_lines instance_page instance_head_page connections_page connection_text loop_text always_text statement_page statements_page block_page alternates_page begin_end beside function_page inputs_text more_inputs_text input_text locals_page function_body_page arms_page
+unfolding declaration_text name_text type_text based_text packed_text unpacked_text highest_index_text with_dimensions spaced plain_text ◌⊕◌ digits expr_text wrapped print print_lines layout items_page no_lines item_page module_page header_page opening_page body_page line above written written_lines beside_lines members_page member_page inner inner_lines commented commented_lines ports_page port_text entries_page lead lead_lines instance_page instance_head_page connections_page connection_text loop_text always_text statement_page statements_page block_page alternates_page begin_end beside function_page inputs_text more_inputs_text input_text locals_page function_body_page arms_page
 worked_pages =
     record {
       packed_declaration = refl;

@@ -1,30 +1,29 @@
 -- Laws of writing types as the arena holds them: bases and dimensions, array by array.
-use Rattle.std.proofs.Common.{◌≡◌, ◌<◌, ℕ, ℤ, Bool, true, false, List, [], ◌∷◌, length, refl, ◌∙◌, ap, codes, arith, Option}
+use Rattle.std.proofs.Common.{◌≡◌, ◌<◌, ℕ, ℤ, Bool, true, false, List, [], ◌∷◌, ◌++◌, length, refl, ◌∙◌, ap, codes, arith, Option}
 use Rattle.vast_literal.specs.Tree.{ExprTree, TypeTree, ScalarTree, VectorTree, IntegerTree, IntTree, ExternalTree, PackageTree, PackedTree, UnpackedTree}
-use Rattle.vast_literal.specs.Shape.{base_of}
+use Rattle.vast_literal.specs.Shape.{base_of, packed_dimensions}
 use Rattle.vast_print.specs.Printed.{plain_text, spaced}
 use Rattle.vast_print.specs.Page.{written}
 use Rattle.vast_print.specs.Ink.{Ink, word, pour}
-use Rattle.vast_print.specs.Declaration.{packed_ranges, packed_text, based_text, type_text, signed_word, unsigned_word, highest_index_text}
+use Rattle.vast_print.specs.Declaration.{packed_text, based_text, type_text, signed_word, unsigned_word, highest_index_text}
 use Rattle.vast_print.specs.Words.{has_text, signed_opening, unsigned_opening}
 use Rattle.vast_print.specs.Text.{package_text}
 use Rattle.vast_print.proofs.InkLaws.{pour-word, pour-then, pour-empty, pour-stopped}
 use Rattle.vast_print.proofs.Lines.{word-word, word-stopped}
 use Rattle.vast_print.proofs.NumberLaws.{pour-number}
 use Rattle.vast_print.proofs.DeclarationLaws.{pour-with-dimensions, spaced-then, spaced-package, package_then, pour-signed-word, pour-unsigned-word, pour-spaced, pour-spaced-none, pour-highest-value, pour-highest-index}
-use Rattle.vast_print.proofs.TypeLaws.{packed-scalar, packed-vector, packed-integer, packed-int, packed-external, packed-package, packed-packed, packed-unpacked, unpacked-scalar, unpacked-vector, unpacked-integer, unpacked-int, unpacked-external, unpacked-package, unpacked-packed, unpacked-unpacked, pour-append, pour-verilog-range, pour-system-range}
+use Rattle.vast_print.proofs.TypeLaws.{no-packed, packed-append, no-unpacked, unpacked-append, pour-append, pour-verilog-range, pour-system-range}
 
 -- packed dimensions are there or not
 
-pub has-packed-some : (t : TypeTree) (ds : List ℤ) → 0 < length ds → has_text (packed_text (PackedTree t ds)) ≡ true
-unfolding packed_text packed_ranges
-has-packed-some t [] h = absurd (omega arith)
-has-packed-some t (d ∷ ds) h = refl
+pub has-packed-some : (ds es : List ℤ) → 0 < length ds → has_text (packed_text (ds ++ es)) ≡ true
+unfolding packed_text
+has-packed-some [] es h = absurd (omega arith)
+has-packed-some (d ∷ ds) es h = refl
 
-pub has-packed-none : (t : TypeTree) (ds : List ℤ) → length ds ≡ 0 → has_text (packed_text (PackedTree t ds)) ≡ has_text (packed_text t)
-unfolding packed_text packed_ranges
-has-packed-none t [] h = refl
-has-packed-none t (d ∷ ds) h = absurd (omega arith)
+pub has-packed-none : (ds es : List ℤ) → length ds ≡ 0 → has_text (packed_text (ds ++ es)) ≡ has_text (packed_text es)
+has-packed-none [] es h = refl
+has-packed-none (d ∷ ds) es h = absurd (omega arith)
 
 pub has-some : (w : List ℕ) → 0 < length w → has_text w ≡ true
 has-some [] h = absurd (omega arith)
@@ -36,7 +35,7 @@ has-none (c ∷ w) h = absurd (omega arith)
 
 -- a type by what it is made of
 
-pub type-based : (d : ℕ) (k : Ink) (t : TypeTree) → pour d k (written (spaced (type_text t))) ≡ pour d k (written (spaced (based_text (base_of t) (packed_text t))))
+pub type-based : (d : ℕ) (k : Ink) (t : TypeTree) → pour d k (written (spaced (type_text t))) ≡ pour d k (written (spaced (based_text (base_of t) (packed_text (packed_dimensions t)))))
 unfolding type_text
 type-based d k t = refl
 
@@ -84,9 +83,9 @@ pub pour-unpacked-base : (d : ℕ) (k : Ink) (t : TypeTree) (own : List ℤ) (ds
 unfolding based_text
 pour-unpacked-base d k t own ds = refl
 
-pub ruleset packed = (packed-scalar, packed-vector, packed-integer, packed-int, packed-external, packed-package, packed-packed, packed-unpacked, has-packed-some, has-packed-none, pour-append, pour-empty, pour-stopped)
+pub ruleset packed = (no-packed, packed-append, has-packed-some, has-packed-none, pour-append, pour-empty, pour-stopped)
 
-pub ruleset unpacked = (unpacked-scalar, unpacked-vector, unpacked-integer, unpacked-int, unpacked-external, unpacked-package, unpacked-packed, unpacked-unpacked, pour-append, pour-empty, pour-stopped)
+pub ruleset unpacked = (no-unpacked, unpacked-append, pour-append, pour-empty, pour-stopped)
 
 pub ruleset ranges = (word-stopped, pour-stopped)
 

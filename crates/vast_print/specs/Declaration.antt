@@ -8,7 +8,7 @@ use Rattle.vast_literal.specs.Tree.{TypeTree, ScalarTree, VectorTree, IntegerTre
 use Rattle.vast_literal.specs.Tree.{Declaration}
 use Rattle.vast_literal.specs.declared.kind.DataKind.{DataKind as Kind}
 use Rattle.vast_literal.specs.declared.kind.DataKind.TheVariants.{Reg as RegKind, Wire as WireKind, Logic as LogicKind, Integer as IntegerKind, Int as IntKind, User as UserKind, UntypedEnum as UntypedEnumKind, Genvar as GenvarKind}
-use Rattle.vast_literal.specs.Shape.{highest_index_wraps, base_of, port_kind}
+use Rattle.vast_literal.specs.Shape.{highest_index_wraps, base_of, packed_dimensions, unpacked_dimensions, port_kind}
 use Rattle.vast_print.specs.Printed.{Printed, plain_text, ◌⊕◌, wrapped, spaced}
 use Rattle.vast_print.specs.Text.{expr_text, package_text}
 
@@ -16,30 +16,18 @@ use Rattle.vast_print.specs.Text.{expr_text, package_text}
 abbrev pub packed_range : ℤ → List ℕ
 packed_range d = codes "[" ++ (signed_decimal (d -ℤ pos 1) ++ codes ":0]")
 
-unfoldable pub packed_ranges : List ℤ → List ℕ
-packed_ranges [] = []
-packed_ranges (d ∷ ds) = packed_range d ++ packed_ranges ds
-
--- all packed dimensions, the outermost wrapper first
-unfoldable pub packed_text : TypeTree → List ℕ
-packed_text (PackedTree t ds) = packed_ranges ds ++ packed_text t
-packed_text (UnpackedTree t ds) = packed_text t
-packed_text _ = []
+unfoldable pub packed_text : List ℤ → List ℕ
+packed_text [] = []
+packed_text (d ∷ ds) = packed_range d ++ packed_text ds
 
 -- `[d]`, in Verilog `[0:d-1]` with the number computed
 abbrev pub unpacked_range : Dialect → ℤ → List ℕ
 unpacked_range VerilogDialect d = codes "[0:" ++ (signed_decimal (d -ℤ pos 1) ++ codes "]")
 unpacked_range SystemVerilogDialect d = codes "[" ++ (signed_decimal d ++ codes "]")
 
-unfoldable pub unpacked_ranges : Dialect → List ℤ → List ℕ
-unpacked_ranges dialect [] = []
-unpacked_ranges dialect (d ∷ ds) = unpacked_range dialect d ++ unpacked_ranges dialect ds
-
--- all unpacked dimensions, the outermost wrapper first
-unfoldable pub unpacked_text : Dialect → TypeTree → List ℕ
-unpacked_text dialect (UnpackedTree t ds) = unpacked_ranges dialect ds ++ unpacked_text dialect t
-unpacked_text dialect (PackedTree t ds) = unpacked_text dialect t
-unpacked_text dialect _ = []
+unfoldable pub unpacked_text : Dialect → List ℤ → List ℕ
+unpacked_text dialect [] = []
+unpacked_text dialect (d ∷ ds) = unpacked_range dialect d ++ unpacked_text dialect ds
 
 -- a vector's highest index: its width minus one, computed where the width has a value
 unfoldable pub highest_index_text : ExprTree → Option ℤ → Printed
@@ -71,11 +59,11 @@ based_text (UnpackedTree t own) ds = plain_text ds
 based_text MissingType ds = plain_text ds
 
 unfoldable pub type_text : TypeTree → Printed
-type_text t = based_text (base_of t) (packed_text t)
+type_text t = based_text (base_of t) (packed_text (packed_dimensions t))
 
 -- a name with the unpacked dimensions of its type
 unfoldable pub name_text : Dialect → TypeTree → List ℕ → Printed
-name_text dialect t name = plain_text name ⊕ plain_text (unpacked_text dialect t)
+name_text dialect t name = plain_text name ⊕ plain_text (unpacked_text dialect (unpacked_dimensions t))
 
 abbrev pub kind_word : Kind → List ℕ
 kind_word RegKind = codes "reg"

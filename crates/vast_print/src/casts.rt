@@ -1,6 +1,6 @@
 //! Casts.
 
-ghost use Rattle.std.specs.Prelude.{◌≡◌, ◌+◌, OnOk};
+ghost use Rattle.std.specs.Prelude.{false, ◌≡◌, ◌+◌, OnOk};
 ghost use Rattle.vast_literal.specs.Tree.{WidthCastTree, TypeCastTree, ExternalTree, PackageTree};
 ghost use Rattle.vast_core.specs.Bench.{OwnsExpr, OwnsType, tree_of, type_of};
 ghost use Rattle.vast_core.specs.View.{bench};

@@ -2,13 +2,13 @@
 
 ghost use Rattle.std.specs.Prelude.{◌≡◌, ◌-ℤ◌, pos};
 ghost use Rattle.std.specs.Fmt.{signed_decimal};
-ghost use Rattle.vast_literal.specs.Shape.{base_of, is_external};
+ghost use Rattle.vast_literal.specs.Shape.{base_of, packed_dimensions, unpacked_dimensions, is_external};
 ghost use Rattle.vast_core.specs.Bench.{OwnsExpr, OwnsType, tree_of, type_of};
 ghost use Rattle.vast_core.specs.View.{bench};
 ghost use Rattle.vast_print.specs.Ink.{Writes, Wet, word, pour};
 ghost use Rattle.vast_print.specs.Page.{written};
 ghost use Rattle.vast_print.specs.Printed.{plain_text, spaced};
-ghost use Rattle.vast_print.specs.Declaration.{packed_ranges, packed_text, unpacked_range, unpacked_ranges, unpacked_text, type_text, highest_index_text};
+ghost use Rattle.vast_print.specs.Declaration.{packed_text, unpacked_range, unpacked_text, type_text, highest_index_text};
 ghost use Rattle.vast_print.specs.Words.{has_text};
 
 use crate::expression::print_wrapped;
@@ -45,7 +45,7 @@ pub(crate) fn print_highest_index(value: i64, out: &mut Writer) -> Result<(), Pr
 #[tactic(auto, using(crate::proofs::PrintLaws::ranges))]
 fn print_packed_ranges(dimensions: &[i64], depth: usize, out: &mut Writer) -> Result<(), PrintFault>
     ensures { Writes
-        (pour depth (Wet out.old) (written (plain_text (packed_ranges dimensions.now)))) out.new
+        (pour depth (Wet out.old) (written (plain_text (packed_text dimensions.now)))) out.new
         result }
 {
     for dimension in dimensions.iter() {
@@ -60,7 +60,7 @@ fn print_packed_ranges(dimensions: &[i64], depth: usize, out: &mut Writer) -> Re
 #[tactic(auto, using(crate::proofs::PrintLaws::packed))]
 fn has_packed(ast: &Ast, t: VastDataType) -> bool
     requires { OwnsType (bench ast.now) t }
-    ensures { result ≡ has_text (packed_text (type_of (bench ast.now) t)) }
+    ensures { result ≡ has_text (packed_text (packed_dimensions (type_of (bench ast.now) t))) }
 {
     let mut inner = t;
     loop {
@@ -92,7 +92,7 @@ fn print_packed(
 ) -> Result<(), PrintFault>
     requires { OwnsType (bench ast.now) t }
     ensures { Writes
-        (pour depth (Wet out.old) (written (plain_text (packed_text (type_of (bench ast.now) t)))))
+        (pour depth (Wet out.old) (written (plain_text (packed_text (packed_dimensions (type_of (bench ast.now) t))))))
         out.new result }
 {
     let mut inner = t;
@@ -124,7 +124,7 @@ fn print_spaced_packed(
     requires { OwnsType (bench ast.now) t }
     ensures { Writes
         (pour depth (Wet out.old)
-        (written (spaced (plain_text (packed_text (type_of (bench ast.now) t)))))) out.new
+        (written (spaced (plain_text (packed_text (packed_dimensions (type_of (bench ast.now) t))))))) out.new
         result }
 {
     if has_packed(ast, t) {
@@ -255,7 +255,7 @@ fn print_unpacked_ranges(
     out: &mut Writer,
 ) -> Result<(), PrintFault>
     ensures { Writes
-        (pour depth (Wet out.old) (written (plain_text (unpacked_ranges file_type dimensions.now))))
+        (pour depth (Wet out.old) (written (plain_text (unpacked_text file_type dimensions.now))))
         out.new result }
 {
     for dimension in dimensions.iter() {
@@ -276,7 +276,7 @@ pub(crate) fn print_dimensions(
     ensures { Writes
         (pour depth (Wet out.old)
         (written (plain_text
-        (unpacked_text (bench ast.now).file_type (type_of (bench ast.now) t))))) out.new
+        (unpacked_text (bench ast.now).file_type (unpacked_dimensions (type_of (bench ast.now) t)))))) out.new
         result }
 {
     let file_type = ast.file_type();

@@ -1,4 +1,5 @@
 use Rattle.std.proofs.Common.{◌≡◌}
+use Rattle.vast_literal.specs.Shape.{unpacked_dimensions}
 use Rattle.vast_core.specs.Handles.{type_rank}
 use Rattle.vast_core.specs.Bench.{OwnsType, type_of}
 use Rattle.vast_print.specs.Declaration.{unpacked_text}
@@ -12,7 +13,7 @@ abbrev pub invariant-loop-element : goal.invariant-loop-element
 invariant-loop-element l =
     record {
       owned : OwnsType (bench l.ast) l.inner;
-      same : pour l.depth (Wet l.fn.out) (written (plain_text (unpacked_text (bench l.ast).file_type (type_of (bench l.ast) l.fn.t)))) ≡ pour l.depth (Wet l.out) (written (plain_text (unpacked_text (bench l.ast).file_type (type_of (bench l.ast) l.inner))));
+      same : pour l.depth (Wet l.fn.out) (written (plain_text (unpacked_text (bench l.ast).file_type (unpacked_dimensions (type_of (bench l.ast) l.fn.t))))) ≡ pour l.depth (Wet l.out) (written (plain_text (unpacked_text (bench l.ast).file_type (unpacked_dimensions (type_of (bench l.ast) l.inner)))));
     }
 
 abbrev pub decreases-loop-element : goal.decreases-loop-element

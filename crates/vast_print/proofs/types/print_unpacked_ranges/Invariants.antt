@@ -1,5 +1,5 @@
 use Rattle.std.proofs.Common.{◌≡◌, drop}
-use Rattle.vast_print.specs.Declaration.{unpacked_ranges}
+use Rattle.vast_print.specs.Declaration.{unpacked_text}
 use Rattle.vast_print.specs.Ink.{Wet, pour}
 use Rattle.vast_print.specs.Page.{written}
 use Rattle.vast_print.specs.Printed.{plain_text}
@@ -7,5 +7,5 @@ use Rattle.vast_print.proofs.types.print_unpacked_ranges.Given as goal
 
 abbrev pub invariant-loop-dimension : goal.invariant-loop-dimension
 invariant-loop-dimension l =
-    pour l.depth (Wet l.fn.out) (written (plain_text (unpacked_ranges l.file_type l.dimensions)))
-    ≡ pour l.depth (Wet l.out) (written (plain_text (unpacked_ranges l.file_type (drop l.dimension-index l.dimensions))))
+    pour l.depth (Wet l.fn.out) (written (plain_text (unpacked_text l.file_type l.dimensions)))
+    ≡ pour l.depth (Wet l.out) (written (plain_text (unpacked_text l.file_type (drop l.dimension-index l.dimensions))))
