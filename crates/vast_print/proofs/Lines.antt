@@ -1,5 +1,7 @@
 -- Laws of writing lines.
 use Rattle.std.proofs.Common.{◌≡◌, ◌≢◌, ◌<◌, ℕ, suc, ◌+◌, List, [], ◌∷◌, ◌++◌, length, get_or, Bool, true, false, eqb, eqb-true, cond, refl, sym, ◌∙◌, ap, append_assoc, append-nil, add-zero, arith, lit<, Option, Some, None, Bor}
+use Rattle.std.specs.Prelude.{◌||◌}
+use Rattle.std.specs.List.{list_any}
 use Rattle.std.proofs.lemmas.Str.Pattern.{IsSplitOnceResult, split_parts}
 use Rattle.vast_print.specs.declared.refusal.Refusal.{Refusal}
 use Rattle.vast_print.specs.Printed.{first_fault}
@@ -192,6 +194,14 @@ written-unbroken (c ∷ w) h = rw (unbroken-head c w h) (ap (λ p. beside_lines 
 abbrev pub unbroken : List ℕ → Bool
 unbroken [] = true
 unbroken (c ∷ w) = cond (eqb c 10) false (unbroken w)
+
+pub no-break : (w : List ℕ) → list_any (λ y. eqb y 10) w ≡ false → unbroken w ≡ true
+no-break [] h = refl
+no-break (c ∷ w) h = go (eqb c 10) h (λ e. no-break w e)
+  where
+    go : (b : Bool) → (b || list_any (λ y. eqb y 10) w) ≡ false → (list_any (λ y. eqb y 10) w ≡ false → unbroken w ≡ true) → cond b false (unbroken w) ≡ true
+    go true e ih = absurd (cc e)
+    go false e ih = ih e
 
 pub written-one-line : (w : List ℕ) → unbroken w ≡ true → written_lines w ≡ one_line w
 unfolding written_lines beside_lines

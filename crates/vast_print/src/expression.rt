@@ -84,6 +84,7 @@ fn print_piece(
 }
 
 /// Begins an expression, in parentheses where it needs them.
+#[inline(always)]
 #[tactic(auto, using(crate::proofs::PieceLaws::parts))]
 fn begin_part(
     ast: &Ast,

@@ -64,6 +64,7 @@ impl Writer {
     ///
     /// # Errors
     /// `AllocError` where the text's growth was refused.
+    #[inline(always)]
     #[tactic(auto, unfolding(crate::specs::Ink::word))]
     pub fn word(&mut self, text: &str) -> Result<(), AllocError>
         ensures { OnOk result (word (Wet self.old) text.now ≡ Wet self.new) }
@@ -75,6 +76,7 @@ impl Writer {
         self.text.push_str(text)
     }
 
+    #[inline(always)]
     fn begin_word(&mut self) -> Result<(), AllocError>
         ensures { OnOk result (self.new ≡ onto self.old []) }
     {
@@ -102,6 +104,17 @@ impl Writer {
     /// # Errors
     /// `AllocError` where the text's growth was refused.
     pub fn written(&mut self, depth: usize, text: &str) -> Result<(), AllocError>
+        ensures { OnOk result
+            (pour depth (Wet self.old) (written (plain_text text.now)) ≡ Wet self.new) }
+    {
+        if text.as_bytes().contains(&b'\n') {
+            self.lines(depth, text)
+        } else {
+            self.word(text)
+        }
+    }
+
+    fn lines(&mut self, depth: usize, text: &str) -> Result<(), AllocError>
         ensures { OnOk result
             (pour depth (Wet self.old) (written (plain_text text.now)) ≡ Wet self.new) }
     {

@@ -309,7 +309,7 @@ family-alike b c a f g i q (BlockRecord ss) h = ap BlockFamily (statements-alike
 family-alike b c a f g i q (ConditionalNestRecord x) h =
     rw (expr-alike b c a x.condition h.condition, held-alike b f g i q x.consequent h.consequent, alternates-alike b c a f g i q x.else_ifs x.otherwise h.else_ifs h.otherwise) refl
 family-alike b c a f g i q (CaseNestRecord x) h = rw (expr-alike b c a x.selector h.selector, arms-alike b c a f g i q x.arms h.arms) refl
-family-alike b c a f g i q (LoopNestRecord l) h = rw (expr-alike b c a l.start h.start, expr-alike b c a l.limit h.limit, loop-members-alike b c a f g i q l.members h.members) refl
+family-alike b c a f g i q (LoopNestRecord l) h = rw (expr-alike b c a l.start h.start, expr-alike b c a l.end h.end, loop-members-alike b c a f g i q l.members h.members) refl
 
 maybe-family : (b c : Bench) → Alike b c → (f g : ℕ → Family) (i : ℕ) → Meet b (suc i) f g → (o : Option NestRecord) → slice_get b.nests i ≡ o → family c f o ≡ family b g o
 maybe-family b c a f g i q None e = refl

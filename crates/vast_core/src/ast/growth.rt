@@ -52,6 +52,10 @@ impl Nest {
         ensures err { OnErr result (nest_record self.new ≡ nest_record self.old) }
     {
         if let Nest::Block(statements) = self {
+            // Most blocks hold one statement, so the first takes no more room than its own.
+            if statements.is_empty() {
+                statements.reserve_exact(1)?;
+            }
             statements.push(statement)?;
         }
         Ok(())

@@ -1,15 +1,11 @@
-use Rattle.std.proofs.Common.{rules, arith}
+use Rattle.std.proofs.Common.{◌≡◌, false, eqb, sym, ◌∙◌}
+use Rattle.std.specs.List.{list_any}
 use Rattle.vast_print.specs.Ink.{Wet}
-use Rattle.vast_print.proofs.Lines.{cut, uncut}
-use Rattle.vast_print.proofs.InkLaws.{written-step, written-last}
+use Rattle.vast_print.proofs.Lines.{no-break}
+use Rattle.vast_print.proofs.InkLaws.{pour-word}
 use Rattle.vast_print.proofs.writer.Writer.written.Goals as goal
 
-pub loop-line-preserved : goal.loop-line-preserved
-loop-line-preserved c =
-    let q = cut c.loop-line.rest.now (c.in-Some.line, c.in-Some.more) c.in-Some.ensures.cases in
-    (search rules, grind (arith, written-step c.args.depth (Wet c.loop-line.self) c.loop-line.rest.now c.in-Some.line.now c.in-Some.more.now q.0 q.1))
-
-pub returns : goal.returns
-returns c =
-    let q = uncut c.loop-line.rest.now c.in_default.ensures.cases in
-    grind (arith, written-last c.args.depth (Wet c.loop-line.self) c.loop-line.rest.now q)
+pub returns-else-contains : goal.returns-else-contains
+returns-else-contains c =
+    let none : list_any (λ y. eqb y 10) c.args.text.now ≡ false = rw c.as_bytes.ensures.value at (sym c.contains.ensures.value ∙ c.if-contains.false) in
+    rw (pour-word c.args.depth (Wet c.args.self.now) c.args.text.now (no-break c.args.text.now none)) c.word.ensures

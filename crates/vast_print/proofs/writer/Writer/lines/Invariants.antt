@@ -4,7 +4,7 @@ use denote.Shadow.{shadow}
 use Rattle.vast_print.specs.Printed.{plain_text}
 use Rattle.vast_print.specs.Page.{written}
 use Rattle.vast_print.specs.Ink.{Wet, pour}
-use Rattle.vast_print.proofs.writer.Writer.written.Given as goal
+use Rattle.vast_print.proofs.writer.Writer.lines.Given as goal
 
 abbrev pub invariant-loop-line : goal.invariant-loop-line
 invariant-loop-line l = shadow (Utf8 l.rest) × (pour l.depth (Wet l.fn.self) (written (plain_text l.fn.text)) ≡ pour l.depth (Wet l.self) (written (plain_text l.rest)))
