@@ -129,7 +129,10 @@ impl<'a> Arguments<'a> {
     }
 
     /// What is made of two arguments.
-    pub(crate) fn two<A: FromArguments, B: FromArguments, R, M>(mut self, make: M) -> Result<R, Problem>
+    pub(crate) fn two<A: FromArguments, B: FromArguments, R, M>(
+        mut self,
+        make: M,
+    ) -> Result<R, Problem>
     where
         M: FnOnce(A, B) -> R + Drop,
         requires { M.IsAlwaysCallable make }
@@ -141,7 +144,10 @@ impl<'a> Arguments<'a> {
     }
 
     /// What is made of three arguments.
-    pub(crate) fn three<A: FromArguments, B: FromArguments, C: FromArguments, R, M>(mut self, make: M) -> Result<R, Problem>
+    pub(crate) fn three<A: FromArguments, B: FromArguments, C: FromArguments, R, M>(
+        mut self,
+        make: M,
+    ) -> Result<R, Problem>
     where
         M: FnOnce(A, B, C) -> R + Drop,
         requires { M.IsAlwaysCallable make }
@@ -154,10 +160,14 @@ impl<'a> Arguments<'a> {
     }
 
     /// What is made of four arguments.
-    pub(crate) fn four<A: FromArguments, B: FromArguments, C: FromArguments, D: FromArguments, R, M>(
-        mut self,
-        make: M,
-    ) -> Result<R, Problem>
+    pub(crate) fn four<
+        A: FromArguments,
+        B: FromArguments,
+        C: FromArguments,
+        D: FromArguments,
+        R,
+        M,
+    >(mut self, make: M) -> Result<R, Problem>
     where
         M: FnOnce(A, B, C, D) -> R + Drop,
         requires { M.IsAlwaysCallable make }
@@ -171,10 +181,15 @@ impl<'a> Arguments<'a> {
     }
 
     /// What is made of five arguments.
-    pub(crate) fn five<A: FromArguments, B: FromArguments, C: FromArguments, D: FromArguments, E: FromArguments, R, M>(
-        mut self,
-        make: M,
-    ) -> Result<R, Problem>
+    pub(crate) fn five<
+        A: FromArguments,
+        B: FromArguments,
+        C: FromArguments,
+        D: FromArguments,
+        E: FromArguments,
+        R,
+        M,
+    >(mut self, make: M) -> Result<R, Problem>
     where
         M: FnOnce(A, B, C, D, E) -> R + Drop,
         requires { M.IsAlwaysCallable make }
@@ -189,10 +204,16 @@ impl<'a> Arguments<'a> {
     }
 
     /// What is made of six arguments.
-    pub(crate) fn six<A: FromArguments, B: FromArguments, C: FromArguments, D: FromArguments, E: FromArguments, F: FromArguments, R, M>(
-        mut self,
-        make: M,
-    ) -> Result<R, Problem>
+    pub(crate) fn six<
+        A: FromArguments,
+        B: FromArguments,
+        C: FromArguments,
+        D: FromArguments,
+        E: FromArguments,
+        F: FromArguments,
+        R,
+        M,
+    >(mut self, make: M) -> Result<R, Problem>
     where
         M: FnOnce(A, B, C, D, E, F) -> R + Drop,
         requires { M.IsAlwaysCallable make }

@@ -2,9 +2,9 @@
 
 use crate::arguments::{Arguments, Names};
 use crate::calls::make_step;
+use crate::from_arguments::is_name;
 use crate::problem::Problem;
 use crate::questions::{Question, make_question};
-use crate::from_arguments::is_name;
 use std::alloc::Global;
 use std::str;
 use vast_script::Step;

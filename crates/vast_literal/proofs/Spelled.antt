@@ -1,9 +1,8 @@
 -- The tokens of an expression's text spell its normal expression.
-use Rattle.std.proofs.Common.{◌≡◌, ℕ, suc, ◌≤◌, List, [], ◌∷◌, ◌++◌, Bool, true, false, cond, not, ◌&&◌, eqb, Option, Some, None, IsTrue, refl, sym, subst, append_assoc, append-nil, arith}
+use Rattle.std.proofs.Common.{◌≡◌, ℕ, suc, ◌≤◌, List, [], ◌∷◌, ◌++◌, Bool, true, false, cond, not, ◌&&◌, eqb, IsTrue, refl, sym, subst, append_assoc, append-nil, arith}
 use Rattle.std.proofs.lemmas.Bool.Decides.{nat_tests}
-use Rattle.std.proofs.lemmas.Option.{same_Some}
 use Rattle.std.specs.Fmt.{signed_decimal}
-use Rattle.vast_literal.specs.Tokens.{Minus, level, is_unary, OpenParen, CloseParen, Key, LogicKey, IntegerKey, IntKey, Token, Word, SystemWord, Number, Based, Operator, Mark}
+use Rattle.vast_literal.specs.Tokens.{Minus, level, is_unary, OpenParen, CloseParen, Key, LogicKey, SignedKey, UnsignedKey, IntegerKey, IntKey, Token, Word, SystemWord, Number, Based, Operator, Mark}
 use Rattle.vast_literal.specs.Tree.{UnaryOp, NegateOp, ExprTree, NameTree, LiteralTree, StringTree, UnaryTree, BinaryTree, TernaryTree, IndexTree, SliceTree, PartSelectTree, ConcatTree, PatternTree, WidthCastTree, TypeCastTree, PosEdgeTree, NegEdgeTree, MacroTree, CallTree, MissingExpr, TypeTree, ScalarTree, VectorTree, IntegerTree, IntTree, ExternalTree, PackageTree, PackedTree, UnpackedTree, MissingType, NoExpr, SomeExpr, Exprs, NoExprs, MoreExprs, NoArguments, SomeArguments}
 use Rattle.vast_literal.specs.Shape.{is_scalar_name, is_zero, is_elided_index, is_elided_slice, unary_wraps, left_child_wraps, right_child_wraps, ternary_wraps, select_wraps}
 use Rattle.vast_literal.specs.Scan.{is_digit}
@@ -118,38 +117,20 @@ width_spells w m {ts = ts} {x = x} small f e = go (is_bare_head w) refl
     go true h = head_spells (bare_head w h) e
     go false h = simp append_assoc (paren_cast (lower m 0 _ _ (omega arith) small f) e)
 
-word_spells : (word : Option Key) (base : Key) {ts : List Token} {x : NormalExpr} → ((k : Key) → word ≡ Some k → IsTrue (is_cast_word k)) → IsTrue (is_cast_word base) → Spells 0 ts x →
-    Spells 14 (word_cast_tokens word base ts) (normal_word_cast word base x)
-unfolding normal_word_cast
-word_spells None base f g e = word_cast base g e
-word_spells (Some k) base f g e = word_cast k (f k refl) (lower 14 0 _ _ (omega arith) (omega arith) (word_cast base g e))
+scalar_spells_cast : (signed : Bool) {ts : List Token} {x : NormalExpr} → Spells 0 ts x → Spells 14 (word_cast_tokens (scalar_sign signed) LogicKey ts) (normal_word_cast (scalar_sign signed) LogicKey x)
+unfolding scalar_sign normal_word_cast is_cast_word
+scalar_spells_cast true e = word_cast SignedKey refl (lower 14 0 _ _ (omega arith) (omega arith) (word_cast LogicKey refl e))
+scalar_spells_cast false e = word_cast LogicKey refl e
 
-scalar_word : (signed : Bool) (k : Key) → scalar_sign signed ≡ Some k → IsTrue (is_cast_word k)
-unfolding scalar_sign is_cast_word
-scalar_word true k h = subst (λ (v : Key). is_cast_word v ≡ true) (same_Some _ _ h) refl
-scalar_word false k h = absurd (cc h)
-
-integer_word : (signed : Bool) (k : Key) → integer_sign signed ≡ Some k → IsTrue (is_cast_word k)
-unfolding integer_sign is_cast_word
-integer_word true k h = absurd (cc h)
-integer_word false k h = subst (λ (v : Key). is_cast_word v ≡ true) (same_Some _ _ h) refl
+integer_spells_cast : (signed : Bool) (k : Key) {ts : List Token} {x : NormalExpr} → IsTrue (is_cast_word k) → Spells 0 ts x → Spells 14 (word_cast_tokens (integer_sign signed) k ts) (normal_word_cast (integer_sign signed) k x)
+unfolding integer_sign normal_word_cast is_cast_word
+integer_spells_cast true k h e = word_cast k h e
+integer_spells_cast false k h e = word_cast UnsignedKey refl (lower 14 0 _ _ (omega arith) (omega arith) (word_cast k h e))
 
 sign_word : (signed : Bool) → IsTrue (is_cast_word (signing_key signed))
 unfolding signing_key is_cast_word
 sign_word true = refl
 sign_word false = refl
-
-logic_word : IsTrue (is_cast_word LogicKey)
-unfolding is_cast_word
-logic_word = refl
-
-whole_word : IsTrue (is_cast_word IntegerKey)
-unfolding is_cast_word
-whole_word = refl
-
-int_word : IsTrue (is_cast_word IntKey)
-unfolding is_cast_word
-int_word = refl
 
 unary_word : (op : UnaryOp) → IsTrue (is_unary (unary_operator_token op))
 unfolding is_unary unary_operator_token
@@ -172,7 +153,7 @@ part_of_ternary s k small e = let b = level_bound s in
     wrapped_spells (ternary_wraps s) (spelled_level s) k _ _ (omega arith) (omega arith) (λ h. let p = ternary_bound s h in omega arith) e
 
 mutual
-  unfolding expr_tokens normal
+  unfolding expr_tokens normal is_cast_word
 
   -- The tokens of a well-formed expression's text spell its normal expression.
   pub spelled : (e : ExprTree) → is_edgeless e ≡ true → is_well_formed e ≡ true → Spells (spelled_level e) (expr_tokens e) (normal e)
@@ -225,12 +206,12 @@ mutual
 
   pub cast_spelled : (type : TypeTree) {ts : List Token} {x : NormalExpr} → Spells 0 ts x → is_cast_type type ≡ true → is_edgeless_type type ≡ true → is_well_formed_type type ≡ true →
       Spells 13 (cast_tokens type ts) (normal_cast type x)
-  cast_spelled (ScalarTree signed) e c l w = below (word_spells (scalar_sign signed) LogicKey (scalar_word signed) logic_word e)
+  cast_spelled (ScalarTree signed) e c l w = below (scalar_spells_cast signed e)
   cast_spelled (VectorTree h value signed) e c l w =
       let b = level_bound h in
       below (word_cast (signing_key signed) (sign_word signed) (lower 14 0 _ _ (omega arith) (omega arith) (width_spells h (spelled_level h) (omega arith) (spelled h l w) e)))
-  cast_spelled (IntegerTree signed) e c l w = below (word_spells (integer_sign signed) IntegerKey (integer_word signed) whole_word e)
-  cast_spelled (IntTree signed) e c l w = below (word_spells (integer_sign signed) IntKey (integer_word signed) int_word e)
+  cast_spelled (IntegerTree signed) e c l w = below (integer_spells_cast signed IntegerKey refl e)
+  cast_spelled (IntTree signed) e c l w = below (integer_spells_cast signed IntKey refl e)
   cast_spelled (ExternalTree n) e c l w = below (name_cast n e)
   cast_spelled (PackageTree p n) e c l w = below (package_cast p n e)
   cast_spelled (PackedTree element dimensions) e c l w = absurd (cc c)

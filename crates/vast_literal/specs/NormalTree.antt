@@ -4,7 +4,7 @@ use Rattle.std.specs.Prelude.{ℕ, ℤ, pos, ◌-ℤ◌, Bool, true, false, List
 use Rattle.std.specs.Fmt.{signed_decimal}
 use Rattle.vast_literal.specs.Tokens.{Minus, Key, CaseKey, CasezKey, CasexKey, WireKey, RegKey, LogicKey, IntegerKey, IntKey, GenvarKey, ParameterKey, LocalparamKey, AlwaysCombKey, AlwaysFFKey, AlwaysKey, PosedgeKey, NegedgeKey, InputKey, OutputKey, InOutKey}
 use Rattle.vast_literal.specs.Tree.{Dialect, VerilogDialect, SystemVerilogDialect, ExprTree, NameTree, PosEdgeTree, NegEdgeTree, MacroTree, Exprs, NoExprs, MoreExprs, MaybeExpr, NoExpr, SomeExpr, MaybeExprs, NoArguments, SomeArguments, MaybeType, Untyped, Typed}
-use Rattle.vast_literal.specs.Tree.{TypeTree, ScalarTree, VectorTree, IntegerTree, IntTree, ExternalTree, PackageTree, PackedTree, UnpackedTree}
+use Rattle.vast_literal.specs.Tree.{TypeTree, ScalarTree, VectorTree, IntegerTree, IntTree, ExternalTree, PackageTree}
 use Rattle.vast_literal.specs.Tree.{Kind, RegKind, WireKind, LogicKind, IntegerKind, IntKind, UserKind, UntypedEnumKind, GenvarKind, Declaration}
 use Rattle.vast_literal.specs.Tree.{AssignForm, Blocking, Nonblocking, Continuous, CaseWord, CaseExact, CaseZ, CaseX, StatementTree, AssignTree, CommentTree, BlankTree, InlineTree, ConditionalTree, CaseTree, Statements, NoStatements, MoreStatements, Alternates, NoElse, ElseIf, Else, CaseArms, NoCaseArms, CaseArm}
 use Rattle.vast_literal.specs.Tree.{AlwaysWord, AlwaysFFWord, AlwaysAtWord, AlwaysCombWord, ParameterName, PlainParameter, IntParameter, DefinedParameter, Connection, FunctionTree}

@@ -1,19 +1,18 @@
 -- Operators, elided selects and casts in the text of an expression.
-use Rattle.std.proofs.Common.{◌≡◌, ℕ, ℤ, pos, List, [], ◌∷◌, ◌++◌, Bool, true, false, cond, not, ◌&&◌, ◌||◌, eqb, eqb-true, None, refl, sym, subst, ◌∙◌, ap, append_assoc, arith, codes, nat_le}
+use Rattle.std.proofs.Common.{◌≡◌, ℕ, ℤ, pos, List, [], ◌∷◌, ◌++◌, Bool, true, false, cond, not, ◌&&◌, ◌||◌, eqb, eqb-true, None, refl, sym, subst, ◌∙◌, ap, append_assoc, arith, nat_le}
 use Rattle.std.proofs.lemmas.Bool.Decides.{nat_tests}
 use Rattle.std.specs.Prelude.{negsuc, if◌then◌else◌}
 use Rattle.std.specs.Fmt.{signed_decimal}
-use Rattle.vast_literal.specs.Tokens.{Token, Operator, Mark, OpenParen, Apostrophe, DoubleColon, Key, LogicKey, SignedKey, UnsignedKey, Reserved, Word, key_text}
+use Rattle.vast_literal.specs.Tokens.{Token, Operator, Mark, OpenParen, Apostrophe, DoubleColon, Word}
 use Rattle.vast_literal.specs.declared.operator.UnaryOperator.{UnaryOperator as UnaryOp}
 use Rattle.vast_literal.specs.declared.operator.UnaryOperator.TheVariants.{Negate as NegateOp}
 use Rattle.vast_literal.specs.declared.operator.BinaryOperator.{BinaryOperator as BinaryOp}
 use Rattle.vast_literal.specs.declared.operator.BinaryOperator.TheVariants.{Add as AddOp}
 use Rattle.vast_literal.specs.Tree.{ExprTree, NameTree, LiteralTree, StringTree, IndexTree, SliceTree, UnaryTree, BinaryTree, TernaryTree}
-use Rattle.vast_literal.specs.Tree.{TypeTree, ScalarTree, VectorTree, IntegerTree, IntTree, ExternalTree, PackageTree, PackedTree, UnpackedTree, MissingType}
 use Rattle.vast_literal.specs.Scan.{is_letter, is_digit, is_word_byte}
 use Rattle.vast_literal.specs.Spelling.{op_text}
 use Rattle.vast_literal.specs.LiteralToken.{every, is_number, is_bare_literal, is_literal_text, is_string_text}
-use Rattle.vast_literal.specs.NormalExpr.{unary_operator_token, binary_operator_token, scalar_sign, integer_sign, signing_key}
+use Rattle.vast_literal.specs.NormalExpr.{unary_operator_token, binary_operator_token}
 use Rattle.vast_literal.specs.Plain.{is_identifier, is_plain_name}
 use Rattle.vast_literal.specs.ExprTokens.{expr_tokens, cast_tokens, each_tokens, comma_tokens, comma_tail_tokens, argument_tokens, called_token, cast_operand, wrapped_tokens, word_cast_tokens}
 use Rattle.vast_literal.specs.ExprTokens as Tokens
@@ -22,20 +21,19 @@ use Rattle.vast_literal.proofs.ScanLaws.{and_left}
 use Rattle.vast_literal.proofs.TokenReads.{opens, Free, Divides, Reads}
 use Rattle.vast_literal.proofs.Pieces.{free_free, reads_end, sign_reads, operator_divides, head_wrapped}
 use Rattle.vast_literal.proofs.NumberLaws.{decimal_number}
-use Rattle.vast_literal.proofs.Words.{name_reads, name_cast_free, key_cast_free, double_colon}
+use Rattle.vast_literal.proofs.Words.{name_reads, name_cast_free, double_colon}
 use Rattle.vast_literal.specs.Shape.{is_scalar_name, is_zero, select_wraps, unary_wraps, binary_precedence}
 use Rattle.vast_print.specs.declared.refusal.Refusal.{Refusal}
 use Rattle.vast_print.specs.declared.refusal.Refusal.TheVariants.{ScalarIndex, ScalarSlice}
-use Rattle.vast_print.specs.Printed.{Printed, plain_text, ◌⊕◌, wrapped}
+use Rattle.vast_print.specs.Printed.{Printed}
 use Rattle.vast_print.specs.Levels.{unary_operator_text, binary_operator_text}
 use Rattle.vast_print.specs.Bare.{is_bare}
 use Rattle.vast_print.specs.Bare as Bare
-use Rattle.vast_print.specs.Text.{elided, cast_to, width_cast, sign_cast, scalar_cast, number_cast, package_text, expr_text, type_cast}
+use Rattle.vast_print.specs.Text.{elided, expr_text}
 use Rattle.vast_print.proofs.BareLaws.{bare-head}
 use Rattle.vast_print.proofs.TestLaws.{bare_same}
-use Rattle.vast_print.proofs.FaultLaws.{both_fine, wrapped_fine, elided_fine, elided_text}
+use Rattle.vast_print.proofs.FaultLaws.{elided_fine, elided_text}
 use Rattle.vast_print.proofs.ExprOpens.{is_tight, literal_first}
-use Rattle.vast_print.proofs.Shapes.{cast_left, head_reads}
 
 -- operators
 
@@ -127,73 +125,5 @@ head_of_text t = ap not (bare_same t)
 pub head_of_tree : (e : ExprTree) → is_well_formed e ≡ true → (expr_text e).fault ≡ None → not (Tokens.is_bare_head e) ≡ head_wrapped (expr_text e).text
 head_of_tree e w f = ap not (sym (heads e w f) ∙ (sym (bare-head e) ∙ bare_same (expr_text e).text))
 
--- casts
-
-pub cast_fine : (h p : Printed) → (cast_to h p).fault ≡ None → (h.fault ≡ None) × (p.fault ≡ None)
-unfolding cast_to
-cast_fine h p e = let (a, b) = both_fine _ _ e in let (c, d) = both_fine _ _ a in let (x, y) = both_fine _ _ c in (x, d)
-
-pub cast_reads : (h p : Printed) (hs : List Token) {ts : List Token} → Free (h.text ++ (39 ∷ 40 ∷ [])) (hs ++ (Mark Apostrophe ∷ Mark OpenParen ∷ [])) → Reads p.text ts → Reads (cast_to h p).text (hs ++ cast_operand ts)
-unfolding cast_to ◌⊕◌ plain_text
-cast_reads h p hs f g = cast_left h.text hs f g
-
-pub width_fine : (w p : Printed) → (width_cast w p).fault ≡ None → (w.fault ≡ None) × (p.fault ≡ None)
-unfolding width_cast
-width_fine w p e = let (a, b) = cast_fine (wrapped (not (is_bare w.text)) w) p e in (wrapped_fine (not (is_bare w.text)) w a, b)
-
-pub width_reads : (w : ExprTree) (p : Printed) {ts : List Token} → is_well_formed w ≡ true → (expr_text w).fault ≡ None → Reads (expr_text w).text (expr_tokens w) → Reads p.text ts →
-    Reads (width_cast (expr_text w) p).text (wrapped_tokens (not (Tokens.is_bare_head w)) (expr_tokens w) ++ cast_operand ts)
-unfolding width_cast
-width_reads w p h f g k = cast_reads (wrapped (not (is_bare (expr_text w).text)) (expr_text w)) p _ (head_reads _ _ (expr_text w) (head_of_text (expr_text w).text) (head_of_tree w h f) g) k
-
-pub key_reads : (k : Key) (p : Printed) (w : List ℕ) {ts : List Token} → w ≡ key_text k → Reads p.text ts → Reads (cast_to (plain_text w) p).text (Reserved k ∷ cast_operand ts)
-unfolding plain_text
-key_reads k p w e f = cast_reads (plain_text w) p (Reserved k ∷ []) (subst (λ (v : List ℕ). Free (v ++ (39 ∷ 40 ∷ [])) (Reserved k ∷ Mark Apostrophe ∷ Mark OpenParen ∷ [])) (sym e) (key_cast_free k)) f
-
-pub name_reads_cast : (n : List ℕ) (p : Printed) {ts : List Token} → is_plain_name n ≡ true → Reads p.text ts → Reads (cast_to (plain_text n) p).text (Word n ∷ cast_operand ts)
-unfolding plain_text
-name_reads_cast n p h f = cast_reads (plain_text n) p (Word n ∷ []) (name_cast_free n h) f
-
 pub package_free : (s n : List ℕ) → is_plain_name s ≡ true → is_plain_name n ≡ true → Free (((s ++ (58 ∷ 58 ∷ [])) ++ n) ++ (39 ∷ 40 ∷ [])) (Word s ∷ Mark DoubleColon ∷ Word n ∷ Mark Apostrophe ∷ Mark OpenParen ∷ [])
 package_free s n h k = simp append_assoc (simp append_assoc at (free_free (reads_end (name_reads s h) double_colon) (name_cast_free n k)))
-
-pub package_reads : (s n : List ℕ) (p : Printed) {ts : List Token} → is_plain_name s ≡ true → is_plain_name n ≡ true → Reads p.text ts → Reads (cast_to (package_text s n) p).text (Word s ∷ (Mark DoubleColon ∷ (Word n ∷ cast_operand ts)))
-unfolding package_text plain_text ◌⊕◌
-package_reads s n p h k f = cast_reads (package_text s n) p (Word s ∷ (Mark DoubleColon ∷ (Word n ∷ []))) (package_free s n h k) f
-
--- casts to types
-
-pub sign_reads_cast : (signed : Bool) (p : Printed) {ts : List Token} → Reads p.text ts → Reads (cast_to (sign_cast signed) p).text (Reserved (signing_key signed) ∷ cast_operand ts)
-unfolding signing_key key_text
-sign_reads_cast true p f = key_reads SignedKey p (codes "signed") refl f
-sign_reads_cast false p f = key_reads UnsignedKey p (codes "unsigned") refl f
-
-pub scalar_reads : (signed : Bool) (p : Printed) {ts : List Token} → Reads p.text ts → Reads (scalar_cast signed p).text (word_cast_tokens (scalar_sign signed) LogicKey ts)
-unfolding scalar_sign key_text
-scalar_reads true p f = key_reads SignedKey _ (codes "signed") refl (key_reads LogicKey p (codes "logic") refl f)
-scalar_reads false p f = key_reads LogicKey p (codes "logic") refl f
-
-pub number_reads_cast : (k : Key) (w : List ℕ) (signed : Bool) (p : Printed) {ts : List Token} → w ≡ key_text k → Reads p.text ts → Reads (number_cast w signed p).text (word_cast_tokens (integer_sign signed) k ts)
-unfolding integer_sign key_text
-number_reads_cast k w true p e f = key_reads k p w e f
-number_reads_cast k w false p e f = key_reads UnsignedKey _ (codes "unsigned") refl (key_reads k p w e f)
-
-pub scalar_fine : (signed : Bool) (p : Printed) → (scalar_cast signed p).fault ≡ None → p.fault ≡ None
-scalar_fine true p e = (cast_fine _ p ((cast_fine _ _ e).1)).1
-scalar_fine false p e = (cast_fine _ p e).1
-
-pub number_fine : (w : List ℕ) (signed : Bool) (p : Printed) → (number_cast w signed p).fault ≡ None → p.fault ≡ None
-number_fine w true p e = (cast_fine _ p e).1
-number_fine w false p e = (cast_fine _ p ((cast_fine _ _ e).1)).1
-
-pub type_fine : (t : TypeTree) (p : Printed) → (type_cast t p).fault ≡ None → p.fault ≡ None
-unfolding type_cast
-type_fine (ScalarTree signed) p e = scalar_fine signed p e
-type_fine (VectorTree w v signed) p e = (width_fine (expr_text w) p ((cast_fine _ _ e).1)).1
-type_fine (IntegerTree signed) p e = number_fine (codes "integer") signed p e
-type_fine (IntTree signed) p e = number_fine (codes "int") signed p e
-type_fine (ExternalTree n) p e = (cast_fine _ p e).1
-type_fine (PackageTree s n) p e = (cast_fine _ p e).1
-type_fine (PackedTree t ds) p e = (cast_fine _ p e).1
-type_fine (UnpackedTree t ds) p e = (cast_fine _ p e).1
-type_fine MissingType p e = (cast_fine _ p e).1

@@ -1,5 +1,5 @@
 -- Laws of the dimensions of arrays.
-use Rattle.std.proofs.Common.{◌≡◌, ◌<◌, ◌≤◌, ℕ, zero, suc, ◌+◌, ℤ, pos, Bool, true, List, [], ◌∷◌, ◌++◌, length, get_or, drop, refl, ◌∙◌, ap, codes, arith, add-one, append_assoc}
+use Rattle.std.proofs.Common.{◌≡◌, ◌<◌, ◌≤◌, ℕ, zero, suc, ◌+◌, ℤ, pos, true, List, [], ◌∷◌, ◌++◌, length, get_or, drop, refl, ◌∙◌, ap, codes, arith, add-one, append_assoc}
 use Rattle.std.specs.Prelude.{◌-ℤ◌}
 use Rattle.std.specs.Fmt.{signed_decimal}
 use Rattle.std.proofs.lemmas.List.{drop_all}

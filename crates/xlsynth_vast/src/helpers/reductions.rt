@@ -17,7 +17,11 @@ use vast_core::{Expr, ExprNode};
 use vast_literal::VastFault;
 
 /// The values joined from the left by a call that makes an expression of two; `None` where there are no values.
-fn join_all<F>(values: &[Expr], mut join: F, file: &mut VastFile) -> Result<Option<Expr>, AllocError>
+fn join_all<F>(
+    values: &[Expr],
+    mut join: F,
+    file: &mut VastFile,
+) -> Result<Option<Expr>, AllocError>
 where
     F: FnMut(&mut VastFile, &Expr, &Expr) -> Result<Expr, AllocError>,
     ghost operator: { BinaryOp }
