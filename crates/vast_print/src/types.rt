@@ -92,7 +92,8 @@ fn print_packed(
 ) -> Result<(), PrintFault>
     requires { OwnsType (bench ast.now) t }
     ensures { Writes
-        (pour depth (Wet out.old) (written (plain_text (packed_text (packed_dimensions (type_of (bench ast.now) t))))))
+        (pour depth (Wet out.old)
+        (written (plain_text (packed_text (packed_dimensions (type_of (bench ast.now) t))))))
         out.new result }
 {
     let mut inner = t;
@@ -124,8 +125,8 @@ fn print_spaced_packed(
     requires { OwnsType (bench ast.now) t }
     ensures { Writes
         (pour depth (Wet out.old)
-        (written (spaced (plain_text (packed_text (packed_dimensions (type_of (bench ast.now) t))))))) out.new
-        result }
+        (written (spaced (plain_text
+        (packed_text (packed_dimensions (type_of (bench ast.now) t))))))) out.new result }
 {
     if has_packed(ast, t) {
         print_packed(ast, t, depth, out)?;
@@ -158,7 +159,8 @@ fn print_highest_bit(
 ) -> Result<(), PrintFault>
     requires { OwnsExpr (bench ast.now) width }
     ensures { Writes
-        (pour depth (Wet out.old) (written (highest_index_text (tree_of (bench ast.now) width) value)))
+        (pour depth (Wet out.old)
+        (written (highest_index_text (tree_of (bench ast.now) width) value)))
         out.new result }
 {
     match value {
@@ -276,8 +278,8 @@ pub(crate) fn print_dimensions(
     ensures { Writes
         (pour depth (Wet out.old)
         (written (plain_text
-        (unpacked_text (bench ast.now).file_type (unpacked_dimensions (type_of (bench ast.now) t)))))) out.new
-        result }
+        (unpacked_text (bench ast.now).file_type
+        (unpacked_dimensions (type_of (bench ast.now) t)))))) out.new result }
 {
     let file_type = ast.file_type();
     let mut inner = t;

@@ -114,6 +114,7 @@ impl Writer {
         }
     }
 
+    /// Writes a text line by line.
     fn lines(&mut self, depth: usize, text: &str) -> Result<(), AllocError>
         ensures { OnOk result
             (pour depth (Wet self.old) (written (plain_text text.now)) ≡ Wet self.new) }

@@ -137,7 +137,8 @@ fn selector_text(alloc: Global, index: i64) -> Result<String, AllocError>
 
 /// The number in base 16 with a width of 64 bits.
 fn wide_text(alloc: Global, number: u64) -> Result<String, AllocError>
-    ensures text { IfOk result (λ text. string_bytes text ≡ format_text LiteralFormat.Hex 64 number) }
+    ensures text { IfOk result
+        (λ text. string_bytes text ≡ format_text LiteralFormat.Hex 64 number) }
     ensures token { IfOk result (λ text. IsTrue (is_literal_text (string_bytes text))) }
 {
     let text = format!(in alloc; "bits[64]:{number}")?;

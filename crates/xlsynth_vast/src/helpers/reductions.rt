@@ -76,7 +76,8 @@ where
         → Builds f.now g.now r next_expr (with_binary operator a.now b.now) }
     requires owned { All (OwnsExpr (bench file.old)) values.now }
     ensures { MakesTree (bench file.old) (bench file.new) result
-        (Ok (logical_reduction operator of_none invert (map (tree_of (bench file.old)) values.now))) }
+        (Ok (logical_reduction operator of_none invert
+        (map (tree_of (bench file.old)) values.now))) }
 {
     match join_all(values, join, file)? {
         Some(whole) if invert => Ok(file.make_logical_not(&whole)?),
