@@ -2,8 +2,7 @@
 
 use crate::clocked::{add_branches, add_clocked, assign_branches};
 use crate::fault::ExampleFault;
-use std::alloc::Global;
-use xlsynth_vast::{Expr, FileIds, LiteralFormat, VastFile, VastFileType, VastModule};
+use xlsynth_vast::{Expr, LiteralFormat, VastFile, VastModule};
 
 /// The module and its signals.
 #[derive(Drop)]
@@ -15,17 +14,14 @@ struct Signals {
     value: Expr,
 }
 
-/// The text of the counter.
+/// Adds the counter.
 ///
 /// # Errors
 /// Want of memory.
-pub(crate) fn counter(alloc: Global) -> Result<String, ExampleFault> {
-    let mut ids = FileIds::new();
-    let mut file = VastFile::new(alloc, VastFileType::SystemVerilog, &mut ids).unwrap();
-    let signals = add_signals(&mut file)?;
-    drive(&signals, &mut file)?;
-    add_register(&signals, &mut file)?;
-    Ok(file.emit()?)
+pub(crate) fn add_counter(file: &mut VastFile) -> Result<(), ExampleFault> {
+    let signals = add_signals(file)?;
+    drive(&signals, file)?;
+    add_register(&signals, file)
 }
 
 fn add_signals(file: &mut VastFile) -> Result<Signals, ExampleFault> {

@@ -1,8 +1,7 @@
 //! A module of a parameter, instantiated twice, once with an open port, and a generate loop between the two.
 
 use crate::fault::ExampleFault;
-use std::alloc::Global;
-use xlsynth_vast::{Expr, FileIds, VastFile, VastFileType, VastModule};
+use xlsynth_vast::{Expr, VastFile, VastModule};
 
 /// The signals of the module at the top.
 #[derive(Drop)]
@@ -15,26 +14,23 @@ struct Top {
     crossed: Expr,
 }
 
-/// The text of the two modules.
+/// Adds the two modules.
 ///
 /// # Errors
 /// Want of memory.
-pub(crate) fn hierarchy(alloc: Global) -> Result<String, ExampleFault> {
-    let mut ids = FileIds::new();
-    let mut file = VastFile::new(alloc, VastFileType::SystemVerilog, &mut ids).unwrap();
-    add_lane(&mut file)?;
-    let top = add_top(&mut file)?;
-    add_instance(&top, "first", top.data, top.middle, None, &mut file)?;
-    add_crossing(&top, &mut file)?;
+pub(crate) fn add_hierarchy(file: &mut VastFile) -> Result<(), ExampleFault> {
+    add_lane(file)?;
+    let top = add_top(file)?;
+    add_instance(&top, "first", top.data, top.middle, None, file)?;
+    add_crossing(&top, file)?;
     add_instance(
         &top,
         "second",
         top.crossed,
         top.result,
         Some(&top.odd),
-        &mut file,
-    )?;
-    Ok(file.emit()?)
+        file,
+    )
 }
 
 /// The module that is instantiated: as wide as its parameter says.

@@ -2,28 +2,22 @@
 
 use crate::clocked::add_clocked;
 use crate::fault::ExampleFault;
-use std::alloc::Global;
-use xlsynth_vast::{
-    Expr, FileIds, VastDataType, VastFile, VastFileType, VastModule, VastStatementBlock,
-};
+use xlsynth_vast::{Expr, VastDataType, VastFile, VastModule, VastStatementBlock};
 
-/// The text of a pipeline of `count` stages.
+/// Adds a pipeline of `count` stages.
 ///
 /// # Errors
 /// Want of memory.
-pub(crate) fn pipeline(alloc: Global, count: usize) -> Result<String, ExampleFault> {
-    let mut ids = FileIds::new();
-    let mut file = VastFile::new(alloc, VastFileType::SystemVerilog, &mut ids).unwrap();
+pub(crate) fn add_pipeline(count: usize, file: &mut VastFile) -> Result<(), ExampleFault> {
     let module = file.add_module("pipeline")?;
     let bit = file.make_scalar_type()?;
     let byte = file.make_bit_vector_type(8, false)?;
     let clock = file.add_input(module, "clk", &bit)?.to_expr();
     let first = file.add_input(module, "data_in", &byte)?.to_expr();
     let last = file.add_output(module, "data_out", &byte)?.to_expr();
-    let stages = add_stages(module, byte, count, &mut file)?;
-    let end = connect(module, clock, first, &stages, &mut file)?;
-    drive(module, last, end, &mut file)?;
-    Ok(file.emit()?)
+    let stages = add_stages(module, byte, count, file)?;
+    let end = connect(module, clock, first, &stages, file)?;
+    drive(module, last, end, file)
 }
 
 /// A register for each stage, `stage_0` first.

@@ -1,14 +1,15 @@
 //! What the program does with its words.
 
-use crate::counter::counter;
+use crate::counter::add_counter;
 use crate::fault::ExampleFault;
-use crate::hierarchy::hierarchy;
-use crate::pipeline::pipeline;
-use crate::registers::registers;
-use crate::states::states;
+use crate::hierarchy::add_hierarchy;
+use crate::pipeline::add_pipeline;
+use crate::registers::add_register_map;
+use crate::states::add_states;
 use std::alloc::Global;
 use std::fmt::Display;
 use std::io::Write;
+use xlsynth_vast::{FileIds, VastFile, VastFileType};
 
 /// Prints the example that each word names, in their order, and answers the status: 0, or 1 at the first word that
 /// names none, at a refusal or a fault, whose words go to `err`.
@@ -31,18 +32,26 @@ pub(crate) fn run<W: Write, E: Write>(
     0
 }
 
-/// The text of the example of this name; the pipeline has three stages.
+/// The text of a new file with the example of this name.
 fn example(alloc: Global, name: &str) -> Result<String, ExampleFault> {
+    let mut ids = FileIds::new();
+    let mut file = VastFile::new(alloc, VastFileType::SystemVerilog, &mut ids).unwrap();
+    build(name, &mut file)?;
+    Ok(file.emit()?)
+}
+
+/// Adds the example of this name; the pipeline has three stages.
+fn build(name: &str, file: &mut VastFile) -> Result<(), ExampleFault> {
     if name == "counter" {
-        counter(alloc)
+        add_counter(file)
     } else if name == "states" {
-        states(alloc)
+        add_states(file)
     } else if name == "pipeline" {
-        pipeline(alloc, 3)
+        add_pipeline(3, file)
     } else if name == "registers" {
-        registers(alloc)
+        add_register_map(file)
     } else if name == "hierarchy" {
-        hierarchy(alloc)
+        add_hierarchy(file)
     } else {
         Err(ExampleFault::Unknown)
     }

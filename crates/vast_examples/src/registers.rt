@@ -5,11 +5,8 @@ ghost use Rattle.vast_core.specs.View.{bench};
 ghost use Rattle.xlsynth_vast.specs.Registers.{OwnsRegister};
 
 use crate::fault::ExampleFault;
-use std::alloc::Global;
 use xlsynth_vast::helpers::{RegisterDefinition, RegisterScope, Reset, add_registers};
-use xlsynth_vast::{
-    Expr, FileIds, LiteralFormat, VastDataType, VastFile, VastFileType, VastModule,
-};
+use xlsynth_vast::{Expr, LiteralFormat, VastDataType, VastFile, VastModule};
 
 /// The module, and what all its registers share.
 #[derive(Drop)]
@@ -22,18 +19,15 @@ struct Map {
     data: Expr,
 }
 
-/// The text of the register map.
+/// Adds the register map.
 ///
 /// # Errors
-/// Want of memory.
-pub(crate) fn registers(alloc: Global) -> Result<String, ExampleFault> {
-    let mut ids = FileIds::new();
-    let mut file = VastFile::new(alloc, VastFileType::SystemVerilog, &mut ids).unwrap();
-    let map = add_map(&mut file)?;
-    let control = add_register(&map, "control", "control_write", "bits[8]:0x1", &mut file)?;
-    let mask = add_register(&map, "mask", "mask_write", "bits[8]:0xff", &mut file)?;
-    add_both(&map, control, mask, &mut file)?;
-    Ok(file.emit()?)
+/// `Taken` where a name is taken; want of memory.
+pub(crate) fn add_register_map(file: &mut VastFile) -> Result<(), ExampleFault> {
+    let map = add_map(file)?;
+    let control = add_register(&map, "control", "control_write", "bits[8]:0x1", file)?;
+    let mask = add_register(&map, "mask", "mask_write", "bits[8]:0xff", file)?;
+    add_both(&map, control, mask, file)
 }
 
 fn add_map(file: &mut VastFile) -> Result<Map, ExampleFault> {

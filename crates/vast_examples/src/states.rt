@@ -2,10 +2,8 @@
 
 use crate::clocked::{add_branches, add_clocked, assign_branches};
 use crate::fault::ExampleFault;
-use std::alloc::Global;
 use xlsynth_vast::{
-    CaseStatement, Expr, FileIds, LiteralFormat, VastDataType, VastFile, VastFileType,
-    VastFunction, VastModule,
+    CaseStatement, Expr, LiteralFormat, VastDataType, VastFile, VastFunction, VastModule,
 };
 
 /// The module, its signals, and the type of a state.
@@ -21,18 +19,15 @@ struct Machine {
     next: Expr,
 }
 
-/// The text of the machine.
+/// Adds the machine.
 ///
 /// # Errors
 /// Want of memory.
-pub(crate) fn states(alloc: Global) -> Result<String, ExampleFault> {
-    let mut ids = FileIds::new();
-    let mut file = VastFile::new(alloc, VastFileType::SystemVerilog, &mut ids).unwrap();
-    let machine = add_machine(&mut file)?;
-    add_transitions(&machine, &mut file)?;
-    add_state_register(&machine, &mut file)?;
-    add_output(&machine, &mut file)?;
-    Ok(file.emit()?)
+pub(crate) fn add_states(file: &mut VastFile) -> Result<(), ExampleFault> {
+    let machine = add_machine(file)?;
+    add_transitions(&machine, file)?;
+    add_state_register(&machine, file)?;
+    add_output(&machine, file)
 }
 
 fn add_machine(file: &mut VastFile) -> Result<Machine, ExampleFault> {
