@@ -3,7 +3,7 @@ use Rattle.std.proofs.Common.{◌≡◌, ℕ, ◌<◌, ◌≤◌, Bool, true, fa
 use Rattle.std.specs.Prelude.{IfSome}
 use Rattle.std.proofs.lemmas.List.{length-map}
 use Rattle.vast_core.specs.declared.handle.VastStatementBlock.{VastStatementBlock}
-use Rattle.vast_core.specs.declared.node.Term.{Term}
+use Rattle.vast_core.specs.declared.node.ExprNode.{ExprNode}
 use Rattle.vast_core.specs.declared.node.Nest.{Nest}
 use Rattle.vast_core.specs.declared.node.Module.{Module}
 use Rattle.vast_core.specs.declared.node.Function.{Function}
@@ -349,7 +349,7 @@ FileSound-growth b l f s h =
 
 -- The arenas after a growth.
 
-terms-added : (a : Raw) (ts : List Term) → TermsSound (no_nodes a.id) a.terms → TermsSound (bench a).nodes ts → TermsSound (no_nodes a.id) (a.terms ++ ts)
+terms-added : (a : Raw) (ts : List ExprNode) → TermsSound (no_nodes a.id) a.terms → TermsSound (bench a).nodes ts → TermsSound (no_nodes a.id) (a.terms ++ ts)
 unfolding bench
 terms-added a ts s h = TermsSound-append (no_nodes a.id) a.terms ts s h
 

@@ -7,11 +7,9 @@ use Rattle.vast_literal.specs.Tree.{ExprTree, TypeTree, Typed, SomeExpr}
 use Rattle.vast_core.specs.declared.handle.Expr.{Expr}
 use Rattle.vast_core.specs.declared.handle.VastDataType.{VastDataType}
 use Rattle.vast_core.specs.declared.node.ExprNode.{ExprNode}
-use Rattle.vast_core.specs.declared.node.ExprNode.TheVariants.{Name, Literal, StringText, Unary, Binary, Ternary, Index, Slice, PartSelect, Concat, Pattern, WidthCast, TypeCast, PosEdge, NegEdge, Macro, Call}
+use Rattle.vast_core.specs.declared.node.ExprNode.TheVariants.{Name, Literal, StringText, Unary, Binary, Ternary, Index, Slice, PartSelect, Concat, Pattern, WidthCast, TypeCast, PosEdge, NegEdge, Macro, MacroCall, Call, DataType}
 use Rattle.vast_core.specs.declared.node.TypeNode.{TypeNode}
 use Rattle.vast_core.specs.declared.node.TypeNode.TheVariants.{Scalar, Vector, Integer, Int, External, Package, Packed, Unpacked}
-use Rattle.vast_core.specs.declared.node.Term.{Term}
-use Rattle.vast_core.specs.declared.node.Term.TheVariants.{Expression, DataType}
 use Rattle.vast_core.specs.Handles.{rank, type_rank}
 use Rattle.vast_core.specs.Nodes.{Root, ExprRoot, TypeRoot, Nodes, no_nodes, with_root, is_expr_root, is_type_root, is_root_of, expr_of_root, type_of_root, HasExpr, HasType, expr_in, type_in, maybe_type_in, maybe_expr_in, exprs_in, expr_tree, type_tree, term_root, ExprChildrenHold, TypeChildrenHold, ChildrenHold, RootFits, RootWellFormed, built, TermsSound, IsNodeAt}
 use Rattle.vast_core.specs.Types.{ExprFits, TypeFits, ExprWellFormed, TypeWellFormed, MaybeTypeWellFormed, MaybeExprWellFormed, ExprsWellFormed}
@@ -20,19 +18,19 @@ use Rattle.vast_core.proofs.Lists.{slice_get-append, slice_get-seam, All-head, A
 
 -- Growing by terms.
 
-pub built-append : (b : Nodes) (ts us : List Term) → built b (ts ++ us) ≡ built (built b ts) us
+pub built-append : (b : Nodes) (ts us : List ExprNode) → built b (ts ++ us) ≡ built (built b ts) us
 built-append b [] us = refl
 built-append b (t ∷ ts) us = built-append (with_root b (term_root b t)) ts us
 
-pub TermsSound-append : (b : Nodes) (ts us : List Term) → TermsSound b ts → TermsSound (built b ts) us → TermsSound b (ts ++ us)
+pub TermsSound-append : (b : Nodes) (ts us : List ExprNode) → TermsSound b ts → TermsSound (built b ts) us → TermsSound b (ts ++ us)
 TermsSound-append b [] us s h = h
 TermsSound-append b (t ∷ ts) us s h = (s.0, s.1, TermsSound-append (with_root b (term_root b t)) ts us s.2 h)
 
-pub built-id : (b : Nodes) (ts : List Term) → (built b ts).id ≡ b.id
+pub built-id : (b : Nodes) (ts : List ExprNode) → (built b ts).id ≡ b.id
 built-id b [] = refl
 built-id b (u ∷ ts) = built-id (with_root b (term_root b u)) ts
 
-pub built-length : (b : Nodes) (ts : List Term) → length (built b ts).roots ≡ length b.roots + length ts
+pub built-length : (b : Nodes) (ts : List ExprNode) → length (built b ts).roots ≡ length b.roots + length ts
 built-length b [] = omega arith
 built-length b (u ∷ ts) =
     omega (arith, built-length (with_root b (term_root b u)) ts, length-append b.roots (term_root b u ∷ []))
@@ -49,7 +47,7 @@ Extends-same b = record { same_id = refl; same_roots = λ i r h. h }
 pub Extends-root : (b : Nodes) (r : Root) → Extends b (with_root b r)
 Extends-root b r = record { same_id = refl; same_roots = λ i s h. slice_get-append b.roots (r ∷ []) i s h }
 
-pub Extends-built : (b : Nodes) (ts : List Term) → Extends b (built b ts)
+pub Extends-built : (b : Nodes) (ts : List ExprNode) → Extends b (built b ts)
 Extends-built b [] = Extends-same b
 Extends-built b (t ∷ ts) =
     let e : Extends (with_root b (term_root b t)) (built (with_root b (term_root b t)) ts) = Extends-built (with_root b (term_root b t)) ts
@@ -142,8 +140,10 @@ expr_children-map f g (WidthCast width operand) h = (f width h.0, f operand h.1)
 expr_children-map f g (TypeCast type operand) h = (g type h.0, f operand h.1)
 expr_children-map f g (PosEdge operand) h = f operand h
 expr_children-map f g (NegEdge operand) h = f operand h
-expr_children-map f g (Macro name arguments) h = IfSome_then arguments h (λ parts. All-implies f parts.items)
+expr_children-map f g (Macro name) h = tt
+expr_children-map f g (MacroCall name arguments) h = All-implies f arguments.items h
 expr_children-map f g (Call name arguments) h = All-implies f arguments.items h
+expr_children-map f g (DataType n) h = h
 
 type_children-map :
     {P P2 : Expr → Type 0} {Q Q2 : VastDataType → Type 0} →
@@ -157,7 +157,7 @@ type_children-map f g (Vector width value signed) h = f width h
 type_children-map f g (Integer signed) h = tt
 type_children-map f g (Int signed) h = tt
 type_children-map f g (External name) h = tt
-type_children-map f g (Package package_name name) h = tt
+type_children-map f g (Package p) h = tt
 type_children-map f g (Packed element dimensions) h = g element h
 type_children-map f g (Unpacked element dimensions) h = g element h
 
@@ -165,11 +165,11 @@ children-map :
     {P P2 : Expr → Type 0} {Q Q2 : VastDataType → Type 0} →
     ((e : Expr) → P e → P2 e) →
     ((t : VastDataType) → Q t → Q2 t) →
-    (n : Term) →
+    (n : ExprNode) →
     ChildrenHold P Q n →
     ChildrenHold P2 Q2 n
-children-map f g (Expression n) h = expr_children-map f g n h
 children-map f g (DataType n) h = type_children-map f g n h
+children-map f g n h = expr_children-map f g n h
 
 maybe_type-kept : (b c : Nodes) → Extends b c → (o : Option VastDataType) → IfSome o (HasType b) → maybe_type_in c o ≡ maybe_type_in b o
 maybe_type-kept b c x None h = refl
@@ -199,9 +199,10 @@ expr_tree-kept b c x (WidthCast width operand) h = cc (expr_in-kept b c x width 
 expr_tree-kept b c x (TypeCast type operand) h = cc (type_in-kept b c x type h.0, expr_in-kept b c x operand h.1)
 expr_tree-kept b c x (PosEdge operand) h = cc (expr_in-kept b c x operand h)
 expr_tree-kept b c x (NegEdge operand) h = cc (expr_in-kept b c x operand h)
-expr_tree-kept b c x (Macro name None) h = refl
-expr_tree-kept b c x (Macro name (Some parts)) h = cc (exprs-kept b c x parts.items h)
+expr_tree-kept b c x (Macro name) h = refl
+expr_tree-kept b c x (MacroCall name arguments) h = cc (exprs-kept b c x arguments.items h)
 expr_tree-kept b c x (Call name arguments) h = cc (exprs-kept b c x arguments.items h)
+expr_tree-kept b c x (DataType n) h = refl
 
 type_tree-kept : (b c : Nodes) → Extends b c → (n : TypeNode) → TypeChildrenHold (HasExpr b) (HasType b) n → type_tree c n ≡ type_tree b n
 type_tree-kept b c x (Scalar signed) h = refl
@@ -209,13 +210,13 @@ type_tree-kept b c x (Vector width value signed) h = cc (expr_in-kept b c x widt
 type_tree-kept b c x (Integer signed) h = refl
 type_tree-kept b c x (Int signed) h = refl
 type_tree-kept b c x (External name) h = refl
-type_tree-kept b c x (Package package_name name) h = refl
+type_tree-kept b c x (Package p) h = refl
 type_tree-kept b c x (Packed element dimensions) h = cc (type_in-kept b c x element h)
 type_tree-kept b c x (Unpacked element dimensions) h = cc (type_in-kept b c x element h)
 
-term_root-kept : (b c : Nodes) → Extends b c → (t : Term) → ChildrenHold (HasExpr b) (HasType b) t → term_root c t ≡ term_root b t
-term_root-kept b c x (Expression n) h = ap ExprRoot (expr_tree-kept b c x n h)
+term_root-kept : (b c : Nodes) → Extends b c → (t : ExprNode) → ChildrenHold (HasExpr b) (HasType b) t → term_root c t ≡ term_root b t
 term_root-kept b c x (DataType n) h = ap TypeRoot (type_tree-kept b c x n h)
+term_root-kept b c x n h = ap ExprRoot (expr_tree-kept b c x n h)
 
 -- Each node that fits is well formed, since those that it is made of are.
 
@@ -261,9 +262,10 @@ expr_node-well_formed b (WidthCast width operand) h f = h
 expr_node-well_formed b (TypeCast type operand) h f = (f, h.0, h.1)
 expr_node-well_formed b (PosEdge operand) h f = h
 expr_node-well_formed b (NegEdge operand) h f = h
-expr_node-well_formed b (Macro name None) h f = tt
-expr_node-well_formed b (Macro name (Some parts)) h f = exprs-well_formed b parts.items h
+expr_node-well_formed b (Macro name) h f = tt
+expr_node-well_formed b (MacroCall name arguments) h f = exprs-well_formed b arguments.items h
 expr_node-well_formed b (Call name arguments) h f = exprs-well_formed b arguments.items h
+expr_node-well_formed b (DataType n) h f = h
 
 type_node-well_formed : (b : Nodes) (n : TypeNode) → TypeChildrenHold (λ e. ExprWellFormed (expr_in b e)) (λ t. TypeWellFormed (type_in b t)) n → TypeFits (type_tree b n) → TypeWellFormed (type_tree b n)
 type_node-well_formed b (Scalar signed) h f = tt
@@ -271,21 +273,21 @@ type_node-well_formed b (Vector width value signed) h f = (f, h)
 type_node-well_formed b (Integer signed) h f = tt
 type_node-well_formed b (Int signed) h f = tt
 type_node-well_formed b (External name) h f = tt
-type_node-well_formed b (Package package_name name) h f = tt
+type_node-well_formed b (Package p) h f = tt
 type_node-well_formed b (Packed element dimensions) h f = (f, h)
 type_node-well_formed b (Unpacked element dimensions) h f = (f, h)
 
-node-well_formed : (b : Nodes) (t : Term) → Each RootWellFormed b.roots → ChildrenHold (HasExpr b) (HasType b) t → RootFits (term_root b t) → RootWellFormed (term_root b t)
-node-well_formed b (Expression n) w h f = expr_node-well_formed b n (expr_children-map (expr-well_formed b w) (type-well_formed b w) n h) f
+node-well_formed : (b : Nodes) (t : ExprNode) → Each RootWellFormed b.roots → ChildrenHold (HasExpr b) (HasType b) t → RootFits (term_root b t) → RootWellFormed (term_root b t)
 node-well_formed b (DataType n) w h f = type_node-well_formed b n (type_children-map (expr-well_formed b w) (type-well_formed b w) n h) f
+node-well_formed b n w h f = expr_node-well_formed b n (expr_children-map (expr-well_formed b w) (type-well_formed b w) n h) f
 
-pub built-well_formed : (b : Nodes) (ts : List Term) → Each RootWellFormed b.roots → TermsSound b ts → Each RootWellFormed (built b ts).roots
+pub built-well_formed : (b : Nodes) (ts : List ExprNode) → Each RootWellFormed b.roots → TermsSound b ts → Each RootWellFormed (built b ts).roots
 built-well_formed b [] w s = w
 built-well_formed b (t ∷ ts) w s = built-well_formed (with_root b (term_root b t)) ts (Each-push RootWellFormed b.roots (term_root b t) w (node-well_formed b t w s.0 s.1)) s.2
 
 -- A node of the arena.
 
-node_at : (b : Nodes) (ts : List Term) (i n : ℕ) (t : Term) → Each RootWellFormed b.roots → TermsSound b ts → slice_get ts i ≡ Some t → n ≡ length b.roots + i → IsNodeAt (built b ts) n t
+node_at : (b : Nodes) (ts : List ExprNode) (i n : ℕ) (t : ExprNode) → Each RootWellFormed b.roots → TermsSound b ts → slice_get ts i ≡ Some t → n ≡ length b.roots + i → IsNodeAt (built b ts) n t
 node_at b [] i n t w s h q = cc
 node_at b (u ∷ ts) zero n t w s h q =
     let c : Nodes = built (with_root b (term_root b u)) ts in
@@ -304,12 +306,12 @@ node_at b (u ∷ ts) (suc i) n t w s h q =
     node_at (with_root b (term_root b u)) ts i n t (Each-push RootWellFormed b.roots (term_root b u) w (node-well_formed b u w s.0 s.1)) s.2 h (omega (arith, length-append b.roots (term_root b u ∷ [])))
 
 pub at_some :
-    (id : ℕ) (ts : List Term) (i : ℕ) (t : Term) →
+    (id : ℕ) (ts : List ExprNode) (i : ℕ) (t : ExprNode) →
     TermsSound (no_nodes id) ts →
     i < length ts →
     t ≡ get_or ts i t →
     IsNodeAt (built (no_nodes id) ts) i t
 at_some id ts i t s below q = node_at (no_nodes id) ts i i t tt s (slice_get_read ts (length ts) i t refl below q) (omega arith)
 
-pub at_none : (id : ℕ) (ts : List Term) (i : ℕ) → length ts ≤ i → slice_get (built (no_nodes id) ts).roots i ≡ None
+pub at_none : (id : ℕ) (ts : List ExprNode) (i : ℕ) → length ts ≤ i → slice_get (built (no_nodes id) ts).roots i ≡ None
 at_none id ts i past = slice_get_past (built (no_nodes id) ts).roots i (omega (arith, built-length (no_nodes id) ts))

@@ -5,7 +5,7 @@ use Rattle.vast_core.specs.declared.ast.growth.Entry.{Entry}
 use Rattle.vast_core.specs.declared.ast.growth.Entry.TheVariants.{Statement as StatementOf, ElseIf as ElseIfOf, Else as ElseOf, CaseArm as CaseArmOf, Member as MemberOf}
 use Rattle.vast_core.specs.declared.ast.growth.Place.{Place}
 use Rattle.vast_core.specs.declared.ast.growth.Place.TheVariants.{Nowhere as NowhereOf, File as FileOf, Header as HeaderOf, Ports as PortsOf, Module as ModuleOf, Function as FunctionOf, Nest as NestOf, Spare as SpareOf}
-use Rattle.vast_core.specs.declared.node.Term.{Term}
+use Rattle.vast_core.specs.declared.node.ExprNode.{ExprNode}
 use Rattle.vast_core.specs.declared.ast.arrivals.Terms.{Terms}
 use Rattle.vast_core.specs.declared.ast.arrivals.Terms.TheVariants.{Nothing as NoTerms, One, Two, Three}
 use Rattle.vast_core.specs.declared.ast.arrivals.Node.{Node}
@@ -38,7 +38,7 @@ listing_of (NestOf place entry) = InNest place (entry_of entry)
 listing_of (SpareOf block) = AsSpare block
 
 -- The expressions and types that come.
-abbrev pub terms_of : Terms → List Term
+abbrev pub terms_of : Terms → List ExprNode
 terms_of NoTerms = []
 terms_of (One t) = t ∷ []
 terms_of (Two t u) = t ∷ u ∷ []

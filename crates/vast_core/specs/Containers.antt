@@ -11,7 +11,7 @@ use Rattle.vast_literal.specs.declared.kind.CaseKind.{CaseKind}
 use Rattle.vast_core.specs.declared.node.Assignment.{Assignment}
 use Rattle.vast_core.specs.declared.node.ElseIf.{ElseIf}
 use Rattle.vast_core.specs.declared.node.CaseArm.{CaseArm}
-use Rattle.vast_core.specs.declared.node.Term.{Term}
+use Rattle.vast_core.specs.declared.node.ExprNode.{ExprNode}
 use Rattle.vast_core.specs.Handles.{module_index, function_index, block_index, conditional_index, case_index}
 use Rattle.vast_core.specs.Nodes.{TermsSound, built}
 use Rattle.vast_core.specs.Records.{PortRecord, ParameterPortRecord, ModuleRecord, MemberEntry, FileEntry, DefinitionRecord, ArtifactRecord, InstanceRecord, with_port, with_parameter_port, with_member, with_named_member, changed_at}
@@ -112,7 +112,7 @@ added xs (Some x) = xs ++ x ∷ []
 -- What comes at once: expressions and types, the older first, at most one node of each other kind, and then perhaps an
 -- empty block; and whether an always block takes the spare one.
 pub record Fresh : Type 0 where
-  pub terms : List Term
+  pub terms : List ExprNode
   pub assignment : Option Assignment
   pub container : Option NestRecord
   pub block : Bool

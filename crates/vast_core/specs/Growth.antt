@@ -17,7 +17,7 @@ use Rattle.vast_core.specs.declared.handle.ContinuousAssignment.{ContinuousAssig
 use Rattle.vast_literal.specs.declared.kind.ModulePortDirection.{ModulePortDirection}
 use Rattle.vast_literal.specs.declared.kind.DataKind.{DataKind}
 use Rattle.vast_core.specs.declared.node.Assignment.{Assignment}
-use Rattle.vast_core.specs.declared.node.Term.{Term}
+use Rattle.vast_core.specs.declared.node.ExprNode.{ExprNode}
 use Rattle.vast_core.specs.Handles.{module_index, indexable_expr_to_expr}
 use Rattle.vast_core.specs.Raw.{Raw}
 use Rattle.vast_core.specs.View.{bench}
@@ -38,7 +38,7 @@ abbrev pub with_root : Bench → Root → Bench
 with_root b r = record b { nodes = with_node b.nodes r }
 
 -- Expressions and types more, each made of older ones.
-abbrev pub with_terms : List Term → Bench → Bench
+abbrev pub with_terms : List ExprNode → Bench → Bench
 with_terms ts b = record b { nodes = built b.nodes ts }
 
 abbrev pub with_expr : ExprTree → Bench → Bench

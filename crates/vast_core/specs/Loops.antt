@@ -9,9 +9,8 @@ use Rattle.vast_core.specs.declared.handle.VastAlwaysBase.{VastAlwaysBase}
 use Rattle.vast_core.specs.declared.handle.VastFunction.{VastFunction}
 use Rattle.vast_core.specs.declared.handle.GenerateLoop.{GenerateLoop}
 use Rattle.vast_literal.specs.declared.kind.AlwaysKind.{AlwaysKind}
+use Rattle.vast_core.specs.declared.node.ExprNode.{ExprNode}
 use Rattle.vast_core.specs.declared.node.ExprNode.TheVariants.{Name}
-use Rattle.vast_core.specs.declared.node.Term.{Term}
-use Rattle.vast_core.specs.declared.node.Term.TheVariants.{Expression}
 use Rattle.vast_core.specs.Handles.{loop_index, definition_index}
 use Rattle.vast_core.specs.Records.{FormEntry, PlainForm, DefinedForm, MemberEntry, ParameterEntry, with_name}
 use Rattle.vast_core.specs.Nests.{NestRecord, LoopNestRecord, AlwaysRecord, FunctionRecord}
@@ -61,8 +60,8 @@ new_loop b name start end label = LoopNestRecord (record { genvar = next_logic_r
 abbrev pub with_loop : List ℕ → Expr → Expr → Option (List ℕ) → Bench → Bench
 with_loop name start end label b = with_expr (NameTree name Untyped) (with_nest (new_loop b name start end label) b)
 
-abbrev pub name_term : String Global → Option VastDataType → Term
-name_term name type = Expression (Name name type)
+abbrev pub name_term : String Global → Option VastDataType → ExprNode
+name_term name type = Name name type
 
 abbrev pub fresh_name : String Global → Option VastDataType → Fresh
 fresh_name name type = record no_fresh { terms = name_term name type ∷ [] }

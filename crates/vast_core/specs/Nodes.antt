@@ -6,11 +6,9 @@ use Rattle.vast_core.specs.declared.handle.Id.{Id}
 use Rattle.vast_core.specs.declared.handle.Expr.{Expr}
 use Rattle.vast_core.specs.declared.handle.VastDataType.{VastDataType}
 use Rattle.vast_core.specs.declared.node.ExprNode.{ExprNode}
-use Rattle.vast_core.specs.declared.node.ExprNode.TheVariants.{Name, Literal, StringText, Unary, Binary, Ternary, Index, Slice, PartSelect, Concat, Pattern, WidthCast, TypeCast, PosEdge, NegEdge, Macro, Call}
+use Rattle.vast_core.specs.declared.node.ExprNode.TheVariants.{Name, Literal, StringText, Unary, Binary, Ternary, Index, Slice, PartSelect, Concat, Pattern, WidthCast, TypeCast, PosEdge, NegEdge, Macro, MacroCall, Call, DataType}
 use Rattle.vast_core.specs.declared.node.TypeNode.{TypeNode}
 use Rattle.vast_core.specs.declared.node.TypeNode.TheVariants.{Scalar, Vector, Integer, Int, External, Package, Packed, Unpacked}
-use Rattle.vast_core.specs.declared.node.Term.{Term}
-use Rattle.vast_core.specs.declared.node.Term.TheVariants.{Expression, DataType}
 use Rattle.vast_core.specs.Handles.{rank, type_rank}
 use Rattle.vast_core.specs.Types.{ExprFits, TypeFits, ExprWellFormed, TypeWellFormed}
 
@@ -108,7 +106,7 @@ abbrev pub maybe_exprs_in : Nodes → Option (Vec Expr Global) → MaybeExprs
 maybe_exprs_in b None = NoArguments
 maybe_exprs_in b (Some es) = SomeArguments (exprs_in b es.items)
 
--- The tree of a node, from those of its children.
+-- The tree of a node, from those of its children. A type stands for no expression.
 abbrev pub expr_tree : Nodes → ExprNode → ExprTree
 expr_tree b (Name name type) = NameTree (string_bytes name) (maybe_type_in b type)
 expr_tree b (Literal text value) = LiteralTree (string_bytes text) value
@@ -125,8 +123,10 @@ expr_tree b (WidthCast width operand) = WidthCastTree (expr_in b width) (expr_in
 expr_tree b (TypeCast type operand) = TypeCastTree (type_in b type) (expr_in b operand)
 expr_tree b (PosEdge operand) = PosEdgeTree (expr_in b operand)
 expr_tree b (NegEdge operand) = NegEdgeTree (expr_in b operand)
-expr_tree b (Macro name arguments) = MacroTree (string_bytes name) (maybe_exprs_in b arguments)
+expr_tree b (Macro name) = MacroTree (string_bytes name) NoArguments
+expr_tree b (MacroCall name arguments) = MacroTree (string_bytes name) (SomeArguments (exprs_in b arguments.items))
 expr_tree b (Call name arguments) = CallTree (string_bytes name) (exprs_in b arguments.items)
+expr_tree b (DataType n) = MissingExpr
 
 abbrev pub type_tree : Nodes → TypeNode → TypeTree
 type_tree b (Scalar signed) = ScalarTree signed
@@ -134,15 +134,16 @@ type_tree b (Vector width value signed) = VectorTree (expr_in b width) value sig
 type_tree b (Integer signed) = IntegerTree signed
 type_tree b (Int signed) = IntTree signed
 type_tree b (External name) = ExternalTree (string_bytes name)
-type_tree b (Package package_name name) = PackageTree (string_bytes package_name) (string_bytes name)
+type_tree b (Package p) = PackageTree (string_bytes p.value.package_name) (string_bytes p.value.name)
 type_tree b (Packed element dimensions) = PackedTree (type_in b element) dimensions.items
 type_tree b (Unpacked element dimensions) = UnpackedTree (type_in b element) dimensions.items
 
-abbrev pub term_root : Nodes → Term → Root
-term_root b (Expression n) = ExprRoot (expr_tree b n)
+-- What a node stands for: a type, or an expression.
+abbrev pub term_root : Nodes → ExprNode → Root
 term_root b (DataType n) = TypeRoot (type_tree b n)
+term_root b n = ExprRoot (expr_tree b n)
 
--- P holds of each child that is an expression, and Q of each that is a type.
+-- The node is an expression; P holds of each child that is an expression, and Q of each that is a type.
 abbrev pub ExprChildrenHold : (P : Expr → Type 0) (Q : VastDataType → Type 0) → ExprNode → Type 0
 ExprChildrenHold P Q (Name name type) = IfSome type Q
 ExprChildrenHold P Q (Literal text value) = Unit {0}
@@ -159,8 +160,10 @@ ExprChildrenHold P Q (WidthCast width operand) = P width × P operand
 ExprChildrenHold P Q (TypeCast type operand) = Q type × P operand
 ExprChildrenHold P Q (PosEdge operand) = P operand
 ExprChildrenHold P Q (NegEdge operand) = P operand
-ExprChildrenHold P Q (Macro name arguments) = IfSome arguments (λ parts. All P parts.items)
+ExprChildrenHold P Q (Macro name) = Unit {0}
+ExprChildrenHold P Q (MacroCall name arguments) = All P arguments.items
 ExprChildrenHold P Q (Call name arguments) = All P arguments.items
+ExprChildrenHold P Q (DataType n) = ⊥
 
 abbrev pub TypeChildrenHold : (P : Expr → Type 0) (Q : VastDataType → Type 0) → TypeNode → Type 0
 TypeChildrenHold P Q (Scalar signed) = Unit {0}
@@ -168,13 +171,13 @@ TypeChildrenHold P Q (Vector width value signed) = P width
 TypeChildrenHold P Q (Integer signed) = Unit {0}
 TypeChildrenHold P Q (Int signed) = Unit {0}
 TypeChildrenHold P Q (External name) = Unit {0}
-TypeChildrenHold P Q (Package package_name name) = Unit {0}
+TypeChildrenHold P Q (Package p) = Unit {0}
 TypeChildrenHold P Q (Packed element dimensions) = Q element
 TypeChildrenHold P Q (Unpacked element dimensions) = Q element
 
-abbrev pub ChildrenHold : (P : Expr → Type 0) (Q : VastDataType → Type 0) → Term → Type 0
-ChildrenHold P Q (Expression n) = ExprChildrenHold P Q n
+abbrev pub ChildrenHold : (P : Expr → Type 0) (Q : VastDataType → Type 0) → ExprNode → Type 0
 ChildrenHold P Q (DataType n) = TypeChildrenHold P Q n
+ChildrenHold P Q n = ExprChildrenHold P Q n
 
 -- What a node keeps of itself, and of all that it is made of.
 abbrev pub RootFits : Root → Type 0
@@ -186,17 +189,17 @@ RootWellFormed (ExprRoot e) = ExprWellFormed e
 RootWellFormed (TypeRoot t) = TypeWellFormed t
 
 -- The nodes after these terms, each made of older ones.
-abbrev pub built : Nodes → List Term → Nodes
+abbrev pub built : Nodes → List ExprNode → Nodes
 built b [] = b
 built b (t ∷ ts) = built (with_root b (term_root b t)) ts
 
 -- Each term fits, and its children are older nodes of the file.
-abbrev pub TermsSound : Nodes → List Term → Type 0
+abbrev pub TermsSound : Nodes → List ExprNode → Type 0
 TermsSound b [] = Unit {0}
 TermsSound b (t ∷ ts) = ChildrenHold (HasExpr b) (HasType b) t × RootFits (term_root b t) × TermsSound (with_root b (term_root b t)) ts
 
 -- The term is node i, is well formed, and its children are older nodes of the file.
-pub record IsNodeAt (b : Nodes) (i : ℕ) (t : Term) : Type 0 where
+pub record IsNodeAt (b : Nodes) (i : ℕ) (t : ExprNode) : Type 0 where
   pub root : slice_get b.roots i ≡ Some (term_root b t)
   pub owned : ChildrenHold (HasExpr b) (HasType b) t
   pub older : ChildrenHold (λ e. rank e < i) (λ u. type_rank u < i) t

@@ -2,7 +2,7 @@
 use Rattle.std.specs.Prelude.{ℕ, List, Option}
 use Rattle.vast_core.specs.declared.handle.VastStatementBlock.{VastStatementBlock}
 use Rattle.vast_literal.specs.declared.kind.VastFileType.{VastFileType}
-use Rattle.vast_core.specs.declared.node.Term.{Term}
+use Rattle.vast_core.specs.declared.node.ExprNode.{ExprNode}
 use Rattle.vast_core.specs.declared.node.Nest.{Nest}
 use Rattle.vast_core.specs.declared.node.Port.{Port}
 use Rattle.vast_core.specs.declared.node.Assignment.{Assignment}
@@ -17,7 +17,7 @@ use Rattle.vast_core.specs.declared.node.FileItem.{FileItem}
 pub record Raw : Type 0 where
   pub file_type : VastFileType
   pub id : ℕ
-  pub terms : List Term
+  pub terms : List ExprNode
   pub term_room : ℕ
   pub nests : List Nest
   pub ports : List Port

@@ -6,8 +6,8 @@ ghost use Rattle.vast_core.specs.View.{bench};
 
 use crate::handle::VastStatementBlock;
 use crate::node::{
-    AlwaysBlock, Artifact, Assignment, Definition, FileItem, Function, Instance, Module, Nest,
-    Port, Term,
+    AlwaysBlock, Artifact, Assignment, Definition, ExprNode, FileItem, Function, Instance, Module,
+    Nest, Port,
 };
 use std::alloc::Global;
 use std::marker::Model;
@@ -51,7 +51,7 @@ pub struct Ast {
     alloc: Global,
     file_type: VastFileType,
     id: u64,
-    terms: Vec<Term>,
+    terms: Vec<ExprNode>,
     nests: Vec<Nest>,
     ports: Vec<Port>,
     assignments: Vec<Assignment>,

@@ -26,7 +26,7 @@ pub use handle::{
 pub use node::{
     AlwaysBlock, Artifact, Assignment, CaseArm, CaseNode, ConditionalNode, Connection, Definition,
     ElseIf, ExprNode, FileItem, Function, FunctionVariable, Instance, LoopNode, Member, Module,
-    ParameterForm, ParameterPort, Port, Statement, TypeNode,
+    PackageName, ParameterForm, ParameterPort, Port, Statement, TypeNode,
 };
 pub use vast_literal::{
     AlwaysKind, AssignmentForm, BinaryOperator, CaseKind, DataKind, ModulePortDirection,

@@ -10,7 +10,9 @@ use vast_literal::{
     AlwaysKind, BinaryOperator, CaseKind, DataKind, ModulePortDirection, UnaryOperator,
 };
 
-/// An expression.
+/// A node of the arena that expressions and types share: an expression, or a data type. Types hold widths and names hold
+/// types, so that "children are older" is one order. It is one flat enum, and a type's rarer parts are boxed, since each
+/// enum has a tag of its own in memory and each node takes as much as the largest.
 #[derive(Drop)]
 pub enum ExprNode {
     /// A name, with the type that it was declared with, if any.
@@ -39,10 +41,14 @@ pub enum ExprNode {
     TypeCast(VastDataType, Expr),
     PosEdge(Expr),
     NegEdge(Expr),
-    /// The use of a macro, with its arguments where it was given a list.
-    Macro(String, Option<Vec<Expr>>),
+    /// The use of a macro without a list of arguments.
+    Macro(String),
+    /// The use of a macro with a list of arguments.
+    MacroCall(String, Vec<Expr>),
     /// The call of a function.
     Call(String, Vec<Expr>),
+    /// A data type, which is no expression: [`crate::Ast::expr`] never answers it.
+    DataType(TypeNode),
 }
 
 /// A data type.
@@ -58,20 +64,19 @@ pub enum TypeNode {
     Int(bool),
     /// A type of this name, declared elsewhere.
     External(String),
-    /// A package, and the name of a type of it.
-    Package(String, String),
+    /// A type that is declared in a package.
+    Package(Box<PackageName>),
     /// A packed array: its elements' type, and its dimensions from the outermost.
     Packed(VastDataType, Vec<i64>),
     /// An unpacked array: its elements' type, and its dimensions from the outermost.
     Unpacked(VastDataType, Vec<i64>),
 }
 
-/// A node of the arena that expressions and types share: types hold widths and names hold types, so that "children
-/// are older" is one order.
+/// A package, and the name of a type of it.
 #[derive(Drop)]
-pub(crate) enum Term {
-    Expression(ExprNode),
-    DataType(TypeNode),
+pub struct PackageName {
+    pub package_name: String,
+    pub name: String,
 }
 
 /// A port of a module.

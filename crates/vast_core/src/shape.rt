@@ -1,7 +1,7 @@
 //! Shapes of expressions that handles of their own name.
 
-ghost use Rattle.std.specs.Prelude.{◌≡◌};
-ghost use Rattle.vast_core.specs.Nodes.{Nodes, expr_tree, is_name, is_index, is_slice, is_macro};
+ghost use Rattle.std.specs.Prelude.{◌≡◌, Some};
+ghost use Rattle.vast_core.specs.Nodes.{Nodes, expr_tree, term_root, is_root_of, is_name, is_index, is_slice, is_macro};
 ghost use Rattle.vast_core.specs.Types.{literal_value};
 
 use crate::node::ExprNode;
@@ -9,7 +9,7 @@ use crate::node::ExprNode;
 impl ExprNode {
     /// Whether it is a name.
     pub(crate) fn is_name(&self) -> bool
-        ensures { (b : Nodes) → result ≡ is_name (expr_tree b self.now) }
+        ensures { (b : Nodes) → result ≡ is_root_of is_name (Some (term_root b self.now)) }
     {
         match self {
             ExprNode::Name(_, _) => true,
@@ -27,14 +27,16 @@ impl ExprNode {
             | ExprNode::TypeCast(_, _)
             | ExprNode::PosEdge(_)
             | ExprNode::NegEdge(_)
-            | ExprNode::Macro(_, _)
-            | ExprNode::Call(_, _) => false,
+            | ExprNode::Macro(_)
+            | ExprNode::MacroCall(_, _)
+            | ExprNode::Call(_, _)
+            | ExprNode::DataType(_) => false,
         }
     }
 
     /// Whether it is a bit select `s[i]`.
     pub(crate) fn is_index(&self) -> bool
-        ensures { (b : Nodes) → result ≡ is_index (expr_tree b self.now) }
+        ensures { (b : Nodes) → result ≡ is_root_of is_index (Some (term_root b self.now)) }
     {
         match self {
             ExprNode::Index(_, _) => true,
@@ -52,14 +54,16 @@ impl ExprNode {
             | ExprNode::TypeCast(_, _)
             | ExprNode::PosEdge(_)
             | ExprNode::NegEdge(_)
-            | ExprNode::Macro(_, _)
-            | ExprNode::Call(_, _) => false,
+            | ExprNode::Macro(_)
+            | ExprNode::MacroCall(_, _)
+            | ExprNode::Call(_, _)
+            | ExprNode::DataType(_) => false,
         }
     }
 
     /// Whether it is a part select `s[h:l]`.
     pub(crate) fn is_slice(&self) -> bool
-        ensures { (b : Nodes) → result ≡ is_slice (expr_tree b self.now) }
+        ensures { (b : Nodes) → result ≡ is_root_of is_slice (Some (term_root b self.now)) }
     {
         match self {
             ExprNode::Slice(_, _, _) => true,
@@ -77,17 +81,19 @@ impl ExprNode {
             | ExprNode::TypeCast(_, _)
             | ExprNode::PosEdge(_)
             | ExprNode::NegEdge(_)
-            | ExprNode::Macro(_, _)
-            | ExprNode::Call(_, _) => false,
+            | ExprNode::Macro(_)
+            | ExprNode::MacroCall(_, _)
+            | ExprNode::Call(_, _)
+            | ExprNode::DataType(_) => false,
         }
     }
 
     /// Whether it is the use of a macro.
     pub(crate) fn is_macro(&self) -> bool
-        ensures { (b : Nodes) → result ≡ is_macro (expr_tree b self.now) }
+        ensures { (b : Nodes) → result ≡ is_root_of is_macro (Some (term_root b self.now)) }
     {
         match self {
-            ExprNode::Macro(_, _) => true,
+            ExprNode::Macro(_) | ExprNode::MacroCall(_, _) => true,
             ExprNode::Name(_, _)
             | ExprNode::Literal(_, _)
             | ExprNode::StringText(_)
@@ -103,7 +109,8 @@ impl ExprNode {
             | ExprNode::TypeCast(_, _)
             | ExprNode::PosEdge(_)
             | ExprNode::NegEdge(_)
-            | ExprNode::Call(_, _) => false,
+            | ExprNode::Call(_, _)
+            | ExprNode::DataType(_) => false,
         }
     }
 
@@ -127,8 +134,10 @@ impl ExprNode {
             | ExprNode::TypeCast(_, _)
             | ExprNode::PosEdge(_)
             | ExprNode::NegEdge(_)
-            | ExprNode::Macro(_, _)
-            | ExprNode::Call(_, _) => None,
+            | ExprNode::Macro(_)
+            | ExprNode::MacroCall(_, _)
+            | ExprNode::Call(_, _)
+            | ExprNode::DataType(_) => None,
         }
     }
 }

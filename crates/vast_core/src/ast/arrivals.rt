@@ -9,7 +9,7 @@ ghost use Rattle.vast_core.specs.View.{bench};
 
 use crate::ast::Ast;
 use crate::node::{
-    AlwaysBlock, Artifact, Assignment, Definition, Function, Instance, Module, Nest, Port, Term,
+    AlwaysBlock, Artifact, Assignment, Definition, ExprNode, Function, Instance, Module, Nest, Port,
 };
 use std::alloc::{AllocError, Global};
 
@@ -17,9 +17,9 @@ use std::alloc::{AllocError, Global};
 #[derive(Drop)]
 pub(crate) enum Terms {
     Nothing,
-    One(Term),
-    Two(Term, Term),
-    Three(Term, Term, Term),
+    One(ExprNode),
+    Two(ExprNode, ExprNode),
+    Three(ExprNode, ExprNode, ExprNode),
 }
 
 /// The node of another arena that comes.
@@ -119,7 +119,7 @@ impl Node {
 
 /// Adds the expressions and types, for which there is room.
 #[inline(always)]
-pub(crate) fn settle_terms(items: &mut Vec<Term>, terms: Terms)
+pub(crate) fn settle_terms(items: &mut Vec<ExprNode>, terms: Terms)
     requires { length (terms_of terms) ≤ vec_capacity items.old - vec_len items.old }
     ensures { items.new.items ≡ items.old.items ++ terms_of terms }
 {

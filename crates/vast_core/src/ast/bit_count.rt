@@ -44,7 +44,7 @@ impl Ast {
             TypeNode::Integer(_) => Ok(32),
             TypeNode::Int(_) => Ok(32),
             TypeNode::External(_) => Err(BitCountFault::External(base)),
-            TypeNode::Package(_, _) => Err(BitCountFault::External(base)),
+            TypeNode::Package(_) => Err(BitCountFault::External(base)),
             TypeNode::Packed(_, _) => unreachable!(),
             TypeNode::Unpacked(_, _) => unreachable!(),
         }
@@ -95,7 +95,7 @@ impl Ast {
             TypeNode::Integer(_) => Err(WidthFault::Undeclared),
             TypeNode::Int(_) => Err(WidthFault::Undeclared),
             TypeNode::External(_) => Err(WidthFault::Undeclared),
-            TypeNode::Package(_, _) => Err(WidthFault::Undeclared),
+            TypeNode::Package(_) => Err(WidthFault::Undeclared),
             TypeNode::Packed(_, _) => unreachable!(),
             TypeNode::Unpacked(_, _) => unreachable!(),
         }

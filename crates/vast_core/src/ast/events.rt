@@ -30,8 +30,10 @@ impl Ast {
             | ExprNode::Pattern(_)
             | ExprNode::WidthCast(_, _)
             | ExprNode::TypeCast(_, _)
-            | ExprNode::Macro(_, _)
-            | ExprNode::Call(_, _) => false,
+            | ExprNode::Macro(_)
+            | ExprNode::MacroCall(_, _)
+            | ExprNode::Call(_, _)
+            | ExprNode::DataType(_) => false,
         }
     }
 

@@ -1,20 +1,19 @@
 //! Expressions of a file.
 
-ghost use Rattle.std.specs.Prelude.{◌≡◌, IsTrue, All, IfSome};
-ghost use Rattle.vast_core.specs.declared.node.ExprNode.TheVariants.{Macro};
+ghost use Rattle.std.specs.Prelude.{◌≡◌, IsTrue, All, IfSome, string_bytes};
 ghost use Rattle.vast_core.specs.Handles.{indexable_expr_to_expr, expr_to_indexable_expr};
-ghost use Rattle.vast_core.specs.Nodes.{ExprChildrenHold, expr_tree};
+ghost use Rattle.vast_core.specs.Nodes.{ExprChildrenHold, expr_tree, maybe_exprs_in};
 ghost use Rattle.vast_core.specs.Types.{ExprFits};
 ghost use Rattle.vast_core.specs.Bench.{OwnsExpr, OwnsIndexable, OwnsType, tree_of};
 ghost use Rattle.vast_core.specs.Growth.{Builds, with_expr, with_fixed_index, with_fixed_slice, with_fixed_replication, next_expr, next_index, next_fixed_index, next_slice, next_fixed_slice, next_fixed_replication, next_macro_ref};
 ghost use Rattle.vast_core.specs.View.{bench};
 ghost use Rattle.vast_literal.specs.LiteralToken.{is_literal_text};
-ghost use Rattle.vast_literal.specs.Tree.{IndexTree, SliceTree};
+ghost use Rattle.vast_literal.specs.Tree.{IndexTree, SliceTree, MacroTree};
 
 use crate::ast::Ast;
 use crate::ast::arrivals::Terms;
 use crate::handle::{Expr, Index, IndexableExpr, MacroRef, Slice};
-use crate::node::{ExprNode, Term};
+use crate::node::ExprNode;
 use std::alloc::AllocError;
 
 impl Ast {
@@ -41,7 +40,7 @@ impl Ast {
         let expr = Expr {
             id: self.next_term(),
         };
-        self.grow_terms(Terms::One(Term::Expression(node)))?;
+        self.grow_terms(Terms::One(node))?;
         Ok(expr)
     }
 
@@ -84,8 +83,8 @@ impl Ast {
             id: self.second_term(),
         };
         self.grow_terms(Terms::Two(
-            Term::Expression(ExprNode::Literal(text, Some(index))),
-            Term::Expression(ExprNode::Index(subject.to_expr(), literal)),
+            ExprNode::Literal(text, Some(index)),
+            ExprNode::Index(subject.to_expr(), literal),
         ))?;
         Ok(select)
     }
@@ -145,9 +144,9 @@ impl Ast {
             id: self.third_term(),
         };
         self.grow_terms(Terms::Three(
-            Term::Expression(ExprNode::Literal(high_text, Some(high))),
-            Term::Expression(ExprNode::Literal(low_text, Some(low))),
-            Term::Expression(ExprNode::Slice(subject.to_expr(), high_literal, low_literal)),
+            ExprNode::Literal(high_text, Some(high)),
+            ExprNode::Literal(low_text, Some(low)),
+            ExprNode::Slice(subject.to_expr(), high_literal, low_literal),
         ))?;
         Ok(select)
     }
@@ -171,8 +170,8 @@ impl Ast {
             id: self.second_term(),
         };
         self.grow_terms(Terms::Two(
-            Term::Expression(ExprNode::Literal(text, Some(count))),
-            Term::Expression(ExprNode::Concat(Some(literal), parts)),
+            ExprNode::Literal(text, Some(count)),
+            ExprNode::Concat(Some(literal), parts),
         ))?;
         Ok(replication)
     }
@@ -188,9 +187,13 @@ impl Ast {
     ) -> Result<MacroRef, AllocError>
         requires { IfSome arguments (λ parts. All (OwnsExpr (bench self.old)) parts.items) }
         ensures { Builds self.old self.new result next_macro_ref
-            (λ b. with_expr (expr_tree b.nodes (Macro name arguments)) b) }
+            (λ b. with_expr (MacroTree (string_bytes name) (maybe_exprs_in b.nodes arguments)) b) }
     {
-        let call = self.push_expr(ExprNode::Macro(name, arguments))?;
+        let node = match arguments {
+            Some(arguments) => ExprNode::MacroCall(name, arguments),
+            None => ExprNode::Macro(name),
+        };
+        let call = self.push_expr(node)?;
         Ok(MacroRef { id: call.id })
     }
 }

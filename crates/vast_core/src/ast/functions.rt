@@ -14,7 +14,7 @@ use crate::ast::Ast;
 use crate::ast::arrivals::{Arrivals, Node, Terms};
 use crate::ast::growth::Place;
 use crate::handle::{LogicRef, VastDataType, VastFunction, VastModule, VastStatementBlock};
-use crate::node::{ExprNode, Function, Member, Term};
+use crate::node::{ExprNode, Function, Member};
 use std::alloc::AllocError;
 use std::collections::BTreeSet;
 
@@ -63,7 +63,7 @@ impl Ast {
         self.grow(
             Place::Module(owner, Member::Function(function), Some(taken)),
             Arrivals {
-                terms: Terms::One(Term::Expression(ExprNode::Name(variable, Some(result_type)))),
+                terms: Terms::One(ExprNode::Name(variable, Some(result_type))),
                 node: Node::Function(node),
                 block: true,
             },

@@ -33,7 +33,7 @@ impl Ast {
             TypeNode::Scalar(_)
             | TypeNode::Vector(_, _, _)
             | TypeNode::External(_)
-            | TypeNode::Package(_, _)
+            | TypeNode::Package(_)
             | TypeNode::Packed(_, _) => true,
         }
     }
@@ -50,7 +50,7 @@ impl Ast {
             | TypeNode::Integer(_)
             | TypeNode::Int(_)
             | TypeNode::External(_)
-            | TypeNode::Package(_, _) => true,
+            | TypeNode::Package(_) => true,
         }
     }
 
@@ -68,7 +68,7 @@ impl Ast {
             TypeNode::Integer(_) => None,
             TypeNode::Int(_) => None,
             TypeNode::External(_) => None,
-            TypeNode::Package(_, _) => None,
+            TypeNode::Package(_) => None,
         }
     }
 
@@ -109,7 +109,7 @@ impl Ast {
             | TypeNode::Integer(_)
             | TypeNode::Int(_)
             | TypeNode::External(_)
-            | TypeNode::Package(_, _)
+            | TypeNode::Package(_)
             | TypeNode::Packed(_, _)
             | TypeNode::Unpacked(_, _) => None,
         }
@@ -126,7 +126,7 @@ impl Ast {
             TypeNode::Integer(signed) => *signed,
             TypeNode::Int(signed) => *signed,
             TypeNode::External(_)
-            | TypeNode::Package(_, _)
+            | TypeNode::Package(_)
             | TypeNode::Packed(_, _)
             | TypeNode::Unpacked(_, _) => false,
         }

@@ -17,7 +17,7 @@ use crate::ast::Ast;
 use crate::ast::arrivals::{Arrivals, Node, Terms};
 use crate::ast::scope::Scope;
 use crate::handle::{Expr, GenerateLoop, LogicRef};
-use crate::node::{ExprNode, LoopNode, Member, Nest, Term};
+use crate::node::{ExprNode, LoopNode, Member, Nest};
 use std::alloc::AllocError;
 
 impl Ast {
@@ -63,7 +63,7 @@ impl Ast {
             scope,
             Member::Loop(generate_loop),
             Arrivals {
-                terms: Terms::One(Term::Expression(ExprNode::Name(variable, None))),
+                terms: Terms::One(ExprNode::Name(variable, None)),
                 node: Node::Container(Nest::Loop(node)),
                 block: false,
             },

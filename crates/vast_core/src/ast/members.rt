@@ -10,7 +10,7 @@ use crate::ast::Ast;
 use crate::ast::arrivals::{Arrivals, Node, Terms};
 use crate::ast::growth::Place;
 use crate::handle::{LogicRef, VastDataType, VastModule};
-use crate::node::{ExprNode, Member, Term};
+use crate::node::{ExprNode, Member};
 use std::alloc::AllocError;
 use vast_literal::DataKind;
 
@@ -48,7 +48,7 @@ impl Ast {
                 Some(taken_name),
             ),
             Arrivals {
-                terms: Terms::One(Term::Expression(ExprNode::Name(node_name, Some(data_type)))),
+                terms: Terms::One(ExprNode::Name(node_name, Some(data_type))),
                 node: Node::Nothing,
                 block: false,
             },

@@ -15,7 +15,7 @@ use crate::ast::arrivals::{Arrivals, Node, Terms};
 use crate::ast::growth::Place;
 use crate::ast::scope::Scope;
 use crate::handle::{Expr, LocalparamRef, LogicRef, ParameterRef, VastDataType, VastModule};
-use crate::node::{ExprNode, Member, ParameterForm, ParameterPort, Term};
+use crate::node::{ExprNode, Member, ParameterForm, ParameterPort};
 use std::alloc::AllocError;
 
 impl Ast {
@@ -51,7 +51,7 @@ impl Ast {
         self.grow(
             Place::Header(owner, port),
             Arrivals {
-                terms: Terms::One(Term::Expression(ExprNode::Name(node_name, data_type))),
+                terms: Terms::One(ExprNode::Name(node_name, data_type)),
                 node: Node::Nothing,
                 block: false,
             },
@@ -100,7 +100,7 @@ impl Ast {
             scope,
             Member::Parameter(local, form, value),
             Arrivals {
-                terms: Terms::One(Term::Expression(ExprNode::Name(name, data_type))),
+                terms: Terms::One(ExprNode::Name(name, data_type)),
                 node: Node::Nothing,
                 block: false,
             },

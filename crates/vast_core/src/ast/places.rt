@@ -12,7 +12,7 @@ ghost use Rattle.vast_core.specs.View.{bench};
 
 use crate::ast::Ast;
 use crate::handle::Id;
-use crate::node::{Artifact, Assignment, Nest, Term};
+use crate::node::{Artifact, Assignment, ExprNode, Nest};
 
 impl Ast {
     pub(crate) fn gave(&self, id: Id) -> bool
@@ -25,8 +25,8 @@ impl Ast {
         ensures { result ≡ is_expr_root (slice_get (bench self.now).nodes.roots index) }
     {
         match self.node(index) {
-            Some(Term::Expression(_)) => true,
-            Some(Term::DataType(_)) => false,
+            Some(ExprNode::DataType(_)) => false,
+            Some(_) => true,
             None => false,
         }
     }
@@ -35,8 +35,8 @@ impl Ast {
         ensures { result ≡ is_type_root (slice_get (bench self.now).nodes.roots index) }
     {
         match self.node(index) {
-            Some(Term::Expression(_)) => false,
-            Some(Term::DataType(_)) => true,
+            Some(ExprNode::DataType(_)) => true,
+            Some(_) => false,
             None => false,
         }
     }
@@ -45,8 +45,7 @@ impl Ast {
         ensures { result ≡ has_root is_name (bench self.now) index }
     {
         match self.node(index) {
-            Some(Term::Expression(node)) => node.is_name(),
-            Some(Term::DataType(_)) => false,
+            Some(node) => node.is_name(),
             None => false,
         }
     }
@@ -55,8 +54,7 @@ impl Ast {
         ensures { result ≡ has_root is_index (bench self.now) index }
     {
         match self.node(index) {
-            Some(Term::Expression(node)) => node.is_index(),
-            Some(Term::DataType(_)) => false,
+            Some(node) => node.is_index(),
             None => false,
         }
     }
@@ -65,8 +63,7 @@ impl Ast {
         ensures { result ≡ has_root is_slice (bench self.now) index }
     {
         match self.node(index) {
-            Some(Term::Expression(node)) => node.is_slice(),
-            Some(Term::DataType(_)) => false,
+            Some(node) => node.is_slice(),
             None => false,
         }
     }
@@ -75,8 +72,7 @@ impl Ast {
         ensures { result ≡ has_root is_macro (bench self.now) index }
     {
         match self.node(index) {
-            Some(Term::Expression(node)) => node.is_macro(),
-            Some(Term::DataType(_)) => false,
+            Some(node) => node.is_macro(),
             None => false,
         }
     }

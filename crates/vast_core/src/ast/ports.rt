@@ -11,7 +11,7 @@ use crate::ast::Ast;
 use crate::ast::arrivals::{Arrivals, Node, Terms};
 use crate::ast::growth::Place;
 use crate::handle::{LogicRef, ModulePort, VastDataType, VastModule};
-use crate::node::{ExprNode, Port, Term};
+use crate::node::{ExprNode, Port};
 use std::alloc::AllocError;
 use vast_literal::{DataKind, ModulePortDirection};
 
@@ -47,7 +47,7 @@ impl Ast {
         self.grow(
             Place::Ports(owner, port, taken_name),
             Arrivals {
-                terms: Terms::One(Term::Expression(ExprNode::Name(node_name, Some(data_type)))),
+                terms: Terms::One(ExprNode::Name(node_name, Some(data_type))),
                 node: Node::Port(Port {
                     direction,
                     kind,

@@ -13,7 +13,7 @@ use crate::ast::Ast;
 use crate::ast::arrivals::{Arrivals, Node, Terms};
 use crate::ast::growth::Place;
 use crate::handle::{Expr, VastDataType};
-use crate::node::{ExprNode, Term, TypeNode};
+use crate::node::{ExprNode, TypeNode};
 use std::alloc::AllocError;
 
 impl Ast {
@@ -33,7 +33,7 @@ impl Ast {
         )
     }
 
-    pub(crate) fn node(&self, index: usize) -> Option<&Term>
+    pub(crate) fn node(&self, index: usize) -> Option<&ExprNode>
         ensures none { IfNone result (slice_get (bench self.now).nodes.roots index ≡ None) }
         ensures some { IfSome result (λ t. IsNodeAt (bench self.now).nodes index t.now) }
     {
@@ -56,8 +56,8 @@ impl Ast {
         ensures well_formed { ExprWellFormed (tree_of (bench self.now) e) }
     {
         match self.node(e.id.index) {
-            Some(Term::Expression(node)) => node,
-            Some(Term::DataType(_)) => unreachable!(),
+            Some(ExprNode::DataType(_)) => unreachable!(),
+            Some(node) => node,
             None => unreachable!(),
         }
     }
@@ -74,8 +74,8 @@ impl Ast {
         ensures well_formed { TypeWellFormed (type_of (bench self.now) t) }
     {
         match self.node(t.id.index) {
-            Some(Term::DataType(node)) => node,
-            Some(Term::Expression(_)) => unreachable!(),
+            Some(ExprNode::DataType(node)) => node,
+            Some(_) => unreachable!(),
             None => unreachable!(),
         }
     }

@@ -10,7 +10,7 @@ ghost use Rattle.vast_core.specs.View.{bench};
 use crate::ast::Ast;
 use crate::ast::arrivals::Terms;
 use crate::handle::{Expr, VastDataType};
-use crate::node::{ExprNode, Term, TypeNode};
+use crate::node::{ExprNode, TypeNode};
 use std::alloc::AllocError;
 
 impl Ast {
@@ -29,7 +29,7 @@ impl Ast {
         let data_type = VastDataType {
             id: self.next_term(),
         };
-        self.grow_terms(Terms::One(Term::DataType(node)))?;
+        self.grow_terms(Terms::One(ExprNode::DataType(node)))?;
         Ok(data_type)
     }
 
@@ -50,8 +50,8 @@ impl Ast {
             id: self.second_term(),
         };
         self.grow_terms(Terms::Two(
-            Term::Expression(ExprNode::Literal(text, Some(bits))),
-            Term::DataType(TypeNode::Vector(width, Some(bits), signed)),
+            ExprNode::Literal(text, Some(bits)),
+            ExprNode::DataType(TypeNode::Vector(width, Some(bits), signed)),
         ))?;
         Ok(vector)
     }

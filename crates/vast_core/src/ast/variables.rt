@@ -13,7 +13,7 @@ use crate::ast::Ast;
 use crate::ast::arrivals::{Arrivals, Node, Terms};
 use crate::ast::growth::Place;
 use crate::handle::{LogicRef, VastDataType, VastFunction};
-use crate::node::{ExprNode, Function, FunctionVariable, Term};
+use crate::node::{ExprNode, Function, FunctionVariable};
 use std::alloc::AllocError;
 use vast_literal::DataKind;
 
@@ -113,7 +113,7 @@ impl Ast {
                 },
             ),
             Arrivals {
-                terms: Terms::One(Term::Expression(ExprNode::Name(node_name, Some(data_type)))),
+                terms: Terms::One(ExprNode::Name(node_name, Some(data_type))),
                 node: Node::Nothing,
                 block: false,
             },
