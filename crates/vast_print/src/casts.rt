@@ -148,9 +148,15 @@ pub(crate) fn begin_type_cast(
             Ok(())
         }
         TypeNode::External(name) => begin_external_cast(ast, name, operand, depth, out, work),
-        TypeNode::Package(package_name, name) => {
-            begin_package_cast(ast, package_name, name, operand, depth, out, work)
-        }
+        TypeNode::Package(package) => begin_package_cast(
+            ast,
+            &package.package_name,
+            &package.name,
+            operand,
+            depth,
+            out,
+            work,
+        ),
         TypeNode::Packed(_, _) | TypeNode::Unpacked(_, _) => {
             begin_external_cast(ast, "", operand, depth, out, work)
         }

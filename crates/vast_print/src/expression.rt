@@ -10,7 +10,7 @@ ghost use Rattle.vast_print.specs.Text.{expr_text};
 ghost use Rattle.vast_print.specs.Pieces.{expr_weight, piece_weight, piece_text, PieceOwned, PiecesOwned, Begins, BeginsExpr};
 
 use crate::casts::{begin_type_cast, begin_width_cast};
-use crate::lists::{begin_call, begin_concat, begin_macro, begin_pattern};
+use crate::lists::{begin_call, begin_concat, begin_macro_call, begin_pattern, print_macro};
 use crate::operators::{begin_binary, begin_negedge, begin_posedge, begin_ternary, begin_unary};
 use crate::pieces::{Piece, push_plain};
 use crate::refusal::PrintFault;
@@ -153,8 +153,12 @@ fn begin(
         )?,
         ExprNode::PosEdge(operand) => begin_posedge(ast, *operand, depth, out, work)?,
         ExprNode::NegEdge(operand) => begin_negedge(ast, *operand, depth, out, work)?,
-        ExprNode::Macro(name, arguments) => begin_macro(ast, name, arguments, depth, out, work)?,
+        ExprNode::Macro(name) => print_macro(name, depth, out)?,
+        ExprNode::MacroCall(name, arguments) => begin_macro_call(
+            ast, name, arguments, depth, out, work,
+        )?,
         ExprNode::Call(name, arguments) => begin_call(ast, name, arguments, depth, out, work)?,
+        ExprNode::DataType(_) => unreachable!(),
     }
     Ok(())
 }

@@ -44,7 +44,7 @@ fn result_kind(ast: &Ast, t: VastDataType) -> DataKind
         TypeNode::Scalar(_) => port_kind(ast, dialect_kind(ast), t),
         TypeNode::Vector(_, _, _) => port_kind(ast, dialect_kind(ast), t),
         TypeNode::External(_) => port_kind(ast, dialect_kind(ast), t),
-        TypeNode::Package(_, _) => port_kind(ast, dialect_kind(ast), t),
+        TypeNode::Package(_) => port_kind(ast, dialect_kind(ast), t),
         TypeNode::Packed(_, _) => port_kind(ast, dialect_kind(ast), t),
         TypeNode::Unpacked(_, _) => port_kind(ast, dialect_kind(ast), t),
     }

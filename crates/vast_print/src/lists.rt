@@ -1,10 +1,12 @@
-//! Concatenations, patterns, and calls with arguments.
+//! Concatenations, patterns, macros, and calls with arguments.
 
 ghost use Rattle.std.specs.Prelude.{All, IfSome};
-ghost use Rattle.vast_literal.specs.Tree.{ConcatTree, PatternTree, MacroTree, CallTree};
+ghost use Rattle.vast_literal.specs.Tree.{ConcatTree, PatternTree, MacroTree, CallTree, NoArguments, SomeArguments};
 ghost use Rattle.vast_core.specs.Bench.{OwnsExpr, maybe_tree_of, trees_of};
-ghost use Rattle.vast_core.specs.Nodes.{maybe_exprs_in};
 ghost use Rattle.vast_core.specs.View.{bench};
+ghost use Rattle.vast_print.specs.Ink.{Writes, Wet, pour};
+ghost use Rattle.vast_print.specs.Page.{written};
+ghost use Rattle.vast_print.specs.Text.{expr_text};
 ghost use Rattle.vast_print.specs.Pieces.{PiecesOwned, BeginsExpr};
 
 use crate::pieces::{Piece, push_list, push_part, push_plain};
@@ -63,31 +65,36 @@ pub(crate) fn begin_pattern(
 }
 
 #[tactic(auto, using(crate::proofs::PieceLaws::lists))]
-pub(crate) fn begin_macro(
+pub(crate) fn print_macro(name: &str, depth: usize, out: &mut Writer) -> Result<(), PrintFault>
+    ensures { Writes
+        (pour depth (Wet out.old) (written (expr_text (MacroTree name.now NoArguments)))) out.new
+        result }
+{
+    out.word("`")?;
+    out.written(depth, name)?;
+    Ok(())
+}
+
+#[tactic(auto, using(crate::proofs::PieceLaws::lists))]
+pub(crate) fn begin_macro_call(
     ast: &Ast,
     name: &str,
-    arguments: &Option<Vec<Expr>>,
+    arguments: &[Expr],
     depth: usize,
     out: &mut Writer,
     work: &mut Vec<Piece>,
 ) -> Result<(), PrintFault>
-    requires arguments { IfSome arguments.now
-        (λ parts. All (OwnsExpr (bench ast.now)) parts.items) }
+    requires arguments { All (OwnsExpr (bench ast.now)) arguments.now }
     requires owned { PiecesOwned (bench ast.now) work.old.items }
     ensures { BeginsExpr (bench ast.now) depth out.old out.new work.old.items work.new.items
-        (MacroTree name.now (maybe_exprs_in (bench ast.now).nodes arguments.now)) result }
+        (MacroTree name.now (SomeArguments (trees_of (bench ast.now) arguments.now))) result }
 {
     out.word("`")?;
     out.written(depth, name)?;
-    match arguments {
-        Some(arguments) => {
-            out.word("(")?;
-            push_plain(ast, ")", work)?;
-            push_list(ast, arguments, work)?;
-            Ok(())
-        }
-        None => Ok(()),
-    }
+    out.word("(")?;
+    push_plain(ast, ")", work)?;
+    push_list(ast, arguments, work)?;
+    Ok(())
 }
 
 #[tactic(auto, using(crate::proofs::PieceLaws::lists))]

@@ -31,7 +31,7 @@ fn base_kind(ast: &Ast, t: VastDataType) -> DataKind
         TypeNode::Integer(_) => DataKind::Integer,
         TypeNode::Int(_) => DataKind::Int,
         TypeNode::External(_) => DataKind::User,
-        TypeNode::Package(_, _) => DataKind::User,
+        TypeNode::Package(_) => DataKind::User,
         TypeNode::Packed(_, _) => DataKind::User,
         TypeNode::Unpacked(_, _) => DataKind::User,
     }

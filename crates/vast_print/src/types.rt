@@ -25,7 +25,7 @@ pub(crate) fn is_external(ast: &Ast, t: VastDataType) -> bool
 {
     match ast.data_type(ast.base_type(t)) {
         TypeNode::External(_) => true,
-        TypeNode::Package(_, _) => true,
+        TypeNode::Package(_) => true,
         _ => false,
     }
 }
@@ -77,7 +77,7 @@ fn has_packed(ast: &Ast, t: VastDataType) -> bool
             TypeNode::Integer(_) => return false,
             TypeNode::Int(_) => return false,
             TypeNode::External(_) => return false,
-            TypeNode::Package(_, _) => return false,
+            TypeNode::Package(_) => return false,
         }
     }
 }
@@ -109,7 +109,7 @@ fn print_packed(
             TypeNode::Integer(_) => return Ok(()),
             TypeNode::Int(_) => return Ok(()),
             TypeNode::External(_) => return Ok(()),
-            TypeNode::Package(_, _) => return Ok(()),
+            TypeNode::Package(_) => return Ok(()),
         }
     }
 }
@@ -211,10 +211,10 @@ pub(crate) fn print_type(
             print_spaced_name(name, depth, out)?;
             print_spaced_packed(ast, t, depth, out)
         }
-        TypeNode::Package(package_name, name) => {
-            out.written(depth, package_name)?;
+        TypeNode::Package(package) => {
+            out.written(depth, &package.package_name)?;
             out.word("::")?;
-            out.written(depth, name)?;
+            out.written(depth, &package.name)?;
             out.word(" ")?;
             print_spaced_packed(ast, t, depth, out)
         }
@@ -295,7 +295,7 @@ pub(crate) fn print_dimensions(
             TypeNode::Integer(_) => return Ok(()),
             TypeNode::Int(_) => return Ok(()),
             TypeNode::External(_) => return Ok(()),
-            TypeNode::Package(_, _) => return Ok(()),
+            TypeNode::Package(_) => return Ok(()),
         }
     }
 }
