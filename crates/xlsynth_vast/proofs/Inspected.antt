@@ -9,7 +9,7 @@ use Rattle.vast_core.specs.declared.handle.Expr.{Expr}
 use Rattle.vast_core.specs.declared.handle.VastDataType.{VastDataType}
 use Rattle.vast_core.specs.declared.handle.ModulePort.{ModulePort}
 use Rattle.vast_core.specs.declared.node.ExprNode.{ExprNode}
-use Rattle.vast_core.specs.declared.node.ExprNode.TheVariants.{Name, Literal, StringText, Unary, Binary, Ternary, Index, Slice, PartSelect, Concat, Pattern, WidthCast, TypeCast, PosEdge, NegEdge, Macro, Call}
+use Rattle.vast_core.specs.declared.node.ExprNode.TheVariants.{Name, Literal, StringText, Unary, Binary, Ternary, Index, Slice, PartSelect, Concat, Pattern, WidthCast, TypeCast, PosEdge, NegEdge, Macro, MacroCall, Call, DataType}
 use Rattle.vast_core.specs.declared.bits.BitCountFault.{BitCountFault}
 use Rattle.vast_core.specs.declared.bits.BitCountFault.TheVariants.{Overflow, Symbolic, External}
 use Rattle.vast_core.specs.Nodes.{Nodes, Root, ExprRoot, TypeRoot, is_name, is_root_of, expr_of_root, expr_tree, expr_in}
@@ -47,8 +47,10 @@ no_other_node b (WidthCast width operand) h other = cc
 no_other_node b (TypeCast type operand) h other = cc
 no_other_node b (PosEdge operand) h other = cc
 no_other_node b (NegEdge operand) h other = cc
-no_other_node b (Macro name given) h other = cc
+no_other_node b (Macro name) h other = cc
+no_other_node b (MacroCall name given) h other = cc
 no_other_node b (Call name given) h other = cc
+no_other_node b (DataType n) h other = cc
 
 -- Bits that aren't known.
 

@@ -55,7 +55,7 @@ impl VastFile {
             | TypeNode::Integer(_)
             | TypeNode::Int(_)
             | TypeNode::External(_)
-            | TypeNode::Package(_, _)
+            | TypeNode::Package(_)
             | TypeNode::Packed(_, _) => false,
         }
     }

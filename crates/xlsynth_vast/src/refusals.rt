@@ -54,8 +54,9 @@ pub(crate) fn no_known_width(ast: &Ast, data_type: VastDataType) -> VastFault
         TypeNode::External(name) => refusal(format!(in alloc;
             "external type `{name}` has no known bit width"
         )),
-        TypeNode::Package(package, name) => refusal(format!(in alloc;
-            "external type `{package}::{name}` has no known bit width"
+        TypeNode::Package(package) => refusal(format!(in alloc;
+            "external type `{}::{}` has no known bit width",
+            package.package_name, package.name
         )),
         _ => unreachable!(),
     }

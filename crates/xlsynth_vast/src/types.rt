@@ -15,7 +15,7 @@ ghost use Rattle.xlsynth_vast.specs.Widths.{declared_width, flat_bits};
 use crate::file::VastFile;
 use crate::refusals::{count_exceeds, no_declared_width, no_known_width, no_literal};
 use std::alloc::AllocError;
-use vast_core::{BitCountFault, Expr, TypeNode, VastDataType, WidthFault};
+use vast_core::{BitCountFault, Expr, PackageName, TypeNode, VastDataType, WidthFault};
 use vast_literal::VastFault;
 
 impl VastFile {
@@ -111,7 +111,9 @@ impl VastFile {
     {
         let package_name = String::from_str(self.ast.allocator(), package_name)?;
         let name = String::from_str(self.ast.allocator(), name)?;
-        self.ast.push_type(TypeNode::Package(package_name, name))
+        let package = PackageName { package_name, name };
+        let package = Box::new(self.ast.allocator(), package)?;
+        self.ast.push_type(TypeNode::Package(package))
     }
 
     /// The packed array of elements of a type, with its dimensions from the outermost;

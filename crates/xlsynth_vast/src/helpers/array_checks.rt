@@ -60,7 +60,7 @@ fn packed_dimensions(ast: &Ast, data_type: VastDataType) -> Result<Vec<i64>, All
             TypeNode::Integer(_) => return Ok(made),
             TypeNode::Int(_) => return Ok(made),
             TypeNode::External(_) => return Ok(made),
-            TypeNode::Package(_, _) => return Ok(made),
+            TypeNode::Package(_) => return Ok(made),
         }
     }
 }
@@ -97,8 +97,10 @@ fn known_type(ast: &Ast, e: Expr) -> Option<(VastDataType, usize)>
             ExprNode::WidthCast(_, _) => return None,
             ExprNode::PosEdge(_) => return None,
             ExprNode::NegEdge(_) => return None,
-            ExprNode::Macro(_, _) => return None,
+            ExprNode::Macro(_) => return None,
+            ExprNode::MacroCall(_, _) => return None,
             ExprNode::Call(_, _) => return None,
+            ExprNode::DataType(_) => return None,
         }
     }
 }

@@ -18,9 +18,9 @@ returns-in-External c =
 pub returns-in-Package : goal.returns-in-Package
 returns-in-Package c =
     let b = bench c.args.ast.now in
-    let scope = string_bytes c.in-Package.package in
-    let name = string_bytes c.in-Package.name in
+    let scope = string_bytes c.deref.result.now.package_name in
+    let name = string_bytes c.deref-in-Package.result.now.name in
     let words = codes "external type `" ++ (scope ++ (codes "::" ++ (name ++ codes "` has no known bit width"))) in
     let made : IfOk c.format-in-Package.result (λ s. string_bytes s ≡ words) = search rules in
-    packaged (type_of b c.args.data_type) scope name c.refusal-in-Package.result (c.data_type.ensures.tree ∙ ap (type_tree b.nodes) c.in-Package.is)
+    packaged (type_of b c.args.data_type) scope name c.refusal-in-Package.result (rw (c.deref.ensures, c.deref-in-Package.ensures) (c.data_type.ensures.tree ∙ ap (type_tree b.nodes) c.in-Package.is))
     (worded c.format-in-Package.result words c.refusal-in-Package.result made c.refusal-in-Package.ensures)
