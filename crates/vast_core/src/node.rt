@@ -11,8 +11,8 @@ use vast_literal::{
 };
 
 /// A node of the arena that expressions and types share: an expression, or a data type. Types hold widths and names hold
-/// types, so that "children are older" is one order. It is one flat enum, and a type's rarer parts are boxed, since each
-/// enum has a tag of its own in memory and each node takes as much as the largest.
+/// types, so that "children are older" is one order. It is one flat enum, and the names of a package's type are boxed,
+/// since each enum has a tag of its own in memory and each node takes as much as the largest.
 #[derive(Drop)]
 pub enum ExprNode {
     /// A name, with the type that it was declared with, if any.
