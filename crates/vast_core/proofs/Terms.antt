@@ -6,7 +6,7 @@ use Rattle.vast_core.specs.Raw.{Raw}
 use Rattle.vast_core.specs.Nodes.{no_nodes, built, RootWellFormed}
 use Rattle.vast_core.specs.Bench.{Bench, AreWellFormed}
 use Rattle.vast_core.specs.View.{bench}
-use Rattle.vast_core.specs.Growth.{Builds}
+use Rattle.vast_core.specs.Growth.{Grows}
 use Rattle.vast_core.specs.Sound.{IsSound, Each}
 use Rattle.vast_core.proofs.NodeLaws.{built-length, built-well_formed, expr-well_formed, type-well_formed}
 
@@ -40,12 +40,12 @@ pub length-assignments : (a b : Raw) → b ≡ a → length (bench a).assignment
 unfolding bench
 length-assignments a b e = rw (← e) refl
 
-pub refused : {A : Type 0} (old new : Raw) (r : Result A AllocError) (answer : Bench → A) (after : Bench → Bench) → IsErr r → bench new ≡ bench old → Builds old new r answer after
+pub refused : {A : Type 0} (old new : Raw) (r : Result A AllocError) (answer : Bench → A) (after : Bench → Bench) → IsErr r → bench new ≡ bench old → Grows old new r answer after
 refused old new (Ok x) answer after h e = cc
 refused old new (Err x) answer after h e = e
 
 -- Two changes of what the file held that leave the same.
-pub leaves-same : {A : Type 0} (old new : Raw) (r : Result A AllocError) (answer : Bench → A) (one other : Bench → Bench) → one (bench old) ≡ other (bench old) → Builds old new r answer one → Builds old new r answer other
+pub leaves-same : {A : Type 0} (old new : Raw) (r : Result A AllocError) (answer : Bench → A) (one other : Bench → Bench) → one (bench old) ≡ other (bench old) → Grows old new r answer one → Grows old new r answer other
 leaves-same old new (Ok x) answer one other e h = (h.0, h.1 ∙ e)
 leaves-same old new (Err x) answer one other e h = h
 

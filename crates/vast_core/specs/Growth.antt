@@ -26,13 +26,20 @@ use Rattle.vast_core.specs.Records.{FileEntry, ModuleEntry, MemberEntry, Declara
 use Rattle.vast_core.specs.Bench.{Bench, tree_of, trees_of, type_of}
 
 -- The call answers this and leaves this, both of what the file held; or memory was refused and nothing changed.
-abbrev pub Builds : {A : Type 0} → (old new : Raw) → Result A AllocError → (Bench → A) → (Bench → Bench) → Type 0
-Builds old new (Ok x) answer after = (x ≡ answer (bench old)) × (bench new ≡ after (bench old))
-Builds old new (Err _) answer after = bench new ≡ bench old
+abbrev pub Builds : {A : Type 0} → (old new : Bench) → Result A AllocError → (Bench → A) → (Bench → Bench) → Type 0
+Builds old new (Ok x) answer after = (x ≡ answer old) × (new ≡ after old)
+Builds old new (Err _) answer after = new ≡ old
 
 -- The same of a call that answers nothing.
-abbrev pub Leaves : (old new : Raw) → Result (Unit {0}) AllocError → (Bench → Bench) → Type 0
+abbrev pub Leaves : (old new : Bench) → Result (Unit {0}) AllocError → (Bench → Bench) → Type 0
 Leaves old new result after = Builds old new result (λ _. tt) after
+
+-- The same two of the arenas that hold the file.
+abbrev pub Grows : {A : Type 0} → (old new : Raw) → Result A AllocError → (Bench → A) → (Bench → Bench) → Type 0
+Grows old new result answer after = Builds (bench old) (bench new) result answer after
+
+abbrev pub GrowsBy : (old new : Raw) → Result (Unit {0}) AllocError → (Bench → Bench) → Type 0
+GrowsBy old new result after = Leaves (bench old) (bench new) result after
 
 abbrev pub with_root : Bench → Root → Bench
 with_root b r = record b { nodes = with_node b.nodes r }

@@ -7,7 +7,7 @@ ghost use Rattle.vast_core.specs.Records.{AlwaysEntry};
 ghost use Rattle.vast_core.specs.Nests.{always_record};
 ghost use Rattle.vast_core.specs.Bench.{OwnsAlways, OwnsBlock};
 ghost use Rattle.vast_core.specs.Sound.{EventSound};
-ghost use Rattle.vast_core.specs.Growth.{Builds};
+ghost use Rattle.vast_core.specs.Growth.{Grows};
 ghost use Rattle.vast_core.specs.Loops.{next_always, with_always};
 ghost use Rattle.vast_core.specs.Unattached.{with_always_over};
 ghost use Rattle.vast_core.specs.Scopes.{OwnsScope, IsOlder, with_scope_member};
@@ -31,7 +31,7 @@ impl Ast {
     ) -> Result<VastAlwaysBase, AllocError>
         requires scope { OwnsScope (bench self.old) scope }
         requires events { All (EventSound (bench self.old)) events.items }
-        ensures { Builds self.old self.new result next_always
+        ensures { Grows self.old self.new result next_always
             (λ b. with_scope_member scope (AlwaysEntry (next_always b))
             (with_always kind events.items b)) }
     {
@@ -69,7 +69,7 @@ impl Ast {
     ) -> Result<VastAlwaysBase, AllocError>
         requires scope { OwnsScope (bench self.old) scope }
         requires events { All (EventSound (bench self.old)) events.items }
-        ensures { Builds self.old self.new result next_always
+        ensures { Grows self.old self.new result next_always
             (λ b. with_scope_member scope (AlwaysEntry (next_always b))
             (with_always AlwaysFF events.items b)) }
     {
@@ -88,7 +88,7 @@ impl Ast {
     ) -> Result<VastAlwaysBase, AllocError>
         requires scope { OwnsScope (bench self.old) scope }
         requires events { All (EventSound (bench self.old)) events.items }
-        ensures { Builds self.old self.new result next_always
+        ensures { Grows self.old self.new result next_always
             (λ b. with_scope_member scope (AlwaysEntry (next_always b))
             (with_always AlwaysAt events.items b)) }
     {
@@ -101,7 +101,7 @@ impl Ast {
     /// `AllocError` where a growth was refused; nothing changed.
     pub fn push_always_comb(&mut self, scope: Scope) -> Result<VastAlwaysBase, AllocError>
         requires { OwnsScope (bench self.old) scope }
-        ensures { Builds self.old self.new result next_always
+        ensures { Grows self.old self.new result next_always
             (λ b. with_scope_member scope (AlwaysEntry (next_always b))
             (with_always AlwaysComb [] b)) }
     {
@@ -124,7 +124,7 @@ impl Ast {
         requires events { All (EventSound (bench self.old)) events.items }
         requires spare { (bench self.old).spare ≡ Some block }
         requires older { IsOlder scope block }
-        ensures { Builds self.old self.new result next_always
+        ensures { Grows self.old self.new result next_always
             (λ b. with_scope_member scope (AlwaysEntry (next_always b))
             (with_always_over AlwaysFF events.items block b)) }
     {

@@ -6,7 +6,7 @@ ghost use Rattle.vast_core.specs.Records.{artifact_record, definition_record, co
 ghost use Rattle.vast_core.specs.Bench.{OwnsType, OwnsMacroRef, OwnsDef, OwnsComment, OwnsInline, OwnsMacroStatement, OwnsInstantiation};
 ghost use Rattle.vast_core.specs.WrittenKinds.{HasValue};
 ghost use Rattle.vast_core.specs.Sound.{ArtifactSound, ConnectionSound};
-ghost use Rattle.vast_core.specs.Growth.{Builds};
+ghost use Rattle.vast_core.specs.Growth.{Grows};
 ghost use Rattle.vast_core.specs.Artifacts.{next_def, with_definition, next_artifact, next_blank_line, next_comment, next_inline, next_macro_statement, with_artifact, next_instantiation, with_instance};
 ghost use Rattle.vast_core.specs.View.{bench};
 
@@ -34,7 +34,7 @@ impl Ast {
         data_type: VastDataType,
     ) -> Result<Def, AllocError>
         requires { OwnsType (bench self.old) data_type }
-        ensures { Builds self.old self.new result next_def
+        ensures { Grows self.old self.new result next_def
             (with_definition (record { name = name.now; kind = kind; data_type = data_type })) }
     {
         let name = String::from_str(self.alloc, name)?;
@@ -57,7 +57,7 @@ impl Ast {
     #[tactic(auto, using(crate::proofs::EntersRecords::enters_records))]
     fn push_artifact(&mut self, artifact: Artifact) -> Result<Id, AllocError>
         requires { ArtifactSound (bench self.old) (artifact_record artifact) }
-        ensures { Builds self.old self.new result next_artifact
+        ensures { Grows self.old self.new result next_artifact
             (with_artifact (artifact_record artifact)) }
     {
         let id = self.next_artifact();
@@ -77,7 +77,7 @@ impl Ast {
     /// # Errors
     /// `AllocError` where a growth was refused; nothing changed.
     pub fn push_blank_line(&mut self) -> Result<BlankLine, AllocError>
-        ensures { Builds self.old self.new result next_blank_line (with_artifact BlankLineRecord) }
+        ensures { Grows self.old self.new result next_blank_line (with_artifact BlankLineRecord) }
     {
         let id = self.push_artifact(Artifact::BlankLine)?;
         Ok(BlankLine { id })
@@ -88,7 +88,7 @@ impl Ast {
     /// # Errors
     /// `AllocError` where a growth was refused; nothing changed.
     pub fn push_comment(&mut self, text: &str) -> Result<Comment, AllocError>
-        ensures { Builds self.old self.new result next_comment
+        ensures { Grows self.old self.new result next_comment
             (with_artifact (CommentRecord text.now)) }
     {
         let text = String::from_str(self.alloc, text)?;
@@ -101,7 +101,7 @@ impl Ast {
     /// # Errors
     /// `AllocError` where a growth was refused; nothing changed.
     pub fn push_inline(&mut self, text: &str) -> Result<InlineVerilogStatement, AllocError>
-        ensures { Builds self.old self.new result next_inline
+        ensures { Grows self.old self.new result next_inline
             (with_artifact (InlineRecord text.now)) }
     {
         let text = String::from_str(self.alloc, text)?;
@@ -119,7 +119,7 @@ impl Ast {
         semicolon: bool,
     ) -> Result<MacroStatement, AllocError>
         requires { OwnsMacroRef (bench self.old) call }
-        ensures { Builds self.old self.new result next_macro_statement
+        ensures { Grows self.old self.new result next_macro_statement
             (with_artifact (MacroRecord call semicolon)) }
     {
         let id = self.push_artifact(Artifact::MacroStatement(call, semicolon))?;
@@ -143,7 +143,7 @@ impl Ast {
         requires values { All (λ c. HasValue (connection_record c)) parameters.items }
         requires connections { All (λ c. ConnectionSound (bench self.old) (connection_record c))
             connections.items }
-        ensures { Builds self.old self.new result next_instantiation
+        ensures { Grows self.old self.new result next_instantiation
             (with_instance
             (record {
               module_name = module_name.now;

@@ -3,7 +3,7 @@
 ghost use Rattle.std.specs.Prelude.{◌≡◌, false, slice_get};
 ghost use Rattle.vast_core.specs.Handles.{continuous_index, statement_index};
 ghost use Rattle.vast_core.specs.Bench.{OwnsContinuous, OwnsStatement, OwnsExpr};
-ghost use Rattle.vast_core.specs.Growth.{Builds, next_continuous, with_assignment};
+ghost use Rattle.vast_core.specs.Growth.{Grows, next_continuous, with_assignment};
 ghost use Rattle.vast_core.specs.Artifacts.{next_statement};
 ghost use Rattle.vast_core.specs.View.{bench};
 
@@ -26,7 +26,7 @@ impl Ast {
     ) -> Result<ContinuousAssignment, AllocError>
         requires lhs { OwnsExpr (bench self.old) lhs }
         requires rhs { OwnsExpr (bench self.old) rhs }
-        ensures { Builds self.old self.new result next_continuous
+        ensures { Grows self.old self.new result next_continuous
             (with_assignment (record { lhs = lhs; rhs = rhs; nonblocking = false })) }
     {
         let assignment = self.push_assignment(lhs, rhs, false)?;
@@ -46,7 +46,7 @@ impl Ast {
     ) -> Result<VastStatement, AllocError>
         requires lhs { OwnsExpr (bench self.old) lhs }
         requires rhs { OwnsExpr (bench self.old) rhs }
-        ensures { Builds self.old self.new result next_statement
+        ensures { Grows self.old self.new result next_statement
             (with_assignment (record { lhs = lhs; rhs = rhs; nonblocking = nonblocking })) }
     {
         let id = self.next_assignment();

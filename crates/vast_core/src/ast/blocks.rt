@@ -7,7 +7,7 @@ ghost use Rattle.vast_core.specs.Parents.{held_by_statement};
 ghost use Rattle.vast_core.specs.Bench.{OwnsBlock};
 ghost use Rattle.vast_core.specs.Sound.{StatementSound};
 ghost use Rattle.vast_core.specs.FileTree.{block_tree, statements_tree};
-ghost use Rattle.vast_core.specs.Growth.{Leaves};
+ghost use Rattle.vast_core.specs.Growth.{GrowsBy};
 ghost use Rattle.vast_core.specs.Containers.{with_statement};
 ghost use Rattle.vast_core.specs.View.{bench};
 
@@ -33,7 +33,7 @@ impl Ast {
         requires statement { StatementSound (bench self.old) (block_index owner)
             (statement_entry statement) }
         requires no_part { held_by_statement (statement_entry statement) ≡ [] }
-        ensures { Leaves self.old self.new result
+        ensures { GrowsBy self.old self.new result
             (with_statement owner (statement_entry statement)) }
     {
         self.grow(

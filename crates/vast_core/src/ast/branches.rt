@@ -7,7 +7,7 @@ ghost use Rattle.vast_core.specs.Bench.{OwnsBlock, OwnsExpr, OwnsConditional, Ow
 ghost use Rattle.vast_core.specs.Sound.{ConditionalSound, CaseSound};
 ghost use Rattle.vast_core.specs.FileTree.{ConditionalFamily, CaseFamily, families, block_tree, alternates_tree, case_arms_tree};
 ghost use Rattle.vast_literal.specs.Tree.{CaseTree};
-ghost use Rattle.vast_core.specs.Growth.{Builds, Leaves};
+ghost use Rattle.vast_core.specs.Growth.{Grows, GrowsBy};
 ghost use Rattle.vast_core.specs.Containers.{InNest, GrowthSound, new_conditional, fresh_block, with_nest_entry, with_block, with_statement, next_case, with_case, next_block, with_else_if, with_else, with_case_arm, has_else, with_unique, with_case_unique};
 ghost use Rattle.vast_core.specs.Arrivals.{entry_of};
 ghost use Rattle.vast_core.specs.View.{bench};
@@ -67,7 +67,7 @@ impl Ast {
     ) -> Result<CaseStatement, AllocError>
         requires owner { OwnsBlock (bench self.old) owner }
         requires selector { OwnsExpr (bench self.old) selector }
-        ensures { Builds self.old self.new result next_case
+        ensures { Grows self.old self.new result next_case
             (λ b. with_statement owner (CasesStatement (next_case b)) (with_case kind selector b)) }
     {
         let case = CaseStatement {
@@ -93,7 +93,7 @@ impl Ast {
     /// Adds an entry that names the next block, and that block, which is empty.
     fn grow_with_block(&mut self, place: usize, entry: Entry) -> Result<(), AllocError>
         requires { GrowthSound (bench self.old) (InNest place (entry_of entry)) fresh_block }
-        ensures { Leaves self.old self.new result
+        ensures { GrowsBy self.old self.new result
             (λ b. with_nest_entry place (entry_of entry) (with_block b)) }
     {
         self.grow(
@@ -121,7 +121,7 @@ impl Ast {
         requires condition { OwnsExpr (bench self.old) condition }
         requires no_else { has_else (slice_get (bench self.old).nests (conditional_index owner))
             ≡ false }
-        ensures { Builds self.old self.new result next_block (with_else_if owner condition) }
+        ensures { Grows self.old self.new result next_block (with_else_if owner condition) }
     {
         let block = VastStatementBlock {
             id: self.next_nest(),
@@ -143,7 +143,7 @@ impl Ast {
         requires owner { OwnsConditional (bench self.old) owner }
         requires no_else { has_else (slice_get (bench self.old).nests (conditional_index owner))
             ≡ false }
-        ensures { Builds self.old self.new result next_block (with_else owner) }
+        ensures { Grows self.old self.new result next_block (with_else owner) }
     {
         let block = VastStatementBlock {
             id: self.next_nest(),
@@ -164,7 +164,7 @@ impl Ast {
     ) -> Result<VastStatementBlock, AllocError>
         requires owner { OwnsCase (bench self.old) owner }
         requires label { IfSome label (OwnsExpr (bench self.old)) }
-        ensures { Builds self.old self.new result next_block (with_case_arm owner label) }
+        ensures { Grows self.old self.new result next_block (with_case_arm owner label) }
     {
         let block = VastStatementBlock {
             id: self.next_nest(),

@@ -5,7 +5,7 @@ ghost use Rattle.vast_core.specs.Handles.{indexable_expr_to_expr, expr_to_indexa
 ghost use Rattle.vast_core.specs.Nodes.{ExprChildrenHold, expr_tree, maybe_exprs_in};
 ghost use Rattle.vast_core.specs.Types.{ExprFits};
 ghost use Rattle.vast_core.specs.Bench.{OwnsExpr, OwnsIndexable, OwnsType, tree_of};
-ghost use Rattle.vast_core.specs.Growth.{Builds, with_expr, with_fixed_index, with_fixed_slice, with_fixed_replication, next_expr, next_index, next_fixed_index, next_slice, next_fixed_slice, next_fixed_replication, next_macro_ref};
+ghost use Rattle.vast_core.specs.Growth.{Grows, with_expr, with_fixed_index, with_fixed_slice, with_fixed_replication, next_expr, next_index, next_fixed_index, next_slice, next_fixed_slice, next_fixed_replication, next_macro_ref};
 ghost use Rattle.vast_core.specs.View.{bench};
 ghost use Rattle.vast_literal.specs.LiteralToken.{is_literal_text};
 ghost use Rattle.vast_literal.specs.Tree.{IndexTree, SliceTree, MacroTree};
@@ -34,7 +34,7 @@ impl Ast {
         requires children { ExprChildrenHold (OwnsExpr (bench self.old)) (OwnsType (bench self.old))
             node }
         requires fits { ExprFits (expr_tree (bench self.old).nodes node) }
-        ensures { Builds self.old self.new result next_expr
+        ensures { Grows self.old self.new result next_expr
             (λ b. with_expr (expr_tree b.nodes node) b) }
     {
         let expr = Expr {
@@ -51,7 +51,7 @@ impl Ast {
     pub fn push_index(&mut self, subject: IndexableExpr, index: Expr) -> Result<Index, AllocError>
         requires subject { OwnsIndexable (bench self.old) subject }
         requires index { OwnsExpr (bench self.old) index }
-        ensures { Builds self.old self.new result next_index
+        ensures { Grows self.old self.new result next_index
             (λ b. with_expr
             (IndexTree (tree_of b (indexable_expr_to_expr subject)) (tree_of b index)) b) }
     {
@@ -72,7 +72,7 @@ impl Ast {
     ) -> Result<Index, AllocError>
         requires subject { OwnsIndexable (bench self.old) subject }
         requires token { IsTrue (is_literal_text text.now) }
-        ensures { Builds self.old self.new result (next_fixed_index text.now index)
+        ensures { Grows self.old self.new result (next_fixed_index text.now index)
             (with_fixed_index subject text.now index) }
     {
         let text = String::from_str(self.alloc, text)?;
@@ -102,7 +102,7 @@ impl Ast {
         requires subject { OwnsIndexable (bench self.old) subject }
         requires high { OwnsExpr (bench self.old) high }
         requires low { OwnsExpr (bench self.old) low }
-        ensures { Builds self.old self.new result next_slice
+        ensures { Grows self.old self.new result next_slice
             (λ b. with_expr
             (SliceTree (tree_of b (indexable_expr_to_expr subject)) (tree_of b high)
             (tree_of b low)) b) }
@@ -128,7 +128,7 @@ impl Ast {
         requires subject { OwnsIndexable (bench self.old) subject }
         requires high { IsTrue (is_literal_text high_text.now) }
         requires low { IsTrue (is_literal_text low_text.now) }
-        ensures { Builds self.old self.new result
+        ensures { Grows self.old self.new result
             (next_fixed_slice high_text.now high low_text.now low)
             (with_fixed_slice subject high_text.now high low_text.now low) }
     {
@@ -158,7 +158,7 @@ impl Ast {
     #[tactic(auto, using(crate::proofs::Laws::terms, crate::proofs::Laws::older_terms, vast_literal::proofs::NumberLaws::signed_text))]
     pub fn push_replication_fixed(&mut self, count: i64, parts: &[Expr]) -> Result<Expr, AllocError>
         requires { All (OwnsExpr (bench self.old)) parts.now }
-        ensures { Builds self.old self.new result (next_fixed_replication count)
+        ensures { Grows self.old self.new result (next_fixed_replication count)
             (with_fixed_replication count parts.now) }
     {
         let text = format!(in self.alloc; "{count}")?;
@@ -186,7 +186,7 @@ impl Ast {
         arguments: Option<Vec<Expr>>,
     ) -> Result<MacroRef, AllocError>
         requires { IfSome arguments (λ parts. All (OwnsExpr (bench self.old)) parts.items) }
-        ensures { Builds self.old self.new result next_macro_ref
+        ensures { Grows self.old self.new result next_macro_ref
             (λ b. with_expr (MacroTree (string_bytes name) (maybe_exprs_in b.nodes arguments)) b) }
     {
         let node = match arguments {

@@ -6,7 +6,7 @@ ghost use Rattle.vast_core.specs.Records.{FunctionEntry};
 ghost use Rattle.vast_core.specs.Nests.{function_record};
 ghost use Rattle.vast_core.specs.Bench.{NameIsFree, OwnsModule, OwnsType, OwnsFunction};
 ghost use Rattle.vast_core.specs.Sound.{FunctionSound};
-ghost use Rattle.vast_core.specs.Growth.{Builds, with_named_member};
+ghost use Rattle.vast_core.specs.Growth.{Grows, with_named_member};
 ghost use Rattle.vast_core.specs.Loops.{next_function, with_function};
 ghost use Rattle.vast_core.specs.View.{bench};
 
@@ -34,7 +34,7 @@ impl Ast {
         requires owner { OwnsModule (bench self.old) owner }
         requires result_type { OwnsType (bench self.old) result_type }
         requires free { NameIsFree (bench self.old) owner name.now }
-        ensures { Builds self.old self.new result next_function
+        ensures { Grows self.old self.new result next_function
             (λ b. with_named_member owner (FunctionEntry (next_function b)) name.now
             (with_function name.now result_type b)) }
     {

@@ -6,7 +6,7 @@ ghost use Rattle.vast_core.specs.Nests.{nest_record, statement_entry, function_r
 ghost use Rattle.vast_core.specs.Functions.{with_listed_variable};
 ghost use Rattle.vast_core.specs.Containers.{StatementEnters, ElseIfEnters, ElseEnters, CaseArmEnters, MemberEnters, with_entry, with_listed, listed_modules, listed_nests, listed_functions, listed_items, listed_spare, spare_left, GrowthSound, HasRoom, after_growth};
 ghost use Rattle.vast_core.specs.Arrivals.{entry_of, name_of, listing_of, fresh_of, ListingThere};
-ghost use Rattle.vast_core.specs.Growth.{Leaves};
+ghost use Rattle.vast_core.specs.Growth.{GrowsBy};
 ghost use Rattle.vast_core.specs.View.{bench};
 
 use crate::ast::Ast;
@@ -351,7 +351,7 @@ impl Ast {
     fn admit(&mut self, place: Place, arrivals: Arrivals) -> Result<(), AllocError>
         requires sound { GrowthSound (bench self.old) (listing_of place) (fresh_of arrivals) }
         requires room { HasRoom self.old (fresh_of arrivals) }
-        ensures { Leaves self.old self.new result
+        ensures { GrowsBy self.old self.new result
             (after_growth (listing_of place) (fresh_of arrivals)) }
     {
         let mut spare = spare_left(arrivals.node.takes_spare(), self.spare);
@@ -389,7 +389,7 @@ impl Ast {
     #[inline(always)]
     pub(crate) fn grow(&mut self, place: Place, arrivals: Arrivals) -> Result<(), AllocError>
         requires { GrowthSound (bench self.old) (listing_of place) (fresh_of arrivals) }
-        ensures { Leaves self.old self.new result
+        ensures { GrowsBy self.old self.new result
             (after_growth (listing_of place) (fresh_of arrivals)) }
     {
         self.make_room(&arrivals)?;

@@ -5,7 +5,7 @@ ghost use Rattle.vast_core.specs.Handles.{module_index};
 ghost use Rattle.vast_core.specs.Records.{module_record, member_entry};
 ghost use Rattle.vast_core.specs.Bench.{OwnsModule};
 ghost use Rattle.vast_core.specs.Hoisting.{is_declaration, members_of, with_members_hoisted, with_hoisted};
-ghost use Rattle.vast_core.specs.Growth.{Leaves};
+ghost use Rattle.vast_core.specs.Growth.{GrowsBy};
 ghost use Rattle.vast_core.specs.View.{bench};
 
 use crate::ast::Ast;
@@ -59,7 +59,7 @@ impl Ast {
         requires owner { OwnsModule (bench self.old) owner }
         requires start { start
             ≤ length (members_of (slice_get (bench self.old).modules (module_index owner))) }
-        ensures { Leaves self.old self.new result (with_hoisted owner start) }
+        ensures { GrowsBy self.old self.new result (with_hoisted owner start) }
     {
         let target = &mut self.modules[owner.id.index];
         target.hoist(start)?;

@@ -8,7 +8,7 @@ ghost use Rattle.vast_core.specs.Bench.{OwnsLoop, OwnsExpr, OwnsLogicRef, tree_o
 ghost use Rattle.vast_core.specs.Sound.{LoopMemberSound};
 ghost use Rattle.vast_core.specs.FileTree.{LoopFamily, families, members_tree};
 ghost use Rattle.vast_literal.specs.Tree.{LoopMember};
-ghost use Rattle.vast_core.specs.Growth.{Builds};
+ghost use Rattle.vast_core.specs.Growth.{Grows};
 ghost use Rattle.vast_core.specs.Loops.{next_loop, with_loop};
 ghost use Rattle.vast_core.specs.Scopes.{OwnsScope, with_scope_member};
 ghost use Rattle.vast_core.specs.View.{bench};
@@ -38,7 +38,7 @@ impl Ast {
         requires scope { OwnsScope (bench self.old) scope }
         requires start { OwnsExpr (bench self.old) start }
         requires end { OwnsExpr (bench self.old) end }
-        ensures { Builds self.old self.new result next_loop
+        ensures { Grows self.old self.new result next_loop
             (λ b. with_scope_member scope (LoopEntry (next_loop b))
             (with_loop name.now start end (label_bytes label) b)) }
     {

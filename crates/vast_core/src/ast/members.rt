@@ -3,7 +3,7 @@
 ghost use Rattle.std.specs.Prelude.{◌≡◌};
 ghost use Rattle.vast_core.specs.WrittenKinds.{IsOwnKind};
 ghost use Rattle.vast_core.specs.Bench.{NameIsFree, OwnsModule, OwnsType};
-ghost use Rattle.vast_core.specs.Growth.{Builds, with_declaration, next_logic_ref};
+ghost use Rattle.vast_core.specs.Growth.{Grows, with_declaration, next_logic_ref};
 ghost use Rattle.vast_core.specs.View.{bench};
 
 use crate::ast::Ast;
@@ -32,7 +32,7 @@ impl Ast {
         requires kind { IsOwnKind kind }
         requires data_type { OwnsType (bench self.old) data_type }
         requires free { NameIsFree (bench self.old) owner name.now }
-        ensures { Builds self.old self.new result next_logic_ref
+        ensures { Grows self.old self.new result next_logic_ref
             (with_declaration owner kind name.now data_type) }
     {
         let node_name = String::from_str(self.alloc, name)?;

@@ -5,7 +5,7 @@ ghost use Rattle.vast_core.specs.Handles.{module_index};
 ghost use Rattle.vast_core.specs.Records.{module_record, parameter_port_record, member_entry, file_entry, IsFree, IncludeEntry, FileCommentEntry, FileBlankEntry};
 ghost use Rattle.vast_core.specs.Bench.{OwnsModule, OwnsPort};
 ghost use Rattle.vast_core.specs.Sound.{MemberSound, ParameterPortSound, EntrySound};
-ghost use Rattle.vast_core.specs.Growth.{Builds, Leaves, next_module, with_module, with_item};
+ghost use Rattle.vast_core.specs.Growth.{Grows, GrowsBy, next_module, with_module, with_item};
 ghost use Rattle.vast_core.specs.Hoisting.{members_of};
 ghost use Rattle.vast_core.specs.View.{bench};
 
@@ -32,7 +32,7 @@ impl Ast {
     /// # Errors
     /// `AllocError` where a growth was refused; nothing changed.
     pub fn push_module(&mut self, name: &str) -> Result<VastModule, AllocError>
-        ensures { Builds self.old self.new result next_module (with_module name.now) }
+        ensures { Grows self.old self.new result next_module (with_module name.now) }
     {
         let name = String::from_str(self.alloc, name)?;
         let handle = VastModule {
@@ -58,7 +58,7 @@ impl Ast {
     #[tactic(auto, using(crate::proofs::EntersRecords::enters_records))]
     fn push_item(&mut self, item: FileItem) -> Result<(), AllocError>
         requires { EntrySound (bench self.old) (file_entry item) }
-        ensures { Leaves self.old self.new result (with_item (file_entry item)) }
+        ensures { GrowsBy self.old self.new result (with_item (file_entry item)) }
     {
         self.grow(Place::File(item), Arrivals::none())
     }
@@ -68,7 +68,7 @@ impl Ast {
     /// # Errors
     /// `AllocError` where a growth was refused; nothing changed.
     pub fn append_include(&mut self, path: &str) -> Result<(), AllocError>
-        ensures { Leaves self.old self.new result (with_item (IncludeEntry path.now)) }
+        ensures { GrowsBy self.old self.new result (with_item (IncludeEntry path.now)) }
     {
         let path = String::from_str(self.alloc, path)?;
         self.push_item(FileItem::Include(path))
@@ -79,7 +79,7 @@ impl Ast {
     /// # Errors
     /// `AllocError` where a growth was refused; nothing changed.
     pub fn append_file_comment(&mut self, text: &str) -> Result<(), AllocError>
-        ensures { Leaves self.old self.new result (with_item (FileCommentEntry text.now)) }
+        ensures { GrowsBy self.old self.new result (with_item (FileCommentEntry text.now)) }
     {
         let text = String::from_str(self.alloc, text)?;
         self.push_item(FileItem::Comment(text))
@@ -90,7 +90,7 @@ impl Ast {
     /// # Errors
     /// `AllocError` where a growth was refused; nothing changed.
     pub fn append_file_blank_line(&mut self) -> Result<(), AllocError>
-        ensures { Leaves self.old self.new result (with_item FileBlankEntry) }
+        ensures { GrowsBy self.old self.new result (with_item FileBlankEntry) }
     {
         self.push_item(FileItem::BlankLine)
     }

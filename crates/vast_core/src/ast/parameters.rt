@@ -5,7 +5,7 @@ ghost use Rattle.vast_core.specs.declared.ast.scope.Scope.TheVariants.{Module as
 ghost use Rattle.vast_core.specs.Records.{form_entry};
 ghost use Rattle.vast_core.specs.Bench.{OwnsModule, OwnsExpr, OwnsType};
 ghost use Rattle.vast_core.specs.Sound.{FormSound};
-ghost use Rattle.vast_core.specs.Growth.{Builds, next_expr, next_logic_ref};
+ghost use Rattle.vast_core.specs.Growth.{Grows, next_expr, next_logic_ref};
 ghost use Rattle.vast_core.specs.Parameters.{IsDeclaredBy, with_parameter_port, next_parameter_ref, next_localparam_ref};
 ghost use Rattle.vast_core.specs.Scopes.{OwnsScope, with_scope_parameter};
 ghost use Rattle.vast_core.specs.View.{bench};
@@ -35,7 +35,7 @@ impl Ast {
         requires owner { OwnsModule (bench self.old) owner }
         requires data_type { IfSome data_type (OwnsType (bench self.old)) }
         requires value { OwnsExpr (bench self.old) value }
-        ensures { Builds self.old self.new result next_logic_ref
+        ensures { Grows self.old self.new result next_logic_ref
             (with_parameter_port owner name.now data_type value) }
     {
         let node_name = String::from_str(self.alloc, name)?;
@@ -89,7 +89,7 @@ impl Ast {
         requires scope { OwnsScope (bench self.old) scope }
         requires form { FormSound (bench self.old) (form_entry form) }
         requires value { OwnsExpr (bench self.old) value }
-        ensures { Builds self.old self.new result next_expr
+        ensures { Grows self.old self.new result next_expr
             (with_scope_parameter scope local (form_entry form) value) }
     {
         let (name, data_type) = self.declared_by(&form)?;
@@ -122,7 +122,7 @@ impl Ast {
         requires owner { OwnsModule (bench self.old) owner }
         requires form { FormSound (bench self.old) (form_entry form) }
         requires value { OwnsExpr (bench self.old) value }
-        ensures { Builds self.old self.new result next_parameter_ref
+        ensures { Grows self.old self.new result next_parameter_ref
             (with_scope_parameter (ScopeModule owner) false (form_entry form) value) }
     {
         let expr = self.push_parameter_member(Scope::Module(owner), false, form, value)?;
@@ -143,7 +143,7 @@ impl Ast {
         requires scope { OwnsScope (bench self.old) scope }
         requires form { FormSound (bench self.old) (form_entry form) }
         requires value { OwnsExpr (bench self.old) value }
-        ensures { Builds self.old self.new result next_localparam_ref
+        ensures { Grows self.old self.new result next_localparam_ref
             (with_scope_parameter scope true (form_entry form) value) }
     {
         let expr = self.push_parameter_member(scope, true, form, value)?;

@@ -4,7 +4,7 @@ ghost use Rattle.std.specs.Prelude.{◌≡◌, slice_get};
 ghost use Rattle.vast_core.specs.Handles.{port_index};
 ghost use Rattle.vast_core.specs.Records.{port_record};
 ghost use Rattle.vast_core.specs.Bench.{NameIsFree, OwnsModule, OwnsPort, OwnsType, OwnsLogicRef};
-ghost use Rattle.vast_core.specs.Growth.{Builds, next_logic_ref, with_port};
+ghost use Rattle.vast_core.specs.Growth.{Grows, next_logic_ref, with_port};
 ghost use Rattle.vast_core.specs.View.{bench};
 
 use crate::ast::Ast;
@@ -32,7 +32,7 @@ impl Ast {
         requires owner { OwnsModule (bench self.old) owner }
         requires data_type { OwnsType (bench self.old) data_type }
         requires free { NameIsFree (bench self.old) owner name.now }
-        ensures { Builds self.old self.new result next_logic_ref
+        ensures { Grows self.old self.new result next_logic_ref
             (with_port owner direction kind name.now data_type) }
     {
         let node_name = String::from_str(self.alloc, name)?;

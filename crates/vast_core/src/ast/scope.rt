@@ -4,7 +4,7 @@ ghost use Rattle.std.specs.Prelude.{◌≡◌};
 ghost use Rattle.vast_core.specs.Records.{member_entry};
 ghost use Rattle.vast_core.specs.Scopes.{OwnsScope, IsShared, listing_in, with_scope_member};
 ghost use Rattle.vast_core.specs.Arrivals.{listing_of, fresh_of};
-ghost use Rattle.vast_core.specs.Growth.{Leaves};
+ghost use Rattle.vast_core.specs.Growth.{GrowsBy};
 ghost use Rattle.vast_core.specs.Containers.{GrowthSound, with_fresh};
 ghost use Rattle.vast_core.specs.Sound.{MemberSound};
 ghost use Rattle.vast_core.specs.View.{bench};
@@ -52,7 +52,7 @@ impl Ast {
     ) -> Result<(), AllocError>
         requires { GrowthSound (bench self.old) (listing_in scope (member_entry member))
             (fresh_of arrivals) }
-        ensures { Leaves self.old self.new result
+        ensures { GrowsBy self.old self.new result
             (λ b. with_scope_member scope (member_entry member)
             (with_fresh (fresh_of arrivals) b)) }
     {
@@ -69,7 +69,7 @@ impl Ast {
         requires scope { OwnsScope (bench self.old) scope }
         requires member { MemberSound (bench self.old) (member_entry member) }
         requires shared { IsShared (member_entry member) }
-        ensures { Leaves self.old self.new result (with_scope_member scope (member_entry member)) }
+        ensures { GrowsBy self.old self.new result (with_scope_member scope (member_entry member)) }
     {
         self.grow_in(scope, member, Arrivals::none())
     }

@@ -1,7 +1,7 @@
 //! The spare block: one that nothing holds yet, for an always block to take.
 
 ghost use Rattle.std.specs.Prelude.{◌≡◌};
-ghost use Rattle.vast_core.specs.Growth.{Builds};
+ghost use Rattle.vast_core.specs.Growth.{Grows};
 ghost use Rattle.vast_core.specs.Containers.{next_block, with_spare_block};
 ghost use Rattle.vast_core.specs.View.{bench};
 
@@ -18,7 +18,7 @@ impl Ast {
     /// `AllocError` where a growth was refused; nothing changed.
     #[tactic(auto, using(crate::proofs::Unattached::enters_over))]
     pub fn push_block(&mut self) -> Result<VastStatementBlock, AllocError>
-        ensures { Builds self.old self.new result next_block with_spare_block }
+        ensures { Grows self.old self.new result next_block with_spare_block }
     {
         let block = VastStatementBlock {
             id: self.next_nest(),

@@ -3,7 +3,7 @@
 ghost use Rattle.std.specs.Prelude.{◌≡◌};
 ghost use Rattle.vast_core.specs.Nests.{statement_entry};
 ghost use Rattle.vast_core.specs.Bench.{OwnsExpr};
-ghost use Rattle.vast_core.specs.Growth.{Builds};
+ghost use Rattle.vast_core.specs.Growth.{Grows};
 ghost use Rattle.vast_core.specs.Artifacts.{next_statement};
 ghost use Rattle.vast_core.specs.Arrivals.{listing_of};
 ghost use Rattle.vast_core.specs.Containers.{next_conditional};
@@ -94,7 +94,7 @@ impl Ast {
         requires form { IsWrittenIn spot form }
         requires lhs { OwnsExpr (bench self.old) lhs }
         requires rhs { OwnsExpr (bench self.old) rhs }
-        ensures { Builds self.old self.new result next_statement
+        ensures { Grows self.old self.new result next_statement
             (with_assignment_at spot form lhs rhs) }
     {
         let assignment = VastStatement {
@@ -128,7 +128,7 @@ impl Ast {
     ) -> Result<Conditional, AllocError>
         requires spot { OwnsSpot (bench self.old) spot }
         requires condition { OwnsExpr (bench self.old) condition }
-        ensures { Builds self.old self.new result next_conditional
+        ensures { Grows self.old self.new result next_conditional
             (with_conditional_at spot condition) }
     {
         let conditional = Conditional {

@@ -5,7 +5,7 @@ ghost use Rattle.vast_core.specs.Handles.{rank, type_rank};
 ghost use Rattle.vast_core.specs.Nodes.{IsNodeAt, TermsSound, ExprChildrenHold, TypeChildrenHold, expr_tree, type_tree};
 ghost use Rattle.vast_core.specs.Types.{ExprWellFormed, TypeWellFormed};
 ghost use Rattle.vast_core.specs.Bench.{OwnsExpr, OwnsType, tree_of, type_of};
-ghost use Rattle.vast_core.specs.Growth.{Leaves, with_terms};
+ghost use Rattle.vast_core.specs.Growth.{GrowsBy, with_terms};
 ghost use Rattle.vast_core.specs.Arrivals.{terms_of};
 ghost use Rattle.vast_core.specs.View.{bench};
 
@@ -21,7 +21,7 @@ impl Ast {
     #[inline(always)]
     pub(crate) fn grow_terms(&mut self, terms: Terms) -> Result<(), AllocError>
         requires { TermsSound (bench self.old).nodes (terms_of terms) }
-        ensures { Leaves self.old self.new result (with_terms (terms_of terms)) }
+        ensures { GrowsBy self.old self.new result (with_terms (terms_of terms)) }
     {
         self.grow(
             Place::Nowhere,

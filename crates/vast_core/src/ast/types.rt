@@ -4,7 +4,7 @@ ghost use Rattle.std.specs.Prelude.{◌≡◌, ◌≤ℤ◌, pos};
 ghost use Rattle.vast_core.specs.Nodes.{TypeChildrenHold, type_tree};
 ghost use Rattle.vast_core.specs.Types.{TypeFits};
 ghost use Rattle.vast_core.specs.Bench.{OwnsExpr, OwnsType};
-ghost use Rattle.vast_core.specs.Growth.{Builds, with_type, with_vector, next_type, next_vector};
+ghost use Rattle.vast_core.specs.Growth.{Grows, with_type, with_vector, next_type, next_vector};
 ghost use Rattle.vast_core.specs.View.{bench};
 
 use crate::ast::Ast;
@@ -23,7 +23,7 @@ impl Ast {
         requires children { TypeChildrenHold (OwnsExpr (bench self.old)) (OwnsType (bench self.old))
             node }
         requires fits { TypeFits (type_tree (bench self.old).nodes node) }
-        ensures { Builds self.old self.new result next_type
+        ensures { Grows self.old self.new result next_type
             (λ b. with_type (type_tree b.nodes node) b) }
     {
         let data_type = VastDataType {
@@ -40,7 +40,7 @@ impl Ast {
     #[tactic(auto, using(crate::proofs::Laws::terms, vast_literal::proofs::NumberLaws::signed_text))]
     pub fn push_vector(&mut self, bits: i64, signed: bool) -> Result<VastDataType, AllocError>
         requires { pos 1 ≤ℤ bits }
-        ensures { Builds self.old self.new result (next_vector bits) (with_vector bits signed) }
+        ensures { Grows self.old self.new result (next_vector bits) (with_vector bits signed) }
     {
         let text = format!(in self.alloc; "{bits}")?;
         let width = Expr {

@@ -4,7 +4,7 @@ ghost use Rattle.std.specs.Prelude.{◌≡◌, ◌↔◌, IsTrue, OnOk, OnErr, f
 ghost use Rattle.vast_core.specs.Records.{IsFree};
 ghost use Rattle.vast_core.specs.Nests.{function_record, variable_record};
 ghost use Rattle.vast_core.specs.Bench.{OwnsFunction, OwnsType, IsFreeInFunction};
-ghost use Rattle.vast_core.specs.Growth.{Builds, next_logic_ref};
+ghost use Rattle.vast_core.specs.Growth.{Grows, next_logic_ref};
 ghost use Rattle.vast_core.specs.WrittenKinds.{IsVariableKind};
 ghost use Rattle.vast_core.specs.Functions.{with_listed_variable, with_variable};
 ghost use Rattle.vast_core.specs.View.{bench};
@@ -93,7 +93,7 @@ impl Ast {
         requires kind { IsVariableKind local kind }
         requires data_type { OwnsType (bench self.old) data_type }
         requires free { IsFreeInFunction (bench self.old) owner name.now }
-        ensures { Builds self.old self.new result next_logic_ref
+        ensures { Grows self.old self.new result next_logic_ref
             (with_variable owner local
             (record { kind = kind; name = name.now; data_type = data_type })) }
     {
