@@ -6,7 +6,6 @@ ghost use Rattle.std.specs.Prelude.{◌≡◌, IfOk, string_bytes};
 ghost use Rattle.vast_literal.specs.declared.kind.VastFileType.TheVariants.{SystemVerilog};
 ghost use Rattle.vast_core.specs.Bench.{start};
 ghost use Rattle.vast_core.specs.FileTree.{tree};
-ghost use Rattle.vast_core.specs.View.{bench};
 ghost use Rattle.vast_print.specs.Page.{print};
 ghost use Rattle.vast_print.specs.Layout.{layout};
 ghost use Rattle.vast_designs.specs.DesignTexts.{registers_text};
@@ -60,8 +59,8 @@ pub fn registers(alloc: Global) -> Result<String, VastFault>
 }
 
 fn add_signals(file: &mut VastFile) -> Result<Signals, AllocError>
-    requires { bench file.old ≡ start SystemVerilog 1 }
-    ensures { IfOk result (λ made. (made ≡ the_signals) × (bench file.new ≡ signals_made)) }
+    requires { file.old ≡ start SystemVerilog 1 }
+    ensures { IfOk result (λ made. (made ≡ the_signals) × (file.new ≡ signals_made)) }
 {
     let owner = file.add_module("regs_rst_en")?;
     let bit = file.make_scalar_type()?;
@@ -78,8 +77,8 @@ fn add_signals(file: &mut VastFile) -> Result<Signals, AllocError>
 
 fn add_state(of: &Signals, file: &mut VastFile) -> Result<State, VastFault>
     requires of { of.now ≡ the_signals }
-    requires file { bench file.old ≡ signals_made }
-    ensures { IfOk result (λ made. (made ≡ the_state) × (bench file.new ≡ state_made)) }
+    requires file { file.old ≡ signals_made }
+    ensures { IfOk result (λ made. (made ≡ the_state) × (file.new ≡ state_made)) }
 {
     let byte = file.make_bit_vector_type(8, false)?;
     let first = file.add_logic(of.owner, "r", &byte)?;
@@ -95,8 +94,8 @@ fn add_state(of: &Signals, file: &mut VastFile) -> Result<State, VastFault>
 }
 
 fn make_values(file: &mut VastFile) -> Result<Values, VastFault>
-    requires { bench file.old ≡ state_made }
-    ensures { IfOk result (λ made. (made ≡ the_values) × (bench file.new ≡ values_made)) }
+    requires { file.old ≡ state_made }
+    ensures { IfOk result (λ made. (made ≡ the_values) × (file.new ≡ values_made)) }
 {
     let first = file.make_literal("bits[8]:0xaa", &LiteralFormat::Hex)?;
     let second = file.make_literal("bits[8]:0x55", &LiteralFormat::Hex)?;
@@ -134,8 +133,8 @@ fn add_both(
     requires signals { signals.now ≡ the_signals }
     requires state { state.now ≡ the_state }
     requires values { values.now ≡ the_values }
-    requires file { bench file.old ≡ values_made }
-    ensures { IfOk result (λ _. print (layout (tree (bench file.new))) ≡ registers_text) }
+    requires file { file.old ≡ values_made }
+    ensures { IfOk result (λ _. print (layout (tree file.new)) ≡ registers_text) }
 {
     let reset = Reset {
         signal: signals.reset.to_expr(),

@@ -1,7 +1,6 @@
 //! A map of two registers that are written by enables, with a reset that is active where its signal is low.
 
 ghost use Rattle.std.specs.Prelude.{IsTrue};
-ghost use Rattle.vast_core.specs.View.{bench};
 ghost use Rattle.xlsynth_vast.specs.Registers.{OwnsRegister};
 
 use crate::fault::ExampleFault;
@@ -73,7 +72,7 @@ fn add_register(
 }
 
 fn owns_register(register: &RegisterDefinition, file: &VastFile) -> bool
-    ensures { IsTrue result → OwnsRegister (bench file.now) register.now }
+    ensures { IsTrue result → OwnsRegister file.now register.now }
 {
     let RegisterDefinition {
         reg,

@@ -2,7 +2,6 @@
 
 ghost use Rattle.std.specs.Prelude.{All, IfOk};
 ghost use Rattle.vast_core.specs.Bench.{OwnsLogicRef};
-ghost use Rattle.vast_core.specs.View.{bench};
 
 use crate::refusal::Refusal;
 use vast_script::{Answer, Argument};
@@ -14,7 +13,7 @@ pub(crate) fn handle<A: Argument>(
     answers: &[Answer],
     number: usize,
 ) -> Result<A, Refusal>
-    ensures { IfOk result (λ x. A.owned (bench file.now) x) }
+    ensures { IfOk result (λ x. A.owned file.now x) }
 {
     let Some(answer) = answers.get(number) else {
         return Err(Refusal::NoAnswer);
@@ -37,7 +36,7 @@ pub(crate) fn handles<A: Argument>(
     answers: &[Answer],
     numbers: &[usize],
 ) -> Result<Vec<A>, Refusal>
-    ensures { IfOk result (λ xs. All (A.owned (bench file.now)) xs.items) }
+    ensures { IfOk result (λ xs. All (A.owned file.now) xs.items) }
 {
     let mut handles = Vec::new(file.allocator());
     for number in numbers {
@@ -53,7 +52,7 @@ pub(crate) fn logic_ref(
     answers: &[Answer],
     number: usize,
 ) -> Result<LogicRef, Refusal>
-    ensures { IfOk result (λ x. OwnsLogicRef (bench file.now) x) }
+    ensures { IfOk result (λ x. OwnsLogicRef file.now x) }
 {
     match answers.get(number) {
         None => Err(Refusal::NoAnswer),

@@ -3,9 +3,7 @@ use Rattle.std.specs.Prelude.{◌≡◌, ℕ, Bool, true, false, List, Option, S
 use Rattle.std.specs.declared.alloc.AllocError.{AllocError}
 use Rattle.vast_literal.specs.declared.error.VastFault.{VastFault}
 use Rattle.vast_literal.specs.declared.error.VastFault.TheVariants.{Refused as CallRefused, Memory as CallMemory}
-use Rattle.vast_core.specs.Raw.{Raw}
 use Rattle.vast_core.specs.Bench.{Bench}
-use Rattle.vast_core.specs.View.{bench}
 use Rattle.vast_script.specs.declared.answer.Answer.{Answer}
 use Rattle.vast_script.specs.declared.fault.StepFault.{StepFault}
 use Rattle.vast_script.specs.declared.fault.StepFault.TheVariants.{NoAnswer, WrongKind, Condition, Refused, Memory}
@@ -46,8 +44,8 @@ abbrev pub Becomes : (old new : Bench) → Result Answer StepFault → Outcome �
 Becomes old new (Ok answer) outcome = outcome ≡ Made answer new
 Becomes old new (Err fault) outcome = FaultOf (cause_of fault) outcome × (new ≡ old)
 
-abbrev pub Replays : (old new : Raw) → List Answer → Result Answer StepFault → Call → Type 0
-Replays old new answers result call = Becomes (bench old) (bench new) result (call (bench old) answers)
+abbrev pub Replays : (old new : Bench) → List Answer → Result Answer StepFault → Call → Type 0
+Replays old new answers result call = Becomes old new result (call old answers)
 
 -- Go on with what was looked for, or stop at the fault.
 abbrev pub given : {A : Type 0} → Result A Cause → (A → Outcome) → Outcome

@@ -1,9 +1,7 @@
 -- What becomes of a list of steps.
 use Rattle.std.specs.Prelude.{◌≡◌, ℕ, List, [], ◌∷◌, ◌++◌, length, take, Vec, Result, Ok, Err, string_bytes}
 use Rattle.std.specs.List.{fold}
-use Rattle.vast_core.specs.Raw.{Raw}
 use Rattle.vast_core.specs.Bench.{Bench}
-use Rattle.vast_core.specs.View.{bench}
 use Rattle.std.specs.declared.alloc.Global.{Global}
 use Rattle.vast_script.specs.declared.answer.Answer.{Answer}
 use Rattle.vast_script.specs.declared.fault.ScriptFault.{ScriptFault}
@@ -83,5 +81,5 @@ Answers old new steps (Err (Condition i)) = StopsAt old new steps i NotMet
 Answers old new steps (Err (Refused i e)) = StopsAt old new steps i (InWords (string_bytes e.0))
 Answers old new steps (Err Memory) = MadeSome old new steps
 
-abbrev pub Replayed : (old new : Raw) → List Step → Result (Vec Answer Global) ScriptFault → Type 0
-Replayed old new steps result = Answers (bench old) (bench new) steps result
+abbrev pub Replayed : (old new : Bench) → List Step → Result (Vec Answer Global) ScriptFault → Type 0
+Replayed old new steps result = Answers old new steps result

@@ -1,7 +1,6 @@
 //! Arguments: the answers of earlier steps, as handles of a kind.
 
 ghost use Rattle.std.specs.Prelude.{◌≡◌, IfOk};
-ghost use Rattle.vast_core.specs.View.{bench};
 ghost use Rattle.vast_script.specs.Arguments.{Finds, found, one, two, three};
 
 use crate::answer::Answer;
@@ -45,8 +44,8 @@ pub(crate) fn one<A: Argument>(
     answers: &[Answer],
     number: usize,
 ) -> Result<A, StepFault>
-    ensures finds { Finds result (one A.kind (bench file.now) answers.now number) }
-    ensures owned { IfOk result (λ x. A.owned (bench file.now) x) }
+    ensures finds { Finds result (one A.kind file.now answers.now number) }
+    ensures owned { IfOk result (λ x. A.owned file.now x) }
 {
     let handle: A = found(answers, number)?;
     if !file.owns(&handle) {
@@ -63,9 +62,9 @@ pub(crate) fn two<A: Argument, B: Argument>(
     first: usize,
     second: usize,
 ) -> Result<(A, B), StepFault>
-    ensures finds { Finds result (two A.kind B.kind (bench file.now) answers.now first second) }
-    ensures first { IfOk result (λ p. A.owned (bench file.now) p.0) }
-    ensures second { IfOk result (λ p. B.owned (bench file.now) p.1) }
+    ensures finds { Finds result (two A.kind B.kind file.now answers.now first second) }
+    ensures first { IfOk result (λ p. A.owned file.now p.0) }
+    ensures second { IfOk result (λ p. B.owned file.now p.1) }
 {
     let first: A = found(answers, first)?;
     let second: B = found(answers, second)?;
@@ -85,10 +84,10 @@ pub(crate) fn three<A: Argument, B: Argument, C: Argument>(
     third: usize,
 ) -> Result<(A, B, C), StepFault>
     ensures finds { Finds result
-        (three A.kind B.kind C.kind (bench file.now) answers.now first second third) }
-    ensures first { IfOk result (λ p. A.owned (bench file.now) p.0) }
-    ensures second { IfOk result (λ p. B.owned (bench file.now) p.1) }
-    ensures third { IfOk result (λ p. C.owned (bench file.now) p.2) }
+        (three A.kind B.kind C.kind file.now answers.now first second third) }
+    ensures first { IfOk result (λ p. A.owned file.now p.0) }
+    ensures second { IfOk result (λ p. B.owned file.now p.1) }
+    ensures third { IfOk result (λ p. C.owned file.now p.2) }
 {
     let first: A = found(answers, first)?;
     let second: B = found(answers, second)?;

@@ -4,7 +4,6 @@ ghost use Rattle.std.specs.Prelude.{◌≡◌, All, IfSome, length, map, string_
 ghost use Rattle.vast_core.specs.Artifacts.{next_instantiation, with_instance};
 ghost use Rattle.vast_core.specs.Bench.{OwnsExpr};
 ghost use Rattle.vast_core.specs.Growth.{Builds};
-ghost use Rattle.vast_core.specs.View.{bench};
 ghost use Rattle.vast_script.specs.Outcome.{Replays};
 ghost use Rattle.vast_script.specs.Artifacts.{instance, make_instantiation};
 
@@ -28,8 +27,8 @@ fn instance(
 ) -> Result<Instantiation, AllocError>
     requires parameters { length parameters.now ≡ length values.now }
     requires ports { length ports.now ≡ length wires.now }
-    requires values { All (OwnsExpr (bench file.old)) values.now }
-    requires wires { All (λ e. IfSome e (λ x. OwnsExpr (bench file.old) x)) wires.now }
+    requires values { All (OwnsExpr file.old) values.now }
+    requires wires { All (λ e. IfSome e (λ x. OwnsExpr file.old x)) wires.now }
     ensures { Builds file.old file.new result next_instantiation
         (with_instance (instance module_name.now instance_name.now (map string_bytes parameters.now)
         values.now (map string_bytes ports.now) wires.now)) }

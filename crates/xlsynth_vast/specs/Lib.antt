@@ -17,3 +17,4 @@ pub mod Registers
 pub mod AddedRegisters
 pub mod RegisterSteps
 pub mod Conditions
+pub mod TreeCode

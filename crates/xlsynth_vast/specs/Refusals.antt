@@ -2,16 +2,14 @@
 use Rattle.std.specs.Prelude.{◌≡◌, ℕ, List, Result, Ok, Err, IsOkAnd}
 use Rattle.vast_literal.specs.declared.error.VastFault.{VastFault}
 use Rattle.vast_literal.specs.Fault.{RefusedBy, OnlyRefusedBy}
-use Rattle.vast_core.specs.Raw.{Raw}
 use Rattle.vast_core.specs.Bench.{Bench}
-use Rattle.vast_core.specs.View.{bench}
 
 -- The rule allows the call, which answers this and leaves this, all of what the file held; or it is refused, exactly as
 -- the rule says; or memory was refused. After a refusal nothing changed.
-abbrev pub MayBuild : {A B : Type 0} → (old new : Raw) → Result A VastFault → (Bench → Result B (List ℕ)) → (Bench → A) → (B → Bench → Bench) → Type 0
+abbrev pub MayBuild : {A B : Type 0} → (old new : Bench) → Result A VastFault → (Bench → Result B (List ℕ)) → (Bench → A) → (B → Bench → Bench) → Type 0
 MayBuild old new (Ok x) rule answer after =
-    IsOkAnd (rule (bench old)) (λ made. (x ≡ answer (bench old)) × (bench new ≡ after made (bench old)))
-MayBuild old new (Err fault) rule answer after = RefusedBy (rule (bench old)) fault × (bench new ≡ bench old)
+    IsOkAnd (rule old) (λ made. (x ≡ answer old) × (new ≡ after made old))
+MayBuild old new (Err fault) rule answer after = RefusedBy (rule old) fault × (new ≡ old)
 
 -- The rule of a call that is never refused by name.
 abbrev pub no_refusal : Bench → Result (Unit {0}) (List ℕ)
@@ -29,6 +27,6 @@ AnswersBy rule (Err fault) = OnlyRefusedBy rule fault
 
 -- The rule allows the call, which leaves this; or it is refused, exactly as the rule says, and nothing changed. Memory is
 -- wanted for the words of a refusal alone.
-abbrev pub MayChange : (old new : Raw) → Result (Unit {0}) VastFault → (Bench → Result (Unit {0}) (List ℕ)) → (Bench → Bench) → Type 0
-MayChange old new (Ok x) rule after = (rule (bench old) ≡ Ok x) × (bench new ≡ after (bench old))
-MayChange old new (Err fault) rule after = OnlyRefusedBy (rule (bench old)) fault × (bench new ≡ bench old)
+abbrev pub MayChange : (old new : Bench) → Result (Unit {0}) VastFault → (Bench → Result (Unit {0}) (List ℕ)) → (Bench → Bench) → Type 0
+MayChange old new (Ok x) rule after = (rule old ≡ Ok x) × (new ≡ after old)
+MayChange old new (Err fault) rule after = OnlyRefusedBy (rule old) fault × (new ≡ old)

@@ -7,7 +7,6 @@ ghost use Rattle.vast_literal.specs.declared.kind.AlwaysKind.TheVariants.{Always
 ghost use Rattle.vast_core.specs.Bench.{OwnsModule, OwnsLoop, OwnsExpr, OwnsBlock, OwnsAlways};
 ghost use Rattle.vast_core.specs.Sound.{EventSound};
 ghost use Rattle.vast_core.specs.Loops.{next_always};
-ghost use Rattle.vast_core.specs.View.{bench};
 ghost use Rattle.xlsynth_vast.specs.Refusals.{MayBuild, no_refusal};
 ghost use Rattle.xlsynth_vast.specs.AlwaysBlocks.{wrong_event, unless_wrong_event, with_always_member, with_loop_always};
 ghost use Rattle.xlsynth_vast.specs.Inspections.{block_at};
@@ -29,15 +28,15 @@ fn wrong_event(alloc: Global, word: &str, index: usize) -> Result<String, AllocE
 impl VastFile {
     /// The events behind the references, or the refusal of the first that is no edge and no name.
     fn events(&self, word: &str, expressions: &[&Expr]) -> Result<Vec<Expr>, VastFault>
-        requires { All (λ e. OwnsExpr (bench self.now) e.now) expressions.now }
+        requires { All (λ e. OwnsExpr self.now e.now) expressions.now }
         ensures items { IfOk result (λ events. events.items ≡ map (λ e. e.now) expressions.now) }
-        ensures sound { IfOk result (λ events. All (EventSound (bench self.now)) events.items) }
+        ensures sound { IfOk result (λ events. All (EventSound self.now) events.items) }
         ensures allowed { IfOk result
-            (λ events. unless_wrong_event word.now (bench self.now)
+            (λ events. unless_wrong_event word.now self.now
             (map (λ e. e.now) expressions.now) ≡ Ok tt) }
         ensures refused { IfErr result
             (λ fault. RefusedBy
-            (unless_wrong_event word.now (bench self.now) (map (λ e. e.now) expressions.now))
+            (unless_wrong_event word.now self.now (map (λ e. e.now) expressions.now))
             fault) }
     {
         let events = self.handles(expressions)?;
@@ -59,8 +58,8 @@ impl VastFile {
         owner: VastModule,
         sensitivity_list: &[&Expr],
     ) -> Result<VastAlwaysBase, VastFault>
-        requires owner { OwnsModule (bench self.old) owner }
-        requires events { All (λ e. OwnsExpr (bench self.old) e.now) sensitivity_list.now }
+        requires owner { OwnsModule self.old owner }
+        requires events { All (λ e. OwnsExpr self.old e.now) sensitivity_list.now }
         ensures { MayBuild self.old self.new result
             (λ b. unless_wrong_event (codes "always_ff") b (map (λ e. e.now) sensitivity_list.now))
             next_always
@@ -79,8 +78,8 @@ impl VastFile {
         owner: VastModule,
         sensitivity_list: &[&Expr],
     ) -> Result<VastAlwaysBase, VastFault>
-        requires owner { OwnsModule (bench self.old) owner }
-        requires events { All (λ e. OwnsExpr (bench self.old) e.now) sensitivity_list.now }
+        requires owner { OwnsModule self.old owner }
+        requires events { All (λ e. OwnsExpr self.old e.now) sensitivity_list.now }
         ensures { MayBuild self.old self.new result
             (λ b. unless_wrong_event (codes "always @") b (map (λ e. e.now) sensitivity_list.now))
             next_always
@@ -95,7 +94,7 @@ impl VastFile {
     /// # Errors
     /// `Memory` where a growth was refused; the file is unchanged. It is never `Refused`.
     pub fn add_always_comb(&mut self, owner: VastModule) -> Result<VastAlwaysBase, VastFault>
-        requires { OwnsModule (bench self.old) owner }
+        requires { OwnsModule self.old owner }
         ensures { MayBuild self.old self.new result no_refusal next_always
             (λ _. with_always_member owner AlwaysComb []) }
     {
@@ -104,9 +103,9 @@ impl VastFile {
 
     /// The block of the always block, which is the file's.
     pub fn statement_block(&self, always: VastAlwaysBase) -> VastStatementBlock
-        requires { OwnsAlways (bench self.now) always }
-        ensures block { block_at (bench self.now) always ≡ Some result }
-        ensures owned { OwnsBlock (bench self.now) result }
+        requires { OwnsAlways self.now always }
+        ensures block { block_at self.now always ≡ Some result }
+        ensures owned { OwnsBlock self.now result }
     {
         self.ast.always_block(always).block
     }
@@ -120,8 +119,8 @@ impl VastFile {
         generate: GenerateLoop,
         sensitivity_list: &[&Expr],
     ) -> Result<VastAlwaysBase, VastFault>
-        requires generate { OwnsLoop (bench self.old) generate }
-        requires events { All (λ e. OwnsExpr (bench self.old) e.now) sensitivity_list.now }
+        requires generate { OwnsLoop self.old generate }
+        requires events { All (λ e. OwnsExpr self.old e.now) sensitivity_list.now }
         ensures { MayBuild self.old self.new result
             (λ b. unless_wrong_event (codes "always_ff") b (map (λ e. e.now) sensitivity_list.now))
             next_always
@@ -140,8 +139,8 @@ impl VastFile {
         generate: GenerateLoop,
         sensitivity_list: &[&Expr],
     ) -> Result<VastAlwaysBase, VastFault>
-        requires generate { OwnsLoop (bench self.old) generate }
-        requires events { All (λ e. OwnsExpr (bench self.old) e.now) sensitivity_list.now }
+        requires generate { OwnsLoop self.old generate }
+        requires events { All (λ e. OwnsExpr self.old e.now) sensitivity_list.now }
         ensures { MayBuild self.old self.new result
             (λ b. unless_wrong_event (codes "always @") b (map (λ e. e.now) sensitivity_list.now))
             next_always
@@ -159,7 +158,7 @@ impl VastFile {
         &mut self,
         generate: GenerateLoop,
     ) -> Result<VastAlwaysBase, VastFault>
-        requires { OwnsLoop (bench self.old) generate }
+        requires { OwnsLoop self.old generate }
         ensures { MayBuild self.old self.new result no_refusal next_always
             (λ _. with_loop_always generate AlwaysComb []) }
     {

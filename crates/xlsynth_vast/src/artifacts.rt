@@ -6,7 +6,6 @@ ghost use Rattle.vast_core.specs.Bench.{OwnsExpr, OwnsType, OwnsMacroRef};
 ghost use Rattle.vast_core.specs.Records.{BlankLineRecord, CommentRecord, InlineRecord, MacroRecord};
 ghost use Rattle.vast_core.specs.Growth.{Builds, next_continuous, with_assignment};
 ghost use Rattle.vast_core.specs.Artifacts.{next_def, with_definition, next_blank_line, next_comment, next_inline, next_macro_statement, with_artifact, next_statement};
-ghost use Rattle.vast_core.specs.View.{bench};
 
 use crate::file::VastFile;
 use std::alloc::AllocError;
@@ -26,7 +25,7 @@ impl VastFile {
         kind: DataKind,
         data_type: &VastDataType,
     ) -> Result<Def, AllocError>
-        requires { OwnsType (bench self.old) data_type.now }
+        requires { OwnsType self.old data_type.now }
         ensures { Builds self.old self.new result next_def
             (with_definition (record { name = name.now; kind = kind; data_type = data_type.now })) }
     {
@@ -77,7 +76,7 @@ impl VastFile {
         macro_ref: &MacroRef,
         semicolon: bool,
     ) -> Result<MacroStatement, AllocError>
-        requires { OwnsMacroRef (bench self.old) macro_ref.now }
+        requires { OwnsMacroRef self.old macro_ref.now }
         ensures { Builds self.old self.new result next_macro_statement
             (with_artifact (MacroRecord macro_ref.now semicolon)) }
     {
@@ -93,8 +92,8 @@ impl VastFile {
         lhs: &Expr,
         rhs: &Expr,
     ) -> Result<ContinuousAssignment, AllocError>
-        requires lhs { OwnsExpr (bench self.old) lhs.now }
-        requires rhs { OwnsExpr (bench self.old) rhs.now }
+        requires lhs { OwnsExpr self.old lhs.now }
+        requires rhs { OwnsExpr self.old rhs.now }
         ensures { Builds self.old self.new result next_continuous
             (with_assignment (record { lhs = lhs.now; rhs = rhs.now; nonblocking = false })) }
     {
@@ -110,8 +109,8 @@ impl VastFile {
         lhs: &Expr,
         rhs: &Expr,
     ) -> Result<VastStatement, AllocError>
-        requires lhs { OwnsExpr (bench self.old) lhs.now }
-        requires rhs { OwnsExpr (bench self.old) rhs.now }
+        requires lhs { OwnsExpr self.old lhs.now }
+        requires rhs { OwnsExpr self.old rhs.now }
         ensures { Builds self.old self.new result next_statement
             (with_assignment (record { lhs = lhs.now; rhs = rhs.now; nonblocking = true })) }
     {
@@ -127,8 +126,8 @@ impl VastFile {
         lhs: &Expr,
         rhs: &Expr,
     ) -> Result<VastStatement, AllocError>
-        requires lhs { OwnsExpr (bench self.old) lhs.now }
-        requires rhs { OwnsExpr (bench self.old) rhs.now }
+        requires lhs { OwnsExpr self.old lhs.now }
+        requires rhs { OwnsExpr self.old rhs.now }
         ensures { Builds self.old self.new result next_statement
             (with_assignment (record { lhs = lhs.now; rhs = rhs.now; nonblocking = false })) }
     {

@@ -7,7 +7,6 @@ ghost use Rattle.vast_core.specs.Nests.{AssignStatement, ContinuousStatement, Bl
 ghost use Rattle.vast_core.specs.Growth.{Builds, Leaves, with_assignment};
 ghost use Rattle.vast_core.specs.Artifacts.{next_statement};
 ghost use Rattle.vast_core.specs.Containers.{with_statement};
-ghost use Rattle.vast_core.specs.View.{bench};
 
 use crate::file::VastFile;
 use std::alloc::AllocError;
@@ -24,9 +23,9 @@ impl VastFile {
         lhs: &Expr,
         rhs: &Expr,
     ) -> Result<VastStatement, AllocError>
-        requires block { OwnsBlock (bench self.old) block }
-        requires lhs { OwnsExpr (bench self.old) lhs.now }
-        requires rhs { OwnsExpr (bench self.old) rhs.now }
+        requires block { OwnsBlock self.old block }
+        requires lhs { OwnsExpr self.old lhs.now }
+        requires rhs { OwnsExpr self.old rhs.now }
         ensures { Builds self.old self.new result next_statement
             (λ b. with_statement block (AssignStatement (next_statement b))
             (with_assignment (record { lhs = lhs.now; rhs = rhs.now; nonblocking = false })
@@ -47,9 +46,9 @@ impl VastFile {
         lhs: &Expr,
         rhs: &Expr,
     ) -> Result<VastStatement, AllocError>
-        requires block { OwnsBlock (bench self.old) block }
-        requires lhs { OwnsExpr (bench self.old) lhs.now }
-        requires rhs { OwnsExpr (bench self.old) rhs.now }
+        requires block { OwnsBlock self.old block }
+        requires lhs { OwnsExpr self.old lhs.now }
+        requires rhs { OwnsExpr self.old rhs.now }
         ensures { Builds self.old self.new result next_statement
             (λ b. with_statement block (AssignStatement (next_statement b))
             (with_assignment (record { lhs = lhs.now; rhs = rhs.now; nonblocking = true }) b)) }
@@ -69,9 +68,9 @@ impl VastFile {
         lhs: &Expr,
         rhs: &Expr,
     ) -> Result<VastStatement, AllocError>
-        requires block { OwnsBlock (bench self.old) block }
-        requires lhs { OwnsExpr (bench self.old) lhs.now }
-        requires rhs { OwnsExpr (bench self.old) rhs.now }
+        requires block { OwnsBlock self.old block }
+        requires lhs { OwnsExpr self.old lhs.now }
+        requires rhs { OwnsExpr self.old rhs.now }
         ensures { Builds self.old self.new result next_statement
             (λ b. with_statement block (ContinuousStatement (next_statement b))
             (with_assignment (record { lhs = lhs.now; rhs = rhs.now; nonblocking = false })
@@ -91,7 +90,7 @@ impl VastFile {
         block: VastStatementBlock,
         text: &str,
     ) -> Result<(), AllocError>
-        requires { OwnsBlock (bench self.old) block }
+        requires { OwnsBlock self.old block }
         ensures { Leaves self.old self.new result
             (with_statement block (CommentStatement text.now)) }
     {
@@ -108,7 +107,7 @@ impl VastFile {
         block: VastStatementBlock,
         text: &str,
     ) -> Result<(), AllocError>
-        requires { OwnsBlock (bench self.old) block }
+        requires { OwnsBlock self.old block }
         ensures { Leaves self.old self.new result
             (with_statement block (InlineStatement text.now)) }
     {
@@ -121,7 +120,7 @@ impl VastFile {
     /// # Errors
     /// `AllocError` where a growth was refused; the file is unchanged.
     pub fn block_add_blank_line(&mut self, block: VastStatementBlock) -> Result<(), AllocError>
-        requires { OwnsBlock (bench self.old) block }
+        requires { OwnsBlock self.old block }
         ensures { Leaves self.old self.new result (with_statement block BlankStatement) }
     {
         self.ast.append_statement(block, Statement::BlankLine)

@@ -5,7 +5,6 @@ ghost use Rattle.vast_core.specs.Bench.{OwnsBlock, OwnsExpr, OwnsCase};
 ghost use Rattle.vast_core.specs.Nests.{CasesStatement};
 ghost use Rattle.vast_core.specs.Growth.{Builds};
 ghost use Rattle.vast_core.specs.Containers.{next_block, next_case, with_case, with_statement, with_case_arm, with_case_unique};
-ghost use Rattle.vast_core.specs.View.{bench};
 ghost use Rattle.xlsynth_vast.specs.Refusals.{MayChange};
 ghost use Rattle.xlsynth_vast.specs.Cases.{may_be_unique};
 
@@ -24,8 +23,8 @@ impl VastFile {
         block: VastStatementBlock,
         selector: &Expr,
     ) -> Result<CaseStatement, AllocError>
-        requires block { OwnsBlock (bench self.old) block }
-        requires selector { OwnsExpr (bench self.old) selector.now }
+        requires block { OwnsBlock self.old block }
+        requires selector { OwnsExpr self.old selector.now }
         ensures { Builds self.old self.new result next_case
             (λ b. with_statement block (CasesStatement (next_case b))
             (with_case CaseKind.Case selector.now b)) }
@@ -42,8 +41,8 @@ impl VastFile {
         block: VastStatementBlock,
         selector: &Expr,
     ) -> Result<CaseStatement, AllocError>
-        requires block { OwnsBlock (bench self.old) block }
-        requires selector { OwnsExpr (bench self.old) selector.now }
+        requires block { OwnsBlock self.old block }
+        requires selector { OwnsExpr self.old selector.now }
         ensures { Builds self.old self.new result next_case
             (λ b. with_statement block (CasesStatement (next_case b))
             (with_case CaseKind.CaseZ selector.now b)) }
@@ -61,8 +60,8 @@ impl VastFile {
         block: VastStatementBlock,
         selector: &Expr,
     ) -> Result<CaseStatement, AllocError>
-        requires block { OwnsBlock (bench self.old) block }
-        requires selector { OwnsExpr (bench self.old) selector.now }
+        requires block { OwnsBlock self.old block }
+        requires selector { OwnsExpr self.old selector.now }
         ensures { Builds self.old self.new result next_case
             (λ b. with_statement block (CasesStatement (next_case b))
             (with_case CaseKind.CaseX selector.now b)) }
@@ -80,8 +79,8 @@ impl VastFile {
         case: CaseStatement,
         pattern: &Expr,
     ) -> Result<VastStatementBlock, AllocError>
-        requires case { OwnsCase (bench self.old) case }
-        requires pattern { OwnsExpr (bench self.old) pattern.now }
+        requires case { OwnsCase self.old case }
+        requires pattern { OwnsExpr self.old pattern.now }
         ensures { Builds self.old self.new result next_block
             (with_case_arm case (Some pattern.now)) }
     {
@@ -97,7 +96,7 @@ impl VastFile {
         &mut self,
         case: CaseStatement,
     ) -> Result<VastStatementBlock, AllocError>
-        requires case { OwnsCase (bench self.old) case }
+        requires case { OwnsCase self.old case }
         ensures { Builds self.old self.new result next_block (with_case_arm case None) }
     {
         self.ast.case_add_arm(case, None)
@@ -109,7 +108,7 @@ impl VastFile {
     /// `Refused` where it is to be `unique` in a file of Verilog: `unique case requires SystemVerilog`. `Memory` where
     /// memory for these words was refused. The file is unchanged.
     pub fn case_set_unique(&mut self, case: CaseStatement, unique: bool) -> Result<(), VastFault>
-        requires { OwnsCase (bench self.old) case }
+        requires { OwnsCase self.old case }
         ensures { MayChange self.old self.new result (λ b. may_be_unique b.file_type unique)
             (with_case_unique case unique) }
     {

@@ -7,7 +7,6 @@ ghost use Rattle.vast_core.specs.Records.{ConditionalEntry};
 ghost use Rattle.vast_core.specs.Nests.{ConditionalStatement};
 ghost use Rattle.vast_core.specs.Growth.{Builds, with_member};
 ghost use Rattle.vast_core.specs.Containers.{next_block, next_conditional, with_conditional, with_statement, with_else_if, with_else, has_else};
-ghost use Rattle.vast_core.specs.View.{bench};
 ghost use Rattle.xlsynth_vast.specs.Inspections.{then_block_at};
 
 use crate::file::VastFile;
@@ -24,8 +23,8 @@ impl VastFile {
         owner: VastModule,
         condition: &Expr,
     ) -> Result<Conditional, AllocError>
-        requires owner { OwnsModule (bench self.old) owner }
-        requires condition { OwnsExpr (bench self.old) condition.now }
+        requires owner { OwnsModule self.old owner }
+        requires condition { OwnsExpr self.old condition.now }
         ensures { Builds self.old self.new result next_conditional
             (λ b. with_member owner (ConditionalEntry (next_conditional b))
             (with_conditional condition.now b)) }
@@ -43,8 +42,8 @@ impl VastFile {
         block: VastStatementBlock,
         condition: &Expr,
     ) -> Result<Conditional, AllocError>
-        requires block { OwnsBlock (bench self.old) block }
-        requires condition { OwnsExpr (bench self.old) condition.now }
+        requires block { OwnsBlock self.old block }
+        requires condition { OwnsExpr self.old condition.now }
         ensures { Builds self.old self.new result next_conditional
             (λ b. with_statement block (ConditionalStatement (next_conditional b))
             (with_conditional condition.now b)) }
@@ -54,18 +53,18 @@ impl VastFile {
 
     /// The block of the conditional's first arm, which is the file's.
     pub fn conditional_then_block(&self, conditional: Conditional) -> VastStatementBlock
-        requires { OwnsConditional (bench self.now) conditional }
-        ensures block { then_block_at (bench self.now) conditional ≡ Some result }
-        ensures owned { OwnsBlock (bench self.now) result }
+        requires { OwnsConditional self.now conditional }
+        ensures block { then_block_at self.now conditional ≡ Some result }
+        ensures owned { OwnsBlock self.now result }
     {
         self.ast.conditional(conditional).consequent
     }
 
     /// Whether the conditional has an `else`: where it has none, it may be given another arm.
     pub fn conditional_has_else(&self, conditional: Conditional) -> bool
-        requires { OwnsConditional (bench self.now) conditional }
+        requires { OwnsConditional self.now conditional }
         ensures { result
-            ≡ has_else (slice_get (bench self.now).nests (conditional_index conditional)) }
+            ≡ has_else (slice_get self.now.nests (conditional_index conditional)) }
     {
         self.ast.conditional_has_else(conditional)
     }
@@ -80,10 +79,10 @@ impl VastFile {
         conditional: Conditional,
         condition: &Expr,
     ) -> Result<VastStatementBlock, AllocError>
-        requires conditional { OwnsConditional (bench self.old) conditional }
-        requires condition { OwnsExpr (bench self.old) condition.now }
+        requires conditional { OwnsConditional self.old conditional }
+        requires condition { OwnsExpr self.old condition.now }
         requires no_else { has_else
-            (slice_get (bench self.old).nests (conditional_index conditional)) ≡ false }
+            (slice_get self.old.nests (conditional_index conditional)) ≡ false }
         ensures { Builds self.old self.new result next_block
             (with_else_if conditional condition.now) }
     {
@@ -99,9 +98,9 @@ impl VastFile {
         &mut self,
         conditional: Conditional,
     ) -> Result<VastStatementBlock, AllocError>
-        requires conditional { OwnsConditional (bench self.old) conditional }
+        requires conditional { OwnsConditional self.old conditional }
         requires no_else { has_else
-            (slice_get (bench self.old).nests (conditional_index conditional)) ≡ false }
+            (slice_get self.old.nests (conditional_index conditional)) ≡ false }
         ensures { Builds self.old self.new result next_block (with_else conditional) }
     {
         self.ast.conditional_add_else(conditional)

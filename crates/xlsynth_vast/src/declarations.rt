@@ -6,7 +6,6 @@ ghost use Rattle.std.specs.Prelude.{◌≡◌, Ok, IfOk, MatchResult, OnOk, code
 ghost use Rattle.vast_literal.specs.Fault.{OnlyRefusedBy};
 ghost use Rattle.vast_core.specs.Bench.{OwnsModule, OwnsType, NameIsFree};
 ghost use Rattle.vast_core.specs.Growth.{Builds, next_logic_ref, with_declaration};
-ghost use Rattle.vast_core.specs.View.{bench};
 ghost use Rattle.xlsynth_vast.specs.Refusals.{MayBuild};
 ghost use Rattle.xlsynth_vast.specs.Declarations.{names_in, listed_names, already_declared, unless_taken};
 
@@ -50,11 +49,11 @@ impl VastFile {
         kind: &str,
         name: &str,
     ) -> Result<(), VastFault>
-        requires { OwnsModule (bench self.now) owner }
+        requires { OwnsModule self.now owner }
         ensures answer { MatchResult result
-            (λ _. unless_taken kind.now name.now (names_in (bench self.now) owner) ≡ Ok tt)
-            (OnlyRefusedBy (unless_taken kind.now name.now (names_in (bench self.now) owner))) }
-        ensures free { OnOk result (NameIsFree (bench self.now) owner name.now) }
+            (λ _. unless_taken kind.now name.now (names_in self.now owner) ≡ Ok tt)
+            (OnlyRefusedBy (unless_taken kind.now name.now (names_in self.now owner))) }
+        ensures free { OnOk result (NameIsFree self.now owner name.now) }
     {
         let module = self.ast.module(owner);
         if module.name_is_free(name) {
@@ -75,9 +74,9 @@ impl VastFile {
         name: &str,
         data_type: &VastDataType,
     ) -> Result<LogicRef, AllocError>
-        requires owner { OwnsModule (bench self.old) owner }
-        requires data_type { OwnsType (bench self.old) data_type.now }
-        requires free { NameIsFree (bench self.old) owner name.now }
+        requires owner { OwnsModule self.old owner }
+        requires data_type { OwnsType self.old data_type.now }
+        requires free { NameIsFree self.old owner name.now }
         ensures { Builds self.old self.new result next_logic_ref
             (with_declaration owner DataKind.Wire name.now data_type.now) }
     {
@@ -97,8 +96,8 @@ impl VastFile {
         name: &str,
         data_type: &VastDataType,
     ) -> Result<LogicRef, VastFault>
-        requires owner { OwnsModule (bench self.old) owner }
-        requires data_type { OwnsType (bench self.old) data_type.now }
+        requires owner { OwnsModule self.old owner }
+        requires data_type { OwnsType self.old data_type.now }
         ensures { MayBuild self.old self.new result
             (λ b. unless_taken (codes "reg") name.now (names_in b owner)) next_logic_ref
             (λ _. with_declaration owner DataKind.Reg name.now data_type.now) }
@@ -120,8 +119,8 @@ impl VastFile {
         name: &str,
         data_type: &VastDataType,
     ) -> Result<LogicRef, VastFault>
-        requires owner { OwnsModule (bench self.old) owner }
-        requires data_type { OwnsType (bench self.old) data_type.now }
+        requires owner { OwnsModule self.old owner }
+        requires data_type { OwnsType self.old data_type.now }
         ensures { MayBuild self.old self.new result
             (λ b. unless_taken (codes "logic") name.now (names_in b owner)) next_logic_ref
             (λ _. with_declaration owner DataKind.Logic name.now data_type.now) }

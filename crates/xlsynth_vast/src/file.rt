@@ -3,7 +3,6 @@
 ghost use Rattle.std.specs.Prelude.{◌≡◌, ◌+◌, ◌↔◌, IsTrue, IsErr, IfOk, OnOk, OnErr, string_bytes};
 ghost use Rattle.vast_core.specs.Bench.{start, tree_of, OwnsExpr};
 ghost use Rattle.vast_core.specs.FileTree.{tree};
-ghost use Rattle.vast_core.specs.View.{bench};
 ghost use Rattle.vast_print.specs.Derived.{DerivesIfPlain, FileDerivesIfPlain};
 ghost use Rattle.vast_print.specs.Emits.{Emits, EmitsText};
 ghost use Rattle.vast_print.specs.Text.{expr_text};
@@ -25,11 +24,16 @@ pub struct VastFile {
 }
 
 impl Model for VastFile {
-    ghost use Rattle.vast_core.specs.Raw.{Raw};
+    ghost use Rattle.std.specs.Coded.{codes};
+    ghost use Rattle.vast_core.specs.Bench.{Bench};
+    ghost use Rattle.vast_core.specs.View.{bench};
+    ghost use Rattle.xlsynth_vast.specs.TreeCode.{expr_code, type_code};
 
-    ghost Value = { Raw };
+    ghost Value = { Bench };
 
-    ghost view = { λ f. f.ast };
+    ghost coded = { Prim.hlevel (codes, expr_code, type_code) };
+
+    ghost view = { λ f. bench f.ast };
 }
 
 impl VastFile {
@@ -42,7 +46,7 @@ impl VastFile {
         file_type: VastFileType,
         ids: &mut FileIds,
     ) -> Result<VastFile, IdsSpent>
-        ensures file { IfOk result (λ file. bench file ≡ start file_type (ids.old + 1)) }
+        ensures file { IfOk result (λ file. file ≡ start file_type (ids.old + 1)) }
         ensures given { OnOk result (ids.new ≡ ids.old + 1) }
         ensures spent { IsErr result ↔ (ids.old ≡ u64.MAX) }
         ensures unchanged { OnErr result (ids.new ≡ ids.old) }
@@ -55,7 +59,7 @@ impl VastFile {
 
     /// The dialect of the file.
     pub fn file_type(&self) -> VastFileType
-        ensures { result ≡ (bench self.now).file_type }
+        ensures { result ≡ self.now.file_type }
     {
         self.ast.file_type()
     }
@@ -67,7 +71,7 @@ impl VastFile {
 
     /// Whether the handle belongs to the file: the condition of every call that takes it.
     pub fn owns<H: Handle>(&self, handle: &H) -> bool
-        ensures { IsTrue result ↔ H.owned (bench self.now) handle.now }
+        ensures { IsTrue result ↔ H.owned self.now handle.now }
     {
         handle.belongs_to(&self.ast)
     }
@@ -78,10 +82,10 @@ impl VastFile {
     /// # Errors
     /// As [`VastFile::emit`].
     pub fn emit_expression(&self, e: &Expr) -> Result<String, VastFault>
-        requires { OwnsExpr (bench self.now) e.now }
-        ensures text { EmitsText (expr_text (tree_of (bench self.now) e.now)) result }
+        requires { OwnsExpr self.now e.now }
+        ensures text { EmitsText (expr_text (tree_of self.now e.now)) result }
         ensures derived { IfOk result
-            (λ text. DerivesIfPlain (string_bytes text) (tree_of (bench self.now) e.now)) }
+            (λ text. DerivesIfPlain (string_bytes text) (tree_of self.now e.now)) }
     {
         print_expr(&self.ast, *e)
     }
@@ -93,9 +97,9 @@ impl VastFile {
     /// `Refused` exactly where the tree has no text, with the first refusal in the order of the text: a printed index
     /// or slice of a named scalar with a bound that is no literal of value zero. `Memory` where a growth was refused.
     pub fn emit(&self) -> Result<String, VastFault>
-        ensures text { Emits (layout (tree (bench self.now))) result }
+        ensures text { Emits (layout (tree self.now)) result }
         ensures derived { IfOk result
-            (λ text. FileDerivesIfPlain (string_bytes text) (tree (bench self.now))) }
+            (λ text. FileDerivesIfPlain (string_bytes text) (tree self.now)) }
     {
         print_file(&self.ast)
     }

@@ -9,7 +9,6 @@ ghost use Rattle.vast_core.specs.Bench.{OwnsModule, OwnsType, OwnsFunction, Owns
 ghost use Rattle.vast_core.specs.Growth.{next_logic_ref};
 ghost use Rattle.vast_core.specs.Functions.{with_variable};
 ghost use Rattle.vast_core.specs.Loops.{next_function};
-ghost use Rattle.vast_core.specs.View.{bench};
 ghost use Rattle.xlsynth_vast.specs.Refusals.{MayBuild};
 ghost use Rattle.xlsynth_vast.specs.Declarations.{names_in};
 ghost use Rattle.xlsynth_vast.specs.Functions.{is_unpacked, unless_unpacked, may_be_function, with_function_member, declared_in_function, unless_taken_in_function};
@@ -45,8 +44,8 @@ fn declared_in_function(
 
 impl VastFile {
     fn is_unpacked(&self, data_type: VastDataType) -> bool
-        requires { OwnsType (bench self.now) data_type }
-        ensures { result ≡ is_unpacked (type_of (bench self.now) data_type) }
+        requires { OwnsType self.now data_type }
+        ensures { result ≡ is_unpacked (type_of self.now data_type) }
     {
         match self.ast.data_type(data_type) {
             TypeNode::Unpacked(_, _) => true,
@@ -62,10 +61,10 @@ impl VastFile {
 
     /// Refuses an unpacked array as the type of a function's result.
     fn refuse_unpacked(&self, result_type: VastDataType) -> Result<(), VastFault>
-        requires { OwnsType (bench self.now) result_type }
+        requires { OwnsType self.now result_type }
         ensures { MatchResult result
-            (λ _. unless_unpacked (type_of (bench self.now) result_type) ≡ Ok tt)
-            (OnlyRefusedBy (unless_unpacked (type_of (bench self.now) result_type))) }
+            (λ _. unless_unpacked (type_of self.now result_type) ≡ Ok tt)
+            (OnlyRefusedBy (unless_unpacked (type_of self.now result_type))) }
     {
         if !self.is_unpacked(result_type) {
             return Ok(());
@@ -89,8 +88,8 @@ impl VastFile {
         name: &str,
         result_type: &VastDataType,
     ) -> Result<VastFunction, VastFault>
-        requires owner { OwnsModule (bench self.old) owner }
-        requires result_type { OwnsType (bench self.old) result_type.now }
+        requires owner { OwnsModule self.old owner }
+        requires result_type { OwnsType self.old result_type.now }
         ensures { MayBuild self.old self.new result
             (λ b. may_be_function (type_of b result_type.now) name.now (names_in b owner))
             next_function (λ _. with_function_member owner name.now result_type.now) }
@@ -107,11 +106,11 @@ impl VastFile {
         kind: &str,
         name: &str,
     ) -> Result<(), VastFault>
-        requires { OwnsFunction (bench self.now) function }
+        requires { OwnsFunction self.now function }
         ensures answer { MatchResult result
-            (λ _. unless_taken_in_function kind.now name.now (bench self.now) function ≡ Ok tt)
-            (OnlyRefusedBy (unless_taken_in_function kind.now name.now (bench self.now) function)) }
-        ensures free { OnOk result (IsFreeInFunction (bench self.now) function name.now) }
+            (λ _. unless_taken_in_function kind.now name.now self.now function ≡ Ok tt)
+            (OnlyRefusedBy (unless_taken_in_function kind.now name.now self.now function)) }
+        ensures free { OnOk result (IsFreeInFunction self.now function name.now) }
     {
         let owner = self.ast.function(function);
         if owner.name_is_free(name) {
@@ -133,8 +132,8 @@ impl VastFile {
         name: &str,
         data_type: &VastDataType,
     ) -> Result<LogicRef, VastFault>
-        requires function { OwnsFunction (bench self.old) function }
-        requires data_type { OwnsType (bench self.old) data_type.now }
+        requires function { OwnsFunction self.old function }
+        requires data_type { OwnsType self.old data_type.now }
         ensures { MayBuild self.old self.new result
             (λ b. unless_taken_in_function (codes "input") name.now b function) next_logic_ref
             (λ _. with_variable function false
@@ -157,8 +156,8 @@ impl VastFile {
         name: &str,
         data_type: &VastDataType,
     ) -> Result<LogicRef, VastFault>
-        requires function { OwnsFunction (bench self.old) function }
-        requires data_type { OwnsType (bench self.old) data_type.now }
+        requires function { OwnsFunction self.old function }
+        requires data_type { OwnsType self.old data_type.now }
         ensures { MayBuild self.old self.new result
             (λ b. unless_taken_in_function (codes "input") name.now b function) next_logic_ref
             (λ _. with_variable function false
@@ -181,8 +180,8 @@ impl VastFile {
         name: &str,
         data_type: &VastDataType,
     ) -> Result<LogicRef, VastFault>
-        requires function { OwnsFunction (bench self.old) function }
-        requires data_type { OwnsType (bench self.old) data_type.now }
+        requires function { OwnsFunction self.old function }
+        requires data_type { OwnsType self.old data_type.now }
         ensures { MayBuild self.old self.new result
             (λ b. unless_taken_in_function (codes "reg") name.now b function) next_logic_ref
             (λ _. with_variable function true
@@ -205,8 +204,8 @@ impl VastFile {
         name: &str,
         data_type: &VastDataType,
     ) -> Result<LogicRef, VastFault>
-        requires function { OwnsFunction (bench self.old) function }
-        requires data_type { OwnsType (bench self.old) data_type.now }
+        requires function { OwnsFunction self.old function }
+        requires data_type { OwnsType self.old data_type.now }
         ensures { MayBuild self.old self.new result
             (λ b. unless_taken_in_function (codes "logic") name.now b function) next_logic_ref
             (λ _. with_variable function true
@@ -221,18 +220,18 @@ impl VastFile {
 
     /// The function's body, which is the file's.
     pub fn function_body(&self, function: VastFunction) -> VastStatementBlock
-        requires { OwnsFunction (bench self.now) function }
-        ensures body { body_at (bench self.now) function ≡ Some result }
-        ensures owned { OwnsBlock (bench self.now) result }
+        requires { OwnsFunction self.now function }
+        ensures body { body_at self.now function ≡ Some result }
+        ensures owned { OwnsBlock self.now result }
     {
         self.ast.function(function).body
     }
 
     /// The name to which the body assigns the function's result, as an expression, which is the file's.
     pub fn function_result(&self, function: VastFunction) -> LogicRef
-        requires { OwnsFunction (bench self.now) function }
-        ensures name { result_at (bench self.now) function ≡ Some result }
-        ensures owned { OwnsLogicRef (bench self.now) result }
+        requires { OwnsFunction self.now function }
+        ensures name { result_at self.now function ≡ Some result }
+        ensures owned { OwnsLogicRef self.now result }
     {
         self.ast.function(function).result
     }

@@ -10,7 +10,6 @@ ghost use Rattle.vast_core.specs.Artifacts.{next_statement};
 ghost use Rattle.vast_core.specs.Containers.{next_conditional, with_conditional};
 ghost use Rattle.vast_core.specs.Parameters.{next_localparam_ref};
 ghost use Rattle.vast_core.specs.Loops.{next_loop, with_loop, with_loop_member, with_plain_loop_parameter, with_defined_loop_parameter};
-ghost use Rattle.vast_core.specs.View.{bench};
 ghost use Rattle.xlsynth_vast.specs.Inspections.{genvar_at};
 
 use crate::file::VastFile;
@@ -45,9 +44,9 @@ impl VastFile {
         end: &Expr,
         label: Option<&str>,
     ) -> Result<GenerateLoop, AllocError>
-        requires owner { OwnsModule (bench self.old) owner }
-        requires start { OwnsExpr (bench self.old) start.now }
-        requires end { OwnsExpr (bench self.old) end.now }
+        requires owner { OwnsModule self.old owner }
+        requires start { OwnsExpr self.old start.now }
+        requires end { OwnsExpr self.old end.now }
         ensures { Builds self.old self.new result next_loop
             (λ b. with_member owner (LoopEntry (next_loop b))
             (with_loop name.now start.now end.now (option_copied label.entry) b)) }
@@ -70,9 +69,9 @@ impl VastFile {
         end: &Expr,
         label: Option<&str>,
     ) -> Result<GenerateLoop, AllocError>
-        requires parent { OwnsLoop (bench self.old) parent }
-        requires start { OwnsExpr (bench self.old) start.now }
-        requires end { OwnsExpr (bench self.old) end.now }
+        requires parent { OwnsLoop self.old parent }
+        requires start { OwnsExpr self.old start.now }
+        requires end { OwnsExpr self.old end.now }
         ensures { Builds self.old self.new result next_loop
             (λ b. with_loop_member parent (LoopEntry (next_loop b))
             (with_loop name.now start.now end.now (option_copied label.entry) b)) }
@@ -84,9 +83,9 @@ impl VastFile {
 
     /// The loop's variable as an expression, which is the file's.
     pub fn generate_genvar(&self, generate: GenerateLoop) -> LogicRef
-        requires { OwnsLoop (bench self.now) generate }
-        ensures genvar { genvar_at (bench self.now) generate ≡ Some result }
-        ensures owned { OwnsLogicRef (bench self.now) result }
+        requires { OwnsLoop self.now generate }
+        ensures genvar { genvar_at self.now generate ≡ Some result }
+        ensures owned { OwnsLogicRef self.now result }
     {
         self.ast.generate_loop(generate).genvar
     }
@@ -101,8 +100,8 @@ impl VastFile {
         name: &str,
         rhs: &Expr,
     ) -> Result<LocalparamRef, AllocError>
-        requires generate { OwnsLoop (bench self.old) generate }
-        requires rhs { OwnsExpr (bench self.old) rhs.now }
+        requires generate { OwnsLoop self.old generate }
+        requires rhs { OwnsExpr self.old rhs.now }
         ensures { Builds self.old self.new result next_localparam_ref
             (with_plain_loop_parameter generate name.now rhs.now) }
     {
@@ -120,9 +119,9 @@ impl VastFile {
         definition: &Def,
         rhs: &Expr,
     ) -> Result<LocalparamRef, AllocError>
-        requires generate { OwnsLoop (bench self.old) generate }
-        requires definition { OwnsDef (bench self.old) definition.now }
-        requires rhs { OwnsExpr (bench self.old) rhs.now }
+        requires generate { OwnsLoop self.old generate }
+        requires definition { OwnsDef self.old definition.now }
+        requires rhs { OwnsExpr self.old rhs.now }
         ensures { Builds self.old self.new result next_localparam_ref
             (with_defined_loop_parameter generate definition.now rhs.now) }
     {
@@ -140,9 +139,9 @@ impl VastFile {
         lhs: &Expr,
         rhs: &Expr,
     ) -> Result<VastStatement, AllocError>
-        requires generate { OwnsLoop (bench self.old) generate }
-        requires lhs { OwnsExpr (bench self.old) lhs.now }
-        requires rhs { OwnsExpr (bench self.old) rhs.now }
+        requires generate { OwnsLoop self.old generate }
+        requires lhs { OwnsExpr self.old lhs.now }
+        requires rhs { OwnsExpr self.old rhs.now }
         ensures { Builds self.old self.new result next_statement
             (λ b. with_loop_member generate (AssignmentEntry (next_continuous b))
             (with_assignment (record { lhs = lhs.now; rhs = rhs.now; nonblocking = false })
@@ -162,8 +161,8 @@ impl VastFile {
         generate: GenerateLoop,
         condition: &Expr,
     ) -> Result<Conditional, AllocError>
-        requires generate { OwnsLoop (bench self.old) generate }
-        requires condition { OwnsExpr (bench self.old) condition.now }
+        requires generate { OwnsLoop self.old generate }
+        requires condition { OwnsExpr self.old condition.now }
         ensures { Builds self.old self.new result next_conditional
             (λ b. with_loop_member generate (ConditionalEntry (next_conditional b))
             (with_conditional condition.now b)) }
@@ -177,7 +176,7 @@ impl VastFile {
     /// # Errors
     /// `AllocError` where a growth was refused; the file is unchanged.
     pub fn generate_add_blank_line(&mut self, generate: GenerateLoop) -> Result<(), AllocError>
-        requires { OwnsLoop (bench self.old) generate }
+        requires { OwnsLoop self.old generate }
         ensures { Leaves self.old self.new result (with_loop_member generate BlankEntry) }
     {
         self.ast
@@ -193,8 +192,8 @@ impl VastFile {
         generate: GenerateLoop,
         comment: &Comment,
     ) -> Result<(), AllocError>
-        requires generate { OwnsLoop (bench self.old) generate }
-        requires comment { OwnsComment (bench self.old) comment.now }
+        requires generate { OwnsLoop self.old generate }
+        requires comment { OwnsComment self.old comment.now }
         ensures { Leaves self.old self.new result
             (with_loop_member generate (CommentEntry comment.now)) }
     {
@@ -211,8 +210,8 @@ impl VastFile {
         generate: GenerateLoop,
         instantiation: &Instantiation,
     ) -> Result<(), AllocError>
-        requires generate { OwnsLoop (bench self.old) generate }
-        requires instantiation { OwnsInstantiation (bench self.old) instantiation.now }
+        requires generate { OwnsLoop self.old generate }
+        requires instantiation { OwnsInstantiation self.old instantiation.now }
         ensures { Leaves self.old self.new result
             (with_loop_member generate (InstanceEntry instantiation.now)) }
     {
@@ -228,8 +227,8 @@ impl VastFile {
         generate: GenerateLoop,
         statement: &InlineVerilogStatement,
     ) -> Result<(), AllocError>
-        requires generate { OwnsLoop (bench self.old) generate }
-        requires statement { OwnsInline (bench self.old) statement.now }
+        requires generate { OwnsLoop self.old generate }
+        requires statement { OwnsInline self.old statement.now }
         ensures { Leaves self.old self.new result
             (with_loop_member generate (InlineEntry statement.now)) }
     {
@@ -246,8 +245,8 @@ impl VastFile {
         generate: GenerateLoop,
         statement: &MacroStatement,
     ) -> Result<(), AllocError>
-        requires generate { OwnsLoop (bench self.old) generate }
-        requires statement { OwnsMacroStatement (bench self.old) statement.now }
+        requires generate { OwnsLoop self.old generate }
+        requires statement { OwnsMacroStatement self.old statement.now }
         ensures { Leaves self.old self.new result
             (with_loop_member generate (MacroEntry statement.now)) }
     {

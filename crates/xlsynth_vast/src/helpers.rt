@@ -4,7 +4,6 @@
 //! it was.
 
 ghost use Rattle.vast_core.specs.Sound.{RecordsSound};
-ghost use Rattle.vast_core.specs.View.{bench};
 
 use crate::file::VastFile;
 
@@ -19,7 +18,7 @@ pub use registers::{RegisterDefinition, RegisterScope, Reset, add_registers};
 
 /// What the file's lists name is its own: a law, by which what no list names is not in the file's tree.
 fn records_are_sound(file: &VastFile)
-    ensures { RecordsSound (bench file.now) }
+    ensures { RecordsSound file.now }
 {
     file.ast.file_is_sound();
 }

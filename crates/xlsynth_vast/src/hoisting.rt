@@ -4,7 +4,6 @@ ghost use Rattle.std.specs.Prelude.{◌≡◌, ◌≤◌, length};
 ghost use Rattle.vast_core.specs.Bench.{OwnsModule};
 ghost use Rattle.vast_core.specs.Growth.{Leaves};
 ghost use Rattle.vast_core.specs.Hoisting.{with_hoisted};
-ghost use Rattle.vast_core.specs.View.{bench};
 ghost use Rattle.xlsynth_vast.specs.Inspections.{members_in};
 
 use crate::file::VastFile;
@@ -25,8 +24,8 @@ impl VastFile {
         owner: VastModule,
         start: usize,
     ) -> Result<(), AllocError>
-        requires owner { OwnsModule (bench self.old) owner }
-        requires start { start ≤ length (members_in (bench self.old) owner) }
+        requires owner { OwnsModule self.old owner }
+        requires start { start ≤ length (members_in self.old owner) }
         ensures { Leaves self.old self.new result (with_hoisted owner start) }
     {
         self.ast.hoist_declarations(owner, start)

@@ -2,7 +2,6 @@
 
 ghost use Rattle.std.specs.Prelude.{◌≡◌, All, Some, IfOk, length, string_bytes};
 ghost use Rattle.vast_core.specs.Bench.{OwnsModule, OwnsPort, OwnsType, OwnsLogicRef};
-ghost use Rattle.vast_core.specs.View.{bench};
 ghost use Rattle.xlsynth_vast.specs.Inspections.{members_in, ports_in, ports_towards, name_at, direction_at, type_at, logic_ref_at, width_at, name_of_ref};
 
 use crate::file::VastFile;
@@ -12,8 +11,8 @@ use vast_core::{ExprNode, LogicRef, ModulePort, ModulePortDirection, VastDataTyp
 impl VastFile {
     /// How many members the module has: where its next member will stand.
     pub fn module_member_count(&self, owner: VastModule) -> usize
-        requires { OwnsModule (bench self.now) owner }
-        ensures { result ≡ length (members_in (bench self.now) owner) }
+        requires { OwnsModule self.now owner }
+        ensures { result ≡ length (members_in self.now owner) }
     {
         self.ast.member_count(owner)
     }
@@ -23,9 +22,9 @@ impl VastFile {
     /// # Errors
     /// `AllocError` where memory for the list was refused.
     pub fn module_ports(&self, owner: VastModule) -> Result<Vec<ModulePort>, AllocError>
-        requires { OwnsModule (bench self.now) owner }
-        ensures ports { IfOk result (λ ports. ports.items ≡ ports_in (bench self.now) owner) }
-        ensures owned { IfOk result (λ ports. All (OwnsPort (bench self.now)) ports.items) }
+        requires { OwnsModule self.now owner }
+        ensures ports { IfOk result (λ ports. ports.items ≡ ports_in self.now owner) }
+        ensures owned { IfOk result (λ ports. All (OwnsPort self.now) ports.items) }
     {
         let module = self.ast.module(owner);
         module.ports.iter().copied().collect(self.ast.allocator())
@@ -36,10 +35,10 @@ impl VastFile {
         owner: VastModule,
         direction: ModulePortDirection,
     ) -> Result<Vec<ModulePort>, AllocError>
-        requires { OwnsModule (bench self.now) owner }
+        requires { OwnsModule self.now owner }
         ensures ports { IfOk result
-            (λ ports. ports.items ≡ ports_towards direction (bench self.now) owner) }
-        ensures owned { IfOk result (λ ports. All (OwnsPort (bench self.now)) ports.items) }
+            (λ ports. ports.items ≡ ports_towards direction self.now owner) }
+        ensures owned { IfOk result (λ ports. All (OwnsPort self.now) ports.items) }
     {
         let mut ports = Vec::new(self.ast.allocator());
         for port in &self.ast.module(owner).ports {
@@ -55,11 +54,11 @@ impl VastFile {
     /// # Errors
     /// `AllocError` where memory for the list was refused.
     pub fn module_input_ports(&self, owner: VastModule) -> Result<Vec<ModulePort>, AllocError>
-        requires { OwnsModule (bench self.now) owner }
+        requires { OwnsModule self.now owner }
         ensures ports { IfOk result
             (λ ports. ports.items
-            ≡ ports_towards ModulePortDirection.Input (bench self.now) owner) }
-        ensures owned { IfOk result (λ ports. All (OwnsPort (bench self.now)) ports.items) }
+            ≡ ports_towards ModulePortDirection.Input self.now owner) }
+        ensures owned { IfOk result (λ ports. All (OwnsPort self.now) ports.items) }
     {
         self.ports_towards(owner, ModulePortDirection::Input)
     }
@@ -69,19 +68,19 @@ impl VastFile {
     /// # Errors
     /// `AllocError` where memory for the list was refused.
     pub fn module_output_ports(&self, owner: VastModule) -> Result<Vec<ModulePort>, AllocError>
-        requires { OwnsModule (bench self.now) owner }
+        requires { OwnsModule self.now owner }
         ensures ports { IfOk result
             (λ ports. ports.items
-            ≡ ports_towards ModulePortDirection.Output (bench self.now) owner) }
-        ensures owned { IfOk result (λ ports. All (OwnsPort (bench self.now)) ports.items) }
+            ≡ ports_towards ModulePortDirection.Output self.now owner) }
+        ensures owned { IfOk result (λ ports. All (OwnsPort self.now) ports.items) }
     {
         self.ports_towards(owner, ModulePortDirection::Output)
     }
 
     /// The port's direction.
     pub fn port_direction(&self, port: ModulePort) -> ModulePortDirection
-        requires { OwnsPort (bench self.now) port }
-        ensures { direction_at (bench self.now) port ≡ Some result }
+        requires { OwnsPort self.now port }
+        ensures { direction_at self.now port ≡ Some result }
     {
         self.ast.port(port).direction
     }
@@ -91,17 +90,17 @@ impl VastFile {
     /// # Errors
     /// `AllocError` where memory for the name was refused.
     pub fn port_name(&self, port: ModulePort) -> Result<String, AllocError>
-        requires { OwnsPort (bench self.now) port }
-        ensures { IfOk result (λ name. name_at (bench self.now) port ≡ Some (string_bytes name)) }
+        requires { OwnsPort self.now port }
+        ensures { IfOk result (λ name. name_at self.now port ≡ Some (string_bytes name)) }
     {
         String::from_str(self.ast.allocator(), &self.ast.port(port).name)
     }
 
     /// The port's type, which is the file's.
     pub fn port_data_type(&self, port: ModulePort) -> VastDataType
-        requires { OwnsPort (bench self.now) port }
-        ensures data_type { type_at (bench self.now) port ≡ Some result }
-        ensures owned { OwnsType (bench self.now) result }
+        requires { OwnsPort self.now port }
+        ensures data_type { type_at self.now port ≡ Some result }
+        ensures owned { OwnsType self.now result }
     {
         self.ast.port(port).data_type
     }
@@ -109,8 +108,8 @@ impl VastFile {
     /// The bits of the port's type, with those of all elements of an array; 0 where they aren't known or are more than
     /// an `i64` can be. It takes no memory.
     pub fn port_width(&self, port: ModulePort) -> i64
-        requires { OwnsPort (bench self.now) port }
-        ensures { width_at (bench self.now) port ≡ Some result }
+        requires { OwnsPort self.now port }
+        ensures { width_at self.now port ≡ Some result }
     {
         let data_type = self.port_data_type(port);
         match self.ast.flat_bit_count(data_type) {
@@ -121,9 +120,9 @@ impl VastFile {
 
     /// The port's name as an expression, which is the file's.
     pub fn port_logic_ref(&self, port: ModulePort) -> LogicRef
-        requires { OwnsPort (bench self.now) port }
-        ensures logic_ref { logic_ref_at (bench self.now) port ≡ Some result }
-        ensures owned { OwnsLogicRef (bench self.now) result }
+        requires { OwnsPort self.now port }
+        ensures logic_ref { logic_ref_at self.now port ≡ Some result }
+        ensures owned { OwnsLogicRef self.now result }
     {
         self.ast.port(port).logic_ref
     }
@@ -134,9 +133,9 @@ impl VastFile {
     /// `AllocError` where memory for the name was refused.
     #[tactic(auto, using(vast_core::proofs::Laws::conversions))]
     pub fn logic_ref_name(&self, logic_ref: LogicRef) -> Result<String, AllocError>
-        requires { OwnsLogicRef (bench self.now) logic_ref }
+        requires { OwnsLogicRef self.now logic_ref }
         ensures { IfOk result
-            (λ name. name_of_ref (bench self.now) logic_ref ≡ Some (string_bytes name)) }
+            (λ name. name_of_ref self.now logic_ref ≡ Some (string_bytes name)) }
     {
         let ExprNode::Name(name, _) = self.ast.expr(logic_ref.to_expr()) else {
             unreachable!()

@@ -5,7 +5,6 @@ ghost use Rattle.vast_core.specs.Bench.{OwnsExpr};
 ghost use Rattle.vast_core.specs.Records.{connection_record};
 ghost use Rattle.vast_core.specs.Growth.{Builds};
 ghost use Rattle.vast_core.specs.Artifacts.{next_instantiation, with_instance};
-ghost use Rattle.vast_core.specs.View.{bench};
 ghost use Rattle.xlsynth_vast.specs.Instances.{connected};
 
 use crate::file::VastFile;
@@ -74,9 +73,9 @@ impl VastFile {
     ) -> Result<Instantiation, AllocError>
         requires parameters { length parameter_names.now ≡ length parameter_expressions.now }
         requires connections { length connection_names.now ≡ length connection_expressions.now }
-        requires parameter_expressions { All (λ e. OwnsExpr (bench self.old) e.now)
+        requires parameter_expressions { All (λ e. OwnsExpr self.old e.now)
             parameter_expressions.now }
-        requires connection_expressions { All (λ e. IfSome e (λ x. OwnsExpr (bench self.old) x.now))
+        requires connection_expressions { All (λ e. IfSome e (λ x. OwnsExpr self.old x.now))
             connection_expressions.now }
         ensures { Builds self.old self.new result next_instantiation
             (with_instance

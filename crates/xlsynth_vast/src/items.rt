@@ -5,7 +5,6 @@ ghost use Rattle.std.specs.Prelude.{◌≡◌};
 ghost use Rattle.vast_core.specs.Bench.{OwnsBlankLine};
 ghost use Rattle.vast_core.specs.Records.{IncludeEntry, FileCommentEntry, FileBlankEntry};
 ghost use Rattle.vast_core.specs.Growth.{Leaves, with_item};
-ghost use Rattle.vast_core.specs.View.{bench};
 
 use crate::file::VastFile;
 use std::alloc::AllocError;
@@ -27,7 +26,7 @@ impl VastFile {
     /// # Errors
     /// `AllocError` where a growth was refused; the file is unchanged.
     pub fn add_blank_line(&mut self, blank_line: BlankLine) -> Result<(), AllocError>
-        requires { OwnsBlankLine (bench self.old) blank_line }
+        requires { OwnsBlankLine self.old blank_line }
         ensures { Leaves self.old self.new result (with_item FileBlankEntry) }
     {
         let _ = blank_line;

@@ -2,7 +2,6 @@
 
 ghost use Rattle.vast_core.specs.Bench.{OwnsFunction, OwnsModule};
 ghost use Rattle.vast_core.specs.Parents.{HasOneParent};
-ghost use Rattle.vast_core.specs.View.{bench};
 ghost use Rattle.xlsynth_vast.specs.Laws.{HoistingAgain, ModuleNamesAreDistinct, FunctionNamesAreDistinct};
 ghost use Rattle.xlsynth_vast.specs.Registers.{RegistersTakeTheirValues};
 
@@ -17,7 +16,7 @@ pub fn hoisting_again()
 /// In every file each block, conditional, case statement and loop stands in at most one place: a container has one
 /// parent. So does each function and each always block. Nothing holds what the file does not have.
 pub fn containers_have_one_parent(file: &VastFile)
-    ensures { HasOneParent (bench file.now) }
+    ensures { HasOneParent file.now }
 {
     file.ast.file_is_sound();
 }
@@ -25,8 +24,8 @@ pub fn containers_have_one_parent(file: &VastFile)
 /// The names that a module declares, of its ports, wires, regs, logics and functions, are pairwise distinct in every
 /// file, and they are the names that are taken in it.
 pub fn module_names_are_distinct(file: &VastFile, owner: VastModule)
-    requires { OwnsModule (bench file.now) owner }
-    ensures { ModuleNamesAreDistinct (bench file.now) owner }
+    requires { OwnsModule file.now owner }
+    ensures { ModuleNamesAreDistinct file.now owner }
 {
     file.ast.file_is_sound();
 }
@@ -34,8 +33,8 @@ pub fn module_names_are_distinct(file: &VastFile, owner: VastModule)
 /// The names that a function declares, of its result, inputs and locals, are pairwise distinct in every file, and they
 /// are the names that are taken in it.
 pub fn function_names_are_distinct(file: &VastFile, function: VastFunction)
-    requires { OwnsFunction (bench file.now) function }
-    ensures { FunctionNamesAreDistinct (bench file.now) function }
+    requires { OwnsFunction file.now function }
+    ensures { FunctionNamesAreDistinct file.now function }
 {
     let _declared = file.ast.function(function);
 }

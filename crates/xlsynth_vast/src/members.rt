@@ -4,7 +4,6 @@ ghost use Rattle.std.specs.Prelude.{◌≡◌};
 ghost use Rattle.vast_core.specs.Bench.{OwnsModule, OwnsContinuous, OwnsBlankLine, OwnsComment, OwnsInline, OwnsMacroStatement, OwnsInstantiation};
 ghost use Rattle.vast_core.specs.Records.{AssignmentEntry, BlankEntry, CommentEntry, InlineEntry, MacroEntry, InstanceEntry};
 ghost use Rattle.vast_core.specs.Growth.{Leaves, with_member};
-ghost use Rattle.vast_core.specs.View.{bench};
 
 use crate::file::VastFile;
 use std::alloc::AllocError;
@@ -23,8 +22,8 @@ impl VastFile {
         owner: VastModule,
         instantiation: Instantiation,
     ) -> Result<(), AllocError>
-        requires owner { OwnsModule (bench self.old) owner }
-        requires instantiation { OwnsInstantiation (bench self.old) instantiation }
+        requires owner { OwnsModule self.old owner }
+        requires instantiation { OwnsInstantiation self.old instantiation }
         ensures { Leaves self.old self.new result
             (with_member owner (InstanceEntry instantiation)) }
     {
@@ -41,8 +40,8 @@ impl VastFile {
         owner: VastModule,
         assignment: ContinuousAssignment,
     ) -> Result<(), AllocError>
-        requires owner { OwnsModule (bench self.old) owner }
-        requires assignment { OwnsContinuous (bench self.old) assignment }
+        requires owner { OwnsModule self.old owner }
+        requires assignment { OwnsContinuous self.old assignment }
         ensures { Leaves self.old self.new result (with_member owner (AssignmentEntry assignment)) }
     {
         self.ast.append_member(
@@ -60,8 +59,8 @@ impl VastFile {
         owner: VastModule,
         blank: BlankLine,
     ) -> Result<(), AllocError>
-        requires owner { OwnsModule (bench self.old) owner }
-        requires blank { OwnsBlankLine (bench self.old) blank }
+        requires owner { OwnsModule self.old owner }
+        requires blank { OwnsBlankLine self.old blank }
         ensures { Leaves self.old self.new result (with_member owner BlankEntry) }
     {
         self.ast
@@ -77,8 +76,8 @@ impl VastFile {
         owner: VastModule,
         comment: Comment,
     ) -> Result<(), AllocError>
-        requires owner { OwnsModule (bench self.old) owner }
-        requires comment { OwnsComment (bench self.old) comment }
+        requires owner { OwnsModule self.old owner }
+        requires comment { OwnsComment self.old comment }
         ensures { Leaves self.old self.new result (with_member owner (CommentEntry comment)) }
     {
         self.ast
@@ -94,8 +93,8 @@ impl VastFile {
         owner: VastModule,
         statement: InlineVerilogStatement,
     ) -> Result<(), AllocError>
-        requires owner { OwnsModule (bench self.old) owner }
-        requires statement { OwnsInline (bench self.old) statement }
+        requires owner { OwnsModule self.old owner }
+        requires statement { OwnsInline self.old statement }
         ensures { Leaves self.old self.new result (with_member owner (InlineEntry statement)) }
     {
         self.ast
@@ -111,8 +110,8 @@ impl VastFile {
         owner: VastModule,
         statement: MacroStatement,
     ) -> Result<(), AllocError>
-        requires owner { OwnsModule (bench self.old) owner }
-        requires statement { OwnsMacroStatement (bench self.old) statement }
+        requires owner { OwnsModule self.old owner }
+        requires statement { OwnsMacroStatement self.old statement }
         ensures { Leaves self.old self.new result (with_member owner (MacroEntry statement)) }
     {
         self.ast

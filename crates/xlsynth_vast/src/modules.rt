@@ -3,7 +3,6 @@
 ghost use Rattle.std.specs.Prelude.{◌≡◌, ◌↔◌, IsTrue, IfOk, string_bytes};
 ghost use Rattle.vast_core.specs.Bench.{OwnsModule, NameIsFree};
 ghost use Rattle.vast_core.specs.Growth.{Builds, next_module, with_module};
-ghost use Rattle.vast_core.specs.View.{bench};
 ghost use Rattle.xlsynth_vast.specs.Conditions.{is_free};
 ghost use Rattle.xlsynth_vast.specs.Equations.{name_of};
 
@@ -27,8 +26,8 @@ impl VastFile {
     /// # Errors
     /// `AllocError` where memory for the name was refused.
     pub fn module_name(&self, owner: VastModule) -> Result<String, AllocError>
-        requires { OwnsModule (bench self.now) owner }
-        ensures { IfOk result (λ name. string_bytes name ≡ name_of (bench self.now) owner) }
+        requires { OwnsModule self.now owner }
+        ensures { IfOk result (λ name. string_bytes name ≡ name_of self.now owner) }
     {
         let module = self.ast.module(owner);
         String::from_str(self.ast.allocator(), &module.name)
@@ -37,9 +36,9 @@ impl VastFile {
     /// Whether no port, wire, variable or function of the module has this name: the condition of the calls that
     /// declare one.
     pub fn name_is_free(&self, owner: VastModule, name: &str) -> bool
-        requires { OwnsModule (bench self.now) owner }
-        ensures free { IsTrue result ↔ NameIsFree (bench self.now) owner name.now }
-        ensures test { result ≡ is_free (bench self.now) owner name.now }
+        requires { OwnsModule self.now owner }
+        ensures free { IsTrue result ↔ NameIsFree self.now owner name.now }
+        ensures test { result ≡ is_free self.now owner name.now }
     {
         let module = self.ast.module(owner);
         module.name_is_free(name)

@@ -6,7 +6,6 @@ ghost use Rattle.std.specs.Prelude.{◌≡◌, true, false, None, Some};
 ghost use Rattle.vast_core.specs.Bench.{OwnsModule, OwnsExpr, OwnsType, OwnsDef};
 ghost use Rattle.vast_core.specs.Growth.{Builds, next_logic_ref};
 ghost use Rattle.vast_core.specs.Parameters.{next_parameter_ref, next_localparam_ref, with_parameter_port, with_plain_parameter, with_int_parameter, with_defined_parameter};
-ghost use Rattle.vast_core.specs.View.{bench};
 
 use crate::file::VastFile;
 use std::alloc::AllocError;
@@ -26,8 +25,8 @@ impl VastFile {
         name: &str,
         value: &Expr,
     ) -> Result<LogicRef, AllocError>
-        requires owner { OwnsModule (bench self.old) owner }
-        requires value { OwnsExpr (bench self.old) value.now }
+        requires owner { OwnsModule self.old owner }
+        requires value { OwnsExpr self.old value.now }
         ensures { Builds self.old self.new result next_logic_ref
             (with_parameter_port owner name.now None value.now) }
     {
@@ -45,9 +44,9 @@ impl VastFile {
         data_type: &VastDataType,
         value: &Expr,
     ) -> Result<LogicRef, AllocError>
-        requires owner { OwnsModule (bench self.old) owner }
-        requires data_type { OwnsType (bench self.old) data_type.now }
-        requires value { OwnsExpr (bench self.old) value.now }
+        requires owner { OwnsModule self.old owner }
+        requires data_type { OwnsType self.old data_type.now }
+        requires value { OwnsExpr self.old value.now }
         ensures { Builds self.old self.new result next_logic_ref
             (with_parameter_port owner name.now (Some data_type.now) value.now) }
     {
@@ -65,8 +64,8 @@ impl VastFile {
         name: &str,
         rhs: &Expr,
     ) -> Result<ParameterRef, AllocError>
-        requires owner { OwnsModule (bench self.old) owner }
-        requires rhs { OwnsExpr (bench self.old) rhs.now }
+        requires owner { OwnsModule self.old owner }
+        requires rhs { OwnsExpr self.old rhs.now }
         ensures { Builds self.old self.new result next_parameter_ref
             (with_plain_parameter owner false name.now rhs.now) }
     {
@@ -84,9 +83,9 @@ impl VastFile {
         definition: &Def,
         rhs: &Expr,
     ) -> Result<ParameterRef, AllocError>
-        requires owner { OwnsModule (bench self.old) owner }
-        requires definition { OwnsDef (bench self.old) definition.now }
-        requires rhs { OwnsExpr (bench self.old) rhs.now }
+        requires owner { OwnsModule self.old owner }
+        requires definition { OwnsDef self.old definition.now }
+        requires rhs { OwnsExpr self.old rhs.now }
         ensures { Builds self.old self.new result next_parameter_ref
             (with_defined_parameter owner false definition.now rhs.now) }
     {
@@ -104,8 +103,8 @@ impl VastFile {
         name: &str,
         rhs: &Expr,
     ) -> Result<LocalparamRef, AllocError>
-        requires owner { OwnsModule (bench self.old) owner }
-        requires rhs { OwnsExpr (bench self.old) rhs.now }
+        requires owner { OwnsModule self.old owner }
+        requires rhs { OwnsExpr self.old rhs.now }
         ensures { Builds self.old self.new result next_localparam_ref
             (with_plain_parameter owner true name.now rhs.now) }
     {
@@ -123,8 +122,8 @@ impl VastFile {
         name: &str,
         rhs: &Expr,
     ) -> Result<LocalparamRef, AllocError>
-        requires owner { OwnsModule (bench self.old) owner }
-        requires rhs { OwnsExpr (bench self.old) rhs.now }
+        requires owner { OwnsModule self.old owner }
+        requires rhs { OwnsExpr self.old rhs.now }
         ensures { Builds self.old self.new result next_localparam_ref
             (with_int_parameter owner true name.now rhs.now) }
     {
@@ -143,9 +142,9 @@ impl VastFile {
         definition: &Def,
         rhs: &Expr,
     ) -> Result<LocalparamRef, AllocError>
-        requires owner { OwnsModule (bench self.old) owner }
-        requires definition { OwnsDef (bench self.old) definition.now }
-        requires rhs { OwnsExpr (bench self.old) rhs.now }
+        requires owner { OwnsModule self.old owner }
+        requires definition { OwnsDef self.old definition.now }
+        requires rhs { OwnsExpr self.old rhs.now }
         ensures { Builds self.old self.new result next_localparam_ref
             (with_defined_parameter owner true definition.now rhs.now) }
     {

@@ -6,7 +6,6 @@
 ghost use Rattle.std.specs.Prelude.{◌≡◌};
 ghost use Rattle.vast_core.specs.Bench.{OwnsModule, OwnsType, NameIsFree};
 ghost use Rattle.vast_core.specs.Growth.{Builds, next_logic_ref, with_port};
-ghost use Rattle.vast_core.specs.View.{bench};
 
 use crate::file::VastFile;
 use std::alloc::AllocError;
@@ -20,9 +19,9 @@ impl VastFile {
         name: &str,
         data_type: VastDataType,
     ) -> Result<LogicRef, AllocError>
-        requires owner { OwnsModule (bench self.old) owner }
-        requires data_type { OwnsType (bench self.old) data_type }
-        requires free { NameIsFree (bench self.old) owner name.now }
+        requires owner { OwnsModule self.old owner }
+        requires data_type { OwnsType self.old data_type }
+        requires free { NameIsFree self.old owner name.now }
         ensures { Builds self.old self.new result next_logic_ref
             (with_port owner direction DataKind.Wire name.now data_type) }
     {
@@ -37,9 +36,9 @@ impl VastFile {
         name: &str,
         data_type: VastDataType,
     ) -> Result<LogicRef, AllocError>
-        requires owner { OwnsModule (bench self.old) owner }
-        requires data_type { OwnsType (bench self.old) data_type }
-        requires free { NameIsFree (bench self.old) owner name.now }
+        requires owner { OwnsModule self.old owner }
+        requires data_type { OwnsType self.old data_type }
+        requires free { NameIsFree self.old owner name.now }
         ensures { Builds self.old self.new result next_logic_ref
             (with_port owner direction DataKind.Logic name.now data_type) }
     {
@@ -57,9 +56,9 @@ impl VastFile {
         name: &str,
         data_type: &VastDataType,
     ) -> Result<LogicRef, AllocError>
-        requires owner { OwnsModule (bench self.old) owner }
-        requires data_type { OwnsType (bench self.old) data_type.now }
-        requires free { NameIsFree (bench self.old) owner name.now }
+        requires owner { OwnsModule self.old owner }
+        requires data_type { OwnsType self.old data_type.now }
+        requires free { NameIsFree self.old owner name.now }
         ensures { Builds self.old self.new result next_logic_ref
             (with_port owner ModulePortDirection.Input DataKind.Wire name.now data_type.now) }
     {
@@ -76,9 +75,9 @@ impl VastFile {
         name: &str,
         data_type: &VastDataType,
     ) -> Result<LogicRef, AllocError>
-        requires owner { OwnsModule (bench self.old) owner }
-        requires data_type { OwnsType (bench self.old) data_type.now }
-        requires free { NameIsFree (bench self.old) owner name.now }
+        requires owner { OwnsModule self.old owner }
+        requires data_type { OwnsType self.old data_type.now }
+        requires free { NameIsFree self.old owner name.now }
         ensures { Builds self.old self.new result next_logic_ref
             (with_port owner ModulePortDirection.Output DataKind.Wire name.now data_type.now) }
     {
@@ -95,9 +94,9 @@ impl VastFile {
         name: &str,
         data_type: &VastDataType,
     ) -> Result<LogicRef, AllocError>
-        requires owner { OwnsModule (bench self.old) owner }
-        requires data_type { OwnsType (bench self.old) data_type.now }
-        requires free { NameIsFree (bench self.old) owner name.now }
+        requires owner { OwnsModule self.old owner }
+        requires data_type { OwnsType self.old data_type.now }
+        requires free { NameIsFree self.old owner name.now }
         ensures { Builds self.old self.new result next_logic_ref
             (with_port owner ModulePortDirection.InOut DataKind.Wire name.now data_type.now) }
     {
@@ -114,9 +113,9 @@ impl VastFile {
         name: &str,
         data_type: &VastDataType,
     ) -> Result<LogicRef, AllocError>
-        requires owner { OwnsModule (bench self.old) owner }
-        requires data_type { OwnsType (bench self.old) data_type.now }
-        requires free { NameIsFree (bench self.old) owner name.now }
+        requires owner { OwnsModule self.old owner }
+        requires data_type { OwnsType self.old data_type.now }
+        requires free { NameIsFree self.old owner name.now }
         ensures { Builds self.old self.new result next_logic_ref
             (with_port owner ModulePortDirection.Input DataKind.Logic name.now data_type.now) }
     {
@@ -133,9 +132,9 @@ impl VastFile {
         name: &str,
         data_type: &VastDataType,
     ) -> Result<LogicRef, AllocError>
-        requires owner { OwnsModule (bench self.old) owner }
-        requires data_type { OwnsType (bench self.old) data_type.now }
-        requires free { NameIsFree (bench self.old) owner name.now }
+        requires owner { OwnsModule self.old owner }
+        requires data_type { OwnsType self.old data_type.now }
+        requires free { NameIsFree self.old owner name.now }
         ensures { Builds self.old self.new result next_logic_ref
             (with_port owner ModulePortDirection.Output DataKind.Logic name.now data_type.now) }
     {

@@ -5,7 +5,6 @@ ghost use Rattle.vast_literal.specs.Tree.{ScalarTree, IntegerTree, IntTree, Exte
 ghost use Rattle.vast_core.specs.Types.{IsUsableWidth, is_packable, is_castable, is_signed, width_of, AreDimensions};
 ghost use Rattle.vast_core.specs.Bench.{OwnsExpr, OwnsType, tree_of, maybe_tree_of, type_of};
 ghost use Rattle.vast_core.specs.Growth.{Builds, next_type, with_type};
-ghost use Rattle.vast_core.specs.View.{bench};
 ghost use Rattle.xlsynth_vast.specs.Conditions.{is_usable_width};
 ghost use Rattle.xlsynth_vast.specs.Equations.{next_bit_vector, with_bit_vector};
 ghost use Rattle.xlsynth_vast.specs.Refusals.{AnswersBy};
@@ -58,8 +57,8 @@ impl VastFile {
         width: &Expr,
         signed: bool,
     ) -> Result<VastDataType, AllocError>
-        requires width { OwnsExpr (bench self.old) width.now }
-        requires usable { IsUsableWidth (tree_of (bench self.old) width.now) }
+        requires width { OwnsExpr self.old width.now }
+        requires usable { IsUsableWidth (tree_of self.old width.now) }
         ensures { Builds self.old self.new result next_type (with_vector_expr width.now signed) }
     {
         let value = self.ast.expr(*width).literal_value();
@@ -126,8 +125,8 @@ impl VastFile {
         element: VastDataType,
         dimensions: &[i64],
     ) -> Result<VastDataType, AllocError>
-        requires element { OwnsType (bench self.old) element }
-        requires packable { IsTrue (is_packable (type_of (bench self.old) element)) }
+        requires element { OwnsType self.old element }
+        requires packable { IsTrue (is_packable (type_of self.old element)) }
         requires dimensions { AreDimensions dimensions.now }
         ensures { Builds self.old self.new result next_type (with_packed element dimensions.now) }
     {
@@ -144,7 +143,7 @@ impl VastFile {
         element: VastDataType,
         dimensions: &[i64],
     ) -> Result<VastDataType, AllocError>
-        requires element { OwnsType (bench self.old) element }
+        requires element { OwnsType self.old element }
         requires dimensions { AreDimensions dimensions.now }
         ensures { Builds self.old self.new result next_type (with_unpacked element dimensions.now) }
     {
@@ -154,43 +153,43 @@ impl VastFile {
 
     /// Whether the expression may be a vector's width: it isn't a literal with a value below 1.
     pub fn width_is_usable(&self, width: &Expr) -> bool
-        requires { OwnsExpr (bench self.now) width.now }
-        ensures usable { IsTrue result ↔ IsUsableWidth (tree_of (bench self.now) width.now) }
-        ensures test { result ≡ is_usable_width (tree_of (bench self.now) width.now) }
+        requires { OwnsExpr self.now width.now }
+        ensures usable { IsTrue result ↔ IsUsableWidth (tree_of self.now width.now) }
+        ensures test { result ≡ is_usable_width (tree_of self.now width.now) }
     {
         self.ast.width_is_usable(*width)
     }
 
     /// Whether a packed array may be made of the type: it is no unpacked array, no `integer` and no `int`.
     pub fn type_can_be_packed(&self, data_type: VastDataType) -> bool
-        requires { OwnsType (bench self.now) data_type }
-        ensures { result ≡ is_packable (type_of (bench self.now) data_type) }
+        requires { OwnsType self.now data_type }
+        ensures { result ≡ is_packable (type_of self.now data_type) }
     {
         self.ast.type_can_be_packed(data_type)
     }
 
     /// Whether an expression may be cast to the type: it is no array.
     pub fn type_can_be_cast(&self, data_type: VastDataType) -> bool
-        requires { OwnsType (bench self.now) data_type }
-        ensures { result ≡ is_castable (type_of (bench self.now) data_type) }
+        requires { OwnsType self.now data_type }
+        ensures { result ≡ is_castable (type_of self.now data_type) }
     {
         self.ast.type_can_be_cast(data_type)
     }
 
     /// The width of the vector within the arrays; `None` where no vector is within.
     pub fn type_width_expr(&self, data_type: VastDataType) -> Option<Expr>
-        requires { OwnsType (bench self.now) data_type }
-        ensures owned { IfSome result (OwnsExpr (bench self.now)) }
-        ensures width { maybe_tree_of (bench self.now) result
-            ≡ width_of (type_of (bench self.now) data_type) }
+        requires { OwnsType self.now data_type }
+        ensures owned { IfSome result (OwnsExpr self.now) }
+        ensures width { maybe_tree_of self.now result
+            ≡ width_of (type_of self.now data_type) }
     {
         self.ast.type_width_expr(data_type)
     }
 
     /// Whether the type within the arrays is signed; one that is declared elsewhere isn't.
     pub fn type_is_signed(&self, data_type: VastDataType) -> bool
-        requires { OwnsType (bench self.now) data_type }
-        ensures { result ≡ is_signed (type_of (bench self.now) data_type) }
+        requires { OwnsType self.now data_type }
+        ensures { result ≡ is_signed (type_of self.now data_type) }
     {
         self.ast.type_is_signed(data_type)
     }
@@ -204,8 +203,8 @@ impl VastFile {
     /// type that is declared elsewhere by `data type does not have a declared bit-vector width`. `Memory` where memory
     /// for the words was refused.
     pub fn type_width_as_int64(&self, data_type: VastDataType) -> Result<i64, VastFault>
-        requires { OwnsType (bench self.now) data_type }
-        ensures { AnswersBy (declared_width (type_of (bench self.now) data_type)) result }
+        requires { OwnsType self.now data_type }
+        ensures { AnswersBy (declared_width (type_of self.now data_type)) result }
     {
         match self.ast.width_value(data_type) {
             Ok(bits) => Ok(bits),
@@ -223,8 +222,8 @@ impl VastFile {
     /// known bit width``, its package and `::` before the name; then `array bit count exceeds i64`. `Memory` where
     /// memory for the words was refused.
     pub fn type_flat_bit_count_as_int64(&self, data_type: VastDataType) -> Result<i64, VastFault>
-        requires { OwnsType (bench self.now) data_type }
-        ensures { AnswersBy (flat_bits (type_of (bench self.now) data_type)) result }
+        requires { OwnsType self.now data_type }
+        ensures { AnswersBy (flat_bits (type_of self.now data_type)) result }
     {
         match self.ast.flat_bit_count(data_type) {
             Ok(count) => Ok(count),

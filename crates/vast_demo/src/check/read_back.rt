@@ -1,7 +1,6 @@
 //! What a file prints is read back.
 
 ghost use Rattle.vast_core.specs.FileTree.{tree};
-ghost use Rattle.vast_core.specs.View.{bench};
 ghost use Rattle.vast_demo.specs.ReadBack.{ReadsBack};
 
 use vast_read::{NormalFile, read_normal};
@@ -12,7 +11,7 @@ use xlsynth_vast::{VastFault, VastFile};
 /// # Errors
 /// Those of [`VastFile::emit`], and want of memory.
 pub(crate) fn read_back(file: &VastFile) -> Result<Option<NormalFile>, VastFault>
-    ensures { ReadsBack (tree (bench file.now)) result }
+    ensures { ReadsBack (tree file.now) result }
 {
     let text = file.emit()?;
     Ok(read_normal(file.allocator(), &text)?)

@@ -2,7 +2,6 @@
 
 ghost use Rattle.std.specs.Prelude.{IfOk};
 ghost use Rattle.vast_core.specs.Bench.{OwnsExpr};
-ghost use Rattle.vast_core.specs.View.{bench};
 
 use crate::arguments::{Arguments, FromArguments};
 use crate::handles::{handle, handles};
@@ -78,7 +77,7 @@ pub(crate) fn answer_helper(
 
 /// The text of the expression that a helper made.
 fn made_text(made: Result<Expr, VastFault>, file: &VastFile) -> Result<String, Refusal>
-    requires { IfOk made (λ e. OwnsExpr (bench file.now) e) }
+    requires { IfOk made (λ e. OwnsExpr file.now e) }
 {
     let expression = made?;
     Ok(file.emit_expression(&expression)?)

@@ -2,7 +2,6 @@
 
 ghost use Rattle.std.specs.Prelude.{All};
 ghost use Rattle.vast_core.specs.Bench.{OwnsPort};
-ghost use Rattle.vast_core.specs.View.{bench};
 
 use crate::arguments::Arguments;
 use crate::handles::{handle, logic_ref};
@@ -85,7 +84,7 @@ pub(crate) fn answer_module(
 /// The number of ports, and for each port its name, direction, width, whether it is signed, and its name as an
 /// expression.
 fn port_lines(file: &VastFile, ports: &[ModulePort]) -> Result<String, Refusal>
-    requires { All (OwnsPort (bench file.now)) ports.now }
+    requires { All (OwnsPort file.now) ports.now }
 {
     let mut lines = ports.len().to_string(file.allocator())?;
     for port in ports {

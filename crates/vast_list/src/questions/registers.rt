@@ -2,7 +2,6 @@
 
 ghost use Rattle.std.specs.Prelude.{All, IfOk, IfSome};
 ghost use Rattle.vast_core.specs.Bench.{OwnsExpr};
-ghost use Rattle.vast_core.specs.View.{bench};
 ghost use Rattle.xlsynth_vast.specs.Registers.{OwnsRegister, OwnsReset, OwnsScope};
 
 use crate::arguments::{Arguments, FromArguments};
@@ -80,7 +79,7 @@ fn reset_of(
     answers: &[Answer],
     reset: Option<ResetNumbers>,
 ) -> Result<Option<Reset>, Refusal>
-    ensures { IfOk result (λ reset. IfSome reset (OwnsReset (bench file.now))) }
+    ensures { IfOk result (λ reset. IfSome reset (OwnsReset file.now)) }
 {
     match reset {
         None => Ok(None),
@@ -97,7 +96,7 @@ fn definitions(
     answers: &[Answer],
     registers: &[RegisterNumbers],
 ) -> Result<Vec<RegisterDefinition>, Refusal>
-    ensures { IfOk result (λ made. All (OwnsRegister (bench file.now)) made.items) }
+    ensures { IfOk result (λ made. All (OwnsRegister file.now) made.items) }
 {
     let mut made = Vec::new(file.allocator());
     for register in registers {
@@ -112,7 +111,7 @@ fn definition(
     answers: &[Answer],
     register: RegisterNumbers,
 ) -> Result<RegisterDefinition, Refusal>
-    ensures { IfOk result (λ made. OwnsRegister (bench file.now) made) }
+    ensures { IfOk result (λ made. OwnsRegister file.now made) }
 {
     let reg: Expr = handle(file, answers, register.reg)?;
     let next: Expr = handle(file, answers, register.next)?;
@@ -131,7 +130,7 @@ fn handle_if(
     answers: &[Answer],
     number: Option<usize>,
 ) -> Result<Option<Expr>, Refusal>
-    ensures { IfOk result (λ made. IfSome made (OwnsExpr (bench file.now))) }
+    ensures { IfOk result (λ made. IfSome made (OwnsExpr file.now)) }
 {
     match number {
         None => Ok(None),
@@ -143,7 +142,7 @@ fn handle_if(
 }
 
 fn scope_of(file: &VastFile, answers: &[Answer], number: usize) -> Result<RegisterScope, Refusal>
-    ensures { IfOk result (λ scope. OwnsScope (bench file.now) scope) }
+    ensures { IfOk result (λ scope. OwnsScope file.now scope) }
 {
     match answers.get(number) {
         Some(Answer::GenerateLoop(_)) => {

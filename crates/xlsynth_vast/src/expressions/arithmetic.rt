@@ -4,7 +4,6 @@ ghost use Rattle.std.specs.Prelude.{◌≡◌};
 ghost use Rattle.vast_literal.specs.declared.operator.BinaryOperator.TheVariants.{Add as AddOp, Sub as SubOp, Mul as MulOp, Div as DivOp, Mod as ModOp, Power as PowerOp, BitwiseAnd as BitwiseAndOp, BitwiseOr as BitwiseOrOp, BitwiseXor as BitwiseXorOp, Shll as ShllOp, Shra as ShraOp, Shrl as ShrlOp};
 ghost use Rattle.vast_core.specs.Bench.{OwnsExpr};
 ghost use Rattle.vast_core.specs.Growth.{Builds, next_expr};
-ghost use Rattle.vast_core.specs.View.{bench};
 ghost use Rattle.xlsynth_vast.specs.Expressions.{with_binary};
 
 use crate::file::VastFile;
@@ -17,8 +16,8 @@ impl VastFile {
     /// # Errors
     /// `AllocError` where a growth was refused; the file is unchanged.
     pub fn make_add(&mut self, lhs: &Expr, rhs: &Expr) -> Result<Expr, AllocError>
-        requires lhs { OwnsExpr (bench self.old) lhs.now }
-        requires rhs { OwnsExpr (bench self.old) rhs.now }
+        requires lhs { OwnsExpr self.old lhs.now }
+        requires rhs { OwnsExpr self.old rhs.now }
         ensures { Builds self.old self.new result next_expr (with_binary AddOp lhs.now rhs.now) }
     {
         self.ast
@@ -30,8 +29,8 @@ impl VastFile {
     /// # Errors
     /// `AllocError` where a growth was refused; the file is unchanged.
     pub fn make_sub(&mut self, lhs: &Expr, rhs: &Expr) -> Result<Expr, AllocError>
-        requires lhs { OwnsExpr (bench self.old) lhs.now }
-        requires rhs { OwnsExpr (bench self.old) rhs.now }
+        requires lhs { OwnsExpr self.old lhs.now }
+        requires rhs { OwnsExpr self.old rhs.now }
         ensures { Builds self.old self.new result next_expr (with_binary SubOp lhs.now rhs.now) }
     {
         self.ast
@@ -43,8 +42,8 @@ impl VastFile {
     /// # Errors
     /// `AllocError` where a growth was refused; the file is unchanged.
     pub fn make_mul(&mut self, lhs: &Expr, rhs: &Expr) -> Result<Expr, AllocError>
-        requires lhs { OwnsExpr (bench self.old) lhs.now }
-        requires rhs { OwnsExpr (bench self.old) rhs.now }
+        requires lhs { OwnsExpr self.old lhs.now }
+        requires rhs { OwnsExpr self.old rhs.now }
         ensures { Builds self.old self.new result next_expr (with_binary MulOp lhs.now rhs.now) }
     {
         self.ast
@@ -56,8 +55,8 @@ impl VastFile {
     /// # Errors
     /// `AllocError` where a growth was refused; the file is unchanged.
     pub fn make_div(&mut self, lhs: &Expr, rhs: &Expr) -> Result<Expr, AllocError>
-        requires lhs { OwnsExpr (bench self.old) lhs.now }
-        requires rhs { OwnsExpr (bench self.old) rhs.now }
+        requires lhs { OwnsExpr self.old lhs.now }
+        requires rhs { OwnsExpr self.old rhs.now }
         ensures { Builds self.old self.new result next_expr (with_binary DivOp lhs.now rhs.now) }
     {
         self.ast
@@ -69,8 +68,8 @@ impl VastFile {
     /// # Errors
     /// `AllocError` where a growth was refused; the file is unchanged.
     pub fn make_mod(&mut self, lhs: &Expr, rhs: &Expr) -> Result<Expr, AllocError>
-        requires lhs { OwnsExpr (bench self.old) lhs.now }
-        requires rhs { OwnsExpr (bench self.old) rhs.now }
+        requires lhs { OwnsExpr self.old lhs.now }
+        requires rhs { OwnsExpr self.old rhs.now }
         ensures { Builds self.old self.new result next_expr (with_binary ModOp lhs.now rhs.now) }
     {
         self.ast
@@ -82,8 +81,8 @@ impl VastFile {
     /// # Errors
     /// `AllocError` where a growth was refused; the file is unchanged.
     pub fn make_power(&mut self, lhs: &Expr, rhs: &Expr) -> Result<Expr, AllocError>
-        requires lhs { OwnsExpr (bench self.old) lhs.now }
-        requires rhs { OwnsExpr (bench self.old) rhs.now }
+        requires lhs { OwnsExpr self.old lhs.now }
+        requires rhs { OwnsExpr self.old rhs.now }
         ensures { Builds self.old self.new result next_expr (with_binary PowerOp lhs.now rhs.now) }
     {
         self.ast
@@ -95,8 +94,8 @@ impl VastFile {
     /// # Errors
     /// `AllocError` where a growth was refused; the file is unchanged.
     pub fn make_bitwise_and(&mut self, lhs: &Expr, rhs: &Expr) -> Result<Expr, AllocError>
-        requires lhs { OwnsExpr (bench self.old) lhs.now }
-        requires rhs { OwnsExpr (bench self.old) rhs.now }
+        requires lhs { OwnsExpr self.old lhs.now }
+        requires rhs { OwnsExpr self.old rhs.now }
         ensures { Builds self.old self.new result next_expr
             (with_binary BitwiseAndOp lhs.now rhs.now) }
     {
@@ -109,8 +108,8 @@ impl VastFile {
     /// # Errors
     /// `AllocError` where a growth was refused; the file is unchanged.
     pub fn make_bitwise_or(&mut self, lhs: &Expr, rhs: &Expr) -> Result<Expr, AllocError>
-        requires lhs { OwnsExpr (bench self.old) lhs.now }
-        requires rhs { OwnsExpr (bench self.old) rhs.now }
+        requires lhs { OwnsExpr self.old lhs.now }
+        requires rhs { OwnsExpr self.old rhs.now }
         ensures { Builds self.old self.new result next_expr
             (with_binary BitwiseOrOp lhs.now rhs.now) }
     {
@@ -123,8 +122,8 @@ impl VastFile {
     /// # Errors
     /// `AllocError` where a growth was refused; the file is unchanged.
     pub fn make_bitwise_xor(&mut self, lhs: &Expr, rhs: &Expr) -> Result<Expr, AllocError>
-        requires lhs { OwnsExpr (bench self.old) lhs.now }
-        requires rhs { OwnsExpr (bench self.old) rhs.now }
+        requires lhs { OwnsExpr self.old lhs.now }
+        requires rhs { OwnsExpr self.old rhs.now }
         ensures { Builds self.old self.new result next_expr
             (with_binary BitwiseXorOp lhs.now rhs.now) }
     {
@@ -137,8 +136,8 @@ impl VastFile {
     /// # Errors
     /// `AllocError` where a growth was refused; the file is unchanged.
     pub fn make_shll(&mut self, lhs: &Expr, rhs: &Expr) -> Result<Expr, AllocError>
-        requires lhs { OwnsExpr (bench self.old) lhs.now }
-        requires rhs { OwnsExpr (bench self.old) rhs.now }
+        requires lhs { OwnsExpr self.old lhs.now }
+        requires rhs { OwnsExpr self.old rhs.now }
         ensures { Builds self.old self.new result next_expr (with_binary ShllOp lhs.now rhs.now) }
     {
         self.ast
@@ -150,8 +149,8 @@ impl VastFile {
     /// # Errors
     /// `AllocError` where a growth was refused; the file is unchanged.
     pub fn make_shra(&mut self, lhs: &Expr, rhs: &Expr) -> Result<Expr, AllocError>
-        requires lhs { OwnsExpr (bench self.old) lhs.now }
-        requires rhs { OwnsExpr (bench self.old) rhs.now }
+        requires lhs { OwnsExpr self.old lhs.now }
+        requires rhs { OwnsExpr self.old rhs.now }
         ensures { Builds self.old self.new result next_expr (with_binary ShraOp lhs.now rhs.now) }
     {
         self.ast
@@ -163,8 +162,8 @@ impl VastFile {
     /// # Errors
     /// `AllocError` where a growth was refused; the file is unchanged.
     pub fn make_shrl(&mut self, lhs: &Expr, rhs: &Expr) -> Result<Expr, AllocError>
-        requires lhs { OwnsExpr (bench self.old) lhs.now }
-        requires rhs { OwnsExpr (bench self.old) rhs.now }
+        requires lhs { OwnsExpr self.old lhs.now }
+        requires rhs { OwnsExpr self.old rhs.now }
         ensures { Builds self.old self.new result next_expr (with_binary ShrlOp lhs.now rhs.now) }
     {
         self.ast

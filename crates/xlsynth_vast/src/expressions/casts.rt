@@ -4,7 +4,6 @@ ghost use Rattle.std.specs.Prelude.{◌≡◌, IsTrue};
 ghost use Rattle.vast_core.specs.Types.{is_castable};
 ghost use Rattle.vast_core.specs.Bench.{OwnsExpr, OwnsType, type_of};
 ghost use Rattle.vast_core.specs.Growth.{Builds, next_expr};
-ghost use Rattle.vast_core.specs.View.{bench};
 ghost use Rattle.xlsynth_vast.specs.Expressions.{with_width_cast, with_type_cast};
 
 use crate::file::VastFile;
@@ -17,8 +16,8 @@ impl VastFile {
     /// # Errors
     /// `AllocError` where a growth was refused; the file is unchanged.
     pub fn make_width_cast(&mut self, width: &Expr, value: &Expr) -> Result<Expr, AllocError>
-        requires width { OwnsExpr (bench self.old) width.now }
-        requires value { OwnsExpr (bench self.old) value.now }
+        requires width { OwnsExpr self.old width.now }
+        requires value { OwnsExpr self.old value.now }
         ensures { Builds self.old self.new result next_expr (with_width_cast width.now value.now) }
     {
         self.ast.push_expr(ExprNode::WidthCast(*width, *value))
@@ -33,9 +32,9 @@ impl VastFile {
         data_type: &VastDataType,
         value: &Expr,
     ) -> Result<Expr, AllocError>
-        requires data_type { OwnsType (bench self.old) data_type.now }
-        requires castable { IsTrue (is_castable (type_of (bench self.old) data_type.now)) }
-        requires value { OwnsExpr (bench self.old) value.now }
+        requires data_type { OwnsType self.old data_type.now }
+        requires castable { IsTrue (is_castable (type_of self.old data_type.now)) }
+        requires value { OwnsExpr self.old value.now }
         ensures { Builds self.old self.new result next_expr
             (with_type_cast data_type.now value.now) }
     {

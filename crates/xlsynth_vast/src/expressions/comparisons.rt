@@ -4,7 +4,6 @@ ghost use Rattle.std.specs.Prelude.{◌≡◌};
 ghost use Rattle.vast_literal.specs.declared.operator.BinaryOperator.TheVariants.{Ne as NeOp, CaseNe as CaseNeOp, Eq as EqOp, CaseEq as CaseEqOp, Ge as GeOp, Gt as GtOp, Le as LeOp, Lt as LtOp, LogicalAnd as LogicalAndOp, LogicalOr as LogicalOrOp, NeX as NeXOp, EqX as EqXOp};
 ghost use Rattle.vast_core.specs.Bench.{OwnsExpr};
 ghost use Rattle.vast_core.specs.Growth.{Builds, next_expr};
-ghost use Rattle.vast_core.specs.View.{bench};
 ghost use Rattle.xlsynth_vast.specs.Expressions.{with_binary, with_ternary};
 
 use crate::file::VastFile;
@@ -17,8 +16,8 @@ impl VastFile {
     /// # Errors
     /// `AllocError` where a growth was refused; the file is unchanged.
     pub fn make_ne(&mut self, lhs: &Expr, rhs: &Expr) -> Result<Expr, AllocError>
-        requires lhs { OwnsExpr (bench self.old) lhs.now }
-        requires rhs { OwnsExpr (bench self.old) rhs.now }
+        requires lhs { OwnsExpr self.old lhs.now }
+        requires rhs { OwnsExpr self.old rhs.now }
         ensures { Builds self.old self.new result next_expr (with_binary NeOp lhs.now rhs.now) }
     {
         self.ast
@@ -30,8 +29,8 @@ impl VastFile {
     /// # Errors
     /// `AllocError` where a growth was refused; the file is unchanged.
     pub fn make_case_ne(&mut self, lhs: &Expr, rhs: &Expr) -> Result<Expr, AllocError>
-        requires lhs { OwnsExpr (bench self.old) lhs.now }
-        requires rhs { OwnsExpr (bench self.old) rhs.now }
+        requires lhs { OwnsExpr self.old lhs.now }
+        requires rhs { OwnsExpr self.old rhs.now }
         ensures { Builds self.old self.new result next_expr (with_binary CaseNeOp lhs.now rhs.now) }
     {
         self.ast
@@ -43,8 +42,8 @@ impl VastFile {
     /// # Errors
     /// `AllocError` where a growth was refused; the file is unchanged.
     pub fn make_eq(&mut self, lhs: &Expr, rhs: &Expr) -> Result<Expr, AllocError>
-        requires lhs { OwnsExpr (bench self.old) lhs.now }
-        requires rhs { OwnsExpr (bench self.old) rhs.now }
+        requires lhs { OwnsExpr self.old lhs.now }
+        requires rhs { OwnsExpr self.old rhs.now }
         ensures { Builds self.old self.new result next_expr (with_binary EqOp lhs.now rhs.now) }
     {
         self.ast
@@ -56,8 +55,8 @@ impl VastFile {
     /// # Errors
     /// `AllocError` where a growth was refused; the file is unchanged.
     pub fn make_case_eq(&mut self, lhs: &Expr, rhs: &Expr) -> Result<Expr, AllocError>
-        requires lhs { OwnsExpr (bench self.old) lhs.now }
-        requires rhs { OwnsExpr (bench self.old) rhs.now }
+        requires lhs { OwnsExpr self.old lhs.now }
+        requires rhs { OwnsExpr self.old rhs.now }
         ensures { Builds self.old self.new result next_expr (with_binary CaseEqOp lhs.now rhs.now) }
     {
         self.ast
@@ -69,8 +68,8 @@ impl VastFile {
     /// # Errors
     /// `AllocError` where a growth was refused; the file is unchanged.
     pub fn make_ge(&mut self, lhs: &Expr, rhs: &Expr) -> Result<Expr, AllocError>
-        requires lhs { OwnsExpr (bench self.old) lhs.now }
-        requires rhs { OwnsExpr (bench self.old) rhs.now }
+        requires lhs { OwnsExpr self.old lhs.now }
+        requires rhs { OwnsExpr self.old rhs.now }
         ensures { Builds self.old self.new result next_expr (with_binary GeOp lhs.now rhs.now) }
     {
         self.ast
@@ -82,8 +81,8 @@ impl VastFile {
     /// # Errors
     /// `AllocError` where a growth was refused; the file is unchanged.
     pub fn make_gt(&mut self, lhs: &Expr, rhs: &Expr) -> Result<Expr, AllocError>
-        requires lhs { OwnsExpr (bench self.old) lhs.now }
-        requires rhs { OwnsExpr (bench self.old) rhs.now }
+        requires lhs { OwnsExpr self.old lhs.now }
+        requires rhs { OwnsExpr self.old rhs.now }
         ensures { Builds self.old self.new result next_expr (with_binary GtOp lhs.now rhs.now) }
     {
         self.ast
@@ -95,8 +94,8 @@ impl VastFile {
     /// # Errors
     /// `AllocError` where a growth was refused; the file is unchanged.
     pub fn make_le(&mut self, lhs: &Expr, rhs: &Expr) -> Result<Expr, AllocError>
-        requires lhs { OwnsExpr (bench self.old) lhs.now }
-        requires rhs { OwnsExpr (bench self.old) rhs.now }
+        requires lhs { OwnsExpr self.old lhs.now }
+        requires rhs { OwnsExpr self.old rhs.now }
         ensures { Builds self.old self.new result next_expr (with_binary LeOp lhs.now rhs.now) }
     {
         self.ast
@@ -108,8 +107,8 @@ impl VastFile {
     /// # Errors
     /// `AllocError` where a growth was refused; the file is unchanged.
     pub fn make_lt(&mut self, lhs: &Expr, rhs: &Expr) -> Result<Expr, AllocError>
-        requires lhs { OwnsExpr (bench self.old) lhs.now }
-        requires rhs { OwnsExpr (bench self.old) rhs.now }
+        requires lhs { OwnsExpr self.old lhs.now }
+        requires rhs { OwnsExpr self.old rhs.now }
         ensures { Builds self.old self.new result next_expr (with_binary LtOp lhs.now rhs.now) }
     {
         self.ast
@@ -121,8 +120,8 @@ impl VastFile {
     /// # Errors
     /// `AllocError` where a growth was refused; the file is unchanged.
     pub fn make_logical_and(&mut self, lhs: &Expr, rhs: &Expr) -> Result<Expr, AllocError>
-        requires lhs { OwnsExpr (bench self.old) lhs.now }
-        requires rhs { OwnsExpr (bench self.old) rhs.now }
+        requires lhs { OwnsExpr self.old lhs.now }
+        requires rhs { OwnsExpr self.old rhs.now }
         ensures { Builds self.old self.new result next_expr
             (with_binary LogicalAndOp lhs.now rhs.now) }
     {
@@ -135,8 +134,8 @@ impl VastFile {
     /// # Errors
     /// `AllocError` where a growth was refused; the file is unchanged.
     pub fn make_logical_or(&mut self, lhs: &Expr, rhs: &Expr) -> Result<Expr, AllocError>
-        requires lhs { OwnsExpr (bench self.old) lhs.now }
-        requires rhs { OwnsExpr (bench self.old) rhs.now }
+        requires lhs { OwnsExpr self.old lhs.now }
+        requires rhs { OwnsExpr self.old rhs.now }
         ensures { Builds self.old self.new result next_expr
             (with_binary LogicalOrOp lhs.now rhs.now) }
     {
@@ -149,8 +148,8 @@ impl VastFile {
     /// # Errors
     /// `AllocError` where a growth was refused; the file is unchanged.
     pub fn make_ne_x(&mut self, lhs: &Expr, rhs: &Expr) -> Result<Expr, AllocError>
-        requires lhs { OwnsExpr (bench self.old) lhs.now }
-        requires rhs { OwnsExpr (bench self.old) rhs.now }
+        requires lhs { OwnsExpr self.old lhs.now }
+        requires rhs { OwnsExpr self.old rhs.now }
         ensures { Builds self.old self.new result next_expr (with_binary NeXOp lhs.now rhs.now) }
     {
         self.ast
@@ -162,8 +161,8 @@ impl VastFile {
     /// # Errors
     /// `AllocError` where a growth was refused; the file is unchanged.
     pub fn make_eq_x(&mut self, lhs: &Expr, rhs: &Expr) -> Result<Expr, AllocError>
-        requires lhs { OwnsExpr (bench self.old) lhs.now }
-        requires rhs { OwnsExpr (bench self.old) rhs.now }
+        requires lhs { OwnsExpr self.old lhs.now }
+        requires rhs { OwnsExpr self.old rhs.now }
         ensures { Builds self.old self.new result next_expr (with_binary EqXOp lhs.now rhs.now) }
     {
         self.ast
@@ -180,9 +179,9 @@ impl VastFile {
         consequent: &Expr,
         alternate: &Expr,
     ) -> Result<Expr, AllocError>
-        requires condition { OwnsExpr (bench self.old) condition.now }
-        requires consequent { OwnsExpr (bench self.old) consequent.now }
-        requires alternate { OwnsExpr (bench self.old) alternate.now }
+        requires condition { OwnsExpr self.old condition.now }
+        requires consequent { OwnsExpr self.old consequent.now }
+        requires alternate { OwnsExpr self.old alternate.now }
         ensures { Builds self.old self.new result next_expr
             (with_ternary condition.now consequent.now alternate.now) }
     {

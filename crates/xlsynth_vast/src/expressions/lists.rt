@@ -3,7 +3,6 @@
 ghost use Rattle.std.specs.Prelude.{◌≡◌, ◌≢◌, IfOk, All, [], map};
 ghost use Rattle.vast_core.specs.Bench.{OwnsExpr};
 ghost use Rattle.vast_core.specs.Growth.{Builds, next_expr, next_macro_ref, next_fixed_replication, with_fixed_replication};
-ghost use Rattle.vast_core.specs.View.{bench};
 ghost use Rattle.xlsynth_vast.specs.Expressions.{with_concat, with_replication, with_pattern, with_call, with_macro, with_macro_call};
 
 use crate::file::VastFile;
@@ -13,9 +12,9 @@ use vast_core::{Expr, ExprNode, MacroRef};
 impl VastFile {
     /// The handles behind the references, which are the file's own as those are.
     pub(crate) fn handles(&self, parts: &[&Expr]) -> Result<Vec<Expr>, AllocError>
-        requires { All (λ e. OwnsExpr (bench self.now) e.now) parts.now }
+        requires { All (λ e. OwnsExpr self.now e.now) parts.now }
         ensures items { IfOk result (λ handles. handles.items ≡ map (λ e. e.now) parts.now) }
-        ensures owned { IfOk result (λ handles. All (OwnsExpr (bench self.now)) handles.items) }
+        ensures owned { IfOk result (λ handles. All (OwnsExpr self.now) handles.items) }
     {
         parts.iter().map(|e| **e).collect(self.ast.allocator())
     }
@@ -25,7 +24,7 @@ impl VastFile {
     /// # Errors
     /// `AllocError` where a growth was refused; the file is unchanged.
     pub fn make_concat(&mut self, expressions: &[&Expr]) -> Result<Expr, AllocError>
-        requires { All (λ e. OwnsExpr (bench self.old) e.now) expressions.now }
+        requires { All (λ e. OwnsExpr self.old e.now) expressions.now }
         ensures { Builds self.old self.new result next_expr
             (with_concat (map (λ e. e.now) expressions.now)) }
     {
@@ -42,8 +41,8 @@ impl VastFile {
         replication: &Expr,
         elements: &[&Expr],
     ) -> Result<Expr, AllocError>
-        requires replication { OwnsExpr (bench self.old) replication.now }
-        requires elements { All (λ e. OwnsExpr (bench self.old) e.now) elements.now }
+        requires replication { OwnsExpr self.old replication.now }
+        requires elements { All (λ e. OwnsExpr self.old e.now) elements.now }
         ensures { Builds self.old self.new result next_expr
             (with_replication replication.now (map (λ e. e.now) elements.now)) }
     {
@@ -61,7 +60,7 @@ impl VastFile {
         replication: i64,
         elements: &[&Expr],
     ) -> Result<Expr, AllocError>
-        requires { All (λ e. OwnsExpr (bench self.old) e.now) elements.now }
+        requires { All (λ e. OwnsExpr self.old e.now) elements.now }
         ensures { Builds self.old self.new result (next_fixed_replication replication)
             (with_fixed_replication replication (map (λ e. e.now) elements.now)) }
     {
@@ -74,7 +73,7 @@ impl VastFile {
     /// # Errors
     /// `AllocError` where a growth was refused; the file is unchanged.
     pub fn make_array_assignment_pattern(&mut self, elements: &[&Expr]) -> Result<Expr, AllocError>
-        requires { All (λ e. OwnsExpr (bench self.old) e.now) elements.now }
+        requires { All (λ e. OwnsExpr self.old e.now) elements.now }
         ensures { Builds self.old self.new result next_expr
             (with_pattern (map (λ e. e.now) elements.now)) }
     {
@@ -92,7 +91,7 @@ impl VastFile {
         arguments: &[&Expr],
     ) -> Result<Expr, AllocError>
         requires name { name.now ≢ [] }
-        requires arguments { All (λ e. OwnsExpr (bench self.old) e.now) arguments.now }
+        requires arguments { All (λ e. OwnsExpr self.old e.now) arguments.now }
         ensures { Builds self.old self.new result next_expr
             (with_call name.now (map (λ e. e.now) arguments.now)) }
     {
@@ -121,7 +120,7 @@ impl VastFile {
         name: &str,
         arguments: &[&Expr],
     ) -> Result<MacroRef, AllocError>
-        requires { All (λ e. OwnsExpr (bench self.old) e.now) arguments.now }
+        requires { All (λ e. OwnsExpr self.old e.now) arguments.now }
         ensures { Builds self.old self.new result next_macro_ref
             (with_macro_call name.now (map (λ e. e.now) arguments.now)) }
     {

@@ -6,7 +6,6 @@ ghost use Rattle.vast_literal.specs.LiteralToken.{is_literal_text};
 ghost use Rattle.vast_core.specs.Handles.{expr_to_indexable_expr};
 ghost use Rattle.vast_core.specs.Bench.{OwnsExpr, OwnsIndexable};
 ghost use Rattle.vast_core.specs.Growth.{Builds, next_expr, next_index, next_fixed_index, with_fixed_index, next_slice, next_fixed_slice, with_fixed_slice};
-ghost use Rattle.vast_core.specs.View.{bench};
 ghost use Rattle.xlsynth_vast.specs.Expressions.{with_index, with_slice, with_part_select};
 ghost use Rattle.xlsynth_vast.specs.Literals.{selector_text};
 
@@ -20,7 +19,7 @@ impl VastFile {
     ///
     /// Tools commonly take selects of named signals and arrays, and not of other expressions.
     pub fn make_indexable_expression(&self, expression: &Expr) -> IndexableExpr
-        requires { OwnsExpr (bench self.now) expression.now }
+        requires { OwnsExpr self.now expression.now }
         ensures { result ≡ expr_to_indexable_expr expression.now }
     {
         self.ast.indexable(*expression)
@@ -36,7 +35,7 @@ impl VastFile {
         hi: i64,
         lo: i64,
     ) -> Result<Slice, AllocError>
-        requires subject { OwnsIndexable (bench self.old) subject.now }
+        requires subject { OwnsIndexable self.old subject.now }
         requires hi { pos 0 ≤ℤ hi }
         requires lo { pos 0 ≤ℤ lo }
         ensures { Builds self.old self.new result
@@ -55,7 +54,7 @@ impl VastFile {
     /// # Errors
     /// `AllocError` where a growth was refused; the file is unchanged.
     pub fn make_index(&mut self, subject: &IndexableExpr, index: i64) -> Result<Index, AllocError>
-        requires subject { OwnsIndexable (bench self.old) subject.now }
+        requires subject { OwnsIndexable self.old subject.now }
         requires index { pos 0 ≤ℤ index }
         ensures { Builds self.old self.new result (next_fixed_index (selector_text index) index)
             (with_fixed_index subject.now (selector_text index) index) }
@@ -74,9 +73,9 @@ impl VastFile {
         hi: &Expr,
         lo: &Expr,
     ) -> Result<Slice, AllocError>
-        requires subject { OwnsIndexable (bench self.old) subject.now }
-        requires hi { OwnsExpr (bench self.old) hi.now }
-        requires lo { OwnsExpr (bench self.old) lo.now }
+        requires subject { OwnsIndexable self.old subject.now }
+        requires hi { OwnsExpr self.old hi.now }
+        requires lo { OwnsExpr self.old lo.now }
         ensures { Builds self.old self.new result next_slice
             (with_slice subject.now hi.now lo.now) }
     {
@@ -92,8 +91,8 @@ impl VastFile {
         subject: &IndexableExpr,
         index: &Expr,
     ) -> Result<Index, AllocError>
-        requires subject { OwnsIndexable (bench self.old) subject.now }
-        requires index { OwnsExpr (bench self.old) index.now }
+        requires subject { OwnsIndexable self.old subject.now }
+        requires index { OwnsExpr self.old index.now }
         ensures { Builds self.old self.new result next_index (with_index subject.now index.now) }
     {
         self.ast.push_index(*subject, *index)
@@ -109,8 +108,8 @@ impl VastFile {
         start: &Expr,
         width: i64,
     ) -> Result<Expr, AllocError>
-        requires subject { OwnsIndexable (bench self.old) subject.now }
-        requires start { OwnsExpr (bench self.old) start.now }
+        requires subject { OwnsIndexable self.old subject.now }
+        requires start { OwnsExpr self.old start.now }
         requires width { pos 1 ≤ℤ width }
         ensures { Builds self.old self.new result next_expr
             (with_part_select subject.now start.now width) }

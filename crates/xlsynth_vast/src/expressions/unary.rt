@@ -4,7 +4,6 @@ ghost use Rattle.std.specs.Prelude.{◌≡◌};
 ghost use Rattle.vast_literal.specs.declared.operator.UnaryOperator.TheVariants.{Negate as NegateOp, BitwiseNot as BitwiseNotOp, LogicalNot as LogicalNotOp, AndReduce as AndReduceOp, OrReduce as OrReduceOp, XorReduce as XorReduceOp};
 ghost use Rattle.vast_core.specs.Bench.{OwnsExpr};
 ghost use Rattle.vast_core.specs.Growth.{Builds, next_expr};
-ghost use Rattle.vast_core.specs.View.{bench};
 ghost use Rattle.xlsynth_vast.specs.Expressions.{with_unary, with_pos_edge, with_neg_edge};
 
 use crate::file::VastFile;
@@ -17,7 +16,7 @@ impl VastFile {
     /// # Errors
     /// `AllocError` where a growth was refused; the file is unchanged.
     pub fn make_not(&mut self, expression: &Expr) -> Result<Expr, AllocError>
-        requires { OwnsExpr (bench self.old) expression.now }
+        requires { OwnsExpr self.old expression.now }
         ensures { Builds self.old self.new result next_expr
             (with_unary BitwiseNotOp expression.now) }
     {
@@ -29,7 +28,7 @@ impl VastFile {
     /// # Errors
     /// `AllocError` where a growth was refused; the file is unchanged.
     pub fn make_bitwise_not(&mut self, expression: &Expr) -> Result<Expr, AllocError>
-        requires { OwnsExpr (bench self.old) expression.now }
+        requires { OwnsExpr self.old expression.now }
         ensures { Builds self.old self.new result next_expr
             (with_unary BitwiseNotOp expression.now) }
     {
@@ -42,7 +41,7 @@ impl VastFile {
     /// # Errors
     /// `AllocError` where a growth was refused; the file is unchanged.
     pub fn make_negate(&mut self, expression: &Expr) -> Result<Expr, AllocError>
-        requires { OwnsExpr (bench self.old) expression.now }
+        requires { OwnsExpr self.old expression.now }
         ensures { Builds self.old self.new result next_expr (with_unary NegateOp expression.now) }
     {
         self.ast
@@ -54,7 +53,7 @@ impl VastFile {
     /// # Errors
     /// `AllocError` where a growth was refused; the file is unchanged.
     pub fn make_logical_not(&mut self, expression: &Expr) -> Result<Expr, AllocError>
-        requires { OwnsExpr (bench self.old) expression.now }
+        requires { OwnsExpr self.old expression.now }
         ensures { Builds self.old self.new result next_expr
             (with_unary LogicalNotOp expression.now) }
     {
@@ -67,7 +66,7 @@ impl VastFile {
     /// # Errors
     /// `AllocError` where a growth was refused; the file is unchanged.
     pub fn make_and_reduce(&mut self, expression: &Expr) -> Result<Expr, AllocError>
-        requires { OwnsExpr (bench self.old) expression.now }
+        requires { OwnsExpr self.old expression.now }
         ensures { Builds self.old self.new result next_expr
             (with_unary AndReduceOp expression.now) }
     {
@@ -80,7 +79,7 @@ impl VastFile {
     /// # Errors
     /// `AllocError` where a growth was refused; the file is unchanged.
     pub fn make_or_reduce(&mut self, expression: &Expr) -> Result<Expr, AllocError>
-        requires { OwnsExpr (bench self.old) expression.now }
+        requires { OwnsExpr self.old expression.now }
         ensures { Builds self.old self.new result next_expr (with_unary OrReduceOp expression.now) }
     {
         self.ast
@@ -92,7 +91,7 @@ impl VastFile {
     /// # Errors
     /// `AllocError` where a growth was refused; the file is unchanged.
     pub fn make_xor_reduce(&mut self, expression: &Expr) -> Result<Expr, AllocError>
-        requires { OwnsExpr (bench self.old) expression.now }
+        requires { OwnsExpr self.old expression.now }
         ensures { Builds self.old self.new result next_expr
             (with_unary XorReduceOp expression.now) }
     {
@@ -105,7 +104,7 @@ impl VastFile {
     /// # Errors
     /// `AllocError` where a growth was refused; the file is unchanged.
     pub fn make_pos_edge(&mut self, expression: &Expr) -> Result<Expr, AllocError>
-        requires { OwnsExpr (bench self.old) expression.now }
+        requires { OwnsExpr self.old expression.now }
         ensures { Builds self.old self.new result next_expr (with_pos_edge expression.now) }
     {
         self.ast.push_expr(ExprNode::PosEdge(*expression))
@@ -116,7 +115,7 @@ impl VastFile {
     /// # Errors
     /// `AllocError` where a growth was refused; the file is unchanged.
     pub fn make_neg_edge(&mut self, expression: &Expr) -> Result<Expr, AllocError>
-        requires { OwnsExpr (bench self.old) expression.now }
+        requires { OwnsExpr self.old expression.now }
         ensures { Builds self.old self.new result next_expr (with_neg_edge expression.now) }
     {
         self.ast.push_expr(ExprNode::NegEdge(*expression))

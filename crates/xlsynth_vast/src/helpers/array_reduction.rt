@@ -4,7 +4,6 @@ ghost use Rattle.std.specs.Prelude.{◌≡◌, All, map};
 ghost use Rattle.std.specs.List.{flat_map};
 ghost use Rattle.vast_core.specs.Bench.{OwnsExpr, OwnsIndexable, tree_of};
 ghost use Rattle.vast_core.specs.FileTree.{tree};
-ghost use Rattle.vast_core.specs.View.{bench};
 ghost use Rattle.xlsynth_vast.specs.Expressions.{subject_of};
 ghost use Rattle.xlsynth_vast.specs.Reductions.{MakesTree, MakesTrees, AddsTrees};
 ghost use Rattle.xlsynth_vast.specs.ArrayReduction.{slots, elements, array_reduction};
@@ -24,10 +23,10 @@ fn push_slots(
     made: &mut Vec<Expr>,
     file: &mut VastFile,
 ) -> Result<(), AllocError>
-    requires array { OwnsExpr (bench file.old) array }
-    requires made { All (OwnsExpr (bench file.old)) made.old.items }
-    ensures { AddsTrees (bench file.old) (bench file.new) result made.old.items made.new.items
-        (slots dimension (tree_of (bench file.old) array)) }
+    requires array { OwnsExpr file.old array }
+    requires made { All (OwnsExpr file.old) made.old.items }
+    ensures { AddsTrees file.old file.new result made.old.items made.new.items
+        (slots dimension (tree_of file.old array)) }
 {
     let array = file.make_indexable_expression(&array);
     for index in 0..dimension {
@@ -45,10 +44,10 @@ fn push_all_slots(
     made: &mut Vec<Expr>,
     file: &mut VastFile,
 ) -> Result<(), AllocError>
-    requires arrays { All (OwnsExpr (bench file.old)) arrays.now }
-    requires made { All (OwnsExpr (bench file.old)) made.old.items }
-    ensures { AddsTrees (bench file.old) (bench file.new) result made.old.items made.new.items
-        (flat_map (slots dimension) (map (tree_of (bench file.old)) arrays.now)) }
+    requires arrays { All (OwnsExpr file.old) arrays.now }
+    requires made { All (OwnsExpr file.old) made.old.items }
+    ensures { AddsTrees file.old file.new result made.old.items made.new.items
+        (flat_map (slots dimension) (map (tree_of file.old) arrays.now)) }
 {
     for array in arrays {
         push_slots(*array, dimension, made, file)?;
@@ -63,9 +62,9 @@ fn elements_within(
     dimensions: &[i64],
     file: &mut VastFile,
 ) -> Result<Vec<Expr>, AllocError>
-    requires { OwnsExpr (bench file.old) array }
-    ensures { MakesTrees (bench file.old) (bench file.new) result
-        (elements dimensions.now (tree_of (bench file.old) array)) }
+    requires { OwnsExpr file.old array }
+    ensures { MakesTrees file.old file.new result
+        (elements dimensions.now (tree_of file.old array)) }
 {
     let alloc = file.allocator();
     let mut arrays = Vec::new(alloc);
@@ -86,9 +85,9 @@ fn counted_elements(
     count: usize,
     file: &mut VastFile,
 ) -> Result<Vec<Expr>, AllocError>
-    requires { OwnsExpr (bench file.old) array }
-    ensures { MakesTrees (bench file.old) (bench file.new) result
-        (elements dimensions.now (tree_of (bench file.old) array)) }
+    requires { OwnsExpr file.old array }
+    ensures { MakesTrees file.old file.new result
+        (elements dimensions.now (tree_of file.old array)) }
 {
     let mut made = Vec::with_capacity(file.allocator(), count)?;
     let Some((last, outer)) = dimensions.split_last() else {
@@ -106,9 +105,9 @@ fn array_reduced(
     dimensions: &[i64],
     file: &mut VastFile,
 ) -> Result<Expr, VastFault>
-    requires { OwnsIndexable (bench file.old) value.now }
-    ensures { MakesTree (bench file.old) (bench file.new) result
-        (array_reduction dimensions.now (subject_of (bench file.old) value.now)) }
+    requires { OwnsIndexable file.old value.now }
+    ensures { MakesTree file.old file.new result
+        (array_reduction dimensions.now (subject_of file.old value.now)) }
 {
     let array = value.to_expr();
     let count = checked_count(&file.ast, array, dimensions)?;
@@ -131,10 +130,10 @@ pub fn bitwise_or_reduce_array_elements(
     dimensions: &[i64],
     file: &mut VastFile,
 ) -> Result<Expr, VastFault>
-    requires { OwnsIndexable (bench file.old) value.now }
-    ensures made { MakesTree (bench file.old) (bench file.new) result
-        (array_reduction dimensions.now (subject_of (bench file.old) value.now)) }
-    ensures unseen { tree (bench file.new) ≡ tree (bench file.old) }
+    requires { OwnsIndexable file.old value.now }
+    ensures made { MakesTree file.old file.new result
+        (array_reduction dimensions.now (subject_of file.old value.now)) }
+    ensures unseen { tree file.new ≡ tree file.old }
 {
     records_are_sound(file);
     array_reduced(value, dimensions, file)

@@ -6,7 +6,6 @@ ghost use Rattle.vast_literal.specs.declared.operator.BinaryOperator.TheVariants
 ghost use Rattle.vast_core.specs.Bench.{OwnsExpr, tree_of};
 ghost use Rattle.vast_core.specs.FileTree.{tree};
 ghost use Rattle.vast_core.specs.Growth.{Builds, next_expr, with_expr};
-ghost use Rattle.vast_core.specs.View.{bench};
 ghost use Rattle.xlsynth_vast.specs.Expressions.{with_binary};
 ghost use Rattle.xlsynth_vast.specs.Reductions.{MakesTree, MakesChain, bit_literal, logical_reduction, bitwise_reduction};
 
@@ -25,14 +24,14 @@ fn join_all<F>(
 where
     F: FnMut(&mut VastFile, &Expr, &Expr) -> Result<Expr, AllocError>,
     ghost operator: { BinaryOp }
-    requires callable { (state : F) (f : _) (a : _) (b : _) → OwnsExpr (bench f.now) a.now
-        → OwnsExpr (bench f.now) b.now → F.pre state f a b }
+    requires callable { (state : F) (f : _) (a : _) (b : _) → OwnsExpr f.now a.now
+        → OwnsExpr f.now b.now → F.pre state f a b }
     requires joins { (state : F) (f : _) (a : _) (b : _) (r : _) (g : _) (next : F)
         → F.step state f a b r g next
         → Builds f.now g.now r next_expr (with_binary operator a.now b.now) }
-    requires owned { All (OwnsExpr (bench file.old)) values.now }
-    ensures { MakesChain (bench file.old) (bench file.new) result operator
-        (map (tree_of (bench file.old)) values.now) }
+    requires owned { All (OwnsExpr file.old) values.now }
+    ensures { MakesChain file.old file.new result operator
+        (map (tree_of file.old) values.now) }
 {
     let Some((first, rest)) = values.split_first() else {
         return Ok(None);
@@ -69,15 +68,15 @@ fn logical_reduced<F>(
 where
     F: FnMut(&mut VastFile, &Expr, &Expr) -> Result<Expr, AllocError>,
     ghost operator: { BinaryOp }
-    requires callable { (state : F) (f : _) (a : _) (b : _) → OwnsExpr (bench f.now) a.now
-        → OwnsExpr (bench f.now) b.now → F.pre state f a b }
+    requires callable { (state : F) (f : _) (a : _) (b : _) → OwnsExpr f.now a.now
+        → OwnsExpr f.now b.now → F.pre state f a b }
     requires joins { (state : F) (f : _) (a : _) (b : _) (r : _) (g : _) (next : F)
         → F.step state f a b r g next
         → Builds f.now g.now r next_expr (with_binary operator a.now b.now) }
-    requires owned { All (OwnsExpr (bench file.old)) values.now }
-    ensures { MakesTree (bench file.old) (bench file.new) result
+    requires owned { All (OwnsExpr file.old) values.now }
+    ensures { MakesTree file.old file.new result
         (Ok (logical_reduction operator of_none invert
-        (map (tree_of (bench file.old)) values.now))) }
+        (map (tree_of file.old) values.now))) }
 {
     match join_all(values, join, file)? {
         Some(whole) if invert => Ok(file.make_logical_not(&whole)?),
@@ -89,9 +88,9 @@ where
 /// The values joined by `|`, and a zero where there are none.
 #[tactic(auto, using(crate::proofs::Reduced::reductions))]
 pub(crate) fn bitwise_reduced(values: &[Expr], file: &mut VastFile) -> Result<Expr, VastFault>
-    requires { All (OwnsExpr (bench file.old)) values.now }
-    ensures { MakesTree (bench file.old) (bench file.new) result
-        (Ok (bitwise_reduction (map (tree_of (bench file.old)) values.now))) }
+    requires { All (OwnsExpr file.old) values.now }
+    ensures { MakesTree file.old file.new result
+        (Ok (bitwise_reduction (map (tree_of file.old) values.now))) }
 {
     match join_all(values, VastFile::make_bitwise_or, file)? {
         Some(whole) => Ok(whole),
@@ -111,11 +110,11 @@ pub fn logical_or_reduce(
     invert: bool,
     file: &mut VastFile,
 ) -> Result<Expr, VastFault>
-    requires { All (OwnsExpr (bench file.old)) values.now }
-    ensures made { MakesTree (bench file.old) (bench file.new) result
+    requires { All (OwnsExpr file.old) values.now }
+    ensures made { MakesTree file.old file.new result
         (Ok (logical_reduction LogicalOrOp false invert
-        (map (tree_of (bench file.old)) values.now))) }
-    ensures unseen { tree (bench file.new) ≡ tree (bench file.old) }
+        (map (tree_of file.old) values.now))) }
+    ensures unseen { tree file.new ≡ tree file.old }
 {
     records_are_sound(file);
     logical_reduced(values, VastFile::make_logical_or, false, invert, file)
@@ -132,11 +131,11 @@ pub fn logical_and_reduce(
     invert: bool,
     file: &mut VastFile,
 ) -> Result<Expr, VastFault>
-    requires { All (OwnsExpr (bench file.old)) values.now }
-    ensures made { MakesTree (bench file.old) (bench file.new) result
+    requires { All (OwnsExpr file.old) values.now }
+    ensures made { MakesTree file.old file.new result
         (Ok (logical_reduction LogicalAndOp true invert
-        (map (tree_of (bench file.old)) values.now))) }
-    ensures unseen { tree (bench file.new) ≡ tree (bench file.old) }
+        (map (tree_of file.old) values.now))) }
+    ensures unseen { tree file.new ≡ tree file.old }
 {
     records_are_sound(file);
     logical_reduced(values, VastFile::make_logical_and, true, invert, file)
@@ -148,10 +147,10 @@ pub fn logical_and_reduce(
 /// As [`logical_or_reduce`].
 #[tactic(auto, using(crate::proofs::UnseenNodes::unseen))]
 pub fn bitwise_or_reduce(values: &[Expr], file: &mut VastFile) -> Result<Expr, VastFault>
-    requires { All (OwnsExpr (bench file.old)) values.now }
-    ensures made { MakesTree (bench file.old) (bench file.new) result
-        (Ok (bitwise_reduction (map (tree_of (bench file.old)) values.now))) }
-    ensures unseen { tree (bench file.new) ≡ tree (bench file.old) }
+    requires { All (OwnsExpr file.old) values.now }
+    ensures made { MakesTree file.old file.new result
+        (Ok (bitwise_reduction (map (tree_of file.old) values.now))) }
+    ensures unseen { tree file.new ≡ tree file.old }
 {
     records_are_sound(file);
     bitwise_reduced(values, file)

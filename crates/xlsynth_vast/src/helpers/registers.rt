@@ -7,7 +7,6 @@ ghost use Rattle.vast_core.specs.Sound.{EventSound};
 ghost use Rattle.vast_core.specs.Growth.{Builds, Leaves};
 ghost use Rattle.vast_core.specs.Containers.{next_block, with_spare_block};
 ghost use Rattle.vast_core.specs.FileTree.{tree};
-ghost use Rattle.vast_core.specs.View.{bench};
 ghost use Rattle.xlsynth_vast.specs.Reductions.{ChecksBy};
 ghost use Rattle.xlsynth_vast.specs.Registers.{register_trees, maybe_reset_tree, unless_unresettable, OwnsRegister, OwnsReset, OwnsScope, TakeTheirValues};
 ghost use Rattle.xlsynth_vast.specs.AddedRegisters.{is_resettable, running_expr, with_running, value_expr, with_value, with_assigned, with_all_assigned, active_expr, with_active, with_reset, with_clocked, MayAddRegisters};
@@ -76,8 +75,8 @@ fn check_reset(
     file: &VastFile,
 ) -> Result<(), VastFault>
     ensures { ChecksBy
-        (unless_unresettable (maybe_reset_tree (bench file.now) reset)
-        (register_trees (bench file.now) registers.now)) result }
+        (unless_unresettable (maybe_reset_tree file.now reset)
+        (register_trees file.now registers.now)) result }
 {
     if reset.is_some() {
         return Ok(());
@@ -94,7 +93,7 @@ fn make_running_value(
     register: &RegisterDefinition,
     file: &mut VastFile,
 ) -> Result<Expr, AllocError>
-    requires { OwnsRegister (bench file.old) register.now }
+    requires { OwnsRegister file.old register.now }
     ensures { Builds file.old file.new result (running_expr register.now)
         (with_running register.now) }
 {
@@ -109,7 +108,7 @@ fn make_value(
     register: &RegisterDefinition,
     file: &mut VastFile,
 ) -> Result<Option<Expr>, AllocError>
-    requires { OwnsRegister (bench file.old) register.now }
+    requires { OwnsRegister file.old register.now }
     ensures { Builds file.old file.new result (value_expr share register.now)
         (with_value share register.now) }
 {
@@ -131,10 +130,10 @@ fn assign(
     block: VastStatementBlock,
     file: &mut VastFile,
 ) -> Result<(), AllocError>
-    requires register { OwnsRegister (bench file.old) register.now }
-    requires block { OwnsBlock (bench file.old) block }
-    ensures { MayFill (bench file.old) (bench file.new) result block
-        (with_assigned share block register.now (bench file.old)) }
+    requires register { OwnsRegister file.old register.now }
+    requires block { OwnsBlock file.old block }
+    ensures { MayFill file.old file.new result block
+        (with_assigned share block register.now file.old) }
 {
     match make_value(share, register, file)? {
         Some(value) => {
@@ -151,10 +150,10 @@ fn assign_all(
     block: VastStatementBlock,
     file: &mut VastFile,
 ) -> Result<(), AllocError>
-    requires registers { All (OwnsRegister (bench file.old)) registers.now }
-    requires block { OwnsBlock (bench file.old) block }
-    ensures { MayFill (bench file.old) (bench file.new) result block
-        (with_all_assigned share block registers.now (bench file.old)) }
+    requires registers { All (OwnsRegister file.old) registers.now }
+    requires block { OwnsBlock file.old block }
+    ensures { MayFill file.old file.new result block
+        (with_all_assigned share block registers.now file.old) }
 {
     for register in registers {
         assign(share, register, block, file)?;
@@ -164,7 +163,7 @@ fn assign_all(
 
 /// The expression that holds where the reset is active.
 fn make_active(reset: Reset, file: &mut VastFile) -> Result<Expr, AllocError>
-    requires { OwnsReset (bench file.old) reset }
+    requires { OwnsReset file.old reset }
     ensures { Builds file.old file.new result (active_expr reset) (with_active reset) }
 {
     if reset.active_low {
@@ -181,11 +180,11 @@ fn branch(
     block: VastStatementBlock,
     file: &mut VastFile,
 ) -> Result<(), AllocError>
-    requires reset { OwnsReset (bench file.old) reset }
-    requires registers { All (OwnsRegister (bench file.old)) registers.now }
-    requires block { OwnsBlock (bench file.old) block }
-    ensures { MayFill (bench file.old) (bench file.new) result block
-        (with_reset reset registers.now block (bench file.old)) }
+    requires reset { OwnsReset file.old reset }
+    requires registers { All (OwnsRegister file.old) registers.now }
+    requires block { OwnsBlock file.old block }
+    ensures { MayFill file.old file.new result block
+        (with_reset reset registers.now block file.old) }
 {
     let condition = make_active(reset, file)?;
     let conditional = file.block_add_cond(block, &condition)?;
@@ -208,9 +207,9 @@ fn make_block(
     registers: &[RegisterDefinition],
     file: &mut VastFile,
 ) -> Result<VastStatementBlock, AllocError>
-    requires reset { IfSome reset (OwnsReset (bench file.old)) }
-    requires registers { All (OwnsRegister (bench file.old)) registers.now }
-    ensures { MayMakeBlock (bench file.old) (bench file.new) result reset registers.now }
+    requires reset { IfSome reset (OwnsReset file.old) }
+    requires registers { All (OwnsRegister file.old) registers.now }
+    ensures { MayMakeBlock file.old file.new result reset registers.now }
 {
     let block = make_empty_block(file)?;
     assign_all(Share::Unreset, registers, block, file)?;
@@ -233,9 +232,9 @@ fn attach(
     block: VastStatementBlock,
     file: &mut VastFile,
 ) -> Result<(), AllocError>
-    requires scope { OwnsScope (bench file.old) scope }
-    requires event { EventSound (bench file.old) event }
-    requires spare { (bench file.old).spare ≡ Some block }
+    requires scope { OwnsScope file.old scope }
+    requires event { EventSound file.old event }
+    requires spare { file.old.spare ≡ Some block }
     requires newer { IsOlderScope scope block }
     ensures { Leaves file.old file.new result (with_clocked scope event block) }
 {
@@ -274,16 +273,16 @@ pub fn add_registers(
     scope: RegisterScope,
     file: &mut VastFile,
 ) -> Result<(), VastFault>
-    requires clk { OwnsExpr (bench file.old) clk.now }
-    requires reset { IfSome reset (OwnsReset (bench file.old)) }
-    requires registers { All (OwnsRegister (bench file.old)) registers.now }
-    requires scope { OwnsScope (bench file.old) scope }
-    ensures built { MayAddRegisters (bench file.old) (bench file.new) result clk.now reset
+    requires clk { OwnsExpr file.old clk.now }
+    requires reset { IfSome reset (OwnsReset file.old) }
+    requires registers { All (OwnsRegister file.old) registers.now }
+    requires scope { OwnsScope file.old scope }
+    ensures built { MayAddRegisters file.old file.new result clk.now reset
         registers.now scope }
     ensures values { OnOk result
-        (TakeTheirValues (maybe_reset_tree (bench file.old) reset)
-        (register_trees (bench file.old) registers.now)) }
-    ensures unseen { OnErr result (tree (bench file.new) ≡ tree (bench file.old)) }
+        (TakeTheirValues (maybe_reset_tree file.old reset)
+        (register_trees file.old registers.now)) }
+    ensures unseen { OnErr result (tree file.new ≡ tree file.old) }
     ensures none { registers.now ≡ [] → result ≡ Ok tt }
 {
     if registers.is_empty() {

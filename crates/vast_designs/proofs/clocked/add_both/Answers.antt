@@ -1,5 +1,4 @@
 use Rattle.std.proofs.Common.{◌≡◌, refl, ap}
-use Rattle.vast_core.specs.View.{bench}
 use Rattle.vast_core.specs.Handles.{logic_ref_to_expr}
 use Rattle.vast_designs.specs.declared.clocked.Signals.{Signals}
 use Rattle.vast_designs.specs.RegistersFile.{clock, reset, the_signals, the_state, the_values, enabled, plain}
@@ -33,6 +32,6 @@ returns c =
     let r : c.enabled_register-first.result ≡ enabled the_signals the_state the_values = rw (c.enabled_register-first.ensures, c.requires.signals, c.requires.state, c.requires.values) refl in
     let q : c.plain_register-second.result ≡ plain the_state the_values = rw (c.plain_register-second.ensures, c.requires.state, c.requires.values) refl in
     registers-added
-    (bench c.args.file.now) (bench c.add_registers.new.file) c.add_registers.result
+    c.args.file.now c.add_registers.new.file c.add_registers.result
     c.to_expr-2.result c.to_expr.result c.enabled_register-first.result c.plain_register-second.result c.args.signals.now.owner
     c.requires.file x s r q (ap (λ (x : Signals). x.owner) c.requires.signals) c.add_registers.ensures.built

@@ -1,9 +1,8 @@
-use Rattle.vast_core.specs.View.{bench}
 use Rattle.vast_designs.proofs.RegistersSteps.{signals-made}
 use Rattle.vast_designs.proofs.clocked.add_signals.Goals as goal
 
 pub returns : goal.returns
 returns c =
-    signals-made (bench c.args.file.now) (bench c.add_module.new.self) (bench c.make_scalar_type.new.self) (bench c.add_input.new.self) (bench c.add_input-2.new.self) (bench c.add_input-3.new.self)
+    signals-made c.args.file.now c.add_module.new.self c.make_scalar_type.new.self c.add_input.new.self c.add_input-2.new.self c.add_input-3.new.self
     c.in_ok-owner.owner c.in_ok-bit.bit c.in_ok-clock.clock c.in_ok-reset.reset c.in_ok-enable.enable
     c.requires c.in_ok-owner.ensures c.in_ok-bit.ensures c.in_ok-clock.ensures c.in_ok-reset.ensures c.in_ok-enable.ensures

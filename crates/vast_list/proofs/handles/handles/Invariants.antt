@@ -1,6 +1,5 @@
 use Rattle.std.proofs.Common.{All}
-use Rattle.vast_core.specs.View.{bench}
 use Rattle.vast_list.proofs.handles.handles.Given as goal
 
 abbrev pub invariant-loop-number : goal.invariant-loop-number
-invariant-loop-number g l = All (g.A.Handle.owned (bench l.file)) l.handles.items
+invariant-loop-number g l = All (g.A.Handle.owned l.file) l.handles.items

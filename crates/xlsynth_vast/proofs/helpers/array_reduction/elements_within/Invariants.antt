@@ -1,6 +1,5 @@
-use Rattle.vast_core.specs.View.{bench}
 use Rattle.xlsynth_vast.proofs.ArrayReduced.{Deepened}
 use Rattle.xlsynth_vast.proofs.helpers.array_reduction.elements_within.Given as goal
 
 abbrev pub invariant-loop-dimension : goal.invariant-loop-dimension
-invariant-loop-dimension l = Deepened (bench l.fn.file) (bench l.file) l.fn.array l.dimensions l.dimension-index l.arrays.items
+invariant-loop-dimension l = Deepened l.fn.file l.file l.fn.array l.dimensions l.dimension-index l.arrays.items

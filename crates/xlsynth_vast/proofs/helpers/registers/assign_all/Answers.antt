@@ -5,7 +5,6 @@ use Rattle.vast_core.specs.declared.handle.Expr.{Expr}
 use Rattle.vast_core.specs.declared.handle.VastStatementBlock.{VastStatementBlock}
 use Rattle.vast_core.specs.Handles.{block_index}
 use Rattle.vast_core.specs.Bench.{Bench}
-use Rattle.vast_core.specs.View.{bench}
 use Rattle.xlsynth_vast.specs.declared.helpers.registers.RegisterDefinition.{RegisterDefinition}
 use Rattle.xlsynth_vast.specs.declared.helpers.registers.Share.{Share}
 use Rattle.xlsynth_vast.specs.Registers.{OwnsRegister}
@@ -31,21 +30,21 @@ assign-requires-clause-register c =
     let registers = c.args.registers.now in
     let i = c.loop-register.register-index in
     let r : RegisterDefinition = get_or registers i none in
-    register-owned (bench c.args.file.now) _ (so-far c.args.share c.args.block (take i registers) (bench c.args.file.now) _ c.loop-register.invariant).wider r
-    (All-at (OwnsRegister (bench c.args.file.now)) registers i r c.requires.registers c.loop-register-test.true (get_or_default registers i none r c.loop-register-test.true))
+    register-owned c.args.file.now _ (so-far c.args.share c.args.block (take i registers) c.args.file.now _ c.loop-register.invariant).wider r
+    (All-at (OwnsRegister c.args.file.now) registers i r c.requires.registers c.loop-register-test.true (get_or_default registers i none r c.loop-register-test.true))
 
 pub assign-requires-clause-block : goal.assign-requires-clause-block
 assign-requires-clause-block c =
-    (so-far c.args.share c.args.block (take c.loop-register.register-index c.args.registers.now) (bench c.args.file.now) _ c.loop-register.invariant).blocks c.args.block c.requires.block
+    (so-far c.args.share c.args.block (take c.loop-register.register-index c.args.registers.now) c.args.file.now _ c.loop-register.invariant).blocks c.args.block c.requires.block
 
 pub returns-in_err-assign : goal.returns-in_err-assign
 returns-in_err-assign c =
     fill-refused _ _ c.from_residual.result c.args.block _ c.from_residual.ensures.0
-    (stays-then (bench c.args.file.now) _ _ c.args.block c.args.block (so-far c.args.share c.args.block (take c.loop-register.register-index c.args.registers.now) (bench c.args.file.now) _ c.loop-register.invariant) (inl refl) c.in_err-assign.ensures)
+    (stays-then c.args.file.now _ _ c.args.block c.args.block (so-far c.args.share c.args.block (take c.loop-register.register-index c.args.registers.now) c.args.file.now _ c.loop-register.invariant) (inl refl) c.in_err-assign.ensures)
 
 pub loop-register-preserved : goal.loop-register-preserved
 loop-register-preserved c =
     let registers = c.args.registers.now in
     let i = c.loop-register.register-index in
     let r : RegisterDefinition = get_or registers i none in
-    assigning-step c.args.share c.args.block registers i r (bench c.args.file.now) _ _ c.loop-register-test.true (get_or_default registers i none r c.loop-register-test.true) c.loop-register.invariant c.in_ok-assign.ensures
+    assigning-step c.args.share c.args.block registers i r c.args.file.now _ _ c.loop-register-test.true (get_or_default registers i none r c.loop-register-test.true) c.loop-register.invariant c.in_ok-assign.ensures
