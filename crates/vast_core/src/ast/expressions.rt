@@ -40,7 +40,7 @@ impl Ast {
         let expr = Expr {
             id: self.next_term(),
         };
-        self.grow_terms(Terms::One(node))?;
+        self.grow_term(node)?;
         Ok(expr)
     }
 

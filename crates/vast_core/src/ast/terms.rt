@@ -1,6 +1,6 @@
 //! The arena of expressions and types: growing it and reading it.
 
-ghost use Rattle.std.specs.Prelude.{◌≡◌, ◌<◌, IfSome, IfNone, None, slice_get};
+ghost use Rattle.std.specs.Prelude.{◌≡◌, ◌<◌, [], ◌∷◌, IfSome, IfNone, None, slice_get};
 ghost use Rattle.vast_core.specs.Handles.{rank, type_rank};
 ghost use Rattle.vast_core.specs.Nodes.{IsNodeAt, TermsSound, ExprChildrenHold, TypeChildrenHold, expr_tree, type_tree};
 ghost use Rattle.vast_core.specs.Types.{ExprWellFormed, TypeWellFormed};
@@ -17,6 +17,15 @@ use crate::node::{ExprNode, TypeNode};
 use std::alloc::AllocError;
 
 impl Ast {
+    /// Adds an expression or a type by a push of its own, since each call that makes an expression ends here.
+    pub(crate) fn grow_term(&mut self, node: ExprNode) -> Result<(), AllocError>
+        requires { TermsSound (bench self.old).nodes (node ∷ []) }
+        ensures { GrowsBy self.old self.new result (with_terms (node ∷ [])) }
+    {
+        self.terms.push(node)?;
+        Ok(())
+    }
+
     /// Adds expressions and types, the older first.
     #[inline(always)]
     pub(crate) fn grow_terms(&mut self, terms: Terms) -> Result<(), AllocError>

@@ -29,7 +29,7 @@ impl Ast {
         let data_type = VastDataType {
             id: self.next_term(),
         };
-        self.grow_terms(Terms::One(ExprNode::DataType(node)))?;
+        self.grow_term(ExprNode::DataType(node))?;
         Ok(data_type)
     }
 
