@@ -2,7 +2,7 @@
 
 use crate::assign::assign;
 use crate::fault::BenchFault;
-use xlsynth_vast::{Expr, VastFile};
+use xlsynth_vast::VastFile;
 
 /// One assignment of so many sums, the first in the second, and so on.
 ///
@@ -15,14 +15,7 @@ pub(crate) fn build_sum(size: usize, file: &mut VastFile) -> Result<(), BenchFau
     let total = file.add_output(module, "total", &byte)?.to_expr();
     let mut sum = term;
     for _ in 0..size {
-        sum = add_term(sum, term, file)?;
+        sum = file.make_add(&sum, &term)?;
     }
     assign(module, total, sum, file)
-}
-
-fn add_term(sum: Expr, term: Expr, file: &mut VastFile) -> Result<Expr, BenchFault> {
-    if !file.owns(&sum) || !file.owns(&term) {
-        return Err(BenchFault::Foreign);
-    }
-    Ok(file.make_add(&sum, &term)?)
 }

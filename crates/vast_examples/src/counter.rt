@@ -14,14 +14,18 @@ struct Signals {
     value: Expr,
 }
 
-/// Adds the counter.
+/// Adds the counter: one more at each edge of the clock, 0 at a reset.
 ///
 /// # Errors
 /// Want of memory.
 pub(crate) fn add_counter(file: &mut VastFile) -> Result<(), ExampleFault> {
     let signals = add_signals(file)?;
     drive(&signals, file)?;
-    add_register(&signals, file)
+    let body = add_clocked(signals.module, signals.clock, file)?;
+    let branches = add_branches(body, signals.reset, file)?;
+    let zero = file.make_literal("bits[8]:0", &LiteralFormat::UnsignedDecimal)?;
+    let next = make_next(signals.value, file)?;
+    assign_branches(&branches, signals.value, zero, next, file)
 }
 
 fn add_signals(file: &mut VastFile) -> Result<Signals, ExampleFault> {
@@ -49,15 +53,6 @@ fn drive(signals: &Signals, file: &mut VastFile) -> Result<(), ExampleFault> {
     let drive = file.make_continuous_assignment(&signals.count, &signals.value)?;
     file.add_member_continuous_assignment(signals.module, drive)?;
     Ok(())
-}
-
-/// One more at each edge of the clock, 0 at a reset.
-fn add_register(signals: &Signals, file: &mut VastFile) -> Result<(), ExampleFault> {
-    let zero = file.make_literal("bits[8]:0", &LiteralFormat::UnsignedDecimal)?;
-    let next = make_next(signals.value, file)?;
-    let body = add_clocked(signals.module, signals.clock, file)?;
-    let branches = add_branches(body, signals.reset, file)?;
-    assign_branches(&branches, signals.value, zero, next, file)
 }
 
 /// One more than the value.

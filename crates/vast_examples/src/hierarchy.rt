@@ -3,6 +3,13 @@
 use crate::fault::ExampleFault;
 use xlsynth_vast::{Expr, VastFile, VastModule};
 
+/// The module that is instantiated, and its parameter.
+#[derive(Drop)]
+struct Lane {
+    module: VastModule,
+    width: Expr,
+}
+
 /// The signals of the module at the top.
 #[derive(Drop)]
 struct Top {
@@ -17,35 +24,32 @@ struct Top {
 /// Adds the two modules.
 ///
 /// # Errors
-/// Want of memory.
+/// `Taken` where a name is taken; want of memory.
 pub(crate) fn add_hierarchy(file: &mut VastFile) -> Result<(), ExampleFault> {
-    add_lane(file)?;
+    let lane = add_lane(file)?;
+    let data = add_lane_ports(lane.module, lane.width, file)?;
+    add_odd(lane.module, data, file)?;
     let top = add_top(file)?;
     add_instance(&top, "first", top.data, top.middle, None, file)?;
     add_crossing(&top, file)?;
-    add_instance(
-        &top,
-        "second",
-        top.crossed,
-        top.result,
-        Some(&top.odd),
-        file,
-    )
+    let odd = Some(&top.odd);
+    add_instance(&top, "second", top.crossed, top.result, odd, file)
 }
 
 /// The module that is instantiated: as wide as its parameter says.
-fn add_lane(file: &mut VastFile) -> Result<(), ExampleFault> {
+fn add_lane(file: &mut VastFile) -> Result<Lane, ExampleFault> {
     let module = file.add_module("lane")?;
     let eight = file.make_unsized_decimal_literal(8)?;
     let width = file.add_parameter_port(module, "WIDTH", &eight)?.to_expr();
-    add_lane_ports(module, width, file)
+    Ok(Lane { module, width })
 }
 
+/// The data and its inverse; answers the data.
 fn add_lane_ports(
     module: VastModule,
     width: Expr,
     file: &mut VastFile,
-) -> Result<(), ExampleFault> {
+) -> Result<Expr, ExampleFault> {
     if !file.owns(&module) || !file.owns(&width) || !file.width_is_usable(&width) {
         return Err(ExampleFault::Foreign);
     }
@@ -61,7 +65,7 @@ fn add_lane_ports(
     let inverse = file.make_bitwise_not(&data)?;
     let drive = file.make_continuous_assignment(&result, &inverse)?;
     file.add_member_continuous_assignment(module, drive)?;
-    add_odd(module, data, file)
+    Ok(data)
 }
 
 /// An output that is the parity of the data.

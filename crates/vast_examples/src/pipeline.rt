@@ -16,7 +16,8 @@ pub(crate) fn add_pipeline(count: usize, file: &mut VastFile) -> Result<(), Exam
     let first = file.add_input(module, "data_in", &byte)?.to_expr();
     let last = file.add_output(module, "data_out", &byte)?.to_expr();
     let stages = add_stages(module, byte, count, file)?;
-    let end = connect(module, clock, first, &stages, file)?;
+    let body = add_clocked(module, clock, file)?;
+    let end = connect(body, first, &stages, file)?;
     drive(module, last, end, file)
 }
 
@@ -40,36 +41,25 @@ fn add_stages(
     Ok(stages)
 }
 
-/// One `always_ff`, in which each stage takes what the one before it holds; answers the last signal.
+/// Each stage takes what the one before it holds; answers the last signal.
 fn connect(
-    module: VastModule,
-    clock: Expr,
+    body: VastStatementBlock,
     first: Expr,
     stages: &[Expr],
     file: &mut VastFile,
 ) -> Result<Expr, ExampleFault> {
-    let body = add_clocked(module, clock, file)?;
     let mut before = first;
     for stage in stages {
-        add_step(body, before, *stage, file)?;
+        if !file.owns(&body) || !file.owns(&before) || !file.owns(stage) {
+            return Err(ExampleFault::Foreign);
+        }
+        file.block_add_nonblocking_assignment(body, stage, &before)?;
         before = *stage;
     }
     Ok(before)
 }
 
-fn add_step(
-    body: VastStatementBlock,
-    before: Expr,
-    stage: Expr,
-    file: &mut VastFile,
-) -> Result<(), ExampleFault> {
-    if !file.owns(&body) || !file.owns(&before) || !file.owns(&stage) {
-        return Err(ExampleFault::Foreign);
-    }
-    file.block_add_nonblocking_assignment(body, &stage, &before)?;
-    Ok(())
-}
-
+/// The output is the last signal.
 fn drive(
     module: VastModule,
     last: Expr,

@@ -2,9 +2,7 @@
 
 use crate::clocked::{add_branches, add_clocked, assign_branches};
 use crate::fault::ExampleFault;
-use xlsynth_vast::{
-    CaseStatement, Expr, LiteralFormat, VastDataType, VastFile, VastFunction, VastModule,
-};
+use xlsynth_vast::{CaseStatement, Expr, LiteralFormat, VastDataType, VastFile, VastModule};
 
 /// The module, its signals, and the type of a state.
 #[derive(Drop)]
@@ -19,14 +17,24 @@ struct Machine {
     next: Expr,
 }
 
-/// Adds the machine.
+/// Adds the machine: idle until `go`, and then three states in a row; idle at a reset.
 ///
 /// # Errors
 /// Want of memory.
 pub(crate) fn add_states(file: &mut VastFile) -> Result<(), ExampleFault> {
     let machine = add_machine(file)?;
-    add_transitions(&machine, file)?;
-    add_state_register(&machine, file)?;
+    let states = make_states(file)?;
+    let start = make_start(machine.go, &states, file)?;
+    let case = add_case(&machine, file)?;
+    let next = machine.next;
+    add_arm(case, states.idle, next, start, file)?;
+    add_arm(case, states.load, next, states.work, file)?;
+    add_arm(case, states.work, next, states.done, file)?;
+    add_arm(case, states.done, next, states.idle, file)?;
+    let body = add_clocked(machine.module, machine.clock, file)?;
+    let branches = add_branches(body, machine.reset, file)?;
+    assign_branches(&branches, machine.state, states.idle, next, file)?;
+    add_is_busy(&machine, states.idle, file)?;
     add_output(&machine, file)
 }
 
@@ -62,32 +70,17 @@ struct FourStates {
 }
 
 fn make_states(file: &mut VastFile) -> Result<FourStates, ExampleFault> {
-    let idle = make_state("bits[2]:0", file)?;
-    let load = make_state("bits[2]:1", file)?;
-    let work = make_state("bits[2]:2", file)?;
-    let done = make_state("bits[2]:3", file)?;
+    let format = LiteralFormat::UnsignedDecimal;
+    let idle = file.make_literal("bits[2]:0", &format)?;
+    let load = file.make_literal("bits[2]:1", &format)?;
+    let work = file.make_literal("bits[2]:2", &format)?;
+    let done = file.make_literal("bits[2]:3", &format)?;
     Ok(FourStates {
         idle,
         load,
         work,
         done,
     })
-}
-
-fn make_state(text: &str, file: &mut VastFile) -> Result<Expr, ExampleFault> {
-    Ok(file.make_literal(text, &LiteralFormat::UnsignedDecimal)?)
-}
-
-/// Idle until `go`, and then three states in a row.
-fn add_transitions(machine: &Machine, file: &mut VastFile) -> Result<(), ExampleFault> {
-    let states = make_states(file)?;
-    let start = make_start(machine.go, &states, file)?;
-    let case = add_case(machine, file)?;
-    let next = machine.next;
-    add_arm(case, states.idle, next, start, file)?;
-    add_arm(case, states.load, next, states.work, file)?;
-    add_arm(case, states.work, next, states.done, file)?;
-    add_arm(case, states.done, next, states.idle, file)
 }
 
 /// What follows the idle state.
@@ -124,45 +117,28 @@ fn add_arm(
     Ok(())
 }
 
-/// The state of the next cycle, idle at a reset.
-fn add_state_register(machine: &Machine, file: &mut VastFile) -> Result<(), ExampleFault> {
-    let idle = make_state("bits[2]:0", file)?;
-    let body = add_clocked(machine.module, machine.clock, file)?;
-    let branches = add_branches(body, machine.reset, file)?;
-    assign_branches(&branches, machine.state, idle, machine.next, file)
+/// The function `is_busy` of a state: whether it isn't the idle one.
+fn add_is_busy(machine: &Machine, idle: Expr, file: &mut VastFile) -> Result<(), ExampleFault> {
+    if !file.owns(&machine.module) || !file.owns(&machine.state_type) || !file.owns(&idle) {
+        return Err(ExampleFault::Foreign);
+    }
+    let bit = file.make_scalar_type()?;
+    let function = file.add_function(machine.module, "is_busy", &bit)?;
+    let of = file.function_add_input(function, "of", &machine.state_type)?;
+    let differs = file.make_ne(&of.to_expr(), &idle)?;
+    let answer = file.function_result(function).to_expr();
+    let body = file.function_body(function);
+    file.block_add_blocking_assignment(body, &answer, &differs)?;
+    Ok(())
 }
 
 /// The output by the function of the state.
 fn add_output(machine: &Machine, file: &mut VastFile) -> Result<(), ExampleFault> {
-    add_is_busy(machine, file)?;
     if !file.owns(&machine.module) || !file.owns(&machine.state) || !file.owns(&machine.busy) {
         return Err(ExampleFault::Foreign);
     }
     let call = file.make_function_call("is_busy", &[&machine.state])?;
     let drive = file.make_continuous_assignment(&machine.busy, &call)?;
     file.add_member_continuous_assignment(machine.module, drive)?;
-    Ok(())
-}
-
-/// The function `is_busy` of a state: whether it isn't the idle one.
-fn add_is_busy(machine: &Machine, file: &mut VastFile) -> Result<(), ExampleFault> {
-    if !file.owns(&machine.module) || !file.owns(&machine.state_type) {
-        return Err(ExampleFault::Foreign);
-    }
-    let bit = file.make_scalar_type()?;
-    let function = file.add_function(machine.module, "is_busy", &bit)?;
-    let of = file.function_add_input(function, "of", &machine.state_type)?;
-    fill_is_busy(function, of.to_expr(), file)
-}
-
-fn fill_is_busy(function: VastFunction, of: Expr, file: &mut VastFile) -> Result<(), ExampleFault> {
-    let idle = make_state("bits[2]:0", file)?;
-    if !file.owns(&function) || !file.owns(&of) || !file.owns(&idle) {
-        return Err(ExampleFault::Foreign);
-    }
-    let answer = file.function_result(function);
-    let body = file.function_body(function);
-    let differs = file.make_ne(&of, &idle)?;
-    file.block_add_blocking_assignment(body, &answer.to_expr(), &differs)?;
     Ok(())
 }
