@@ -2,7 +2,9 @@
 
 use crate::clocked::{add_branches, add_clocked, assign_branches};
 use crate::fault::ExampleFault;
-use xlsynth_vast::{CaseStatement, Expr, LiteralFormat, VastDataType, VastFile, VastModule};
+use xlsynth_vast::{
+    CaseStatement, Expr, LiteralFormat, VastDataType, VastFile, VastModule, VastStatementBlock,
+};
 
 /// The module, its signals, and the type of a state.
 #[derive(Drop)]
@@ -34,7 +36,8 @@ pub(crate) fn add_states(file: &mut VastFile) -> Result<(), ExampleFault> {
     let body = add_clocked(machine.module, machine.clock, file)?;
     let branches = add_branches(body, machine.reset, file)?;
     assign_branches(&branches, machine.state, states.idle, next, file)?;
-    add_is_busy(&machine, states.idle, file)?;
+    let is_busy = add_is_busy(&machine, file)?;
+    fill_is_busy(&is_busy, states.idle, file)?;
     add_output(&machine, file)
 }
 
@@ -83,6 +86,14 @@ fn make_states(file: &mut VastFile) -> Result<FourStates, ExampleFault> {
     })
 }
 
+/// The function of a state: its input, its answer and its body.
+#[derive(Drop)]
+struct IsBusy {
+    of: Expr,
+    answer: Expr,
+    body: VastStatementBlock,
+}
+
 /// What follows the idle state.
 fn make_start(go: Expr, states: &FourStates, file: &mut VastFile) -> Result<Expr, ExampleFault> {
     if !file.owns(&go) || !file.owns(&states.load) || !file.owns(&states.idle) {
@@ -117,18 +128,33 @@ fn add_arm(
     Ok(())
 }
 
-/// The function `is_busy` of a state: whether it isn't the idle one.
-fn add_is_busy(machine: &Machine, idle: Expr, file: &mut VastFile) -> Result<(), ExampleFault> {
-    if !file.owns(&machine.module) || !file.owns(&machine.state_type) || !file.owns(&idle) {
+/// Adds the function `is_busy` of a state.
+fn add_is_busy(machine: &Machine, file: &mut VastFile) -> Result<IsBusy, ExampleFault> {
+    if !file.owns(&machine.module) || !file.owns(&machine.state_type) {
         return Err(ExampleFault::Foreign);
     }
     let bit = file.make_scalar_type()?;
     let function = file.add_function(machine.module, "is_busy", &bit)?;
-    let of = file.function_add_input(function, "of", &machine.state_type)?;
-    let differs = file.make_ne(&of.to_expr(), &idle)?;
     let answer = file.function_result(function).to_expr();
     let body = file.function_body(function);
-    file.block_add_blocking_assignment(body, &answer, &differs)?;
+    let of = file.function_add_input(function, "of", &machine.state_type)?;
+    Ok(IsBusy {
+        of: of.to_expr(),
+        answer,
+        body,
+    })
+}
+
+/// Its answer: whether the state isn't the idle one.
+fn fill_is_busy(is_busy: &IsBusy, idle: Expr, file: &mut VastFile) -> Result<(), ExampleFault> {
+    if !file.owns(&is_busy.of) || !file.owns(&idle) {
+        return Err(ExampleFault::Foreign);
+    }
+    if !file.owns(&is_busy.answer) || !file.owns(&is_busy.body) {
+        return Err(ExampleFault::Foreign);
+    }
+    let differs = file.make_ne(&is_busy.of, &idle)?;
+    file.block_add_blocking_assignment(is_busy.body, &is_busy.answer, &differs)?;
     Ok(())
 }
 
