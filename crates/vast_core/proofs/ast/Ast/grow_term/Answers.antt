@@ -83,23 +83,23 @@ invariant_of-self-2 c =
 
 pub returns : goal.returns
 returns c = (
-      refl,
-      bench-grown c.args.self.now _ _ Nowhere (one c.args.node) c.self.view_is
-          (record {
-            there = tt;
-            file_type = refl;
-            id = refl;
-            terms = c.in_ok-push.ensures.items;
-            assignments = refl;
-            nests = refl;
-            ports = refl;
-            modules = refl;
-            functions = refl;
-            definitions = refl;
-            artifacts = refl;
-            instances = refl;
-            always_blocks = refl;
-            items = refl;
-            spare = refl;
-          }),
-    )
+  refl,
+  bench-grown c.args.self.now _ _ Nowhere (one c.args.node) c.self.view_is
+      (record {
+        there = tt;
+        file_type = refl;
+        id = refl;
+        terms = c.in_ok-push.ensures.items;
+        assignments = refl;
+        nests = refl;
+        ports = refl;
+        modules = refl;
+        functions = refl;
+        definitions = refl;
+        artifacts = refl;
+        instances = refl;
+        always_blocks = refl;
+        items = refl;
+        spare = refl;
+      }),
+)
