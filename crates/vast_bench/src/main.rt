@@ -1,6 +1,7 @@
 //! Builds designs of any size and prints them, so that it can be measured: `vast_bench flat 10000 5`.
 //!
-//! It is written as a user's crate is: one set of lemmas, `callers`, and no proof of its own.
+//! It is written as a user's crate is: one set of lemmas, `callers`, and no proof of its own but the one line that says
+//! what the loop of `sum` keeps.
 #![tactic(auto, using(xlsynth_vast::proofs::Callers::callers))]
 
 mod assign;
