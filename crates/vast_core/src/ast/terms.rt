@@ -17,7 +17,7 @@ use crate::node::{ExprNode, TypeNode};
 use std::alloc::AllocError;
 
 impl Ast {
-    /// Adds an expression or a type by a push of its own, since each call that makes an expression ends here.
+    /// Adds one expression or type by a plain push, which takes half the instructions of the growth of several.
     pub(crate) fn grow_term(&mut self, node: ExprNode) -> Result<(), AllocError>
         requires { TermsSound (bench self.old).nodes (node ∷ []) }
         ensures { GrowsBy self.old self.new result (with_terms (node ∷ [])) }
