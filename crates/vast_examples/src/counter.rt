@@ -2,6 +2,7 @@
 
 use crate::clocked::{add_branches, add_clocked, assign_branches};
 use crate::fault::ExampleFault;
+use crate::signals::drive;
 use xlsynth_vast::{Expr, LiteralFormat, VastFile, VastModule};
 
 /// The module and its signals.
@@ -20,7 +21,7 @@ struct Signals {
 /// Want of memory.
 pub(crate) fn add_counter(file: &mut VastFile) -> Result<(), ExampleFault> {
     let signals = add_signals(file)?;
-    drive(&signals, file)?;
+    drive(signals.module, signals.count, signals.value, file)?;
     let body = add_clocked(signals.module, signals.clock, file)?;
     let branches = add_branches(body, signals.reset, file)?;
     let zero = file.make_literal("bits[8]:0", &LiteralFormat::UnsignedDecimal)?;
@@ -43,16 +44,6 @@ fn add_signals(file: &mut VastFile) -> Result<Signals, ExampleFault> {
         count,
         value,
     })
-}
-
-/// The output is the register.
-fn drive(signals: &Signals, file: &mut VastFile) -> Result<(), ExampleFault> {
-    if !file.owns(&signals.module) || !file.owns(&signals.count) || !file.owns(&signals.value) {
-        return Err(ExampleFault::Foreign);
-    }
-    let drive = file.make_continuous_assignment(&signals.count, &signals.value)?;
-    file.add_member_continuous_assignment(signals.module, drive)?;
-    Ok(())
 }
 
 /// One more than the value.

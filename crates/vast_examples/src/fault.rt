@@ -6,7 +6,7 @@ use xlsynth_vast::VastFault;
 
 /// Why an example has no text.
 #[derive(Debug, Drop, Error)]
-pub(crate) enum ExampleFault {
+pub enum ExampleFault {
     /// No example has the name.
     #[error("unknown example")]
     Unknown,

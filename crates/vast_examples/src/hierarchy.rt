@@ -1,7 +1,8 @@
 //! A module of a parameter, instantiated twice, once with an open port, and a generate loop between the two.
 
 use crate::fault::ExampleFault;
-use xlsynth_vast::{Expr, VastFile, VastModule};
+use crate::signals::{Signal, declare, drive};
+use xlsynth_vast::{Expr, GenerateLoop, VastFile, VastModule};
 
 /// The module that is instantiated, and its parameter.
 #[derive(Drop)]
@@ -29,9 +30,13 @@ pub(crate) fn add_hierarchy(file: &mut VastFile) -> Result<(), ExampleFault> {
     let lane = add_lane(file)?;
     let data = add_lane_ports(lane.module, lane.width, file)?;
     add_odd(lane.module, data, file)?;
+    allow_in_lint(file)?;
     let top = add_top(file)?;
     add_instance(&top, "first", top.data, top.middle, None, file)?;
-    add_crossing(&top, file)?;
+    let bits = add_loop(top.module, file)?;
+    let target = bit_of(top.crossed, bits, file)?;
+    let source = bit_of(top.middle, bits, file)?;
+    join(bits, target, source, file)?;
     let odd = Some(&top.odd);
     add_instance(&top, "second", top.crossed, top.result, odd, file)
 }
@@ -50,37 +55,35 @@ fn add_lane_ports(
     width: Expr,
     file: &mut VastFile,
 ) -> Result<Expr, ExampleFault> {
-    if !file.owns(&module) || !file.owns(&width) || !file.width_is_usable(&width) {
+    if !file.owns(&width) || !file.width_is_usable(&width) {
         return Err(ExampleFault::Foreign);
     }
-    if !file.name_is_free(module, "data") {
-        return Err(ExampleFault::Taken);
-    }
     let word = file.make_bit_vector_type_expr(&width, false)?;
-    let data = file.add_input(module, "data", &word)?.to_expr();
-    if !file.name_is_free(module, "result") {
-        return Err(ExampleFault::Taken);
+    let data = declare(Signal::Input, module, "data", &word, file)?;
+    let result = declare(Signal::Output, module, "result", &word, file)?;
+    if !file.owns(&data) {
+        return Err(ExampleFault::Foreign);
     }
-    let result = file.add_output(module, "result", &word)?.to_expr();
     let inverse = file.make_bitwise_not(&data)?;
-    let drive = file.make_continuous_assignment(&result, &inverse)?;
-    file.add_member_continuous_assignment(module, drive)?;
+    drive(module, result, inverse, file)?;
     Ok(data)
 }
 
 /// An output that is the parity of the data.
 fn add_odd(module: VastModule, data: Expr, file: &mut VastFile) -> Result<(), ExampleFault> {
-    if !file.owns(&module) || !file.owns(&data) {
+    if !file.owns(&data) {
         return Err(ExampleFault::Foreign);
     }
-    if !file.name_is_free(module, "odd") {
-        return Err(ExampleFault::Taken);
-    }
-    let bit = file.make_scalar_type()?;
-    let odd = file.add_output(module, "odd", &bit)?.to_expr();
     let parity = file.make_xor_reduce(&data)?;
-    let drive = file.make_continuous_assignment(&odd, &parity)?;
-    file.add_member_continuous_assignment(module, drive)?;
+    let bit = file.make_scalar_type()?;
+    let odd = declare(Signal::Output, module, "odd", &bit, file)?;
+    drive(module, odd, parity, file)
+}
+
+/// Comments that Verilator reads: what follows is meant to be a second module of its file, and to have an open port.
+fn allow_in_lint(file: &mut VastFile) -> Result<(), ExampleFault> {
+    file.add_comment_text("verilator lint_off DECLFILENAME")?;
+    file.add_comment_text("verilator lint_off PINCONNECTEMPTY")?;
     Ok(())
 }
 
@@ -88,11 +91,11 @@ fn add_top(file: &mut VastFile) -> Result<Top, ExampleFault> {
     let module = file.add_module("top")?;
     let bit = file.make_scalar_type()?;
     let byte = file.make_bit_vector_type(8, false)?;
-    let data = file.add_input(module, "data", &byte)?.to_expr();
-    let result = file.add_output(module, "result", &byte)?.to_expr();
-    let odd = file.add_output(module, "odd", &bit)?.to_expr();
-    let middle = file.add_wire(module, "middle", &byte)?.to_expr();
-    let crossed = file.add_wire(module, "crossed", &byte)?.to_expr();
+    let data = declare(Signal::Input, module, "data", &byte, file)?;
+    let result = declare(Signal::Output, module, "result", &byte, file)?;
+    let odd = declare(Signal::Output, module, "odd", &bit, file)?;
+    let middle = declare(Signal::Wire, module, "middle", &byte, file)?;
+    let crossed = declare(Signal::Wire, module, "crossed", &byte, file)?;
     Ok(Top {
         module,
         data,
@@ -133,19 +136,36 @@ fn add_instance(
     Ok(())
 }
 
-/// A generate loop that joins the instances bit by bit.
-fn add_crossing(top: &Top, file: &mut VastFile) -> Result<(), ExampleFault> {
-    if !file.owns(&top.module) || !file.owns(&top.middle) || !file.owns(&top.crossed) {
+/// A generate loop over the bits of a byte.
+fn add_loop(module: VastModule, file: &mut VastFile) -> Result<GenerateLoop, ExampleFault> {
+    if !file.owns(&module) {
         return Err(ExampleFault::Foreign);
     }
     let zero = file.make_unsized_decimal_literal(0)?;
     let eight = file.make_unsized_decimal_literal(8)?;
-    let bits = file.add_generate_loop(top.module, "i", &zero, &eight, Some("bits"))?;
+    Ok(file.add_generate_loop(module, "i", &zero, &eight, Some("bits"))?)
+}
+
+/// The bit of the signal that the loop is at.
+fn bit_of(signal: Expr, bits: GenerateLoop, file: &mut VastFile) -> Result<Expr, ExampleFault> {
+    if !file.owns(&signal) || !file.owns(&bits) {
+        return Err(ExampleFault::Foreign);
+    }
     let place = file.generate_genvar(bits).to_expr();
-    let crossed = file.make_indexable_expression(&top.crossed);
-    let middle = file.make_indexable_expression(&top.middle);
-    let target = file.make_index_expr(&crossed, &place)?;
-    let source = file.make_index_expr(&middle, &place)?;
-    file.generate_add_continuous_assignment(bits, &target.to_expr(), &source.to_expr())?;
+    let signal = file.make_indexable_expression(&signal);
+    Ok(file.make_index_expr(&signal, &place)?.to_expr())
+}
+
+/// In the loop, the one signal is the other.
+fn join(
+    bits: GenerateLoop,
+    target: Expr,
+    source: Expr,
+    file: &mut VastFile,
+) -> Result<(), ExampleFault> {
+    if !file.owns(&bits) || !file.owns(&target) || !file.owns(&source) {
+        return Err(ExampleFault::Foreign);
+    }
+    file.generate_add_continuous_assignment(bits, &target, &source)?;
     Ok(())
 }

@@ -2,6 +2,7 @@
 
 use crate::clocked::add_clocked;
 use crate::fault::ExampleFault;
+use crate::signals::drive;
 use xlsynth_vast::{Expr, VastDataType, VastFile, VastModule, VastStatementBlock};
 
 /// Adds a pipeline of `count` stages.
@@ -57,19 +58,4 @@ fn connect(
         before = *stage;
     }
     Ok(before)
-}
-
-/// The output is the last signal.
-fn drive(
-    module: VastModule,
-    last: Expr,
-    end: Expr,
-    file: &mut VastFile,
-) -> Result<(), ExampleFault> {
-    if !file.owns(&module) || !file.owns(&last) || !file.owns(&end) {
-        return Err(ExampleFault::Foreign);
-    }
-    let drive = file.make_continuous_assignment(&last, &end)?;
-    file.add_member_continuous_assignment(module, drive)?;
-    Ok(())
 }

@@ -2,8 +2,9 @@
 
 use crate::clocked::{add_branches, add_clocked, assign_branches};
 use crate::fault::ExampleFault;
+use crate::signals::{Signal, add_register, declare, drive};
 use xlsynth_vast::{
-    CaseStatement, Expr, LiteralFormat, VastDataType, VastFile, VastModule, VastStatementBlock,
+    CaseStatement, Expr, LiteralFormat, VastDataType, VastFile, VastFunction, VastModule,
 };
 
 /// The module, its signals, and the type of a state.
@@ -36,21 +37,22 @@ pub(crate) fn add_states(file: &mut VastFile) -> Result<(), ExampleFault> {
     let body = add_clocked(machine.module, machine.clock, file)?;
     let branches = add_branches(body, machine.reset, file)?;
     assign_branches(&branches, machine.state, states.idle, next, file)?;
-    let is_busy = add_is_busy(&machine, file)?;
-    fill_is_busy(&is_busy, states.idle, file)?;
-    add_output(&machine, file)
+    let is_busy = add_is_busy(machine.module, file)?;
+    fill_is_busy(is_busy, &machine.state_type, states.idle, file)?;
+    let call = call_is_busy(machine.state, file)?;
+    drive(machine.module, machine.busy, call, file)
 }
 
 fn add_machine(file: &mut VastFile) -> Result<Machine, ExampleFault> {
     let module = file.add_module("machine")?;
     let bit = file.make_scalar_type()?;
     let state_type = file.make_bit_vector_type(2, false)?;
-    let clock = file.add_input(module, "clk", &bit)?.to_expr();
-    let reset = file.add_input(module, "rst", &bit)?.to_expr();
-    let go = file.add_input(module, "go", &bit)?.to_expr();
-    let busy = file.add_output(module, "busy", &bit)?.to_expr();
-    let state = file.add_logic(module, "state", &state_type)?.to_expr();
-    let next = file.add_logic(module, "next", &state_type)?.to_expr();
+    let clock = declare(Signal::Input, module, "clk", &bit, file)?;
+    let reset = declare(Signal::Input, module, "rst", &bit, file)?;
+    let go = declare(Signal::Input, module, "go", &bit, file)?;
+    let busy = declare(Signal::Output, module, "busy", &bit, file)?;
+    let state = add_register(module, "state", &state_type, file)?;
+    let next = add_register(module, "next", &state_type, file)?;
     Ok(Machine {
         module,
         state_type,
@@ -84,14 +86,6 @@ fn make_states(file: &mut VastFile) -> Result<FourStates, ExampleFault> {
         work,
         done,
     })
-}
-
-/// The function of a state: its input, its answer and its body.
-#[derive(Drop)]
-struct IsBusy {
-    of: Expr,
-    answer: Expr,
-    body: VastStatementBlock,
 }
 
 /// What follows the idle state.
@@ -129,42 +123,38 @@ fn add_arm(
 }
 
 /// Adds the function `is_busy` of a state.
-fn add_is_busy(machine: &Machine, file: &mut VastFile) -> Result<IsBusy, ExampleFault> {
-    if !file.owns(&machine.module) || !file.owns(&machine.state_type) {
+fn add_is_busy(module: VastModule, file: &mut VastFile) -> Result<VastFunction, ExampleFault> {
+    if !file.owns(&module) {
         return Err(ExampleFault::Foreign);
     }
     let bit = file.make_scalar_type()?;
-    let function = file.add_function(machine.module, "is_busy", &bit)?;
-    let answer = file.function_result(function).to_expr();
-    let body = file.function_body(function);
-    let of = file.function_add_input(function, "of", &machine.state_type)?;
-    Ok(IsBusy {
-        of: of.to_expr(),
-        answer,
-        body,
-    })
+    Ok(file.add_function(module, "is_busy", &bit)?)
 }
 
-/// Its answer: whether the state isn't the idle one.
-fn fill_is_busy(is_busy: &IsBusy, idle: Expr, file: &mut VastFile) -> Result<(), ExampleFault> {
-    if !file.owns(&is_busy.of) || !file.owns(&idle) {
+/// Its input and its answer: whether the state isn't the idle one.
+fn fill_is_busy(
+    is_busy: VastFunction,
+    state_type: &VastDataType,
+    idle: Expr,
+    file: &mut VastFile,
+) -> Result<(), ExampleFault> {
+    if !file.owns(&is_busy) || !file.owns(state_type) || !file.owns(&idle) {
         return Err(ExampleFault::Foreign);
     }
-    if !file.owns(&is_busy.answer) || !file.owns(&is_busy.body) {
-        return Err(ExampleFault::Foreign);
-    }
-    let differs = file.make_ne(&is_busy.of, &idle)?;
-    file.block_add_blocking_assignment(is_busy.body, &is_busy.answer, &differs)?;
+    let of = file
+        .function_add_input(is_busy, "of", state_type)?
+        .to_expr();
+    let differs = file.make_ne(&of, &idle)?;
+    let body = file.function_body(is_busy);
+    let answer = file.function_result(is_busy).to_expr();
+    file.block_add_blocking_assignment(body, &answer, &differs)?;
     Ok(())
 }
 
-/// The output by the function of the state.
-fn add_output(machine: &Machine, file: &mut VastFile) -> Result<(), ExampleFault> {
-    if !file.owns(&machine.module) || !file.owns(&machine.state) || !file.owns(&machine.busy) {
+/// The call of the function of the state.
+fn call_is_busy(state: Expr, file: &mut VastFile) -> Result<Expr, ExampleFault> {
+    if !file.owns(&state) {
         return Err(ExampleFault::Foreign);
     }
-    let call = file.make_function_call("is_busy", &[&machine.state])?;
-    let drive = file.make_continuous_assignment(&machine.busy, &call)?;
-    file.add_member_continuous_assignment(machine.module, drive)?;
-    Ok(())
+    Ok(file.make_function_call("is_busy", &[&state])?)
 }

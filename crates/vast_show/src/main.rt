@@ -1,16 +1,7 @@
-//! A user's own crate: five designs made by calls, `vast_examples counter states pipeline registers hierarchy`.
-//!
-//! Each example names one set of lemmas, `callers`, and none has a proof of its own.
-#![tactic(auto, using(xlsynth_vast::proofs::Callers::callers))]
+//! Prints the examples that its words name: `vast_show counter states pipeline registers hierarchy`.
+#![tactic(auto)]
 
-mod clocked;
-mod counter;
-mod fault;
-mod hierarchy;
-mod pipeline;
 mod program;
-mod registers;
-mod states;
 
 use program::{fail, run};
 use std::alloc::{AllocError, Global};

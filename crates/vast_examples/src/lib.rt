@@ -1,0 +1,50 @@
+//! A user's own crate: five designs made by calls, which `vast_show` prints.
+//!
+//! The crate names one set of lemmas, `callers`, and none of its functions has a proof of its own.
+#![tactic(auto, using(xlsynth_vast::proofs::Callers::callers))]
+
+mod clocked;
+mod counter;
+mod fault;
+mod hierarchy;
+mod pipeline;
+mod registers;
+mod signals;
+mod states;
+
+use counter::add_counter;
+pub use fault::ExampleFault;
+use hierarchy::add_hierarchy;
+use pipeline::add_pipeline;
+use registers::add_register_map;
+use states::add_states;
+use std::alloc::Global;
+use xlsynth_vast::{FileIds, VastFile, VastFileType};
+
+/// The text of a new file with the example of this name.
+///
+/// # Errors
+/// `Unknown` where no example has the name; a refusal of a call; want of memory.
+pub fn example(alloc: Global, name: &str) -> Result<String, ExampleFault> {
+    let mut ids = FileIds::new();
+    let mut file = VastFile::new(alloc, VastFileType::SystemVerilog, &mut ids).unwrap();
+    build(name, &mut file)?;
+    Ok(file.emit()?)
+}
+
+/// Adds the example of this name; the pipeline has three stages.
+fn build(name: &str, file: &mut VastFile) -> Result<(), ExampleFault> {
+    if name == "counter" {
+        add_counter(file)
+    } else if name == "states" {
+        add_states(file)
+    } else if name == "pipeline" {
+        add_pipeline(3, file)
+    } else if name == "registers" {
+        add_register_map(file)
+    } else if name == "hierarchy" {
+        add_hierarchy(file)
+    } else {
+        Err(ExampleFault::Unknown)
+    }
+}
