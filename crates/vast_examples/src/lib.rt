@@ -3,6 +3,9 @@
 //! The crate names one set of lemmas, `callers`, and none of its functions has a proof of its own.
 #![tactic(auto, using(xlsynth_vast::proofs::Callers::callers))]
 
+ghost use Rattle.std.specs.Prelude.{IfOk, string_bytes};
+ghost use Rattle.vast_print.specs.Layout.{IsFileText};
+
 mod clocked;
 mod counter;
 mod fault;
@@ -23,9 +26,14 @@ use xlsynth_vast::{FileIds, VastFile, VastFileType};
 
 /// The text of a new file with the example of this name.
 ///
+/// The contract says that it is a file's text, the printed layout of a tree; which tree is tested, not proved.
+///
 /// # Errors
 /// `Unknown` where no example has the name; a refusal of a call; want of memory.
-pub fn example(alloc: Global, name: &str) -> Result<String, ExampleFault> {
+#[tactic(auto, using(xlsynth_vast::proofs::Callers::emitted_text))]
+pub fn example(alloc: Global, name: &str) -> Result<String, ExampleFault>
+    ensures { IfOk result (λ text. IsFileText (string_bytes text)) }
+{
     let mut ids = FileIds::new();
     let mut file = VastFile::new(alloc, VastFileType::SystemVerilog, &mut ids).unwrap();
     build(name, &mut file)?;

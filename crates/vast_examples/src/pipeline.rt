@@ -2,7 +2,7 @@
 
 use crate::clocked::add_clocked;
 use crate::fault::ExampleFault;
-use crate::signals::drive;
+use crate::signals::{declare_logic, drive};
 use xlsynth_vast::{Expr, VastDataType, VastFile, VastModule, VastStatementBlock};
 
 /// Adds a pipeline of `count` stages.
@@ -33,11 +33,7 @@ fn add_stages(
     let mut stages = Vec::new(alloc);
     for i in 0..count {
         let name = format!(in alloc; "stage_{i}")?;
-        if !file.owns(&module) || !file.owns(&data_type) {
-            return Err(ExampleFault::Foreign);
-        }
-        let stage = file.add_logic(module, &name, &data_type)?;
-        stages.push(stage.to_expr())?;
+        stages.push(declare_logic(module, &name, &data_type, file)?)?;
     }
     Ok(stages)
 }

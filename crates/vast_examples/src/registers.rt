@@ -4,6 +4,7 @@ ghost use Rattle.std.specs.Prelude.{IsTrue};
 ghost use Rattle.xlsynth_vast.specs.Registers.{OwnsRegister};
 
 use crate::fault::ExampleFault;
+use crate::signals::{Signal, declare, declare_logic};
 use xlsynth_vast::helpers::{RegisterDefinition, RegisterScope, Reset, add_registers};
 use xlsynth_vast::{Expr, LiteralFormat, VastDataType, VastFile, VastModule};
 
@@ -54,20 +55,14 @@ fn add_register(
     value: &str,
     file: &mut VastFile,
 ) -> Result<RegisterDefinition, ExampleFault> {
-    if !file.owns(&map.module) || !file.owns(&map.bit) || !file.owns(&map.byte) {
-        return Err(ExampleFault::Foreign);
-    }
-    if !file.name_is_free(map.module, enable) {
-        return Err(ExampleFault::Taken);
-    }
-    let enable = file.add_input(map.module, enable, &map.bit)?;
-    let register = file.add_logic(map.module, name, &map.byte)?;
+    let enable = declare(Signal::Input, map.module, enable, &map.bit, file)?;
+    let reg = declare_logic(map.module, name, &map.byte, file)?;
     let reset_value = file.make_literal(value, &LiteralFormat::Hex)?;
     Ok(RegisterDefinition {
-        reg: register.to_expr(),
+        reg,
         next: map.data,
         reset_value: Some(reset_value),
-        enable: Some(enable.to_expr()),
+        enable: Some(enable),
     })
 }
 

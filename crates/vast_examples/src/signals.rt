@@ -36,11 +36,11 @@ pub(crate) fn declare(
     Ok(reference.to_expr())
 }
 
-/// Declares a register of this name, which the call itself refuses where it is taken.
+/// Declares a logic variable of this name; the call itself refuses a name that is taken.
 ///
 /// # Errors
 /// `Foreign` where a handle is another file's; a name that is taken; want of memory.
-pub(crate) fn add_register(
+pub(crate) fn declare_logic(
     module: VastModule,
     name: &str,
     data_type: &VastDataType,

@@ -2,7 +2,7 @@
 
 use crate::clocked::{add_branches, add_clocked, assign_branches};
 use crate::fault::ExampleFault;
-use crate::signals::{Signal, add_register, declare, drive};
+use crate::signals::{Signal, declare, declare_logic, drive};
 use xlsynth_vast::{
     CaseStatement, Expr, LiteralFormat, VastDataType, VastFile, VastFunction, VastModule,
 };
@@ -51,8 +51,8 @@ fn add_machine(file: &mut VastFile) -> Result<Machine, ExampleFault> {
     let reset = declare(Signal::Input, module, "rst", &bit, file)?;
     let go = declare(Signal::Input, module, "go", &bit, file)?;
     let busy = declare(Signal::Output, module, "busy", &bit, file)?;
-    let state = add_register(module, "state", &state_type, file)?;
-    let next = add_register(module, "next", &state_type, file)?;
+    let state = declare_logic(module, "state", &state_type, file)?;
+    let next = declare_logic(module, "next", &state_type, file)?;
     Ok(Machine {
         module,
         state_type,

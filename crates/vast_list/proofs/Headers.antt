@@ -1,12 +1,8 @@
--- What begins with a header goes on beginning with it, and what a file prints is its text.
-use Rattle.std.proofs.Common.{◌≡◌, ℕ, List, [], ◌++◌, Option, Some, None, Bor, Result, Ok, String, string_bytes, sym, ap, subst, ◌∙◌}
+-- What begins with a header goes on beginning with it.
+use Rattle.std.proofs.Common.{◌≡◌, ℕ, List, [], ◌++◌, Option, Some, None, Bor, sym, ap, subst, ◌∙◌}
 use Rattle.std.proofs.lemmas.List.{append-nil, append_assoc}
-use Rattle.std.specs.declared.alloc.Global.{Global}
-use Rattle.vast_literal.specs.Tree.{FileTree}
-use Rattle.vast_literal.specs.declared.error.VastFault.{VastFault}
-use Rattle.vast_print.specs.Emits.{Emits}
-use Rattle.vast_print.specs.Layout.{layout}
-use Rattle.vast_list.specs.Output.{header_line, BeginsWithHeader, IsFileText, IsOutput}
+use Rattle.vast_print.specs.Layout.{IsFileText}
+use Rattle.vast_list.specs.Output.{header_line, BeginsWithHeader, IsOutput}
 
 pub header_begins : (title line : List ℕ) → line ≡ header_line title → BeginsWithHeader title line
 header_begins title line e = ([], e ∙ sym (append-nil (header_line title)))
@@ -23,6 +19,3 @@ pub with_title : (title : Option (Bor (List ℕ))) (words : Bor (List ℕ)) (out
 with_title title words output e b = subst (λ (t : Option (Bor (List ℕ))). IsOutput t output) (sym e) b
 
 pub ruleset titles = (without_title, with_title)
-
-pub emitted_text : (file : FileTree) (text : String Global) (answer : Result (String Global) VastFault) → Emits (layout file) answer → answer ≡ Ok text → IsFileText (string_bytes text)
-emitted_text file text answer h e = let m = subst (λ (r : Result (String Global) VastFault). Emits (layout file) r) e h in (file, m.0, m.1)

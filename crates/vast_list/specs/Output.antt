@@ -1,9 +1,7 @@
 -- What is printed of a list.
 use Rattle.std.specs.Prelude.{◌≡◌, ℕ, List, ◌++◌, codes, Option, Some, None, string_bytes, ⊤}
 use Rattle.std.specs.Borrow.{Bor}
-use Rattle.vast_literal.specs.Tree.{FileTree}
-use Rattle.vast_print.specs.Page.{print}
-use Rattle.vast_print.specs.Layout.{layout}
+use Rattle.vast_print.specs.Layout.{IsFileText}
 use Rattle.vast_list.specs.declared.report.Entry.{Entry}
 use Rattle.vast_list.specs.declared.report.Entry.TheVariants.{Text, Refusal}
 
@@ -14,10 +12,6 @@ header_line title = codes "== " ++ title ++ codes "\n"
 -- the output begins with the line before the list
 abbrev pub BeginsWithHeader : (title output : List ℕ) → Type 0
 BeginsWithHeader title output = (rest : List ℕ) × (output ≡ header_line title ++ rest)
-
--- the text is a file's: the printed layout of a tree that nothing refuses
-abbrev pub IsFileText : (text : List ℕ) → Type 0
-IsFileText text = (file : FileTree) × ((layout file).fault ≡ None) × (text ≡ print (layout file))
 
 -- where the entry is no refusal, it is a file's text
 abbrev pub HoldsFile : Entry → Type 0

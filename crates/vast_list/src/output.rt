@@ -1,7 +1,8 @@
 //! What is printed of a list.
 
 ghost use Rattle.std.specs.Prelude.{◌≡◌, IfOk};
-ghost use Rattle.vast_list.specs.Output.{header_line, BeginsWithHeader, HoldsFile, IsFileText, IsOutput};
+ghost use Rattle.vast_print.specs.Layout.{IsFileText};
+ghost use Rattle.vast_list.specs.Output.{header_line, BeginsWithHeader, HoldsFile, IsOutput};
 
 use crate::again::report_again;
 use crate::lines::{HEADER, ListLines};

@@ -138,7 +138,7 @@ fn step_at_fault(fault: &ScriptFault) -> Option<usize> {
 }
 
 /// The file's text, or its refusal.
-#[tactic(auto, using(crate::proofs::Headers::emitted_text))]
+#[tactic(auto, using(xlsynth_vast::proofs::Callers::emitted_text))]
 pub(crate) fn printed(file: &VastFile) -> Result<Entry, AllocError>
     ensures { IfOk result (λ entry. HoldsFile entry) }
 {

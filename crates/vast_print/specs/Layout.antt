@@ -1,5 +1,5 @@
 -- The page of a file.
-use Rattle.std.specs.Prelude.{ℕ, List, [], ◌∷◌, codes, map}
+use Rattle.std.specs.Prelude.{◌≡◌, ℕ, List, [], ◌∷◌, codes, map, None}
 use Rattle.vast_literal.specs.Tree.{MaybeType, Untyped, Typed, Members, NoMembers, MoreMembers}
 use Rattle.vast_literal.specs.declared.kind.VastFileType.{VastFileType as Dialect}
 use Rattle.vast_literal.specs.Tree.{PortTree, ParameterPortTree, ModuleTree, FileItemTree, ModuleItem, IncludeItem, CommentItem, BlankItem, FileTree}
@@ -9,7 +9,7 @@ use Rattle.vast_literal.specs.Shape.{base_kind, base_of}
 use Rattle.vast_print.specs.Printed.{Printed, plain_text, ◌⊕◌}
 use Rattle.vast_print.specs.Text.{expr_text}
 use Rattle.vast_print.specs.Declaration.{declaration_text, port_declaration_text}
-use Rattle.vast_print.specs.Page.{Page, no_lines, line, inner, above, written, commented}
+use Rattle.vast_print.specs.Page.{Page, no_lines, line, inner, above, written, commented, print}
 use Rattle.vast_print.specs.Members.{entries_page, members_page}
 
 abbrev pub direction_word : PortDirection → List ℕ
@@ -70,3 +70,7 @@ items_page dialect (i ∷ items) = above (item_page dialect i) (items_page diale
 
 unfoldable pub layout : FileTree → Page
 layout f = items_page f.dialect f.items
+
+-- the text is a file's: the printed layout of a tree that nothing refuses
+abbrev pub IsFileText : (text : List ℕ) → Type 0
+IsFileText text = (file : FileTree) × ((layout file).fault ≡ None) × (text ≡ print (layout file))

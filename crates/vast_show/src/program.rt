@@ -1,5 +1,8 @@
 //! What the program does with its words.
 
+ghost use Rattle.std.specs.Prelude.{◌≡◌, ◌≤◌, length};
+ghost use Rattle.vast_show.specs.Shown.{ShowsFile, ShowsFiles};
+
 use std::alloc::Global;
 use std::fmt::Display;
 use std::io::Write;
@@ -7,27 +10,39 @@ use vast_examples::example;
 
 /// Prints the example that each word names, in their order, and answers the status: 0, or 1 at the first word that
 /// names none, at a refusal or a fault, whose words go to `err`.
-pub(crate) fn run<W: Write, E: Write>(
-    alloc: Global,
-    words: &[&str],
-    out: &mut W,
-    err: &mut E,
-) -> u8 {
+pub(crate) fn run<W: Write, E: Write>(alloc: Global, words: &[&str], out: &mut W, err: &mut E) -> u8
+    ensures status { result ≤ 1 }
+    ensures shown { result ≡ 0 →
+        ShowsFiles (W.contents out.old) (length words.now) (W.contents out.new) }
+    ensures silent { result ≡ 0 → E.contents err.new ≡ E.contents err.old }
+{
     for word in words {
-        match example(alloc, word) {
-            Ok(text) => {
-                if out.write_all(text.as_bytes()).is_err() {
-                    return fail("write fault", err);
-                }
-            }
-            Err(fault) => return fail(fault, err),
+        if show(alloc, word, out, err) != 0 {
+            return 1;
         }
     }
     0
 }
 
+/// Prints one example.
+fn show<W: Write, E: Write>(alloc: Global, word: &str, out: &mut W, err: &mut E) -> u8
+    ensures status { result ≤ 1 }
+    ensures shown { result ≡ 0 → ShowsFile (W.contents out.old) (W.contents out.new) }
+    ensures silent { result ≡ 0 → E.contents err.new ≡ E.contents err.old }
+{
+    match example(alloc, word) {
+        Ok(text) => match out.write_all(text.as_bytes()) {
+            Ok(()) => 0,
+            Err(_) => fail("write fault", err),
+        },
+        Err(fault) => fail(fault, err),
+    }
+}
+
 /// Says what went wrong, and answers the status of it.
-pub(crate) fn fail<F: Display + Drop, E: Write>(fault: F, err: &mut E) -> u8 {
+pub(crate) fn fail<F: Display + Drop, E: Write>(fault: F, err: &mut E) -> u8
+    ensures { result ≡ 1 }
+{
     let _ = writeln!(err, "{fault}");
     1
 }

@@ -2,8 +2,10 @@
 --
 -- A call leaves lists with an element more or with an element changed; so each law is one of a list, at the terms that a
 -- condition reads. A caller names `callers`.
-use Rattle.std.proofs.Common.{◌≡◌, ℕ, zero, suc, ◌<◌, Bool, IsTrue, List, [], ◌∷◌, ◌++◌, length, Option, Some, None, slice_get, refl, ap, arith}
-use Rattle.vast_literal.specs.Tree.{ExprTree}
+use Rattle.std.proofs.Common.{◌≡◌, ℕ, zero, suc, ◌<◌, Bool, IsTrue, List, [], ◌∷◌, ◌++◌, length, Option, Some, None, Result, Ok, String, string_bytes, slice_get, refl, ap, subst, arith}
+use Rattle.std.specs.declared.alloc.Global.{Global}
+use Rattle.vast_literal.specs.Tree.{ExprTree, FileTree}
+use Rattle.vast_literal.specs.declared.error.VastFault.{VastFault}
 use Rattle.vast_core.specs.declared.handle.ModulePort.{ModulePort}
 use Rattle.vast_core.specs.declared.handle.VastStatementBlock.{VastStatementBlock}
 use Rattle.vast_core.specs.declared.node.Assignment.{Assignment}
@@ -14,6 +16,8 @@ use Rattle.vast_core.specs.Records.{ModuleRecord, MemberEntry, PortRecord, Param
 use Rattle.vast_core.specs.Nests.{StatementEntry, NestRecord, BlockRecord, ConditionalNestRecord, CaseNestRecord, LoopNestRecord, FunctionRecord, AlwaysRecord, nest_kind, is_block_kind, is_conditional_kind, is_case_kind, is_loop_kind}
 use Rattle.vast_core.specs.Bench.{is_continuous, is_blank_line, is_comment, is_inline, is_macro_statement, names_of}
 use Rattle.vast_core.specs.Containers.{NestedEntry, StatementEnters, ElseIfEnters, ElseEnters, CaseArmEnters, MemberEnters, with_entry, has_else}
+use Rattle.vast_print.specs.Emits.{Emits}
+use Rattle.vast_print.specs.Layout.{IsFileText, layout}
 use Rattle.vast_core.proofs.Lists.{slice_get-seam, length-changed_at}
 use Rattle.vast_core.proofs.Nests.{kind-changed}
 use Rattle.vast_core.proofs.Sound.{never}
@@ -273,3 +277,7 @@ pub ruleset names = (names_after_member, names_after_parameter, names_after_port
 
 -- All of it.
 pub ruleset callers = (roots, records, containers, names)
+
+-- What `emit` answers is a file's text. A function whose contract says so of its own answer names this law.
+pub emitted_text : (file : FileTree) (text : String Global) (answer : Result (String Global) VastFault) → Emits (layout file) answer → answer ≡ Ok text → IsFileText (string_bytes text)
+emitted_text file text answer h e = let m = subst (λ (r : Result (String Global) VastFault). Emits (layout file) r) e h in (file, m.0, m.1)
