@@ -9,5 +9,5 @@ ShowsFile before after = (text : List ℕ) × IsFileText text × Appends before 
 
 -- Known bytes grow by the texts of so many files, one behind the other.
 pub data ShowsFiles (before : Option (List ℕ)) : (count : ℕ) → (after : Option (List ℕ)) → Type 0 where
-  none : ShowsFiles before 0 before
-  more : (count : ℕ) (between after : Option (List ℕ)) → ShowsFiles before count between → ShowsFile between after → ShowsFiles before (count + 1) after
+  none_shown : ShowsFiles before 0 before
+  one_more : (count : ℕ) (between after : Option (List ℕ)) → ShowsFiles before count between → ShowsFile between after → ShowsFiles before (count + 1) after
