@@ -6,7 +6,9 @@ mod program;
 use program::{fail, run};
 use std::alloc::{AllocError, Global};
 use std::env;
+use std::io::ErrorKind;
 use std::process::ExitCode;
+use vast_examples::ExampleFault;
 
 /// The words after the program's name.
 fn arguments(rt: &HostRuntime) -> std::io::Result<Vec<String>> {
@@ -30,7 +32,9 @@ fn main(rt: HostRuntime) -> ExitCode {
             Ok(words) => run(alloc, &words, &mut rt.stdout(), &mut err),
             Err(error) => fail(error, &mut err),
         },
-        Err(error) => fail(error, &mut err),
+        Err(error) if error.kind() == ErrorKind::OutOfMemory => fail(error, &mut err),
+        // A word that isn't UTF-8 names no example.
+        Err(_) => fail(ExampleFault::Unknown, &mut err),
     };
     ExitCode::from(status)
 }
