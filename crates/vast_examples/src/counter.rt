@@ -1,9 +1,9 @@
 //! A counter of eight bits with a reset: ports, a register, a conditional in an `always_ff`, an assignment.
 
-use crate::clocked::{add_branches, add_clocked, assign_branches};
+use crate::clocked::add_clocked;
 use crate::fault::ExampleFault;
 use crate::signals::drive;
-use xlsynth_vast::{Expr, LiteralFormat, VastFile, VastModule};
+use xlsynth_vast::{Expr, LiteralFormat, VastFile, VastModule, VastStatementBlock};
 
 /// The module and its signals.
 #[derive(Drop)]
@@ -44,6 +44,50 @@ fn add_signals(file: &mut VastFile) -> Result<Signals, ExampleFault> {
         count,
         value,
     })
+}
+
+/// The blocks of the conditional by the reset.
+#[derive(Drop)]
+struct Branches {
+    at_reset: VastStatementBlock,
+    otherwise: VastStatementBlock,
+}
+
+/// A conditional by the reset, with both its blocks.
+fn add_branches(
+    body: VastStatementBlock,
+    reset: Expr,
+    file: &mut VastFile,
+) -> Result<Branches, ExampleFault> {
+    if !file.owns(&body) || !file.owns(&reset) {
+        return Err(ExampleFault::Foreign);
+    }
+    let conditional = file.block_add_cond(body, &reset)?;
+    let at_reset = file.conditional_then_block(conditional);
+    let otherwise = file.conditional_add_else(conditional)?;
+    Ok(Branches {
+        at_reset,
+        otherwise,
+    })
+}
+
+/// The register takes one value at a reset, and the other one otherwise.
+fn assign_branches(
+    branches: &Branches,
+    register: Expr,
+    first: Expr,
+    next: Expr,
+    file: &mut VastFile,
+) -> Result<(), ExampleFault> {
+    if !file.owns(&branches.at_reset) || !file.owns(&branches.otherwise) {
+        return Err(ExampleFault::Foreign);
+    }
+    if !file.owns(&register) || !file.owns(&first) || !file.owns(&next) {
+        return Err(ExampleFault::Foreign);
+    }
+    file.block_add_nonblocking_assignment(branches.at_reset, &register, &first)?;
+    file.block_add_nonblocking_assignment(branches.otherwise, &register, &next)?;
+    Ok(())
 }
 
 /// One more than the value.

@@ -2,13 +2,13 @@
 
 use crate::clocked::add_clocked;
 use crate::fault::ExampleFault;
-use crate::signals::{declare_logic, drive};
+use crate::signals::{Signal, declare, drive};
 use xlsynth_vast::{Expr, VastDataType, VastFile, VastModule, VastStatementBlock};
 
 /// Adds a pipeline of `count` stages.
 ///
 /// # Errors
-/// Want of memory.
+/// `Taken` where a name is taken; want of memory.
 pub(crate) fn add_pipeline(count: usize, file: &mut VastFile) -> Result<(), ExampleFault> {
     let module = file.add_module("pipeline")?;
     let bit = file.make_scalar_type()?;
@@ -33,7 +33,7 @@ fn add_stages(
     let mut stages = Vec::new(alloc);
     for i in 0..count {
         let name = format!(in alloc; "stage_{i}")?;
-        stages.push(declare_logic(module, &name, &data_type, file)?)?;
+        stages.push(declare(Signal::Logic, module, &name, &data_type, file)?)?;
     }
     Ok(stages)
 }

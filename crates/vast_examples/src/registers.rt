@@ -4,7 +4,7 @@ ghost use Rattle.std.specs.Prelude.{IsTrue};
 ghost use Rattle.xlsynth_vast.specs.Registers.{OwnsRegister};
 
 use crate::fault::ExampleFault;
-use crate::signals::{Signal, declare, declare_logic};
+use crate::signals::{Signal, declare};
 use xlsynth_vast::helpers::{RegisterDefinition, RegisterScope, Reset, add_registers};
 use xlsynth_vast::{Expr, LiteralFormat, VastDataType, VastFile, VastModule};
 
@@ -56,7 +56,7 @@ fn add_register(
     file: &mut VastFile,
 ) -> Result<RegisterDefinition, ExampleFault> {
     let enable = declare(Signal::Input, map.module, enable, &map.bit, file)?;
-    let reg = declare_logic(map.module, name, &map.byte, file)?;
+    let reg = declare(Signal::Logic, map.module, name, &map.byte, file)?;
     let reset_value = file.make_literal(value, &LiteralFormat::Hex)?;
     Ok(RegisterDefinition {
         reg,

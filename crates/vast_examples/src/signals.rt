@@ -3,12 +3,13 @@
 use crate::fault::ExampleFault;
 use xlsynth_vast::{Expr, VastDataType, VastFile, VastModule};
 
-/// A signal whose name must be free: a port, or a wire.
+/// What is declared: a port, a wire, or a variable.
 #[derive(Clone, Copy, Drop)]
 pub(crate) enum Signal {
     Input,
     Output,
     Wire,
+    Logic,
 }
 
 /// Declares a signal of this name.
@@ -32,24 +33,9 @@ pub(crate) fn declare(
         Signal::Input => file.add_input(module, name, data_type)?,
         Signal::Output => file.add_output(module, name, data_type)?,
         Signal::Wire => file.add_wire(module, name, data_type)?,
+        Signal::Logic => file.add_logic(module, name, data_type)?,
     };
     Ok(reference.to_expr())
-}
-
-/// Declares a logic variable of this name; the call itself refuses a name that is taken.
-///
-/// # Errors
-/// `Foreign` where a handle is another file's; a name that is taken; want of memory.
-pub(crate) fn declare_logic(
-    module: VastModule,
-    name: &str,
-    data_type: &VastDataType,
-    file: &mut VastFile,
-) -> Result<Expr, ExampleFault> {
-    if !file.owns(&module) || !file.owns(data_type) {
-        return Err(ExampleFault::Foreign);
-    }
-    Ok(file.add_logic(module, name, data_type)?.to_expr())
 }
 
 /// The signal is assigned the value at all times.

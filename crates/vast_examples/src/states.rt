@@ -1,8 +1,8 @@
 //! A machine of four states: a `case` over its state, its register, and an output by a function.
 
-use crate::clocked::{add_branches, add_clocked, assign_branches};
 use crate::fault::ExampleFault;
-use crate::signals::{Signal, declare, declare_logic, drive};
+use crate::signals::{Signal, declare, drive};
+use xlsynth_vast::helpers::{RegisterDefinition, RegisterScope, Reset, add_registers};
 use xlsynth_vast::{
     CaseStatement, Expr, LiteralFormat, VastDataType, VastFile, VastFunction, VastModule,
 };
@@ -34,9 +34,7 @@ pub(crate) fn add_states(file: &mut VastFile) -> Result<(), ExampleFault> {
     add_arm(case, states.load, next, states.work, file)?;
     add_arm(case, states.work, next, states.done, file)?;
     add_arm(case, states.done, next, states.idle, file)?;
-    let body = add_clocked(machine.module, machine.clock, file)?;
-    let branches = add_branches(body, machine.reset, file)?;
-    assign_branches(&branches, machine.state, states.idle, next, file)?;
+    add_state_register(&machine, states.idle, file)?;
     let is_busy = add_is_busy(machine.module, file)?;
     fill_is_busy(is_busy, &machine.state_type, states.idle, file)?;
     let call = call_is_busy(machine.state, file)?;
@@ -51,8 +49,8 @@ fn add_machine(file: &mut VastFile) -> Result<Machine, ExampleFault> {
     let reset = declare(Signal::Input, module, "rst", &bit, file)?;
     let go = declare(Signal::Input, module, "go", &bit, file)?;
     let busy = declare(Signal::Output, module, "busy", &bit, file)?;
-    let state = declare_logic(module, "state", &state_type, file)?;
-    let next = declare_logic(module, "next", &state_type, file)?;
+    let state = declare(Signal::Logic, module, "state", &state_type, file)?;
+    let next = declare(Signal::Logic, module, "next", &state_type, file)?;
     Ok(Machine {
         module,
         state_type,
@@ -119,6 +117,33 @@ fn add_arm(
     }
     let arm = file.case_add_item(case, &label)?;
     file.block_add_blocking_assignment(arm, &next, &value)?;
+    Ok(())
+}
+
+/// The state is the next one at each edge of the clock, and the idle one at a reset.
+fn add_state_register(
+    machine: &Machine,
+    idle: Expr,
+    file: &mut VastFile,
+) -> Result<(), ExampleFault> {
+    if !file.owns(&machine.module) || !file.owns(&machine.clock) || !file.owns(&machine.reset) {
+        return Err(ExampleFault::Foreign);
+    }
+    if !file.owns(&machine.state) || !file.owns(&machine.next) || !file.owns(&idle) {
+        return Err(ExampleFault::Foreign);
+    }
+    let register = RegisterDefinition {
+        reg: machine.state,
+        next: machine.next,
+        reset_value: Some(idle),
+        enable: None,
+    };
+    let reset = Reset {
+        signal: machine.reset,
+        active_low: false,
+    };
+    let scope = RegisterScope::Module(machine.module);
+    add_registers(&machine.clock, Some(reset), &[register], scope, file)?;
     Ok(())
 }
 
