@@ -1,7 +1,8 @@
--- A written number has no line break.
-use Rattle.std.proofs.Common.{◌≡◌, ℕ, zero, suc, ◌+◌, ◌/◌, ◌%◌, ℤ, pos, negsuc, Bool, true, false, eqb, cond, sym, append_assoc, append-nil, List, [], ◌∷◌, ◌++◌, refl, ◌∙◌, ap, arith}
+-- A written number has no line break, and one of two digits is written digit by digit.
+use Rattle.std.proofs.Common.{◌≡◌, ℕ, zero, suc, ◌+◌, ◌/◌, ◌%◌, ◌<◌, ◌≤◌, ℤ, pos, negsuc, Bool, true, false, eqb, cond, sym, append_assoc, append-nil, List, [], ◌∷◌, ◌++◌, refl, ◌∙◌, ap, arith}
 use Rattle.std.specs.Prelude.{nat_lt, ◌==◌, if◌then◌else◌}
 use Rattle.std.specs.Fmt.{digits, digits_onto, digit_glyph, decimal, signed_decimal}
+use Rattle.std.proofs.lemmas.Fmt.{decimal_digit, decimal_step}
 use Rattle.vast_print.specs.Printed.{plain_text}
 use Rattle.vast_print.specs.Page.{written}
 use Rattle.vast_print.specs.Draft.{Draft}
@@ -82,3 +83,16 @@ onto-number k j z u e f =
 
 pub pour-number : (d : ℕ) (k : Ink) (z : ℤ) → pour d k (written (plain_text (signed_decimal z))) ≡ word k (signed_decimal z)
 pour-number d k z = pour-word d k (signed_decimal z) (signed-unbroken z)
+
+-- short numbers
+
+pub one-digit : (n : ℕ) → n < 10 → decimal n ≡ (48 + n) ∷ []
+one-digit n h = decimal_digit n h
+
+two-digits : (n : ℕ) → 10 ≤ n → n < 100 → decimal n ≡ decimal (n / 10) ++ decimal (n % 10)
+two-digits n h k = decimal_step n h (omega (arith, k)) ∙ ap (λ x. decimal (n / 10) ++ x) (sym (decimal_digit (n % 10) (omega arith)))
+
+pub behind-first-digit : (w : List ℕ) (n : ℕ) → 10 ≤ n → n < 100 → (w ++ decimal (n / 10)) ++ decimal (n % 10) ≡ w ++ decimal n
+behind-first-digit w n h k = append_assoc w (decimal (n / 10)) (decimal (n % 10)) ∙ ap (λ x. w ++ x) (sym (two-digits n h k))
+
+pub ruleset short_numbers = (one-digit, behind-first-digit)

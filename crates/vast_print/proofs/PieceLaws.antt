@@ -186,4 +186,6 @@ pub ruleset parts = (pour-then, pour-wrapped, pour-bare, pour-word, word-stopped
 
 pub ruleset pieces = (pour-number, pour-bare)
 
+pub ruleset wholes = (pour-name, pour-bare)
+
 pub ruleset works = (text-push, weight-push, owned-pop, no-pieces-text, no-pieces-weight, no-pieces-owned, then-nothing, pour-then, pour-empty, pour-bare, pour-stopped)

@@ -19,7 +19,7 @@ use crate::writer::Writer;
 use vast_core::{Ast, Expr, ExprNode};
 
 /// Writes an expression behind the last line; what stands behind a line break goes on at the depth.
-#[tactic(auto, using(crate::proofs::PieceLaws::pieces))]
+#[tactic(auto, using(crate::proofs::PieceLaws::wholes))]
 pub(crate) fn print_expression(
     ast: &Ast,
     e: Expr,
@@ -30,7 +30,14 @@ pub(crate) fn print_expression(
     ensures { Writes (pour depth (Wet out.old) (written (expr_text (tree_of (bench ast.now) e))))
         out.new result }
 {
-    print_wrapped(ast, e, false, depth, out)
+    match ast.expr(e) {
+        // Most operands are names, and a name needs no list of pieces.
+        ExprNode::Name(text, _) => {
+            out.written(depth, text)?;
+            Ok(())
+        }
+        _ => print_wrapped(ast, e, false, depth, out),
+    }
 }
 
 /// Writes an expression, in parentheses where it needs them.

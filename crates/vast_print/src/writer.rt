@@ -1,7 +1,7 @@
 //! Writes lines with depths into one growing text.
 
-ghost use Rattle.std.specs.Prelude.{◌≡◌, ◌++◌, ◌*◌, [], replicate, OnOk, IfOk, string_bytes};
-ghost use Rattle.std.specs.Fmt.{signed_decimal};
+ghost use Rattle.std.specs.Prelude.{◌≡◌, ◌++◌, ◌*◌, ◌<◌, [], replicate, OnOk, IfOk, string_bytes};
+ghost use Rattle.std.specs.Fmt.{decimal, signed_decimal};
 ghost use Rattle.vast_print.specs.Printed.{plain_text};
 ghost use Rattle.vast_print.specs.Page.{line, written, commented};
 ghost use Rattle.vast_print.specs.Draft.{unwritten, whole};
@@ -52,7 +52,7 @@ impl Writer {
         ensures { OnOk result (next depth (Wet self.old) ≡ Wet self.new) }
     {
         if self.begun {
-            self.text.push_str("\n")?;
+            self.text.push('\n')?;
         }
         self.depth = depth;
         self.fresh = true;
@@ -168,7 +168,7 @@ impl Writer {
     {
         let mut whole = self.text;
         if self.begun {
-            whole.push_str("\n")?;
+            whole.push('\n')?;
         }
         Ok(whole)
     }
@@ -191,9 +191,41 @@ fn indent(depth: usize, text: &mut String) -> Result<(), AllocError>
     Ok(())
 }
 
+/// Writes a number in decimal behind a text.
 fn push_number(number: i64, text: &mut String) -> Result<(), AllocError>
     ensures { OnOk result (string_bytes text.new ≡ string_bytes text.old ++ signed_decimal number) }
 {
-    write!(text, "{number}")?;
-    Ok(())
+    match u64::try_from(number) {
+        Ok(natural) => push_natural(natural, text),
+        Err(_) => {
+            write!(text, "{number}")?;
+            Ok(())
+        }
+    }
+}
+
+/// Writes a number of one or two digits without a formatter, which takes ten times as long: most
+/// indices are as short.
+#[tactic(auto, using(crate::proofs::NumberLaws::short_numbers))]
+fn push_natural(number: u64, text: &mut String) -> Result<(), AllocError>
+    ensures { OnOk result (string_bytes text.new ≡ string_bytes text.old ++ decimal number) }
+{
+    if number < 10 {
+        push_digit(number, text)
+    } else if number < 100 {
+        push_digit(number / 10, text)?;
+        push_digit(number % 10, text)
+    } else {
+        write!(text, "{number}")?;
+        Ok(())
+    }
+}
+
+#[inline(always)]
+#[tactic(auto, using(crate::proofs::NumberLaws::short_numbers))]
+fn push_digit(digit: u64, text: &mut String) -> Result<(), AllocError>
+    requires { digit < 10 }
+    ensures { OnOk result (string_bytes text.new ≡ string_bytes text.old ++ decimal digit) }
+{
+    text.push((b'0' + digit as u8) as char)
 }
