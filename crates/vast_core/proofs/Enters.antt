@@ -1,5 +1,5 @@
 -- What calls that grow a container know: what comes, and the entry that names it, are the file's.
-use Rattle.std.proofs.Common.{◌≡◌, suc, ◌<◌, true, false, List, [], ◌∷◌, ◌++◌, length, Option, Some, None, slice_get, refl, arith}
+use Rattle.std.proofs.Common.{◌≡◌, suc, ◌<◌, true, false, List, [], ◌∷◌, ◌++◌, length, Option, Some, None, slice_get, refl, arith, length-append}
 use Rattle.std.specs.Prelude.{IfSome}
 use Rattle.vast_core.specs.declared.handle.Expr.{Expr}
 use Rattle.vast_core.specs.declared.handle.VastStatementBlock.{VastStatementBlock}
@@ -10,7 +10,7 @@ use Rattle.vast_literal.specs.declared.kind.CaseKind.{CaseKind}
 use Rattle.vast_core.specs.declared.node.Assignment.{Assignment}
 use Rattle.vast_core.specs.Handles.{block_index, conditional_index, case_index, loop_index}
 use Rattle.vast_core.specs.Nests.{StatementEntry, AssignStatement, ContinuousStatement, ConditionalStatement, CasesStatement, BlockRecord, is_block_kind, is_conditional_kind, is_case_kind, is_loop_kind}
-use Rattle.vast_core.specs.Bench.{Bench, OwnsExpr, OwnsBlock, OwnsConditional, OwnsCase, OwnsLoop}
+use Rattle.vast_core.specs.Bench.{Bench, OwnsExpr, OwnsBlock, OwnsConditional, OwnsCase, OwnsLoop, OwnsStatement}
 use Rattle.vast_core.specs.Growth.{with_assignment, next_id}
 use Rattle.vast_core.specs.Artifacts.{next_statement}
 use Rattle.vast_core.specs.Parents.{held_by_statement}
@@ -19,7 +19,7 @@ use Rattle.vast_core.specs.Containers.{InNest, StatementEnters, ElseIfEnters, El
 use Rattle.vast_core.proofs.Lists.{slice_get-seam}
 use Rattle.vast_core.proofs.Nests.{kind-there}
 use Rattle.vast_core.proofs.Sound.{never}
-use Rattle.vast_core.proofs.RecordLaws.{next_statement_owned}
+use Rattle.vast_core.proofs.Terms.{last-test}
 
 pub nothing-comes : (b c : Bench) → FreshSound b c no_fresh
 nothing-comes b c = record { terms = tt; port = tt; fresh_module = tt; definition = tt; artifact = tt; instance = tt; assignment = tt; container = tt; function = tt; always_block = tt }
@@ -85,6 +85,9 @@ statement-enters b owner s h k none = record { fresh = nothing-comes b b; listin
 
 assignment-comes : (b : Bench) (a : Assignment) → AssignmentSound b a → FreshSound b (with_assignment a b) (fresh_assignment a)
 assignment-comes b a h = record { terms = tt; port = tt; fresh_module = tt; definition = tt; artifact = tt; instance = tt; assignment = h; container = tt; function = tt; always_block = tt }
+
+next_statement_owned : (b : Bench) (a : Assignment) → OwnsStatement (with_assignment a b) (next_statement b)
+next_statement_owned b a = record { of_file = refl; of_kind = rw (length-append b.assignments (a ∷ [])) (last-test (length b.assignments)) }
 
 pub assignment-enters :
     (b : Bench) (owner : VastStatementBlock) (a : Assignment) → OwnsBlock b owner → AssignmentSound b a →

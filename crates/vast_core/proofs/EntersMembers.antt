@@ -1,6 +1,6 @@
 -- What calls that add always blocks, loops, conditionals and functions know: what comes, and the member that names it,
 -- are the file's.
-use Rattle.std.proofs.Common.{◌≡◌, ℕ, suc, false, List, [], ◌∷◌, length, Option, Some, All, String, string_bytes, refl, arith, length-append}
+use Rattle.std.proofs.Common.{◌≡◌, ℕ, false, List, [], ◌∷◌, length, Option, Some, All, String, string_bytes, refl, arith, length-append}
 use Rattle.std.specs.Prelude.{IfSome}
 use Rattle.std.specs.declared.alloc.Global.{Global}
 use Rattle.vast_literal.specs.Tree.{NameTree, MaybeType, Untyped, Typed}
@@ -16,16 +16,12 @@ use Rattle.vast_core.specs.Records.{FunctionEntry}
 use Rattle.vast_core.specs.Nests.{BlockRecord, VariableRecord}
 use Rattle.vast_core.specs.Bench.{Bench, NameIsFree, OwnsExpr, OwnsType, OwnsBlock, OwnsModule, OwnsLoop, OwnsAlways, OwnsFunction, OwnsLogicRef, OwnsContinuous, type_of}
 use Rattle.vast_core.specs.Growth.{with_named_member, next_logic_ref, next_continuous, with_assignment}
-use Rattle.vast_core.specs.Sound.{Each, EventSound}
+use Rattle.vast_core.specs.Sound.{EventSound}
 use Rattle.vast_core.specs.Containers.{after_growth, InModule, with_fresh, GrowthSound, FreshSound, next_block}
 use Rattle.vast_core.specs.Loops.{with_function, next_always, next_loop, next_function, new_always, with_always, fresh_always, new_loop, fresh_name, fresh_loop, new_function, fresh_function}
-use Rattle.vast_core.proofs.Lists.{slice_get-seam}
+use Rattle.vast_core.proofs.Lists.{slice_get-seam, Each-own}
 use Rattle.vast_core.proofs.NodeLaws.{Extends-root, HasExpr-kept, HasType-kept}
 use Rattle.vast_core.proofs.Terms.{last-test}
-
-pub Each-own : {A : Type 0} (P : A → Type 0) (xs : List A) → All P xs → Each P xs
-Each-own P [] h = tt
-Each-own P (x ∷ xs) h = (h 0 x (omega arith), Each-own P xs (λ k d below. h (suc k) d (omega arith)))
 
 -- Always blocks.
 

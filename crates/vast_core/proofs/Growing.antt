@@ -1,5 +1,5 @@
 -- What a file holds, and that it stays sound, after a growth: nodes that come, and the entry that names them.
-use Rattle.std.proofs.Common.{◌≡◌, ℕ, ◌<◌, ◌≤◌, Bool, true, false, IsTrue, nat_lt, List, [], ◌∷◌, ◌++◌, length, map, Option, Some, None, slice_get, refl, sym, ap, ◌∙◌, arith, length-append, subst}
+use Rattle.std.proofs.Common.{◌≡◌, ℕ, ◌<◌, Bool, true, false, List, [], ◌∷◌, ◌++◌, length, map, Option, Some, None, slice_get, refl, sym, ap, ◌∙◌, arith, subst}
 use Rattle.std.specs.Prelude.{IfSome}
 use Rattle.std.proofs.lemmas.List.{length-map}
 use Rattle.vast_core.specs.declared.handle.VastStatementBlock.{VastStatementBlock}
@@ -24,32 +24,18 @@ use Rattle.vast_core.specs.Containers.{NestedEntry, StatementEnters, ElseIfEnter
 use Rattle.vast_core.specs.Arrivals.{ListingThere, fresh_node, fresh_of, terms_of}
 use Rattle.vast_core.specs.declared.ast.arrivals.Arrivals.{Arrivals}
 use Rattle.vast_core.proofs.Readers.{module-below, length-nests}
-use Rattle.vast_core.proofs.Lists.{slice_get-append, length-changed_at, Each-push, Each-changed_at, Each-changed_there}
+use Rattle.vast_core.proofs.Lists.{length-changed_at, Each-push, Each-changed_at, Each-changed_there}
 use Rattle.vast_core.proofs.NodeLaws.{Extends-same, Extends-built, built-append, TermsSound-append}
-use Rattle.vast_core.proofs.Nests.{get-before, changed-before, kind-changed, nests-push, nests-changed}
-use Rattle.vast_core.proofs.Sound.{Grows, carried, OwnsPort-kept, MemberSound-kept, ParameterPortSound-kept, EntrySound-kept, VariableSound-kept, StatementSound-kept, ElseIfSound-kept, block-kept, CaseArmSound-kept, LoopMemberSound-kept, nest-kept, never}
+use Rattle.vast_core.proofs.Nests.{entry-kind, get-before, changed-before, kind-changed, nests-push, nests-changed}
+use Rattle.vast_core.proofs.Sound.{Grows, carried, port_stays, MemberSound-kept, ParameterPortSound-kept, EntrySound-kept, VariableSound-kept, StatementSound-kept, ElseIfSound-kept, block-kept, CaseArmSound-kept, LoopMemberSound-kept, nest-kept, never}
+use Rattle.vast_core.proofs.Added.{added-get, length-added, Each-added, get-added}
+use Rattle.vast_core.proofs.NestReaders.{function-below}
 use Rattle.vast_core.proofs.FreeNames.{gains-variable, taken-after}
-use Rattle.vast_core.proofs.OneParent.{HasOneParent-growth}
+use Rattle.vast_core.proofs.OneParent.{HasOneParent-growth, length-functions}
 use Rattle.vast_core.proofs.ModuleNames.{names-fresh, names-listing}
 use Rattle.vast_core.proofs.KindsKept.{KindsSound-fresh, KindsSound-listing}
 
 -- An element more, or none.
-
-added-get : {A : Type 0} (xs : List A) (o : Option A) (i : ℕ) (x : A) → slice_get xs i ≡ Some x → slice_get (added xs o) i ≡ Some x
-added-get xs None i x h = h
-added-get xs (Some y) i x h = slice_get-append xs (y ∷ []) i x h
-
-length-added : {A : Type 0} (xs : List A) (o : Option A) → length xs ≤ length (added xs o)
-length-added xs None = omega arith
-length-added xs (Some y) = omega (arith, length-append xs (y ∷ []))
-
-Each-added : {A : Type 0} (P : A → Type 0) (xs : List A) (o : Option A) → Each P xs → IfSome o P → Each P (added xs o)
-Each-added P xs None h k = h
-Each-added P xs (Some y) h k = Each-push P xs y h k
-
-get-added : {A : Type 0} (xs : List A) (o : Option A) (i : ℕ) → i < length xs → slice_get (added xs o) i ≡ slice_get xs i
-get-added xs None i below = refl
-get-added xs (Some y) i below = get-before xs (y ∷ []) i below
 
 get-with_block : (block : Bool) (ns : List NestRecord) (i : ℕ) → i < length ns → slice_get (with_empty_block block ns) i ≡ slice_get ns i
 get-with_block false ns i below = refl
@@ -119,28 +105,6 @@ RecordsSound-fresh b f s h =
 
 -- A new entry of a container.
 
-entry-kind : (e : NestedEntry) (n : NestRecord) → nest_kind (Some (with_entry e n)) ≡ nest_kind (Some n)
-entry-kind (StatementEnters s) (BlockRecord ss) = refl
-entry-kind (StatementEnters s) (ConditionalNestRecord c) = refl
-entry-kind (StatementEnters s) (CaseNestRecord c) = refl
-entry-kind (StatementEnters s) (LoopNestRecord l) = refl
-entry-kind (ElseIfEnters a) (BlockRecord ss) = refl
-entry-kind (ElseIfEnters a) (ConditionalNestRecord c) = refl
-entry-kind (ElseIfEnters a) (CaseNestRecord c) = refl
-entry-kind (ElseIfEnters a) (LoopNestRecord l) = refl
-entry-kind (ElseEnters x) (BlockRecord ss) = refl
-entry-kind (ElseEnters x) (ConditionalNestRecord c) = refl
-entry-kind (ElseEnters x) (CaseNestRecord c) = refl
-entry-kind (ElseEnters x) (LoopNestRecord l) = refl
-entry-kind (CaseArmEnters a) (BlockRecord ss) = refl
-entry-kind (CaseArmEnters a) (ConditionalNestRecord c) = refl
-entry-kind (CaseArmEnters a) (CaseNestRecord c) = refl
-entry-kind (CaseArmEnters a) (LoopNestRecord l) = refl
-entry-kind (MemberEnters m) (BlockRecord ss) = refl
-entry-kind (MemberEnters m) (ConditionalNestRecord c) = refl
-entry-kind (MemberEnters m) (CaseNestRecord c) = refl
-entry-kind (MemberEnters m) (LoopNestRecord l) = refl
-
 entry-sound : (b : Bench) (i : ℕ) (e : NestedEntry) → EntersSound b i e → (n : NestRecord) → NestSound b i n → NestSound b i (with_entry e n)
 entry-sound b i (StatementEnters s) h (BlockRecord ss) k = Each-push _ ss s k h
 entry-sound b i (StatementEnters s) h (ConditionalNestRecord c) k = k
@@ -182,16 +146,6 @@ modules-count (InFunction f local v) ms = refl
 modules-count (InNest place entry) ms = refl
 modules-count (AsSpare block) ms = refl
 
-functions-count : (l : Listing) (fs : List FunctionRecord) → length (listed_functions l fs) ≡ length fs
-functions-count (InFunction f local v) fs = length-changed_at (with_listed_variable local v) fs (function_index f)
-functions-count Nowhere fs = refl
-functions-count (InFile entry) fs = refl
-functions-count (InHeader owner p) fs = refl
-functions-count (InPorts owner port name) fs = refl
-functions-count (InModule owner entry name) fs = refl
-functions-count (InNest place entry) fs = refl
-functions-count (AsSpare block) fs = refl
-
 nests-kinds : (l : Listing) (ns : List NestRecord) (i : ℕ) → nest_kind (slice_get (listed_nests l ns) i) ≡ nest_kind (slice_get ns i)
 nests-kinds (InNest place entry) ns i = kind-changed (with_entry entry) (entry-kind entry) ns place i
 nests-kinds Nowhere ns i = refl
@@ -213,7 +167,7 @@ Grows-listing b l =
       artifacts = λ i a h. h;
       instances = omega arith;
       nests = λ i below. nests-kinds l b.nests i;
-      functions = omega (arith, functions-count l b.functions);
+      functions = omega (arith, length-functions l b.functions);
       always_blocks = λ i a h. h;
     }
 
@@ -227,7 +181,7 @@ member-sound b entry (Some name) h x k = record { parameters = k.parameters; por
 listing-modules : (b c d : Bench) (l : Listing) → Grows c d → ListingSound b c l → (ms : List ModuleRecord) → Each (ModuleSound d) ms → Each (ModuleSound d) (listed_modules l ms)
 listing-modules b c d (InHeader owner p) g h ms k = Each-changed_at (ModuleSound d) (with_parameter_port p) (header-sound d p (ParameterPortSound-kept c d g p h.1)) ms (module_index owner) k
 listing-modules b c d (InPorts owner port name) g h ms k =
-    Each-changed_at (ModuleSound d) (with_port port name) (λ x e. record { parameters = e.parameters; ports = Each-push (OwnsPort d) x.ports port e.ports (OwnsPort-kept c d g port h.port_there); members = e.members }) ms (module_index owner) k
+    Each-changed_at (ModuleSound d) (with_port port name) (λ x e. record { parameters = e.parameters; ports = Each-push (OwnsPort d) x.ports port e.ports (port_stays c d g port h.port_there); members = e.members }) ms (module_index owner) k
 listing-modules b c d (InModule owner entry name) g h ms k = Each-changed_at (ModuleSound d) (with_listed entry name) (member-sound d entry name (MemberSound-kept c d g entry h.member)) ms (module_index owner) k
 listing-modules b c d Nowhere g h ms k = k
 listing-modules b c d (InFile entry) g h ms k = k
@@ -516,16 +470,6 @@ admitted b z l y n1 n2 m1 f1 there file_type id t x p q r ports m modules f func
     }
 
 -- The list that gains the entry is there.
-
-length-functions : (a b : Raw) → b ≡ a → length (bench a).functions ≡ length b.functions
-unfolding bench
-length-functions a b e = rw (← e) (simp length-map)
-
-function-below : (a b : Raw) (i : ℕ) → b ≡ a → IsTrue (nat_lt i (length (bench a).functions)) → i < length b.functions
-function-below a b i e h =
-    let counted = length-functions a b e in
-    let k : i < length (bench a).functions = grind (arith, h) in
-    omega (arith, counted, k)
 
 listing-there : (a b : Raw) (c : Bench) (l : Listing) → b ≡ a → ListingSound (bench a) c l → ListingThere (length b.modules) (length b.nests) (length b.functions) l
 listing-there a b c Nowhere e h = tt

@@ -10,15 +10,12 @@ use Rattle.vast_core.specs.Functions.{with_listed_variable}
 use Rattle.vast_core.specs.Hoisting.{with_members_hoisted, with_hoisted}
 use Rattle.vast_core.specs.WrittenKinds.{IsVariableKind, HasOwnKind, HasLocalKind}
 use Rattle.vast_core.specs.Sound.{Each, DeclaresOwnKinds, HasLocalKinds, GivesValues, KindsSound}
-use Rattle.vast_core.specs.Containers.{Listing, Nowhere, InFile, InHeader, InPorts, InModule, InFunction, InNest, AsSpare, with_listed, with_listing, added, with_fresh, Fresh, FreshSound, ComesEmpty, FunctionComes, InstanceComes, ListingSound}
+use Rattle.vast_core.specs.Containers.{Listing, Nowhere, InFile, InHeader, InPorts, InModule, InFunction, InNest, AsSpare, with_listed, with_listing, with_fresh, Fresh, FreshSound, ComesEmpty, FunctionComes, InstanceComes, ListingSound}
 use Rattle.vast_core.proofs.Lists.{Each-push, Each-changed_at}
+use Rattle.vast_core.proofs.Added.{Each-added}
 use Rattle.vast_core.proofs.Hoisting.{Each-hoisted}
 
 -- New nodes.
-
-Each-added : {A : Type 0} (P : A → Type 0) (xs : List A) (o : Option A) → Each P xs → IfSome o P → Each P (added xs o)
-Each-added P xs None h k = h
-Each-added P xs (Some y) h k = Each-push P xs y h k
 
 module-kinds : (c : Bench) (o : Option ModuleRecord) → IfSome o (ComesEmpty c) → IfSome o DeclaresOwnKinds
 module-kinds c None h = tt

@@ -1,6 +1,6 @@
 -- What callers cite after a call that makes something.
-use Rattle.std.proofs.Common.{◌≡◌, ℕ, Bool, IsTrue, List, All, Option, Some, None, slice_get, refl}
-use Rattle.vast_literal.specs.Tree.{ExprTree, TypeTree, MaybeType, MaybeExprs, NameTree, IndexTree, SliceTree, MacroTree}
+use Rattle.std.proofs.Common.{◌≡◌, Bool, List, All, slice_get, refl}
+use Rattle.vast_literal.specs.Tree.{ExprTree, TypeTree}
 use Rattle.vast_core.specs.declared.handle.Id.{Id}
 use Rattle.vast_core.specs.declared.handle.Expr.{Expr}
 use Rattle.vast_core.specs.declared.handle.IndexableExpr.{IndexableExpr}
@@ -12,11 +12,11 @@ use Rattle.vast_core.specs.declared.handle.ParameterRef.{ParameterRef}
 use Rattle.vast_core.specs.declared.handle.LocalparamRef.{LocalparamRef}
 use Rattle.vast_core.specs.declared.handle.VastDataType.{VastDataType}
 use Rattle.vast_core.specs.Handles.{logic_ref_to_expr, indexable_expr_to_expr, slice_to_expr, index_to_expr, parameter_ref_to_expr, localparam_ref_to_expr, macro_ref_to_expr, logic_ref_to_indexable_expr, index_to_indexable_expr, parameter_ref_to_indexable_expr, expr_to_indexable_expr}
-use Rattle.vast_core.specs.Nodes.{Root, ExprRoot, TypeRoot, IsOwned, is_expr_root, is_root_of, is_name, is_index, is_slice, is_macro, expr_in, type_in}
+use Rattle.vast_core.specs.Nodes.{Root, ExprRoot, TypeRoot, IsOwned, is_name, is_index, is_slice, is_macro, expr_in, type_in}
 use Rattle.vast_core.specs.Bench.{Bench, OwnsExpr, OwnsIndexable, OwnsType, OwnsIndex, OwnsSlice, OwnsMacroRef, OwnsLogicRef, OwnsParameterRef, OwnsLocalparamRef, has_root, tree_of, trees_of, type_of}
-use Rattle.vast_core.specs.Growth.{with_root, with_expr, with_type, next_expr, next_type, next_index, next_slice, next_macro_ref, next_logic_ref}
+use Rattle.vast_core.specs.Growth.{with_root, with_expr, with_type, next_expr, next_type}
 use Rattle.vast_core.proofs.Lists.{slice_get-seam, All-implies}
-use Rattle.vast_core.proofs.NodeLaws.{Extends-root, HasExpr-kept, HasType-kept, expr_in-kept, type_in-kept, exprs-kept}
+use Rattle.vast_core.proofs.NodeLaws.{some_expr, Extends-root, HasExpr-kept, HasType-kept, expr_in-kept, type_in-kept, exprs-kept}
 
 pub next_owned : (b : Bench) (e : ExprTree) → OwnsExpr (with_expr e b) (next_expr b)
 next_owned b e = record { of_file = refl; of_kind = rw (slice_get-seam b.nodes.roots (ExprRoot e)) refl }
@@ -56,41 +56,7 @@ old_trees b r es h = exprs-kept b.nodes (with_root b r).nodes (Extends-root b.no
 
 pub ruleset older_terms = (old_owned, old_tree, old_type_owned, old_type, all_old_owned, old_trees)
 
--- Handles of their own kind.
-
-pub next_index_owned : (b : Bench) (subject index : ExprTree) → OwnsIndex (with_expr (IndexTree subject index) b) (next_index b)
-next_index_owned b subject index = record { of_file = refl; of_kind = rw (slice_get-seam b.nodes.roots (ExprRoot (IndexTree subject index))) refl }
-
-pub next_index_tree : (b : Bench) (e : ExprTree) → tree_of (with_expr e b) (index_to_expr (next_index b)) ≡ e
-next_index_tree b e = next_tree b e
-
-pub next_slice_owned : (b : Bench) (subject high low : ExprTree) → OwnsSlice (with_expr (SliceTree subject high low) b) (next_slice b)
-next_slice_owned b subject high low = record { of_file = refl; of_kind = rw (slice_get-seam b.nodes.roots (ExprRoot (SliceTree subject high low))) refl }
-
-pub next_slice_tree : (b : Bench) (e : ExprTree) → tree_of (with_expr e b) (slice_to_expr (next_slice b)) ≡ e
-next_slice_tree b e = next_tree b e
-
-pub next_macro_ref_owned : (b : Bench) (name : List ℕ) (arguments : MaybeExprs) → OwnsMacroRef (with_expr (MacroTree name arguments) b) (next_macro_ref b)
-next_macro_ref_owned b name arguments = record { of_file = refl; of_kind = rw (slice_get-seam b.nodes.roots (ExprRoot (MacroTree name arguments))) refl }
-
-pub next_macro_ref_tree : (b : Bench) (e : ExprTree) → tree_of (with_expr e b) (macro_ref_to_expr (next_macro_ref b)) ≡ e
-next_macro_ref_tree b e = next_tree b e
-
-pub next_logic_ref_owned : (b : Bench) (name : List ℕ) (type : MaybeType) → OwnsLogicRef (with_expr (NameTree name type) b) (next_logic_ref b)
-next_logic_ref_owned b name type = record { of_file = refl; of_kind = rw (slice_get-seam b.nodes.roots (ExprRoot (NameTree name type))) refl }
-
-pub next_logic_ref_tree : (b : Bench) (e : ExprTree) → tree_of (with_expr e b) (logic_ref_to_expr (next_logic_ref b)) ≡ e
-next_logic_ref_tree b e = next_tree b e
-
--- For callers: what a call answers is the file's then.
-pub ruleset next_handles = (next_index_owned, next_index_tree, next_slice_owned, next_slice_tree, next_macro_ref_owned, next_macro_ref_tree, next_logic_ref_owned, next_logic_ref_tree)
-
 -- A handle of a kind of its own is one of an expression.
-
-some_expr : (shape : ExprTree → Bool) (o : Option Root) → IsTrue (is_root_of shape o) → IsTrue (is_expr_root o)
-some_expr shape None h = cc
-some_expr shape (Some (ExprRoot e)) h = refl
-some_expr shape (Some (TypeRoot t)) h = cc
 
 as_expr : (shape : ExprTree → Bool) (b : Bench) (id : Id) → IsOwned b.nodes.id id (has_root shape b id.index) → OwnsExpr b (record { id = id })
 as_expr shape b id h = record { of_file = h.of_file; of_kind = some_expr shape (slice_get b.nodes.roots id.index) h.of_kind }
@@ -129,5 +95,3 @@ pub parameter_ref_is_indexable : (b : Bench) (r : ParameterRef) → OwnsParamete
 parameter_ref_is_indexable b r h = as_expr is_name b r.id h
 
 pub ruleset conversions = (indexable_is_expr, expr_is_indexable, index_is_expr, slice_is_expr, macro_ref_is_expr, logic_ref_is_expr, parameter_ref_is_expr, localparam_ref_is_expr, index_is_indexable, logic_ref_is_indexable, parameter_ref_is_indexable)
-
--- Handles of a kind of their own stay the file's.

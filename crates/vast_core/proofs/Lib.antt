@@ -13,9 +13,9 @@ pub mod Parting
 pub mod Hoisting
 pub mod Laws
 pub mod Fixed
-pub mod RecordLaws
 pub mod Counts
 pub mod OneParent
+pub mod Added
 pub mod ModuleNames
 pub mod KindsKept
 pub mod Growing

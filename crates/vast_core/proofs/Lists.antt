@@ -1,5 +1,5 @@
 -- Laws of lists: reading behind an append, changing one element, facts of each element.
-use Rattle.std.proofs.Common.{zero, suc, get_or, ◌≡◌, ℕ, ◌<◌, ◌≤◌, List, [], ◌∷◌, ◌++◌, length, Some, None, slice_get, All, refl, sym, ap, arith, map}
+use Rattle.std.proofs.Common.{zero, suc, get_or, ◌≡◌, ℕ, ◌<◌, ◌≤◌, IsTrue, nat_lt, List, [], ◌∷◌, ◌++◌, length, Some, None, slice_get, All, refl, sym, ap, arith, map}
 use Rattle.std.proofs.Math.ListN.{set}
 use Rattle.vast_core.specs.Records.{changed_at}
 use Rattle.vast_core.specs.Sound.{Each}
@@ -28,6 +28,23 @@ pub slice_get-past : {A : Type 0} (xs : List A) (i : ℕ) → length xs ≤ i �
 slice_get-past [] i past = refl
 slice_get-past (y ∷ xs) zero past = absurd (omega arith)
 slice_get-past (y ∷ xs) (suc i) past = slice_get-past xs i (omega arith)
+
+pub none-past : {A : Type 0} (xs : List A) (i : ℕ) → slice_get xs i ≡ None → length xs ≤ i
+none-past [] i e = omega arith
+none-past (x ∷ xs) zero e = cc
+none-past (x ∷ xs) (suc i) e = omega (arith, none-past xs i e)
+
+-- Indices and lengths.
+
+pub below-of : (i n : ℕ) → IsTrue (nat_lt i n) → i < n
+below-of i n h = grind arith
+
+pub below-test : (i n : ℕ) → i < n → IsTrue (nat_lt i n)
+below-test i n h = grind arith
+
+pub length-push : {A : Type 0} (xs : List A) (x : A) → length (xs ++ x ∷ []) ≡ suc (length xs)
+length-push [] x = refl
+length-push (y ∷ xs) x = ap suc (length-push xs x)
 
 -- Changing one element.
 
@@ -100,6 +117,10 @@ pub All-own : {A : Type 0} (P : A → Type 0) (xs : List A) → Each P xs → Al
 All-own P [] h k d below = absurd (omega arith)
 All-own P (x ∷ xs) h zero d below = h.0
 All-own P (x ∷ xs) h (suc k) d below = All-own P xs h.1 k d (omega arith)
+
+pub Each-own : {A : Type 0} (P : A → Type 0) (xs : List A) → All P xs → Each P xs
+Each-own P [] h = tt
+Each-own P (x ∷ xs) h = (h 0 x (omega arith), Each-own P xs (λ k d below. h (suc k) d (omega arith)))
 
 pub All-cons : {A : Type 0} (P : A → Type 0) (x : A) (xs : List A) → P x → All P xs → All P (x ∷ xs)
 All-cons P x xs p h zero d below = p

@@ -1,5 +1,5 @@
 -- The names that modules declare stay distinct, and are those that are taken, whatever grows.
-use Rattle.std.proofs.Common.{◌≡◌, ◌≢◌, ℕ, zero, suc, ◌+◌, ◌<◌, ◌≤◌, Bool, true, false, IsTrue, nat_lt, List, [], ◌∷◌, ◌++◌, length, flat_map, Option, Some, None, slice_get, refl, sym, ap, ◌∙◌, arith}
+use Rattle.std.proofs.Common.{◌≡◌, ◌≢◌, ℕ, zero, suc, ◌+◌, ◌<◌, ◌≤◌, Bool, true, false, List, [], ◌∷◌, ◌++◌, length, flat_map, Option, Some, None, slice_get, refl, sym, ap, ◌∙◌, arith}
 use Rattle.std.specs.Prelude.{IfSome}
 use Rattle.std.specs.declared.cmp.Ordering.{Ordering}
 use Rattle.std.specs.declared.cmp.Ordering.TheVariants.{Less, Equal, Greater}
@@ -17,10 +17,10 @@ use Rattle.vast_core.specs.Functions.{with_listed_variable}
 use Rattle.vast_core.specs.Hoisting.{with_members_hoisted, with_hoisted}
 use Rattle.vast_core.specs.DeclaredNames.{name_of_port, name_of_function, names_by_port, names_by_member, names_declared, times, NamesSound}
 use Rattle.vast_core.specs.Sound.{AreDistinct, Each, MemberSound, ModuleSound, RecordsSound, NamesAreSound}
-use Rattle.vast_core.specs.Containers.{Listing, Nowhere, InFile, InHeader, InPorts, InModule, InFunction, InNest, AsSpare, with_listed, listed_name, with_listing, added, Fresh, with_fresh, ListingSound}
-use Rattle.vast_core.proofs.Lists.{All-cons, All-head, All-tail, Each-push, Each-changed_at, Each-changed_there}
+use Rattle.vast_core.specs.Containers.{Listing, Nowhere, InFile, InHeader, InPorts, InModule, InFunction, InNest, AsSpare, with_listed, listed_name, with_listing, Fresh, with_fresh, ListingSound}
+use Rattle.vast_core.proofs.Lists.{below-of, All-cons, All-head, All-tail, Each-changed_at, Each-changed_there}
+use Rattle.vast_core.proofs.Added.{Each-added, get-added}
 use Rattle.vast_core.proofs.Names.{test-equal}
-use Rattle.vast_core.proofs.Nests.{get-before}
 use Rattle.vast_core.proofs.Counts.{count-append, over-push, over-hoisted}
 
 -- A name more in a set.
@@ -82,15 +82,12 @@ gained ports functions x y name more is free h =
 
 -- Other records in which the module's ports and functions have the same names.
 
-lt-of : (a b : ℕ) → IsTrue (nat_lt a b) → a < b
-lt-of a b h = grind arith
-
 ports-read :
     (b : Bench) (more : List PortRecord) → ((i : ℕ) → i < length b.ports → slice_get more i ≡ slice_get b.ports i) → (ps : List ModulePort) → Each (OwnsPort b) ps →
     flat_map (names_by_port more) ps ≡ flat_map (names_by_port b.ports) ps
 ports-read b more same [] h = refl
 ports-read b more same (p ∷ ps) h =
-    rw (same (port_index p) (lt-of (port_index p) (length b.ports) h.0.of_kind)) (ap (λ r. name_of_port (slice_get b.ports (port_index p)) ∷ r) (ports-read b more same ps h.1))
+    rw (same (port_index p) (below-of (port_index p) (length b.ports) h.0.of_kind)) (ap (λ r. name_of_port (slice_get b.ports (port_index p)) ∷ r) (ports-read b more same ps h.1))
 
 members-read :
     (b : Bench) (more : List FunctionRecord) → ((i : ℕ) → i < length b.functions → name_of_function (slice_get more i) ≡ name_of_function (slice_get b.functions i)) → (ms : List MemberEntry) →
@@ -105,7 +102,7 @@ members-read b more same (InlineEntry a ∷ ms) h = members-read b more same ms 
 members-read b more same (MacroEntry a ∷ ms) h = members-read b more same ms h.1
 members-read b more same (InstanceEntry i ∷ ms) h = members-read b more same ms h.1
 members-read b more same (FunctionEntry f ∷ ms) h =
-    rw (same (function_index f) (lt-of (function_index f) (length b.functions) h.0.of_kind)) (ap (λ r. name_of_function (slice_get b.functions (function_index f)) ∷ r) (members-read b more same ms h.1))
+    rw (same (function_index f) (below-of (function_index f) (length b.functions) h.0.of_kind)) (ap (λ r. name_of_function (slice_get b.functions (function_index f)) ∷ r) (members-read b more same ms h.1))
 members-read b more same (AlwaysEntry a ∷ ms) h = members-read b more same ms h.1
 members-read b more same (ConditionalEntry c ∷ ms) h = members-read b more same ms h.1
 members-read b more same (LoopEntry l ∷ ms) h = members-read b more same ms h.1
@@ -129,14 +126,6 @@ all-kept : (b c : Bench) → SameNames b c → (ms : List ModuleRecord) → Each
 all-kept b c same ms s h = Each-map-both (names-kept b c same) ms s h
 
 -- New nodes.
-
-get-added : {A : Type 0} (xs : List A) (o : Option A) (i : ℕ) → i < length xs → slice_get (added xs o) i ≡ slice_get xs i
-get-added xs None i below = refl
-get-added xs (Some y) i below = get-before xs (y ∷ []) i below
-
-Each-added : {A : Type 0} (P : A → Type 0) (xs : List A) (o : Option A) → Each P xs → IfSome o P → Each P (added xs o)
-Each-added P xs None h k = h
-Each-added P xs (Some y) h k = Each-push P xs y h k
 
 same-fresh : (b : Bench) (f : Fresh) → SameNames b (with_fresh f b)
 same-fresh b f = record { ports = get-added b.ports f.port; functions = λ i below. ap name_of_function (get-added b.functions f.function i below) }

@@ -13,14 +13,13 @@ use Rattle.vast_core.specs.Bench.{Bench, OwnsBlock}
 use Rattle.vast_core.specs.View.{bench}
 use Rattle.vast_core.specs.Containers.{with_unique}
 use Rattle.vast_core.specs.Sound.{FileSound, Each, EventSound, NestSound, FunctionSound, AlwaysSound, RecordsSound, IsSound}
-use Rattle.vast_core.proofs.Lists.{slice_get-map, Each-at, All-own}
+use Rattle.vast_core.proofs.Lists.{below-of, slice_get-map, Each-at, All-own}
 use Rattle.vast_core.proofs.NodeLaws.{Extends-same}
 use Rattle.vast_core.proofs.Nests.{kind-changed, nests-changed}
 use Rattle.vast_core.specs.declared.handle.VastStatementBlock.{VastStatementBlock}
 use Rattle.vast_core.specs.Nests.{is_block_kind}
 use Rattle.vast_core.proofs.OneParent.{HasOneParent-unique}
 use Rattle.vast_core.proofs.Sound.{Grows, carried, nest-kept, never}
-use Rattle.vast_core.proofs.Readers.{below-of}
 
 length-functions : (a b : Raw) → b ≡ a → length (bench a).functions ≡ length b.functions
 unfolding bench
@@ -75,7 +74,7 @@ unique-sound b i u (ConditionalNestRecord c) h = h
 unique-sound b i u (CaseNestRecord c) h = record { selector = h.selector; arms = h.arms }
 unique-sound b i u (LoopNestRecord l) h = h
 
-Grows-unique : (b : Bench) (i : ℕ) (u : Bool) → Grows b (record b { nests = changed_at i (with_unique u) b.nests })
+pub Grows-unique : (b : Bench) (i : ℕ) (u : Bool) → Grows b (record b { nests = changed_at i (with_unique u) b.nests })
 Grows-unique b i u =
     record {
       nodes = Extends-same b.nodes;

@@ -8,6 +8,7 @@ use Rattle.vast_core.specs.Handles.{block_index, conditional_index, case_index, 
 use Rattle.vast_core.specs.Records.{MemberEntry, DeclarationEntry, AssignmentEntry, ParameterEntry, BlankEntry, CommentEntry, InlineEntry, MacroEntry, InstanceEntry, FunctionEntry, AlwaysEntry, ConditionalEntry, LoopEntry, changed_at}
 use Rattle.vast_core.specs.Nests.{StatementEntry, AssignStatement, ContinuousStatement, ConditionalStatement, CasesStatement, BlankStatement, CommentStatement, InlineStatement, NestRecord, BlockRecord, ConditionalNestRecord, CaseNestRecord, LoopNestRecord, AlwaysRecord, NestKind, NoKind, nest_kind}
 use Rattle.vast_core.specs.Bench.{Bench, tree_of, maybe_tree_of, trees_of}
+use Rattle.vast_core.specs.Containers.{NestedEntry, StatementEnters, ElseIfEnters, ElseEnters, CaseArmEnters, MemberEnters, with_entry}
 use Rattle.vast_core.specs.FileTree.{Family, BlockFamily, ConditionalFamily, CaseFamily, LoopFamily, block_in, conditional_statement, case_statement, conditional_member, loop_member, statement_in, statements_in, otherwise_in, alternates_in, arms_in, always_in, member_in, members_in, family, unfolded, families}
 use Rattle.vast_literal.specs.Tree.{ElseIf as ElseIfTree, Else, CaseArm as CaseArmTree, MoreStatements, MoreMembers, CaseTree, LoopMember, AlwaysMember}
 use Rattle.vast_core.specs.Sound.{Each, HoldsBlock, StatementSound, ElseIfSound, CaseArmSound, AlwaysNewer, MemberNewer, LoopMemberSound, NestSound, NestsSound}
@@ -155,3 +156,26 @@ pub changed-before : {A : Type 0} (f : A → A) (xs ys : List A) (i : ℕ) → i
 changed-before f [] ys i h = absurd (omega arith)
 changed-before f (x ∷ xs) ys zero h = refl
 changed-before f (x ∷ xs) ys (suc i) h = ap (λ r. x ∷ r) (changed-before f xs ys i (omega arith))
+
+-- A container has the kind that it had before an entry came.
+pub entry-kind : (e : NestedEntry) (n : NestRecord) → nest_kind (Some (with_entry e n)) ≡ nest_kind (Some n)
+entry-kind (StatementEnters s) (BlockRecord ss) = refl
+entry-kind (StatementEnters s) (ConditionalNestRecord c) = refl
+entry-kind (StatementEnters s) (CaseNestRecord c) = refl
+entry-kind (StatementEnters s) (LoopNestRecord l) = refl
+entry-kind (ElseIfEnters a) (BlockRecord ss) = refl
+entry-kind (ElseIfEnters a) (ConditionalNestRecord c) = refl
+entry-kind (ElseIfEnters a) (CaseNestRecord c) = refl
+entry-kind (ElseIfEnters a) (LoopNestRecord l) = refl
+entry-kind (ElseEnters x) (BlockRecord ss) = refl
+entry-kind (ElseEnters x) (ConditionalNestRecord c) = refl
+entry-kind (ElseEnters x) (CaseNestRecord c) = refl
+entry-kind (ElseEnters x) (LoopNestRecord l) = refl
+entry-kind (CaseArmEnters a) (BlockRecord ss) = refl
+entry-kind (CaseArmEnters a) (ConditionalNestRecord c) = refl
+entry-kind (CaseArmEnters a) (CaseNestRecord c) = refl
+entry-kind (CaseArmEnters a) (LoopNestRecord l) = refl
+entry-kind (MemberEnters m) (BlockRecord ss) = refl
+entry-kind (MemberEnters m) (ConditionalNestRecord c) = refl
+entry-kind (MemberEnters m) (CaseNestRecord c) = refl
+entry-kind (MemberEnters m) (LoopNestRecord l) = refl

@@ -16,6 +16,12 @@ use Rattle.vast_core.specs.Types.{ExprFits, TypeFits, ExprWellFormed, TypeWellFo
 use Rattle.vast_core.specs.Sound.{Each}
 use Rattle.vast_core.proofs.Lists.{slice_get-append, slice_get-seam, All-head, All-tail, All-implies, Each-push, Each-get}
 
+-- A term of a shape is an expression.
+pub some_expr : (shape : ExprTree → Bool) (o : Option Root) → IsTrue (is_root_of shape o) → IsTrue (is_expr_root o)
+some_expr shape None h = cc
+some_expr shape (Some (ExprRoot e)) h = refl
+some_expr shape (Some (TypeRoot t)) h = cc
+
 -- Growing by terms.
 
 pub built-append : (b : Nodes) (ts us : List ExprNode) → built b (ts ++ us) ≡ built (built b ts) us

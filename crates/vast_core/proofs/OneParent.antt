@@ -1,5 +1,5 @@
 -- Each part of a file stands in at most one place, whatever grows.
-use Rattle.std.proofs.Common.{◌≡◌, ℕ, suc, ◌+◌, ◌≤◌, Bool, true, false, List, [], ◌∷◌, ◌++◌, length, flat_map, nat_eq, nat_lt, cond, Option, Some, None, refl, ap, arith, length-append}
+use Rattle.std.proofs.Common.{◌≡◌, ℕ, suc, ◌+◌, ◌≤◌, Bool, true, false, List, [], ◌∷◌, ◌++◌, length, flat_map, nat_eq, nat_lt, cond, Option, Some, None, refl, ap, arith}
 use Rattle.vast_core.specs.declared.handle.VastModule.{VastModule}
 use Rattle.vast_core.specs.declared.handle.CaseStatement.{CaseStatement}
 use Rattle.vast_core.specs.declared.handle.VastStatementBlock.{VastStatementBlock}
@@ -11,7 +11,7 @@ use Rattle.vast_core.specs.Functions.{with_listed_variable}
 use Rattle.vast_core.specs.Hoisting.{with_hoisted, with_members_hoisted}
 use Rattle.vast_core.specs.Containers.{NestedEntry, StatementEnters, ElseIfEnters, ElseEnters, CaseArmEnters, MemberEnters, with_entry, Listing, Nowhere, InFile, InHeader, InPorts, InModule, InFunction, InNest, AsSpare, with_listed, listed_functions, listed_nests, with_listing, added, Fresh, with_fresh, with_empty_block, spare_left, after_growth, read_off, held_by_entry, held_by_listing, held_by_fresh, made_containers, made, spare_used, with_unique, with_case_unique}
 use Rattle.vast_core.specs.Parents.{Part, ContainerPart, FunctionPart, AlwaysPart, is_same, held_by_statement, held_by_member, held_by_else_if, held_by_block, held_by_case_arm, held_by_conditional, held_by_container, held_by_function, held_by_always, held_by_module, held, places, present, HasOneParent}
-use Rattle.vast_core.proofs.Lists.{length-changed_at}
+use Rattle.vast_core.proofs.Lists.{length-changed_at, length-push}
 use Rattle.vast_core.proofs.Counts.{count-append, over-push, over-added, over-changed, over-hoisted}
 
 conditional-places :
@@ -149,26 +149,23 @@ below i n = cond (nat_lt i n) 1 0
 below-suc : (i n : ℕ) → below i (suc n) ≡ below i n + one_if i n
 below-suc i n = grind arith
 
-length-added : {A : Type 0} (xs : List A) (x : A) → length (xs ++ x ∷ []) ≡ suc (length xs)
-length-added xs x = omega (arith, length-append xs (x ∷ []))
-
 present-containers :
     (i : ℕ) (ns : List NestRecord) (o : Option NestRecord) (block : Bool) → below i (length (with_empty_block block (added ns o))) ≡ below i (length ns) + places (ContainerPart i) (made_containers (length ns) o block)
 present-containers i ns None false = omega arith
-present-containers i ns None true = let e = below-suc i (length ns) in rw (length-added ns (BlockRecord [])) (omega (arith, e))
-present-containers i ns (Some x) false = let e = below-suc i (length ns) in rw (length-added ns x) (omega (arith, e))
+present-containers i ns None true = let e = below-suc i (length ns) in rw (length-push ns (BlockRecord [])) (omega (arith, e))
+present-containers i ns (Some x) false = let e = below-suc i (length ns) in rw (length-push ns x) (omega (arith, e))
 present-containers i ns (Some x) true =
     let e = below-suc i (length ns) in
     let f = below-suc i (suc (length ns)) in
-    rw (length-added (ns ++ x ∷ []) (BlockRecord []), length-added ns x) (omega (arith, e, f))
+    rw (length-push (ns ++ x ∷ []) (BlockRecord []), length-push ns x) (omega (arith, e, f))
 
 present-functions : (i : ℕ) (xs : List FunctionRecord) (o : Option FunctionRecord) → below i (length (added xs o)) ≡ below i (length xs) + places (FunctionPart i) (read_off (λ x. FunctionPart (length xs) ∷ []) o)
 present-functions i xs None = omega arith
-present-functions i xs (Some x) = let e = below-suc i (length xs) in rw (length-added xs x) (omega (arith, e))
+present-functions i xs (Some x) = let e = below-suc i (length xs) in rw (length-push xs x) (omega (arith, e))
 
 present-always : (i : ℕ) (xs : List AlwaysRecord) (o : Option AlwaysRecord) → below i (length (added xs o)) ≡ below i (length xs) + places (AlwaysPart i) (read_off (λ x. AlwaysPart (length xs) ∷ []) o)
 present-always i xs None = omega arith
-present-always i xs (Some x) = let e = below-suc i (length xs) in rw (length-added xs x) (omega (arith, e))
+present-always i xs (Some x) = let e = below-suc i (length xs) in rw (length-push xs x) (omega (arith, e))
 
 no-container : (i n : ℕ) (o : Option NestRecord) (block : Bool) → (places (FunctionPart i) (made_containers n o block) ≡ 0) × (places (AlwaysPart i) (made_containers n o block) ≡ 0)
 no-container i n None false = (refl, refl)
@@ -225,7 +222,7 @@ length-nests (InModule owner entry name) ns = refl
 length-nests (InFunction f local v) ns = refl
 length-nests (AsSpare block) ns = refl
 
-length-functions : (l : Listing) (fs : List FunctionRecord) → length (listed_functions l fs) ≡ length fs
+pub length-functions : (l : Listing) (fs : List FunctionRecord) → length (listed_functions l fs) ≡ length fs
 length-functions (InFunction f local v) fs = length-changed_at (with_listed_variable local v) fs (function_index f)
 length-functions Nowhere fs = refl
 length-functions (InFile entry) fs = refl

@@ -17,7 +17,7 @@ use Rattle.vast_core.specs.FileTree.{family, families}
 use Rattle.vast_core.specs.Sound.{NestSound, NestsSound}
 use Rattle.std.proofs.lemmas.List.{length-map}
 use Rattle.vast_core.proofs.Nests.{nest-at, family-at}
-use Rattle.vast_core.proofs.Lists.{slice_get-map, slice_get-at, slice_get-past, Each-at, All-Each}
+use Rattle.vast_core.proofs.Lists.{below-of, slice_get-map, slice_get-at, slice_get-past, Each-at, All-Each}
 use Rattle.std.proofs.lemmas.Option.{slice_get_within}
 use Rattle.vast_core.proofs.Terms.{length-modules, length-ports, length-assignments}
 use Rattle.vast_core.proofs.Terms.{length-definitions, length-artifacts, length-instances}
@@ -25,9 +25,6 @@ use Rattle.vast_core.proofs.Terms.{length-definitions, length-artifacts, length-
 map-same : {A : Type 0} (xs : List A) → map (λ x. x) xs ≡ xs
 map-same [] = refl
 map-same (x ∷ xs) = ap (λ r. x ∷ r) (map-same xs)
-
-pub below-of : (i n : ℕ) → IsTrue (nat_lt i n) → i < n
-below-of i n h = grind arith
 
 pub module-below : (a b : Raw) (i : ℕ) → b ≡ a → IsTrue (nat_lt i (length (bench a).modules)) → i < length b.modules
 module-below a b i e h = let k : i < length (bench a).modules = below-of i (length (bench a).modules) h in rw (length-modules a b e) at k

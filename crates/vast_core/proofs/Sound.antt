@@ -1,5 +1,5 @@
 -- What a file keeps stays true as it grows.
-use Rattle.std.proofs.Common.{◌≡◌, ℕ, suc, zero, ◌<◌, ◌≤◌, Bool, false, IsTrue, List, [], ◌∷◌, length, nat_lt, Option, Some, None, slice_get, refl, sym, ◌∙◌, arith}
+use Rattle.std.proofs.Common.{◌≡◌, ℕ, suc, ◌<◌, ◌≤◌, Bool, false, IsTrue, List, [], ◌∷◌, length, nat_lt, Option, Some, None, slice_get, refl, sym, ◌∙◌, arith}
 use Rattle.std.specs.Prelude.{IfSome}
 use Rattle.vast_core.specs.declared.node.Assignment.{Assignment}
 use Rattle.vast_core.specs.declared.handle.Id.{Id}
@@ -16,7 +16,7 @@ use Rattle.vast_core.specs.declared.node.CaseArm.{CaseArm}
 use Rattle.vast_core.specs.Nests.{StatementEntry, AssignStatement, ContinuousStatement, ConditionalStatement, CasesStatement, BlankStatement, CommentStatement, InlineStatement, NestRecord, BlockRecord, ConditionalNestRecord, CaseNestRecord, LoopNestRecord, VariableRecord, FunctionRecord, AlwaysRecord, NestKind, NoKind, nest_kind, is_block_kind, is_conditional_kind, is_case_kind, is_loop_kind}
 use Rattle.vast_core.specs.Bench.{Bench, OwnsExpr, OwnsType, OwnsLogicRef, OwnsPort, OwnsContinuous, is_continuous, is_comment, is_inline, is_macro_statement}
 use Rattle.vast_core.specs.Sound.{Each, PortSound, AssignmentSound, DefinitionSound, ArtifactSound, ConnectionSound, InstanceSound, FormSound, MemberSound, ParameterPortSound, ModuleSound, EntrySound, RecordsSound, HoldsBlock, StatementSound, ElseIfSound, CaseArmSound, AlwaysNewer, MemberNewer, LoopMemberSound, NestSound, NestsSound, VariableSound, FunctionSound, EventSound, AlwaysSound}
-use Rattle.vast_core.proofs.Lists.{Each-map}
+use Rattle.vast_core.proofs.Lists.{Each-map, below-of, below-test, none-past}
 use Rattle.vast_core.proofs.NodeLaws.{Extends, HasExpr-kept, HasType-kept, shape-kept, expr_in-kept}
 use Rattle.vast_core.proofs.Nests.{kind-there}
 use Rattle.std.proofs.lemmas.Option.{slice_get_within}
@@ -34,14 +34,8 @@ pub record Grows (b c : Bench) : Type 0 where
   pub functions : length b.functions ≤ length c.functions
   pub always_blocks : (i : ℕ) (a : AlwaysRecord) → slice_get b.always_blocks i ≡ Some a → slice_get c.always_blocks i ≡ Some a
 
-lt-test : (a b : ℕ) → a < b → IsTrue (nat_lt a b)
-lt-test a b h = grind arith
-
-lt-of : (a b : ℕ) → IsTrue (nat_lt a b) → a < b
-lt-of a b h = grind arith
-
 within : (i m n : ℕ) → m ≤ n → IsTrue (nat_lt i m) → IsTrue (nat_lt i n)
-within i m n le h = let below : i < m = lt-of i m h in lt-test i n (omega arith)
+within i m n le h = let below : i < m = below-of i m h in below-test i n (omega arith)
 
 -- An element that was found is found again.
 pub test-kept :
@@ -66,11 +60,6 @@ nest-kept test b c id g n h =
     record { of_file = h.of_file ∙ sym g.nodes.same_id; of_kind = rw (g.nests id.index (kind-there test b.nests id.index n h.of_kind)) h.of_kind }
 
 -- What was found in a list is found in a list that has the same elements there.
-none-past : {A : Type 0} (xs : List A) (i : ℕ) → slice_get xs i ≡ None → length xs ≤ i
-none-past [] i e = omega arith
-none-past (x ∷ xs) zero e = cc
-none-past (x ∷ xs) (suc i) e = omega (arith, none-past xs i e)
-
 found : {A : Type 0} (xs ys : List A) (i : ℕ) (o : Option A) → slice_get xs i ≡ o → ((x : A) → slice_get xs i ≡ Some x → slice_get ys i ≡ Some x) → i < length xs → i < length ys
 found xs ys i None e k h = absurd (omega (arith, none-past xs i e))
 found xs ys i (Some x) e k h = slice_get_within ys i x (k x e)
@@ -79,13 +68,13 @@ pub found-kept :
     {A : Type 0} (b c : Bench) (id : Id) (xs ys : List A) → Grows b c → ((i : ℕ) (x : A) → slice_get xs i ≡ Some x → slice_get ys i ≡ Some x) →
     IsOwned b.nodes.id id (nat_lt id.index (length xs)) → IsOwned c.nodes.id id (nat_lt id.index (length ys))
 found-kept b c id xs ys g k h =
-    record { of_file = h.of_file ∙ sym g.nodes.same_id; of_kind = lt-test id.index (length ys) (found xs ys id.index (slice_get xs id.index) refl (k id.index) (lt-of id.index (length xs) h.of_kind)) }
+    record { of_file = h.of_file ∙ sym g.nodes.same_id; of_kind = below-test id.index (length ys) (found xs ys id.index (slice_get xs id.index) refl (k id.index) (below-of id.index (length xs) h.of_kind)) }
 
 pub never : IsTrue false → ⊥
 never h = cc
 
-pub OwnsPort-kept : (b c : Bench) → Grows b c → (p : ModulePort) → OwnsPort b p → OwnsPort c p
-OwnsPort-kept b c g p h = index-kept b c p.id (length b.ports) (length c.ports) g g.ports h
+pub port_stays : (b c : Bench) → Grows b c → (p : ModulePort) → OwnsPort b p → OwnsPort c p
+port_stays b c g p h = index-kept b c p.id (length b.ports) (length c.ports) g g.ports h
 
 maybe-type-kept : (b c : Bench) → Grows b c → (t : Option VastDataType) → IfSome t (OwnsType b) → IfSome t (OwnsType c)
 maybe-type-kept b c g None h = tt
@@ -129,8 +118,8 @@ FormSound-kept b c g (PlainForm name) h = tt
 FormSound-kept b c g (IntForm name) h = tt
 FormSound-kept b c g (DefinedForm d) h = index-kept b c d.id (length b.definitions) (length c.definitions) g g.definitions h
 
-pub continuous-kept : (b c : Bench) → Grows b c → (a : ContinuousAssignment) → OwnsContinuous b a → OwnsContinuous c a
-continuous-kept b c g a h =
+pub continuous_stays : (b c : Bench) → Grows b c → (a : ContinuousAssignment) → OwnsContinuous b a → OwnsContinuous c a
+continuous_stays b c g a h =
     record {
       of_file = h.of_file ∙ sym g.nodes.same_id;
       of_kind = test-kept is_continuous b.assignments c.assignments a.id.index (slice_get b.assignments a.id.index) refl (g.assignments a.id.index) never h.of_kind;
@@ -138,7 +127,7 @@ continuous-kept b c g a h =
 
 pub MemberSound-kept : (b c : Bench) → Grows b c → (m : MemberEntry) → MemberSound b m → MemberSound c m
 MemberSound-kept b c g (DeclarationEntry kind name t) h = HasType-kept b.nodes c.nodes g.nodes t h
-MemberSound-kept b c g (AssignmentEntry a) h = continuous-kept b c g a h
+MemberSound-kept b c g (AssignmentEntry a) h = continuous_stays b c g a h
 MemberSound-kept b c g (ParameterEntry local form value) h = (FormSound-kept b c g form h.0, HasExpr-kept b.nodes c.nodes g.nodes value h.1)
 MemberSound-kept b c g BlankEntry h = tt
 MemberSound-kept b c g (CommentEntry a) h = artifact-kept is_comment b c a.id g never h
@@ -157,7 +146,7 @@ pub ModuleSound-kept : (b c : Bench) → Grows b c → (m : ModuleRecord) → Mo
 ModuleSound-kept b c g m h =
     record {
       parameters = Each-map (ParameterPortSound-kept b c g) m.parameters h.parameters;
-      ports = Each-map (OwnsPort-kept b c g) m.ports h.ports;
+      ports = Each-map (port_stays b c g) m.ports h.ports;
       members = Each-map (MemberSound-kept b c g) m.members h.members;
     }
 
@@ -190,7 +179,7 @@ newer-kept i None p k n h = absurd (n refl)
 newer-kept i (Some a) p k n h = rw (k a refl) h
 
 always-there : (xs : List AlwaysRecord) (i : ℕ) → IsTrue (nat_lt i (length xs)) → slice_get xs i ≡ None → ⊥
-always-there xs i h e = let below : i < length xs = lt-of i (length xs) h in absurd (omega (arith, none-past xs i e))
+always-there xs i h e = let below : i < length xs = below-of i (length xs) h in absurd (omega (arith, none-past xs i e))
 
 MemberNewer-kept : (b c : Bench) → Grows b c → (i : ℕ) (m : MemberEntry) → MemberSound b m → MemberNewer b i m → MemberNewer c i m
 MemberNewer-kept b c g i (DeclarationEntry kind name t) s h = h
@@ -210,8 +199,8 @@ MemberNewer-kept b c g i (LoopEntry l) s h = h
 pub LoopMemberSound-kept : (b c : Bench) → Grows b c → (i : ℕ) (m : MemberEntry) → LoopMemberSound b i m → LoopMemberSound c i m
 LoopMemberSound-kept b c g i m h = (MemberSound-kept b c g m h.0, MemberNewer-kept b c g i m h.0 h.1)
 
-logic_ref-kept : (b c : Bench) → Grows b c → (r : LogicRef) → OwnsLogicRef b r → OwnsLogicRef c r
-logic_ref-kept b c g r h = record { of_file = h.of_file ∙ sym g.nodes.same_id; of_kind = shape-kept is_name b.nodes c.nodes g.nodes r.id.index h.of_kind }
+pub logic_ref_stays : (b c : Bench) → Grows b c → (r : LogicRef) → OwnsLogicRef b r → OwnsLogicRef c r
+logic_ref_stays b c g r h = record { of_file = h.of_file ∙ sym g.nodes.same_id; of_kind = shape-kept is_name b.nodes c.nodes g.nodes r.id.index h.of_kind }
 
 pub NestSound-kept : (b c : Bench) → Grows b c → (i : ℕ) (n : NestRecord) → NestSound b i n → NestSound c i n
 NestSound-kept b c g i (BlockRecord ss) h = Each-map (StatementSound-kept b c g i) ss h
@@ -226,7 +215,7 @@ NestSound-kept b c g i (CaseNestRecord x) h =
     record { selector = HasExpr-kept b.nodes c.nodes g.nodes x.selector h.selector; arms = Each-map (CaseArmSound-kept b c g i) x.arms h.arms }
 NestSound-kept b c g i (LoopNestRecord l) h =
     record {
-      genvar = logic_ref-kept b c g l.genvar h.genvar;
+      genvar = logic_ref_stays b c g l.genvar h.genvar;
       start = HasExpr-kept b.nodes c.nodes g.nodes l.start h.start;
       end = HasExpr-kept b.nodes c.nodes g.nodes l.end h.end;
       members = Each-map (LoopMemberSound-kept b c g i) l.members h.members;
@@ -243,7 +232,7 @@ pub FunctionSound-kept : (b c : Bench) → Grows b c → (f : FunctionRecord) �
 FunctionSound-kept b c g f h =
     record {
       result_type = HasType-kept b.nodes c.nodes g.nodes f.result_type h.result_type;
-      result_name = logic_ref-kept b c g f.result_name h.result_name;
+      result_name = logic_ref_stays b c g f.result_name h.result_name;
       inputs = Each-map (VariableSound-kept b c g) f.inputs h.inputs;
       locals = Each-map (VariableSound-kept b c g) f.locals h.locals;
       body = nest-kept is_block_kind b c f.body.id g never h.body;

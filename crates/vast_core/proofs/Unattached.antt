@@ -1,5 +1,5 @@
 -- What calls know that make a block which nothing holds, and that put an always block over it.
-use Rattle.std.proofs.Common.{true, ◌≡◌, suc, List, [], ◌∷◌, length, Option, Some, All, refl, arith, length-append, subst}
+use Rattle.std.proofs.Common.{true, ◌≡◌, List, [], ◌∷◌, length, Option, Some, All, refl, length-append, subst}
 use Rattle.std.specs.Prelude.{IfSome}
 use Rattle.vast_core.specs.declared.handle.Expr.{Expr}
 use Rattle.vast_core.specs.declared.handle.VastStatementBlock.{VastStatementBlock}
@@ -8,10 +8,11 @@ use Rattle.vast_core.specs.Raw.{Raw}
 use Rattle.vast_core.specs.Nests.{AlwaysRecord}
 use Rattle.vast_core.specs.Bench.{Bench, OwnsAlways, OwnsBlock}
 use Rattle.vast_core.specs.View.{bench}
-use Rattle.vast_core.specs.Sound.{Each, EventSound, FileSound, IsSound}
+use Rattle.vast_core.specs.Sound.{EventSound, FileSound, IsSound}
 use Rattle.vast_core.specs.Containers.{AsSpare, GrowthSound, Fresh, FreshSound, no_fresh, fresh_block, with_block, next_block}
 use Rattle.vast_core.specs.Loops.{next_always}
 use Rattle.vast_core.specs.Unattached.{always_over, with_always_over}
+use Rattle.vast_core.proofs.Lists.{Each-own}
 use Rattle.vast_core.proofs.Terms.{last-test}
 use Rattle.vast_core.proofs.Enters.{a-block-comes, next_block_owned}
 
@@ -25,10 +26,6 @@ file-sound a b e s = let P : Raw → Type 0 = λ y. FileSound (bench y) in subst
 
 abbrev pub fresh_over : AlwaysRecord → Fresh
 fresh_over a = record no_fresh { always_block = Some a; takes_spare = true }
-
-Each-own : {A : Type 0} (P : A → Type 0) (xs : List A) → All P xs → Each P xs
-Each-own P [] h = tt
-Each-own P (x ∷ xs) h = (h 0 x (omega arith), Each-own P xs (λ k d below. h (suc k) d (omega arith)))
 
 pub over-comes :
     (b : Bench) (kind : AlwaysKind) (events : List Expr) (block : VastStatementBlock) → All (EventSound b) events → OwnsBlock b block →

@@ -1,43 +1,18 @@
 -- What a file keeps as it grows.
-use Rattle.std.proofs.Common.{◌≡◌, ℕ, zero, suc, ◌<◌, ◌≤◌, Bool, true, false, IsTrue, List, [], ◌∷◌, length, nat_lt, cond, Option, Some, None, slice_get, refl, sym, ap, ◌∙◌, arith}
-use Rattle.std.proofs.lemmas.Option.{slice_get_within}
-use Rattle.vast_core.specs.declared.handle.Id.{Id}
-use Rattle.vast_core.specs.Nodes.{Root, IsOwned, is_name, is_index, is_slice, is_macro}
+use Rattle.std.proofs.Common.{◌≡◌, ℕ, Bool, true, false, List, cond, refl, ap, ◌∙◌, arith}
+use Rattle.vast_core.specs.Nodes.{Root}
 use Rattle.vast_core.specs.Records.{ModuleRecord, changed_at}
-use Rattle.vast_core.specs.Nests.{NestRecord, BlockRecord, ConditionalNestRecord, CaseNestRecord, LoopNestRecord, nest_kind, is_block_kind, is_conditional_kind, is_case_kind, is_loop_kind}
-use Rattle.vast_core.specs.Bench.{Bench, is_blank_line, is_comment, is_inline, is_macro_statement}
+use Rattle.vast_core.specs.Bench.{Bench}
 use Rattle.vast_core.specs.Growth.{with_root}
 use Rattle.vast_core.specs.Containers.{Listing, with_listing, Fresh, with_fresh, with_unique}
-use Rattle.vast_core.proofs.NodeLaws.{Extends-same, Extends-root, HasExpr-kept, HasType-kept, shape-kept, expr_in-kept, type_in-kept}
-use Rattle.vast_core.proofs.Nests.{kind-changed}
-use Rattle.vast_core.proofs.Sound.{Grows, index-kept, artifact-kept, nest-kept, continuous-kept, OwnsPort-kept, never}
+use Rattle.vast_core.proofs.NodeLaws.{Extends-root}
+use Rattle.vast_core.proofs.Sound.{Grows, logic_ref_stays, port_stays, continuous_stays}
+use Rattle.vast_core.proofs.Stays.{expr_stays, tree_stays, type_stays, type_tree_stays, parameter_ref_stays, localparam_ref_stays, index_stays, slice_stays, macro_ref_stays, indexable_stays, module_stays, function_stays, instantiation_stays, always_stays, def_stays, statement_stays, blank_line_stays, comment_stays, inline_stays, macro_statement_stays, block_stays, conditional_stays, case_stays, loop_stays}
 use Rattle.vast_core.proofs.Growing.{Grows-fresh, Grows-listing}
 use Rattle.vast_core.proofs.Hoists.{Grows-changed}
+use Rattle.vast_core.proofs.NestReaders.{Grows-unique}
 use Rattle.vast_print.specs.Text.{expr_text}
 use Rattle.vast_script.specs.Laws.{Keeps}
-
--- A list that has all elements of another is as long.
-
-lt-of : (a b : ℕ) → IsTrue (nat_lt a b) → a < b
-lt-of a b h = grind arith
-
-lt-test : (a b : ℕ) → a < b → IsTrue (nat_lt a b)
-lt-test a b h = grind arith
-
-none-past : {A : Type 0} (xs : List A) (i : ℕ) → slice_get xs i ≡ None → length xs ≤ i
-none-past [] i e = omega arith
-none-past (x ∷ xs) zero e = cc
-none-past (x ∷ xs) (suc i) e = omega (arith, none-past xs i e)
-
-found : {A : Type 0} (xs ys : List A) (i : ℕ) (o : Option A) → slice_get xs i ≡ o → ((x : A) → slice_get xs i ≡ Some x → slice_get ys i ≡ Some x) → i < length xs → i < length ys
-found xs ys i None e k h = absurd (omega (arith, none-past xs i e))
-found xs ys i (Some x) e k h = slice_get_within ys i x (k x e)
-
-found-kept :
-    {A : Type 0} (b c : Bench) (id : Id) (xs ys : List A) → Grows b c → ((i : ℕ) (x : A) → slice_get xs i ≡ Some x → slice_get ys i ≡ Some x) →
-    IsOwned b.nodes.id id (nat_lt id.index (length xs)) → IsOwned c.nodes.id id (nat_lt id.index (length ys))
-found-kept b c id xs ys g k h =
-    record { of_file = h.of_file ∙ sym g.nodes.same_id; of_kind = lt-test id.index (length ys) (found xs ys id.index (slice_get xs id.index) refl (k id.index) (lt-of id.index (length xs) h.of_kind)) }
 
 -- What grows keeps what it has.
 
@@ -46,34 +21,34 @@ keeps-grown b c g same =
     record {
       file_type = same;
       id = g.nodes.same_id;
-      exprs = λ x h. HasExpr-kept b.nodes c.nodes g.nodes x h;
-      trees = λ x h. expr_in-kept b.nodes c.nodes g.nodes x h;
-      texts = λ x h. ap expr_text (expr_in-kept b.nodes c.nodes g.nodes x h);
-      types = λ x h. HasType-kept b.nodes c.nodes g.nodes x h;
-      type_trees = λ x h. type_in-kept b.nodes c.nodes g.nodes x h;
-      logic_refs = λ x h. record { of_file = h.of_file ∙ sym g.nodes.same_id; of_kind = shape-kept is_name b.nodes c.nodes g.nodes x.id.index h.of_kind };
-      parameters = λ x h. record { of_file = h.of_file ∙ sym g.nodes.same_id; of_kind = shape-kept is_name b.nodes c.nodes g.nodes x.id.index h.of_kind };
-      localparams = λ x h. record { of_file = h.of_file ∙ sym g.nodes.same_id; of_kind = shape-kept is_name b.nodes c.nodes g.nodes x.id.index h.of_kind };
-      indexes = λ x h. record { of_file = h.of_file ∙ sym g.nodes.same_id; of_kind = shape-kept is_index b.nodes c.nodes g.nodes x.id.index h.of_kind };
-      slices = λ x h. record { of_file = h.of_file ∙ sym g.nodes.same_id; of_kind = shape-kept is_slice b.nodes c.nodes g.nodes x.id.index h.of_kind };
-      macro_refs = λ x h. record { of_file = h.of_file ∙ sym g.nodes.same_id; of_kind = shape-kept is_macro b.nodes c.nodes g.nodes x.id.index h.of_kind };
-      indexables = λ x h. HasExpr-kept b.nodes c.nodes g.nodes (record { id = x.id }) h;
-      modules = λ x h. index-kept b c x.id (length b.modules) (length c.modules) g g.modules h;
-      ports = λ x h. OwnsPort-kept b c g x h;
-      functions = λ x h. index-kept b c x.id (length b.functions) (length c.functions) g g.functions h;
-      instantiations = λ x h. index-kept b c x.id (length b.instances) (length c.instances) g g.instances h;
-      always_blocks = λ x h. found-kept b c x.id b.always_blocks c.always_blocks g g.always_blocks h;
-      definitions = λ x h. index-kept b c x.id (length b.definitions) (length c.definitions) g g.definitions h;
-      statements = λ x h. found-kept b c x.id b.assignments c.assignments g g.assignments h;
-      continuous = λ x h. continuous-kept b c g x h;
-      blank_lines = λ x h. artifact-kept is_blank_line b c x.id g never h;
-      comments = λ x h. artifact-kept is_comment b c x.id g never h;
-      inlines = λ x h. artifact-kept is_inline b c x.id g never h;
-      macro_statements = λ x h. artifact-kept is_macro_statement b c x.id g never h;
-      blocks = λ x h. nest-kept is_block_kind b c x.id g never h;
-      conditionals = λ x h. nest-kept is_conditional_kind b c x.id g never h;
-      cases = λ x h. nest-kept is_case_kind b c x.id g never h;
-      loops = λ x h. nest-kept is_loop_kind b c x.id g never h;
+      exprs = expr_stays b c g;
+      trees = tree_stays b c g;
+      texts = λ x h. ap expr_text (tree_stays b c g x h);
+      types = type_stays b c g;
+      type_trees = type_tree_stays b c g;
+      logic_refs = logic_ref_stays b c g;
+      parameters = parameter_ref_stays b c g;
+      localparams = localparam_ref_stays b c g;
+      indexes = index_stays b c g;
+      slices = slice_stays b c g;
+      macro_refs = macro_ref_stays b c g;
+      indexables = indexable_stays b c g;
+      modules = module_stays b c g;
+      ports = port_stays b c g;
+      functions = function_stays b c g;
+      instantiations = instantiation_stays b c g;
+      always_blocks = always_stays b c g;
+      definitions = def_stays b c g;
+      statements = statement_stays b c g;
+      continuous = continuous_stays b c g;
+      blank_lines = blank_line_stays b c g;
+      comments = comment_stays b c g;
+      inlines = inline_stays b c g;
+      macro_statements = macro_statement_stays b c g;
+      blocks = block_stays b c g;
+      conditionals = conditional_stays b c g;
+      cases = case_stays b c g;
+      loops = loop_stays b c g;
     }
 
 pub keeps-same : (b : Bench) → Keeps b b
@@ -172,26 +147,9 @@ keeps-listing b l = keeps-grown b (with_listing l b) (Grows-listing b l) refl
 pub keeps-changed : (b : Bench) (i : ℕ) (f : ModuleRecord → ModuleRecord) → Keeps b (record b { modules = changed_at i f b.modules })
 keeps-changed b i f = keeps-grown b (record b { modules = changed_at i f b.modules }) (Grows-changed b i f) refl
 
-unique-kind : (unique : Bool) (n : NestRecord) → nest_kind (Some (with_unique unique n)) ≡ nest_kind (Some n)
-unique-kind unique (BlockRecord statements) = refl
-unique-kind unique (ConditionalNestRecord c) = refl
-unique-kind unique (CaseNestRecord c) = refl
-unique-kind unique (LoopNestRecord l) = refl
-
 pub keeps-unique : (b : Bench) (i : ℕ) (unique : Bool) → Keeps b (record b { nests = changed_at i (with_unique unique) b.nests })
 keeps-unique b i unique =
-    keeps-grown b (record b { nests = changed_at i (with_unique unique) b.nests }) (record {
-      nodes = Extends-same b.nodes;
-      ports = omega arith;
-      assignments = λ i a h. h;
-      modules = omega arith;
-      definitions = omega arith;
-      artifacts = λ i a h. h;
-      instances = omega arith;
-      nests = λ j below. kind-changed (with_unique unique) (unique-kind unique) b.nests i j;
-      functions = omega arith;
-      always_blocks = λ i a h. h;
-    }) refl
+    keeps-grown b (record b { nests = changed_at i (with_unique unique) b.nests }) (Grows-unique b i unique) refl
 
 pub keeps-cond : (b c d : Bench) (t : Bool) → Keeps b c → Keeps b d → Keeps b (cond t c d)
 keeps-cond b c d true h k = h
