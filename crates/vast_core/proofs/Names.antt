@@ -42,14 +42,14 @@ test-equal a b h = sym ((bytes_eq-Decides a b).0 (sym (is_eq-slice_cmp a b) ∙ 
 test-same : (a b : List ℕ) → b ≡ a → is_eq (slice_cmp nat_cmp a b) ≡ true
 test-same a b h = is_eq-slice_cmp a b ∙ (bytes_eq-Decides a b).1 (sym h)
 
-true-not-false : true ≡ false → ⊥
+pub true-not-false : true ≡ false → ⊥
 true-not-false h = cc
 
-or-left : (a b : Bool) → a || b ≡ false → a ≡ false
+pub or-left : (a b : Bool) → a || b ≡ false → a ≡ false
 or-left true b h = h
 or-left false b h = refl
 
-or-right : (a b : Bool) → a || b ≡ false → b ≡ false
+pub or-right : (a b : Bool) → a || b ≡ false → b ≡ false
 or-right true b h = absurd (true-not-false h)
 or-right false b h = h
 

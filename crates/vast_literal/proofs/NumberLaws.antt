@@ -47,10 +47,10 @@ bare_number : (a b : Bool) → a ≡ true → (a || b) ≡ true
 bare_number true b h = refl
 bare_number false b h = absurd (cc h)
 
-no_minus : (c : ℕ) → is_digit c ≡ true → eqb c 45 ≡ false
+pub no_minus : (c : ℕ) → is_digit c ≡ true → eqb c 45 ≡ false
 no_minus c h = grind (arith, nat_tests)
 
-number_text : (w : List ℕ) → is_number w ≡ true → is_literal_text w ≡ true
+pub number_text : (w : List ℕ) → is_number w ≡ true → is_literal_text w ≡ true
 number_text [] h = absurd (cc h)
 number_text (c ∷ cs) h = let e = no_minus c (and_left (is_digit c) (every is_digit cs) h) in
     rw e (bare_number (is_number (c ∷ cs)) (is_based (c ∷ cs) || is_filled (c ∷ cs)) h)

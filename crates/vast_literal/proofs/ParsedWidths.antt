@@ -1,6 +1,5 @@
 -- What `parse` reads of ASCII digits is their weighted sum.
-use Rattle.std.proofs.Common.{◌≡◌, ℕ, ◌-◌, ◌*◌, ◌+◌, ◌^◌, ◌<◌, List, Bool, true, false, Option, Result, Ok, Err, SomeIff, length, rules, arith, refl, ap}
-use Rattle.std.specs.Prelude.{◌&&◌}
+use Rattle.std.proofs.Common.{◌≡◌, ℕ, ◌-◌, ◌*◌, ◌+◌, ◌^◌, ◌<◌, List, true, Option, Result, Ok, Err, SomeIff, length, rules, arith, refl, ap}
 use Rattle.std.specs.List.{list_all}
 use Rattle.std.specs.Char.{is_ascii_digit, digit_value}
 use Rattle.std.specs.Result.{OkIff, result_ok}
@@ -11,6 +10,7 @@ use Rattle.std.proofs.lemmas.Bool.Decides.{nat_tests}
 use Rattle.std.specs.Int.{IsInRange}
 use Rattle.vast_literal.specs.Digits.{weighted}
 use Rattle.vast_literal.specs.Literal.{is_decimal}
+use Rattle.vast_literal.proofs.Numbers.{both_parts}
 
 digit_value-ascii : (c : ℕ) → IsInRange 48 57 c → digit_value c ≡ c - 48
 digit_value-ascii c h = grind (arith, nat_tests)
@@ -24,10 +24,6 @@ numerals = numerals_by_weight _ (search rules) (weighted 10) weighs
 some_from_ok : {E : Type 0} (r : Result ℕ E) (s : Option ℕ) (l v bound : ℕ) → OkIff r ((0 < l) × (v < bound)) v → 0 < l → s ≡ result_ok r → SomeIff s (v < bound) v
 some_from_ok (Ok x) s l v bound h p e = rw e (h.0.1, h.1)
 some_from_ok (Err x) s l v bound h p e = rw e (λ k. h (p, k))
-
-pub both_parts : (x y : Bool) → (x && y) ≡ true → (x ≡ true) × (y ≡ true)
-both_parts true y h = (refl, h)
-both_parts false y h = cc
 
 pub read_width : {E : Type 0} (text : List ℕ) (r : Result ℕ E) (s : Option ℕ) → ParsesUnsigned 64 10 text r → is_decimal text ≡ true → s ≡ result_ok r → SomeIff s (weighted 10 text < 2 ^ 64) (weighted 10 text)
 unfolding is_decimal

@@ -5,7 +5,7 @@ use Rattle.vast_literal.specs.Tokens.{level}
 use Rattle.vast_literal.specs.Tree.{BinaryOp, AddOp, ExprTree, LiteralTree, UnaryTree, BinaryTree, TernaryTree}
 use Rattle.vast_literal.specs.Shape.{binary_precedence, precedence, starts_with_minus, is_reduction, is_width_cast, is_negative_literal, unary_wraps, left_child_wraps, right_child_wraps, ternary_wraps, select_wraps, highest_index_wraps}
 use Rattle.vast_literal.specs.NormalExpr.{binary_operator_token}
-use Rattle.vast_literal.proofs.ScanLaws.{or_left}
+use Rattle.vast_literal.proofs.ScanLaws.{or_left, or_right}
 use Rattle.vast_literal.proofs.Sound.{level_small}
 
 -- A literal with a minus is a minus and a literal.
@@ -53,10 +53,6 @@ at_least n (TernaryTree condition consequent alternate) small h = h
 at_least n (UnaryTree op operand) small h = h
 at_least n (LiteralTree text value) small h = let least = literal_least (starts_with_minus text) in omega arith
 at_least n _ small h = h
-
-or_right : (a b : Bool) → (a || b) ≡ false → b ≡ false
-or_right true b h = absurd (cc h)
-or_right false b h = h
 
 -- What stands without parentheses binds tightly enough where it stands.
 

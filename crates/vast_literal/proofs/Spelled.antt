@@ -1,11 +1,9 @@
 -- The tokens of an expression's text spell its normal expression.
 use Rattle.std.proofs.Common.{◌≡◌, ℕ, suc, ◌≤◌, List, [], ◌∷◌, ◌++◌, Bool, true, false, cond, not, ◌&&◌, eqb, IsTrue, refl, sym, subst, append_assoc, append-nil, arith}
-use Rattle.std.proofs.lemmas.Bool.Decides.{nat_tests}
 use Rattle.std.specs.Fmt.{signed_decimal}
 use Rattle.vast_literal.specs.Tokens.{Minus, level, is_unary, OpenParen, CloseParen, Key, LogicKey, SignedKey, UnsignedKey, IntegerKey, IntKey, Token, Word, SystemWord, Number, Based, Operator, Mark}
 use Rattle.vast_literal.specs.Tree.{UnaryOp, NegateOp, ExprTree, NameTree, LiteralTree, StringTree, UnaryTree, BinaryTree, TernaryTree, IndexTree, SliceTree, PartSelectTree, ConcatTree, PatternTree, WidthCastTree, TypeCastTree, PosEdgeTree, NegEdgeTree, MacroTree, CallTree, MissingExpr, TypeTree, ScalarTree, VectorTree, IntegerTree, IntTree, ExternalTree, PackageTree, PackedTree, UnpackedTree, MissingType, NoExpr, SomeExpr, Exprs, NoExprs, MoreExprs, NoArguments, SomeArguments}
 use Rattle.vast_literal.specs.Shape.{is_scalar_name, is_zero, is_elided_index, is_elided_slice, unary_wraps, left_child_wraps, right_child_wraps, ternary_wraps, select_wraps}
-use Rattle.vast_literal.specs.Scan.{is_digit}
 use Rattle.vast_literal.specs.NormalExpr.{NormalExpr, Name, Literal, Unary, Call, Cast, NormalExprs, NoNormals, MoreNormals, unary_operator_token, binary_operator_token, normal_literal, signing_key, normal_word_cast, scalar_sign, integer_sign, normal, normal_cast, normals}
 use Rattle.vast_literal.specs.Grammar.{is_cast_word, Spells, ternary, binary, unary, index, slice, part_select, name, number, based, quoted, paren, call, system_call, concat, replicated, array_pattern, macro_alone, macro_call, number_cast, name_cast, package_cast, paren_cast, word_cast, SpellsList, none, some, SpellsJoined, last, next}
 use Rattle.vast_literal.specs.LiteralToken.{is_number, bare_token, literal_tokens}
@@ -13,6 +11,7 @@ use Rattle.vast_literal.specs.Plain.{is_edgeless, is_edgeless_type, are_edgeless
 use Rattle.vast_literal.specs.ExprTokens.{is_bare_head, wrapped_tokens, cast_operand, comma_tail_tokens, comma_tokens, called_token, word_cast_tokens, expr_tokens, cast_tokens, each_tokens}
 use Rattle.vast_literal.specs.WellFormed.{is_positive, is_cast_type, is_well_formed, is_well_formed_type, are_well_formed}
 use Rattle.vast_literal.proofs.ScanLaws.{and_left, and_right}
+use Rattle.vast_literal.proofs.NumberLaws.{no_minus}
 use Rattle.vast_literal.proofs.Sound.{level_small, lower}
 use Rattle.vast_literal.proofs.Precedence.{literal_level, spelled_level, positive, level_bound, left_bound, right_bound, operand_bound, subject_bound, ternary_bound}
 
@@ -89,9 +88,6 @@ number_literal [] h = absurd (cc h)
 number_literal (c ∷ cs) h = let e = no_minus c (and_left _ _ h) in
     subst (λ (b : Bool). BareHead (cond b (Operator Minus ∷ bare_token cs ∷ []) (bare_token (c ∷ cs) ∷ [])) (cond b (Unary Minus (Literal cs)) (Literal (c ∷ cs)))) (sym e)
     (subst (λ (b : Bool). BareHead (cond b (Number (c ∷ cs)) (Based (c ∷ cs)) ∷ []) (Literal (c ∷ cs))) (sym h) (number_head (c ∷ cs)))
-  where
-    no_minus : (c : ℕ) → is_digit c ≡ true → eqb c 45 ≡ false
-    no_minus c h = grind (arith, nat_tests)
 
 elided_head : (b : Bool) (s : ExprTree) (ts : List Token) (t : NormalExpr) → b ≡ true → BareHead (expr_tokens s) (normal s) → BareHead (cond b (expr_tokens s) ts) (cond b (normal s) t)
 elided_head true s ts t e f = f

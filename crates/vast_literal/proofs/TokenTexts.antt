@@ -19,6 +19,7 @@ use Rattle.vast_literal.specs.LiteralToken.{every, is_number, is_based_number, i
 use Rattle.vast_literal.specs.Digits.{lowest_digits, digit_count, characters, grouped}
 use Rattle.vast_literal.specs.LiteralText.{padded_count, is_below_half, sized, signed_text, format_text}
 use Rattle.vast_literal.specs.Pattern.{is_pattern_digit, is_pattern}
+use Rattle.vast_literal.proofs.NumberLaws.{no_minus, number_text}
 use Rattle.vast_literal.proofs.Numbers.{both_parts, length-lowest_digits}
 use Rattle.vast_literal.proofs.Widths.{positive_from_high, narrow_from_high}
 use Rattle.vast_literal.proofs.Spelt.{lowest_below, all_grouped, all_characters}
@@ -55,17 +56,10 @@ decimal_number n s =
     let wide : 2 ^ 128 ≤ 10 ^ 64 = lit≤ tt in
     some_number (decimal n) (decimal_is_IsNumeral_wide n (omega arith)).0.0 (decimal_digits n s)
 
-no_minus : (c : ℕ) → is_digit c ≡ true → eqb c 45 ≡ false
-no_minus c h = grind (arith, nat_tests)
-
 no_tick : (c : ℕ) → is_digit c ≡ true → eqb c 39 ≡ false
 no_tick c h = grind (arith, nat_tests)
 
 -- literal tokens
-literal_from_number : (t : List ℕ) → is_number t ≡ true → is_literal_text t ≡ true
-literal_from_number [] h = cc
-literal_from_number (c ∷ cs) h = rw (no_minus c (both_parts (is_digit c) (every is_digit cs) h).0, h)
-
 based_first : (c : ℕ) (cs : List ℕ) (b : Bool) → eqb c 39 ≡ b → cond b (is_based_tail cs) (is_digit c && is_based cs) ≡ true → eqb c 45 ≡ false
 based_first c cs true e h = rw (eqb-true c 39 e)
 based_first c cs false e h = no_minus c (both_parts (is_digit c) (is_based cs) h).0
@@ -146,7 +140,7 @@ spelled_literal Hex n v p q h s = literal_from_based (format_text Hex n v) (size
 spelled_literal SignedDecimal n v p q h s = signed_literal n v (is_below_half n v) (omega arith) s refl h
 spelled_literal UnsignedDecimal n v p q h s = literal_from_based (format_text UnsignedDecimal n v) (sized_based n (100 ∷ []) _ (omega arith) (decimal_based v s))
 spelled_literal UnsizedBinary n v p q h s = literal_from_based (format_text UnsizedBinary n v) (characters_based 1 (digit_count 2 v) v (lit≤ tt) (digit_count-some 2 v))
-spelled_literal UnsizedDecimal n v p q h s = literal_from_number (decimal v) (decimal_number v s)
+spelled_literal UnsizedDecimal n v p q h s = number_text (decimal v) (decimal_number v s)
 spelled_literal UnsizedHex n v p q h s = literal_from_based (format_text UnsizedHex n v) (grouped_based 4 (digit_count 16 v) v (lit≤ tt) (digit_count-some 16 v))
 
 -- So is the text of a pattern.

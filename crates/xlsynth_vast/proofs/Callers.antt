@@ -18,8 +18,9 @@ use Rattle.vast_core.specs.Bench.{is_continuous, is_blank_line, is_comment, is_i
 use Rattle.vast_core.specs.Containers.{NestedEntry, StatementEnters, ElseIfEnters, ElseEnters, CaseArmEnters, MemberEnters, with_entry, has_else}
 use Rattle.vast_print.specs.Emits.{Emits}
 use Rattle.vast_print.specs.Layout.{IsFileText, layout}
-use Rattle.vast_core.proofs.Lists.{slice_get-seam, length-changed_at}
-use Rattle.vast_core.proofs.Nests.{kind-changed}
+use Rattle.vast_core.proofs.Lists.{slice_get-seam, length-push, length-changed_at}
+use Rattle.vast_core.proofs.Nests.{entry-kind, kind-changed}
+use Rattle.vast_core.proofs.NodeLaws.{some_expr}
 use Rattle.vast_core.proofs.Sound.{never}
 
 -- A test that an element of a list passes, it passes where the list has elements more.
@@ -28,10 +29,6 @@ still : {A : Type 0} (test : Option A → Bool) → (IsTrue (test None) → ⊥)
 still test n [] ys i h = absurd (n h)
 still test n (x ∷ xs) ys zero h = h
 still test n (x ∷ xs) ys (suc i) h = still test n xs ys i h
-
-length-more : {A : Type 0} (xs : List A) (x : A) → length (xs ++ x ∷ []) ≡ suc (length xs)
-length-more [] x = refl
-length-more (y ∷ xs) x = ap suc (length-more xs x)
 
 -- Expressions and types.
 
@@ -56,11 +53,6 @@ macro_stays xs ys i h = still (is_root_of is_macro) never xs ys i h
 pub last_root : (xs : List Root) (r : Root) → slice_get (xs ++ r ∷ []) (length xs) ≡ Some r
 last_root xs r = slice_get-seam xs r
 
-some_expr : (shape : ExprTree → Bool) (o : Option Root) → IsTrue (is_root_of shape o) → IsTrue (is_expr_root o)
-some_expr shape None h = absurd (never h)
-some_expr shape (Some (ExprRoot e)) h = refl
-some_expr shape (Some (TypeRoot t)) h = absurd (never h)
-
 pub name_is_expr : (xs : List Root) (i : ℕ) → IsTrue (is_root_of is_name (slice_get xs i)) → IsTrue (is_expr_root (slice_get xs i))
 name_is_expr xs i h = some_expr is_name (slice_get xs i) h
 
@@ -78,25 +70,25 @@ pub ruleset roots = (expr_stays, type_stays, name_stays, index_stays, slice_stay
 -- Nodes of an arena of their own.
 
 pub more_modules : (xs : List ModuleRecord) (x : ModuleRecord) → length (xs ++ x ∷ []) ≡ suc (length xs)
-more_modules xs x = length-more xs x
+more_modules xs x = length-push xs x
 
 pub more_functions : (xs : List FunctionRecord) (x : FunctionRecord) → length (xs ++ x ∷ []) ≡ suc (length xs)
-more_functions xs x = length-more xs x
+more_functions xs x = length-push xs x
 
 pub more_ports : (xs : List PortRecord) (x : PortRecord) → length (xs ++ x ∷ []) ≡ suc (length xs)
-more_ports xs x = length-more xs x
+more_ports xs x = length-push xs x
 
 pub more_instances : (xs : List InstanceRecord) (x : InstanceRecord) → length (xs ++ x ∷ []) ≡ suc (length xs)
-more_instances xs x = length-more xs x
+more_instances xs x = length-push xs x
 
 pub more_definitions : (xs : List DefinitionRecord) (x : DefinitionRecord) → length (xs ++ x ∷ []) ≡ suc (length xs)
-more_definitions xs x = length-more xs x
+more_definitions xs x = length-push xs x
 
 pub more_always_blocks : (xs : List AlwaysRecord) (x : AlwaysRecord) → length (xs ++ x ∷ []) ≡ suc (length xs)
-more_always_blocks xs x = length-more xs x
+more_always_blocks xs x = length-push xs x
 
 pub more_assignments : (xs : List Assignment) (x : Assignment) → length (xs ++ x ∷ []) ≡ suc (length xs)
-more_assignments xs x = length-more xs x
+more_assignments xs x = length-push xs x
 
 pub changed_modules : (f : ModuleRecord → ModuleRecord) (xs : List ModuleRecord) (i : ℕ) → length (changed_at i f xs) ≡ length xs
 changed_modules f xs i = length-changed_at f xs i
@@ -129,42 +121,20 @@ pub ruleset records = (more_modules, more_functions, more_ports, more_instances,
 
 -- Containers.
 
-entry_kind : (e : NestedEntry) (n : NestRecord) → nest_kind (Some (with_entry e n)) ≡ nest_kind (Some n)
-entry_kind (StatementEnters s) (BlockRecord ss) = refl
-entry_kind (StatementEnters s) (ConditionalNestRecord c) = refl
-entry_kind (StatementEnters s) (CaseNestRecord c) = refl
-entry_kind (StatementEnters s) (LoopNestRecord l) = refl
-entry_kind (ElseIfEnters a) (BlockRecord ss) = refl
-entry_kind (ElseIfEnters a) (ConditionalNestRecord c) = refl
-entry_kind (ElseIfEnters a) (CaseNestRecord c) = refl
-entry_kind (ElseIfEnters a) (LoopNestRecord l) = refl
-entry_kind (ElseEnters x) (BlockRecord ss) = refl
-entry_kind (ElseEnters x) (ConditionalNestRecord c) = refl
-entry_kind (ElseEnters x) (CaseNestRecord c) = refl
-entry_kind (ElseEnters x) (LoopNestRecord l) = refl
-entry_kind (CaseArmEnters a) (BlockRecord ss) = refl
-entry_kind (CaseArmEnters a) (ConditionalNestRecord c) = refl
-entry_kind (CaseArmEnters a) (CaseNestRecord c) = refl
-entry_kind (CaseArmEnters a) (LoopNestRecord l) = refl
-entry_kind (MemberEnters m) (BlockRecord ss) = refl
-entry_kind (MemberEnters m) (ConditionalNestRecord c) = refl
-entry_kind (MemberEnters m) (CaseNestRecord c) = refl
-entry_kind (MemberEnters m) (LoopNestRecord l) = refl
-
 pub kind_after_statement : (s : StatementEntry) (xs : List NestRecord) (place i : ℕ) → nest_kind (slice_get (changed_at place (with_entry (StatementEnters s)) xs) i) ≡ nest_kind (slice_get xs i)
-kind_after_statement s xs place i = kind-changed (with_entry (StatementEnters s)) (entry_kind (StatementEnters s)) xs place i
+kind_after_statement s xs place i = kind-changed (with_entry (StatementEnters s)) (entry-kind (StatementEnters s)) xs place i
 
 pub kind_after_else_if : (a : ElseIf) (xs : List NestRecord) (place i : ℕ) → nest_kind (slice_get (changed_at place (with_entry (ElseIfEnters a)) xs) i) ≡ nest_kind (slice_get xs i)
-kind_after_else_if a xs place i = kind-changed (with_entry (ElseIfEnters a)) (entry_kind (ElseIfEnters a)) xs place i
+kind_after_else_if a xs place i = kind-changed (with_entry (ElseIfEnters a)) (entry-kind (ElseIfEnters a)) xs place i
 
 pub kind_after_else : (x : VastStatementBlock) (xs : List NestRecord) (place i : ℕ) → nest_kind (slice_get (changed_at place (with_entry (ElseEnters x)) xs) i) ≡ nest_kind (slice_get xs i)
-kind_after_else x xs place i = kind-changed (with_entry (ElseEnters x)) (entry_kind (ElseEnters x)) xs place i
+kind_after_else x xs place i = kind-changed (with_entry (ElseEnters x)) (entry-kind (ElseEnters x)) xs place i
 
 pub kind_after_case_arm : (a : CaseArm) (xs : List NestRecord) (place i : ℕ) → nest_kind (slice_get (changed_at place (with_entry (CaseArmEnters a)) xs) i) ≡ nest_kind (slice_get xs i)
-kind_after_case_arm a xs place i = kind-changed (with_entry (CaseArmEnters a)) (entry_kind (CaseArmEnters a)) xs place i
+kind_after_case_arm a xs place i = kind-changed (with_entry (CaseArmEnters a)) (entry-kind (CaseArmEnters a)) xs place i
 
 pub kind_after_member : (m : MemberEntry) (xs : List NestRecord) (place i : ℕ) → nest_kind (slice_get (changed_at place (with_entry (MemberEnters m)) xs) i) ≡ nest_kind (slice_get xs i)
-kind_after_member m xs place i = kind-changed (with_entry (MemberEnters m)) (entry_kind (MemberEnters m)) xs place i
+kind_after_member m xs place i = kind-changed (with_entry (MemberEnters m)) (entry-kind (MemberEnters m)) xs place i
 
 pub block_stays : (xs ys : List NestRecord) (i : ℕ) → IsTrue (is_block_kind (nest_kind (slice_get xs i))) → IsTrue (is_block_kind (nest_kind (slice_get (xs ++ ys) i)))
 block_stays xs ys i h = still (λ n. is_block_kind (nest_kind n)) never xs ys i h
@@ -186,7 +156,7 @@ pub nest_kind_there : (xs ys : List NestRecord) (n : NestRecord) → nest_kind (
 nest_kind_there xs ys n = ap nest_kind (last_nest xs ys n)
 
 pub more_nests : (xs : List NestRecord) (n : NestRecord) → length (xs ++ n ∷ []) ≡ suc (length xs)
-more_nests xs n = length-more xs n
+more_nests xs n = length-push xs n
 
 -- Whether a conditional has its `else`.
 

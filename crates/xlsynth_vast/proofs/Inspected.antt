@@ -18,6 +18,7 @@ use Rattle.vast_literal.specs.Shape.{is_external}
 use Rattle.vast_literal.specs.Shape.{base_of}
 use Rattle.vast_core.specs.Bench.{Bench, has_root, tree_of, type_of}
 use Rattle.vast_core.proofs.Lists.{All-cons, All-head, All-tail}
+use Rattle.xlsynth_vast.proofs.Widths.{unknown-external}
 use Rattle.xlsynth_vast.specs.Inspections.{known_bits, type_at, width_at}
 
 -- A root that is a name is no other node.
@@ -58,17 +59,6 @@ bits-exceeding : (o : Option ℤ) → Exceeds o → known_bits o ≡ pos 0
 bits-exceeding None h = absurd h
 bits-exceeding (Some (pos n)) h = grind (arith, nat_tests)
 bits-exceeding (Some (negsuc n)) h = absurd (omega (arith, ints))
-
-unknown-external : (t : TypeTree) → IsTrue (is_external t) → base_bits t ≡ None
-unknown-external (ExternalTree name) h = refl
-unknown-external (PackageTree package_name name) h = refl
-unknown-external (ScalarTree signed) h = cc
-unknown-external (VectorTree width value signed) h = cc
-unknown-external (IntegerTree signed) h = cc
-unknown-external (IntTree signed) h = cc
-unknown-external (PackedTree element dimensions) h = cc
-unknown-external (UnpackedTree element dimensions) h = cc
-unknown-external MissingType h = cc
 
 pub bits-refused : (b : Bench) (t : TypeTree) (fault : BitCountFault) → CountRefused b t fault → known_bits (bit_count t) ≡ pos 0
 unfolding bit_count

@@ -15,6 +15,7 @@ use Rattle.vast_core.specs.Bench.{Bench}
 use Rattle.vast_core.specs.Records.{ModuleRecord, IsFree}
 use Rattle.vast_core.specs.Nests.{FunctionRecord}
 use Rattle.vast_core.proofs.Lists.{All-cons, All-head, All-tail}
+use Rattle.vast_core.proofs.Names.{true-not-false, or-left, or-right}
 use Rattle.xlsynth_vast.specs.Declarations.{names_in, already_declared, unless_taken}
 use Rattle.xlsynth_vast.specs.Functions.{declared_in_function, unless_taken_in_function}
 
@@ -38,22 +39,11 @@ pub not-among : (name : List ℕ) (names : List (List ℕ)) → IsFree name name
 not-among name [] h = refl
 not-among name (x ∷ xs) h = rw (unequal-case x name (bytes_eq x name) refl (All-head (λ taken. taken ≢ name) x xs h)) (not-among name xs (All-tail (λ taken. taken ≢ name) x xs h))
 
-true-not-false : true ≡ false → ⊥
-true-not-false h = cc
-
-left-false : (a b : Bool) → a || b ≡ false → a ≡ false
-left-false true b h = h
-left-false false b h = refl
-
-right-false : (a b : Bool) → a || b ≡ false → b ≡ false
-right-false true b h = absurd (true-not-false h)
-right-false false b h = h
-
 among-none : (name : List ℕ) (names : List (List ℕ)) → is_among names name ≡ false → IsFree name names
 among-none name [] h = λ k d below. absurd (omega arith)
 among-none name (x ∷ xs) h =
-    let other : (x ≡ name) → ⊥ = λ e. true-not-false (sym ((bytes_eq-Decides x name).1 e) ∙ left-false (bytes_eq x name) (is_among xs name) h)
-    in All-cons (λ taken. taken ≢ name) x xs other (among-none name xs (right-false (bytes_eq x name) (is_among xs name) h))
+    let other : (x ≡ name) → ⊥ = λ e. true-not-false (sym ((bytes_eq-Decides x name).1 e) ∙ or-left (bytes_eq x name) (is_among xs name) h)
+    in All-cons (λ taken. taken ≢ name) x xs other (among-none name xs (or-right (bytes_eq x name) (is_among xs name) h))
 
 among-case : (name : List ℕ) (names : List (List ℕ)) (t : Bool) → is_among names name ≡ t → (IsFree name names → ⊥) → is_among names name ≡ true
 among-case name names true e h = e

@@ -18,9 +18,8 @@ use Rattle.vast_core.specs.Nests.{StatementEntry, AssignStatement, ContinuousSta
 use Rattle.vast_core.specs.Bench.{Bench, OwnsExpr, OwnsType, is_continuous, tree_of, type_of, maybe_tree_of, trees_of}
 use Rattle.vast_core.specs.Sound.{Each, HoldsBlock, EventSound, VariableSound, ConnectionSound, PortSound, ParameterPortSound, AssignmentSound, DefinitionSound, ArtifactSound, InstanceSound, MemberSound, StatementSound, ElseIfSound, CaseArmSound, AlwaysNewer, MemberNewer, LoopMemberSound, NestSound, FunctionSound, AlwaysSound, ModuleSound, RecordsSound}
 use Rattle.vast_core.specs.FileTree.{Family, BlockFamily, block_in, conditional_statement, case_statement, conditional_member, loop_member, definition_tree, form_tree, artifact_member, connection_tree, instance_member, statement_in, statements_in, otherwise_in, alternates_in, arms_in, always_in, variable_tree, function_in, member_in, members_in, family, unfolded, families, maybe_port_tree, port_tree, parameter_port_tree, maybe_module_tree, item_tree, tree}
-use Rattle.vast_core.proofs.Lists.{Each-get}
+use Rattle.vast_core.proofs.Lists.{Each-get, below-of, none-past}
 use Rattle.vast_core.proofs.Laws.{macro_ref_is_expr}
-use Rattle.vast_core.proofs.Readers.{below-of}
 use Rattle.vast_core.proofs.Sound.{never}
 use Rattle.vast_core.proofs.NodeLaws.{type_in-kept}
 use Rattle.vast_core.proofs.Nests.{get-before, family-at, nest-at}
@@ -104,11 +103,6 @@ assignment-at b c a i None e n = absurd (n refl)
 assignment-at b c a i (Some x) e n =
     let h = Each-get (AssignmentSound b) b.assignments i x a.sound.assignments e in
     record { assignment = x; there = e; here = a.wider.assignments i x e; left = expr-alike b c a x.lhs h.0; right = expr-alike b c a x.rhs h.1 }
-
-none-past : {A : Type 0} (xs : List A) (i : ℕ) → slice_get xs i ≡ None → length xs ≤ i
-none-past [] i e = zero-le
-none-past (x ∷ xs) zero e = cc
-none-past (x ∷ xs) (suc i) e = let h = none-past xs i e in omega (arith, h)
 
 numbered : {A : Type 0} (xs : List A) (i : ℕ) → IsTrue (nat_lt i (length xs)) → slice_get xs i ≡ None → ⊥
 numbered xs i h e = let below : i < length xs = below-of i (length xs) h in let past = none-past xs i e in absurd (omega (arith, below, past))

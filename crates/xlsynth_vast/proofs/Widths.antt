@@ -90,17 +90,17 @@ pub symbolic_count : (t : TypeTree) (e : ExprTree) → vector_width (base_of t) 
 unfolding bit_count
 symbolic_count t e h none = rw none (ap Err (symbolic (base_of t) e h).1)
 
-unknown : (t : TypeTree) → IsTrue (is_external t) → base_bits t ≡ None
-unknown (ExternalTree name) h = refl
-unknown (PackageTree package_name name) h = refl
-unknown (ScalarTree signed) h = absurd (true≢false (sym h))
-unknown (VectorTree width value signed) h = absurd (true≢false (sym h))
-unknown (IntegerTree signed) h = absurd (true≢false (sym h))
-unknown (IntTree signed) h = absurd (true≢false (sym h))
-unknown (PackedTree element dimensions) h = absurd (true≢false (sym h))
-unknown (UnpackedTree element dimensions) h = absurd (true≢false (sym h))
-unknown MissingType h = absurd (true≢false (sym h))
+pub unknown-external : (t : TypeTree) → IsTrue (is_external t) → base_bits t ≡ None
+unknown-external (ExternalTree name) h = refl
+unknown-external (PackageTree package_name name) h = refl
+unknown-external (ScalarTree signed) h = absurd (true≢false (sym h))
+unknown-external (VectorTree width value signed) h = absurd (true≢false (sym h))
+unknown-external (IntegerTree signed) h = absurd (true≢false (sym h))
+unknown-external (IntTree signed) h = absurd (true≢false (sym h))
+unknown-external (PackedTree element dimensions) h = absurd (true≢false (sym h))
+unknown-external (UnpackedTree element dimensions) h = absurd (true≢false (sym h))
+unknown-external MissingType h = absurd (true≢false (sym h))
 
 pub external_count : (t u : TypeTree) → u ≡ base_of t → IsTrue (is_external (base_of t)) → flat_bits t ≡ Err (uncounted u)
 unfolding bit_count
-external_count t u same h = rw (unknown (base_of t) h, same) refl
+external_count t u same h = rw (unknown-external (base_of t) h, same) refl
