@@ -3,6 +3,7 @@ use Rattle.std.proofs.Common.{◌≡◌, ℕ, Bool, true, false, not, ◌&&◌, 
 use Rattle.std.specs.Prelude.{if◌then◌else◌, ◌==◌}
 use Rattle.std.specs.Char.{is_ascii_digit, is_ascii_uppercase, is_ascii_lowercase}
 use Rattle.std.specs.List.{list_all}
+use Rattle.std.proofs.lemmas.Bool.{and_from, and_parts, and_right, or_from, false_from_ne_true}
 use Rattle.std.proofs.lemmas.List.Folds.{list_all-append}
 use Rattle.vast_literal.specs.declared.operator.UnaryOperator.{UnaryOperator as UnaryOp}
 use Rattle.vast_literal.specs.declared.operator.UnaryOperator.TheVariants.{Negate as NegateOp, BitwiseNot as BitwiseNotOp, LogicalNot as LogicalNotOp, AndReduce as AndReduceOp, OrReduce as OrReduceOp, XorReduce as XorReduceOp}
@@ -13,10 +14,11 @@ use Rattle.vast_literal.specs.Tree.{TypeTree, ScalarTree, VectorTree, IntegerTre
 use Rattle.vast_literal.specs.Shape.{is_scalar_name, is_zero}
 use Rattle.vast_print.specs.declared.refusal.Refusal.{Refusal}
 use Rattle.vast_print.specs.declared.refusal.Refusal.TheVariants.{ScalarIndex, ScalarSlice}
-use Rattle.vast_print.specs.Printed.{Printed, plain_text, refused, ◌⊕◌, wrapped}
+use Rattle.vast_print.specs.Printed.{Printed, plain_text, ◌⊕◌, wrapped}
 use Rattle.vast_print.specs.Levels.{unary_operator_text, binary_operator_text}
 use Rattle.vast_print.specs.Bare.{is_number, begins_word, continues_word, is_word, is_bare, is_bare_head}
 use Rattle.vast_print.specs.Text.{elided, cast_to, width_cast, expr_text, type_cast}
+use Rattle.vast_print.proofs.FaultLaws.{elided_text}
 
 -- a text with a byte that no word has isn't bare
 
@@ -34,43 +36,22 @@ begin-continues false false true x y h = refl
 begin-continues false false false true y h = refl
 begin-continues false false false false y h = absurd (cc (h))
 
-both : (a b : Bool) → a ≡ true → b ≡ true → (a && b) ≡ true
-both true true h i = refl
-both true false h i = absurd (cc (i))
-both false b h i = absurd (cc (h))
-
-left : (a b : Bool) → (a && b) ≡ true → a ≡ true
-left true b h = refl
-left false b h = absurd (cc (h))
-
-right : (a b : Bool) → (a && b) ≡ true → b ≡ true
-right true b h = h
-right false b h = absurd (cc (h))
-
-neither : (a b : Bool) → a ≡ false → b ≡ false → (a || b) ≡ false
-neither true b h i = absurd (cc (h))
-neither false b h i = i
-
-false-by : (b : Bool) → (b ≡ true → ⊥) → b ≡ false
-false-by true h = absurd (h refl)
-false-by false h = refl
-
 digit-word : (c : ℕ) → is_ascii_digit c ≡ true → continues_word c ≡ true
 digit-word c h = digit-continues (is_ascii_digit c) (is_ascii_uppercase c) (is_ascii_lowercase c) (c == 95) (c == 36) h
 
 digits-words : (w : List ℕ) → list_all is_ascii_digit w ≡ true → list_all continues_word w ≡ true
 digits-words [] h = refl
 digits-words (c ∷ w) h =
-    both (continues_word c) (list_all continues_word w)
-    (digit-word c (left (is_ascii_digit c) (list_all is_ascii_digit w) h))
-    (digits-words w (right (is_ascii_digit c) (list_all is_ascii_digit w) h))
+    and_from (continues_word c) (list_all continues_word w)
+    (digit-word c (and_parts (is_ascii_digit c) (list_all is_ascii_digit w) h).0)
+    (digits-words w (and_parts (is_ascii_digit c) (list_all is_ascii_digit w) h).1)
 
 word-words : (w : List ℕ) → is_word w ≡ true → list_all continues_word w ≡ true
 word-words [] h = refl
 word-words (c ∷ w) h =
-    both (continues_word c) (list_all continues_word w)
-    (begin-continues (is_ascii_digit c) (is_ascii_uppercase c) (is_ascii_lowercase c) (c == 95) (c == 36) (left (begins_word c) (list_all continues_word w) h))
-    (right (begins_word c) (list_all continues_word w) h)
+    and_from (continues_word c) (list_all continues_word w)
+    (begin-continues (is_ascii_digit c) (is_ascii_uppercase c) (is_ascii_lowercase c) (c == 95) (c == 36) ((and_parts (begins_word c) (list_all continues_word w) h).0))
+    ((and_parts (begins_word c) (list_all continues_word w) h).1)
 
 number-words : (w : List ℕ) → is_number w ≡ true → list_all continues_word w ≡ true
 number-words [] h = refl
@@ -79,19 +60,15 @@ number-words (c ∷ w) h = digits-words (c ∷ w) h
 broken-bare : (w : List ℕ) → Broken w → is_bare w ≡ false
 unfolding is_bare
 broken-bare w b =
-    neither (is_number w) (is_word w)
-    (false-by (is_number w) (λ h. cc (number-words w h, b.broken)))
-    (false-by (is_word w) (λ h. cc (word-words w h, b.broken)))
+    or_from (is_number w) (is_word w)
+    (false_from_ne_true (is_number w) (λ h. cc (number-words w h, b.broken)))
+    (false_from_ne_true (is_word w) (λ h. cc (word-words w h, b.broken)))
 
 broken-left : (a b : List ℕ) → Broken a → Broken (a ++ b)
 broken-left a b h = record { broken = list_all-append continues_word a b ∙ rw (h.broken) refl }
 
-and-false : (a : Bool) → (a && false) ≡ false
-and-false true = refl
-and-false false = refl
-
 broken-right : (a b : List ℕ) → Broken b → Broken (a ++ b)
-broken-right a b h = record { broken = list_all-append continues_word a b ∙ rw (h.broken) (and-false (list_all continues_word a)) }
+broken-right a b h = record { broken = list_all-append continues_word a b ∙ rw (h.broken) (and_right (list_all continues_word a) false refl) }
 
 -- casts, selects and lists end in a bracket
 
@@ -162,14 +139,9 @@ broken-type-cast MissingType p = broken-cast _ _
 
 -- a select: an elided one has its name's text
 
-bare-elided : (z : Bool) (r : Refusal) (p : Printed) → (elided z r p).text ≡ p.text
-unfolding elided refused
-bare-elided true r p = refl
-bare-elided false r p = refl
-
 bare-select : (scalar z : Bool) (r : Refusal) (name select : Printed) (b : Bool) → is_bare name.text ≡ b → Broken select.text →
     is_bare (if scalar then elided z r name else select).text ≡ (scalar && b)
-bare-select true z r name select b h i = ap is_bare (bare-elided z r name) ∙ h
+bare-select true z r name select b h i = ap is_bare (elided_text z r name) ∙ h
 bare-select false z r name select b h i = broken-bare select.text i
 
 broken-width : (w p : Printed) → Broken (width_cast w p).text

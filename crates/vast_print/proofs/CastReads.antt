@@ -1,5 +1,6 @@
 -- Operators, elided selects and casts in the text of an expression.
 use Rattle.std.proofs.Common.{◌≡◌, ℕ, ℤ, pos, List, [], ◌∷◌, ◌++◌, Bool, true, false, cond, not, ◌&&◌, ◌||◌, eqb, eqb-true, None, refl, sym, subst, ◌∙◌, ap, append_assoc, arith, nat_le}
+use Rattle.std.proofs.lemmas.Bool.{and_left as false_and}
 use Rattle.std.proofs.lemmas.Bool.Decides.{nat_tests}
 use Rattle.std.specs.Prelude.{negsuc, if◌then◌else◌}
 use Rattle.std.specs.Fmt.{signed_decimal}
@@ -85,10 +86,6 @@ pick_reads false z r s rest e f g = g refl e
 
 pub no_letter : (c : ℕ) → (is_digit c || eqb c 39) ≡ true → is_letter c ≡ false
 no_letter c h = grind (arith, nat_tests)
-
-pub false_and : (a b : Bool) → a ≡ false → (a && b) ≡ false
-false_and true b h = absurd (cc h)
-false_and false b h = refl
 
 pub literal_no_word : (w : List ℕ) → is_literal_text w ≡ true → is_identifier w ≡ false
 literal_no_word [] h = refl

@@ -118,10 +118,7 @@ less_one f = reads_sep f (operator_divides Minus) (number_reads (49 ∷ []) refl
 highest_index_told : (w : ExprTree) (v : Option ℤ) → is_plain w ≡ true → is_edgeless w ≡ true → is_well_formed w ≡ true → (highest_index_text w v).fault ≡ None → Reads (highest_index_text w v).text (highest_index_tokens w v)
 unfolding highest_index_text highest_index_tokens ◌⊕◌ plain_text
 highest_index_told w (Some v) p l h f = number_told (v -ℤ pos 1)
-highest_index_told w None p l h f = less_one (wrapped_reads (highest_index_wraps w) (highest_index_wraps w) (expr_text w) refl (expr_reads w p l h (highest_index_fault w f)))
-  where
-    highest_index_fault : (e : ExprTree) → (highest_index_text e None).fault ≡ None → (expr_text e).fault ≡ None
-    highest_index_fault e g = highest_index_fine e g
+highest_index_told w None p l h f = less_one (wrapped_reads (highest_index_wraps w) (highest_index_wraps w) (expr_text w) refl (expr_reads w p l h (highest_index_fine w f)))
 
 -- types
 
@@ -256,8 +253,5 @@ declaration_reads dialect kind t n p w f =
     let p1 = and_right (is_plain_name n) (is_plain_type t && is_edgeless_type t) p in
     declaration_left (type_name_tokens (base_of t)) (maybe_tokens (sign_of (base_of t))) (packed_tokens (packed_dimensions t) ++ vector_tokens (base_of t))
     (spaced_free (plain_text (kind_word kind)) (plain_reads (kind_word kind) (kind_told kind)))
-    (spaced_free (type_text t) (type_told t (and_left _ _ p1) (and_right (is_plain_type t) (is_edgeless_type t) p1) w (declaration_fault dialect kind t n f)))
+    (spaced_free (type_text t) (type_told t (and_left _ _ p1) (and_right (is_plain_type t) (is_edgeless_type t) p1) w (declaration_fine dialect kind t n f)))
     (name_reads n (and_left _ _ p)) (unpacked_told dialect (unpacked_dimensions t))
-  where
-    declaration_fault : (e : Dialect) (k : Kind) (u : TypeTree) (m : List ℕ) → (declaration_text e k u m).fault ≡ None → (type_text u).fault ≡ None
-    declaration_fault e k u m g = declaration_fine e k u m g

@@ -116,7 +116,4 @@ close_name f = as_reads (free_free close_space.free (reads_end f space_open))
 pub connections_whole : (cs : List Connection) → are_plain_connections cs ≡ true → are_well_formed_connections cs ≡ true → (connections_page cs).fault ≡ None → Whole (connections_page cs) (separated (each_connection cs))
 unfolding connections_page each_connection separated
 connections_whole [] p w f = whole_blank
-connections_whole (c ∷ cs) p w f = entries_whole (map connection_text (c ∷ cs)) (connection_tokens c ∷ each_connection cs) (all_connections (c ∷ cs) p w (entries_fine (map connection_text (c ∷ cs)) f))
-  where
-    all_connections : (ds : List Connection) → are_plain_connections ds ≡ true → are_well_formed_connections ds ≡ true → AllFine (map connection_text ds) → AllRead (map connection_text ds) (each_connection ds)
-    all_connections ds a b g = connections_told ds a b g
+connections_whole (c ∷ cs) p w f = entries_whole (map connection_text (c ∷ cs)) (connection_tokens c ∷ each_connection cs) (connections_told (c ∷ cs) p w (entries_fine (map connection_text (c ∷ cs)) f))

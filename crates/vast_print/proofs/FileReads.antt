@@ -44,7 +44,7 @@ use Rattle.vast_literal.proofs.FilesSpelled.{file_spelled}
 use Rattle.vast_print.specs.Page.{print}
 use Rattle.vast_print.specs.Layout.{direction_word, port_text, typed_text, parameter_port_text, ports_page, parameter_ports_page, opening_page, header_page, body_page, module_page, item_page, items_page, layout}
 use Rattle.vast_print.proofs.PageLines.{print_tokens}
-use Rattle.vast_print.proofs.EntryReads.{AllRead, all_none, all_more, AllFine, fine_none, fine_more, entries_fine, entries_whole}
+use Rattle.vast_print.proofs.EntryReads.{AllRead, all_none, all_more, AllFine, fine_none, fine_more, entries_fine, entries_whole, hash_open, close_semicolon}
 use Rattle.vast_print.proofs.FunctionReads.{port_told}
 use Rattle.vast_print.proofs.MemberReads.{members_whole}
 use Rattle.vast_literal.proofs.ScanLaws.{scan_macro, not_or_left, not_or_right, or_left, or_right}
@@ -119,20 +119,9 @@ opening_whole : (n e : List ℕ) {es : List Token} → is_plain_name n ≡ true 
 unfolding opening_page ◌⊕◌ plain_text key_text
 opening_whole n e p f = whole (open_written (plain_text (codes "module ") ⊕ plain_text n ⊕ plain_text e) (opening_left (name_reads n p) f))
 
-open_mark : Divides (40 ∷ []) (Mark OpenParen ∷ [])
-open_mark = open_paren
-
-hash_open : Divides (32 ∷ 35 ∷ 40 ∷ []) (Mark Hash ∷ Mark OpenParen ∷ [])
-unfolding scan
-hash_open = record { free = record { at = λ rest. refl }; stop = λ rest. refl }
-
 close_open : Reads (41 ∷ 32 ∷ 40 ∷ []) (Mark CloseParen ∷ Mark OpenParen ∷ [])
 unfolding scan
 close_open = record { at = λ rest h. refl }
-
-close_end : Reads (41 ∷ 59 ∷ []) (Mark CloseParen ∷ Mark Semicolon ∷ [])
-unfolding scan
-close_end = record { at = λ rest h. refl }
 
 header_none : (n : List ℕ) → is_plain_name n ≡ true → Whole (opening_page n (codes ";")) (Reserved ModuleKey ∷ (Word n ∷ (Mark Semicolon ∷ [])))
 header_none n p = opening_whole n (codes ";") p semicolon
@@ -149,11 +138,11 @@ header_whole : (dialect : Dialect) (n : List ℕ) (ps : List ParameterPortTree) 
 unfolding header_page header_parameter_tokens header_port_tokens
 header_whole dialect n [] [] p a b c d f = header_none n p
 header_whole dialect n [] (q ∷ qs) p a b c d f = same_whole (regroup_list n (Mark OpenParen ∷ []) (separated (each_port dialect (q ∷ qs))))
-    (whole_above (opening_whole n (codes "(") p open_mark)
-    (whole_above (ports_whole dialect (q ∷ qs) b d ((above_fine (ports_page dialect (q ∷ qs)) _ ((above_fine _ _ f).1)).0)) (whole (open_line (codes ");") close_end))))
+    (whole_above (opening_whole n (codes "(") p open_paren)
+    (whole_above (ports_whole dialect (q ∷ qs) b d ((above_fine (ports_page dialect (q ∷ qs)) _ ((above_fine _ _ f).1)).0)) (whole (open_line (codes ");") (as_reads close_semicolon.free)))))
 header_whole dialect n (p ∷ ps) [] h a b c d f = same_whole (regroup_list n (Mark Hash ∷ Mark OpenParen ∷ []) (separated (each_parameter dialect (p ∷ ps))))
     (whole_above (opening_whole n (codes " #(") h hash_open)
-    (whole_above (header_parameters_whole dialect (p ∷ ps) a c ((above_fine (parameter_ports_page dialect (p ∷ ps)) _ ((above_fine _ _ f).1)).0)) (whole (open_line (codes ");") close_end))))
+    (whole_above (header_parameters_whole dialect (p ∷ ps) a c ((above_fine (parameter_ports_page dialect (p ∷ ps)) _ ((above_fine _ _ f).1)).0)) (whole (open_line (codes ");") (as_reads close_semicolon.free)))))
 header_whole dialect n (p ∷ ps) (q ∷ qs) h a b c d f =
     let x = (above_fine _ _ f).1 in
     let (y, z) = above_fine (parameter_ports_page dialect (p ∷ ps)) _ x in
@@ -161,7 +150,7 @@ header_whole dialect n (p ∷ ps) (q ∷ qs) h a b c d f =
     let v = (above_fine (ports_page dialect (q ∷ qs)) _ u).0 in
     same_whole (regroup_lists n (separated (each_parameter dialect (p ∷ ps))) (separated (each_port dialect (q ∷ qs))))
     (whole_above (opening_whole n (codes " #(") h hash_open)
-    (whole_above (header_parameters_whole dialect (p ∷ ps) a c y) (whole_above (whole (open_line (codes ") (") close_open)) (whole_above (ports_whole dialect (q ∷ qs) b d v) (whole (open_line (codes ");") close_end))))))
+    (whole_above (header_parameters_whole dialect (p ∷ ps) a c y) (whole_above (whole (open_line (codes ") (") close_open)) (whole_above (ports_whole dialect (q ∷ qs) b d v) (whole (open_line (codes ");") (as_reads close_semicolon.free)))))))
 
 -- modules
 

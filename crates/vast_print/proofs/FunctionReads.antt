@@ -1,6 +1,6 @@
 -- Functions have the tokens that the grammar reads.
 use Rattle.std.proofs.Common.{◌≡◌, ℕ, List, [], ◌∷◌, ◌++◌, Bool, true, false, cond, ◌&&◌, None, refl, sym, ap, append_assoc, append-nil, codes}
-use Rattle.vast_literal.specs.Tokens.{Token, Key, key_text, Reserved, FunctionKey, AutomaticKey, EndFunctionKey, InputKey, Mark, OpenParen, CloseParen, Semicolon, Comma}
+use Rattle.vast_literal.specs.Tokens.{Token, key_text, Reserved, FunctionKey, AutomaticKey, EndFunctionKey, InputKey, Mark, OpenParen, CloseParen, Semicolon, Comma}
 use Rattle.vast_literal.specs.Tree.{Declaration, TypeTree}
 use Rattle.vast_literal.specs.declared.kind.VastFileType.{VastFileType as Dialect}
 use Rattle.vast_literal.specs.Tree.{FunctionTree}
@@ -14,7 +14,7 @@ use Rattle.vast_literal.proofs.ScanLaws.{and_left, and_right}
 use Rattle.vast_literal.proofs.Pieces.{free_reads, free_free, reads_end, as_reads, reads_reads, reads_sep, comma}
 use Rattle.vast_literal.proofs.Words.{key_reads}
 use Rattle.vast_literal.specs.Shape.{port_kind, result_kind}
-use Rattle.vast_print.specs.Printed.{Printed, plain_text, ◌⊕◌}
+use Rattle.vast_print.specs.Printed.{plain_text, ◌⊕◌}
 use Rattle.vast_print.specs.Declaration.{declared_text, port_declaration_text}
 use Rattle.vast_print.specs.Page.{inner, above}
 use Rattle.vast_print.specs.Statements.{statements_page, block_page}
@@ -41,16 +41,13 @@ result_told dialect t n p w f = declaration_reads dialect (result_kind dialect t
 
 -- inputs
 
-pub key_free : (k : Key) (p : Printed) {ts : List Token} → Reads p.text ts → Reads ((key_text k ++ (32 ∷ [])) ++ p.text) (Reserved k ∷ ts)
-key_free k p f = free_reads (key_space k) f
-
 input_fine : (dialect : Dialect) (d : Declaration) → (input_text dialect d).fault ≡ None → (port_declaration_text dialect d).fault ≡ None
 unfolding input_text
 input_fine dialect d f = (both_fine _ (port_declaration_text dialect d) f).1
 
 input_shape : (dialect : Dialect) (d : Declaration) → Reads (port_declaration_text dialect d).text (port_declaration_tokens dialect d) → Reads (input_text dialect d).text (Reserved InputKey ∷ port_declaration_tokens dialect d)
 unfolding input_text ◌⊕◌ plain_text key_text
-input_shape dialect d r = key_free InputKey (port_declaration_text dialect d) r
+input_shape dialect d r = free_reads (key_space InputKey) r
 
 input_told : (dialect : Dialect) (d : Declaration) → is_plain_declared d ≡ true → is_well_formed_type d.type ≡ true → (input_text dialect d).fault ≡ None → Reads (input_text dialect d).text (Reserved InputKey ∷ port_declaration_tokens dialect d)
 input_told dialect d p w f = input_shape dialect d (port_told dialect d p w (input_fine dialect d f))
@@ -123,12 +120,9 @@ locals_fine dialect d ds f = above_fine (local_page dialect d) (locals_page dial
 locals_whole : (dialect : Dialect) (ds : List Declaration) → are_plain_declared ds ≡ true → are_well_formed_locals ds ≡ true → (locals_page dialect ds).fault ≡ None → Whole (locals_page dialect ds) (local_tokens dialect ds)
 unfolding locals_page local_tokens
 locals_whole dialect [] p w f = whole_none
-locals_whole dialect (d ∷ ds) p w f = let (x, y) = locals_fault dialect d ds f in
+locals_whole dialect (d ∷ ds) p w f = let (x, y) = locals_fine dialect d ds f in
     whole_above (local_whole dialect d (declared_told dialect d (and_left _ _ p) (and_right (is_local_word d.kind) (is_well_formed_type d.type) (and_left _ _ w)) (local_fine dialect d x)))
     (locals_whole dialect ds (and_right (is_plain_declared d) (are_plain_declared ds) p) (and_right (is_local_word d.kind && is_well_formed_type d.type) (are_well_formed_locals ds) w) y)
-  where
-    locals_fault : (e : Dialect) (c : Declaration) (cs : List Declaration) → (locals_page e (c ∷ cs)).fault ≡ None → ((local_page e c).fault ≡ None) × ((locals_page e cs).fault ≡ None)
-    locals_fault e c cs g = locals_fine e c cs g
 
 body_fine : (b : Statements) → (function_body_page b).fault ≡ None → (statements_page b).fault ≡ None
 unfolding function_body_page

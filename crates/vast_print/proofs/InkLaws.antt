@@ -1,5 +1,5 @@
 -- Laws of writing pages: what becomes of a text where a page made of parts is written behind it.
-use Rattle.std.proofs.Common.{◌≡◌, ℕ, Bool, true, ◌+◌, List, [], ◌∷◌, ◌++◌, refl, sym, ◌∙◌, ap, add-zero, append-nil, Option, None, Some}
+use Rattle.std.proofs.Common.{◌≡◌, ℕ, true, ◌+◌, List, [], ◌∷◌, ◌++◌, refl, sym, ◌∙◌, ap, add-zero, append-nil, Option, None, Some}
 use Rattle.vast_print.specs.declared.refusal.Refusal.{Refusal}
 use Rattle.vast_print.specs.Printed.{Printed, first_fault, plain_text, refused, ◌⊕◌}
 use Rattle.vast_print.specs.Page.{Page, print, print_lines, no_lines, line, one_line, inner, lead, above, beside, written, written_lines, note, commented, commented_lines}
@@ -134,9 +134,6 @@ written-step d k bs w v e h =
     ap (λ x. pour_lines d k (written_lines x)) e
     ∙ (ap (λ x. pour_lines d k x) (written-break w v h) ∙ hang-flush d (word k w) (written_lines v) (Flush-written v))
 
-pub written-last : (d : ℕ) (k : Ink) (w : List ℕ) → Unbroken w → pour d k (written (plain_text w)) ≡ word k w
-written-last d k w h = plain-word d k w h
-
 pub comment-step :
     (d : ℕ) (k : Ink) (bs w v : List ℕ) → bs ≡ w ++ (10 ∷ v) → Unbroken w →
     hang d k (commented (written (plain_text bs))) ≡ hang d (hang d k (commented (line w))) (commented (written (plain_text v)))
@@ -161,49 +158,39 @@ pub whole-page : (p : Page) (k : Draft) → hang 0 (Wet unwritten) p ≡ Wet k �
 unfolding hang print stop whole
 whole-page p k h = go p.fault h
   where
-    printed : (j : Draft) × (hang_lines 0 (Wet unwritten) p.lines ≡ Wet j) × (whole j ≡ whole unwritten ++ print_lines p.lines)
-    printed = whole-print unwritten p.lines
-
     go : (f : Option Refusal) → stop (hang_lines 0 (Wet unwritten) p.lines) f ≡ Wet k → (f ≡ None) × (whole k ≡ print_lines p.lines)
     go None e =
-        let j : printed.0 ≡ k = cc (printed.1, e)
-        in (refl, ap whole (sym j) ∙ printed.2)
-    go (Some r) e = absurd (let b : stop (Wet printed.0) (Some r) ≡ Wet k = ap (λ x. stop x (Some r)) (sym printed.1) ∙ e in cc (b))
+        let (j, f, g) = whole-print unwritten p.lines in
+        let i : j ≡ k = cc (f, e) in
+        (refl, ap whole (sym i) ∙ g)
+    go (Some r) e = absurd (let (j, f, g) = whole-print unwritten p.lines in let b : stop (Wet j) (Some r) ≡ Wet k = ap (λ x. stop x (Some r)) (sym f) ∙ e in cc (b))
 
 pub whole-fault : (p : Page) (r : Refusal) → hang 0 (Wet unwritten) p ≡ Stopped r → p.fault ≡ Some r
 unfolding hang stop
 whole-fault p r h = go p.fault h
   where
-    printed : (j : Draft) × (hang_lines 0 (Wet unwritten) p.lines ≡ Wet j) × (whole j ≡ whole unwritten ++ print_lines p.lines)
-    printed = whole-print unwritten p.lines
-
     go : (f : Option Refusal) → stop (hang_lines 0 (Wet unwritten) p.lines) f ≡ Stopped r → f ≡ Some r
-    go None e = absurd (let b : Wet printed.0 ≡ Stopped r = sym printed.1 ∙ e in cc (b))
-    go (Some s) e = let b : stop (Wet printed.0) (Some s) ≡ Stopped r = ap (λ x. stop x (Some s)) (sym printed.1) ∙ e in cc (b)
+    go None e = absurd (let (j, f, g) = whole-print unwritten p.lines in let b : Wet j ≡ Stopped r = sym f ∙ e in cc (b))
+    go (Some s) e = let (j, f, g) = whole-print unwritten p.lines in let b : stop (Wet j) (Some s) ≡ Stopped r = ap (λ x. stop x (Some s)) (sym f) ∙ e in cc (b)
 
 -- an expression's text ends as it is, or at its first refusal
 pub line-text : (p : Printed) (k : Draft) → pour 0 (next 0 (Wet unwritten)) (written p) ≡ Wet k → (p.fault ≡ None) × (k.text ≡ p.text)
 unfolding pour written next stop
 line-text p k h = go p.fault h
   where
-    poured : (g : Bool) × (pour_lines 0 (Wet (flat [] true)) (written_lines p.text) ≡ Wet (flat ([] ++ p.text) g))
-    poured = pour-flat [] true p.text
-
     go : (f : Option Refusal) → stop (pour_lines 0 (Wet (flat [] true)) (written_lines p.text)) f ≡ Wet k → (f ≡ None) × (k.text ≡ p.text)
     go None e =
-        let j : flat p.text poured.0 ≡ k = cc (poured.1, e)
-        in (refl, ap (λ (x : Draft). x.text) (sym j))
-    go (Some r) e = absurd (let b : stop (Wet (flat p.text poured.0)) (Some r) ≡ Wet k = ap (λ x. stop x (Some r)) (sym poured.1) ∙ e in cc (b))
+        let (g, q) = pour-flat [] true p.text in
+        let j : flat p.text g ≡ k = cc (q, e) in
+        (refl, ap (λ (x : Draft). x.text) (sym j))
+    go (Some r) e = absurd (let (g, q) = pour-flat [] true p.text in let b : stop (Wet (flat p.text g)) (Some r) ≡ Wet k = ap (λ x. stop x (Some r)) (sym q) ∙ e in cc (b))
 
 pub line-fault : (p : Printed) (r : Refusal) → pour 0 (next 0 (Wet unwritten)) (written p) ≡ Stopped r → p.fault ≡ Some r
 unfolding pour written next stop
 line-fault p r h = go p.fault h
   where
-    poured : (g : Bool) × (pour_lines 0 (Wet (flat [] true)) (written_lines p.text) ≡ Wet (flat ([] ++ p.text) g))
-    poured = pour-flat [] true p.text
-
     go : (f : Option Refusal) → stop (pour_lines 0 (Wet (flat [] true)) (written_lines p.text)) f ≡ Stopped r → f ≡ Some r
-    go None e = absurd (let b : Wet (flat p.text poured.0) ≡ Stopped r = sym poured.1 ∙ e in cc (b))
-    go (Some s) e = let b : stop (Wet (flat p.text poured.0)) (Some s) ≡ Stopped r = ap (λ x. stop x (Some s)) (sym poured.1) ∙ e in cc (b)
+    go None e = absurd (let (g, q) = pour-flat [] true p.text in let b : Wet (flat p.text g) ≡ Stopped r = sym q ∙ e in cc (b))
+    go (Some s) e = let (g, q) = pour-flat [] true p.text in let b : stop (Wet (flat p.text g)) (Some s) ≡ Stopped r = ap (λ x. stop x (Some s)) (sym q) ∙ e in cc (b)
 
 pub ruleset comments = (commented-line, hang-line, word-word, word-stopped, next-stopped)

@@ -57,16 +57,13 @@ regroup_instance m i gs cs = simp append_assoc
 pub instance_whole : (i : InstanceTree) → is_plain_instance i ≡ true → (are_given i.parameters && are_well_formed_connections i.connections) ≡ true → (instance_page i).fault ≡ None → Whole (instance_page i) (instance_tokens i)
 unfolding instance_page instance_tokens
 instance_whole i p w f =
-    let (x, y) = instance_faults i f in
+    let (x, y) = instance_fine i f in
     let p0 = and_left (is_plain_name i.module_name && is_plain_name i.instance_name) (are_plain_connections i.parameters && are_plain_connections i.connections) p in
     let p1 = and_right (is_plain_name i.module_name && is_plain_name i.instance_name) (are_plain_connections i.parameters && are_plain_connections i.connections) p in
     same_whole (regroup_instance i.module_name i.instance_name (given_tokens i.parameters) (separated (each_connection i.connections)))
     (whole_above (head_told i.module_name i.parameters i.instance_name (and_left _ _ p0) (and_right (is_plain_name i.module_name) (is_plain_name i.instance_name) p0) (and_left _ _ p1) (and_left _ _ w) x)
     (whole_above (connections_whole i.connections (and_right (are_plain_connections i.parameters) (are_plain_connections i.connections) p1) (and_right (are_given i.parameters) (are_well_formed_connections i.connections) w) y)
     (whole (open_line (codes ");") (as_reads close_semicolon.free)))))
-  where
-    instance_faults : (j : InstanceTree) → (instance_page j).fault ≡ None → ((instance_head_page j.module_name j.parameters j.instance_name).fault ≡ None) × ((connections_page j.connections).fault ≡ None)
-    instance_faults j g = instance_fine j g
 
 -- events
 
@@ -169,13 +166,7 @@ pub always_open : (word : AlwaysWord) (es : Exprs) (b : Statements) → are_plai
     Open (beside (written (always_text word es)) (block_page b)) (always_tokens word es (block_tokens (statements_tokens b)))
 unfolding always_text always_tokens ◌⊕◌ plain_text key_text
 always_open AlwaysFFWord es b p w f h = same_open (regroup_always AlwaysFFKey (event_tokens es) (block_tokens (statements_tokens b)))
-    (open_free (plain_text (codes "always_ff @ (") ⊕ events_text es ⊕ plain_text (codes ") ")) (always_left AlwaysFFKey (events_told es p w (always_fault AlwaysFFWord es f (λ e. absurd (cc e))))) h)
-  where
-    always_fault : (v : AlwaysWord) (xs : Exprs) → (always_text v xs).fault ≡ None → (v ≡ AlwaysCombWord → ⊥) → (events_text xs).fault ≡ None
-    always_fault v xs g n = always_fine v xs g n
+    (open_free (plain_text (codes "always_ff @ (") ⊕ events_text es ⊕ plain_text (codes ") ")) (always_left AlwaysFFKey (events_told es p w (always_fine AlwaysFFWord es f (λ e. absurd (cc e))))) h)
 always_open AlwaysAtWord es b p w f h = same_open (regroup_always AlwaysKey (event_tokens es) (block_tokens (statements_tokens b)))
-    (open_free (plain_text (codes "always @ (") ⊕ events_text es ⊕ plain_text (codes ") ")) (always_left AlwaysKey (events_told es p w (always_fault AlwaysAtWord es f (λ e. absurd (cc e))))) h)
-  where
-    always_fault : (v : AlwaysWord) (xs : Exprs) → (always_text v xs).fault ≡ None → (v ≡ AlwaysCombWord → ⊥) → (events_text xs).fault ≡ None
-    always_fault v xs g n = always_fine v xs g n
+    (open_free (plain_text (codes "always @ (") ⊕ events_text es ⊕ plain_text (codes ") ")) (always_left AlwaysKey (events_told es p w (always_fine AlwaysAtWord es f (λ e. absurd (cc e))))) h)
 always_open AlwaysCombWord es b p w f h = open_free (plain_text (codes "always_comb ")) (key_space AlwaysCombKey) h

@@ -1,7 +1,7 @@
 use Rattle.std.proofs.Common.{rules, arith}
 use Rattle.vast_print.specs.Ink.{Wet}
 use Rattle.vast_print.proofs.Lines.{cut, uncut}
-use Rattle.vast_print.proofs.InkLaws.{written-step, written-last}
+use Rattle.vast_print.proofs.InkLaws.{plain-word, written-step}
 use Rattle.vast_print.proofs.writer.Writer.lines.Goals as goal
 
 pub loop-line-preserved : goal.loop-line-preserved
@@ -12,4 +12,4 @@ loop-line-preserved c =
 pub returns : goal.returns
 returns c =
     let q = uncut c.loop-line.rest.now c.in_default.ensures.cases in
-    grind (arith, written-last c.args.depth (Wet c.loop-line.self) c.loop-line.rest.now q)
+    grind (arith, plain-word c.args.depth (Wet c.loop-line.self) c.loop-line.rest.now q)
