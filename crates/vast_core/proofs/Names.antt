@@ -1,5 +1,6 @@
 -- Laws of name sets.
-use Rattle.std.proofs.Common.{◌≡◌, ◌≢◌, ◌↔◌, ℕ, Bool, true, false, not, ◌||◌, IsTrue, List, [], ◌∷◌, map, refl, sym, ap, ◌∙◌, arith, string_bytes, String}
+use Rattle.std.proofs.Common.{◌≡◌, ◌≢◌, ◌↔◌, ℕ, Bool, true, false, not, IsTrue, List, [], ◌∷◌, map, refl, sym, ap, ◌∙◌, arith, string_bytes, String}
+use Rattle.std.proofs.lemmas.Bool.{true≢false, or_parts, or_from, false_from_ne_true}
 use Rattle.std.specs.declared.alloc.Global.{Global}
 use Rattle.std.specs.declared.cmp.Ordering.{Ordering}
 use Rattle.std.specs.declared.cmp.Ordering.TheVariants.{Less, Equal, Greater}
@@ -42,36 +43,19 @@ test-equal a b h = sym ((bytes_eq-Decides a b).0 (sym (is_eq-slice_cmp a b) ∙ 
 test-same : (a b : List ℕ) → b ≡ a → is_eq (slice_cmp nat_cmp a b) ≡ true
 test-same a b h = is_eq-slice_cmp a b ∙ (bytes_eq-Decides a b).1 (sym h)
 
-pub true-not-false : true ≡ false → ⊥
-true-not-false h = cc
-
-pub or-left : (a b : Bool) → a || b ≡ false → a ≡ false
-or-left true b h = h
-or-left false b h = refl
-
-pub or-right : (a b : Bool) → a || b ≡ false → b ≡ false
-or-right true b h = absurd (true-not-false h)
-or-right false b h = h
-
-or-both : (a b : Bool) → a ≡ false → b ≡ false → a || b ≡ false
-or-both a b h k = rw (h, k) refl
-
-not-true : (b : Bool) → (b ≡ true → ⊥) → b ≡ false
-not-true true h = absurd (h refl)
-not-true false h = refl
-
 free-from : (bytes : List ℕ) (names : List (String Global)) → is_taken bytes names ≡ false → IsFree bytes (map string_bytes names)
 free-from bytes [] h = λ k d below. absurd (omega arith)
 free-from bytes (x ∷ xs) h =
-    let other : (string_bytes x ≡ bytes) → ⊥ = λ e. true-not-false (sym (test-same bytes (string_bytes x) e) ∙ or-left (is_eq (slice_cmp nat_cmp bytes (string_bytes x))) (is_taken bytes xs) h)
-    in All-cons (λ taken. taken ≢ bytes) (string_bytes x) (map string_bytes xs) other (free-from bytes xs (or-right (is_eq (slice_cmp nat_cmp bytes (string_bytes x))) (is_taken bytes xs) h))
+    let (first, rest) = or_parts (is_eq (slice_cmp nat_cmp bytes (string_bytes x))) (is_taken bytes xs) h in
+    let other : (string_bytes x ≡ bytes) → ⊥ = λ e. true≢false (sym (test-same bytes (string_bytes x) e) ∙ first)
+    in All-cons (λ taken. taken ≢ bytes) (string_bytes x) (map string_bytes xs) other (free-from bytes xs rest)
 
 free-to : (bytes : List ℕ) (names : List (String Global)) → IsFree bytes (map string_bytes names) → is_taken bytes names ≡ false
 free-to bytes [] h = refl
 free-to bytes (x ∷ xs) h =
     let P : List ℕ → Type 0 = λ taken. taken ≢ bytes in
-    or-both (is_eq (slice_cmp nat_cmp bytes (string_bytes x))) (is_taken bytes xs)
-    (not-true (is_eq (slice_cmp nat_cmp bytes (string_bytes x))) (λ e. All-head P (string_bytes x) (map string_bytes xs) h (test-equal bytes (string_bytes x) e)))
+    or_from (is_eq (slice_cmp nat_cmp bytes (string_bytes x))) (is_taken bytes xs)
+    (false_from_ne_true (is_eq (slice_cmp nat_cmp bytes (string_bytes x))) (λ e. All-head P (string_bytes x) (map string_bytes xs) h (test-equal bytes (string_bytes x) e)))
     (free-to bytes xs (All-tail P (string_bytes x) (map string_bytes xs) h))
 
 false-of-not : (b : Bool) → IsTrue (not b) → b ≡ false

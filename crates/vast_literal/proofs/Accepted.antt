@@ -6,7 +6,7 @@ use Rattle.std.specs.Int.{IsInRange}
 use Rattle.std.specs.List.{list_all}
 use Rattle.std.specs.Char.{is_ascii_digit}
 use Rattle.std.proofs.Math.Nat.{mod_self, mod-eq_of_lt, add-mod_left}
-use Rattle.std.proofs.lemmas.Bool.{lt-ltb, le-leb, ne_eqb, cases_lt, false≢true}
+use Rattle.std.proofs.lemmas.Bool.{lt-ltb, le-leb, ne_eqb, cases_lt, false≢true, and_parts}
 use Rattle.std.proofs.lemmas.Bool.Decides.{nat_tests}
 use Rattle.vast_literal.specs.declared.error.VastFault.{VastFault}
 use Rattle.vast_literal.specs.declared.error.VastFault.TheVariants.{Refused, Memory}
@@ -16,7 +16,6 @@ use Rattle.vast_literal.specs.Literal.{Bits, split_at, typed_parts, without_sign
 use Rattle.vast_literal.specs.Denotes.{IsSign, IsRadixMark, IsModulo, Denotes}
 use Rattle.vast_literal.specs.Denotes.IsSign.{NoSign, PlusSign, MinusSign}
 use Rattle.vast_literal.specs.Denotes.IsRadixMark.{NoMark, LowerHexMark, UpperHexMark, LowerBinaryMark, UpperBinaryMark, LowerOctalMark, UpperOctalMark}
-use Rattle.vast_literal.proofs.Numbers.{both_parts}
 use Rattle.vast_literal.proofs.Parts.{starts_not}
 
 -- the width has no bracket, so the text is cut behind it
@@ -27,12 +26,12 @@ split_at-digits : (w value : List ℕ) → list_all is_ascii_digit w ≡ true �
 unfolding split_at
 split_at-digits [] value h = refl
 split_at-digits (c ∷ cs) value h =
-    let p = both_parts (is_ascii_digit c) (list_all is_ascii_digit cs) h in
+    let p = and_parts (is_ascii_digit c) (list_all is_ascii_digit cs) h in
     rw (starts_not (93 ∷ 58 ∷ []) (c ∷ (cs ++ (93 ∷ 58 ∷ value))) (λ rest e. no_bracket c p.0 (let k : c ≡ 93 = cc in k)), split_at-digits cs value p.1)
 
 typed_as : (text w value : List ℕ) → text ≡ 98 ∷ 105 ∷ 116 ∷ 115 ∷ 91 ∷ (w ++ (93 ∷ 58 ∷ value)) → is_decimal w ≡ true → typed_parts text ≡ Some (w, value)
 unfolding typed_parts is_decimal
-typed_as text w value e h = rw e (split_at-digits w value (both_parts (list_all is_ascii_digit w) _ h).0)
+typed_as text w value e h = rw e (split_at-digits w value (and_parts (list_all is_ascii_digit w) _ h).0)
 
 width_ok : (text w : List ℕ) (n : ℕ) → is_decimal w ≡ true → n ≡ weighted 10 w → 1 ≤ n → n ≤ 1048576 → width_of text w ≡ Ok n
 unfolding width_of
@@ -56,9 +55,9 @@ unfolding radix_and_digits is_numeral
 plain_digits [] h = refl
 plain_digits (z ∷ []) h = refl
 plain_digits (z ∷ m ∷ ds) h =
-    let p = both_parts (list_all (is_digit_or_gap 10) (z ∷ m ∷ ds)) _ h in
-    let q = both_parts (is_digit_or_gap 10 z) _ p.0 in
-    let r = both_parts (is_digit_or_gap 10 m) _ q.1 in
+    let p = and_parts (list_all (is_digit_or_gap 10) (z ∷ m ∷ ds)) _ h in
+    let q = and_parts (is_digit_or_gap 10 z) _ p.0 in
+    let r = and_parts (is_digit_or_gap 10 m) _ q.1 in
     zero_or_not (eqb z 48) z m ds (no_mark m (digit_range m r.0))
 
 mark_read : (mark digits : List ℕ) (radix : ℕ) → IsRadixMark mark radix → is_numeral radix digits ≡ true → radix_and_digits (mark ++ digits) ≡ (radix, digits)
@@ -80,8 +79,8 @@ no_sign_digits : (digits : List ℕ) → is_numeral 10 digits ≡ true → (has_
 unfolding has_minus without_sign is_numeral
 no_sign_digits [] h = (refl, refl)
 no_sign_digits (c ∷ cs) h =
-    let p = both_parts (list_all (is_digit_or_gap 10) (c ∷ cs)) _ h in
-    no_sign_first c cs (digit_range c (both_parts (is_digit_or_gap 10 c) _ p.0).0)
+    let p = and_parts (list_all (is_digit_or_gap 10) (c ∷ cs)) _ h in
+    no_sign_first c cs (digit_range c (and_parts (is_digit_or_gap 10 c) _ p.0).0)
 
 no_sign : (mark digits : List ℕ) (radix : ℕ) → IsRadixMark mark radix → is_numeral radix digits ≡ true → (has_minus (mark ++ digits) ≡ false) × (without_sign (mark ++ digits) ≡ mark ++ digits)
 unfolding has_minus without_sign

@@ -1,5 +1,6 @@
 -- Each format's text is the one that the format wants.
 use Rattle.std.proofs.Common.{◌≡◌, ℕ, ◌+◌, ◌-◌, ◌*◌, ◌%◌, ◌^◌, ◌<◌, ◌≤◌, List, [], ◌∷◌, ◌++◌, Bool, true, false, cond, not, eqb, eqb-true, ltb, refl, sym, ap, ◌∙◌, arith, lit≤, lit<}
+use Rattle.std.proofs.lemmas.Bool.{and_parts}
 use Rattle.std.specs.Prelude.{◌&&◌, if◌then◌else◌}
 use Rattle.std.specs.Int.{div_ceil}
 use Rattle.std.specs.Fmt.{decimal}
@@ -11,7 +12,7 @@ use Rattle.vast_literal.specs.Digits.{lowest_digits, digit_count, characters, gr
 use Rattle.vast_literal.specs.LiteralText.{padded_count, is_below_half, sized, signed_text, format_text}
 use Rattle.vast_literal.specs.Denotes.{IsModulo}
 use Rattle.vast_literal.specs.Spells.{IsWritten, IsSeparated, Spells}
-use Rattle.vast_literal.proofs.Numbers.{pow-pow, both_parts}
+use Rattle.vast_literal.proofs.Numbers.{pow-pow}
 use Rattle.vast_literal.proofs.Widths.{positive_from_high, narrow_from_high}
 use Rattle.vast_literal.proofs.Spelt.{written-grouped, written-characters, is_grouped, no_gaps}
 use Rattle.vast_literal.proofs.Decimals.{written-decimal, decimal_no_gaps, digit_count-fits, digit_count-some}
@@ -40,7 +41,7 @@ padded_some_4 n v true p = lit< tt
 padded_some_4 n v false p = omega arith
 
 is_zero : (n v : ℕ) → (eqb v 0 && ltb 1024 n) ≡ true → v ≡ 0
-is_zero n v h = eqb-true v 0 (both_parts (eqb v 0) (ltb 1024 n) h).0
+is_zero n v h = eqb-true v 0 (and_parts (eqb v 0) (ltb 1024 n) h).0
 
 -- the two signs of a signed decimal
 signed_cases : (n v : ℕ) (b : Bool) → is_below_half n v ≡ b → v < 2 ^ n → v < 2 ^ 128 →

@@ -2,16 +2,11 @@
 use Rattle.std.proofs.Common.{◌≡◌, zero, suc, ℕ, ◌<◌, List, [], ◌∷◌, length, map, get_or, Bool, true, false, not, ◌&&◌, ◌||◌, Result, Ok, Err, is_ok, Less, Equal, Greater, Ordering, is_lt, is_eq, nat_cmp, bytes_eq, ⊎_elim, refl, ap, sym, ◌∙◌, arith, add-one}
 use Rattle.std.specs.Cmp.Lexicographic.{slice_cmp}
 use Rattle.std.specs.List.Sorted.{IsSortedBy, IsSearchInRange, IsBinarySearchResult}
-use Rattle.std.proofs.lemmas.Bool.{cases_lt}
+use Rattle.std.proofs.lemmas.Bool.{cases_lt, and_parts}
 use Rattle.std.proofs.lemmas.Cmp.{nat_list_cmp_total}
 use Rattle.std.proofs.lemmas.List.Sorted.{searchable_from_sorted}
 use Rattle.std.proofs.lemmas.Map.Text.{is_eq-slice_cmp}
 use Rattle.vast_literal.specs.Keyword.{keywords, is_among, is_keyword}
-
-both : (a b : Bool) → a && b ≡ true → (a ≡ true) × (b ≡ true)
-both true b h = (refl, h)
-both false true h = (h, refl)
-both false false h = (h, h)
 
 denied : (a : Bool) → not a ≡ true → a ≡ false
 denied true h = sym h
@@ -46,9 +41,9 @@ module _ {X : Type 0} (text : X → List ℕ) where
   sorted_from : (t : X) (ts : List X) → rises_from (text t) (map text ts) ≡ true → IsInOrder (t ∷ ts)
   unfolding rises_from
   sorted_from t [] h k d low high = absurd (omega arith)
-  sorted_from t (u ∷ us) h zero d low high = denied (is_below (text u) (text t)) (both _ _ h).0
+  sorted_from t (u ∷ us) h zero d low high = denied (is_below (text u) (text t)) (and_parts _ _ h).0
   sorted_from t (u ∷ us) h (suc k) d low high =
-      let step = sorted_from u us (both _ _ h).1 k d (omega arith) (omega arith) in
+      let step = sorted_from u us (and_parts _ _ h).1 k d (omega arith) (omega arith) in
       let moved = rw (add-one k) at step in
       rw (add-one (suc k)) moved
 

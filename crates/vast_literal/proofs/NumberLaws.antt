@@ -1,5 +1,6 @@
 -- A written number is a number, perhaps behind a minus.
-use Rattle.std.proofs.Common.{◌≡◌, ℕ, zero, suc, ◌+◌, ◌/◌, ◌%◌, ◌<◌, ℤ, pos, negsuc, List, [], ◌∷◌, Bool, true, false, ◌&&◌, ◌||◌, eqb, refl, arith, mod-lt, lit<}
+use Rattle.std.proofs.Common.{◌≡◌, ℕ, zero, suc, ◌+◌, ◌/◌, ◌%◌, ◌<◌, ℤ, pos, negsuc, List, [], ◌∷◌, Bool, true, false, ◌||◌, eqb, refl, arith, mod-lt, lit<}
+use Rattle.std.proofs.lemmas.Bool.{and_from}
 use Rattle.std.proofs.lemmas.Bool.Decides.{nat_tests}
 use Rattle.std.specs.Prelude.{nat_lt, ◌==◌, if◌then◌else◌}
 use Rattle.std.specs.Fmt.{digits, digits_onto, digit_glyph, decimal, signed_decimal}
@@ -20,14 +21,10 @@ glyph n = let h : n % 10 < 10 = mod-lt n (lit< tt) in go (nat_lt (n % 10) 10) (s
     go true e = small_glyph (n % 10) (mod-lt n (lit< tt))
     go false e = absurd (cc e)
 
-both : (a b : Bool) → a ≡ true → b ≡ true → (a && b) ≡ true
-both true b h k = k
-both false b h k = absurd (cc h)
-
 digits_number : (k n c : ℕ) (acc : List ℕ) → every is_digit (c ∷ acc) ≡ true → is_number (digits_onto k 10 false n (c ∷ acc)) ≡ true
 digits_number zero n c acc h = h
 digits_number (suc k) n c acc h =
-    go (n / 10 == 0) (both _ _ (glyph n) h) (digits_number k (n / 10) (digit_glyph false (n % 10)) (c ∷ acc) (both _ _ (glyph n) h))
+    go (n / 10 == 0) (and_from _ _ (glyph n) h) (digits_number k (n / 10) (digit_glyph false (n % 10)) (c ∷ acc) (and_from _ _ (glyph n) h))
   where
     go : (b : Bool) → every is_digit (digit_glyph false (n % 10) ∷ c ∷ acc) ≡ true → is_number (digits_onto k 10 false (n / 10) (digit_glyph false (n % 10) ∷ c ∷ acc)) ≡ true →
         is_number (if b then digit_glyph false (n % 10) ∷ c ∷ acc else digits_onto k 10 false (n / 10) (digit_glyph false (n % 10) ∷ c ∷ acc)) ≡ true
@@ -36,7 +33,7 @@ digits_number (suc k) n c acc h =
 
 pub decimal_number : (n : ℕ) → is_number (decimal n) ≡ true
 unfolding digits
-decimal_number n = go (n / 10 == 0) (both _ _ (glyph n) refl) (digits_number 63 (n / 10) (digit_glyph false (n % 10)) [] (both _ _ (glyph n) refl))
+decimal_number n = go (n / 10 == 0) (and_from _ _ (glyph n) refl) (digits_number 63 (n / 10) (digit_glyph false (n % 10)) [] (and_from _ _ (glyph n) refl))
   where
     go : (b : Bool) → every is_digit (digit_glyph false (n % 10) ∷ []) ≡ true → is_number (digits_onto 63 10 false (n / 10) (digit_glyph false (n % 10) ∷ [])) ≡ true →
         is_number (if b then digit_glyph false (n % 10) ∷ [] else digits_onto 63 10 false (n / 10) (digit_glyph false (n % 10) ∷ [])) ≡ true

@@ -2,14 +2,14 @@
 use Rattle.std.proofs.Common.{◌≡◌, ℕ, zero, suc, ◌+◌, ◌*◌, ◌/◌, ◌%◌, ◌^◌, ◌<◌, ◌≤◌, List, [], ◌∷◌, ◌++◌, Bool, true, false, cond, not, refl, sym, ap, ◌∙◌, ◌≢◌, append-nil, length, drop, get_or, arith, add-one, append_assoc}
 use Rattle.std.proofs.Math.Nat.{mul_assoc, add-mul, pow-zero, pow-suc, pow-succ', div-eq_of_lt, one-le-pow, pow-le-pow_left, le-mul_of_pos_right}
 use Rattle.std.proofs.Math.Seq.{drop-cons}
-use Rattle.std.proofs.lemmas.Bool.{lt-ltb, le-ltb, cases_lt}
+use Rattle.std.proofs.lemmas.Bool.{lt-ltb, le-ltb, cases_lt, and_parts}
 use Rattle.std.proofs.lemmas.List.{drop_all}
 use Rattle.std.proofs.Common.{⊎_elim, subst}
 use Rattle.std.proofs.Math.Pow.{pow_mono}
 use Rattle.std.proofs.lemmas.Nat.{pow-add, pow_pos, one_shl, mod_below}
 use Rattle.std.proofs.Math.Nat.{mul-zero, mul-suc, zero-mod}
 use Rattle.std.specs.Char.{digit_value, digit_char, is_digit}
-use Rattle.std.specs.Prelude.{filter, ◌&&◌, ◌||◌}
+use Rattle.std.specs.Prelude.{filter, ◌||◌}
 use Rattle.std.specs.List.{list_all}
 use Rattle.std.proofs.lemmas.Bool.{eqb-true}
 use Rattle.std.specs.Int.Digits.{digits_of}
@@ -156,16 +156,12 @@ same_first c F G true digit k h e = rw (k refl) e
 same_first c F G false true k h e = ap (λ t. c ∷ t) e
 same_first c F G false false k h e = cc
 
-pub both_parts : (x y : Bool) → (x && y) ≡ true → (x ≡ true) × (y ≡ true)
-both_parts true y h = (refl, h)
-both_parts false y h = cc
-
 same_digits : (radix : ℕ) (cs : List ℕ) → radix ≤ 36 → list_all (is_digit_or_gap radix) cs ≡ true → filter (λ c. is_digit c radix) cs ≡ filter (λ c. not (is_gap c)) cs
 same_digits radix [] h e = refl
 same_digits radix (c ∷ cs) h e =
-    let p = both_parts (is_digit_or_gap radix c) (list_all (is_digit_or_gap radix) cs) e in
+    let p = and_parts (is_digit_or_gap radix c) (list_all (is_digit_or_gap radix) cs) e in
     same_first c _ _ (is_gap c) (is_digit c radix) (gap_no_digit radix c h) p.0 (same_digits radix cs h p.1)
 
 pub number_in-digits : (radix : ℕ) (cs : List ℕ) → radix ≤ 36 → is_numeral radix cs ≡ true → number_in radix cs ≡ weighted radix (filter (λ c. is_digit c radix) cs)
 unfolding number_in digits_in is_numeral
-number_in-digits radix cs h e = ap (weighted radix) (sym (same_digits radix cs h (both_parts (list_all (is_digit_or_gap radix) cs) _ e).0))
+number_in-digits radix cs h e = ap (weighted radix) (sym (same_digits radix cs h (and_parts (list_all (is_digit_or_gap radix) cs) _ e).0))

@@ -5,12 +5,11 @@ use Rattle.std.specs.Char.{is_ascii_digit, digit_value}
 use Rattle.std.specs.Result.{OkIff, result_ok}
 use Rattle.std.specs.Str.Parse.{ParsesUnsigned}
 use Rattle.std.proofs.lemmas.Str.Parse.{IsNumeralModel, WeighsDigits, numerals_by_weight, parse_digits}
-use Rattle.std.proofs.lemmas.Bool.{ltb-true}
+use Rattle.std.proofs.lemmas.Bool.{ltb-true, and_parts}
 use Rattle.std.proofs.lemmas.Bool.Decides.{nat_tests}
 use Rattle.std.specs.Int.{IsInRange}
 use Rattle.vast_literal.specs.Digits.{weighted}
 use Rattle.vast_literal.specs.Literal.{is_decimal}
-use Rattle.vast_literal.proofs.Numbers.{both_parts}
 
 digit_value-ascii : (c : ℕ) → IsInRange 48 57 c → digit_value c ≡ c - 48
 digit_value-ascii c h = grind (arith, nat_tests)
@@ -28,6 +27,6 @@ some_from_ok (Err x) s l v bound h p e = rw e (λ k. h (p, k))
 pub read_width : {E : Type 0} (text : List ℕ) (r : Result ℕ E) (s : Option ℕ) → ParsesUnsigned 64 10 text r → is_decimal text ≡ true → s ≡ result_ok r → SomeIff s (weighted 10 text < 2 ^ 64) (weighted 10 text)
 unfolding is_decimal
 read_width text r s h d e =
-    let digits = (both_parts _ _ d).0 in
-    let some = ltb-true 0 (length text) (both_parts _ _ d).1 in
+    let digits = (and_parts _ _ d).0 in
+    let some = ltb-true 0 (length text) (and_parts _ _ d).1 in
     some_from_ok r s (length text) (weighted 10 text) (2 ^ 64) (parse_digits numerals 64 text r h digits) some e

@@ -3,7 +3,7 @@ use Rattle.std.proofs.Common.{◌≡◌, ◌≢◌, ℕ, ◌+◌, ◌*◌, ◌%�
 use Rattle.std.specs.Prelude.{◌||◌}
 use Rattle.std.specs.List.{list_all}
 use Rattle.std.specs.Char.{digit_value, digit_char, is_digit}
-use Rattle.std.proofs.lemmas.Bool.{ltb-true, cases_lt}
+use Rattle.std.proofs.lemmas.Bool.{ltb-true, cases_lt, and_parts}
 use Rattle.std.proofs.lemmas.Bool.Decides.{nat_tests}
 use Rattle.std.proofs.lemmas.Nat.{same_from_place, mul-add-lt}
 use Rattle.std.proofs.Math.Nat.{add_comm, pow-zero, pow-succ', mod-eq_of_lt, mul_comm}
@@ -13,7 +13,6 @@ use Rattle.vast_literal.specs.Digits.{is_gap, is_digit_or_gap, is_numeral, digit
 use Rattle.vast_literal.specs.Denotes.{IsModulo}
 use Rattle.vast_literal.specs.Spells.{is_no_capital, IsWritten, AreFours, IsGrouped, IsSeparated, Spells, has_format_minus, format_head, format_radix, format_count, groups_digits, minus_text}
 use Rattle.vast_literal.specs.Spells.AreFours.{NoGroup, OneGroup}
-use Rattle.vast_literal.proofs.Numbers.{both_parts}
 use Rattle.vast_literal.proofs.Accepted.{opposite_is}
 
 -- lists that are joined, cut at equal lengths
@@ -38,7 +37,7 @@ AreDigits radix cs = (list_all (λ c. is_digit c radix) cs ≡ true) × (list_al
 weighted-lt : (radix : ℕ) (cs : List ℕ) → list_all (λ c. is_digit c radix) cs ≡ true → weighted radix cs < radix ^ length cs
 weighted-lt radix [] h = rw (pow-zero radix) (lit< tt)
 weighted-lt radix (c ∷ cs) h =
-    let p = both_parts (is_digit c radix) (list_all (λ x. is_digit x radix) cs) h in
+    let p = and_parts (is_digit c radix) (list_all (λ x. is_digit x radix) cs) h in
     let v = ltb-true (digit_value c) radix p.0 in
     let w = weighted-lt radix cs p.1 in
     rw (pow-succ' radix (length cs), mul_comm radix (radix ^ length cs)) (mul-add-lt (digit_value c) (radix ^ length cs) (weighted radix cs) radix v w)
@@ -48,10 +47,10 @@ same_digits radix [] [] k g h l e = refl
 same_digits radix [] (y ∷ es) k g h l e = absurd (omega arith)
 same_digits radix (x ∷ cs) [] k g h l e = absurd (omega arith)
 same_digits radix (x ∷ cs) (y ∷ es) k g h l e =
-    let g1 = both_parts (is_digit x radix) (list_all (λ c. is_digit c radix) cs) g.0 in
-    let g2 = both_parts (is_no_capital x) (list_all is_no_capital cs) g.1 in
-    let h1 = both_parts (is_digit y radix) (list_all (λ c. is_digit c radix) es) h.0 in
-    let h2 = both_parts (is_no_capital y) (list_all is_no_capital es) h.1 in
+    let g1 = and_parts (is_digit x radix) (list_all (λ c. is_digit c radix) cs) g.0 in
+    let g2 = and_parts (is_no_capital x) (list_all is_no_capital cs) g.1 in
+    let h1 = and_parts (is_digit y radix) (list_all (λ c. is_digit c radix) es) h.0 in
+    let h2 = and_parts (is_no_capital y) (list_all is_no_capital es) h.1 in
     let j : length cs ≡ length es = omega arith in
     let e' : digit_value x * radix ^ length cs + weighted radix cs ≡ digit_value y * radix ^ length cs + weighted radix es = e ∙ ap (λ n. digit_value y * radix ^ n + weighted radix es) (sym j) in
     let s = same_from_place (digit_value x) (weighted radix cs) (digit_value y) (weighted radix es) (radix ^ length cs) (weighted-lt radix cs g1.1) (rw j (weighted-lt radix es h1.1)) e' in
@@ -68,7 +67,7 @@ digits_left : (radix : ℕ) (t : List ℕ) → list_all (is_digit_or_gap radix) 
 unfolding digits_in
 digits_left radix [] h = refl
 digits_left radix (c ∷ t) h =
-    let p = both_parts (is_digit_or_gap radix c) (list_all (is_digit_or_gap radix) t) h in
+    let p = and_parts (is_digit_or_gap radix c) (list_all (is_digit_or_gap radix) t) h in
     digit_left radix c (digits_in t) (is_gap c) (is_digit c radix) p.0 refl (digits_left radix t p.1)
 
 lower_left : (t : List ℕ) (c : ℕ) (gap : Bool) (cs : List ℕ) → is_no_capital c ≡ true → list_all is_no_capital cs ≡ true → list_all is_no_capital (cond (not gap) (c ∷ cs) cs) ≡ true
@@ -79,12 +78,12 @@ lowers_left : (t : List ℕ) → list_all is_no_capital t ≡ true → list_all 
 unfolding digits_in
 lowers_left [] h = refl
 lowers_left (c ∷ t) h =
-    let p = both_parts (is_no_capital c) (list_all is_no_capital t) h in
+    let p = and_parts (is_no_capital c) (list_all is_no_capital t) h in
     lower_left t c (is_gap c) (digits_in t) p.0 (lowers_left t p.1)
 
 written_digits : (radix count number : ℕ) (t : List ℕ) → IsWritten radix count number t → AreDigits radix (digits_in t)
 unfolding is_numeral
-written_digits radix count number t w = (digits_left radix t (both_parts (list_all (is_digit_or_gap radix) t) _ w.numeral).0, lowers_left t w.lower)
+written_digits radix count number t w = (digits_left radix t (and_parts (list_all (is_digit_or_gap radix) t) _ w.numeral).0, lowers_left t w.lower)
 
 written_once : (radix count number : ℕ) (s t : List ℕ) → radix ≤ 16 → IsWritten radix count number s → IsWritten radix count number t → digits_in s ≡ digits_in t
 unfolding number_in

@@ -8,7 +8,7 @@ use Rattle.std.specs.Int.{IsInRange}
 use Rattle.std.specs.Str.Parse.{AllDigits}
 use Rattle.std.proofs.lemmas.Str.Parse.{digit_from_value}
 use Rattle.std.proofs.lemmas.Fmt.{decimal_is_IsNumeral_wide}
-use Rattle.std.proofs.lemmas.Bool.{leb-true}
+use Rattle.std.proofs.lemmas.Bool.{leb-true, and_parts}
 use Rattle.std.proofs.lemmas.Bool.Decides.{nat_tests}
 use Rattle.std.proofs.lemmas.Nat.{pow_pos}
 use Rattle.std.proofs.Math.Pow.{pow_mono}
@@ -20,7 +20,7 @@ use Rattle.vast_literal.specs.Digits.{lowest_digits, digit_count, characters, gr
 use Rattle.vast_literal.specs.LiteralText.{padded_count, is_below_half, sized, signed_text, format_text}
 use Rattle.vast_literal.specs.Pattern.{is_pattern_digit, is_pattern}
 use Rattle.vast_literal.proofs.NumberLaws.{no_minus, number_text}
-use Rattle.vast_literal.proofs.Numbers.{both_parts, length-lowest_digits}
+use Rattle.vast_literal.proofs.Numbers.{length-lowest_digits}
 use Rattle.vast_literal.proofs.Widths.{positive_from_high, narrow_from_high}
 use Rattle.vast_literal.proofs.Spelt.{lowest_below, all_grouped, all_characters}
 use Rattle.vast_literal.proofs.Decimals.{digit_count-some}
@@ -62,7 +62,7 @@ no_tick c h = grind (arith, nat_tests)
 -- literal tokens
 based_first : (c : ℕ) (cs : List ℕ) (b : Bool) → eqb c 39 ≡ b → cond b (is_based_tail cs) (is_digit c && is_based cs) ≡ true → eqb c 45 ≡ false
 based_first c cs true e h = rw (eqb-true c 39 e)
-based_first c cs false e h = no_minus c (both_parts (is_digit c) (is_based cs) h).0
+based_first c cs false e h = no_minus c (and_parts (is_digit c) (is_based cs) h).0
 
 bare_from_based : (t : List ℕ) → is_based t ≡ true → is_bare_literal t ≡ true
 bare_from_based t h = rw h (or_true (is_number t))
@@ -74,7 +74,7 @@ literal_from_based (c ∷ cs) h = rw (based_first c cs (eqb c 39) refl h) (bare_
 based_sized : (size tail : List ℕ) → every is_digit size ≡ true → is_based_tail tail ≡ true → is_based (size ++ (39 ∷ tail)) ≡ true
 based_sized [] tail h k = k
 based_sized (c ∷ cs) tail h k =
-    let p = both_parts (is_digit c) (every is_digit cs) h in
+    let p = and_parts (is_digit c) (every is_digit cs) h in
     rw (no_tick c p.0, p.0) (based_sized cs tail p.1 k)
 
 -- digits of based literals
@@ -90,7 +90,7 @@ some_based (c ∷ cs) p h = every_is is_based_digit (c ∷ cs) ∙ h
 
 all_weaker : (p q : ℕ → Bool) (cs : List ℕ) → ((c : ℕ) → p c ≡ true → q c ≡ true) → list_all p cs ≡ true → list_all q cs ≡ true
 all_weaker p q [] f h = refl
-all_weaker p q (c ∷ cs) f h = let k = both_parts (p c) (list_all p cs) h in rw (f c k.0) (all_weaker p q cs f k.1)
+all_weaker p q (c ∷ cs) f h = let k = and_parts (p c) (list_all p cs) h in rw (f c k.0) (all_weaker p q cs f k.1)
 
 below_16 : (k count n : ℕ) → k ≤ 4 → (p : ℕ → Bool) → ((d : ℕ) → d < 16 → p (digit_char d) ≡ true) → (d : ℕ) → d < 2 ^ k → p (digit_char d) ≡ true
 below_16 k count n h p f d l = let m = pow_mono {i = k} {j = 4} h in f d (omega arith)
@@ -150,8 +150,8 @@ pattern_digit_based c h = grind (arith, nat_tests)
 pub pattern_literal : (bits : List ℕ) → is_pattern bits ≡ true → is_literal_text (sized (length bits) (39 ∷ 98 ∷ []) bits) ≡ true
 unfolding is_pattern
 pattern_literal bits h =
-    let p = both_parts (leb 1 (length bits) && leb (length bits) 1048576) (list_all is_pattern_digit bits) h in
-    let q = both_parts (leb 1 (length bits)) (leb (length bits) 1048576) p.0 in
+    let p = and_parts (leb 1 (length bits) && leb (length bits) 1048576) (list_all is_pattern_digit bits) h in
+    let q = and_parts (leb 1 (length bits)) (leb (length bits) 1048576) p.0 in
     let low = leb-true 1 (length bits) q.0 in
     let high = leb-true (length bits) 1048576 q.1 in
     literal_from_based (sized (length bits) (39 ∷ 98 ∷ []) bits) (sized_based (length bits) (98 ∷ []) bits (omega arith) (some_based bits (omega arith) (all_weaker is_pattern_digit is_based_digit bits pattern_digit_based p.1)))

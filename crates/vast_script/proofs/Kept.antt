@@ -1,5 +1,5 @@
 -- What a file keeps as it grows.
-use Rattle.std.proofs.Common.{◌≡◌, ℕ, Bool, true, false, List, cond, refl, ap, ◌∙◌, arith}
+use Rattle.std.proofs.Common.{◌≡◌, ℕ, Bool, true, false, cond, refl, ap, ◌∙◌, arith}
 use Rattle.vast_core.specs.Nodes.{Root}
 use Rattle.vast_core.specs.Records.{ModuleRecord, changed_at}
 use Rattle.vast_core.specs.Bench.{Bench}

@@ -4,18 +4,18 @@
 -- condition reads. A caller names `callers`.
 use Rattle.std.proofs.Common.{◌≡◌, ℕ, zero, suc, ◌<◌, Bool, IsTrue, List, [], ◌∷◌, ◌++◌, length, Option, Some, None, Result, Ok, String, string_bytes, slice_get, refl, ap, subst, arith}
 use Rattle.std.specs.declared.alloc.Global.{Global}
-use Rattle.vast_literal.specs.Tree.{ExprTree, FileTree}
+use Rattle.vast_literal.specs.Tree.{FileTree}
 use Rattle.vast_literal.specs.declared.error.VastFault.{VastFault}
 use Rattle.vast_core.specs.declared.handle.ModulePort.{ModulePort}
 use Rattle.vast_core.specs.declared.handle.VastStatementBlock.{VastStatementBlock}
 use Rattle.vast_core.specs.declared.node.Assignment.{Assignment}
 use Rattle.vast_core.specs.declared.node.ElseIf.{ElseIf}
 use Rattle.vast_core.specs.declared.node.CaseArm.{CaseArm}
-use Rattle.vast_core.specs.Nodes.{Root, ExprRoot, TypeRoot, is_expr_root, is_type_root, is_root_of, is_name, is_index, is_slice, is_macro}
+use Rattle.vast_core.specs.Nodes.{Root, is_expr_root, is_type_root, is_root_of, is_name, is_index, is_slice, is_macro}
 use Rattle.vast_core.specs.Records.{ModuleRecord, MemberEntry, PortRecord, ParameterPortRecord, DefinitionRecord, ArtifactRecord, InstanceRecord, changed_at, with_name, with_port, with_parameter_port, with_member, with_named_member}
 use Rattle.vast_core.specs.Nests.{StatementEntry, NestRecord, BlockRecord, ConditionalNestRecord, CaseNestRecord, LoopNestRecord, FunctionRecord, AlwaysRecord, nest_kind, is_block_kind, is_conditional_kind, is_case_kind, is_loop_kind}
 use Rattle.vast_core.specs.Bench.{is_continuous, is_blank_line, is_comment, is_inline, is_macro_statement, names_of}
-use Rattle.vast_core.specs.Containers.{NestedEntry, StatementEnters, ElseIfEnters, ElseEnters, CaseArmEnters, MemberEnters, with_entry, has_else}
+use Rattle.vast_core.specs.Containers.{StatementEnters, ElseIfEnters, ElseEnters, CaseArmEnters, MemberEnters, with_entry, has_else}
 use Rattle.vast_print.specs.Emits.{Emits}
 use Rattle.vast_print.specs.Layout.{IsFileText, layout}
 use Rattle.vast_core.proofs.Lists.{slice_get-seam, length-push, length-changed_at}

@@ -1,5 +1,6 @@
 -- Laws of taken names, and of their list.
-use Rattle.std.proofs.Common.{◌≡◌, ◌≢◌, ℕ, List, [], ◌∷◌, ◌++◌, Bool, true, false, ◌||◌, IsTrue, map, Some, slice_get, Result, Ok, Err, refl, sym, ap, ◌∙◌, arith, if◌then◌else◌}
+use Rattle.std.proofs.Common.{◌≡◌, ◌≢◌, ℕ, List, [], ◌∷◌, ◌++◌, Bool, true, false, IsTrue, map, Some, slice_get, Result, Ok, Err, refl, sym, ap, ◌∙◌, arith, if◌then◌else◌}
+use Rattle.std.proofs.lemmas.Bool.{true≢false, or_parts}
 use Rattle.std.specs.Prelude.{IsErrAnd, MatchResult, alloc_error}
 use Rattle.std.specs.List.{join_by, flat_map}
 use Rattle.std.specs.Str.{bytes_eq}
@@ -15,7 +16,6 @@ use Rattle.vast_core.specs.Bench.{Bench}
 use Rattle.vast_core.specs.Records.{ModuleRecord, IsFree}
 use Rattle.vast_core.specs.Nests.{FunctionRecord}
 use Rattle.vast_core.proofs.Lists.{All-cons, All-head, All-tail}
-use Rattle.vast_core.proofs.Names.{true-not-false, or-left, or-right}
 use Rattle.xlsynth_vast.specs.Declarations.{names_in, already_declared, unless_taken}
 use Rattle.xlsynth_vast.specs.Functions.{declared_in_function, unless_taken_in_function}
 
@@ -42,8 +42,9 @@ not-among name (x ∷ xs) h = rw (unequal-case x name (bytes_eq x name) refl (Al
 among-none : (name : List ℕ) (names : List (List ℕ)) → is_among names name ≡ false → IsFree name names
 among-none name [] h = λ k d below. absurd (omega arith)
 among-none name (x ∷ xs) h =
-    let other : (x ≡ name) → ⊥ = λ e. true-not-false (sym ((bytes_eq-Decides x name).1 e) ∙ or-left (bytes_eq x name) (is_among xs name) h)
-    in All-cons (λ taken. taken ≢ name) x xs other (among-none name xs (or-right (bytes_eq x name) (is_among xs name) h))
+    let (first, rest) = or_parts (bytes_eq x name) (is_among xs name) h in
+    let other : (x ≡ name) → ⊥ = λ e. true≢false (sym ((bytes_eq-Decides x name).1 e) ∙ first)
+    in All-cons (λ taken. taken ≢ name) x xs other (among-none name xs rest)
 
 among-case : (name : List ℕ) (names : List (List ℕ)) (t : Bool) → is_among names name ≡ t → (IsFree name names → ⊥) → is_among names name ≡ true
 among-case name names true e h = e
