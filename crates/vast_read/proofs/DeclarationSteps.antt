@@ -12,7 +12,7 @@ use Rattle.vast_literal.specs.SettledDeclarations.{group_end, settled_group, set
 use Rattle.vast_literal.proofs.SettledDeclarations.{groups_read}
 use Rattle.vast_read.specs.ListSteps.{with_list}
 use Rattle.vast_read.specs.DeclarationSteps.{group_rest}
-use Rattle.vast_read.proofs.Steps.{then_some, then_none, either_some, either_none}
+use Rattle.vast_read.proofs.Steps.{then_some, either_some, either_none}
 use Rattle.vast_read.proofs.ListSteps.{list_begin, many_end, many_go_on, many_fail}
 
 -- groups
@@ -112,5 +112,3 @@ behind_kind_reads k ts = refl
 pub declaration_given : (k : Option Key) (ts us : List Token) → maybe_at is_kind ts ≡ (k, us) → settled_declaration ts ≡ behind_kind k us
 unfolding settled_declaration
 declaration_given k ts us e = rw e
-
-pub ruleset groups = (then_some, then_none, either_some, either_none, groups_begin, groups_end, groups_go_on, groups_fail)

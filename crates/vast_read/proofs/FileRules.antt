@@ -1,8 +1,7 @@
 -- The laws that the functions of the reader of files are proved by.
-use Rattle.std.proofs.Common.{◌≡◌, ◌≢◌, ℕ, Bool, true, false, cond, eqb, bytes_eq, codes, List, [], ◌∷◌, ◌++◌, Option, Some, None, refl, sym, ap, ◌∙◌, Bor}
+use Rattle.std.proofs.Common.{◌≡◌, ◌≢◌, ℕ, Bool, true, false, cond, eqb, bytes_eq, codes, List, [], ◌∷◌, ◌++◌, Option, Some, None, refl, ap, Bor}
 use Rattle.std.proofs.lemmas.Bool.{eqb-true}
 use Rattle.std.specs.Prelude.{MatchOption}
-use Rattle.std.proofs.lemmas.Slice.Eq.{bytes_eq-Decides}
 use Rattle.vast_literal.specs.Tokens.{Token}
 use Rattle.vast_literal.specs.NormalFile.{IncludePart}
 use Rattle.vast_literal.specs.Parser.{◌>>=◌}
@@ -14,7 +13,7 @@ use Rattle.vast_read.specs.declared.tree.file.Parameter.{Parameter}
 use Rattle.vast_read.specs.declared.tree.file.Port.{Port}
 use Rattle.vast_read.specs.declared.tree.file.NormalItem.{NormalItem as Item}
 use Rattle.vast_read.proofs.Steps.{then_some, then_none, either_some, either_none}
-use Rattle.vast_read.proofs.FileSteps.{parameter_reads, parameters_join, parameters_end, parameters_go_on, parameters_fail, parameter_list_reads, parameters_read, port_reads, ports_join, ports_end, ports_go_on, ports_fail, port_list_reads, ports_read, module_reads, include_nothing, include_other, include_macro, path_missing, path_other, path_given, path_elsewhere, path_between, item_reads, items_begin, items_end, items_go_on, items_fail, file_reads}
+use Rattle.vast_read.proofs.FileSteps.{parameter_reads, parameters_join, parameters_end, parameters_go_on, parameters_fail, parameter_list_reads, parameters_read, port_reads, ports_join, ports_end, ports_go_on, ports_fail, port_list_reads, ports_read, module_reads, include_nothing, include_other, include_macro, path_missing, path_other, quoted_is, path_end_gives, item_reads, items_begin, items_end, items_go_on, items_fail, file_reads}
 
 pub parameters_more : (ps : List Parameter) (p : Parameter) → parameters_view (ps ++ p ∷ []) ≡ parameters_view ps ++ (parameter_view p ∷ [])
 parameters_more [] p = refl
@@ -31,11 +30,12 @@ items_more (y ∷ xs) x = ap (λ zs. item_view y ∷ zs) (items_more xs x)
 -- includes
 
 pub include_yes : (m w : List ℕ) (ts us : List Token) (t : Token) → ts ≡ (t ∷ us) → quoted_in t ≡ Some w → bytes_eq m (codes "include") ≡ true → include_on m ts ≡ include_text w us
-unfolding include_text
-include_yes m w ts us t e d h = path_given m w ts us t e d ((bytes_eq-Decides m (codes "include")).0 h)
+unfolding include_on include_text
+include_yes m w ts us t e d h = rw (e, quoted_is t w d) (rw h)
 
 pub include_no : (m w : List ℕ) (ts us : List Token) (t : Token) → ts ≡ (t ∷ us) → quoted_in t ≡ Some w → bytes_eq m (codes "include") ≡ false → include_on m ts ≡ None
-include_no m w ts us t e d h = path_elsewhere m w ts us t e d (λ i. absurd (cc (h, (bytes_eq-Decides m (codes "include")).1 i)))
+unfolding include_on
+include_no m w ts us t e d h = rw (e, quoted_is t w d) (rw h)
 
 pub include_found : (w p : List ℕ) (ts : List Token) → path_of w ≡ Some p → include_text w ts ≡ Some (IncludePart p, ts)
 unfolding include_text
@@ -75,7 +75,7 @@ unopened (c ∷ cs) h = go (eqb c 34) refl
     go false i = refl
 
 pub closed : (v p : List ℕ) → v ≡ (p ++ (34 ∷ [])) → path_end v ≡ Some p
-closed v p e = sym (opened (34 ∷ v) v refl) ∙ path_between (34 ∷ v) p (ap (λ xs. 34 ∷ xs) e)
+closed v p e = rw e (path_end_gives p)
 
 pub unclosed : (v : List ℕ) → ((p : List ℕ) → v ≢ (p ++ (34 ∷ []))) → path_end v ≡ None
 unclosed v h = go (path_end v) refl

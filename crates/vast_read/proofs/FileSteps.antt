@@ -1,12 +1,11 @@
 -- The settled parser of files as the reader goes through it.
-use Rattle.std.proofs.Common.{◌≡◌, ℕ, suc, ◌*◌, Bool, true, false, cond, bytes_eq, codes, List, [], ◌∷◌, ◌++◌, length, Some, None, refl, arith}
-use Rattle.std.proofs.lemmas.Slice.Eq.{bytes_eq-Decides}
+use Rattle.std.proofs.Common.{◌≡◌, ℕ, suc, ◌*◌, true, false, List, [], ◌∷◌, ◌++◌, length, Some, None, refl, arith}
 use Rattle.vast_literal.specs.Tokens.{ModuleKey, EndModuleKey, ParameterKey, OpenParen, CloseParen, Comma, Semicolon, Hash, Assign, Token, MacroWord, Quoted, Mark}
-use Rattle.vast_literal.specs.NormalFile.{NormalParameter, NormalPort, NormalItem, ModulePart, IncludePart}
+use Rattle.vast_literal.specs.NormalFile.{NormalParameter, NormalPort, NormalItem, ModulePart}
 use Rattle.vast_literal.specs.FileGrammar.{is_direction}
 use Rattle.vast_literal.specs.Parser.{◌>>=◌, after, word_at}
-use Rattle.vast_literal.specs.StatementParser.{ReadOf, after_key}
-use Rattle.vast_literal.specs.FileParser.{path_end, path_of, include_on, is_more}
+use Rattle.vast_literal.specs.StatementParser.{after_key}
+use Rattle.vast_literal.specs.FileParser.{path_end, include_on, is_more}
 use Rattle.vast_literal.specs.Settled.{either, settled}
 use Rattle.vast_literal.specs.Nexts.{key_with}
 use Rattle.vast_literal.specs.SettledDeclarations.{joined_of, others_of, settled_declaration}
@@ -17,7 +16,7 @@ use Rattle.vast_literal.proofs.SettledLists.{joined_reads}
 use Rattle.vast_literal.proofs.SettledFiles.{parameter_agree, port_agree, items_read}
 use Rattle.vast_read.specs.ListSteps.{with_list}
 use Rattle.vast_read.specs.FileSteps.{other_parameters, other_ports, macro_in, quoted_in}
-use Rattle.vast_read.proofs.Steps.{then_some, then_none, either_some, either_none}
+use Rattle.vast_read.proofs.Steps.{then_some}
 use Rattle.vast_read.proofs.ListSteps.{list_begin, many_end, many_go_on, many_fail, joined_begin, others_end, others_go_on, others_fail}
 
 -- parameters
@@ -131,35 +130,19 @@ path_other m ts us t e d = rw e (go t d)
     go (Mark p) d = refl
     go _ d = refl
 
-quoted_is : (t : Token) (w : List ℕ) → quoted_in t ≡ Some w → t ≡ Quoted w
+pub quoted_is : (t : Token) (w : List ℕ) → quoted_in t ≡ Some w → t ≡ Quoted w
 unfolding quoted_in
 quoted_is (Quoted v) w d = let c : v ≡ w = cc in rw c
 quoted_is (Mark p) w d = absurd (cc)
 quoted_is _ w d = absurd (cc)
 
-pub path_given : (m w : List ℕ) (ts us : List Token) (t : Token) → ts ≡ (t ∷ us) → quoted_in t ≡ Some w → m ≡ codes "include" → include_on m ts ≡ (path_of w >>= λ p. Some (IncludePart p, us))
-unfolding include_on
-path_given m w ts us t e d h = rw (e, quoted_is t w d) (rw ((bytes_eq-Decides m (codes "include")).1 h))
-
-pub path_elsewhere : (m w : List ℕ) (ts us : List Token) (t : Token) → ts ≡ (t ∷ us) → quoted_in t ≡ Some w → (m ≡ codes "include" → ⊥) → include_on m ts ≡ None
-unfolding include_on
-path_elsewhere m w ts us t e d h = rw (e, quoted_is t w d) (go (bytes_eq m (codes "include")) refl)
-  where
-    go : (b : Bool) → bytes_eq m (codes "include") ≡ b → cond {A = ReadOf NormalItem} b (path_of w >>= λ p. Some (IncludePart p, us)) None ≡ None
-    go true i = absurd (h ((bytes_eq-Decides m (codes "include")).0 i))
-    go false i = refl
-
 -- the path between its quotes
 
-path_end_gives : (p : List ℕ) → path_end (p ++ (34 ∷ [])) ≡ Some p
+pub path_end_gives : (p : List ℕ) → path_end (p ++ (34 ∷ [])) ≡ Some p
 unfolding path_end
 path_end_gives [] = refl
 path_end_gives (c ∷ []) = then_some {A = List ℕ} {B = List ℕ} [] (λ q. Some (c ∷ q))
 path_end_gives (c ∷ d ∷ p) = rw (path_end_gives (d ∷ p)) (then_some {A = List ℕ} {B = List ℕ} (d ∷ p) (λ q. Some (c ∷ q)))
-
-pub path_between : (w p : List ℕ) → w ≡ (34 ∷ (p ++ (34 ∷ []))) → path_of w ≡ Some p
-unfolding path_of
-path_between w p e = rw e (path_end_gives p)
 
 -- items and files
 
@@ -191,9 +174,3 @@ items_fail xs ts h e = many_fail is_more settled_item settled_items items_read x
 pub file_reads : (ts : List Token) → settled_file ts ≡ (settled_items ts >>= λ xs. Some (record { items = xs.0 }, xs.1))
 unfolding settled_file
 file_reads ts = refl
-
-pub ruleset parameters = (then_some, then_none, parameter_reads)
-
-pub ruleset ports = (then_some, then_none, port_reads)
-
-pub ruleset items = (then_some, then_none, either_some, either_none, item_reads)

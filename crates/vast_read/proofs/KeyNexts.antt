@@ -6,6 +6,7 @@ use Rattle.vast_literal.specs.StatementParser.{key_code, after_key_on, after_key
 use Rattle.vast_literal.specs.Settled.{either}
 use Rattle.vast_read.specs.Steps.{sign_in}
 use Rattle.vast_literal.specs.Nexts.{key_in, key_with, sign_with, is_less_equal}
+use Rattle.vast_read.proofs.Nexts.{sign_is}
 use Rattle.std.proofs.lemmas.Bool.Decides.{nat_tests}
 
 key_is : (t : Token) (k : Key) → key_in t ≡ Some k → t ≡ Reserved k
@@ -13,12 +14,6 @@ unfolding key_in
 key_is (Reserved v) k d = let c : v ≡ k = cc in rw c
 key_is (Mark p) k d = absurd (cc)
 key_is _ k d = absurd (cc)
-
-sign_is : (t : Token) (op : Op) → sign_in t ≡ Some op → t ≡ Operator op
-unfolding sign_in
-sign_is (Operator v) op d = let c : v ≡ op = cc in rw c
-sign_is (Mark p) op d = absurd (cc)
-sign_is _ op d = absurd (cc)
 
 -- a keyword
 

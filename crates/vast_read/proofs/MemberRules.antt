@@ -1,6 +1,5 @@
 -- The laws that the functions of the reader of members are proved by.
 use Rattle.std.proofs.Common.{◌≡◌, ℕ, true, false, List, [], ◌∷◌, ◌++◌, Some, None, bytes_eq, codes, refl, ap}
-use Rattle.std.proofs.lemmas.Slice.Eq.{bytes_eq-Decides}
 use Rattle.vast_literal.specs.Tokens.{Token}
 use Rattle.vast_literal.specs.Parser.{word_at, number_at}
 use Rattle.vast_literal.specs.MemberParser.{same_word}
@@ -13,7 +12,7 @@ use Rattle.vast_read.specs.declared.tree.member.Connection.{Connection}
 use Rattle.vast_read.specs.declared.tree.member.NormalMember.{NormalMember}
 use Rattle.vast_read.proofs.Steps.{then_some, then_none, either_some, either_none}
 use Rattle.vast_read.proofs.MemberLists.{events_join, events_end, events_go_on, events_fail, connections_join, connections_end, connections_go_on, connections_fail, givens_join, givens_end, givens_go_on, givens_fail, inputs_join, inputs_end, inputs_go_on, inputs_fail, locals_begin, locals_end, locals_go_on, locals_fail}
-use Rattle.vast_read.proofs.MemberSteps.{event_reads, value_reads, connection_reads, given_reads, instance_end_reads, given_parameters_read, instance_reads, macro_ending_reads, macro_reads, same_word_is, same_word_differs, same_word_none, number_one_is, number_one_differs, number_one_none, loop_start_reads, loop_bound_reads, loop_step_reads, loop_label_reads, loop_block_reads, loop_end_reads, loop_reads, input_reads, local_reads, lone_reads, function_block_reads, function_ending_reads, function_reads, assign_part_reads, combinational_reads, conditional_reads, parameter_part_reads, clocked_reads, declaration_part_reads, member_reads, other_part_reads, unkeyed_kind, unkeyed_plain, plain_end, plain_word, plain_macro, plain_key, plain_keyword, plain_system, plain_number, plain_based, plain_quoted, plain_operator, plain_mark, members_begin, members_end, members_go_on, members_fail}
+use Rattle.vast_read.proofs.MemberSteps.{event_reads, value_reads, connection_reads, given_reads, instance_end_reads, given_parameters_read, instance_reads, macro_ending_reads, macro_reads, same_word_none, number_one_none, loop_start_reads, loop_bound_reads, loop_step_reads, loop_label_reads, loop_block_reads, loop_end_reads, loop_reads, input_reads, local_reads, lone_reads, function_block_reads, function_ending_reads, function_reads, assign_part_reads, combinational_reads, conditional_reads, parameter_part_reads, clocked_reads, declaration_part_reads, member_reads, other_part_reads, unkeyed_kind, unkeyed_plain, plain_end, plain_word, plain_macro, plain_key, plain_keyword, plain_system, plain_number, plain_based, plain_quoted, plain_operator, plain_mark, members_begin, members_end, members_go_on, members_fail}
 use Rattle.vast_read.proofs.DeclarationLaws.{declarations_more}
 
 pub events_more : (es : List Event) (e : Event) → events_view (es ++ e ∷ []) ≡ events_view es ++ (event_view e ∷ [])
@@ -31,16 +30,20 @@ members_more (n ∷ ms) m = ap (MoreParts (member_view n)) (members_more ms m)
 -- words and numbers by how they compare
 
 pub same_text : (i w : List ℕ) (ts us : List Token) → word_at ts ≡ Some (w, us) → bytes_eq i w ≡ true → same_word i ts ≡ Some us
-same_text i w ts us e h = same_word_is i w ts us e ((bytes_eq-Decides i w).0 h)
+unfolding same_word
+same_text i w ts us e h = rw (e, then_some) (rw h)
 
 pub other_text : (i w : List ℕ) (ts us : List Token) → word_at ts ≡ Some (w, us) → bytes_eq i w ≡ false → same_word i ts ≡ None
-other_text i w ts us e h = same_word_differs i w ts us e (λ d. absurd (cc (h, (bytes_eq-Decides i w).1 d)))
+unfolding same_word
+other_text i w ts us e h = rw (e, then_some) (rw h)
 
 pub one_text : (w : List ℕ) (ts us : List Token) → number_at ts ≡ Some (w, us) → bytes_eq w (codes "1") ≡ true → number_one ts ≡ Some us
-one_text w ts us e h = number_one_is w ts us e ((bytes_eq-Decides w (codes "1")).0 h)
+unfolding number_one
+one_text w ts us e h = rw (e, then_some) (rw h)
 
 pub no_one_text : (w : List ℕ) (ts us : List Token) → number_at ts ≡ Some (w, us) → bytes_eq w (codes "1") ≡ false → number_one ts ≡ None
-no_one_text w ts us e h = number_one_differs w ts us e (λ d. absurd (cc (h, (bytes_eq-Decides w (codes "1")).1 d)))
+unfolding number_one
+no_one_text w ts us e h = rw (e, then_some) (rw h)
 
 pub ruleset events = (then_some, then_none, either_some, either_none, event_reads)
 

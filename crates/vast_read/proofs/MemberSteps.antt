@@ -1,24 +1,23 @@
 -- The settled parser of members as the reader goes through it.
-use Rattle.std.proofs.Common.{◌≡◌, ℕ, Bool, true, false, cond, bytes_eq, codes, List, [], ◌∷◌, Option, Some, None, refl, sym, ap, ◌∙◌}
-use Rattle.std.proofs.lemmas.Slice.Eq.{bytes_eq-Decides}
+use Rattle.std.proofs.Common.{◌≡◌, ℕ, Bool, true, false, List, [], ◌∷◌, Option, Some, None, refl, sym, ap, ◌∙◌}
 use Rattle.vast_literal.specs.Tokens.{Op, Punct, OpenParen, CloseParen, Colon, Semicolon, Dot, Hash, At, Assign, Key, IfKey, CasezKey, UniqueKey, BeginKey, EndKey, AssignKey, GenvarKey, AlwaysCombKey, FunctionKey, AutomaticKey, EndFunctionKey, InputKey, ForKey, Token, Reserved, Word, Keyword, SystemWord, MacroWord, Number, Based, Quoted, Operator, Mark}
 use Rattle.vast_literal.specs.NormalExpr.{NormalExpr, NormalExprs}
 use Rattle.vast_literal.specs.NormalFile.{Done, Then, NormalDeclaration, EdgeEvent, NameEvent, NormalConnection, NormalMember, DeclarationPart, AssignPart, ParameterPart, MacroPart, InstancePart, AlwaysPart, ConditionalPart, FunctionPart, LoopPart, NormalMembers, NoParts, MoreParts}
 use Rattle.vast_literal.specs.FileGrammar.{is_member_kind, is_parameter_word, is_clocked, is_edge}
 use Rattle.vast_literal.specs.Parser.{◌>>=◌, after, word_at, number_at, enclosed_at, arguments, selected_at}
-use Rattle.vast_literal.specs.StatementParser.{ReadOf, after_key, block_at, cases_at}
+use Rattle.vast_literal.specs.StatementParser.{ReadOf, after_key, block_at}
 use Rattle.vast_literal.specs.MemberParser.{bound_of, same_word}
 use Rattle.vast_literal.specs.Settled.{either, settled, settled_reader}
 use Rattle.vast_literal.specs.Nexts.{key_in, key_with, begins_with, sign_with, is_plus}
 use Rattle.vast_literal.specs.SettledDeclarations.{settled_declaration}
 use Rattle.vast_literal.specs.SettledMembers.{settled_members, settled_event, settled_events, connection_value, settled_connection, settled_given, settled_connections, settled_givens, instance_end, given_parameters, settled_instance, macro_ending, settled_macro, plain_part, loop_start, loop_bound, number_one, loop_step, loop_label, loop_block, loop_end, settled_loop, settled_input, settled_inputs, settled_local, settled_locals, lone_case, function_block, function_ending, settled_function, assign_part, combinational_part, conditional_part, parameter_part, clocked_part, declaration_part, settled_member}
+use Rattle.vast_literal.proofs.Agree.{chained}
 use Rattle.vast_literal.proofs.SettledMembers.{members_settled}
-use Rattle.vast_read.specs.Steps.{in_parens}
 use Rattle.vast_read.specs.StatementParts.{arms_in}
-use Rattle.vast_read.specs.StatementSteps.{is_casez, choice_statement, cases_of, block}
+use Rattle.vast_read.specs.StatementSteps.{choice_statement, cases_of, block}
 use Rattle.vast_read.specs.MemberSteps.{unkeyed_part, other_part, join_members, with_members}
 use Rattle.vast_read.proofs.Steps.{then_some, then_none, either_some, either_none}
-use Rattle.vast_read.proofs.StatementSteps.{chained}
+use Rattle.vast_read.proofs.StatementSteps.{casez_same}
 
 -- whether a keyword of a kind stands next
 
@@ -90,33 +89,9 @@ macro_reads m ts = refl
 
 -- loops
 
-pub same_word_is : (i w : List ℕ) (ts us : List Token) → word_at ts ≡ Some (w, us) → i ≡ w → same_word i ts ≡ Some us
-unfolding same_word
-same_word_is i w ts us e d = rw (e, then_some) (rw ((bytes_eq-Decides i w).1 d))
-
-pub same_word_differs : (i w : List ℕ) (ts us : List Token) → word_at ts ≡ Some (w, us) → (i ≡ w → ⊥) → same_word i ts ≡ None
-unfolding same_word
-same_word_differs i w ts us e d = rw (e, then_some) (go (bytes_eq i w) refl)
-  where
-    go : (b : Bool) → bytes_eq i w ≡ b → cond b (Some us) None ≡ None
-    go true h = absurd (d ((bytes_eq-Decides i w).0 h))
-    go false h = refl
-
 pub same_word_none : (i : List ℕ) (ts : List Token) → word_at ts ≡ None → same_word i ts ≡ None
 unfolding same_word
 same_word_none i ts e = rw (e, then_none)
-
-pub number_one_is : (w : List ℕ) (ts us : List Token) → number_at ts ≡ Some (w, us) → w ≡ codes "1" → number_one ts ≡ Some us
-unfolding number_one
-number_one_is w ts us e d = rw (e, then_some) (rw ((bytes_eq-Decides w (codes "1")).1 d))
-
-pub number_one_differs : (w : List ℕ) (ts us : List Token) → number_at ts ≡ Some (w, us) → (w ≡ codes "1" → ⊥) → number_one ts ≡ None
-unfolding number_one
-number_one_differs w ts us e d = rw (e, then_some) (go (bytes_eq w (codes "1")) refl)
-  where
-    go : (b : Bool) → bytes_eq w (codes "1") ≡ b → cond b (Some us) None ≡ None
-    go true h = absurd (d ((bytes_eq-Decides w (codes "1")).0 h))
-    go false h = refl
 
 pub number_one_none : (ts : List Token) → number_at ts ≡ None → number_one ts ≡ None
 unfolding number_one
@@ -159,14 +134,6 @@ input_reads ts = refl
 pub local_reads : (ts : List Token) → settled_local ts ≡ (settled_declaration ts >>= λ d. after Semicolon d.1 >>= λ us. Some (d.0, us))
 unfolding settled_local
 local_reads ts = refl
-
-low_settled : settled_reader.low ≡ settled
-unfolding settled_reader
-low_settled = refl
-
-casez_same : (u : Bool) (ts : List Token) → cases_at settled_reader u CasezKey true ts ≡ cases_of u CasezKey ts
-unfolding cases_at cases_of in_parens is_casez
-casez_same u ts = simp chained (rw low_settled)
 
 pub lone_reads : (u : Bool) (ts : List Token) → lone_case u ts ≡ (cases_of u CasezKey ts >>= λ s. Some (Then s.0 Done, s.1))
 unfolding lone_case

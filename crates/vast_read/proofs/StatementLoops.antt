@@ -1,11 +1,13 @@
 -- The settled parser of statements as the loops of the reader go through it.
-use Rattle.std.proofs.Common.{◌≡◌, false, List, [], ◌∷◌, ◌++◌, map, Option, Some, None, refl, ap}
+use Rattle.std.proofs.Common.{◌≡◌, false, List, [], ◌∷◌, ◌++◌, map, Option, Some, None, refl, ap, ◌∙◌}
 use Rattle.vast_literal.specs.Tokens.{IfKey, ElseKey, UniqueKey, AssignKey, Token}
 use Rattle.vast_literal.specs.NormalFile.{NormalStatement, ChoiceStatement, NormalStatements, Done, Then, Arms, NoLabels, Label}
 use Rattle.vast_literal.specs.Parser.{◌>>=◌}
 use Rattle.vast_literal.specs.StatementParser.{ReadOf, after_key, simple_at}
 use Rattle.vast_literal.specs.Nexts.{key_with}
 use Rattle.vast_literal.specs.Settled.{either, settled, settled_reader}
+use Rattle.vast_literal.proofs.Agree.{chained}
+use Rattle.vast_literal.proofs.SettledStatements.{statement_settled}
 use Rattle.vast_read.specs.StatementParts.{ChoicePart, arms_of, join_block, join_labels}
 use Rattle.vast_read.specs.StatementSteps.{is_case_word, assign_at, choice_statement, cases_of, unique_case, block, choice_arm, more_arms, else_arm, arms_end, else_if, last_block, choice_behind, case_or_simple}
 use Rattle.vast_read.specs.StatementView.{statement_view, arm_view, label_view, block_view, labels_view}
@@ -13,7 +15,7 @@ use Rattle.vast_read.specs.declared.tree.statement.NormalStatement.{NormalStatem
 use Rattle.vast_read.specs.declared.tree.statement.Arm.{Arm}
 use Rattle.vast_read.specs.declared.tree.statement.CaseArm.{CaseArm}
 use Rattle.vast_read.proofs.Steps.{then_some, then_none, either_some, either_none, enclosed_reads}
-use Rattle.vast_read.proofs.StatementSteps.{chained, choose_then, statement_reads, choice_reads, choice_statement_reads, more_arms_read, label_reads, bare_reads, statements_begin, statements_end, statements_go_on, statements_fail, labels_begin, labels_end, labels_go_on, labels_fail}
+use Rattle.vast_read.proofs.StatementSteps.{step_reads, choice_reads, choice_statement_reads, more_arms_read, label_reads, bare_reads, statements_begin, statements_end, statements_go_on, statements_fail, labels_begin, labels_end, labels_go_on, labels_fail}
 
 -- lists of trees and of one more
 
@@ -36,7 +38,7 @@ pub statement_by_key : (ts : List Token) → settled_reader.statement ts ≡
     (either (after_key IfKey ts) (λ us. choice_statement us)
     (either (after_key UniqueKey ts) (λ us. unique_case us) (case_or_simple ts)))
 unfolding case_or_simple
-statement_by_key ts = statement_reads ts
+statement_by_key ts = statement_settled ts ∙ step_reads ts
 
 pub case_or_simple_reads : (ts : List Token) → case_or_simple ts ≡ either (key_with is_case_word ts) (λ k. cases_of false k.0 k.1) (simple_at settled ts)
 unfolding case_or_simple

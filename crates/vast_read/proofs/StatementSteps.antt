@@ -8,22 +8,13 @@ use Rattle.vast_literal.specs.FileGrammar.{assignment}
 use Rattle.vast_literal.specs.Parser.{◌>>=◌, after, key_at, enclosed_at, selected_at, primary}
 use Rattle.vast_literal.specs.StatementParser.{ReadOf, key_code, after_key_on, after_key, arrow_at, simple_at, block_at, cases_at, case_of, statement_on, statement_step, statements_on, statements_step, tail_on, choice_on, choice_step, body_on, arm_at, labels_on, labels_step}
 use Rattle.vast_literal.specs.Settled.{either, settled, settled_reader}
-use Rattle.vast_literal.proofs.SettledStatements.{statement_settled, statements_settled, choice_settled, labels_settled}
+use Rattle.vast_literal.proofs.Agree.{chained}
+use Rattle.vast_literal.proofs.SettledStatements.{statements_settled, choice_settled, labels_settled}
 use Rattle.vast_read.specs.Steps.{in_parens}
 use Rattle.vast_read.specs.StatementParts.{ChoicePart, LabelPart, arms_before, last_arm, arms_of, join_block, join_labels}
 use Rattle.vast_literal.specs.Nexts.{key_with}
 use Rattle.vast_read.specs.StatementSteps.{is_case_word, is_casez, assign_at, choice_statement, cases_of, unique_case, block, with_block, choice_arm, more_arms, else_arm, arms_end, label_at, bare_body, body_at, label_arm, with_labels}
-use Rattle.vast_read.proofs.Steps.{then_some, then_none, either_some, either_none}
-
-pub chained : {A B C : Type 0} (o : Option A) (f : A → Option B) (g : B → Option C) → ((o >>= f) >>= g) ≡ (o >>= λ x. f x >>= g)
-unfolding ◌>>=◌
-chained None f g = refl
-chained (Some x) f g = refl
-
-pub choose_then : {A B C : Type 0} (o : Option A) (f : A → Option B) (u : Option B) (g : B → Option C) → (either o f u >>= g) ≡ either o (λ x. f x >>= g) (u >>= g)
-unfolding either
-choose_then None f u g = refl
-choose_then (Some x) f u g = refl
+use Rattle.vast_read.proofs.Steps.{then_some, then_none, either_some, either_none, either_then}
 
 low_settled : settled_reader.low ≡ settled
 unfolding settled_reader
@@ -45,7 +36,7 @@ cases_same : (u : Bool) (k : Key) (ts : List Token) → cases_at settled_reader 
 unfolding cases_at cases_of in_parens
 cases_same u k ts = rw low_settled (simp chained)
 
-casez_same : (u : Bool) (ts : List Token) → cases_at settled_reader u CasezKey true ts ≡ cases_of u CasezKey ts
+pub casez_same : (u : Bool) (ts : List Token) → cases_at settled_reader u CasezKey true ts ≡ cases_of u CasezKey ts
 unfolding is_casez
 casez_same u ts = cases_same u CasezKey ts
 
@@ -93,7 +84,7 @@ other_statement k us = go (is_cast_word k) refl
     go true e = rw low_settled
     go false e = sym (no_simple k us e)
 
-step_reads : (ts : List Token) → statement_step settled_reader ts ≡
+pub step_reads : (ts : List Token) → statement_step settled_reader ts ≡
     either (after_key AssignKey ts) (λ us. assign_at us)
     (either (after_key IfKey ts) (λ us. choice_statement us)
     (either (after_key UniqueKey ts) (λ us. unique_case us)
@@ -108,13 +99,6 @@ step_reads (Reserved CasezKey ∷ us) = casez_same false us
 step_reads (Reserved CasexKey ∷ us) = casex_same false us
 step_reads (Reserved k ∷ us) = other_statement k us
 step_reads (_ ∷ us) = rw low_settled
-
-pub statement_reads : (ts : List Token) → settled_reader.statement ts ≡
-    either (after_key AssignKey ts) (λ us. assign_at us)
-    (either (after_key IfKey ts) (λ us. choice_statement us)
-    (either (after_key UniqueKey ts) (λ us. unique_case us)
-    (either (key_with is_case_word ts) (λ k. cases_of false k.0 k.1) (simple_at settled ts))))
-statement_reads ts = statement_settled ts ∙ step_reads ts
 
 -- blocks
 
@@ -213,7 +197,7 @@ otherwise_more ps p d = one_more ps p (Some d)
 
 more_end : (ps : List ChoicePart) (p : ChoicePart) (ts : List Token) → (arms_end (p ∷ []) ts >>= λ a. Some (arms_before ps a.0, a.1)) ≡ arms_end (ps ++ (p ∷ [])) ts
 unfolding arms_end else_arm more_arms
-more_end ps p ts = simp (choose_then, chained, then_some, before_more, only_more, otherwise_more)
+more_end ps p ts = simp (either_then, chained, then_some, before_more, only_more, otherwise_more)
 
 pub more_arms_read : (ps : List ChoicePart) (ts : List Token) → more_arms ps ts ≡ (choice_arm ts >>= λ p. arms_end (ps ++ (p.0 ∷ [])) p.1)
 unfolding more_arms
@@ -265,7 +249,7 @@ labels_key z (_ ∷ us) = refl
 labels_step_reads : (z : Bool) (ts : List Token) → labels_step settled_reader z ts ≡
     either (after_key EndCaseKey ts) (λ us. Some (NoLabels, us)) (label_arm z ts >>= λ l. settled_reader.labels z l.1 >>= λ a. Some (Label l.0.0 l.0.1 a.0, a.1))
 unfolding labels_step label_arm label_at
-labels_step_reads z ts = labels_key z ts ∙ simp (chained, choose_then, then_some, arm_same) (rw low_settled)
+labels_step_reads z ts = labels_key z ts ∙ simp (chained, either_then, then_some, arm_same) (rw low_settled)
 
 pub labels_read : (z : Bool) (ts : List Token) → settled_reader.labels z ts ≡
     either (after_key EndCaseKey ts) (λ us. Some (NoLabels, us)) (label_arm z ts >>= λ l. settled_reader.labels z l.1 >>= λ a. Some (Label l.0.0 l.0.1 a.0, a.1))
