@@ -71,7 +71,7 @@ stop_tick c h = not_or_right (is_word_byte c) (eqb c 39 || is_based_digit c) h
 stop_digit : (c : ℕ) → stop c ≡ true → is_digit c ≡ false
 stop_digit c h = or_right (is_letter c) (is_digit c) (or_left (is_letter c || is_digit c) (eqb c 36) (stop_word c h))
 
-digit_letter : (c : ℕ) → is_digit c ≡ true → is_letter c ≡ false
+pub digit_letter : (c : ℕ) → is_digit c ≡ true → is_letter c ≡ false
 digit_letter c h = grind (arith, nat_tests)
 
 pub word_end : (w rest : List ℕ) → stops rest ≡ true → scan (InWord w) rest ≡ cons_token (word_token w) (scan Gap rest)

@@ -4,14 +4,11 @@ use Rattle.std.specs.List.{prefix_len}
 use Rattle.std.proofs.lemmas.List.{get_or-drop}
 use Rattle.std.proofs.lemmas.Bool.Decides.{nat_tests}
 use Rattle.vast_literal.specs.Tokens.{Number, Based, Mark, Apostrophe, OpenParen, OpenBrace}
-use Rattle.vast_literal.specs.Scan.{is_letter, is_digit, is_radix, is_filler, Gap, InNumber, AfterTick, cons_token, join_tokens, keep, give, fail, before_tick, step, scan}
-use Rattle.vast_literal.proofs.ScanLaws.{and_left, and_right}
+use Rattle.vast_literal.specs.Scan.{is_digit, is_radix, is_filler, Gap, InNumber, AfterTick, cons_token, join_tokens, keep, give, fail, before_tick, step, scan}
+use Rattle.vast_literal.proofs.ScanLaws.{digit_letter, and_left, and_right}
 use Rattle.vast_read.specs.Scanner.{opens_based, is_based_tick, opens_mark, IsTick}
 use Rattle.vast_read.proofs.scanner.Lexemes.{At, head_at, one_more, advance, run, run_stops, ends_by}
 use Rattle.vast_read.proofs.scanner.Strings.{other_within}
-
-digit_letter : (c : ℕ) → is_digit c ≡ true → is_letter c ≡ false
-digit_letter c h = grind (arith, nat_tests)
 
 number_on : (text : List ℕ) → is_digit (get_or text 0 10) ≡ true → At (InNumber (take 1 text)) text 1
 unfolding scan
