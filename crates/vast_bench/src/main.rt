@@ -14,20 +14,33 @@ mod sum;
 
 use fault::BenchFault;
 use program::{fail, run};
-use std::alloc::AllocError;
+use std::alloc::{AllocError, Global};
 use std::env;
 use std::io::ErrorKind;
 use std::process::ExitCode;
 
 /// The words after the program's name.
 fn arguments(rt: &HostRuntime) -> std::io::Result<Vec<String>> {
-    Ok(env::args(rt)?.skip(1).collect(rt.alloc())?)
+    let alloc = rt.alloc();
+    let mut words = Vec::new(alloc);
+    for word in env::args(rt)?.skip(1) {
+        words.push(word)?;
+    }
+    Ok(words)
+}
+
+fn slices(alloc: Global, words: &[String]) -> Result<Vec<&str>, AllocError> {
+    words.iter().map(|word| word.as_str()).collect(alloc)
 }
 
 fn main(rt: HostRuntime) -> ExitCode {
+    let alloc = rt.alloc();
     let mut err = rt.stderr();
     let status = match arguments(&rt) {
-        Ok(words) => run(rt.alloc(), &words, &mut rt.stdout(), &mut err),
+        Ok(words) => match slices(alloc, &words) {
+            Ok(words) => run(alloc, &words, &mut rt.stdout(), &mut err),
+            Err(error) => fail(BenchFault::Memory(error), &mut err),
+        },
         Err(error) if error.kind() == ErrorKind::OutOfMemory => {
             fail(BenchFault::Memory(AllocError), &mut err)
         }

@@ -14,7 +14,7 @@ use xlsynth_vast::{FileIds, VastFile, VastFileType};
 /// the first fault, whose words go to `err`.
 pub(crate) fn run<W: Write, E: Write>(
     alloc: Global,
-    words: &[String],
+    words: &[&str],
     out: &mut W,
     err: &mut E,
 ) -> u8 {
@@ -29,7 +29,7 @@ pub(crate) fn run<W: Write, E: Write>(
     0
 }
 
-fn measure<W: Write>(alloc: Global, words: &[String], out: &mut W) -> Result<(), BenchFault> {
+fn measure<W: Write>(alloc: Global, words: &[&str], out: &mut W) -> Result<(), BenchFault> {
     let [design, digits, times] = words else {
         return Err(BenchFault::Words);
     };
@@ -37,7 +37,7 @@ fn measure<W: Write>(alloc: Global, words: &[String], out: &mut W) -> Result<(),
     let mut ids = FileIds::new();
     let mut file = VastFile::new(alloc, VastFileType::SystemVerilog, &mut ids).unwrap();
     build(design, size, &mut file)?;
-    if times.as_str() == "text" {
+    if *times == "text" {
         let text = file.emit()?;
         return write(text.as_str(), out);
     }

@@ -16,7 +16,12 @@ use std::process::ExitCode;
 
 /// The words after the program's name.
 fn arguments(rt: &HostRuntime) -> std::io::Result<Vec<String>> {
-    Ok(env::args(rt)?.skip(1).collect(rt.alloc())?)
+    let alloc = rt.alloc();
+    let mut words = Vec::new(alloc);
+    for word in env::args(rt)?.skip(1) {
+        words.push(word)?;
+    }
+    Ok(words)
 }
 
 fn slices(alloc: Global, words: &[String]) -> Result<Vec<&str>, AllocError> {

@@ -10,7 +10,7 @@ use vast_examples::example;
 
 /// Prints the example that each word names, in their order, and answers the status: 0, or 1 at the first word that
 /// names none, at a refusal or a fault, whose words go to `err`.
-pub(crate) fn run<W: Write, E: Write>(alloc: Global, words: &[String], out: &mut W, err: &mut E) -> u8
+pub(crate) fn run<W: Write, E: Write>(alloc: Global, words: &[&str], out: &mut W, err: &mut E) -> u8
     ensures status { result ≤ 1 }
     ensures shown { result ≡ 0 →
         ShowsFiles (W.contents out.old) (length words.now) (W.contents out.new) }
