@@ -50,6 +50,19 @@ pub(crate) enum Kind {
     Nothing,
 }
 
+impl Kind {
+    /// What each word of it stands for, where that is a handle.
+    pub(crate) fn handle(self) -> Option<Handle> {
+        match self {
+            Kind::One(item)
+            | Kind::List(item)
+            | Kind::Optional(item)
+            | Kind::ListOfOptional(item) => { item.handle() }
+            Kind::Nothing => None,
+        }
+    }
+}
+
 /// What stands once.
 #[derive(Clone, Copy)]
 pub(crate) enum Item {
@@ -71,8 +84,18 @@ pub(crate) enum Item {
     Port,
 }
 
+impl Item {
+    fn handle(self) -> Option<Handle> {
+        match self {
+            Item::Handle(handle) => Some(handle),
+            Item::Reset | Item::Register => Some(Handle::Expression),
+            _ => None,
+        }
+    }
+}
+
 /// Which handle.
-#[derive(Clone, Copy)]
+#[derive(Clone, Copy, PartialEq, Eq)]
 pub(crate) enum Handle {
     Module,
     Function,

@@ -67,6 +67,43 @@ impl Handle {
         }
     }
 
+    /// What it is, in words.
+    pub(crate) fn words(self) -> &'static str {
+        match self {
+            Handle::Module => "a module",
+            Handle::Function => "a function",
+            Handle::Port => "a port",
+            Handle::Type => "a type",
+            Handle::Signal => "a signal",
+            Handle::Expression => "an expression",
+            Handle::Indexable => "an indexable expression",
+            Handle::Slice => "a part select",
+            Handle::Index => "a bit select",
+            Handle::Instantiation => "an instance",
+            Handle::BlankLine => "a blank line",
+            Handle::InlineStatement => "an inline statement",
+            Handle::Comment => "a comment",
+            Handle::Macro => "a use of a macro",
+            Handle::MacroStatement => "a macro statement",
+            Handle::Assignment => "a continuous assignment",
+            Handle::Always => "an always block",
+            Handle::Block => "a block of statements",
+            Handle::Statement => "an assignment",
+            Handle::Conditional => "a conditional",
+            Handle::Case => "a case statement",
+            Handle::Loop => "a generate loop",
+            Handle::Parameter => "a parameter",
+            Handle::Localparam => "a local parameter",
+            Handle::Definition => "a definition",
+            Handle::Scope => "a module or a generate loop",
+        }
+    }
+
+    /// Whether an answer of this kind stands for one.
+    pub(crate) fn takes(self, answer: Handle) -> bool {
+        (self == answer && self.is_answer()) || self.others().contains(&answer)
+    }
+
     /// The type that it has in the Rust crate.
     pub(super) fn rust(self) -> &'static str {
         match self {
