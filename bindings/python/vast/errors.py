@@ -2,7 +2,7 @@
 import re
 from typing import Optional
 
-_FAULT = re.compile(r"(?:(\d+)(?::\d+)?: )?(?:([?!]?[A-Z]\w*): )?(.*)", re.DOTALL)
+_FAULT = re.compile(r"(?:(\d+)(?::\d+)?: )?(?:([?!]?[A-Z][A-Za-z0-9]*): )?(.*)", re.DOTALL)
 
 
 class VastFault(Exception):

@@ -171,9 +171,10 @@ def found_library() -> Optional[CDLL]:
 
 def found_program() -> Optional[str]:
     """The program: that of the path VAST_REPLAY, or on PATH, or as it was built in this checkout."""
-    path = os.environ.get("VAST_REPLAY") or shutil.which("vast_replay")
-    built = f"{_ROOT}/crates/vast_replay/out/vast_replay"
-    return path or (built if os.path.exists(built) else None)
+    named = os.environ.get("VAST_REPLAY")
+    if named is not None:
+        return shutil.which(named)
+    return shutil.which("vast_replay") or shutil.which(f"{_ROOT}/crates/vast_replay/out/vast_replay")
 
 
 def open_session(dialect: str) -> Session:
