@@ -45,7 +45,9 @@ class Noted:
 
     def text(self):
         """The text."""
-        return self.session.text()
+        text = self.session.text()
+        self.made.add("?Emit")
+        return text
 
     def close(self):
         """Closes it."""

@@ -3,9 +3,10 @@ from __future__ import annotations
 
 import re
 from json.encoder import encode_basestring
-from typing import Callable, Iterable, List, Optional, Type, TypeVar
+from typing import Any, Callable, Dict, Iterable, List, Optional, Type, TypeVar, Union
 
 from .kinds import ModulePortDirection, Port
+from .session import Plain
 
 T = TypeVar("T")
 
@@ -68,28 +69,37 @@ def optional(write: Callable[[T], object], given: Optional[T]) -> str:
     return "-" if given is None else f"+ {write(given)}"
 
 
-def read_truth(answer: str) -> bool:
+def read_truth(answer: Union[str, bool]) -> bool:
     """The answer of a test."""
-    return answer == "true"
+    return answer is True or answer == "true"
 
 
-def read_number(answer: str) -> int:
+def read_number(answer: Union[str, int]) -> int:
     """A number."""
     return int(answer)
 
 
-def read_optional(answer: str) -> Optional[str]:
+def read_optional(answer: Optional[str]) -> Optional[str]:
     """A text that may be missing."""
-    return None if answer == "-" else answer
+    return None if isinstance(answer, Plain) and answer == "-" else answer
 
 
 # A port's name stands at both ends, so that a space or a line break in it is no end.
-_PORT = re.compile(r"\n(.*?) (Input|Output|InOut) (-?\d+) (true|false) \1(?=\n|\Z)", re.DOTALL)
+_PORT = re.compile(r"\n(.*?) (Input|Output|InOut) (-?\d+) (true|false) (\1)(?=\n|\Z)", re.DOTALL)
 
 
-def read_ports(answer: str) -> List[Port]:
+def read_ports(answer: Union[str, List[Dict[str, Any]]]) -> List[Port]:
     """The ports of a module."""
+    if isinstance(answer, Plain):
+        names = ("name", "direction", "width", "signed", "reference")
+        answer = [dict(zip(names, row)) for row in _PORT.findall(answer)]
     return [
-        Port(name, ModulePortDirection(direction), int(width), signed == "true", name)
-        for name, direction, width, signed in _PORT.findall(answer)
+        Port(
+            port["name"],
+            ModulePortDirection(port["direction"]),
+            int(port["width"]),
+            read_truth(port["signed"]),
+            port["reference"],
+        )
+        for port in answer
     ]
