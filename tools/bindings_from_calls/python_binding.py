@@ -29,6 +29,8 @@ OWNERS = {
 FAMILIES = {"expression": "Expression", "indexable": "Selectable"}
 # Calls of files alone, though their first argument is a handle.
 NO_METHODS = ("add_registers",)
+# What `core.py` has.
+BY_HAND = ("emit",)
 DEFAULTS = {
     "signed": "False",
     "invert": "False",
@@ -267,7 +269,7 @@ class PythonBinding:
                 '    """Each call of the table, by its name in snake case."""\n',
             ]
             + writers
-            + [self.call(call) for call in self.table.calls]
+            + [self.call(call) for call in self.table.calls if call.method not in BY_HAND]
         )
 
     def is_argument(self, type):

@@ -1,6 +1,6 @@
 """Each refusal by its name, and each condition; behind each the file is as it was."""
 from sessions import FileTest, over_each
-from vast import Condition, File, LiteralFormat, Refused, RegisterDefinition, Reset, VastFault
+from vast import Condition, File, LiteralFormat, Refused, RegisterDefinition, VastFault
 
 TWICE = "FAILED_PRECONDITION: Attempted to declare {} with name '{}' multiple times in {}. Already defined: [{}]"
 EVENT = (

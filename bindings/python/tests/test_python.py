@@ -2,9 +2,8 @@
 import os
 import subprocess
 import sys
-import unittest
 
-from sessions import SESSIONS, FileTest, over_each
+from sessions import FileTest, over_each
 from vast import Condition, File, FileType, NoLibrary, Refused, RegisterDefinition, Reset, VastFault
 
 PACKAGE = os.path.dirname(os.path.dirname(os.path.abspath(__file__)))
@@ -390,6 +389,32 @@ class Waiting(FileTest):
         module = file.add_module("m")
         self.assertRaises(Refused, file.make_literal, "8", "Hex")
         self.assertEqual(file.add_wire(module, "a", file.make_scalar_type()).number, 2)
+
+    @over_each()
+    def test_places(self, file):
+        """Faults name the line of Python that made the call."""
+        session = file._session.__class__(file._session.name, file.file_type.value)
+        with File(file.file_type, places=True, session=session) as placed:
+            module = placed.add_module("m")
+            s = module.reg("s")
+            with self.assertRaises(Refused) as raised:
+                module.reg("s")
+            self.assertEqual(raised.exception.place, self.line(-2))
+            self.assertEqual(s.name(), "s")
+            wrong = s[1]
+            here = self.line(-1)
+            placed.emit()
+            module.assign(s, wrong)
+            with self.assertRaises(Refused) as raised:
+                placed.emit()
+            self.assertEqual(raised.exception.place, here)
+            self.assertEqual(str(raised.exception), f"{here}: {raised.exception.words}")
+
+    @staticmethod
+    def line(behind):
+        """The place of a line before that of the call."""
+        frame = sys._getframe(1)
+        return f"{frame.f_code.co_filename}:{frame.f_lineno + behind}"
 
     @over_each()
     def test_closed(self, file):

@@ -55,8 +55,8 @@ class ModulePortDirection(enum.Enum):
 
 
 class Expression(Operators):
-    """What may stand as `Expr`: Expr, LogicRef, IndexableExpr, Slice, Index, ParameterRef,
-    LocalparamRef, MacroRef.
+    """What may stand as `Expr`: Expr, LogicRef, IndexableExpr, Slice, Index, MacroRef,
+    ParameterRef, LocalparamRef.
     """
 
     __slots__ = ()
