@@ -1,6 +1,7 @@
 """The methods of the Python binding: `vast/kinds.py`, a class for each kind of handles, and `vast/calls.py`, the calls of a
 file."""
 import keyword
+import re
 import textwrap
 
 from table import Type
@@ -251,7 +252,8 @@ class PythonBinding:
     def calls_file(self):
         """The calls of a file."""
         groups = [type for type in self.table.named_types("group") if self.is_argument(type)]
-        writers = [self.group_writer(type) for type in groups]
+        body = [self.group_writer(type) for type in groups]
+        body += [self.call(call) for call in self.table.calls if call.method not in BY_HAND]
         return "\n".join(
             [
                 HEAD.format("The calls of a file."),
@@ -260,7 +262,7 @@ class PythonBinding:
                 "from .core import Core",
                 "from .kinds import (",
             ]
-            + [f"    {name}," for name in self.imported()]
+            + [f"    {name}," for name in self.imported("\n".join(body))]
             + [
                 ")",
                 "from .writing import int32, int64, listed, optional, quoted, size, truth, word",
@@ -268,8 +270,7 @@ class PythonBinding:
                 "class Calls(Core):",
                 '    """Each call of the table, by its name in snake case."""\n',
             ]
-            + writers
-            + [self.call(call) for call in self.table.calls if call.method not in BY_HAND]
+            + body
         )
 
     def is_argument(self, type):
@@ -281,12 +282,12 @@ class PythonBinding:
             for part in parts_of(parameter.type)
         )
 
-    def imported(self):
+    def imported(self, body):
         """The names of `kinds.py` that the calls use."""
         names = [class_of(kind) for kind in self.table.kinds if kind.kind != "port"]
         names += ["Operand", "TypeLike", *FAMILIES.values()]
         names += [type.of for form in ("word", "group") for type in self.table.named_types(form)]
-        return sorted(set(names))
+        return sorted(name for name in set(names) if re.search(rf"\b{name}\b", body))
 
     def group_writer(self, type):
         """The method that writes such a group."""

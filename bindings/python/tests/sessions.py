@@ -1,9 +1,10 @@
 """Sessions that tests run over: each that is there, in each dialect, with a note of each call that was made."""
 import functools
 import unittest
+from typing import Callable, Dict, Set, Tuple
 
 from vast import File
-from vast.session import LibrarySession, ProcessSession, found_library, found_program
+from vast.session import LibrarySession, ProcessSession, Session, found_library, found_program
 
 BOTH = ("verilog", "systemverilog")
 
@@ -11,7 +12,7 @@ BOTH = ("verilog", "systemverilog")
 def sessions():
     """The sessions that are there, by name: functions from dialects."""
     library, program = found_library(), found_program()
-    found = {}
+    found: Dict[str, Callable[[str], Session]] = {}
     if library is not None:
         found["library"] = functools.partial(LibrarySession, library)
     if program is not None:
@@ -20,7 +21,7 @@ def sessions():
 
 
 SESSIONS = sessions()
-MADE = {(name, dialect): set() for name in SESSIONS for dialect in BOTH}
+MADE: Dict[Tuple[str, str], Set[str]] = {(name, dialect): set() for name in SESSIONS for dialect in BOTH}
 
 
 class Noted:

@@ -9,7 +9,7 @@ from .errors import Condition, VastFault
 from .handle import Handle
 from .kinds import DataType, Expression, Operand, Selectable, TypeLike
 from .session import Session
-from .writing import int32
+from .writing import int32, int64
 
 # Lines that wait at most.
 BATCH = 1024
@@ -152,5 +152,5 @@ class Core:
         if not isinstance(given, int) or isinstance(given, bool):
             raise TypeError(f"a type or a number of bits is wanted, not {given!r}")
         if given not in self._types:
-            self._types[given] = self.make_bit_vector_type(given).number
+            self._types[given] = self._now(f"MakeBitVectorType {int64(given)} false")
         return self._types[given]

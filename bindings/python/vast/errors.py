@@ -13,8 +13,9 @@ _FAULT = re.compile(r"(?:(\d+)(?::\d+)?: )?(?:([?!]?[A-Z][A-Za-z0-9]*): )?(.*)",
 class VastFault(Exception):
     """A call gave nothing, and the file is as it was before it.
 
-    `words` say why. `call` is the call as lists write it (`AddReg`), `None` where the file's text is refused. `place` is the
-    Python file and line that made the call, or of the call that made what `emit` refuses, of files with `places=True`.
+    `words` say why. `call` is the call as lists write it (`AddReg`). `place` is the file and line of Python that made the
+    call, of files with `places=True`; where `emit` is refused, those of the call that made what is refused, or `None` where
+    the session doesn't tell it.
     """
 
     def __init__(self, words: str, call: Optional[str] = None, line: Optional[int] = None) -> None:
@@ -31,8 +32,9 @@ class VastFault(Exception):
 
 def read_fault(kind: Type[Kind], message: str) -> Kind:
     """The fault of this message; lines are numbered from 1."""
-    line, call, words = _FAULT.fullmatch(message).groups()
-    return kind(words, call, None if line is None else int(line) - 1)
+    found = _FAULT.fullmatch(message)
+    line, call, words = found.groups() if found else (None, None, message)
+    return kind(words or "", call, None if line is None else int(line) - 1)
 
 
 class Refused(VastFault):

@@ -41,8 +41,8 @@ class File(Calls):
     call of the file raises it again. Wrong kinds of handles and numbers out of range are `TypeError` and `ValueError` of the
     call itself in either case, handles of another file `Condition`.
 
-    With `places=True` each fault names the line of Python that made the call, and a refusal of `emit` the line whose call made
-    what is refused; calls then take about twice as long.
+    With `places=True` each fault names the line of Python that made the call, and over the library a refusal of `emit` the
+    line whose call made what is refused; calls then take about twice as long.
 
     A file is used by one thread at a time.
     """
@@ -69,7 +69,7 @@ class File(Calls):
         self.close()
 
     def close(self) -> None:
-        """Lets go of the file's memory. No call may be made of it afterwards."""
+        """Lets go of the file, as is done where nothing holds it any more. Each later call that is sent is a `ValueError`."""
         self._session.close()
 
     def add_function(self, owner: Module, name: str, result_type: TypeLike) -> Function:

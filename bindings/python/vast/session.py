@@ -6,9 +6,10 @@ import json
 import os
 import shutil
 import subprocess
+import weakref
 from bisect import bisect_left
 from ctypes import CDLL, POINTER, byref, c_char_p, c_int32, c_size_t, c_void_p, create_string_buffer
-from typing import Any, Iterator, List, Optional, Protocol, Tuple
+from typing import IO, Any, Iterator, List, Optional, Protocol, Tuple, cast
 
 from .errors import Condition, NoLibrary, NotInForm, Refused, read_fault
 
@@ -50,6 +51,7 @@ class LibrarySession:
         self._taken = c_size_t()
         self._taken_at = byref(self._taken)
         self._check(library.vast_open(self._session, self.DIALECTS[dialect]))
+        self._end = weakref.finalize(self, library.vast_close, self._session)
 
     def lines(self, lines: List[str]) -> Tuple[int, Optional[Exception]]:
         """See `Session`."""
@@ -71,7 +73,7 @@ class LibrarySession:
 
     def close(self) -> None:
         """See `Session`."""
-        self._library.vast_close(self._session)
+        self._end()
 
     def _text(self, number: int) -> str:
         """A text of the session."""
@@ -124,7 +126,12 @@ class ProcessSession:
         self._process = subprocess.Popen(
             [program, "--session"], stdin=subprocess.PIPE, stdout=subprocess.PIPE
         )
+        self._input = cast(IO[bytes], self._process.stdin)
+        self._output = cast(IO[bytes], self._process.stdout)
+        self._end = weakref.finalize(self, end_process, self._process)
         self._sent = 0
+        # Replies that are to come.
+        self._owed = 0
         # The numbers, from 1, of lines that made nothing: the dialect's, those at fault, and questions for the text.
         self._empty: List[int] = []
         self._reply(dialect)
@@ -134,7 +141,7 @@ class ProcessSession:
         """See `Session`. Lines behind one at fault are sent all the same."""
         made, first = 0, None
         for sent, count in self._parts(lines):
-            self._send(sent)
+            self._send(sent, count)
             for _ in range(count):
                 fault = self._fault_of(self._read())
                 if first is None:
@@ -158,10 +165,7 @@ class ProcessSession:
 
     def close(self) -> None:
         """See `Session`."""
-        if not self._process.stdin.closed:
-            self._process.stdin.close()
-            self._process.stdout.close()
-            self._process.wait()
+        self._end()
 
     def _parts(self, lines: List[str]) -> Iterator[Tuple[bytes, int]]:
         """The lines in parts of at most `ROOM` bytes, or of one line, with their numbers of lines."""
@@ -179,20 +183,26 @@ class ProcessSession:
 
     def _reply(self, line: str) -> bytes:
         """The reply to a line."""
-        self._send(line.encode() + b"\n")
+        self._send(line.encode() + b"\n", 1)
         return self._read()
 
-    def _send(self, sent: bytes) -> None:
-        if self._process.stdin.closed:
+    def _send(self, sent: bytes, count: int) -> None:
+        """Sends so many lines."""
+        if self._input.closed:
             raise ValueError("the file is closed")
-        self._process.stdin.write(sent)
-        self._process.stdin.flush()
+        if self._owed:
+            raise BrokenPipeError("an exchange with vast_replay --session was interrupted")
+        self._owed = count
+        self._input.write(sent)
+        self._input.flush()
 
     def _read(self) -> bytes:
-        self._sent += 1
-        reply = self._process.stdout.readline()
+        """The next reply."""
+        reply = self._output.readline()
         if not reply.endswith(b"\n"):
             raise BrokenPipeError(f"vast_replay --session ended, status {self._process.wait()}")
+        self._owed -= 1
+        self._sent += 1
         return reply
 
     def _fault_of(self, reply: bytes) -> Optional[Exception]:
@@ -207,6 +217,14 @@ class ProcessSession:
         return self.FAULTS[given["cause"]](
             given["words"], given.get("call"), line - 1 - bisect_left(self._empty, line)
         )
+
+
+def end_process(process: subprocess.Popen) -> None:
+    """Ends a process by the end of its input."""
+    for stream in (process.stdin, process.stdout):
+        if stream is not None:
+            stream.close()
+    process.wait()
 
 
 class ListSession:

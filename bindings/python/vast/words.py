@@ -1,4 +1,6 @@
 """Short words and operators: what the handles do beside the calls of the table, each made of these."""
+# Each class here is the base of one of kinds.py, which is what its `self` is.
+# mypy: disable-error-code=arg-type
 from __future__ import annotations
 
 from typing import TYPE_CHECKING, List, Mapping, Optional, Sequence, Union
@@ -356,6 +358,7 @@ class FunctionWords(Handle):
     """A function: `with m.function("sum", 8) as body:`; `sum(a, b)` is a call of it."""
 
     __slots__ = ("called",)
+    called: str
 
     def __enter__(self) -> StatementBlock:
         return self.file.function_body(self)
@@ -399,6 +402,7 @@ class BlockWords(With):
     """A block of statements. An arm of a conditional knows it: `with arm.else_() as arm:` goes on."""
 
     __slots__ = ("conditional",)
+    conditional: ConditionalWords
 
     def nonblocking(self, lhs: Operand, rhs: Operand) -> Statement:
         """`lhs <= rhs`."""
