@@ -1,9 +1,12 @@
-"""Short words and operators: what the handles do beside the calls of the table, each made of these."""
+"""Short words and operators: what the handles do beside the calls of the table.
+
+Each is made of calls of `File`, which its body names, and raises what these raise.
+"""
 # Each class here is the base of one of kinds.py, which is what its `self` is.
 # mypy: disable-error-code=arg-type
 from __future__ import annotations
 
-from typing import TYPE_CHECKING, List, Mapping, Optional, Sequence, Union
+from typing import TYPE_CHECKING, List, Mapping, Optional, Sequence, TypeVar, Union
 
 from .handle import Handle
 
@@ -165,12 +168,15 @@ class TypeWords(Handle):
         return self.file.make_unpacked_array_type(self, dimensions)
 
 
+Self = TypeVar("Self", bound="With")
+
+
 class With(Handle):
     """What a `with` statement may be of; it ends nothing, since a call always names where it adds."""
 
     __slots__ = ()
 
-    def __enter__(self):
+    def __enter__(self: Self) -> Self:
         return self
 
     def __exit__(self, *_: object) -> None:
