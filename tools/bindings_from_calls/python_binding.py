@@ -2,16 +2,15 @@
 file."""
 import keyword
 import re
-import textwrap
 
-from table import Type
+from python_text import WIDTH, doc, wrapped
+from table import Type, parts
 
 FOLDER = "bindings/python/vast"
 HEAD = '"""{}\n\nWritten by tools/bindings_from_calls from the table of calls; not to be edited."""\n'
-WIDTH = 100
 
-# Kinds with methods of their own, the class written by hand that each stands on (`words.py`), and what the names of the
-# calls begin with where their first argument is such a handle.
+# Kinds with methods of their own, the class that each stands on (`words.py`, `operators.py`), and what the names of the calls
+# begin with where their first argument is such a handle.
 OWNERS = {
     "module": ("ModuleWords", "module_"),
     "function": ("FunctionWords", "function_"),
@@ -160,7 +159,7 @@ class PythonBinding:
         kinds = [self.kind_class(kind) for kind in self.table.kinds if kind.kind not in ("scope", "port")]
         groups = [self.group(type) for type in self.table.named_types("group")]
         scope = ", ".join(class_of(self.kinds[each]) for each in self.kinds["scope"].takes)
-        words = sorted({words[0] for words in OWNERS.values()} - set(FAMILIES.values()))
+        words = sorted({words[0] for words in OWNERS.values() if words[0].endswith("Words")})
         return "\n".join(
             [
                 HEAD.format("The kinds of handles, and the enums and groups of calls."),
@@ -168,6 +167,7 @@ class PythonBinding:
                 "import enum",
                 "from typing import List, NamedTuple, Optional, Sequence, Union\n",
                 "from .handle import Handle",
+                "from .operators import Operators",
                 "from .words import (",
             ]
             + [f"    {word}," for word in words]
@@ -279,7 +279,7 @@ class PythonBinding:
             type.of == part.of
             for call in self.table.calls
             for parameter in call.parameters
-            for part in parts_of(parameter.type)
+            for part in parts(parameter.type)
         )
 
     def imported(self, body):
@@ -375,56 +375,3 @@ READERS = {
 def reader_key(type):
     """The forms of an answer."""
     return (type.form, type.of.form) if isinstance(type.of, Type) else (type.form,)
-
-
-def parts_of(type):
-    """The type and those within it."""
-    yield type
-    if isinstance(type.of, Type):
-        yield from parts_of(type.of)
-    for field in type.fields:
-        yield from parts_of(field.type)
-
-
-def wrapped(start, expression):
-    """A statement; an f-string that is too long for its line is joined of parts."""
-    line = start + expression
-    if len(line) <= WIDTH:
-        return line
-    head, _, rest = expression.partition('f"')
-    text, _, tail = rest.rpartition('"')
-    indent = " " * (len(start) - len(start.lstrip()) + 4)
-    rows = "\n".join(f'{indent}f"{part}"' for part in pieces(text, WIDTH - len(indent) - 3))
-    if not head:
-        head, tail = "(", ")"
-    closing = " " * (len(start) - len(start.lstrip()))
-    return f"{start}{head}\n{rows}\n{closing}{tail}"
-
-
-def pieces(text, width):
-    """Parts of the text of an f-string, cut before a space that stands between two arguments."""
-    cuts, depth = [], 0
-    for at, character in enumerate(text):
-        depth += {"{": 1, "}": -1}.get(character, 0)
-        if character == " " and depth == 0:
-            cuts.append(at)
-    found, start = [], 0
-    for cut, after in zip(cuts, cuts[1:] + [len(text)]):
-        if after - start > width and cut > start:
-            found.append(text[start:cut])
-            start = cut
-    return found + [text[start:]]
-
-
-def doc(text, indent):
-    """A doc string of a first paragraph and, in the lines behind it, others."""
-    first, *others = [
-        textwrap.wrap(line, WIDTH - len(indent) - 3, break_on_hyphens=False)
-        for line in text.split("\n")
-    ]
-    if len(first) == 1 and not others:
-        return f'{indent}"""{first[0]}"""'
-    rows = [indent + row for row in first[1:]]
-    rows += [""] if others else []
-    rows += [indent + row for other in others for row in other]
-    return "\n".join([f'{indent}"""{first[0]}', *rows, f'{indent}"""'])

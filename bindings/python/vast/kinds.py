@@ -8,6 +8,7 @@ import enum
 from typing import List, NamedTuple, Optional, Sequence, Union
 
 from .handle import Handle
+from .operators import Operators
 from .words import (
     AlwaysWords,
     BlockWords,
@@ -16,7 +17,6 @@ from .words import (
     FunctionWords,
     LoopWords,
     ModuleWords,
-    Operators,
     TypeWords,
 )
 
