@@ -140,6 +140,20 @@ class Waiting(FileTest):
             self.assertRaises(VastFault, later.flush)
 
     @over_each()
+    def test_interrupted(self, file):
+        """A file whose call was interrupted doesn't go on."""
+
+        def interrupted(_):
+            raise KeyboardInterrupt
+
+        module = file.add_module("m")
+        file._session.lines = interrupted
+        self.assertRaises(KeyboardInterrupt, module.wire, "a")
+        del file._session.lines
+        self.assertRaises(VastFault, module.wire, "a")
+        self.assertRaises(VastFault, file.emit)
+
+    @over_each()
     def test_refused_calls_are_not_counted(self, file):
         module = file.add_module("m")
         self.assertRaises(Refused, file.make_literal, "8", "Hex")

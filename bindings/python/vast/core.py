@@ -53,8 +53,15 @@ class Core:
             raise self._fault
         if not self._lines:
             return
-        taken, fault = self._session.lines(self._lines)
-        del self._lines[:taken]
+        # Cleared behind the call, so that lines whose sending was interrupted, as from the keyboard, aren't sent twice.
+        self._fault = VastFault("a call was interrupted: whether it was made isn't known")
+        try:
+            taken, fault = self._session.lines(self._lines)
+            del self._lines[:taken]
+        except Exception:
+            self._fault = None
+            raise
+        self._fault = None
         if fault is None:
             return
         if isinstance(fault, VastFault):
