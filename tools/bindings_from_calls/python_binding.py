@@ -4,6 +4,7 @@ import keyword
 import re
 
 from python_text import WIDTH, doc, wrapped
+from python_words import MEANINGS, NOTES, REFUSALS, SAYS
 from table import Type, parts
 
 FOLDER = "bindings/python/vast"
@@ -40,37 +41,6 @@ DEFAULTS = {
     "label": "None",
     "reset_value": "None",
     "enable": "None",
-}
-# What a parameter is measured in and must be, by its name or by call and name.
-NOTES = {
-    "bit_count": "in bits",
-    "make_indexed_part_select.width": "in bits, or in elements of an array",
-    "hi": "a bit's or an element's number, from 0",
-    "make_slice_expr.hi": "a bit's or an element's number",
-    "make_slice_expr.lo": "a bit's or an element's number",
-    "lo": "a bit's or an element's number, from 0",
-    "make_index.index": "a bit's or an element's number, from 0",
-    "dimensions": "numbers of elements, the outermost dimension first",
-    "hoist_module_declarations.start": "in members, from 0",
-    "make_literal.text": "`bits[WIDTH]:VALUE`, of 1 to 1,048,576 bits and a value below 2^128",
-    "bits_msb": "digits `0`, `1` and `?`, the highest first",
-    "make_replicated_concat_i64.replication": "how many times",
-    "sensitivity_list": "edges, or names",
-    "connection_expressions": "`None` leaves the port open",
-    "label": "of the loop's block; `None` for no label",
-}
-SAYS = {
-    "DataKind": "What a definition declares.",
-    "LiteralFormat": "How a literal is written.",
-    "ModulePortDirection": "Which way a port leads.",
-    "Port": "A port, as `File.module_ports` tells it: its width in bits, 0 where it isn't known.",
-    "RegisterDefinition": "A register of `File.add_registers`, with its value at reset, and when it changes.",
-    "Reset": "The reset of `File.add_registers`.",
-}
-ANSWERS = {
-    "type_width_as_int64": "in bits",
-    "type_flat_bit_count_as_int64": "in bits",
-    "module_member_count": "in members",
 }
 INTEGERS = {(-(2**31), 2**31 - 1): "int32", (-(2**63), 2**63 - 1): "int64", (0, 2**64 - 1): "size"}
 
@@ -331,11 +301,7 @@ class PythonBinding:
 
     def says(self, call):
         """What the doc comment of a call says."""
-        meaning = call.meaning[0].upper() + call.meaning[1:]
-        if call.answer.form == "truth":
-            meaning = f"Whether: {call.meaning}"
-        if call.method in ANSWERS:
-            meaning += f", {ANSWERS[call.method]}"
+        meaning = MEANINGS.get(call.method) or call.meaning[0].upper() + call.meaning[1:]
         said = [meaning + "."]
         for parameter in call.parameters:
             note = NOTES.get(f"{call.method}.{parameter.name}") or NOTES.get(parameter.name)
@@ -343,8 +309,8 @@ class PythonBinding:
                 said.append(f"`{parameter.name}`: {note}.")
         if call.conditions:
             said.append(f"Raises `Condition` unless: {call.conditions}.")
-        if call.is_refused:
-            said.append("Raises `Refused` where it is refused.")
+        if call.method in REFUSALS:
+            said.append(f"Raises `Refused` {REFUSALS[call.method]}.")
         return "\n".join(said)
 
     def body(self, call):
