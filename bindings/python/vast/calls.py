@@ -1,0 +1,1157 @@
+"""The calls of a file.
+
+Written by tools/bindings_from_calls from the table of calls; not to be edited."""
+
+from __future__ import annotations
+
+from typing import List, Optional, Sequence
+
+from .core import Core
+from .kinds import (
+    AlwaysBase,
+    BlankLine,
+    CaseStatement,
+    Comment,
+    Conditional,
+    ContinuousAssignment,
+    DataKind,
+    DataType,
+    Def,
+    Expr,
+    Expression,
+    Function,
+    GenerateLoop,
+    Index,
+    IndexableExpr,
+    InlineVerilogStatement,
+    Instantiation,
+    LiteralFormat,
+    LocalparamRef,
+    LogicRef,
+    MacroRef,
+    MacroStatement,
+    Module,
+    ModulePortDirection,
+    Operand,
+    ParameterRef,
+    Port,
+    RegisterDefinition,
+    RegisterScope,
+    Reset,
+    Selectable,
+    Slice,
+    Statement,
+    StatementBlock,
+    TypeLike,
+)
+from .writing import int32, int64, listed, optional, quoted, size, truth, word
+from .writing import read_number, read_optional, read_ports, read_truth
+
+
+class Calls(Core):
+    """Each call of the table, by its name in snake case."""
+
+    def _registerdefinition(self, given: RegisterDefinition) -> str:
+        return (
+            f"[ {self._value(given.reg)} {self._value(given.next)}"
+            f" {optional(self._value, given.reset_value)} {optional(self._value, given.enable)} ]"
+        )
+
+    def _reset(self, given: Reset) -> str:
+        return f"[ {self._value(given.signal)} {truth(given.active_low)} ]"
+
+    def make_not(self, expression: Operand) -> Expr:
+        """`~a`, the node of `make_bitwise_not`."""
+        return Expr(self, self._later(f"MakeNot {self._value(expression)}"))
+
+    def make_bitwise_not(self, expression: Operand) -> Expr:
+        """`~a`."""
+        return Expr(self, self._later(f"MakeBitwiseNot {self._value(expression)}"))
+
+    def make_negate(self, expression: Operand) -> Expr:
+        """`-a`."""
+        return Expr(self, self._later(f"MakeNegate {self._value(expression)}"))
+
+    def make_logical_not(self, expression: Operand) -> Expr:
+        """`!a`."""
+        return Expr(self, self._later(f"MakeLogicalNot {self._value(expression)}"))
+
+    def make_and_reduce(self, expression: Operand) -> Expr:
+        """`&a`."""
+        return Expr(self, self._later(f"MakeAndReduce {self._value(expression)}"))
+
+    def make_or_reduce(self, expression: Operand) -> Expr:
+        """`|a`."""
+        return Expr(self, self._later(f"MakeOrReduce {self._value(expression)}"))
+
+    def make_xor_reduce(self, expression: Operand) -> Expr:
+        """`^a`."""
+        return Expr(self, self._later(f"MakeXorReduce {self._value(expression)}"))
+
+    def make_add(self, lhs: Operand, rhs: Operand) -> Expr:
+        """`a + b`."""
+        return Expr(self, self._later(f"MakeAdd {self._value(lhs)} {self._value(rhs)}"))
+
+    def make_sub(self, lhs: Operand, rhs: Operand) -> Expr:
+        """`a - b`."""
+        return Expr(self, self._later(f"MakeSub {self._value(lhs)} {self._value(rhs)}"))
+
+    def make_mul(self, lhs: Operand, rhs: Operand) -> Expr:
+        """`a * b`."""
+        return Expr(self, self._later(f"MakeMul {self._value(lhs)} {self._value(rhs)}"))
+
+    def make_div(self, lhs: Operand, rhs: Operand) -> Expr:
+        """`a / b`."""
+        return Expr(self, self._later(f"MakeDiv {self._value(lhs)} {self._value(rhs)}"))
+
+    def make_mod(self, lhs: Operand, rhs: Operand) -> Expr:
+        """`a % b`."""
+        return Expr(self, self._later(f"MakeMod {self._value(lhs)} {self._value(rhs)}"))
+
+    def make_power(self, lhs: Operand, rhs: Operand) -> Expr:
+        """`a ** b`."""
+        return Expr(self, self._later(f"MakePower {self._value(lhs)} {self._value(rhs)}"))
+
+    def make_bitwise_and(self, lhs: Operand, rhs: Operand) -> Expr:
+        """`a & b`."""
+        return Expr(self, self._later(f"MakeBitwiseAnd {self._value(lhs)} {self._value(rhs)}"))
+
+    def make_bitwise_or(self, lhs: Operand, rhs: Operand) -> Expr:
+        """`a | b`."""
+        return Expr(self, self._later(f"MakeBitwiseOr {self._value(lhs)} {self._value(rhs)}"))
+
+    def make_bitwise_xor(self, lhs: Operand, rhs: Operand) -> Expr:
+        """`a ^ b`."""
+        return Expr(self, self._later(f"MakeBitwiseXor {self._value(lhs)} {self._value(rhs)}"))
+
+    def make_shll(self, lhs: Operand, rhs: Operand) -> Expr:
+        """`a << b`."""
+        return Expr(self, self._later(f"MakeShll {self._value(lhs)} {self._value(rhs)}"))
+
+    def make_shra(self, lhs: Operand, rhs: Operand) -> Expr:
+        """`a >>> b`."""
+        return Expr(self, self._later(f"MakeShra {self._value(lhs)} {self._value(rhs)}"))
+
+    def make_shrl(self, lhs: Operand, rhs: Operand) -> Expr:
+        """`a >> b`."""
+        return Expr(self, self._later(f"MakeShrl {self._value(lhs)} {self._value(rhs)}"))
+
+    def make_ne(self, lhs: Operand, rhs: Operand) -> Expr:
+        """`a != b`."""
+        return Expr(self, self._later(f"MakeNe {self._value(lhs)} {self._value(rhs)}"))
+
+    def make_case_ne(self, lhs: Operand, rhs: Operand) -> Expr:
+        """`a !== b`."""
+        return Expr(self, self._later(f"MakeCaseNe {self._value(lhs)} {self._value(rhs)}"))
+
+    def make_eq(self, lhs: Operand, rhs: Operand) -> Expr:
+        """`a == b`."""
+        return Expr(self, self._later(f"MakeEq {self._value(lhs)} {self._value(rhs)}"))
+
+    def make_case_eq(self, lhs: Operand, rhs: Operand) -> Expr:
+        """`a === b`."""
+        return Expr(self, self._later(f"MakeCaseEq {self._value(lhs)} {self._value(rhs)}"))
+
+    def make_ge(self, lhs: Operand, rhs: Operand) -> Expr:
+        """`a >= b`."""
+        return Expr(self, self._later(f"MakeGe {self._value(lhs)} {self._value(rhs)}"))
+
+    def make_gt(self, lhs: Operand, rhs: Operand) -> Expr:
+        """`a > b`."""
+        return Expr(self, self._later(f"MakeGt {self._value(lhs)} {self._value(rhs)}"))
+
+    def make_le(self, lhs: Operand, rhs: Operand) -> Expr:
+        """`a <= b`."""
+        return Expr(self, self._later(f"MakeLe {self._value(lhs)} {self._value(rhs)}"))
+
+    def make_lt(self, lhs: Operand, rhs: Operand) -> Expr:
+        """`a < b`."""
+        return Expr(self, self._later(f"MakeLt {self._value(lhs)} {self._value(rhs)}"))
+
+    def make_logical_and(self, lhs: Operand, rhs: Operand) -> Expr:
+        """`a && b`."""
+        return Expr(self, self._later(f"MakeLogicalAnd {self._value(lhs)} {self._value(rhs)}"))
+
+    def make_logical_or(self, lhs: Operand, rhs: Operand) -> Expr:
+        """`a || b`."""
+        return Expr(self, self._later(f"MakeLogicalOr {self._value(lhs)} {self._value(rhs)}"))
+
+    def make_ne_x(self, lhs: Operand, rhs: Operand) -> Expr:
+        """Written `a !== b`."""
+        return Expr(self, self._later(f"MakeNeX {self._value(lhs)} {self._value(rhs)}"))
+
+    def make_eq_x(self, lhs: Operand, rhs: Operand) -> Expr:
+        """Written `a === b`."""
+        return Expr(self, self._later(f"MakeEqX {self._value(lhs)} {self._value(rhs)}"))
+
+    def make_literal(self, text: str, format: LiteralFormat) -> Expr:
+        """The literal `bits[N]:value` in the format: refused as a text first, then by the format.
+
+        `text`: `bits[WIDTH]:VALUE`, of 1 to 1,048,576 bits and a value below 2^128.
+        Raises `Refused` where it is refused.
+        """
+        return Expr(self, self._now(f"MakeLiteral {quoted(text)} {word(LiteralFormat, format)}"))
+
+    def make_binary_pattern(self, bits_msb: str) -> Expr:
+        """A pattern, whose value isn't known.
+
+        `bits_msb`: digits `0`, `1` and `?`, the highest first.
+        Raises `Refused` where it is refused.
+        """
+        return Expr(self, self._now(f"MakeBinaryPattern {quoted(bits_msb)}"))
+
+    def make_unsized_decimal_literal(self, value: int) -> Expr:
+        """The number in decimal."""
+        return Expr(self, self._later(f"MakeUnsizedDecimalLiteral {int32(value)}"))
+
+    def make_string_literal(self, value: str) -> Expr:
+        """The string of this content."""
+        return Expr(self, self._later(f"MakeStringLiteral {quoted(value)}"))
+
+    def make_unsized_one_literal(self) -> Expr:
+        """`'1`, of value 1."""
+        return Expr(self, self._later("MakeUnsizedOneLiteral"))
+
+    def make_unsized_zero_literal(self) -> Expr:
+        """`'0`, of value 0."""
+        return Expr(self, self._later("MakeUnsizedZeroLiteral"))
+
+    def make_unsized_x_literal(self) -> Expr:
+        """`'X`, without a value."""
+        return Expr(self, self._later("MakeUnsizedXLiteral"))
+
+    def make_indexable_expression(self, expression: Operand) -> IndexableExpr:
+        """The same node, as an expression that may be selected from."""
+        return IndexableExpr(self, self._later(
+            f"MakeIndexableExpression {self._value(expression)}"
+        ))
+
+    def make_slice(self, subject: Selectable, hi: int, lo: int) -> Slice:
+        """`s[hi:lo]` by numbers: two literals and the select.
+
+        `hi`: a bit's or an element's number, from 0.
+        `lo`: a bit's or an element's number, from 0.
+        Raises `Condition` unless: hi, lo at least 0.
+        """
+        return Slice(self, self._now(f"MakeSlice {self._subject(subject)} {int64(hi)} {int64(lo)}"))
+
+    def make_index(self, subject: Selectable, index: int) -> Index:
+        """`s[index]` by a number: a literal and the select.
+
+        `index`: a bit's or an element's number, from 0.
+        Raises `Condition` unless: index at least 0.
+        """
+        return Index(self, self._now(f"MakeIndex {self._subject(subject)} {int64(index)}"))
+
+    def make_slice_expr(self, subject: Selectable, hi: Operand, lo: Operand) -> Slice:
+        """`s[hi:lo]`.
+
+        `hi`: a bit's or an element's number.
+        `lo`: a bit's or an element's number.
+        """
+        return Slice(self, self._later(
+            f"MakeSliceExpr {self._subject(subject)} {self._value(hi)} {self._value(lo)}"
+        ))
+
+    def make_index_expr(self, subject: Selectable, index: Operand) -> Index:
+        """`s[index]`."""
+        return Index(self, self._later(
+            f"MakeIndexExpr {self._subject(subject)} {self._value(index)}"
+        ))
+
+    def make_indexed_part_select(self, subject: Selectable, start: Operand, width: int) -> Expr:
+        """`s[start +: width]`.
+
+        `width`: in bits, or in elements of an array.
+        Raises `Condition` unless: width at least 1.
+        """
+        return Expr(self, self._now(
+            f"MakeIndexedPartSelect {self._subject(subject)} {self._value(start)} {int64(width)}"
+        ))
+
+    def make_function_call(self, name: str, arguments: Sequence[Operand]) -> Expr:
+        """`f(a, b)`.
+
+        Raises `Condition` unless: name not empty.
+        """
+        return Expr(self, self._now(
+            f"MakeFunctionCall {quoted(name)} {listed(self._value, arguments)}"
+        ))
+
+    def make_concat(self, expressions: Sequence[Operand]) -> Expr:
+        """`{a, b}`."""
+        return Expr(self, self._later(f"MakeConcat {listed(self._value, expressions)}"))
+
+    def make_replicated_concat(self, replication: Operand, elements: Sequence[Operand]) -> Expr:
+        """`{n{a, b}}`."""
+        return Expr(self, self._later(
+            f"MakeReplicatedConcat {self._value(replication)} {listed(self._value, elements)}"
+        ))
+
+    def make_replicated_concat_i64(self, replication: int, elements: Sequence[Operand]) -> Expr:
+        """`{n{a, b}}` by a number: a decimal literal and the replication.
+
+        `replication`: how many times.
+        """
+        return Expr(self, self._later(
+            f"MakeReplicatedConcatI64 {int64(replication)} {listed(self._value, elements)}"
+        ))
+
+    def make_array_assignment_pattern(self, elements: Sequence[Operand]) -> Expr:
+        """`'{a, b}`."""
+        return Expr(self, self._later(
+            f"MakeArrayAssignmentPattern {listed(self._value, elements)}"
+        ))
+
+    def make_ternary(self, condition: Operand, consequent: Operand, alternate: Operand) -> Expr:
+        """`c ? a : b`."""
+        return Expr(self, self._later(
+            f"MakeTernary {self._value(condition)} {self._value(consequent)}"
+            f" {self._value(alternate)}"
+        ))
+
+    def make_width_cast(self, width: Operand, value: Operand) -> Expr:
+        """`w'(v)`."""
+        return Expr(self, self._later(f"MakeWidthCast {self._value(width)} {self._value(value)}"))
+
+    def make_type_cast(self, data_type: TypeLike, value: Operand) -> Expr:
+        """A cast to a type that is no array.
+
+        Raises `Condition` unless: `type_can_be_cast`.
+        """
+        return Expr(self, self._now(f"MakeTypeCast {self._type(data_type)} {self._value(value)}"))
+
+    def make_pos_edge(self, expression: Operand) -> Expr:
+        """`posedge a`."""
+        return Expr(self, self._later(f"MakePosEdge {self._value(expression)}"))
+
+    def make_neg_edge(self, expression: Operand) -> Expr:
+        """`negedge a`."""
+        return Expr(self, self._later(f"MakeNegEdge {self._value(expression)}"))
+
+    def make_macro_ref(self, name: str) -> MacroRef:
+        """`` `M ``."""
+        return MacroRef(self, self._later(f"MakeMacroRef {quoted(name)}"))
+
+    def make_macro_ref_with_args(self, name: str, arguments: Sequence[Operand]) -> MacroRef:
+        """`` `M(a, b) ``."""
+        return MacroRef(self, self._later(
+            f"MakeMacroRefWithArgs {quoted(name)} {listed(self._value, arguments)}"
+        ))
+
+    def make_scalar_type(self) -> DataType:
+        """One bit."""
+        return DataType(self, self._later("MakeScalarType"))
+
+    def make_integer_type(self, signed: bool = False) -> DataType:
+        """`integer`."""
+        return DataType(self, self._later(f"MakeIntegerType {truth(signed)}"))
+
+    def make_int_type(self, signed: bool = False) -> DataType:
+        """`int`."""
+        return DataType(self, self._later(f"MakeIntType {truth(signed)}"))
+
+    def make_extern_type(self, name: str) -> DataType:
+        """A type that is declared elsewhere."""
+        return DataType(self, self._later(f"MakeExternType {quoted(name)}"))
+
+    def make_extern_package_type(self, package_name: str, name: str) -> DataType:
+        """A type of a package."""
+        return DataType(self, self._later(
+            f"MakeExternPackageType {quoted(package_name)} {quoted(name)}"
+        ))
+
+    def make_bit_vector_type(self, bit_count: int, signed: bool = False) -> DataType:
+        """So many bits; one bit is a scalar, more are a vector behind the literal of its width.
+
+        `bit_count`: in bits.
+        Raises `Condition` unless: bit_count at least 1.
+        """
+        return DataType(self, self._now(f"MakeBitVectorType {int64(bit_count)} {truth(signed)}"))
+
+    def make_bit_vector_type_expr(self, width: Operand, signed: bool = False) -> DataType:
+        """A vector of this width.
+
+        Raises `Condition` unless: `width_is_usable`.
+        """
+        return DataType(self, self._now(
+            f"MakeBitVectorTypeExpr {self._value(width)} {truth(signed)}"
+        ))
+
+    def make_packed_array_type(self, element: TypeLike, dimensions: Sequence[int]) -> DataType:
+        """A packed array, its dimensions from the outermost.
+
+        `dimensions`: numbers of elements, the outermost dimension first.
+        Raises `Condition` unless: `type_can_be_packed`, at least one dimension, each at least 1.
+        """
+        return DataType(self, self._now(
+            f"MakePackedArrayType {self._type(element)} {listed(int64, dimensions)}"
+        ))
+
+    def make_unpacked_array_type(self, element: TypeLike, dimensions: Sequence[int]) -> DataType:
+        """An unpacked array, its dimensions from the outermost.
+
+        `dimensions`: numbers of elements, the outermost dimension first.
+        Raises `Condition` unless: at least one dimension, each at least 1.
+        """
+        return DataType(self, self._now(
+            f"MakeUnpackedArrayType {self._type(element)} {listed(int64, dimensions)}"
+        ))
+
+    def add_include(self, include: str) -> None:
+        """The inclusion of this path, as the last item."""
+        self._later(f"AddInclude {quoted(include)}")
+
+    def add_blank_line(self, blank_line: BlankLine) -> None:
+        """A blank line, as the last item."""
+        self._later(f"AddBlankLine {self._own(blank_line, BlankLine)}")
+
+    def add_comment_text(self, text: str) -> None:
+        """A comment, as the last item."""
+        self._later(f"AddCommentText {quoted(text)}")
+
+    def add_module(self, name: str) -> Module:
+        """An empty module, as the last item."""
+        return Module(self, self._later(f"AddModule {quoted(name)}"))
+
+    def add_input(self, owner: Module, name: str, data_type: TypeLike) -> LogicRef:
+        """An input, as the last port.
+
+        Raises `Condition` unless: `name_is_free`.
+        """
+        return LogicRef(self, self._now(
+            f"AddInput {self._own(owner, Module)} {quoted(name)} {self._type(data_type)}"
+        ))
+
+    def add_output(self, owner: Module, name: str, data_type: TypeLike) -> LogicRef:
+        """An output, as the last port.
+
+        Raises `Condition` unless: `name_is_free`.
+        """
+        return LogicRef(self, self._now(
+            f"AddOutput {self._own(owner, Module)} {quoted(name)} {self._type(data_type)}"
+        ))
+
+    def add_inout(self, owner: Module, name: str, data_type: TypeLike) -> LogicRef:
+        """A port of both directions, as the last port.
+
+        Raises `Condition` unless: `name_is_free`.
+        """
+        return LogicRef(self, self._now(
+            f"AddInout {self._own(owner, Module)} {quoted(name)} {self._type(data_type)}"
+        ))
+
+    def add_logic_input(self, owner: Module, name: str, data_type: TypeLike) -> LogicRef:
+        """An input with the word `logic`, as the last port.
+
+        Raises `Condition` unless: `name_is_free`.
+        """
+        return LogicRef(self, self._now(
+            f"AddLogicInput {self._own(owner, Module)} {quoted(name)} {self._type(data_type)}"
+        ))
+
+    def add_logic_output(self, owner: Module, name: str, data_type: TypeLike) -> LogicRef:
+        """An output with the word `logic`, as the last port.
+
+        Raises `Condition` unless: `name_is_free`.
+        """
+        return LogicRef(self, self._now(
+            f"AddLogicOutput {self._own(owner, Module)} {quoted(name)} {self._type(data_type)}"
+        ))
+
+    def add_wire(self, owner: Module, name: str, data_type: TypeLike) -> LogicRef:
+        """A wire.
+
+        Raises `Condition` unless: `name_is_free`.
+        """
+        return LogicRef(self, self._now(
+            f"AddWire {self._own(owner, Module)} {quoted(name)} {self._type(data_type)}"
+        ))
+
+    def add_reg(self, owner: Module, name: str, data_type: TypeLike) -> LogicRef:
+        """A reg, or the name is taken.
+
+        Raises `Refused` where it is refused.
+        """
+        return LogicRef(self, self._now(
+            f"AddReg {self._own(owner, Module)} {quoted(name)} {self._type(data_type)}"
+        ))
+
+    def add_logic(self, owner: Module, name: str, data_type: TypeLike) -> LogicRef:
+        """A logic, or the name is taken.
+
+        Raises `Refused` where it is refused.
+        """
+        return LogicRef(self, self._now(
+            f"AddLogic {self._own(owner, Module)} {quoted(name)} {self._type(data_type)}"
+        ))
+
+    def add_parameter_port(self, owner: Module, name: str, value: Operand) -> LogicRef:
+        """A parameter without a type, in the header."""
+        return LogicRef(self, self._later(
+            f"AddParameterPort {self._own(owner, Module)} {quoted(name)} {self._value(value)}"
+        ))
+
+    def add_typed_parameter_port(
+        self,
+        owner: Module,
+        name: str,
+        data_type: TypeLike,
+        value: Operand,
+    ) -> LogicRef:
+        """A parameter of this type, in the header."""
+        return LogicRef(self, self._later(
+            f"AddTypedParameterPort {self._own(owner, Module)} {quoted(name)}"
+            f" {self._type(data_type)} {self._value(value)}"
+        ))
+
+    def add_parameter(self, owner: Module, name: str, rhs: Operand) -> ParameterRef:
+        """`parameter NAME = VALUE`."""
+        return ParameterRef(self, self._later(
+            f"AddParameter {self._own(owner, Module)} {quoted(name)} {self._value(rhs)}"
+        ))
+
+    def add_parameter_with_def(self, owner: Module, definition: Def, rhs: Operand) -> ParameterRef:
+        """A parameter as the definition declares it."""
+        return ParameterRef(self, self._later(
+            f"AddParameterWithDef {self._own(owner, Module)} {self._own(definition, Def)}"
+            f" {self._value(rhs)}"
+        ))
+
+    def add_localparam(self, owner: Module, name: str, rhs: Operand) -> LocalparamRef:
+        """`localparam NAME = VALUE`."""
+        return LocalparamRef(self, self._later(
+            f"AddLocalparam {self._own(owner, Module)} {quoted(name)} {self._value(rhs)}"
+        ))
+
+    def add_int_localparam(self, owner: Module, name: str, rhs: Operand) -> LocalparamRef:
+        """`localparam int NAME = VALUE`."""
+        return LocalparamRef(self, self._later(
+            f"AddIntLocalparam {self._own(owner, Module)} {quoted(name)} {self._value(rhs)}"
+        ))
+
+    def add_typed_localparam(self, owner: Module, definition: Def, rhs: Operand) -> LocalparamRef:
+        """A local parameter as the definition declares it."""
+        return LocalparamRef(self, self._later(
+            f"AddTypedLocalparam {self._own(owner, Module)} {self._own(definition, Def)}"
+            f" {self._value(rhs)}"
+        ))
+
+    def hoist_module_declarations(self, owner: Module, start: int) -> None:
+        """The first `start` members stay, then come the wires, regs and logics of the rest, then
+        its other members.
+
+        `start`: in members, from 0.
+        Raises `Condition` unless: start at most `module_member_count`.
+        """
+        self._now(f"HoistModuleDeclarations {self._own(owner, Module)} {size(start)}")
+
+    def add_generate_loop(
+        self,
+        owner: Module,
+        name: str,
+        start: Operand,
+        end: Operand,
+        label: Optional[str] = None,
+    ) -> GenerateLoop:
+        """A loop without members, as the module's last member.
+
+        `label`: of the loop's block; `None` for no label.
+        """
+        return GenerateLoop(self, self._later(
+            f"AddGenerateLoop {self._own(owner, Module)} {quoted(name)} {self._value(start)}"
+            f" {self._value(end)} {optional(quoted, label)}"
+        ))
+
+    def generate_add_generate_loop(
+        self,
+        parent: GenerateLoop,
+        name: str,
+        start: Operand,
+        end: Operand,
+        label: Optional[str] = None,
+    ) -> GenerateLoop:
+        """A loop without members, in the loop `parent`.
+
+        `label`: of the loop's block; `None` for no label.
+        """
+        return GenerateLoop(self, self._later(
+            f"GenerateAddGenerateLoop {self._own(parent, GenerateLoop)} {quoted(name)}"
+            f" {self._value(start)} {self._value(end)} {optional(quoted, label)}"
+        ))
+
+    def generate_genvar(self, generate: GenerateLoop) -> LogicRef:
+        """The loop's variable as an expression."""
+        return LogicRef(self, self._later(f"GenerateGenvar {self._own(generate, GenerateLoop)}"))
+
+    def generate_add_always_comb(self, generate: GenerateLoop) -> AlwaysBase:
+        """`always_comb`, as the loop's last member."""
+        return AlwaysBase(self, self._later(
+            f"GenerateAddAlwaysComb {self._own(generate, GenerateLoop)}"
+        ))
+
+    def generate_add_always_ff(
+        self,
+        generate: GenerateLoop,
+        sensitivity_list: Sequence[Operand],
+    ) -> AlwaysBase:
+        """`always_ff`, as the loop's last member.
+
+        `sensitivity_list`: edges, or names.
+        Raises `Refused` where it is refused.
+        """
+        return AlwaysBase(self, self._now(
+            f"GenerateAddAlwaysFf {self._own(generate, GenerateLoop)}"
+            f" {listed(self._value, sensitivity_list)}"
+        ))
+
+    def generate_add_always_at(
+        self,
+        generate: GenerateLoop,
+        sensitivity_list: Sequence[Operand],
+    ) -> AlwaysBase:
+        """`always @`, as the loop's last member.
+
+        `sensitivity_list`: edges, or names.
+        Raises `Refused` where it is refused.
+        """
+        return AlwaysBase(self, self._now(
+            f"GenerateAddAlwaysAt {self._own(generate, GenerateLoop)}"
+            f" {listed(self._value, sensitivity_list)}"
+        ))
+
+    def generate_add_localparam(
+        self,
+        generate: GenerateLoop,
+        name: str,
+        rhs: Operand,
+    ) -> LocalparamRef:
+        """`localparam NAME = VALUE`; its name."""
+        return LocalparamRef(self, self._later(
+            f"GenerateAddLocalparam {self._own(generate, GenerateLoop)} {quoted(name)}"
+            f" {self._value(rhs)}"
+        ))
+
+    def generate_add_typed_localparam(
+        self,
+        generate: GenerateLoop,
+        definition: Def,
+        rhs: Operand,
+    ) -> LocalparamRef:
+        """A local parameter as the definition declares it; its name."""
+        return LocalparamRef(self, self._later(
+            f"GenerateAddTypedLocalparam {self._own(generate, GenerateLoop)}"
+            f" {self._own(definition, Def)} {self._value(rhs)}"
+        ))
+
+    def generate_add_continuous_assignment(
+        self,
+        generate: GenerateLoop,
+        lhs: Operand,
+        rhs: Operand,
+    ) -> Statement:
+        """`assign l = r`."""
+        return Statement(self, self._later(
+            f"GenerateAddContinuousAssignment {self._own(generate, GenerateLoop)}"
+            f" {self._value(lhs)} {self._value(rhs)}"
+        ))
+
+    def generate_add_conditional(self, generate: GenerateLoop, condition: Operand) -> Conditional:
+        """`if` with an empty block."""
+        return Conditional(self, self._later(
+            f"GenerateAddConditional {self._own(generate, GenerateLoop)} {self._value(condition)}"
+        ))
+
+    def generate_add_blank_line(self, generate: GenerateLoop) -> None:
+        """A blank line."""
+        self._later(f"GenerateAddBlankLine {self._own(generate, GenerateLoop)}")
+
+    def generate_add_comment(self, generate: GenerateLoop, comment: Comment) -> None:
+        """The comment."""
+        self._later(
+            f"GenerateAddComment {self._own(generate, GenerateLoop)} {self._own(comment, Comment)}"
+        )
+
+    def generate_add_instantiation(
+        self,
+        generate: GenerateLoop,
+        instantiation: Instantiation,
+    ) -> None:
+        """The instantiation."""
+        self._later(
+            f"GenerateAddInstantiation {self._own(generate, GenerateLoop)}"
+            f" {self._own(instantiation, Instantiation)}"
+        )
+
+    def generate_add_inline_statement(
+        self,
+        generate: GenerateLoop,
+        statement: InlineVerilogStatement,
+    ) -> None:
+        """The text."""
+        self._later(
+            f"GenerateAddInlineStatement {self._own(generate, GenerateLoop)}"
+            f" {self._own(statement, InlineVerilogStatement)}"
+        )
+
+    def generate_add_macro_statement(
+        self,
+        generate: GenerateLoop,
+        statement: MacroStatement,
+    ) -> None:
+        """The use of a macro."""
+        self._later(
+            f"GenerateAddMacroStatement {self._own(generate, GenerateLoop)}"
+            f" {self._own(statement, MacroStatement)}"
+        )
+
+    def add_function(self, owner: Module, name: str, result_type: TypeLike) -> Function:
+        """A function with an empty body, as the last member.
+
+        Raises `Refused` where it is refused.
+        """
+        return Function(self, self._now(
+            f"AddFunction {self._own(owner, Module)} {quoted(name)} {self._type(result_type)}"
+        ))
+
+    def function_add_input(self, function: Function, name: str, data_type: TypeLike) -> LogicRef:
+        """An input with the word `reg`, as the last; its name as an expression.
+
+        Raises `Refused` where it is refused.
+        """
+        return LogicRef(self, self._now(
+            f"FunctionAddInput {self._own(function, Function)} {quoted(name)}"
+            f" {self._type(data_type)}"
+        ))
+
+    def function_add_logic_input(
+        self,
+        function: Function,
+        name: str,
+        data_type: TypeLike,
+    ) -> LogicRef:
+        """An input with the word `logic`, as the last; its name as an expression.
+
+        Raises `Refused` where it is refused.
+        """
+        return LogicRef(self, self._now(
+            f"FunctionAddLogicInput {self._own(function, Function)} {quoted(name)}"
+            f" {self._type(data_type)}"
+        ))
+
+    def function_add_reg(self, function: Function, name: str, data_type: TypeLike) -> LogicRef:
+        """A reg, as the last local; its name as an expression.
+
+        Raises `Refused` where it is refused.
+        """
+        return LogicRef(self, self._now(
+            f"FunctionAddReg {self._own(function, Function)} {quoted(name)} {self._type(data_type)}"
+        ))
+
+    def function_add_logic(self, function: Function, name: str, data_type: TypeLike) -> LogicRef:
+        """A logic, as the last local; its name as an expression.
+
+        Raises `Refused` where it is refused.
+        """
+        return LogicRef(self, self._now(
+            f"FunctionAddLogic {self._own(function, Function)} {quoted(name)}"
+            f" {self._type(data_type)}"
+        ))
+
+    def function_body(self, function: Function) -> StatementBlock:
+        """Its body."""
+        return StatementBlock(self, self._later(f"FunctionBody {self._own(function, Function)}"))
+
+    def function_result(self, function: Function) -> LogicRef:
+        """Its result's name as an expression."""
+        return LogicRef(self, self._later(f"FunctionResult {self._own(function, Function)}"))
+
+    def add_always_ff(self, owner: Module, sensitivity_list: Sequence[Operand]) -> AlwaysBase:
+        """`always_ff`, as the module's last member.
+
+        `sensitivity_list`: edges, or names.
+        Raises `Refused` where it is refused.
+        """
+        return AlwaysBase(self, self._now(
+            f"AddAlwaysFf {self._own(owner, Module)} {listed(self._value, sensitivity_list)}"
+        ))
+
+    def add_always_at(self, owner: Module, sensitivity_list: Sequence[Operand]) -> AlwaysBase:
+        """`always @`, as the module's last member.
+
+        `sensitivity_list`: edges, or names.
+        Raises `Refused` where it is refused.
+        """
+        return AlwaysBase(self, self._now(
+            f"AddAlwaysAt {self._own(owner, Module)} {listed(self._value, sensitivity_list)}"
+        ))
+
+    def add_always_comb(self, owner: Module) -> AlwaysBase:
+        """`always_comb`, as the module's last member."""
+        return AlwaysBase(self, self._later(f"AddAlwaysComb {self._own(owner, Module)}"))
+
+    def statement_block(self, always: AlwaysBase) -> StatementBlock:
+        """The block of an always block."""
+        return StatementBlock(self, self._later(f"StatementBlock {self._own(always, AlwaysBase)}"))
+
+    def block_add_blocking_assignment(
+        self,
+        block: StatementBlock,
+        lhs: Operand,
+        rhs: Operand,
+    ) -> Statement:
+        """`l = r`."""
+        return Statement(self, self._later(
+            f"BlockAddBlockingAssignment {self._own(block, StatementBlock)} {self._value(lhs)}"
+            f" {self._value(rhs)}"
+        ))
+
+    def block_add_nonblocking_assignment(
+        self,
+        block: StatementBlock,
+        lhs: Operand,
+        rhs: Operand,
+    ) -> Statement:
+        """`l <= r`."""
+        return Statement(self, self._later(
+            f"BlockAddNonblockingAssignment {self._own(block, StatementBlock)} {self._value(lhs)}"
+            f" {self._value(rhs)}"
+        ))
+
+    def block_add_continuous_assignment(
+        self,
+        block: StatementBlock,
+        lhs: Operand,
+        rhs: Operand,
+    ) -> Statement:
+        """`assign l = r`."""
+        return Statement(self, self._later(
+            f"BlockAddContinuousAssignment {self._own(block, StatementBlock)} {self._value(lhs)}"
+            f" {self._value(rhs)}"
+        ))
+
+    def block_add_comment_text(self, block: StatementBlock, text: str) -> None:
+        """A comment."""
+        self._later(f"BlockAddCommentText {self._own(block, StatementBlock)} {quoted(text)}")
+
+    def block_add_inline_text(self, block: StatementBlock, text: str) -> None:
+        """A text that is written as it is."""
+        self._later(f"BlockAddInlineText {self._own(block, StatementBlock)} {quoted(text)}")
+
+    def block_add_blank_line(self, block: StatementBlock) -> None:
+        """A blank line."""
+        self._later(f"BlockAddBlankLine {self._own(block, StatementBlock)}")
+
+    def add_conditional(self, owner: Module, condition: Operand) -> Conditional:
+        """`if` with an empty block, as the module's last member."""
+        return Conditional(self, self._later(
+            f"AddConditional {self._own(owner, Module)} {self._value(condition)}"
+        ))
+
+    def block_add_cond(self, block: StatementBlock, condition: Operand) -> Conditional:
+        """`if` with an empty block, as the block's last statement."""
+        return Conditional(self, self._later(
+            f"BlockAddCond {self._own(block, StatementBlock)} {self._value(condition)}"
+        ))
+
+    def conditional_then_block(self, conditional: Conditional) -> StatementBlock:
+        """The block of the first arm."""
+        return StatementBlock(self, self._later(
+            f"ConditionalThenBlock {self._own(conditional, Conditional)}"
+        ))
+
+    def conditional_add_else_if(
+        self,
+        conditional: Conditional,
+        condition: Operand,
+    ) -> StatementBlock:
+        """An arm `else if`, as the last; its block.
+
+        Raises `Condition` unless: not `conditional_has_else`.
+        """
+        return StatementBlock(self, self._now(
+            f"ConditionalAddElseIf {self._own(conditional, Conditional)} {self._value(condition)}"
+        ))
+
+    def conditional_add_else(self, conditional: Conditional) -> StatementBlock:
+        """The `else`; its block.
+
+        Raises `Condition` unless: not `conditional_has_else`.
+        """
+        return StatementBlock(self, self._now(
+            f"ConditionalAddElse {self._own(conditional, Conditional)}"
+        ))
+
+    def block_add_case(self, block: StatementBlock, selector: Operand) -> CaseStatement:
+        """`case` without arms, as the block's last statement."""
+        return CaseStatement(self, self._later(
+            f"BlockAddCase {self._own(block, StatementBlock)} {self._value(selector)}"
+        ))
+
+    def block_add_casez(self, block: StatementBlock, selector: Operand) -> CaseStatement:
+        """`casez` without arms, as the block's last statement."""
+        return CaseStatement(self, self._later(
+            f"BlockAddCasez {self._own(block, StatementBlock)} {self._value(selector)}"
+        ))
+
+    def block_add_casex(self, block: StatementBlock, selector: Operand) -> CaseStatement:
+        """`casex` without arms, as the block's last statement."""
+        return CaseStatement(self, self._later(
+            f"BlockAddCasex {self._own(block, StatementBlock)} {self._value(selector)}"
+        ))
+
+    def case_add_item(self, case: CaseStatement, pattern: Operand) -> StatementBlock:
+        """An arm with this label, as the last; its block."""
+        return StatementBlock(self, self._later(
+            f"CaseAddItem {self._own(case, CaseStatement)} {self._value(pattern)}"
+        ))
+
+    def case_add_default(self, case: CaseStatement) -> StatementBlock:
+        """An arm `default`, as the last; its block."""
+        return StatementBlock(self, self._later(f"CaseAddDefault {self._own(case, CaseStatement)}"))
+
+    def case_set_unique(self, case: CaseStatement, unique: bool = True) -> None:
+        """`unique` or not; `unique` is refused in Verilog.
+
+        Raises `Refused` where it is refused.
+        """
+        self._now(f"CaseSetUnique {self._own(case, CaseStatement)} {truth(unique)}")
+
+    def make_def(self, name: str, kind: DataKind, data_type: TypeLike) -> Def:
+        """A name with its kind and type."""
+        return Def(self, self._later(
+            f"MakeDef {quoted(name)} {word(DataKind, kind)} {self._type(data_type)}"
+        ))
+
+    def make_blank_line(self) -> BlankLine:
+        """A blank line."""
+        return BlankLine(self, self._later("MakeBlankLine"))
+
+    def make_comment(self, text: str) -> Comment:
+        """A comment."""
+        return Comment(self, self._later(f"MakeComment {quoted(text)}"))
+
+    def make_inline_verilog_statement(self, text: str) -> InlineVerilogStatement:
+        """A text that is written as it is."""
+        return InlineVerilogStatement(self, self._later(
+            f"MakeInlineVerilogStatement {quoted(text)}"
+        ))
+
+    def make_macro_statement(self, macro_ref: MacroRef, semicolon: bool = True) -> MacroStatement:
+        """The use of a macro, with a semicolon or without."""
+        return MacroStatement(self, self._later(
+            f"MakeMacroStatement {self._own(macro_ref, MacroRef)} {truth(semicolon)}"
+        ))
+
+    def make_continuous_assignment(self, lhs: Operand, rhs: Operand) -> ContinuousAssignment:
+        """`assign l = r`."""
+        return ContinuousAssignment(self, self._later(
+            f"MakeContinuousAssignment {self._value(lhs)} {self._value(rhs)}"
+        ))
+
+    def make_nonblocking_assignment(self, lhs: Operand, rhs: Operand) -> Statement:
+        """`l <= r`."""
+        return Statement(self, self._later(
+            f"MakeNonblockingAssignment {self._value(lhs)} {self._value(rhs)}"
+        ))
+
+    def make_blocking_assignment(self, lhs: Operand, rhs: Operand) -> Statement:
+        """`l = r`."""
+        return Statement(self, self._later(
+            f"MakeBlockingAssignment {self._value(lhs)} {self._value(rhs)}"
+        ))
+
+    def make_instantiation(
+        self,
+        module_name: str,
+        instance_name: str,
+        parameter_names: Sequence[str],
+        parameter_expressions: Sequence[Operand],
+        connection_names: Sequence[str],
+        connection_expressions: Sequence[Optional[Operand]],
+    ) -> Instantiation:
+        """An instance: each name with the expression at its place, an open port with none.
+
+        `connection_expressions`: `None` leaves the port open.
+        Raises `Condition` unless: names and expressions of one length, twice.
+        """
+        return Instantiation(self, self._now(
+            f"MakeInstantiation {quoted(module_name)} {quoted(instance_name)}"
+            f" {listed(quoted, parameter_names)} {listed(self._value, parameter_expressions)}"
+            f" {listed(quoted, connection_names)}"
+            f" {listed(lambda given: optional(self._value, given), connection_expressions)}"
+        ))
+
+    def add_member_instantiation(self, owner: Module, instantiation: Instantiation) -> None:
+        """The instantiation, as the last member."""
+        self._later(
+            f"AddMemberInstantiation {self._own(owner, Module)}"
+            f" {self._own(instantiation, Instantiation)}"
+        )
+
+    def add_member_continuous_assignment(
+        self,
+        owner: Module,
+        assignment: ContinuousAssignment,
+    ) -> None:
+        """The assignment, as the last member."""
+        self._later(
+            f"AddMemberContinuousAssignment {self._own(owner, Module)}"
+            f" {self._own(assignment, ContinuousAssignment)}"
+        )
+
+    def add_member_blank_line(self, owner: Module, blank: BlankLine) -> None:
+        """A blank line, as the last member."""
+        self._later(f"AddMemberBlankLine {self._own(owner, Module)} {self._own(blank, BlankLine)}")
+
+    def add_member_comment(self, owner: Module, comment: Comment) -> None:
+        """The comment, as the last member."""
+        self._later(f"AddMemberComment {self._own(owner, Module)} {self._own(comment, Comment)}")
+
+    def add_member_inline_statement(self, owner: Module, statement: InlineVerilogStatement) -> None:
+        """The text, as the last member."""
+        self._later(
+            f"AddMemberInlineStatement {self._own(owner, Module)}"
+            f" {self._own(statement, InlineVerilogStatement)}"
+        )
+
+    def add_member_macro_statement(self, owner: Module, statement: MacroStatement) -> None:
+        """The use of a macro, as the last member."""
+        self._later(
+            f"AddMemberMacroStatement {self._own(owner, Module)}"
+            f" {self._own(statement, MacroStatement)}"
+        )
+
+    def conditional_has_else(self, conditional: Conditional) -> bool:
+        """Whether: it has its `else`."""
+        return read_truth(self._ask(f"?ConditionalHasElse {self._own(conditional, Conditional)}"))
+
+    def emit_expression(self, e: Operand) -> str:
+        """The text of the expression, or its first refusal.
+
+        Raises `Refused` where it is refused.
+        """
+        return self._ask(f"?EmitExpression {self._value(e)}")
+
+    def is_system_verilog_keyword(self, identifier: str) -> bool:
+        """Whether: exactly on the list of keywords."""
+        return read_truth(self._ask(f"?IsSystemVerilogKeyword {quoted(identifier)}"))
+
+    def logic_ref_name(self, logic_ref: LogicRef) -> str:
+        """The name that it is."""
+        return self._ask(f"?LogicRefName {self._own(logic_ref, LogicRef)}")
+
+    def module_input_ports(self, owner: Module) -> List[Port]:
+        """Its inputs in order."""
+        return read_ports(self._ask(f"?ModuleInputPorts {self._own(owner, Module)}"))
+
+    def module_member_count(self, owner: Module) -> int:
+        """The number of its members, in members."""
+        return read_number(self._ask(f"?ModuleMemberCount {self._own(owner, Module)}"))
+
+    def module_name(self, owner: Module) -> str:
+        """Its name."""
+        return self._ask(f"?ModuleName {self._own(owner, Module)}")
+
+    def module_output_ports(self, owner: Module) -> List[Port]:
+        """Its outputs in order."""
+        return read_ports(self._ask(f"?ModuleOutputPorts {self._own(owner, Module)}"))
+
+    def module_ports(self, owner: Module) -> List[Port]:
+        """Its ports in order."""
+        return read_ports(self._ask(f"?ModulePorts {self._own(owner, Module)}"))
+
+    def name_is_free(self, owner: Module, name: str) -> bool:
+        """Whether: no port, wire, reg, logic or function of the module has the name."""
+        return read_truth(self._ask(f"?NameIsFree {self._own(owner, Module)} {quoted(name)}"))
+
+    def type_can_be_cast(self, data_type: TypeLike) -> bool:
+        """Whether: no array."""
+        return read_truth(self._ask(f"?TypeCanBeCast {self._type(data_type)}"))
+
+    def type_can_be_packed(self, data_type: TypeLike) -> bool:
+        """Whether: no unpacked array, `integer` or `int`."""
+        return read_truth(self._ask(f"?TypeCanBePacked {self._type(data_type)}"))
+
+    def type_flat_bit_count_as_int64(self, data_type: TypeLike) -> int:
+        """The bits of the type within times all dimensions, or the first refusal, in bits.
+
+        Raises `Refused` where it is refused.
+        """
+        return read_number(self._ask(f"?TypeFlatBitCountAsInt64 {self._type(data_type)}"))
+
+    def type_is_signed(self, data_type: TypeLike) -> bool:
+        """Whether: the sign of the type within the arrays."""
+        return read_truth(self._ask(f"?TypeIsSigned {self._type(data_type)}"))
+
+    def type_width_as_int64(self, data_type: TypeLike) -> int:
+        """The width that the type within the arrays declares, or why it has none, in bits.
+
+        Raises `Refused` where it is refused.
+        """
+        return read_number(self._ask(f"?TypeWidthAsInt64 {self._type(data_type)}"))
+
+    def type_width_expr(self, data_type: TypeLike) -> Optional[str]:
+        """The width of the vector within the arrays, if one is."""
+        return read_optional(self._ask(f"?TypeWidthExpr {self._type(data_type)}"))
+
+    def width_is_usable(self, width: Operand) -> bool:
+        """Whether: no literal with a value below 1."""
+        return read_truth(self._ask(f"?WidthIsUsable {self._value(width)}"))
+
+    def add_registers(
+        self,
+        clk: Operand,
+        reset: Optional[Reset],
+        registers: Sequence[RegisterDefinition],
+        scope: RegisterScope,
+    ) -> None:
+        """One `always_ff`, last in its scope, by which each register takes its value; a reset value
+        without a reset is refused; no registers change nothing.
+
+        Raises `Refused` where it is refused.
+        """
+        self._now(
+            f"!AddRegisters {self._value(clk)} {optional(self._reset, reset)}"
+            f" {listed(self._registerdefinition, registers)}"
+            f" {self._own(scope, (Module, GenerateLoop))}"
+        )
+
+    def bitwise_or_reduce(self, values: Sequence[Operand]) -> Expr:
+        """`a | b | c`, of none `'0`.
+
+        Raises `Refused` where it is refused.
+        """
+        return Expr(self, self._now(f"!BitwiseOrReduce {listed(self._value, values)}"))
+
+    def bitwise_or_reduce_array_elements(
+        self,
+        value: Selectable,
+        dimensions: Sequence[int],
+    ) -> Expr:
+        """All elements joined by `|`, those of the first slot first, or the first check that fails.
+
+        `dimensions`: numbers of elements, the outermost dimension first.
+        Raises `Refused` where it is refused.
+        """
+        return Expr(self, self._now(
+            f"!BitwiseOrReduceArrayElements {self._subject(value)} {listed(int64, dimensions)}"
+        ))
+
+    def logical_and_reduce(self, values: Sequence[Operand], invert: bool = False) -> Expr:
+        """`a && b && c`, of none `1'h1`; inverted one `!` over the whole, of none `1'h0`.
+
+        Raises `Refused` where it is refused.
+        """
+        return Expr(self, self._now(
+            f"!LogicalAndReduce {listed(self._value, values)} {truth(invert)}"
+        ))
+
+    def logical_or_reduce(self, values: Sequence[Operand], invert: bool = False) -> Expr:
+        """`a || b || c`, of none `1'h0`; inverted one `!` over the whole, of none `1'h1`.
+
+        Raises `Refused` where it is refused.
+        """
+        return Expr(self, self._now(
+            f"!LogicalOrReduce {listed(self._value, values)} {truth(invert)}"
+        ))

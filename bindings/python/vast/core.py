@@ -1,0 +1,113 @@
+"""The lines of a file, and when they are sent."""
+from __future__ import annotations
+
+from typing import Dict, List, Optional, Tuple, Type, Union
+
+from .errors import Condition, VastFault
+from .handle import Handle
+from .kinds import DataType, Expression, Operand, Selectable, TypeLike
+from .session import Session
+from .writing import int32
+
+# Lines that wait at most.
+BATCH = 1024
+
+
+class Core:
+    """Writes lines, and knows the number of each answer before it is there.
+
+    A call that nothing refuses waits with others (`_later`), since Python has looked at the kinds of its handles; one
+    that may be refused is made at once, behind those that wait (`_now`), so that it raises its own fault and no later
+    call does. What asks (`_ask`) is made at once too.
+    """
+
+    def __init__(self, session: Session, strict: bool) -> None:
+        self._session = session
+        self._strict = strict
+        self._lines: List[str] = []
+        self._count = 0
+        self._types: Dict[int, int] = {}
+        self._fault: Optional[VastFault] = None
+
+    def flush(self) -> None:
+        """Makes the calls that wait.
+
+        Raises `MemoryError` where memory was refused: those that weren't made wait on, and `flush` may be called again.
+        Without `strict` it raises the fault of the first call that is at fault, and so does each later call, since the
+        handles that were given behind it are none.
+        """
+        if self._fault is not None:
+            raise self._fault
+        if not self._lines:
+            return
+        taken, fault = self._session.lines(self._lines)
+        del self._lines[:taken]
+        if fault is None:
+            return
+        if not isinstance(fault, MemoryError) and (len(self._lines) > 1 or not self._strict):
+            self._fault = fault
+        raise fault
+
+    def _later(self, line: str) -> int:
+        """The number of a call that waits."""
+        if len(self._lines) >= BATCH:
+            self.flush()
+        number = self._count
+        self._count = number + 1
+        self._lines.append(line)
+        return number
+
+    def _now(self, line: str) -> int:
+        """The number of a call that is made at once, or its fault, and then nothing changed."""
+        if not self._strict:
+            return self._later(line)
+        self._lines.append(line)
+        try:
+            self.flush()
+        except BaseException:
+            # Where an earlier line was refused memory, this one stands behind it, and is let go.
+            del self._lines[-1:]
+            raise
+        number = self._count
+        self._count = number + 1
+        return number
+
+    def _ask(self, line: str) -> str:
+        """The answer's text."""
+        self.flush()
+        return self._session.ask(line)
+
+    def _own(self, given: Handle, kind: Union[Type[Handle], Tuple[Type[Handle], ...]]) -> int:
+        """The number of a handle of this kind."""
+        if not isinstance(given, kind):
+            kinds = kind if isinstance(kind, tuple) else (kind,)
+            raise TypeError(f"{' or '.join(each.__name__ for each in kinds)} is wanted, not {given!r}")
+        if given.file is not self:
+            raise Condition("a handle of another file")
+        return given.number
+
+    def _value(self, given: Operand) -> int:
+        """The number of an expression; of an `int`, that of a literal which is made for it."""
+        if isinstance(given, Expression):
+            if given.file is self:
+                return given.number
+            raise Condition("a handle of another file")
+        if isinstance(given, int) and not isinstance(given, bool):
+            return self._later(f"MakeUnsizedDecimalLiteral {int32(given)}")
+        raise TypeError(f"an expression or an int is wanted, not {given!r}")
+
+    def _subject(self, given: Selectable) -> int:
+        """The number of an expression that may be selected from."""
+        if isinstance(given, Expression) and not isinstance(given, Selectable):
+            raise TypeError(f"make_indexable_expression makes of {given!r} what may be selected from")
+        return self._own(given, Selectable)
+
+    def _type(self, given: TypeLike) -> int:
+        """The number of a type; of an `int`, that of a type of so many bits, which is made once."""
+        if isinstance(given, DataType):
+            return self._own(given, DataType)
+        if not isinstance(given, int) or isinstance(given, bool):
+            raise TypeError(f"a type or a number of bits is wanted, not {given!r}")
+        if given not in self._types:
+            self._types[given] = self.make_bit_vector_type(given).number
+        return self._types[given]
