@@ -1,4 +1,6 @@
-//! Calls of parts that are made beforehand, and that add them to modules. Written by `tools/rust_methods`: change that, not this.
+//! Calls of parts that are made beforehand, and that add them to modules.
+//!
+//! Written by tools/bindings_from_calls from the table of calls; not to be edited.
 
 use crate::file::VastFile;
 use crate::handles::{

@@ -1,4 +1,6 @@
-//! Calls that make any other expression. Written by `tools/rust_methods`: change that, not this.
+//! Calls that make any other expression.
+//!
+//! Written by tools/bindings_from_calls from the table of calls; not to be edited.
 
 use crate::conditions::cast_condition;
 use crate::error::VastError;

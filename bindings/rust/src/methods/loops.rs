@@ -1,4 +1,6 @@
-//! Calls of generate loops and their members. Written by `tools/rust_methods`: change that, not this.
+//! Calls of generate loops and their members.
+//!
+//! Written by tools/bindings_from_calls from the table of calls; not to be edited.
 
 use crate::error::VastError;
 use crate::file::VastFile;

@@ -1,4 +1,6 @@
-//! Calls that make an expression of one or two operands. Written by `tools/rust_methods`: change that, not this.
+//! Calls that make an expression of one or two operands.
+//!
+//! Written by tools/bindings_from_calls from the table of calls; not to be edited.
 
 use crate::file::VastFile;
 use crate::handles::Expr;

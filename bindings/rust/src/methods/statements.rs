@@ -1,4 +1,6 @@
-//! Calls of functions, always blocks, conditionals and statements. Written by `tools/rust_methods`: change that, not this.
+//! Calls of functions, always blocks, conditionals and statements.
+//!
+//! Written by tools/bindings_from_calls from the table of calls; not to be edited.
 
 use crate::error::VastError;
 use crate::file::VastFile;

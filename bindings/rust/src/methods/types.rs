@@ -1,4 +1,6 @@
-//! Calls that make a type. Written by `tools/rust_methods`: change that, not this.
+//! Calls that make a type.
+//!
+//! Written by tools/bindings_from_calls from the table of calls; not to be edited.
 
 use crate::conditions::{packed_condition, unpacked_condition};
 use crate::file::VastFile;

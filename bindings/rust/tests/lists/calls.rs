@@ -1,4 +1,6 @@
-//! One arm for each call of a list. Written by `tools/rust_methods`: change that, not this.
+//! One arm for each call of a list.
+//!
+//! Written by tools/bindings_from_calls from the table of calls; not to be edited.
 
 use crate::answers::{format_of, kind_of, Answer, Answers, Fault};
 use crate::form::{Argument, Line};

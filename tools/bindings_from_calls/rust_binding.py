@@ -1,22 +1,14 @@
-#!/usr/bin/env python3
-"""Writes the methods of the Rust binding, one for each call that a list can make.
-
-    rust_methods CALLS            writes bindings/rust/src/methods/*.rs, and tests/lists/calls.rs beside it
-    rust_methods CALLS --check    says whether they are what is checked in
-
-CALLS is the table that `vast_replay --calls --json` prints. Types, and the words of a method's comment, are those of the
-method in crates/xlsynth_vast. Only Python's standard library.
-"""
-
-import json
+"""The methods of the Rust binding: `src/methods/*.rs`, one for each call by group, and `tests/lists/calls.rs`, which makes a
+list's calls by them. The types of parameters, and the words of a method's comment, are those of the method in
+crates/xlsynth_vast, which has the signatures of the original."""
 import pathlib
 import re
+import shutil
 import subprocess
-import sys
 
-ROOT = pathlib.Path(__file__).resolve().parent.parent
-METHODS = ROOT / "bindings/rust/src/methods"
-CALLS = ROOT / "bindings/rust/tests/lists/calls.rs"
+ROOT = pathlib.Path(__file__).resolve().parent.parent.parent
+METHODS = "bindings/rust/src/methods"
+CALLS = "bindings/rust/tests/lists/calls.rs"
 
 # Where a condition isn't met, the panic begins so, as it does in the original.
 CONDITIONS = {
@@ -69,7 +61,9 @@ PAIRS = {
     ],
 }
 
-HEAD = '''//! %s. Written by `tools/rust_methods`: change that, not this.
+HEAD = '''//! %s.
+//!
+//! Written by tools/bindings_from_calls from the table of calls; not to be edited.
 
 %s
 impl VastFile {
@@ -124,7 +118,7 @@ def argument(name, kind, form):
     """What is looked up before the line, and what writes it."""
     if kind == "&IndexableExpr":
         return f"let {name}_step = self.own_indexable({name});", f".step({name}_step)"
-    if form["form"] == "handle":
+    if form == "handle":
         return f"let {name}_step = self.own({name}.0);", f".step({name}_step)"
     if kind == "&str":
         return None, f".text({name})"
@@ -248,14 +242,14 @@ def text(table, group):
     """The file of a group's methods."""
     found = methods()
     parts = []
-    for entry in table["calls"]:
-        if entry["group"] != group:
+    for entry in table.calls:
+        if entry.group != group:
             continue
-        name = entry["method"]
+        name = entry.method
         method, receiver = found[name]
-        forms = [parameter["type"] for parameter in entry["parameters"]]
+        forms = [parameter.type.form for parameter in entry.parameters]
         parts.append("\n".join([comment(name, method), signature(name, method, receiver, result_of(name, method)),
-                                body(entry["call"], name, method, forms), "    }"]))
+                                body(entry.call, name, method, forms), "    }"]))
     code = "\n\n".join(parts)
     return rustfmt(HEAD % (GROUPS[group], uses(code)) + code + "\n}\n")
 
@@ -292,7 +286,9 @@ def rustfmt(code):
     return subprocess.run(command, input=code, text=True, capture_output=True, check=True).stdout
 
 
-CALLS_HEAD = '''//! One arm for each call of a list. Written by `tools/rust_methods`: change that, not this.
+CALLS_HEAD = '''//! One arm for each call of a list.
+//!
+//! Written by tools/bindings_from_calls from the table of calls; not to be edited.
 
 use crate::answers::{format_of, kind_of, Answer, Answers, Fault};
 use crate::form::{Argument, Line};
@@ -313,7 +309,7 @@ CALLS_TAIL = '''        other => panic!("no call: {other}"),
 def test_argument(place, name, kind, form):
     """What reads an argument of a line, and what stands for it in the call."""
     word = f"&words[{place}]"
-    if form["form"] == "handle":
+    if form == "handle":
         return f"let {name} = answers.handle({word})?;", f"&{name}" if kind.startswith("&") else name
     if kind == "&str":
         return f"let {name} = words[{place}].text();", name
@@ -340,10 +336,10 @@ def test_argument(place, name, kind, form):
 
 def arm(entry, method):
     """The arm of a call."""
-    name = entry["method"]
+    name = entry.method
     lines, values = [], []
-    for place, ((label, kind), parameter) in enumerate(zip(method.parameters, entry["parameters"], strict=True)):
-        read, value = test_argument(place, label, kind, parameter["type"])
+    for place, ((label, kind), parameter) in enumerate(zip(method.parameters, entry.parameters, strict=True)):
+        read, value = test_argument(place, label, kind, parameter.type.form)
         lines += read.split("\n")
         values.append(value)
     call = f"file.{name}({', '.join(values)})" + ("?" if method.can_be_refused else "")
@@ -353,28 +349,28 @@ def arm(entry, method):
     else:
         lines.append(f"Ok(Answer::{answer}({call}))")
     inner = "\n".join("            " + line for line in lines)
-    return f'        "{entry["call"]}" => {{\n{inner}\n        }}\n'
+    return f'        "{entry.call}" => {{\n{inner}\n        }}\n'
 
 
 def test_text(table):
     """The whole file of arms."""
     found = methods()
-    steps = [entry for entry in table["calls"] if entry["group"] not in ("questions", "helpers")]
-    arms = "".join(arm(entry, found[entry["method"]][0]) for entry in steps)
+    steps = [entry for entry in table.calls if entry.group not in ("questions", "helpers")]
+    arms = "".join(arm(entry, found[entry.method][0]) for entry in steps)
     return rustfmt(CALLS_HEAD + arms + CALLS_TAIL)
 
 
-def main():
-    words = [word for word in sys.argv[1:] if word != "--check"]
-    if len(words) != 1:
-        raise SystemExit(__doc__)
-    table = json.loads(pathlib.Path(words[0]).read_text())
-    files = [(METHODS / f"{group}.rs", text(table, group)) for group in GROUPS]
-    for path, made in [*files, (CALLS, test_text(table))]:
-        if "--check" not in sys.argv:
-            path.write_text(made)
-        elif made != path.read_text():
-            raise SystemExit(f"{path}: not what tools/rust_methods writes")
+class RustBinding:
+    """What is written for Rust."""
 
+    def __init__(self, table):
+        self.table = table
 
-main()
+    def files(self):
+        """The texts of all files by their paths; none where rustfmt, which lays them out, is not there."""
+        if shutil.which("rustfmt") is None:
+            print("bindings_from_calls: no rustfmt, Rust is left out")
+            return {}
+        files = {f"{METHODS}/{group}.rs": text(self.table, group) for group in GROUPS}
+        files[CALLS] = test_text(self.table)
+        return files
