@@ -1,0 +1,44 @@
+//! What a call panics with, where its condition depends on what it is given.
+
+use crate::file::State;
+use crate::known::Width;
+
+/// Why an element of this type, or these dimensions, make no packed array.
+#[cold]
+pub(crate) fn packed_condition(
+    state: &mut State,
+    element: usize,
+    dimensions: &[i64],
+) -> &'static str {
+    if !state.holds("?TypeCanBePacked", element) {
+        return match state.known.widths.get(&element) {
+            Some(Width::Element(_)) => "packed arrays cannot contain unpacked array elements",
+            _ => "packed arrays cannot contain integer or int elements",
+        };
+    }
+    if dimensions.is_empty() {
+        "packed array requires at least one dimension"
+    } else {
+        "packed-array dimensions must be greater than zero"
+    }
+}
+
+/// Why these dimensions make no unpacked array.
+#[cold]
+pub(crate) fn unpacked_condition(dimensions: &[i64]) -> &'static str {
+    if dimensions.is_empty() {
+        "unpacked array requires at least one dimension"
+    } else {
+        "unpacked-array dimensions must be greater than zero"
+    }
+}
+
+/// Why nothing can be cast to this type.
+#[cold]
+pub(crate) fn cast_condition(state: &mut State, data_type: usize) -> &'static str {
+    if state.holds("?TypeCanBePacked", data_type) {
+        "packed array types cannot be used in type casts; use a named typedef instead"
+    } else {
+        "unpacked array types cannot be used in type casts"
+    }
+}

@@ -1,0 +1,9 @@
+//! One method for each call of a list, by the groups of `docs/CALLS.md`.
+
+mod artifacts;
+mod expressions;
+mod loops;
+mod modules;
+mod operators;
+mod statements;
+mod types;

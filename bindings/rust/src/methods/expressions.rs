@@ -1,0 +1,233 @@
+//! Calls that make any other expression.
+//!
+//! Written by tools/bindings_from_calls from the table of calls; not to be edited.
+
+use crate::conditions::cast_condition;
+use crate::error::VastError;
+use crate::file::VastFile;
+use crate::handles::{Expr, Index, IndexableExpr, MacroRef, Slice, VastDataType};
+use crate::kinds::LiteralFormat;
+
+impl VastFile {
+    /// The literal `bits[N]:value`, written in a format. `N` is 1 to 1,048,576; the value may have a sign, a
+    /// radix mark (`0x`, `0b`, `0o` in either case) and underscores between its digits.
+    ///
+    /// # Errors
+    /// Where the library refuses the call, in its words.
+    pub fn make_literal(&mut self, text: &str, format: &LiteralFormat) -> Result<Expr, VastError> {
+        Ok(Expr(self.allowed("MakeLiteral", |line| {
+            line.text(text).word(format.word())
+        })?))
+    }
+
+    /// The binary pattern of these digits `0`, `1` and `?`, the most significant first, as wide as they are
+    /// many.
+    ///
+    /// # Errors
+    /// Where the library refuses the call, in its words.
+    pub fn make_binary_pattern(&mut self, bits_msb: &str) -> Result<Expr, VastError> {
+        Ok(Expr(self.allowed("MakeBinaryPattern", |line| {
+            line.text(bits_msb)
+        })?))
+    }
+
+    /// The number in decimal, without a width; a negative one has its minus.
+    pub fn make_unsized_decimal_literal(&mut self, value: i32) -> Expr {
+        Expr(self.made("MakeUnsizedDecimalLiteral", "", |line| line.number(value)))
+    }
+
+    /// The string of this content: it stands between quotes, with escapes where they are needed.
+    pub fn make_string_literal(&mut self, value: &str) -> Expr {
+        Expr(self.made("MakeStringLiteral", "", |line| line.text(value)))
+    }
+
+    /// All ones, `'1`.
+    pub fn make_unsized_one_literal(&mut self) -> Expr {
+        Expr(self.made("MakeUnsizedOneLiteral", "", |line| line))
+    }
+
+    /// All zeros, `'0`.
+    pub fn make_unsized_zero_literal(&mut self) -> Expr {
+        Expr(self.made("MakeUnsizedZeroLiteral", "", |line| line))
+    }
+
+    /// All bits unknown, `'X`.
+    pub fn make_unsized_x_literal(&mut self) -> Expr {
+        Expr(self.made("MakeUnsizedXLiteral", "", |line| line))
+    }
+
+    /// The same node, as an expression that may be selected from.
+    pub fn make_indexable_expression(&self, expression: &Expr) -> IndexableExpr {
+        let step = self.answered("MakeIndexableExpression", expression.0).step;
+        let expression = expression.0;
+        IndexableExpr { expression, step }
+    }
+
+    /// The range `s[hi:lo]` between two numbers, for which literals are made, that of `hi` first.
+    ///
+    /// # Panics
+    /// With `bit and part-select indices must be nonnegative`, where that is not so.
+    pub fn make_slice(&mut self, subject: &IndexableExpr, hi: i64, lo: i64) -> Slice {
+        let subject_step = self.own_indexable(subject);
+        Slice(self.made(
+            "MakeSlice",
+            "bit and part-select indices must be nonnegative",
+            |line| line.step(subject_step).number(hi).number(lo),
+        ))
+    }
+
+    /// The bit `s[index]`, by a number, for which a literal is made.
+    ///
+    /// # Panics
+    /// With `bit and part-select indices must be nonnegative`, where that is not so.
+    pub fn make_index(&mut self, subject: &IndexableExpr, index: i64) -> Index {
+        let subject_step = self.own_indexable(subject);
+        Index(self.made(
+            "MakeIndex",
+            "bit and part-select indices must be nonnegative",
+            |line| line.step(subject_step).number(index),
+        ))
+    }
+
+    /// The range `s[hi:lo]` between two bounds that are expressions.
+    pub fn make_slice_expr(&mut self, subject: &IndexableExpr, hi: &Expr, lo: &Expr) -> Slice {
+        let subject_step = self.own_indexable(subject);
+        let hi_step = self.own(hi.0);
+        let lo_step = self.own(lo.0);
+        Slice(self.made("MakeSliceExpr", "", |line| {
+            line.step(subject_step).step(hi_step).step(lo_step)
+        }))
+    }
+
+    /// The bit `s[index]`, by an expression.
+    pub fn make_index_expr(&mut self, subject: &IndexableExpr, index: &Expr) -> Index {
+        let subject_step = self.own_indexable(subject);
+        let index_step = self.own(index.0);
+        Index(self.made("MakeIndexExpr", "", |line| {
+            line.step(subject_step).step(index_step)
+        }))
+    }
+
+    /// The range `s[start +: width]` of so many bits upwards.
+    ///
+    /// # Panics
+    /// With `indexed part-select width must be positive`, where that is not so.
+    pub fn make_indexed_part_select(
+        &mut self,
+        subject: &IndexableExpr,
+        start: &Expr,
+        width: i64,
+    ) -> Expr {
+        let subject_step = self.own_indexable(subject);
+        let start_step = self.own(start.0);
+        Expr(self.made(
+            "MakeIndexedPartSelect",
+            "indexed part-select width must be positive",
+            |line| line.step(subject_step).step(start_step).number(width),
+        ))
+    }
+
+    /// The call `f(a, b)` of a function of this name.
+    ///
+    /// # Panics
+    /// With `function call name must not be empty`, where that is not so.
+    pub fn make_function_call(&mut self, name: &str, arguments: &[&Expr]) -> Expr {
+        let arguments_steps = self.own_all(arguments);
+        Expr(self.made(
+            "MakeFunctionCall",
+            "function call name must not be empty",
+            |line| line.text(name).steps(&arguments_steps),
+        ))
+    }
+
+    /// The concatenation `{a, b}`; there may be no parts.
+    pub fn make_concat(&mut self, expressions: &[&Expr]) -> Expr {
+        let expressions_steps = self.own_all(expressions);
+        Expr(self.made("MakeConcat", "", |line| line.steps(&expressions_steps)))
+    }
+
+    /// The replicated concatenation `{n{a, b}}`.
+    pub fn make_replicated_concat(&mut self, replication: &Expr, elements: &[&Expr]) -> Expr {
+        let replication_step = self.own(replication.0);
+        let elements_steps = self.own_all(elements);
+        Expr(self.made("MakeReplicatedConcat", "", |line| {
+            line.step(replication_step).steps(&elements_steps)
+        }))
+    }
+
+    /// The replicated concatenation by a number, for which a literal is made too.
+    pub fn make_replicated_concat_i64(&mut self, replication: i64, elements: &[&Expr]) -> Expr {
+        let elements_steps = self.own_all(elements);
+        Expr(self.made("MakeReplicatedConcatI64", "", |line| {
+            line.number(replication).steps(&elements_steps)
+        }))
+    }
+
+    /// The array assignment pattern `'{a, b}`.
+    pub fn make_array_assignment_pattern(&mut self, elements: &[&Expr]) -> Expr {
+        let elements_steps = self.own_all(elements);
+        Expr(self.made("MakeArrayAssignmentPattern", "", |line| {
+            line.steps(&elements_steps)
+        }))
+    }
+
+    /// The choice `c ? a : b`.
+    pub fn make_ternary(&mut self, condition: &Expr, consequent: &Expr, alternate: &Expr) -> Expr {
+        let condition_step = self.own(condition.0);
+        let consequent_step = self.own(consequent.0);
+        let alternate_step = self.own(alternate.0);
+        Expr(self.made("MakeTernary", "", |line| {
+            line.step(condition_step)
+                .step(consequent_step)
+                .step(alternate_step)
+        }))
+    }
+
+    /// The value, cast to a width: `w'(v)`.
+    pub fn make_width_cast(&mut self, width: &Expr, value: &Expr) -> Expr {
+        let width_step = self.own(width.0);
+        let value_step = self.own(value.0);
+        Expr(self.made("MakeWidthCast", "", |line| {
+            line.step(width_step).step(value_step)
+        }))
+    }
+
+    /// The value, cast to a type that is no array; [`VastFile::type_can_be_cast`] is the test.
+    ///
+    /// # Panics
+    /// Where a condition of the call isn't met, with its words.
+    pub fn make_type_cast(&mut self, data_type: &VastDataType, value: &Expr) -> Expr {
+        let data_type_step = self.own(data_type.0);
+        let value_step = self.own(value.0);
+        Expr(self.made_or(
+            "MakeTypeCast",
+            |line| line.step(data_type_step).step(value_step),
+            |state| cast_condition(state, data_type_step),
+        ))
+    }
+
+    /// The event of a rising edge, `posedge a`.
+    pub fn make_pos_edge(&mut self, expression: &Expr) -> Expr {
+        let expression_step = self.own(expression.0);
+        Expr(self.made("MakePosEdge", "", |line| line.step(expression_step)))
+    }
+
+    /// The event of a falling edge, `negedge a`.
+    pub fn make_neg_edge(&mut self, expression: &Expr) -> Expr {
+        let expression_step = self.own(expression.0);
+        Expr(self.made("MakeNegEdge", "", |line| line.step(expression_step)))
+    }
+
+    /// The use of a macro without arguments, `` `M ``.
+    pub fn make_macro_ref(&mut self, name: &str) -> MacroRef {
+        MacroRef(self.made("MakeMacroRef", "", |line| line.text(name)))
+    }
+
+    /// The use of a macro with arguments, `` `M(a, b) ``; there may be none.
+    pub fn make_macro_ref_with_args(&mut self, name: &str, arguments: &[&Expr]) -> MacroRef {
+        let arguments_steps = self.own_all(arguments);
+        MacroRef(self.made("MakeMacroRefWithArgs", "", |line| {
+            line.text(name).steps(&arguments_steps)
+        }))
+    }
+}

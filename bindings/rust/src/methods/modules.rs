@@ -1,0 +1,324 @@
+//! Calls of the file's items, and of modules with their ports, declarations and parameters.
+//!
+//! Written by tools/bindings_from_calls from the table of calls; not to be edited.
+
+use crate::error::VastError;
+use crate::file::VastFile;
+use crate::handles::{
+    BlankLine, Def, Expr, LocalparamRef, LogicRef, ParameterRef, VastDataType, VastModule,
+};
+use crate::kinds::ModulePortDirection;
+
+impl VastFile {
+    /// The inclusion of the file at this path, as the last item of the file.
+    pub fn add_include(&mut self, include: &str) {
+        self.made("AddInclude", "", |line| line.text(include));
+    }
+
+    /// A blank line, as the last item of the file.
+    pub fn add_blank_line(&mut self, blank_line: BlankLine) {
+        let blank_line_step = self.own(blank_line.0);
+        self.made("AddBlankLine", "", |line| line.step(blank_line_step));
+    }
+
+    /// A comment, as the last item of the file; each line of the text becomes a line of its own.
+    pub fn add_comment_text(&mut self, text: &str) {
+        self.made("AddCommentText", "", |line| line.text(text));
+    }
+
+    /// An empty module, as the last item of the file.
+    pub fn add_module(&mut self, name: &str) -> VastModule {
+        VastModule(self.made("AddModule", "", |line| line.text(name)))
+    }
+
+    /// An input, as the module's last port; answers its name as an expression.
+    ///
+    /// # Panics
+    /// With `module ports must have unique names`, where that is not so.
+    pub fn add_input(
+        &mut self,
+        owner: VastModule,
+        name: &str,
+        data_type: &VastDataType,
+    ) -> LogicRef {
+        let owner_step = self.own(owner.0);
+        let data_type_step = self.own(data_type.0);
+        let made = self.made("AddInput", "module ports must have unique names", |line| {
+            line.step(owner_step).text(name).step(data_type_step)
+        });
+        self.keep_port(
+            owner_step,
+            ModulePortDirection::Input,
+            name,
+            data_type_step,
+            made,
+        );
+        LogicRef(made)
+    }
+
+    /// An output, as the module's last port; answers its name as an expression.
+    ///
+    /// # Panics
+    /// With `module ports must have unique names`, where that is not so.
+    pub fn add_output(
+        &mut self,
+        owner: VastModule,
+        name: &str,
+        data_type: &VastDataType,
+    ) -> LogicRef {
+        let owner_step = self.own(owner.0);
+        let data_type_step = self.own(data_type.0);
+        let made = self.made("AddOutput", "module ports must have unique names", |line| {
+            line.step(owner_step).text(name).step(data_type_step)
+        });
+        self.keep_port(
+            owner_step,
+            ModulePortDirection::Output,
+            name,
+            data_type_step,
+            made,
+        );
+        LogicRef(made)
+    }
+
+    /// A port of both directions, as the module's last port; answers its name as an expression.
+    ///
+    /// # Panics
+    /// With `module ports must have unique names`, where that is not so.
+    pub fn add_inout(
+        &mut self,
+        owner: VastModule,
+        name: &str,
+        data_type: &VastDataType,
+    ) -> LogicRef {
+        let owner_step = self.own(owner.0);
+        let data_type_step = self.own(data_type.0);
+        let made = self.made("AddInout", "module ports must have unique names", |line| {
+            line.step(owner_step).text(name).step(data_type_step)
+        });
+        self.keep_port(
+            owner_step,
+            ModulePortDirection::InOut,
+            name,
+            data_type_step,
+            made,
+        );
+        LogicRef(made)
+    }
+
+    /// An input that is declared with the word `logic`, as the module's last port; answers its name as an
+    /// expression.
+    ///
+    /// # Panics
+    /// With `module ports must have unique names`, where that is not so.
+    pub fn add_logic_input(
+        &mut self,
+        owner: VastModule,
+        name: &str,
+        data_type: &VastDataType,
+    ) -> LogicRef {
+        let owner_step = self.own(owner.0);
+        let data_type_step = self.own(data_type.0);
+        let made = self.made(
+            "AddLogicInput",
+            "module ports must have unique names",
+            |line| line.step(owner_step).text(name).step(data_type_step),
+        );
+        self.keep_port(
+            owner_step,
+            ModulePortDirection::Input,
+            name,
+            data_type_step,
+            made,
+        );
+        LogicRef(made)
+    }
+
+    /// An output that is declared with the word `logic`, as the module's last port; answers its name as an
+    /// expression.
+    ///
+    /// # Panics
+    /// With `module ports must have unique names`, where that is not so.
+    pub fn add_logic_output(
+        &mut self,
+        owner: VastModule,
+        name: &str,
+        data_type: &VastDataType,
+    ) -> LogicRef {
+        let owner_step = self.own(owner.0);
+        let data_type_step = self.own(data_type.0);
+        let made = self.made(
+            "AddLogicOutput",
+            "module ports must have unique names",
+            |line| line.step(owner_step).text(name).step(data_type_step),
+        );
+        self.keep_port(
+            owner_step,
+            ModulePortDirection::Output,
+            name,
+            data_type_step,
+            made,
+        );
+        LogicRef(made)
+    }
+
+    /// A wire, as the module's last member; answers its name as an expression. That the name is free is the
+    /// caller's to know; [`VastFile::name_is_free`] is the test.
+    ///
+    /// # Panics
+    /// With `module wires must have unique names`, where that is not so.
+    pub fn add_wire(
+        &mut self,
+        owner: VastModule,
+        name: &str,
+        data_type: &VastDataType,
+    ) -> LogicRef {
+        let owner_step = self.own(owner.0);
+        let data_type_step = self.own(data_type.0);
+        LogicRef(
+            self.made("AddWire", "module wires must have unique names", |line| {
+                line.step(owner_step).text(name).step(data_type_step)
+            }),
+        )
+    }
+
+    /// A reg, as the module's last member; answers its name as an expression.
+    ///
+    /// # Errors
+    /// Where the library refuses the call, in its words.
+    pub fn add_reg(
+        &mut self,
+        owner: VastModule,
+        name: &str,
+        data_type: &VastDataType,
+    ) -> Result<LogicRef, VastError> {
+        let owner_step = self.own(owner.0);
+        let data_type_step = self.own(data_type.0);
+        Ok(LogicRef(self.allowed("AddReg", |line| {
+            line.step(owner_step).text(name).step(data_type_step)
+        })?))
+    }
+
+    /// A logic, as the module's last member; answers its name as an expression.
+    ///
+    /// # Errors
+    /// Where the library refuses the call, in its words.
+    pub fn add_logic(
+        &mut self,
+        owner: VastModule,
+        name: &str,
+        data_type: &VastDataType,
+    ) -> Result<LogicRef, VastError> {
+        let owner_step = self.own(owner.0);
+        let data_type_step = self.own(data_type.0);
+        Ok(LogicRef(self.allowed("AddLogic", |line| {
+            line.step(owner_step).text(name).step(data_type_step)
+        })?))
+    }
+
+    /// A parameter without a type, as the last of the module's header; answers its name as an expression.
+    pub fn add_parameter_port(&mut self, owner: VastModule, name: &str, value: &Expr) -> LogicRef {
+        let owner_step = self.own(owner.0);
+        let value_step = self.own(value.0);
+        LogicRef(self.made("AddParameterPort", "", |line| {
+            line.step(owner_step).text(name).step(value_step)
+        }))
+    }
+
+    /// A parameter of this type, as the last of the module's header; answers its name as an expression.
+    pub fn add_typed_parameter_port(
+        &mut self,
+        owner: VastModule,
+        name: &str,
+        data_type: &VastDataType,
+        value: &Expr,
+    ) -> LogicRef {
+        let owner_step = self.own(owner.0);
+        let data_type_step = self.own(data_type.0);
+        let value_step = self.own(value.0);
+        LogicRef(self.made("AddTypedParameterPort", "", |line| {
+            line.step(owner_step)
+                .text(name)
+                .step(data_type_step)
+                .step(value_step)
+        }))
+    }
+
+    /// `parameter NAME = VALUE`, as the module's last member; answers its name.
+    pub fn add_parameter(&mut self, owner: VastModule, name: &str, rhs: &Expr) -> ParameterRef {
+        let owner_step = self.own(owner.0);
+        let rhs_step = self.own(rhs.0);
+        ParameterRef(self.made("AddParameter", "", |line| {
+            line.step(owner_step).text(name).step(rhs_step)
+        }))
+    }
+
+    /// A parameter with the definition's kind, type and name, as the module's last member; answers its name.
+    pub fn add_parameter_with_def(
+        &mut self,
+        owner: VastModule,
+        definition: &Def,
+        rhs: &Expr,
+    ) -> ParameterRef {
+        let owner_step = self.own(owner.0);
+        let definition_step = self.own(definition.0);
+        let rhs_step = self.own(rhs.0);
+        ParameterRef(self.made("AddParameterWithDef", "", |line| {
+            line.step(owner_step).step(definition_step).step(rhs_step)
+        }))
+    }
+
+    /// `localparam NAME = VALUE`, as the module's last member; answers its name.
+    pub fn add_localparam(&mut self, owner: VastModule, name: &str, rhs: &Expr) -> LocalparamRef {
+        let owner_step = self.own(owner.0);
+        let rhs_step = self.own(rhs.0);
+        LocalparamRef(self.made("AddLocalparam", "", |line| {
+            line.step(owner_step).text(name).step(rhs_step)
+        }))
+    }
+
+    /// `localparam int NAME = VALUE`, as the module's last member; answers its name.
+    pub fn add_int_localparam(
+        &mut self,
+        owner: VastModule,
+        name: &str,
+        rhs: &Expr,
+    ) -> LocalparamRef {
+        let owner_step = self.own(owner.0);
+        let rhs_step = self.own(rhs.0);
+        LocalparamRef(self.made("AddIntLocalparam", "", |line| {
+            line.step(owner_step).text(name).step(rhs_step)
+        }))
+    }
+
+    /// A local parameter with the definition's kind, type and name, as the module's last member; answers its
+    /// name.
+    pub fn add_typed_localparam(
+        &mut self,
+        owner: VastModule,
+        definition: &Def,
+        rhs: &Expr,
+    ) -> LocalparamRef {
+        let owner_step = self.own(owner.0);
+        let definition_step = self.own(definition.0);
+        let rhs_step = self.own(rhs.0);
+        LocalparamRef(self.made("AddTypedLocalparam", "", |line| {
+            line.step(owner_step).step(definition_step).step(rhs_step)
+        }))
+    }
+
+    /// Puts the module's wires, regs and logics from the member `start` on before the other members from
+    /// there on. Declarations keep their order, and so do the others; the members before `start` stay.
+    /// `start` is at most [`VastFile::module_member_count`].
+    ///
+    /// # Panics
+    /// With `the start lies behind the module's members`, where that is not so.
+    pub fn hoist_module_declarations(&mut self, owner: VastModule, start: usize) {
+        let owner_step = self.own(owner.0);
+        self.made(
+            "HoistModuleDeclarations",
+            "the start lies behind the module's members",
+            |line| line.step(owner_step).number(start),
+        );
+    }
+}

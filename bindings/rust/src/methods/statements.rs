@@ -1,0 +1,345 @@
+//! Calls of functions, always blocks, conditionals and statements.
+//!
+//! Written by tools/bindings_from_calls from the table of calls; not to be edited.
+
+use crate::error::VastError;
+use crate::file::VastFile;
+use crate::handles::{
+    CaseStatement, Conditional, Expr, LogicRef, VastAlwaysBase, VastDataType, VastFunction,
+    VastModule, VastStatement, VastStatementBlock,
+};
+
+impl VastFile {
+    /// A function without inputs and locals and with an empty body, as the module's last member.
+    ///
+    /// # Errors
+    /// Where the library refuses the call, in its words.
+    pub fn add_function(
+        &mut self,
+        owner: VastModule,
+        name: &str,
+        result_type: &VastDataType,
+    ) -> Result<VastFunction, VastError> {
+        let owner_step = self.own(owner.0);
+        let result_type_step = self.own(result_type.0);
+        Ok(VastFunction(self.allowed("AddFunction", |line| {
+            line.step(owner_step).text(name).step(result_type_step)
+        })?))
+    }
+
+    /// An input of this type with the kind word `reg`, as the function's last; answers its name as an
+    /// expression.
+    ///
+    /// # Errors
+    /// Where the library refuses the call, in its words.
+    pub fn function_add_input(
+        &mut self,
+        function: VastFunction,
+        name: &str,
+        data_type: &VastDataType,
+    ) -> Result<LogicRef, VastError> {
+        let function_step = self.own(function.0);
+        let data_type_step = self.own(data_type.0);
+        Ok(LogicRef(self.allowed("FunctionAddInput", |line| {
+            line.step(function_step).text(name).step(data_type_step)
+        })?))
+    }
+
+    /// An input of this type with the kind word `logic`, as the function's last; answers its name as an
+    /// expression.
+    ///
+    /// # Errors
+    /// Where the library refuses the call, in its words.
+    pub fn function_add_logic_input(
+        &mut self,
+        function: VastFunction,
+        name: &str,
+        data_type: &VastDataType,
+    ) -> Result<LogicRef, VastError> {
+        let function_step = self.own(function.0);
+        let data_type_step = self.own(data_type.0);
+        Ok(LogicRef(self.allowed("FunctionAddLogicInput", |line| {
+            line.step(function_step).text(name).step(data_type_step)
+        })?))
+    }
+
+    /// A reg, as the function's last local; answers its name as an expression.
+    ///
+    /// # Errors
+    /// Where the library refuses the call, in its words.
+    pub fn function_add_reg(
+        &mut self,
+        function: VastFunction,
+        name: &str,
+        data_type: &VastDataType,
+    ) -> Result<LogicRef, VastError> {
+        let function_step = self.own(function.0);
+        let data_type_step = self.own(data_type.0);
+        Ok(LogicRef(self.allowed("FunctionAddReg", |line| {
+            line.step(function_step).text(name).step(data_type_step)
+        })?))
+    }
+
+    /// A logic, as the function's last local; answers its name as an expression.
+    ///
+    /// # Errors
+    /// Where the library refuses the call, in its words.
+    pub fn function_add_logic(
+        &mut self,
+        function: VastFunction,
+        name: &str,
+        data_type: &VastDataType,
+    ) -> Result<LogicRef, VastError> {
+        let function_step = self.own(function.0);
+        let data_type_step = self.own(data_type.0);
+        Ok(LogicRef(self.allowed("FunctionAddLogic", |line| {
+            line.step(function_step).text(name).step(data_type_step)
+        })?))
+    }
+
+    /// The function's body.
+    pub fn function_body(&self, function: VastFunction) -> VastStatementBlock {
+        VastStatementBlock(self.answered("FunctionBody", function.0))
+    }
+
+    /// The name to which the body assigns the function's result, as an expression.
+    pub fn function_result(&self, function: VastFunction) -> LogicRef {
+        LogicRef(self.answered("FunctionResult", function.0))
+    }
+
+    /// An `always_ff` with these events and an empty block, as the module's last member.
+    ///
+    /// # Errors
+    /// Where the library refuses the call, in its words.
+    pub fn add_always_ff(
+        &mut self,
+        owner: VastModule,
+        sensitivity_list: &[&Expr],
+    ) -> Result<VastAlwaysBase, VastError> {
+        let owner_step = self.own(owner.0);
+        let sensitivity_list_steps = self.own_all(sensitivity_list);
+        Ok(VastAlwaysBase(self.allowed("AddAlwaysFf", |line| {
+            line.step(owner_step).steps(&sensitivity_list_steps)
+        })?))
+    }
+
+    /// An `always @` with these events and an empty block, as the module's last member; there may be no
+    /// events.
+    ///
+    /// # Errors
+    /// Where the library refuses the call, in its words.
+    pub fn add_always_at(
+        &mut self,
+        owner: VastModule,
+        sensitivity_list: &[&Expr],
+    ) -> Result<VastAlwaysBase, VastError> {
+        let owner_step = self.own(owner.0);
+        let sensitivity_list_steps = self.own_all(sensitivity_list);
+        Ok(VastAlwaysBase(self.allowed("AddAlwaysAt", |line| {
+            line.step(owner_step).steps(&sensitivity_list_steps)
+        })?))
+    }
+
+    /// An `always_comb` with an empty block, as the module's last member.
+    ///
+    /// # Errors
+    /// Where the library refuses the call, in its words.
+    pub fn add_always_comb(&mut self, owner: VastModule) -> Result<VastAlwaysBase, VastError> {
+        let owner_step = self.own(owner.0);
+        Ok(VastAlwaysBase(
+            self.allowed("AddAlwaysComb", |line| line.step(owner_step))?,
+        ))
+    }
+
+    /// The block of the always block.
+    pub fn statement_block(&self, always: VastAlwaysBase) -> VastStatementBlock {
+        VastStatementBlock(self.answered("StatementBlock", always.0))
+    }
+
+    /// The assignment `lhs = rhs`, as the block's last statement.
+    pub fn block_add_blocking_assignment(
+        &mut self,
+        block: VastStatementBlock,
+        lhs: &Expr,
+        rhs: &Expr,
+    ) -> VastStatement {
+        let block_step = self.own(block.0);
+        let lhs_step = self.own(lhs.0);
+        let rhs_step = self.own(rhs.0);
+        VastStatement(self.made("BlockAddBlockingAssignment", "", |line| {
+            line.step(block_step).step(lhs_step).step(rhs_step)
+        }))
+    }
+
+    /// The assignment `lhs <= rhs`, as the block's last statement.
+    pub fn block_add_nonblocking_assignment(
+        &mut self,
+        block: VastStatementBlock,
+        lhs: &Expr,
+        rhs: &Expr,
+    ) -> VastStatement {
+        let block_step = self.own(block.0);
+        let lhs_step = self.own(lhs.0);
+        let rhs_step = self.own(rhs.0);
+        VastStatement(self.made("BlockAddNonblockingAssignment", "", |line| {
+            line.step(block_step).step(lhs_step).step(rhs_step)
+        }))
+    }
+
+    /// The assignment `assign lhs = rhs`, as the block's last statement.
+    pub fn block_add_continuous_assignment(
+        &mut self,
+        block: VastStatementBlock,
+        lhs: &Expr,
+        rhs: &Expr,
+    ) -> VastStatement {
+        let block_step = self.own(block.0);
+        let lhs_step = self.own(lhs.0);
+        let rhs_step = self.own(rhs.0);
+        VastStatement(self.made("BlockAddContinuousAssignment", "", |line| {
+            line.step(block_step).step(lhs_step).step(rhs_step)
+        }))
+    }
+
+    /// A comment, as the block's last statement; each line of the text becomes a line of its own.
+    pub fn block_add_comment_text(
+        &mut self,
+        block: VastStatementBlock,
+        text: &str,
+    ) -> VastStatement {
+        let block_step = self.own(block.0);
+        self.made("BlockAddCommentText", "", |line| {
+            line.step(block_step).text(text)
+        });
+        VastStatement(block.0)
+    }
+
+    /// A text that is written as it is, as the block's last statement.
+    pub fn block_add_inline_text(
+        &mut self,
+        block: VastStatementBlock,
+        text: &str,
+    ) -> VastStatement {
+        let block_step = self.own(block.0);
+        self.made("BlockAddInlineText", "", |line| {
+            line.step(block_step).text(text)
+        });
+        VastStatement(block.0)
+    }
+
+    /// A blank line, as the block's last statement.
+    pub fn block_add_blank_line(&mut self, block: VastStatementBlock) -> VastStatement {
+        let block_step = self.own(block.0);
+        self.made("BlockAddBlankLine", "", |line| line.step(block_step));
+        VastStatement(block.0)
+    }
+
+    /// A conditional with an empty block, as the module's last member.
+    pub fn add_conditional(&mut self, owner: VastModule, condition: &Expr) -> Conditional {
+        let owner_step = self.own(owner.0);
+        let condition_step = self.own(condition.0);
+        Conditional(self.made("AddConditional", "", |line| {
+            line.step(owner_step).step(condition_step)
+        }))
+    }
+
+    /// A conditional with an empty block, as the block's last statement.
+    pub fn block_add_cond(&mut self, block: VastStatementBlock, condition: &Expr) -> Conditional {
+        let block_step = self.own(block.0);
+        let condition_step = self.own(condition.0);
+        Conditional(self.made("BlockAddCond", "", |line| {
+            line.step(block_step).step(condition_step)
+        }))
+    }
+
+    /// The block of the conditional's first arm.
+    pub fn conditional_then_block(&self, conditional: Conditional) -> VastStatementBlock {
+        VastStatementBlock(self.answered("ConditionalThenBlock", conditional.0))
+    }
+
+    /// An arm `else if` with an empty block, as the conditional's last; answers the block. The conditional
+    /// has no `else` yet; [`VastFile::conditional_has_else`] is the test.
+    ///
+    /// # Panics
+    /// With `cannot add an else-if arm after an unconditional else`, where that is not so.
+    pub fn conditional_add_else_if(
+        &mut self,
+        conditional: Conditional,
+        condition: &Expr,
+    ) -> VastStatementBlock {
+        let conditional_step = self.own(conditional.0);
+        let condition_step = self.own(condition.0);
+        VastStatementBlock(self.made(
+            "ConditionalAddElseIf",
+            "cannot add an else-if arm after an unconditional else",
+            |line| line.step(conditional_step).step(condition_step),
+        ))
+    }
+
+    /// The conditional's `else` with an empty block; answers the block. The conditional has none yet;
+    /// [`VastFile::conditional_has_else`] is the test.
+    ///
+    /// # Panics
+    /// With `cannot add another arm after an unconditional else`, where that is not so.
+    pub fn conditional_add_else(&mut self, conditional: Conditional) -> VastStatementBlock {
+        let conditional_step = self.own(conditional.0);
+        VastStatementBlock(self.made(
+            "ConditionalAddElse",
+            "cannot add another arm after an unconditional else",
+            |line| line.step(conditional_step),
+        ))
+    }
+
+    /// A `case` statement without arms, as the block's last statement.
+    pub fn block_add_case(&mut self, block: VastStatementBlock, selector: &Expr) -> CaseStatement {
+        let block_step = self.own(block.0);
+        let selector_step = self.own(selector.0);
+        CaseStatement(self.made("BlockAddCase", "", |line| {
+            line.step(block_step).step(selector_step)
+        }))
+    }
+
+    /// A `casez` statement without arms, as the block's last statement.
+    pub fn block_add_casez(&mut self, block: VastStatementBlock, selector: &Expr) -> CaseStatement {
+        let block_step = self.own(block.0);
+        let selector_step = self.own(selector.0);
+        CaseStatement(self.made("BlockAddCasez", "", |line| {
+            line.step(block_step).step(selector_step)
+        }))
+    }
+
+    /// A `casex` statement without arms, as the block's last statement.
+    pub fn block_add_casex(&mut self, block: VastStatementBlock, selector: &Expr) -> CaseStatement {
+        let block_step = self.own(block.0);
+        let selector_step = self.own(selector.0);
+        CaseStatement(self.made("BlockAddCasex", "", |line| {
+            line.step(block_step).step(selector_step)
+        }))
+    }
+
+    /// An arm with this label and an empty block, as the case statement's last; answers the block.
+    pub fn case_add_item(&mut self, case: CaseStatement, pattern: &Expr) -> VastStatementBlock {
+        let case_step = self.own(case.0);
+        let pattern_step = self.own(pattern.0);
+        VastStatementBlock(self.made("CaseAddItem", "", |line| {
+            line.step(case_step).step(pattern_step)
+        }))
+    }
+
+    /// A `default` arm with an empty block, as the case statement's last; answers the block. There may be
+    /// more than one.
+    pub fn case_add_default(&mut self, case: CaseStatement) -> VastStatementBlock {
+        let case_step = self.own(case.0);
+        VastStatementBlock(self.made("CaseAddDefault", "", |line| line.step(case_step)))
+    }
+
+    /// Makes the case statement `unique`, or not. It takes no memory.
+    ///
+    /// # Errors
+    /// Where the library refuses the call, in its words.
+    pub fn case_set_unique(&mut self, case: CaseStatement, unique: bool) -> Result<(), VastError> {
+        let case_step = self.own(case.0);
+        self.allowed("CaseSetUnique", |line| line.step(case_step).truth(unique))?;
+        Ok(())
+    }
+}

@@ -1,0 +1,122 @@
+//! A session of the library, which is given lines of a list of calls and answers texts.
+//!
+//! The functions of the library are those of `bindings/c/vast.h`, which says what each does, who owns the memory, and
+//! that a session may go from thread to thread while no two calls on it overlap.
+
+use crate::kinds::VastFileType;
+use std::ffi::c_void;
+use std::ptr;
+
+extern "C" {
+    fn vast_open(session: *mut *mut c_void, dialect: i32) -> i32;
+    fn vast_lines(
+        session: *mut *mut c_void,
+        lines: *const u8,
+        length: usize,
+        taken: *mut usize,
+    ) -> i32;
+    fn vast_print(session: *mut *mut c_void) -> i32;
+    fn vast_text(session: *mut *mut c_void, text: i32, out: *mut u8, capacity: usize) -> usize;
+    fn vast_close(session: *mut *mut c_void);
+}
+
+const OK: i32 = 0;
+const REFUSED: i32 = 1;
+const CONDITION: i32 = 2;
+const MEMORY: i32 = 4;
+
+const VERILOG: i32 = 0;
+const SYSTEM_VERILOG: i32 = 1;
+
+const ANSWER: i32 = 0;
+const MESSAGE: i32 = 1;
+const FILE: i32 = 2;
+
+/// Why a line or a printing gave nothing.
+#[derive(Debug)]
+pub(crate) enum Fault {
+    /// The library refuses it, in these words.
+    Refused(String),
+    /// A condition of the call is not met, in these words.
+    Condition(String),
+    /// Memory was refused.
+    Memory,
+    /// What this crate must never meet: a line that is not in the form.
+    Form(String),
+}
+
+/// One file of the library's, open until it is dropped.
+pub(crate) struct Session {
+    // The library's memory, which it alone reads and writes, by this pointer's address.
+    state: *mut c_void,
+}
+
+// SAFETY: a session may be used by any thread, one call at a time (`vast.h`, "Threads"), and each method that calls the
+// library takes `&mut self`.
+unsafe impl Send for Session {}
+
+impl Session {
+    /// An empty file of the dialect.
+    pub(crate) fn open(dialect: VastFileType) -> Result<Session, Fault> {
+        let dialect = match dialect {
+            VastFileType::Verilog => VERILOG,
+            VastFileType::SystemVerilog => SYSTEM_VERILOG,
+        };
+        let mut session = Session {
+            state: ptr::null_mut(),
+        };
+        // SAFETY: the pointer is null before its first use.
+        let status = unsafe { vast_open(&mut session.state, dialect) };
+        session.checked(status)?;
+        Ok(session)
+    }
+
+    /// Makes the calls of the lines up to the first at fault.
+    pub(crate) fn lines(&mut self, lines: &str) -> Result<(), Fault> {
+        let mut taken = 0;
+        // SAFETY: the lines are `length` bytes that live until the call returns, and `taken` can be written.
+        let status =
+            unsafe { vast_lines(&mut self.state, lines.as_ptr(), lines.len(), &mut taken) };
+        self.checked(status)
+    }
+
+    /// What the last line answered.
+    pub(crate) fn answer(&mut self) -> String {
+        self.text(ANSWER)
+    }
+
+    /// The file's text.
+    pub(crate) fn print(&mut self) -> Result<String, Fault> {
+        // SAFETY: the session is open.
+        let status = unsafe { vast_print(&mut self.state) };
+        self.checked(status)?;
+        Ok(self.text(FILE))
+    }
+
+    fn checked(&mut self, status: i32) -> Result<(), Fault> {
+        match status {
+            OK => Ok(()),
+            REFUSED => Err(Fault::Refused(self.text(MESSAGE))),
+            CONDITION => Err(Fault::Condition(self.text(MESSAGE))),
+            MEMORY => Err(Fault::Memory),
+            _ => Err(Fault::Form(self.text(MESSAGE))),
+        }
+    }
+
+    fn text(&mut self, which: i32) -> String {
+        // SAFETY: a capacity of 0 lets `out` be null.
+        let length = unsafe { vast_text(&mut self.state, which, ptr::null_mut(), 0) };
+        let mut bytes = vec![0; length];
+        // SAFETY: `out` has room for `length` bytes.
+        let copied = unsafe { vast_text(&mut self.state, which, bytes.as_mut_ptr(), length) };
+        bytes.truncate(copied);
+        String::from_utf8_lossy(&bytes).into_owned()
+    }
+}
+
+impl Drop for Session {
+    fn drop(&mut self) {
+        // SAFETY: it frees what `vast_open` took, once, since it makes the pointer null.
+        unsafe { vast_close(&mut self.state) }
+    }
+}

@@ -1,0 +1,376 @@
+"""The methods of the Rust binding: `src/methods/*.rs`, one for each call by group, and `tests/lists/calls.rs`, which makes a
+list's calls by them. The types of parameters, and the words of a method's comment, are those of the method in
+crates/xlsynth_vast, which has the signatures of the original."""
+import pathlib
+import re
+import shutil
+import subprocess
+
+ROOT = pathlib.Path(__file__).resolve().parent.parent.parent
+METHODS = "bindings/rust/src/methods"
+CALLS = "bindings/rust/tests/lists/calls.rs"
+
+# Where a condition isn't met, the panic begins so, as it does in the original.
+CONDITIONS = {
+    "add_wire": "module wires must have unique names",
+    "make_bit_vector_type": "bit-vector width must be greater than zero",
+    "make_bit_vector_type_expr": "bit-vector width must be greater than zero",
+    "make_slice": "bit and part-select indices must be nonnegative",
+    "make_index": "bit and part-select indices must be nonnegative",
+    "make_indexed_part_select": "indexed part-select width must be positive",
+    "make_function_call": "function call name must not be empty",
+    "conditional_add_else_if": "cannot add an else-if arm after an unconditional else",
+    "conditional_add_else": "cannot add another arm after an unconditional else",
+    "hoist_module_declarations": "the start lies behind the module's members",
+}
+
+# Conditions whose words depend on the arguments, by what looks at them.
+LOOKS = {
+    "make_packed_array_type": "|state| packed_condition(state, element_step, dimensions)",
+    "make_unpacked_array_type": "|_| unpacked_condition(dimensions)",
+    "make_type_cast": "|state| cast_condition(state, data_type_step)",
+}
+
+# Directions of ports, which are kept for the calls that answer handles of ports.
+PORTS = {
+    "add_input": "Input",
+    "add_output": "Output",
+    "add_inout": "InOut",
+    "add_logic_input": "Input",
+    "add_logic_output": "Output",
+}
+
+# What the width of a type is that the call makes.
+WIDTHS = {
+    "make_bit_vector_type": "Width::Bits(bit_count)",
+    "make_bit_vector_type_expr": "Width::Expression(width_step)",
+    "make_packed_array_type": "Width::Element(element_step)",
+    "make_unpacked_array_type": "Width::Element(element_step)",
+}
+
+# Calls that answer a handle of the block which they are given, as the original's do.
+BLOCK_ANSWERS = {"block_add_comment_text", "block_add_blank_line", "block_add_inline_text"}
+
+# Calls with lists that go by pairs, and what the original says of other lengths.
+PAIRS = {
+    "make_instantiation": [
+        ("parameter_names", "parameter_expressions",
+         "module-instantiation parameter names and values must have equal lengths"),
+        ("connection_names", "connection_expressions",
+         "module-instantiation port names and values must have equal lengths"),
+    ],
+}
+
+HEAD = '''//! %s.
+//!
+//! Written by tools/bindings_from_calls from the table of calls; not to be edited.
+
+%s
+impl VastFile {
+'''
+
+# The groups of calls, as `vast_script` has them.
+GROUPS = {
+    "operators": "Calls that make an expression of one or two operands",
+    "expressions": "Calls that make any other expression",
+    "types": "Calls that make a type",
+    "modules": "Calls of the file's items, and of modules with their ports, declarations and parameters",
+    "loops": "Calls of generate loops and their members",
+    "statements": "Calls of functions, always blocks, conditionals and statements",
+    "artifacts": "Calls of parts that are made beforehand, and that add them to modules",
+}
+
+
+class Method:
+    """A method of crates/xlsynth_vast: its comment's first paragraph, its parameters, its result."""
+
+    def __init__(self, words, parameters, result):
+        self.words = words
+        self.parameters = parameters
+        self.result = result
+
+    @property
+    def can_be_refused(self):
+        return self.result.endswith(", VastFault>")
+
+    @property
+    def answer(self):
+        found = re.fullmatch(r"Result<(.*), \w+>", self.result)
+        return found[1] if found else self.result
+
+
+def methods():
+    """Each public method of VastFile by its name."""
+    found = {}
+    head = r"((?:^    ///[^\n]*\n)+)(?:^    #\[[^\n]*\n)*^    pub fn (\w+)\((.*?)\)(?: -> ([^{]*?))?"
+    tail = r"\s*(?=^\s+(?:requires|ensures)|\{|^    \{)"
+    for path in sorted((ROOT / "crates/xlsynth_vast/src").rglob("*.rt")):
+        for match in re.finditer(head + tail, path.read_text(), re.M | re.S):
+            lines = [line.strip().removeprefix("///").strip() for line in match[1].strip().split("\n")]
+            words = " ".join(lines[: lines.index("") if "" in lines else None])
+            parameters = [part.strip() for part in re.split(r",(?=\s*\w+:|\s*$)", match[3]) if part.strip()]
+            split = [tuple(part.split(": ", 1)) for part in parameters if ": " in part]
+            found.setdefault(match[2], (Method(words, split, (match[4] or "()").strip()), parameters[0]))
+    return found
+
+
+def argument(name, kind, form):
+    """What is looked up before the line, and what writes it."""
+    if kind == "&IndexableExpr":
+        return f"let {name}_step = self.own_indexable({name});", f".step({name}_step)"
+    if form == "handle":
+        return f"let {name}_step = self.own({name}.0);", f".step({name}_step)"
+    if kind == "&str":
+        return None, f".text({name})"
+    if kind == "bool":
+        return None, f".truth({name})"
+    if kind in ("i64", "i32", "usize"):
+        return None, f".number({name})"
+    if kind in ("DataKind", "&LiteralFormat"):
+        return None, f".word({name}.word())"
+    if kind == "Option<&str>":
+        return None, f".option({name}, Line::text)"
+    if kind == "&[i64]":
+        return None, f".numbers({name})"
+    if kind == "&[&str]":
+        return None, f".texts({name})"
+    if kind == "&[&Expr]":
+        return f"let {name}_steps = self.own_all({name});", f".steps(&{name}_steps)"
+    if kind == "&[Option<&Expr>]":
+        return f"let {name}_steps = self.own_any({name});", f".optional_steps(&{name}_steps)"
+    raise SystemExit(f"no argument of a line is known for {name}: {kind}")
+
+
+def wrapped(words, margin):
+    """The words as a comment of lines that are not too long."""
+    lines, line = [], margin + "///"
+    for word in words.split():
+        if len(line) + 1 + len(word) > 110:
+            lines.append(line)
+            line = margin + "///"
+        line += " " + word
+    return "\n".join(lines + [line])
+
+
+def comment(name, method):
+    """The method's comment."""
+    # A handle that is another's is no matter of a comment: each call panics there.
+    words = method.words.replace(", which is the file's", "")
+    parts = [wrapped(words, "    ")]
+    if method.can_be_refused:
+        parts.append("    ///\n    /// # Errors\n" + wrapped("Where the library refuses the call, in its words.", "    "))
+    if name in CONDITIONS or name in LOOKS or name in PORTS or name in PAIRS:
+        said = CONDITIONS.get(name) or ("module ports must have unique names" if name in PORTS else None)
+        text = f"With `{said}`, where that is not so." if said else "Where a condition of the call isn't met, with its words."
+        parts.append("    ///\n    /// # Panics\n" + wrapped(text, "    "))
+    return "\n".join(parts)
+
+
+def signature(name, method, receiver, result):
+    """The method's first lines."""
+    parameters = ", ".join([receiver] + [f"{label}: {kind}" for label, kind in method.parameters])
+    arrow = "" if result == "()" else f" -> {result}"
+    line = f"    pub fn {name}({parameters}){arrow} {{"
+    if len(line) <= 100:
+        return line
+    inner = "".join(f"        {part},\n" for part in [receiver] + [f"{label}: {kind}" for label, kind in method.parameters])
+    return f"    pub fn {name}(\n{inner}    ){arrow} {{"
+
+
+def asked_once(call, method):
+    """The body of a call that answers the same handle each time."""
+    label = method.parameters[0][0]
+    step = f'self.answered("{call}", {label}.0)'
+    if method.answer == "IndexableExpr":
+        return (f"        let step = {step}.step;\n        let expression = {label}.0;\n"
+                "        IndexableExpr { expression, step }")
+    return f"        {method.answer}({step})"
+
+
+def body(call, name, method, forms):
+    """The method's body."""
+    if name in ("make_indexable_expression", "generate_genvar", "function_body", "function_result",
+                "statement_block", "conditional_then_block"):
+        return asked_once(call, method)
+    lines = []
+    for left, right, words in PAIRS.get(name, []):
+        lines += ["assert_eq!(", f"    {left}.len(),", f"    {right}.len(),", f'    "{words}"', ");"]
+    written = []
+    for (label, kind), form in zip(method.parameters, forms, strict=True):
+        looked, writes = argument(label, kind, form)
+        lines += [looked] if looked else []
+        written.append(writes)
+    condition = "module ports must have unique names" if name in PORTS else CONDITIONS.get(name, "")
+    write = written_by(written)
+    if method.can_be_refused:
+        made = f'self.allowed("{call}", {write})?'
+    elif name in LOOKS:
+        made = f'self.made_or("{call}", {write}, {LOOKS[name]})'
+    else:
+        made = f'self.made("{call}", "{condition}", {write})'
+    answers = method.answer != "()" and name not in BLOCK_ANSWERS
+    if name in PORTS or name in WIDTHS:
+        lines.append(f"let made = {made};")
+    elif not answers:
+        lines.append(f"{made};")
+    if name in PORTS:
+        lines.append(f"self.keep_port(owner_step, ModulePortDirection::{PORTS[name]}, name, data_type_step, made);")
+    if name in WIDTHS:
+        lines.append(f"self.keep_width(made, {WIDTHS[name]});")
+    if name in BLOCK_ANSWERS:
+        lines.append(f"VastStatement({method.parameters[0][0]}.0)")
+    elif answers:
+        value = f"{method.answer}({'made' if name in PORTS or name in WIDTHS else made})"
+        lines.append(f"Ok({value})" if method.can_be_refused else value)
+    elif method.can_be_refused:
+        lines.append("Ok(())")
+    return "\n".join("        " + line for line in lines if line)
+
+
+def written_by(written):
+    """The closure that writes the arguments."""
+    return "|line| line" + "".join(written) if written else "|line| line"
+
+
+def result_of(name, method):
+    """The result's type, as the original's."""
+    answer = "VastStatement" if name in BLOCK_ANSWERS else method.answer
+    return f"Result<{answer}, VastError>" if method.can_be_refused else answer
+
+
+def text(table, group):
+    """The file of a group's methods."""
+    found = methods()
+    parts = []
+    for entry in table.calls:
+        if entry.group != group:
+            continue
+        name = entry.method
+        method, receiver = found[name]
+        forms = [parameter.type.form for parameter in entry.parameters]
+        parts.append("\n".join([comment(name, method), signature(name, method, receiver, result_of(name, method)),
+                                body(entry.call, name, method, forms), "    }"]))
+    code = "\n\n".join(parts)
+    return rustfmt(HEAD % (GROUPS[group], uses(code)) + code + "\n}\n")
+
+
+# Where what the methods name stands.
+PLACES = {
+    "conditions": ["cast_condition", "packed_condition", "unpacked_condition"],
+    "error": ["VastError"],
+    "file": ["VastFile"],
+    "handles": ["BlankLine", "CaseStatement", "Comment", "Conditional", "ContinuousAssignment", "Def", "Expr",
+                "GenerateLoop", "Index", "IndexableExpr", "InlineVerilogStatement", "Instantiation", "LocalparamRef",
+                "LogicRef", "MacroRef", "MacroStatement", "ParameterRef", "Slice", "VastAlwaysBase", "VastDataType",
+                "VastFunction", "VastModule", "VastStatement", "VastStatementBlock"],
+    "kinds": ["DataKind", "LiteralFormat", "ModulePortDirection"],
+    "known": ["Width"],
+    "line": ["Line"],
+}
+
+
+def uses(code):
+    """The `use` lines of the code."""
+    plain = re.sub(r'"[^"\n]*"|///[^\n]*', "", code)
+    lines = []
+    for place, names in PLACES.items():
+        named = [name for name in names if name == "VastFile" or re.search(rf"\b{name}\b", plain)]
+        if named:
+            lines.append(f"use crate::{place}::{{{', '.join(named)}}};\n")
+    return "".join(lines)
+
+
+def rustfmt(code):
+    """The code as rustfmt lays it out."""
+    command = ["rustfmt", "--edition", "2021", "--emit", "stdout"]
+    return subprocess.run(command, input=code, text=True, capture_output=True, check=True).stdout
+
+
+CALLS_HEAD = '''//! One arm for each call of a list.
+//!
+//! Written by tools/bindings_from_calls from the table of calls; not to be edited.
+
+use crate::answers::{format_of, kind_of, Answer, Answers, Fault};
+use crate::form::{Argument, Line};
+use xlsynth_vast::{Expr, VastFile};
+
+/// Makes the call of the line.
+pub fn make(file: &mut VastFile, answers: &Answers, line: &Line) -> Result<Answer, Fault> {
+    let words = line.arguments.as_slice();
+    match line.call.as_str() {
+'''
+
+CALLS_TAIL = '''        other => panic!("no call: {other}"),
+    }
+}
+'''
+
+
+def test_argument(place, name, kind, form):
+    """What reads an argument of a line, and what stands for it in the call."""
+    word = f"&words[{place}]"
+    if form == "handle":
+        return f"let {name} = answers.handle({word})?;", f"&{name}" if kind.startswith("&") else name
+    if kind == "&str":
+        return f"let {name} = words[{place}].text();", name
+    if kind == "bool":
+        return f"let {name} = words[{place}].truth();", name
+    if kind in ("i64", "i32", "usize"):
+        return f"let {name} = words[{place}].number();", name
+    if kind == "DataKind":
+        return f"let {name} = kind_of({word});", name
+    if kind == "&LiteralFormat":
+        return f"let {name} = format_of({word});", f"&{name}"
+    if kind == "Option<&str>":
+        return f"let {name} = words[{place}].option().map(Argument::text);", name
+    if kind == "&[i64]":
+        return f"let {name}: Vec<i64> = words[{place}].list().iter().map(Argument::number).collect();", f"&{name}"
+    if kind == "&[&str]":
+        return f"let {name}: Vec<&str> = words[{place}].list().iter().map(Argument::text).collect();", f"&{name}"
+    if kind == "&[&Expr]":
+        return (f"let {name}: Vec<Expr> = answers.handles({word})?;\n"
+                f"let {name}: Vec<&Expr> = {name}.iter().collect();"), f"&{name}"
+    return (f"let {name}: Vec<Option<Expr>> = answers.options({word})?;\n"
+            f"let {name}: Vec<Option<&Expr>> = {name}.iter().map(Option::as_ref).collect();"), f"&{name}"
+
+
+def arm(entry, method):
+    """The arm of a call."""
+    name = entry.method
+    lines, values = [], []
+    for place, ((label, kind), parameter) in enumerate(zip(method.parameters, entry.parameters, strict=True)):
+        read, value = test_argument(place, label, kind, parameter.type.form)
+        lines += read.split("\n")
+        values.append(value)
+    call = f"file.{name}({', '.join(values)})" + ("?" if method.can_be_refused else "")
+    answer = method.answer
+    if answer == "()":
+        lines += [f"{call};", "Ok(Answer::Nothing)"]
+    else:
+        lines.append(f"Ok(Answer::{answer}({call}))")
+    inner = "\n".join("            " + line for line in lines)
+    return f'        "{entry.call}" => {{\n{inner}\n        }}\n'
+
+
+def test_text(table):
+    """The whole file of arms."""
+    found = methods()
+    steps = [entry for entry in table.calls if entry.group not in ("questions", "helpers")]
+    arms = "".join(arm(entry, found[entry.method][0]) for entry in steps)
+    return rustfmt(CALLS_HEAD + arms + CALLS_TAIL)
+
+
+class RustBinding:
+    """What is written for Rust."""
+
+    def __init__(self, table):
+        self.table = table
+
+    def files(self):
+        """The texts of all files by their paths; none where rustfmt, which lays them out, is not there."""
+        if shutil.which("rustfmt") is None:
+            print("bindings_from_calls: no rustfmt, Rust is left out")
+            return {}
+        files = {f"{METHODS}/{group}.rs": text(self.table, group) for group in GROUPS}
+        files[CALLS] = test_text(self.table)
+        return files
