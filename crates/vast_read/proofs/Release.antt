@@ -1,18 +1,31 @@
--- Rounds of a list whose last part is taken out.
-use Rattle.std.proofs.Common.{ℕ, ◌≡◌, ◌+◌, ◌<◌, ◌≤◌, List, [], ◌∷◌, ◌++◌, Option, Some, None, MatchOption, length, arith, ap, ◌∙◌, subst, sym}
+-- Rounds of a list whose last item is taken out.
+use Rattle.std.proofs.Common.{ℕ, ◌≡◌, ◌+◌, ◌<◌, ◌≤◌, List, [], ◌∷◌, ◌++◌, Option, Some, None, MatchOption, length, map, arith, ap, ◌∙◌, subst, sym}
+use Rattle.std.specs.Prelude.{⊤}
 use Rattle.vast_read.specs.declared.tree.expression.NormalExpr.{NormalExpr}
 use Rattle.vast_read.specs.declared.tree.expression.NormalExpr.TheVariants.{Concat, Replicated, rolls-Concat, rolls-Replicated}
 use Rattle.vast_read.specs.declared.tree.expression.NormalExpr.TheFolds.{fold-roll-NormalExpr}
 use Rattle.vast_read.specs.declared.tree.expression.NormalExpr.TheOpen.{NormalExpr-F}
-use Rattle.vast_read.specs.Release.{Rounds, rounds, rounds_level, rounds_beside, rounds_alone, list_beside, list_alone}
+use Rattle.vast_read.specs.Release.{Rounds, rounds_each, rounds_first_last, left_with, rounds, rounds_level, rounds_beside, rounds_alone, list_beside, list_alone}
 
-beside_last : (xs : List NormalExpr) (x : NormalExpr) → list_beside (xs ++ x ∷ []) ≡ list_beside xs + rounds_beside x + 1
-beside_last [] x = omega arith
-beside_last (y ∷ ys) x = let e = beside_last ys x in omega (arith, e)
+-- Of a list with one more at its end.
+pub each_last : {A : Type 0} (f : A → Rounds) (xs : List A) (x : A) → rounds_each (map f (xs ++ x ∷ [])) ≡ rounds_each (map f xs) + (f x).0 + 1
+each_last f [] x = omega arith
+each_last f (y ∷ ys) x = let e = each_last f ys x in omega (arith, e)
 
-alone_last : (xs : List NormalExpr) (x : NormalExpr) → 0 < length xs → list_alone (xs ++ x ∷ []) ≡ list_alone xs + rounds_beside x + 1
-alone_last [] x h = omega (arith, h)
-alone_last (y ∷ ys) x h = let e = beside_last ys x in omega (arith, e)
+pub first_last_last : {A : Type 0} (f : A → Rounds) (xs : List A) (x : A) → 0 < length xs → rounds_first_last (map f (xs ++ x ∷ [])) ≡ rounds_first_last (map f xs) + (f x).0 + 1
+first_last_last f [] x h = omega (arith, h)
+first_last_last f (y ∷ ys) x h = let e = each_last f ys x in omega (arith, e)
+
+item_left : {A : Type 0} (f : A → Rounds) (all : List A) (last : A) (o : Option (List A)) → MatchOption o (all ≡ last ∷ []) (λ before. (0 < length before) × (all ≡ before ++ last ∷ [])) → left_with f last o < rounds_first_last (map f all)
+item_left f all last None d = rw d (omega arith)
+item_left f all last (Some before) d =
+    let e = first_last_last f before last d.0 in
+    subst (λ y. left_with f last (Some before) < rounds_first_last (map f y)) (sym d.1) (omega (arith, e))
+
+-- What is left once the last item is taken out.
+pub item_taken : {A : Type 0} (f : A → Rounds) (all : List A) (r : Option (A × Option (List A))) → MatchOption r (all ≡ []) (λ p. MatchOption p.1 (all ≡ p.0 ∷ []) (λ before. (0 < length before) × (all ≡ before ++ p.0 ∷ []))) → MatchOption r ⊤ (λ p. left_with f p.0 p.1 < rounds_first_last (map f all))
+item_taken f all None d = tt
+item_taken f all (Some p) d = item_left f all p.0 p.1 d
 
 -- What is answered of a list whose last part is taken out.
 abbrev pub Split : List NormalExpr → NormalExpr → Option (List NormalExpr) → Type 0
@@ -27,13 +40,13 @@ rounds_replicated x xs = ap (λ p. p.1) (ap rounds (sym (rolls-Replicated x xs))
 pub list_left : (all before : List NormalExpr) (o : Option (List NormalExpr)) (last : NormalExpr) → o ≡ Some before → Split all last o → rounds_beside last + rounds_alone (Concat before) ≤ list_alone all
 list_left all before o last h d =
     let s : Split all last (Some before) = subst (Split all last) h d in
-    let e = alone_last before last s.0 in
+    let e = first_last_last rounds before last s.0 in
     let k = rounds_concat before in
     subst (λ y. rounds_beside last + rounds_alone (Concat before) ≤ list_alone y) (sym s.1) (omega (arith, e, k))
 
 pub counted_left : (x : _) (all before : List NormalExpr) (o : Option (List NormalExpr)) (last : NormalExpr) → o ≡ Some before → Split all last o → rounds_beside last + rounds_alone (Replicated x before) < rounds_alone x.value + list_beside all + 2
 counted_left x all before o last h d =
     let s : Split all last (Some before) = subst (Split all last) h d in
-    let e = beside_last before last in
+    let e = each_last rounds before last in
     let k = rounds_replicated x before in
     subst (λ y. rounds_beside last + rounds_alone (Replicated x before) < rounds_alone x.value + list_beside y + 2) (sym s.1) (omega (arith, e, k))

@@ -1,6 +1,6 @@
 -- Rounds of blocks and arms, the last of which is taken out.
 use Rattle.std.proofs.Common.{ℕ, ◌≡◌, ◌+◌, ◌<◌, ◌≤◌, List, [], ◌∷◌, ◌++◌, Option, Some, None, MatchOption, length, map, arith, ap, ◌∙◌, subst, sym, Bool}
-use Rattle.std.specs.Prelude.{⊤, option_map}
+use Rattle.std.specs.Prelude.{option_map}
 use Rattle.vast_read.specs.declared.tree.statement.NormalStatement.{NormalStatement}
 use Rattle.vast_read.specs.declared.tree.statement.NormalStatement.TheVariants.{Choice, Case, rolls-Choice, rolls-Case}
 use Rattle.vast_read.specs.declared.tree.statement.NormalStatement.TheFolds.{fold-roll-NormalStatement}
@@ -8,26 +8,8 @@ use Rattle.vast_read.specs.declared.tree.statement.NormalStatement.TheOpen.{Norm
 use Rattle.vast_read.specs.declared.tree.statement.Arm.{Arm}
 use Rattle.vast_read.specs.declared.tree.statement.CaseArm.{CaseArm}
 use Rattle.vast_read.specs.Release.{Rounds, rounds_each, rounds_first_last, of_list}
+use Rattle.vast_read.proofs.Release.{each_last, first_last_last}
 use Rattle.vast_read.specs.StatementRelease.{of_block, of_last, of_choice, statement_step, arm_step, label_step, statement_rounds, arm_rounds, label_rounds, statement_beside, statement_alone, statement_left, block_beside, block_alone, choice_alone}
-
--- Of a list with one more at its end.
-each_last : {A : Type 0} (f : A → Rounds) (xs : List A) (x : A) → rounds_each (map f (xs ++ x ∷ [])) ≡ rounds_each (map f xs) + (f x).0 + 1
-each_last f [] x = omega arith
-each_last f (y ∷ ys) x = let e = each_last f ys x in omega (arith, e)
-
-first_last_last : {A : Type 0} (f : A → Rounds) (xs : List A) (x : A) → 0 < length xs → rounds_first_last (map f (xs ++ x ∷ [])) ≡ rounds_first_last (map f xs) + (f x).0 + 1
-first_last_last f [] x h = omega (arith, h)
-first_last_last f (y ∷ ys) x h = let e = each_last f ys x in omega (arith, e)
-
-block_left : (all : List NormalStatement) (last : NormalStatement) (o : Option (List NormalStatement)) → MatchOption o (all ≡ last ∷ []) (λ before. (0 < length before) × (all ≡ before ++ last ∷ [])) → statement_left last o < block_alone all
-block_left all last None d = rw d (omega arith)
-block_left all last (Some before) d =
-    let e = first_last_last statement_rounds before last d.0 in
-    subst (λ y. statement_left last (Some before) < block_alone y) (sym d.1) (omega (arith, e))
-
-pub block_taken : (all : List NormalStatement) (r : Option (NormalStatement × Option (List NormalStatement))) → MatchOption r (all ≡ []) (λ p. MatchOption p.1 (all ≡ p.0 ∷ []) (λ before. (0 < length before) × (all ≡ before ++ p.0 ∷ []))) → MatchOption r ⊤ (λ p. statement_left p.0 p.1 < block_alone all)
-block_taken all None d = tt
-block_taken all (Some p) d = block_left all p.0 p.1 d
 
 choice_rounds : (arms : List Arm) (last : Option (List NormalStatement)) → statement_rounds (Choice arms last) ≡ of_choice (map arm_rounds arms) (of_last (option_map (map statement_rounds) last))
 choice_rounds arms None = ap statement_rounds (sym (rolls-Choice arms None)) ∙ fold-roll-NormalStatement Rounds Rounds Rounds statement_step arm_step label_step (NormalStatement-F.Choice arms None)

@@ -42,6 +42,11 @@ abbrev pub of_arguments : Option (List Rounds) → Rounds
 of_arguments None = of_nothing
 of_arguments (Some xs) = of_list xs
 
+-- Of an item, and of a list of items where one waits: its last item is taken first.
+abbrev pub left_with : {A : Type 0} → (A → Rounds) → A → Option (List A) → ℕ
+left_with f x None = (f x).1
+left_with f x (Some xs) = (f x).0 + rounds_first_last (map f xs)
+
 -- One level, with the rounds of each child.
 abbrev pub rounds_level : NormalExpr-F Rounds → Rounds
 rounds_level (NormalExpr-F.Name w) = of_nothing

@@ -1,6 +1,6 @@
 -- How many rounds of a loop it takes at most to let a statement go.
 use Rattle.std.specs.Prelude.{ℕ, ◌+◌, List, Option, Some, None, map, option_map}
-use Rattle.vast_read.specs.Release.{Rounds, rounds_each, rounds_first_last, of_nothing, of_list}
+use Rattle.vast_read.specs.Release.{Rounds, rounds_each, rounds_first_last, of_nothing, of_list, left_with}
 use Rattle.vast_read.specs.declared.tree.statement.NormalStatement.{NormalStatement, fold-NormalStatement}
 use Rattle.vast_read.specs.declared.tree.statement.NormalStatement.TheOpen.{NormalStatement-F, Arm-F, CaseArm-F}
 use Rattle.vast_read.specs.declared.tree.statement.Arm.{Arm, fold-Arm}
@@ -55,8 +55,7 @@ block_alone ss = rounds_first_last (map statement_rounds ss)
 
 -- Of a statement, and of a block where one waits.
 abbrev pub statement_left : NormalStatement → Option (List NormalStatement) → ℕ
-statement_left s None = statement_alone s
-statement_left s (Some ss) = statement_beside s + block_alone ss
+statement_left = left_with statement_rounds
 
 -- Of a conditional of these arms and this last block.
 abbrev pub choice_alone : List Arm → Option (List NormalStatement) → ℕ
