@@ -39,6 +39,9 @@ pub struct Connection {
 }
 
 /// A member of a module or of a generate loop (IEEE Std 1800-2017, clauses 23.2 and 27).
+///
+/// To let one go takes no memory, and no stack that grows with its depth. `==` calls itself for each part in turn until two
+/// differ, so it takes stack for each level that the two have in common.
 #[derive(PartialEq)]
 pub enum NormalMember {
     /// A declaration of a net or a variable.
