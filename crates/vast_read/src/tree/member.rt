@@ -1,9 +1,10 @@
 //! Members of modules and of generate loops.
 
-ghost use Rattle.std.specs.Prelude.{◌≡◌, IfOk, IfErr, [], Some, None, option_map};
+ghost use Rattle.std.specs.Prelude.{◌≡◌, ◌<◌, ◌≤◌, ◌+◌, ⊤, IfOk, IfErr, MatchOption, [], Some, None, option_map};
 ghost use Rattle.vast_literal.specs.NormalFile.{EdgeEvent, NameEvent, DeclarationPart, AssignPart, ParameterPart, MacroPart, InstancePart, AlwaysPart, ConditionalPart, FunctionPart, LoopPart};
 ghost use Rattle.vast_read.specs.declared.fault.Fault.TheVariants.{Memory};
 ghost use Rattle.vast_read.specs.DeclarationView.{declaration_view, declarations_view};
+ghost use Rattle.vast_read.specs.MemberRelease.{member_left, member_alone, members_beside, members_alone, waiting_alone};
 ghost use Rattle.vast_read.specs.MemberView.{event_view, events_view, connection_view, connections_view, given, member_view, members_view};
 ghost use Rattle.vast_read.specs.StatementParts.{arms_in};
 ghost use Rattle.vast_read.specs.StatementView.{statement_view, block_view};
@@ -38,7 +39,10 @@ pub struct Connection {
 }
 
 /// A member of a module or of a generate loop (IEEE Std 1800-2017, clauses 23.2 and 27).
-#[derive(PartialEq, Drop)]
+///
+/// To let one go takes no memory, and no stack that grows with its depth. `==` calls itself for each part in turn until two
+/// differ, so it takes stack for each level that the two have in common.
+#[derive(PartialEq)]
 pub enum NormalMember {
     /// A declaration of a net or a variable.
     Declaration(Box<NormalDeclaration>),
@@ -118,7 +122,98 @@ impl Connection {
     }
 }
 
+impl Drop for NormalMember {
+    /// Goes down the loops in a loop, however deep they are: it takes no memory, and no stack that grows with the depth.
+    fn drop(mut self) {
+        let mut waiting = None;
+        loop {
+            match self.shed(waiting) {
+                None => return,
+                Some((next, rest)) => {
+                    self = next;
+                    waiting = rest;
+                }
+            }
+        }
+    }
+}
+
+/// The last of these members, and those before it where there are any.
+fn taken(members: Children<NormalMember>) -> Option<(NormalMember, Option<Children<NormalMember>>)>
+    ensures { MatchOption result ⊤ (λ r. member_left r.0 r.1 < members_alone members) }
+{
+    members.split_last()
+}
+
+/// The same of members where there are any.
+fn next_of(
+    waiting: Option<Children<NormalMember>>,
+) -> Option<(NormalMember, Option<Children<NormalMember>>)>
+    ensures { MatchOption result ⊤ (λ r. member_left r.0 r.1 < waiting_alone waiting) }
+{
+    match waiting {
+        None => None,
+        Some(members) => taken(members),
+    }
+}
+
+/// The first of these members, and the list with the rest in its place; where there are none, the rest.
+fn ahead(
+    members: Children<NormalMember>,
+    rest: NormalMember,
+) -> (NormalMember, Option<Children<NormalMember>>)
+    ensures { member_left result.0 result.1 ≤ members_beside members + member_alone rest }
+{
+    match members.exchange_first(rest) {
+        Err(rest) => (rest, None),
+        Ok((first, members)) => (first, Some(members)),
+    }
+}
+
 impl NormalMember {
+    /// What is left of it, and of members that wait, without its outermost level: a member to go on with, and members that
+    /// wait.
+    fn shed(
+        self,
+        waiting: Option<Children<NormalMember>>,
+    ) -> Option<(NormalMember, Option<Children<NormalMember>>)>
+        ensures { MatchOption result ⊤ (λ r. member_left r.0 r.1 < member_left self waiting) }
+    {
+        match self {
+            NormalMember::Declaration(_declared) => next_of(waiting),
+            NormalMember::Assign(_left, _right) => next_of(waiting),
+            NormalMember::Parameter(_, _declared, _value) => next_of(waiting),
+            NormalMember::Conditional(_choice) => next_of(waiting),
+            NormalMember::Macro(_, arguments, _) => {
+                drop(arguments);
+                next_of(waiting)
+            }
+            NormalMember::Instance(_, parameters, _, connections) => {
+                drop(parameters);
+                drop(connections);
+                next_of(waiting)
+            }
+            NormalMember::Always(_, events, body) => {
+                drop(events);
+                drop(body);
+                next_of(waiting)
+            }
+            NormalMember::Function(_output, inputs, locals, body) => {
+                drop(inputs);
+                drop(locals);
+                drop(body);
+                next_of(waiting)
+            }
+            NormalMember::Loop(variable, start, end, label, members) => match waiting {
+                None => taken(members),
+                Some(waiting) => {
+                    let rest = NormalMember::Loop(variable, start, end, label, waiting);
+                    Some(ahead(members, rest))
+                }
+            },
+        }
+    }
+
     /// A declaration.
     pub(crate) fn declaration(
         alloc: Global,

@@ -1,9 +1,10 @@
 //! Statements of procedural blocks.
 
-ghost use Rattle.std.specs.Prelude.{◌≡◌, IfOk, IfErr, option_map};
+ghost use Rattle.std.specs.Prelude.{◌≡◌, ◌<◌, ◌≤◌, ◌+◌, ⊤, IfOk, IfErr, MatchOption, map, option_map};
 ghost use Rattle.vast_literal.specs.NormalFile.{AssignStatement, ChoiceStatement, CaseStatement};
 ghost use Rattle.vast_literal.specs.FileGrammar.{assignment};
 ghost use Rattle.vast_read.specs.declared.fault.Fault.TheVariants.{Memory};
+ghost use Rattle.vast_read.specs.StatementRelease.{of_block, statement_rounds, arm_rounds, label_rounds, statement_left, statement_alone, statement_beside, block_alone, block_beside, choice_alone};
 ghost use Rattle.vast_read.specs.StatementView.{statement_view, arm_view, label_view, block_view, arms_view, labels_view};
 ghost use Rattle.vast_read.specs.TokenView.{key_view};
 ghost use Rattle.vast_read.specs.View.{view};
@@ -16,8 +17,11 @@ use crate::word::Word;
 use std::alloc::Global;
 
 /// A procedural statement (IEEE Std 1800-2017, clauses 10.4 and 12).
+///
+/// To let one go takes no memory, and no stack that grows with its depth. `==` calls itself for each part in turn until two
+/// differ, so it takes stack for each level that the two have in common.
 #[cycle(statements)]
-#[derive(PartialEq, Drop)]
+#[derive(PartialEq)]
 pub enum NormalStatement {
     /// A blocking assignment, `left = right;`.
     Blocking(Box<NormalExpr>, Box<NormalExpr>),
@@ -51,7 +55,81 @@ pub struct CaseArm {
     pub block: Children<NormalStatement>,
 }
 
+impl Drop for NormalStatement {
+    /// Goes down the blocks in a loop, however deep they are: it takes no memory, and no stack that grows with the depth.
+    fn drop(mut self) {
+        let mut waiting = None;
+        loop {
+            let left = match waiting {
+                None => self.shed(),
+                Some(block) => self.turn(block),
+            };
+            match left {
+                None => return,
+                Some((next, rest)) => {
+                    self = next;
+                    waiting = rest;
+                }
+            }
+        }
+    }
+}
+
 impl NormalStatement {
+    /// What is left of it without its outermost level: a statement to go on with, and a block that waits; none, where it
+    /// has no blocks.
+    fn shed(self) -> Option<(NormalStatement, Option<Children<NormalStatement>>)>
+        ensures { MatchOption result ⊤ (λ r. statement_left r.0 r.1 < statement_alone self) }
+    {
+        match self {
+            NormalStatement::Blocking(_left, _right) => None,
+            NormalStatement::Nonblocking(_left, _right) => None,
+            NormalStatement::Assign(_left, _right) => None,
+            NormalStatement::Choice(arms, last) => shed_arms(arms, last),
+            NormalStatement::Case(is_unique, word, selector, arms) => match arms.split_last() {
+                None => None,
+                Some((arm, before)) => match before {
+                    None => taken(arm.into_block()),
+                    Some(before) => {
+                        let rest = NormalStatement::Case(is_unique, word, selector, before);
+                        Some(ahead(arm.into_block(), rest))
+                    }
+                },
+            },
+        }
+    }
+
+    /// The same while a block waits: that goes into the place of one of its own, behind the others.
+    fn turn(
+        self,
+        block: Children<NormalStatement>,
+    ) -> Option<(NormalStatement, Option<Children<NormalStatement>>)>
+        ensures { MatchOption result ⊤ (λ r. statement_left r.0 r.1
+            < statement_beside self + block_alone block) }
+    {
+        match self {
+            NormalStatement::Blocking(_left, _right) => taken(block),
+            NormalStatement::Nonblocking(_left, _right) => taken(block),
+            NormalStatement::Assign(_left, _right) => taken(block),
+            NormalStatement::Choice(arms, last) => {
+                let rest = NormalStatement::Choice(arms, Some(block));
+                match last {
+                    None => Some((rest, None)),
+                    Some(last) => Some(ahead(last, rest)),
+                }
+            }
+            NormalStatement::Case(is_unique, word, selector, arms) => {
+                match arms.exchange_first(CaseArm { label: None, block }) {
+                    Err(arm) => taken(arm.into_block()),
+                    Ok((arm, arms)) => {
+                        let rest = NormalStatement::Case(is_unique, word, selector, arms);
+                        Some(ahead(arm.into_block(), rest))
+                    }
+                }
+            }
+        }
+    }
+
     /// A blocking or a nonblocking assignment.
     #[tactic(auto, unfolding(vast_literal::specs::FileGrammar::assignment))]
     pub(crate) fn assignment(
@@ -116,7 +194,59 @@ impl NormalStatement {
     }
 }
 
+/// The last statement of a block, and those before it where there are any.
+fn taken(
+    block: Children<NormalStatement>,
+) -> Option<(NormalStatement, Option<Children<NormalStatement>>)>
+    ensures { MatchOption result ⊤ (λ r. statement_left r.0 r.1 < block_alone block) }
+{
+    block.split_last()
+}
+
+/// The first statement of a block, and the block with the rest in its place; where the block is empty, the rest.
+fn ahead(
+    block: Children<NormalStatement>,
+    rest: NormalStatement,
+) -> (NormalStatement, Option<Children<NormalStatement>>)
+    ensures { statement_left result.0 result.1 ≤ block_beside block + statement_alone rest }
+{
+    match block.exchange_first(rest) {
+        Err(rest) => (rest, None),
+        Ok((first, block)) => (first, Some(block)),
+    }
+}
+
+/// What is left of a conditional of these arms without the last of them, or without its last block where it has no arm.
+fn shed_arms(
+    arms: Children<Arm>,
+    last: Option<Children<NormalStatement>>,
+) -> Option<(NormalStatement, Option<Children<NormalStatement>>)>
+    ensures { MatchOption result ⊤ (λ r. statement_left r.0 r.1 < choice_alone arms last) }
+{
+    match arms.pop_last() {
+        None => match last {
+            None => None,
+            Some(block) => taken(block),
+        },
+        Some((arm, arms)) => {
+            let rest = NormalStatement::Choice(arms, last);
+            Some(ahead(arm.into_block(), rest))
+        }
+    }
+}
+
 impl Arm {
+    /// What is done there.
+    fn into_block(self) -> Children<NormalStatement>
+        ensures { arm_rounds self ≡ of_block (map statement_rounds result) }
+    {
+        let Arm {
+            condition: _,
+            block,
+        } = self;
+        block
+    }
+
     /// An arm.
     pub(crate) fn new(
         alloc: Global,
@@ -132,6 +262,14 @@ impl Arm {
 }
 
 impl CaseArm {
+    /// What is done there.
+    fn into_block(self) -> Children<NormalStatement>
+        ensures { label_rounds self ≡ of_block (map statement_rounds result) }
+    {
+        let CaseArm { label: _, block } = self;
+        block
+    }
+
     /// An arm, of a label or the default.
     pub(crate) fn new(
         alloc: Global,
