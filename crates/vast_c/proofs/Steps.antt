@@ -1,0 +1,33 @@
+-- One line more is made.
+use Rattle.std.proofs.Common.{◌≡◌, ◌==◌, true, ℕ, suc, ◌+◌, ◌<◌, List, [], ◌∷◌, ◌++◌, length, take, drop, get_or, refl, ap, sym, ◌∙◌, subst, arith}
+use Rattle.std.proofs.lemmas.Bool.{eqb-true}
+use Rattle.std.proofs.lemmas.List.{length-drop, nil_from_length}
+use Rattle.std.proofs.Math.Seq.{drop-cons, take-suc}
+use Rattle.vast_c.specs.Lines.{lines_of}
+use Rattle.vast_c.specs.Session.{Seen}
+use Rattle.vast_c.specs.Seen.{LineMade, LinesMade}
+
+pub made_more : (a : Seen) (lines : List (List ℕ)) (b : Seen) (line : List ℕ) (c : Seen) → LinesMade a lines b → LineMade b line c → LinesMade a (lines ++ line ∷ []) c
+made_more a [] b line c same last = (c, subst (λ (s : Seen). LineMade s line c) same last, refl)
+made_more a (first ∷ lines) b line c made last = (made.0, made.1, made_more made.0 lines b line c made.2 last)
+
+-- the item behind the first n
+pub record Next {X : Type 0} (all : List X) (n : ℕ) (x : X) (xs : List X) : Type 0 where
+  pub taken : take (n + 1) all ≡ take n all ++ x ∷ []
+  pub dropped : drop (n + 1) all ≡ xs
+  pub within : n < length all
+
+from_suc : {X : Type 0} → (all : List X) (n : ℕ) (x : X) (xs : List X) → take (suc n) all ≡ take n all ++ x ∷ [] → drop (suc n) all ≡ xs → n < length all → Next all n x xs
+from_suc all n x xs taken dropped within =
+    let one : suc n ≡ n + 1 = omega arith in
+    record { taken = subst (λ m. take m all ≡ take n all ++ x ∷ []) one taken; dropped = subst (λ m. drop m all ≡ xs) one dropped; within = within }
+
+pub next : {X : Type 0} → (all : List X) (n : ℕ) (x : X) (xs : List X) → drop n all ≡ x ∷ xs → Next all n x xs
+next all n x xs is =
+    let within : n < length all = omega (arith, length-drop n all, ap length is) in
+    let same : x ∷ xs ≡ get_or all n x ∷ drop (suc n) all = sym is ∙ drop-cons all n x within in
+    from_suc all n x xs (take-suc all n x within ∙ ap (λ y. take n all ++ y ∷ []) (sym (ap (λ l. get_or l 0 x) same))) (sym (ap (drop 1) same)) within
+
+-- where there is no byte there is no line
+pub no_lines : (bytes : List ℕ) → true ≡ (length bytes == 0) → lines_of bytes ≡ []
+no_lines bytes none = ap lines_of (nil_from_length bytes (eqb-true (length bytes) 0 (sym none)))

@@ -1,0 +1,156 @@
+//! What C keeps by its pointer: a session, and what was told of it last.
+
+ghost use Rattle.std.specs.Prelude.{◌≡◌, ◌<◌, IfOk, IfSome, OnErr, OnSome, IsSome, None, length, take, string_bytes};
+ghost use Rattle.vast_c.specs.Lines.{lines_of};
+ghost use Rattle.vast_c.specs.Seen.{LineMade, LinesMade};
+ghost use Rattle.vast_c.specs.Session.{fresh};
+ghost use Rattle.vast_c.specs.Session.{text as text_of};
+
+use crate::lines::first_line;
+use crate::session::{Fault, Given, LineFault, Session, StepFault};
+use std::alloc::{AllocError, Global};
+
+/// Why a line was not made, or a text not printed.
+#[derive(Drop, Clone, Copy)]
+pub(crate) enum Cause {
+    /// The library refuses what the call asks.
+    Refused,
+    /// A condition of the call is not met.
+    Condition,
+    /// The line is not in the form.
+    Form,
+    /// Memory was refused.
+    Memory,
+}
+
+/// A fault, and its message.
+#[derive(Drop)]
+pub(crate) struct Told {
+    pub(crate) message: String,
+    pub(crate) fault: LineFault,
+}
+
+/// A session, and what was told of it last.
+#[derive(Drop)]
+pub(crate) struct Kept {
+    pub(crate) session: Session,
+    /// The lines so far.
+    pub(crate) lines: usize,
+    /// What the last line answered.
+    pub(crate) answer: String,
+    /// The last fault, where the last call had one.
+    pub(crate) told: Option<Told>,
+    /// The file as it was printed last.
+    pub(crate) file: String,
+}
+
+/// What was made of some lines.
+#[derive(Drop)]
+pub(crate) struct MadeLines {
+    /// How many were made.
+    pub(crate) taken: usize,
+    /// Why the next one was not, if there is one.
+    pub(crate) cause: Option<Cause>,
+}
+
+impl Kept {
+    /// A session with no line.
+    pub(crate) fn new(alloc: Global) -> Kept
+        ensures { result.session ≡ fresh }
+    {
+        Kept {
+            session: Session::new(alloc),
+            lines: 0,
+            answer: String::new(alloc),
+            told: None,
+            file: String::new(alloc),
+        }
+    }
+
+    /// Makes the calls of the lines, up to the first at fault.
+    pub(crate) fn make_lines(&mut self, lines: &[u8]) -> MadeLines
+        ensures made { LinesMade self.old.session (take result.taken (lines_of lines.now)) self.new.session }
+        ensures all { result.cause ≡ None → result.taken ≡ length (lines_of lines.now) }
+        ensures fault { IsSome result.cause → result.taken < length (lines_of lines.now) }
+    {
+        self.answer.clear();
+        self.told = None;
+        let mut rest = lines;
+        let mut taken = 0;
+        while !rest.is_empty() {
+            let (line, behind) = first_line(rest);
+            if let Err(cause) = self.make_line(line) {
+                return MadeLines {
+                    taken,
+                    cause: Some(cause),
+                };
+            }
+            taken += 1;
+            rest = behind;
+        }
+        MadeLines { taken, cause: None }
+    }
+
+    /// Prints the file.
+    ///
+    /// # Errors
+    /// A refusal of the text, and want of memory; the text of before stays.
+    pub(crate) fn print(&mut self) -> Result<(), Cause>
+        ensures printed { IfOk result (λ _. string_bytes self.new.file ≡ text_of self.old.session) }
+        ensures session { self.new.session ≡ self.old.session }
+        ensures unchanged { OnErr result (self.new.file ≡ self.old.file) }
+    {
+        self.told = None;
+        match self.session.text() {
+            Ok(text) => {
+                self.file = text;
+                Ok(())
+            }
+            Err(fault) => Err(self.tell(fault)),
+        }
+    }
+
+    /// Makes the call of one line.
+    fn make_line(&mut self, line: &[u8]) -> Result<(), Cause>
+        ensures made { IfOk result (λ _. LineMade self.old.session line.now self.new.session) }
+        ensures unchanged { OnErr result (self.new.session ≡ self.old.session) }
+    {
+        let number = self.lines.saturating_add(1);
+        match self.session.line(number, line) {
+            Ok(given) => {
+                self.lines = number;
+                match given {
+                    Given::Answer { text, .. } => self.answer = text,
+                    _ => self.answer.clear(),
+                }
+                Ok(())
+            }
+            Err(fault) => Err(self.tell(fault)),
+        }
+    }
+
+    /// Keeps the fault, and answers its cause.
+    fn tell(&mut self, fault: Fault) -> Cause
+        ensures session { self.new.session ≡ self.old.session }
+        ensures file { self.new.file ≡ self.old.file }
+    {
+        let Fault::Line(fault) = fault else {
+            return Cause::Memory;
+        };
+        let Ok(message) = format!(in *self.answer.allocator(); "{fault}") else {
+            return Cause::Memory;
+        };
+        let cause = cause_of(&fault);
+        self.told = Some(Told { message, fault });
+        cause
+    }
+}
+
+fn cause_of(fault: &LineFault) -> Cause {
+    match &fault.cause {
+        None => Cause::Form,
+        Some(StepFault::Refused) => Cause::Refused,
+        Some(StepFault::Memory) => Cause::Memory,
+        Some(_) => Cause::Condition,
+    }
+}
