@@ -9,7 +9,7 @@ mod tests;
 use crate::input::split_lists;
 use std::alloc::Global;
 use std::io::{ErrorKind, Read, Write};
-use vast_list::{BadLine, ListFault, ListLines, Tries, list_output, tried};
+use vast_list::{ListLines, ListOutput, Tries, Verdict, list_output, tried};
 
 /// Reads lists of calls to the end of `input`, makes their calls and prints what they give, and answers the status.
 ///
@@ -83,20 +83,31 @@ fn answer_list<W: Write, E: Write>(
     ensures status { result ≤ 2 }
     ensures silent { result ≡ 0 → E.contents err.new ≡ E.contents err.old }
 {
-    match list_output(alloc, tries, list) {
-        Ok(output) => match out.write_all(&output) {
-            Ok(()) => 0,
-            Err(_) => fail("write fault", err),
-        },
-        Err(ListFault::Refused(refusal)) => {
-            let _ = err.write_all(refusal.as_bytes());
-            1
+    let Ok(made) = list_output(alloc, tries, list) else {
+        return fail("out of memory", err);
+    };
+    if let Some(output) = &made.output {
+        if out.write_all(output).is_err() {
+            return fail("write fault", err);
         }
-        Err(ListFault::Memory) => fail("out of memory", err),
-        Err(ListFault::Line(BadLine { number, problem })) => {
-            let _ = writeln!(err, "line {number}: {problem}");
-            2
-        }
+    }
+    tell(&made, err);
+    match made.verdict {
+        Verdict::Made => 0,
+        Verdict::NotInForm => 2,
+        Verdict::Refused if list.title.is_some() => 3,
+        Verdict::Refused => 1,
+    }
+}
+
+/// Tells the faults of a list, each with its line.
+fn tell<E: Write>(made: &ListOutput, err: &mut E) {
+    for fault in &made.faults {
+        let _ = writeln!(err, "<stdin>:{fault}");
+    }
+    let more = made.more;
+    if more > 0 {
+        let _ = writeln!(err, "<stdin>: {more} faults more");
     }
 }
 

@@ -4,12 +4,10 @@ ghost use Rattle.std.specs.Prelude.{All};
 ghost use Rattle.vast_core.specs.Bench.{OwnsPort};
 
 use crate::arguments::Arguments;
-use crate::handles::{handle, logic_ref};
-use crate::problem::Problem;
-use crate::refusal::Refusal;
+use crate::problem::Misfit;
 use std::fmt::Write;
-use vast_script::Answer;
-use xlsynth_vast::{ModulePort, ModulePortDirection, VastFile, VastModule};
+use vast_script::{Answer, StepFault, one};
+use xlsynth_vast::{LogicRef, ModulePort, ModulePortDirection, VastFile, VastModule};
 
 /// A question of a module, or of a name.
 #[derive(Drop)]
@@ -27,7 +25,7 @@ pub(crate) enum ModuleQuestion {
 pub(crate) fn module_question(
     name: &str,
     arguments: Arguments<'_>,
-) -> Option<Result<ModuleQuestion, Problem>> {
+) -> Option<Result<ModuleQuestion, Misfit>> {
     Some(match name {
         "?LogicRefName" => arguments.one(ModuleQuestion::LogicRefName),
         "?ModuleInputPorts" => arguments.one(ModuleQuestion::ModuleInputPorts),
@@ -48,34 +46,34 @@ pub(crate) fn answer_module(
     file: &VastFile,
     answers: &[Answer],
     question: &ModuleQuestion,
-) -> Result<String, Refusal> {
+) -> Result<String, StepFault> {
     match question {
         ModuleQuestion::LogicRefName(name) => {
-            let name = logic_ref(file, answers, *name)?;
+            let name: LogicRef = one(file, answers, *name)?;
             Ok(file.logic_ref_name(name)?)
         }
         ModuleQuestion::ModuleInputPorts(owner) => {
-            let owner: VastModule = handle(file, answers, *owner)?;
+            let owner: VastModule = one(file, answers, *owner)?;
             port_lines(file, &file.module_input_ports(owner)?)
         }
         ModuleQuestion::ModuleMemberCount(owner) => {
-            let owner: VastModule = handle(file, answers, *owner)?;
+            let owner: VastModule = one(file, answers, *owner)?;
             Ok(file.module_member_count(owner).to_string(file.allocator())?)
         }
         ModuleQuestion::ModuleName(owner) => {
-            let owner: VastModule = handle(file, answers, *owner)?;
+            let owner: VastModule = one(file, answers, *owner)?;
             Ok(file.module_name(owner)?)
         }
         ModuleQuestion::ModuleOutputPorts(owner) => {
-            let owner: VastModule = handle(file, answers, *owner)?;
+            let owner: VastModule = one(file, answers, *owner)?;
             port_lines(file, &file.module_output_ports(owner)?)
         }
         ModuleQuestion::ModulePorts(owner) => {
-            let owner: VastModule = handle(file, answers, *owner)?;
+            let owner: VastModule = one(file, answers, *owner)?;
             port_lines(file, &file.module_ports(owner)?)
         }
         ModuleQuestion::NameIsFree(owner, name) => {
-            let owner: VastModule = handle(file, answers, *owner)?;
+            let owner: VastModule = one(file, answers, *owner)?;
             Ok(file.name_is_free(owner, name).to_string(file.allocator())?)
         }
     }
@@ -83,7 +81,7 @@ pub(crate) fn answer_module(
 
 /// The number of ports, and for each port its name, direction, width, whether it is signed, and its name as an
 /// expression.
-fn port_lines(file: &VastFile, ports: &[ModulePort]) -> Result<String, Refusal>
+fn port_lines(file: &VastFile, ports: &[ModulePort]) -> Result<String, StepFault>
     requires { All (OwnsPort file.now) ports.now }
 {
     let mut lines = ports.len().to_string(file.allocator())?;

@@ -5,10 +5,8 @@ ghost use Rattle.vast_core.specs.Bench.{OwnsExpr};
 ghost use Rattle.xlsynth_vast.specs.Registers.{OwnsRegister, OwnsReset, OwnsScope};
 
 use crate::arguments::{Arguments, FromArguments};
-use crate::handles::handle;
-use crate::problem::Problem;
-use crate::refusal::Refusal;
-use vast_script::Answer;
+use crate::problem::Misfit;
+use vast_script::{Answer, StepFault, one};
 use xlsynth_vast::helpers::{RegisterDefinition, RegisterScope, Reset};
 use xlsynth_vast::{Expr, GenerateLoop, VastFile, VastModule, helpers};
 
@@ -29,7 +27,7 @@ pub(crate) struct RegisterNumbers {
 }
 
 impl FromArguments for ResetNumbers {
-    fn take(arguments: &mut Arguments<'_>) -> Result<ResetNumbers, Problem> {
+    fn take(arguments: &mut Arguments<'_>) -> Result<ResetNumbers, Misfit> {
         arguments.open()?;
         let signal = usize::take(arguments)?;
         let active_low = bool::take(arguments)?;
@@ -39,7 +37,7 @@ impl FromArguments for ResetNumbers {
 }
 
 impl FromArguments for RegisterNumbers {
-    fn take(arguments: &mut Arguments<'_>) -> Result<RegisterNumbers, Problem> {
+    fn take(arguments: &mut Arguments<'_>) -> Result<RegisterNumbers, Misfit> {
         arguments.open()?;
         let reg = usize::take(arguments)?;
         let next = usize::take(arguments)?;
@@ -66,8 +64,8 @@ pub(crate) fn add_registers(
     reset: &Option<ResetNumbers>,
     registers: &[RegisterNumbers],
     scope: usize,
-) -> Result<(), Refusal> {
-    let clk: Expr = handle(file, answers, clk)?;
+) -> Result<(), StepFault> {
+    let clk: Expr = one(file, answers, clk)?;
     let reset = reset_of(file, answers, *reset)?;
     let registers = definitions(file, answers, registers)?;
     let scope = scope_of(file, answers, scope)?;
@@ -78,13 +76,13 @@ fn reset_of(
     file: &VastFile,
     answers: &[Answer],
     reset: Option<ResetNumbers>,
-) -> Result<Option<Reset>, Refusal>
+) -> Result<Option<Reset>, StepFault>
     ensures { IfOk result (λ reset. IfSome reset (OwnsReset file.now)) }
 {
     match reset {
         None => Ok(None),
         Some(reset) => {
-            let signal: Expr = handle(file, answers, reset.signal)?;
+            let signal: Expr = one(file, answers, reset.signal)?;
             let active_low = reset.active_low;
             Ok(Some(Reset { signal, active_low }))
         }
@@ -95,7 +93,7 @@ fn definitions(
     file: &VastFile,
     answers: &[Answer],
     registers: &[RegisterNumbers],
-) -> Result<Vec<RegisterDefinition>, Refusal>
+) -> Result<Vec<RegisterDefinition>, StepFault>
     ensures { IfOk result (λ made. All (OwnsRegister file.now) made.items) }
 {
     let mut made = Vec::new(file.allocator());
@@ -110,11 +108,11 @@ fn definition(
     file: &VastFile,
     answers: &[Answer],
     register: RegisterNumbers,
-) -> Result<RegisterDefinition, Refusal>
+) -> Result<RegisterDefinition, StepFault>
     ensures { IfOk result (λ made. OwnsRegister file.now made) }
 {
-    let reg: Expr = handle(file, answers, register.reg)?;
-    let next: Expr = handle(file, answers, register.next)?;
+    let reg: Expr = one(file, answers, register.reg)?;
+    let next: Expr = one(file, answers, register.next)?;
     let reset_value = handle_if(file, answers, register.reset_value)?;
     let enable = handle_if(file, answers, register.enable)?;
     Ok(RegisterDefinition {
@@ -129,28 +127,28 @@ fn handle_if(
     file: &VastFile,
     answers: &[Answer],
     number: Option<usize>,
-) -> Result<Option<Expr>, Refusal>
+) -> Result<Option<Expr>, StepFault>
     ensures { IfOk result (λ made. IfSome made (OwnsExpr file.now)) }
 {
     match number {
         None => Ok(None),
         Some(number) => {
-            let expression: Expr = handle(file, answers, number)?;
+            let expression: Expr = one(file, answers, number)?;
             Ok(Some(expression))
         }
     }
 }
 
-fn scope_of(file: &VastFile, answers: &[Answer], number: usize) -> Result<RegisterScope, Refusal>
+fn scope_of(file: &VastFile, answers: &[Answer], number: usize) -> Result<RegisterScope, StepFault>
     ensures { IfOk result (λ scope. OwnsScope file.now scope) }
 {
     match answers.get(number) {
         Some(Answer::GenerateLoop(_)) => {
-            let owner: GenerateLoop = handle(file, answers, number)?;
+            let owner: GenerateLoop = one(file, answers, number)?;
             Ok(RegisterScope::GenerateLoop(owner))
         }
         _ => {
-            let owner: VastModule = handle(file, answers, number)?;
+            let owner: VastModule = one(file, answers, number)?;
             Ok(RegisterScope::Module(owner))
         }
     }
