@@ -1,15 +1,9 @@
--- One line more is made.
+-- One line more of a text.
 use Rattle.std.proofs.Common.{◌≡◌, ◌==◌, true, ℕ, suc, ◌+◌, ◌<◌, List, [], ◌∷◌, ◌++◌, length, take, drop, get_or, refl, ap, sym, ◌∙◌, subst, arith}
 use Rattle.std.proofs.lemmas.Bool.{eqb-true}
 use Rattle.std.proofs.lemmas.List.{length-drop, nil_from_length}
 use Rattle.std.proofs.Math.Seq.{drop-cons, take-suc}
 use Rattle.vast_c.specs.Lines.{lines_of}
-use Rattle.vast_c.specs.Session.{Seen}
-use Rattle.vast_c.specs.Seen.{LineMade, LinesMade}
-
-pub made_more : (a : Seen) (lines : List (List ℕ)) (b : Seen) (line : List ℕ) (c : Seen) → LinesMade a lines b → LineMade b line c → LinesMade a (lines ++ line ∷ []) c
-made_more a [] b line c same last = (c, subst (λ (s : Seen). LineMade s line c) same last, refl)
-made_more a (first ∷ lines) b line c made last = (made.0, made.1, made_more made.0 lines b line c made.2 last)
 
 -- the item behind the first n
 pub record Next {X : Type 0} (all : List X) (n : ℕ) (x : X) (xs : List X) : Type 0 where

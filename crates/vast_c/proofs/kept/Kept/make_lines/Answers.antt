@@ -1,17 +1,14 @@
 use Rattle.std.proofs.Common.{◌≡◌, ℕ, List, length, drop, subst, sym, ap, ◌∙◌, arith}
 use Rattle.std.proofs.lemmas.List.{length-drop}
 use Rattle.vast_c.specs.Lines.{lines_of}
-use Rattle.vast_c.specs.Seen.{LinesMade}
-use Rattle.vast_c.proofs.Steps.{made_more, next, no_lines}
+use Rattle.vast_c.proofs.Steps.{next, no_lines}
 use Rattle.vast_c.proofs.kept.Kept.make_lines.Goals as goal
 
 pub loop-rest-preserved : goal.loop-rest-preserved
 loop-rest-preserved c =
     let lines = lines_of c.args.lines.now in let line = c.first_line.result.0.now in let behind = c.first_line.result.1.now in
     let one = next lines c.loop-rest.taken line (lines_of behind) (c.loop-rest.invariant.behind ∙ c.first_line.ensures.lines) in
-    let old = c.args.self.now.session in let new = c.make_line.new.self.session in
     record {
-      made = subst (λ (made : List (List ℕ)). LinesMade old made new) (sym one.taken) (made_more old _ c.loop-rest.self.session line new c.loop-rest.invariant.made c.in_default.ensures.made);
       behind = one.dropped;
       within = omega (arith, one.within);
       bounded = omega (arith, c.loop-rest.invariant.bounded, c.first_line.ensures.shorter);

@@ -1,12 +1,10 @@
 use Rattle.std.proofs.Common.{◌≡◌, ◌+◌, ◌≤◌, length, take, drop}
 use Rattle.vast_c.specs.Lines.{lines_of}
-use Rattle.vast_c.specs.Seen.{LinesMade}
 use Rattle.vast_c.proofs.kept.Kept.make_lines.Given as goal
 
 -- The lines so far are made, and those behind them are the rest's.
 abbrev pub invariant-loop-rest : goal.invariant-loop-rest
 invariant-loop-rest l = record {
-  made : LinesMade l.initial.self.session (take l.taken (lines_of l.lines)) l.self.session;
   behind : drop l.taken (lines_of l.lines) ≡ lines_of l.rest;
   within : l.taken ≤ length (lines_of l.lines);
   bounded : l.taken + length l.rest ≤ length l.lines;
