@@ -4,6 +4,7 @@ use crate::again::Trial;
 use crate::fault::{Fault, LineFault};
 use crate::line::is_step;
 use crate::output::{ListOutput, MOST_FAULTS, Verdict};
+use crate::questions::answered::Value;
 use crate::session::{Given, Session};
 use crate::tried;
 use crate::tries::Tries;
@@ -111,9 +112,18 @@ impl Answering<'_> {
     fn print(&mut self, given: &Given<'_>) -> Result<(), AllocError> {
         match given {
             Given::Nothing | Given::Step { number: _, call: _ } => Ok(()),
-            Given::Answer { call, text } => self.print_words(call, ": ", text),
+            Given::Answer { call, value } => self.print_answer(call, value),
             Given::Helper { number, call } => self.print_helper(*number, call),
         }
+    }
+
+    fn print_answer(&mut self, call: &str, value: &Value) -> Result<(), AllocError> {
+        if self.report.is_none() {
+            return Ok(());
+        }
+        let alloc = self.session.file().allocator();
+        let text = tried!(self.tries(), format!(in alloc; "{value}"))?;
+        self.print_words(call, ": ", &text)
     }
 
     /// Behind a header the text of a helper's expression is printed.

@@ -83,7 +83,7 @@ pub fn list_output(
 }
 
 /// The dialect, and the lines behind the one that names it.
-fn dialect_line<'l, 'a>(
+pub(crate) fn dialect_line<'l, 'a>(
     alloc: Global,
     list: &'l ListLines<'a>,
 ) -> Result<(VastFileType, &'l [(usize, &'a [u8])]), Fault> {

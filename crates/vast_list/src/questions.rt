@@ -1,10 +1,12 @@
 //! Questions about a file, `?NAME`.
 
+pub(crate) mod answered;
 mod modules;
 mod values;
 
 use crate::arguments::Arguments;
 use crate::problem::{Misfit, Problem};
+use answered::Value;
 use modules::{ModuleQuestion, answer_module, module_question};
 use values::{ValueQuestion, answer_value, value_question};
 use vast_script::{Answer, StepFault};
@@ -33,7 +35,7 @@ pub(crate) fn make_question(name: &str, arguments: Arguments<'_>) -> Result<Ques
     }
 }
 
-/// The answer's text, without the last line break.
+/// The answer.
 ///
 /// # Errors
 /// Where the question is refused.
@@ -41,7 +43,7 @@ pub(crate) fn answer(
     file: &VastFile,
     answers: &[Answer],
     question: &Question,
-) -> Result<String, StepFault> {
+) -> Result<Value, StepFault> {
     match question {
         Question::Module(question) => answer_module(file, answers, question),
         Question::Value(question) => answer_value(file, answers, question),

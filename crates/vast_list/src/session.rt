@@ -7,6 +7,7 @@ use crate::helpers::call_helper;
 use crate::line::{Action, Call, Line, is_empty, read_line, split_line, text_of};
 use crate::names::{Named, Names, is_name};
 use crate::problem::Problem;
+use crate::questions::answered::Value;
 use crate::questions::{Question, answer};
 use std::alloc::{AllocError, Global};
 use vast_literal::VastFault;
@@ -34,8 +35,8 @@ pub enum Given<'a> {
     Step { number: usize, call: &'a str },
     /// A helper of this number; steps and helpers are counted together, from 0.
     Helper { number: usize, call: &'a str },
-    /// The text of a question's answer, without its last line break.
-    Answer { call: &'a str, text: String },
+    /// A question's answer.
+    Answer { call: &'a str, value: Value },
 }
 
 impl Session {
@@ -63,9 +64,9 @@ impl Session {
         let Line { name, call, action } = self.read(number, text)?;
         match action {
             Action::Ask(question) => {
-                let text = self.ask(number, text, call, &question)?;
-                self.name_answer(name, &text)?;
-                Ok(Given::Answer { call, text })
+                let value = self.ask(number, text, call, &question)?;
+                self.name_answer(name, &value)?;
+                Ok(Given::Answer { call, value })
             }
             Action::Call(made) => {
                 let step = self.counted();
@@ -241,18 +242,19 @@ impl Session {
         text: &str,
         call: &str,
         question: &Question,
-    ) -> Result<String, Fault> {
+    ) -> Result<Value, Fault> {
         match answer(&self.file, &self.answers, question) {
-            Ok(text) => Ok(text),
+            Ok(value) => Ok(value),
             Err(fault) => Err(self.told(number, text, call, None, fault)),
         }
     }
 
     /// The name stands for a question's answer from now on.
-    fn name_answer(&mut self, name: Option<&str>, text: &str) -> Result<(), AllocError> {
-        let named = match text.parse::<i64>() {
-            Ok(number) => Named::Number(number),
-            Err(_) => Named::Other,
+    fn name_answer(&mut self, name: Option<&str>, value: &Value) -> Result<(), AllocError> {
+        let named = match value {
+            Value::Number(number) => Named::Number(*number),
+            Value::Count(count) => i64::try_from(*count).map_or(Named::Other, Named::Number),
+            _ => Named::Other,
         };
         self.enter(name, named)
     }

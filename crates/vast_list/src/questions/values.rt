@@ -2,6 +2,7 @@
 
 use crate::arguments::Arguments;
 use crate::problem::Misfit;
+use crate::questions::answered::Value;
 use vast_script::{Answer, StepFault, one};
 use xlsynth_vast::{Conditional, Expr, VastDataType, VastFile, is_system_verilog_keyword};
 
@@ -9,6 +10,7 @@ use xlsynth_vast::{Conditional, Expr, VastDataType, VastFile, is_system_verilog_
 #[derive(Drop)]
 pub(crate) enum ValueQuestion {
     ConditionalHasElse(usize),
+    Emit,
     EmitExpression(usize),
     IsSystemVerilogKeyword(String),
     TypeCanBeCast(usize),
@@ -27,6 +29,7 @@ pub(crate) fn value_question(
 ) -> Option<Result<ValueQuestion, Misfit>> {
     Some(match name {
         "?ConditionalHasElse" => arguments.one(ValueQuestion::ConditionalHasElse),
+        "?Emit" => arguments.none(ValueQuestion::Emit),
         "?EmitExpression" => arguments.one(ValueQuestion::EmitExpression),
         "?IsSystemVerilogKeyword" => arguments.one(ValueQuestion::IsSystemVerilogKeyword),
         "?TypeCanBeCast" => arguments.one(ValueQuestion::TypeCanBeCast),
@@ -48,53 +51,50 @@ pub(crate) fn answer_value(
     file: &VastFile,
     answers: &[Answer],
     question: &ValueQuestion,
-) -> Result<String, StepFault> {
-    let alloc = file.allocator();
+) -> Result<Value, StepFault> {
     match question {
         ValueQuestion::ConditionalHasElse(conditional) => {
             let conditional: Conditional = one(file, answers, *conditional)?;
-            Ok(file.conditional_has_else(conditional).to_string(alloc)?)
+            Ok(Value::Truth(file.conditional_has_else(conditional)))
         }
+        ValueQuestion::Emit => Ok(Value::Text(file.emit()?)),
         ValueQuestion::EmitExpression(expression) => {
             let expression: Expr = one(file, answers, *expression)?;
-            Ok(file.emit_expression(&expression)?)
+            Ok(Value::Text(file.emit_expression(&expression)?))
         }
         ValueQuestion::IsSystemVerilogKeyword(word) => {
-            Ok(is_system_verilog_keyword(word).to_string(alloc)?)
+            Ok(Value::Truth(is_system_verilog_keyword(word)))
         }
         ValueQuestion::TypeCanBeCast(data_type) => {
             let data_type: VastDataType = one(file, answers, *data_type)?;
-            Ok(file.type_can_be_cast(data_type).to_string(alloc)?)
+            Ok(Value::Truth(file.type_can_be_cast(data_type)))
         }
         ValueQuestion::TypeCanBePacked(data_type) => {
             let data_type: VastDataType = one(file, answers, *data_type)?;
-            Ok(file.type_can_be_packed(data_type).to_string(alloc)?)
+            Ok(Value::Truth(file.type_can_be_packed(data_type)))
         }
         ValueQuestion::TypeFlatBitCountAsInt64(data_type) => {
             let data_type: VastDataType = one(file, answers, *data_type)?;
-            Ok(
-                file.type_flat_bit_count_as_int64(data_type)?
-                    .to_string(alloc)?,
-            )
+            Ok(Value::Number(file.type_flat_bit_count_as_int64(data_type)?))
         }
         ValueQuestion::TypeIsSigned(data_type) => {
             let data_type: VastDataType = one(file, answers, *data_type)?;
-            Ok(file.type_is_signed(data_type).to_string(alloc)?)
+            Ok(Value::Truth(file.type_is_signed(data_type)))
         }
         ValueQuestion::TypeWidthAsInt64(data_type) => {
             let data_type: VastDataType = one(file, answers, *data_type)?;
-            Ok(file.type_width_as_int64(data_type)?.to_string(alloc)?)
+            Ok(Value::Number(file.type_width_as_int64(data_type)?))
         }
         ValueQuestion::TypeWidthExpr(data_type) => {
             let data_type: VastDataType = one(file, answers, *data_type)?;
             match file.type_width_expr(data_type) {
-                Some(width) => Ok(file.emit_expression(&width)?),
-                None => Ok(String::from_str(alloc, "-")?),
+                Some(width) => Ok(Value::Text(file.emit_expression(&width)?)),
+                None => Ok(Value::Nothing),
             }
         }
         ValueQuestion::WidthIsUsable(width) => {
             let width: Expr = one(file, answers, *width)?;
-            Ok(file.width_is_usable(&width).to_string(alloc)?)
+            Ok(Value::Truth(file.width_is_usable(&width)))
         }
     }
 }

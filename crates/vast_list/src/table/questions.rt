@@ -4,11 +4,16 @@ use super::by_name::{CONDITIONAL, DATA_TYPE, E, IDENTIFIER, LOGIC_REF, NAME, OWN
 use super::{CallRow, kinds};
 
 /// Questions, which change nothing.
-pub(super) static CALLS: [CallRow; 17] = [
+pub(super) static CALLS: [CallRow; 18] = [
     CallRow {
         name: "?ConditionalHasElse",
         parameters: &[CONDITIONAL],
         answer: kinds::TRUTH,
+    },
+    CallRow {
+        name: "?Emit",
+        parameters: &[],
+        answer: kinds::TEXT,
     },
     CallRow {
         name: "?EmitExpression",
