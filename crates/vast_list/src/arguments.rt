@@ -116,7 +116,8 @@ impl<'a> Arguments<'a> {
             return Err(self.misfit(Problem::Missing));
         };
         let Some(quoted) = rest.strip_prefix('"') else {
-            return Err(self.misfit(Problem::NoText));
+            let is_space = rest.is_empty() || rest.starts_with(' ');
+            return Err(self.misfit(if is_space { Problem::Space } else { Problem::NoText }));
         };
         let (text, rest) = unquoted(self.known.alloc, quoted)?;
         self.rest = behind_text(rest)?;

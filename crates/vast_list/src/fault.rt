@@ -58,13 +58,26 @@ impl fmt::Display for LineFault {
         if let Some(column) = self.column {
             write!(f, ":{column}")?;
         }
-        let words = self.words.as_str();
-        if self.call.is_empty() {
-            return write!(f, ": {words}");
+        f.write_str(": ")?;
+        if !self.call.is_empty() {
+            write_on_a_line(&self.call, f)?;
+            f.write_str(": ")?;
         }
-        let call = self.call.as_str();
-        write!(f, ": {call}: {words}")
+        write_on_a_line(&self.words, f)
     }
+}
+
+/// Writes the text with an escape for each of its control characters, so that it stands on one line.
+fn write_on_a_line<W: fmt::Write>(text: &str, f: &mut fmt::Formatter<W>) -> fmt::Result {
+    for c in text.chars() {
+        if c.is_control() {
+            let code = u32::from(c);
+            write!(f, "\\u{code:04x}")?;
+        } else {
+            f.write_char(c)?;
+        }
+    }
+    Ok(())
 }
 
 /// The fault of a line that is not in the form.
@@ -125,13 +138,18 @@ fn words(alloc: Global, text: &str, call: &str, misfit: Misfit) -> Result<String
             let usage = usage(alloc, call)?;
             format!(in alloc; "an argument too many, `{word}`: {usage}")
         }
-        Problem::OpenText | Problem::NotUtf8 | Problem::OpenList | Problem::Indented => {
-            format!(in alloc; "{problem}")
-        }
-        Problem::Space | Problem::UnknownEscape | Problem::LoneSurrogate => {
-            format!(in alloc; "{problem}")
-        }
+        Problem::NameUnknown | Problem::NameTaken => format!(in alloc; "{problem} `{word}`"),
+        _ if names_itself(problem) || word.is_empty() => format!(in alloc; "{problem}"),
         _ => format!(in alloc; "{problem}, not `{word}`"),
+    }
+}
+
+/// Whether the problem's words say what stands there.
+fn names_itself(problem: Problem) -> bool {
+    match problem {
+        Problem::OpenText | Problem::NotUtf8 | Problem::OpenList | Problem::Indented => true,
+        Problem::Space | Problem::UnknownEscape | Problem::LoneSurrogate => true,
+        _ => false,
     }
 }
 

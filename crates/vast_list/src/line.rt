@@ -80,14 +80,41 @@ pub(crate) fn split_line(text: &str) -> (Option<&str>, &str, Option<&str>) {
 /// # Errors
 /// Where the line is not in the form, and want of memory.
 pub(crate) fn read_line<'a>(known: Known<'_>, text: &'a str) -> Result<Line<'a>, Misread<'a>> {
+    check_begin(text).map_err(|misfit| Misread { call: "", misfit })?;
     let (name, call, rest) = split_line(text);
     if let Some(name) = name {
         check_name(known, text, name).map_err(|misfit| Misread { call: "", misfit })?;
     }
     match read_action(known, call, rest) {
         Ok(action) => Ok(Line { name, call, action }),
-        Err(misfit) => Err(Misread { call, misfit }),
+        Err(misfit) => {
+            let misfit = at_call(call, rest, misfit);
+            Err(Misread { call, misfit })
+        }
     }
+}
+
+/// An unknown call is wrong from its first character on.
+fn at_call(call: &str, rest: Option<&str>, misfit: Misfit) -> Misfit {
+    if !matches!(misfit.problem, Problem::UnknownCall) {
+        return misfit;
+    }
+    let behind = rest.map_or(0, |rest| rest.len().saturating_add(1));
+    Misfit {
+        left: call.len().saturating_add(behind),
+        problem: misfit.problem,
+    }
+}
+
+/// The line does not begin with a space.
+fn check_begin(text: &str) -> Result<(), Misfit> {
+    if !text.starts_with(' ') && !text.starts_with('\t') {
+        return Ok(());
+    }
+    Err(Misfit {
+        left: text.len(),
+        problem: Problem::Indented,
+    })
 }
 
 /// The first word, and what stands behind the space after it.
@@ -106,10 +133,6 @@ fn named_call<'a>(rest: Option<&'a str>) -> Option<&'a str> {
 /// The word may be the name of this line's answer.
 fn check_name(known: Known<'_>, text: &str, name: &str) -> Result<(), Misfit> {
     let left = text.len();
-    if name.is_empty() {
-        let problem = Problem::Indented;
-        return Err(Misfit { left, problem });
-    }
     if !is_name(name) {
         let problem = Problem::NotAName;
         return Err(Misfit { left, problem });

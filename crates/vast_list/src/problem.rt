@@ -8,7 +8,7 @@ use thiserror::Error;
 pub(crate) enum Problem {
     #[error("not UTF-8")]
     NotUtf8,
-    #[error("`verilog` or `systemverilog` expected, the list's dialect")]
+    #[error("`verilog` or `systemverilog` expected")]
     NoDialect,
     #[error("a call expected, not a space")]
     Indented,
@@ -16,7 +16,7 @@ pub(crate) enum Problem {
     UnknownCall,
     #[error("a name expected before `=`: letters, digits and `_`, no digit first")]
     NotAName,
-    #[error("the name stands for an earlier line's answer")]
+    #[error("an earlier line has the name")]
     NameTaken,
     #[error("no earlier line has the name")]
     NameUnknown,

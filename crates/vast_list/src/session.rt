@@ -1,5 +1,10 @@
 //! A file with the answers so far, whose calls are lines.
 
+ghost use Rattle.std.specs.Prelude.{◌≡◌, [], IfOk, string_bytes};
+ghost use Rattle.vast_core.specs.Bench.{start};
+ghost use Rattle.vast_core.specs.FileTree.{tree};
+ghost use Rattle.vast_list.specs.Session.{Calls, IsSame, IsTextOf, Makes, Takes};
+
 use crate::arguments::Known;
 use crate::explain::{explained, uses_skipped};
 use crate::fault::{Fault, LineFault, misread, refused_text};
@@ -39,9 +44,26 @@ pub enum Given<'a> {
     Answer { call: &'a str, value: Value },
 }
 
+/// Makes the call, over the answers so far.
+fn make_call(
+    file: &mut VastFile,
+    answers: &[Answer],
+    call: &Call,
+) -> Result<Answer, StepFault>
+    ensures { Calls file.old file.new answers.now result call.now }
+{
+    match call {
+        Call::Step(step) => replay_step(file, answers, step),
+        Call::Helper(helper) => call_helper(file, answers, helper),
+    }
+}
+
 impl Session {
     /// An empty file of the dialect. It takes no memory.
-    pub fn new(alloc: Global, dialect: VastFileType) -> Session {
+    pub fn new(alloc: Global, dialect: VastFileType) -> Session
+        ensures file { result.file ≡ start dialect 1 }
+        ensures answers { result.answers.items ≡ [] }
+    {
         let mut ids = FileIds::new();
         Session {
             file: VastFile::new(alloc, dialect, &mut ids).unwrap(),
@@ -56,7 +78,9 @@ impl Session {
     ///
     /// # Errors
     /// The line's fault. The file, the answers and the names are then as before, and the line is not counted.
-    pub fn line<'a>(&mut self, number: usize, line: &'a [u8]) -> Result<Given<'a>, Fault> {
+    pub fn line<'a>(&mut self, number: usize, line: &'a [u8]) -> Result<Given<'a>, Fault>
+        ensures { Takes self.old self.new result }
+    {
         let text = self.text_of(number, line)?;
         if is_empty(text) {
             return Ok(Given::Nothing);
@@ -70,8 +94,7 @@ impl Session {
             }
             Action::Call(made) => {
                 let step = self.counted();
-                self.lines.push(number)?;
-                self.make(text, name, call, &made)?;
+                self.make(number, text, name, call, &made)?;
                 match made {
                     Call::Step(_) => Ok(Given::Step { number: step, call }),
                     Call::Helper(_) => Ok(Given::Helper { number: step, call }),
@@ -98,7 +121,9 @@ impl Session {
     ///
     /// # Errors
     /// Want of memory; nothing is then passed over.
-    pub fn skip(&mut self, line: &[u8]) -> Result<(), AllocError> {
+    pub fn skip(&mut self, line: &[u8]) -> Result<(), AllocError>
+        ensures { IsSame self.old self.new }
+    {
         let Ok(text) = text_of(line) else {
             return Ok(());
         };
@@ -143,7 +168,9 @@ impl Session {
     ///
     /// # Errors
     /// A refusal names the line whose call made what is refused. Want of memory.
-    pub fn text(&self) -> Result<String, Fault> {
+    pub fn text(&self) -> Result<String, Fault>
+        ensures { IfOk result (λ text. IsTextOf (tree self.now.file) (string_bytes text)) }
+    {
         match self.file.emit() {
             Ok(text) => Ok(text),
             Err(VastFault::Memory(_)) => Err(Fault::Memory),
@@ -196,33 +223,35 @@ impl Session {
     /// Makes the call and keeps its answer, under the name.
     fn make(
         &mut self,
+        number: usize,
         text: &str,
         name: Option<&str>,
         call: &str,
         made: &Call,
-    ) -> Result<(), Fault> {
+    ) -> Result<(), Fault>
+        ensures { Makes self.old self.new made.now result }
+    {
         self.answers.reserve(1)?;
+        self.lines.reserve(1)?;
         let place = self.answers.len();
         self.enter(name, Named::Handle(place))?;
-        let answered = match made {
-            Call::Step(step) => replay_step(&mut self.file, &self.answers, step),
-            Call::Helper(helper) => call_helper(&mut self.file, &self.answers, helper),
-        };
-        match answered {
+        match make_call(&mut self.file, &self.answers, made) {
             Ok(answer) => {
                 self.answers.push(answer)?;
+                let _ = self.lines.push(number);
                 Ok(())
             }
             Err(fault) => {
                 self.forget(name);
-                let number = self.lines.pop().unwrap_or(0);
                 Err(self.told(number, text, call, Some(made), fault))
             }
         }
     }
 
     /// The name stands for this from now on.
-    fn enter(&mut self, name: Option<&str>, named: Named) -> Result<(), AllocError> {
+    fn enter(&mut self, name: Option<&str>, named: Named) -> Result<(), AllocError>
+        ensures { IsSame self.old self.new }
+    {
         if let Some(name) = name {
             let name = String::from_str(self.file.allocator(), name)?;
             self.names.insert(name, named)?;
@@ -230,7 +259,9 @@ impl Session {
         Ok(())
     }
 
-    fn forget(&mut self, name: Option<&str>) {
+    fn forget(&mut self, name: Option<&str>)
+        ensures { IsSame self.old self.new }
+    {
         if let Some(name) = name {
             let _ = self.names.remove(name);
         }
@@ -250,7 +281,9 @@ impl Session {
     }
 
     /// The name stands for a question's answer from now on.
-    fn name_answer(&mut self, name: Option<&str>, value: &Value) -> Result<(), AllocError> {
+    fn name_answer(&mut self, name: Option<&str>, value: &Value) -> Result<(), AllocError>
+        ensures { IsSame self.old self.new }
+    {
         let named = match value {
             Value::Number(number) => Named::Number(*number),
             Value::Count(count) => i64::try_from(*count).map_or(Named::Other, Named::Number),

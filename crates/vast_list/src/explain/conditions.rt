@@ -121,12 +121,12 @@ fn artifact_condition(file: &VastFile, step: &ArtifactStep) -> Result<String, Al
                 let names = parameters.len();
                 let values = values.len();
                 return format!(in alloc;
-                    "{names} names of parameters, and {values} values for them"
+                    "parameters: {names} names, {values} values; each name has one"
                 );
             }
             let names = ports.len();
             let values = wires.len();
-            format!(in alloc; "{names} names of ports, and {values} connections for them")
+            format!(in alloc; "ports: {names} names, {values} connections; each name has one")
         }
         _ => unknown(file),
     }

@@ -3,12 +3,15 @@
 ghost use Rattle.std.specs.Prelude.{All, IfOk, IfSome};
 ghost use Rattle.vast_core.specs.Bench.{OwnsExpr};
 ghost use Rattle.xlsynth_vast.specs.Registers.{OwnsRegister, OwnsReset, OwnsScope};
+ghost use Rattle.vast_script.specs.declared.answer.Answer.TheVariants.{Nothing};
+ghost use Rattle.vast_script.specs.Outcome.{WrapsRefusable};
+ghost use Rattle.vast_list.specs.Helpers.{AddsAny};
 
 use crate::arguments::{Arguments, FromArguments};
 use crate::problem::Misfit;
 use vast_script::{Answer, StepFault, one};
 use xlsynth_vast::helpers::{RegisterDefinition, RegisterScope, Reset};
-use xlsynth_vast::{Expr, GenerateLoop, VastFile, VastModule, helpers};
+use xlsynth_vast::{Expr, GenerateLoop, VastFault, VastFile, VastModule, helpers};
 
 /// A reset, `[ signal active_low ]`.
 #[derive(Clone, Copy)]
@@ -64,12 +67,22 @@ pub(crate) fn add_registers(
     reset: &Option<ResetNumbers>,
     registers: &[RegisterNumbers],
     scope: usize,
-) -> Result<(), StepFault> {
+) -> Result<Answer, StepFault>
+    ensures { AddsAny file.old file.new result }
+{
     let clk: Expr = one(file, answers, clk)?;
     let reset = reset_of(file, answers, *reset)?;
     let registers = definitions(file, answers, registers)?;
     let scope = scope_of(file, answers, scope)?;
-    Ok(helpers::add_registers(&clk, reset, &registers, scope, file)?)
+    added(helpers::add_registers(&clk, reset, &registers, scope, file))
+}
+
+/// Registers that a helper added, as an answer.
+fn added(made: Result<(), VastFault>) -> Result<Answer, StepFault>
+    ensures { WrapsRefusable made result (λ x. Nothing) }
+{
+    made?;
+    Ok(Answer::Nothing)
 }
 
 fn reset_of(

@@ -126,10 +126,10 @@ fn lists_around_a_bad_line_are_answered(rt: HostRuntime) {
 
 #[test]
 fn a_list_is_a_line_of_json(rt: HostRuntime) {
-    let list = b"verilog\nm = AddModule \"m\"\n?ModuleName m\n?ModuleMemberCount m\n";
+    let list = b"verilog\nm = AddModule \"m\"\nt = MakeScalarType\nAddWire m \"a\" t\n?ModuleName m\n?ModuleMemberCount m\n";
     let ran = ran(rt.alloc(), Form::Json, Tries::Once, list);
     let wanted =
-        r#"{"source":"a.list","title":null,"line":1,"verdict":"made","answers":[{"line":3,"call":"?ModuleName","answer":"m"},{"line":4,"call":"?ModuleMemberCount","answer":0}],"faults":[],"more":0,"text":"module m;\nendmodule\n"}"#;
+        r#"{"source":"a.list","title":null,"line":1,"verdict":"made","answers":[{"line":5,"call":"?ModuleName","answer":"m"},{"line":6,"call":"?ModuleMemberCount","answer":1}],"faults":[],"more":0,"text":"module m;\n  wire a;\nendmodule\n"}"#;
     assert_eq!(rt; ran.outcome, Outcome::Made);
     assert!(rt; ran.out.starts_with(wanted.as_bytes()));
     assert!(rt; ran.err.is_empty());
@@ -140,10 +140,10 @@ fn a_session_answers_each_line(rt: HostRuntime) {
     let alloc = rt.alloc();
     let mut out: Vec<u8> = Vec::new(alloc);
     let mut err: Vec<u8> = Vec::new(alloc);
-    let mut lines: &[u8] = b"# one\nverilog\nm = AddModule \"m\"\n?Emit\n== two\n?Emit";
+    let mut lines: &[u8] = b"# one\nverilog\nm = AddModule \"m\"\n?ModuleName m\n== two\n?Emit";
     let wanted = "{\"line\":1}\n{\"line\":2,\"dialect\":\"verilog\"}\n\
         {\"line\":3,\"call\":\"AddModule\",\"step\":0}\n\
-        {\"line\":4,\"call\":\"?Emit\",\"answer\":\"module m;\\nendmodule\\n\"}\n\
+        {\"line\":4,\"call\":\"?ModuleName\",\"answer\":\"m\"}\n\
         {\"line\":5,\"title\":\"two\"}\n{\"line\":6,\"column\":1,\"cause\":\"form\",";
     let outcome = answer_lines(alloc, &mut lines, &mut out, &mut err);
     assert_eq!(rt; outcome, Outcome::Made);
