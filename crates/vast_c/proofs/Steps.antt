@@ -1,9 +1,24 @@
--- One line more of a text.
+-- One line more of a text, and what it gave.
 use Rattle.std.proofs.Common.{◌≡◌, ◌==◌, true, ℕ, suc, ◌+◌, ◌<◌, List, [], ◌∷◌, ◌++◌, length, take, drop, get_or, refl, ap, sym, ◌∙◌, subst, arith}
 use Rattle.std.proofs.lemmas.Bool.{eqb-true}
-use Rattle.std.proofs.lemmas.List.{length-drop, nil_from_length}
+use Rattle.std.proofs.lemmas.List.{length-drop, length_push, nil_from_length}
 use Rattle.std.proofs.Math.Seq.{drop-cons, take-suc}
+use Rattle.vast_list.specs.Session.{Gives}
+use Rattle.vast_list.specs.declared.session.Given.{Given}
+use Rattle.vast_list.specs.declared.session.Session.{Session}
 use Rattle.vast_c.specs.Lines.{lines_of}
+use Rattle.vast_c.specs.Seen.{Gave}
+
+abbrev GaveSome : (before : Session) → ℕ → (after : Session) → Type 0
+GaveSome before taken after = (given : List Given) × (length given ≡ taken) × Gave before given after
+
+behind : (a : Session) (given : List Given) (b : Session) (last : Given) (c : Session) → Gave a given b → Gives b c last → Gave a (given ++ last ∷ []) c
+behind a [] b last c same gives = (c, subst (λ (s : Session). Gives s c last) same gives, refl)
+behind a (first ∷ given) b last c gave gives = (gave.0, gave.1, behind gave.0 given b last c gave.2 gives)
+
+-- one line more gave what it gave
+pub gave_more : (a : Session) (taken : ℕ) (b c : Session) → GaveSome a taken b → (last : Given) × Gives b c last → GaveSome a (taken + 1) c
+gave_more a taken b c gave last = (gave.0 ++ last.0 ∷ [], omega (arith, length_push gave.0 last.0, gave.1), behind a gave.0 b last.0 c gave.2 last.1)
 
 -- the item behind the first n
 pub record Next {X : Type 0} (all : List X) (n : ℕ) (x : X) (xs : List X) : Type 0 where

@@ -1,11 +1,18 @@
 //! What C keeps by its pointer: a session, and what was told of it last.
 
-ghost use Rattle.std.specs.Prelude.{◌≡◌, ◌<◌, IfOk, IfSome, OnErr, OnSome, IsSome, None, length, take, string_bytes};
+ghost use Rattle.std.specs.Prelude.{◌≡◌, ◌<◌, [], IfErr, IfOk, OnErr, IsSome, None, length, string_bytes};
+ghost use Rattle.vast_core.specs.Bench.{start};
+ghost use Rattle.vast_core.specs.FileTree.{tree};
+ghost use Rattle.vast_list.specs.Session.{Gives, IsLeft, IsTextOf};
+ghost use Rattle.vast_list.specs.declared.session.Given.{Given as AnyGiven};
+ghost use Rattle.vast_list.specs.declared.session.Session.{Session as AnySession};
+ghost use Rattle.vast_c.specs.declared.kept.Cause.TheVariants.{Memory};
 ghost use Rattle.vast_c.specs.Lines.{lines_of};
+ghost use Rattle.vast_c.specs.Seen.{LeftBy, MadeAll};
 
 use crate::lines::first_line;
 use std::alloc::Global;
-use vast_list::{Fault, Given, LineFault, Session};
+use vast_list::{Fault, Given, LineFault, Session, Value};
 use vast_script::StepFault;
 use xlsynth_vast::VastFileType;
 
@@ -55,6 +62,8 @@ pub(crate) struct MadeLines {
 impl Kept {
     /// A session with no line.
     pub(crate) fn new(alloc: Global, dialect: VastFileType) -> Kept
+        ensures file { result.session.file ≡ start dialect 1 }
+        ensures answers { result.session.answers.items ≡ [] }
     {
         Kept {
             session: Session::new(alloc, dialect),
@@ -67,6 +76,7 @@ impl Kept {
 
     /// Makes the calls of the lines, up to the first at fault.
     pub(crate) fn make_lines(&mut self, lines: &[u8]) -> MadeLines
+        ensures made { MadeAll self.old.session result.taken result.cause self.new.session }
         ensures all { result.cause ≡ None → result.taken ≡ length (lines_of lines.now) }
         ensures fault { IsSome result.cause → result.taken < length (lines_of lines.now) }
     {
@@ -93,6 +103,7 @@ impl Kept {
     /// # Errors
     /// A refusal of the text, and want of memory; the text of before stays.
     pub(crate) fn print(&mut self) -> Result<(), Cause>
+        ensures printed { IfOk result (λ _. IsTextOf (tree self.old.session.file) (string_bytes self.new.file)) }
         ensures session { self.new.session ≡ self.old.session }
         ensures unchanged { OnErr result (self.new.file ≡ self.old.file) }
     {
@@ -108,15 +119,19 @@ impl Kept {
 
     /// Makes the call of one line.
     fn make_line(&mut self, line: &[u8]) -> Result<(), Cause>
+        ensures given { IfOk result (λ _. (given : AnyGiven) × Gives self.old.session self.new.session given) }
+        ensures left { IfErr result (λ cause. LeftBy self.old.session self.new.session cause) }
     {
         let number = self.lines.saturating_add(1);
         match self.session.line(number, line) {
-            Ok(given) => {
+            Ok(Given::Answer { value, .. }) => {
+                self.answer = text_of(*self.answer.allocator(), value)?;
                 self.lines = number;
-                match given {
-                    Given::Answer { text, .. } => self.answer = text,
-                    _ => self.answer.clear(),
-                }
+                Ok(())
+            }
+            Ok(_) => {
+                self.answer.clear();
+                self.lines = number;
                 Ok(())
             }
             Err(fault) => Err(self.tell(fault)),
@@ -125,6 +140,7 @@ impl Kept {
 
     /// Keeps the fault, and answers its cause.
     fn tell(&mut self, fault: Fault) -> Cause
+        ensures left { (a b : AnySession) → IsLeft a b fault → LeftBy a b result }
         ensures session { self.new.session ≡ self.old.session }
         ensures file { self.new.file ≡ self.old.file }
     {
@@ -137,6 +153,19 @@ impl Kept {
         let cause = cause_of(&fault);
         self.told = Some(Told { message, fault });
         cause
+    }
+}
+
+/// The answer's text. One that is a text already takes no memory.
+fn text_of(alloc: Global, value: Value) -> Result<String, Cause>
+    ensures { IfErr result (λ cause. cause ≡ Memory) }
+{
+    if let Value::Text(text) = value {
+        return Ok(text);
+    }
+    match format!(in alloc; "{value}") {
+        Ok(text) => Ok(text),
+        Err(_) => Err(Cause::Memory),
     }
 }
 

@@ -4,8 +4,11 @@
 #![tactic(auto)]
 
 ghost use Rattle.std.specs.Prelude.{◌≡◌, ◌<◌, ◌⊎◌, ◌↔◌, ℕ, Option, Some, None, length, take, [], IfSome};
+ghost use Rattle.vast_list.specs.Session.{IsSame};
+ghost use Rattle.vast_literal.specs.declared.kind.VastFileType.TheVariants.{Verilog, SystemVerilog};
+ghost use Rattle.vast_c.specs.declared.kept.Cause.TheVariants.{Memory};
 ghost use Rattle.vast_c.specs.Lines.{lines_of};
-ghost use Rattle.vast_c.specs.Seen.{answer_in, call_in, column_in, Copied, file_in, line_in, message_in, session_in, words_in};
+ghost use Rattle.vast_c.specs.Seen.{answer_in, call_in, column_in, Copied, file_in, IsFresh, IsSameTree, line_in, Made, message_in, Printed, session_in, words_in};
 
 mod handle;
 mod kept;
@@ -69,7 +72,8 @@ pub const COLUMN: i32 = 2;
 /// A session with an empty file, in place of one that was there.
 #[unsafe(no_mangle)]
 pub extern "C" fn vast_open(alloc: Global, handle: &mut Handle, dialect: i32) -> i32
-    ensures opened { result ≡ OK → ¬ (handle.new.kept ≡ None) }
+    ensures verilog { result ≡ OK → dialect ≡ VERILOG → IsFresh Verilog handle.new.kept }
+    ensures systemverilog { result ≡ OK → dialect ≡ SYSTEMVERILOG → IsFresh SystemVerilog handle.new.kept }
     ensures dialect { result ≡ NO_DIALECT ↔ ¬ (dialect ≡ VERILOG) × ¬ (dialect ≡ SYSTEMVERILOG) }
     ensures unchanged { ¬ (result ≡ OK) → handle.new.kept ≡ handle.old.kept }
 {
@@ -94,7 +98,8 @@ pub extern "C" fn vast_lines(
     taken: &mut usize,
 ) -> i32
     ensures closed { result ≡ NOT_OPEN ↔ handle.old.kept ≡ None }
-    ensures none { result ≡ NOT_OPEN → taken.new ≡ 0 }
+    ensures made { Made handle.old.kept taken.new IsSameTree handle.new.kept }
+    ensures exact { ¬ (result ≡ MEMORY) → Made handle.old.kept taken.new IsSame handle.new.kept }
     ensures all { result ≡ OK → taken.new ≡ length (lines_of lines.now) }
     ensures fault { ¬ (result ≡ OK) → ¬ (result ≡ NOT_OPEN) → taken.new < length (lines_of lines.now) }
 {
@@ -112,6 +117,7 @@ pub extern "C" fn vast_lines(
 }
 
 fn status(cause: Cause) -> i32
+    ensures memory { result ≡ MEMORY → cause ≡ Memory }
     ensures ok { ¬ (result ≡ OK) }
     ensures open { ¬ (result ≡ NOT_OPEN) }
 {
@@ -127,6 +133,7 @@ fn status(cause: Cause) -> i32
 #[unsafe(no_mangle)]
 pub extern "C" fn vast_print(alloc: Global, handle: &mut Handle) -> i32
     ensures closed { result ≡ NOT_OPEN ↔ handle.old.kept ≡ None }
+    ensures printed { result ≡ OK → Printed handle.old.kept handle.new.kept }
     ensures session { session_in handle.new.kept ≡ session_in handle.old.kept }
 {
     let Some(mut kept) = handle.take(alloc) else {
