@@ -1,16 +1,17 @@
 """The methods of the Python binding: `vast/kinds.py`, a class for each kind of handles, and `vast/calls.py`, the calls of a
 file."""
 import keyword
-import textwrap
+import re
 
-from table import Type
+from python_text import WIDTH, doc, wrapped
+from python_words import MEANINGS, NOTES, REFUSALS, SAYS
+from table import Type, parts
 
 FOLDER = "bindings/python/vast"
 HEAD = '"""{}\n\nWritten by tools/bindings_from_calls from the table of calls; not to be edited."""\n'
-WIDTH = 100
 
-# Kinds with methods of their own, the class written by hand that each stands on (`words.py`), and what the names of the
-# calls begin with where their first argument is such a handle.
+# Kinds with methods of their own, the class that each stands on (`words.py`, `operators.py`), and what the names of the calls
+# begin with where their first argument is such a handle.
 OWNERS = {
     "module": ("ModuleWords", "module_"),
     "function": ("FunctionWords", "function_"),
@@ -29,6 +30,8 @@ OWNERS = {
 FAMILIES = {"expression": "Expression", "indexable": "Selectable"}
 # Calls of files alone, though their first argument is a handle.
 NO_METHODS = ("add_registers",)
+# What `core.py` has.
+BY_HAND = ("emit",)
 DEFAULTS = {
     "signed": "False",
     "invert": "False",
@@ -38,37 +41,6 @@ DEFAULTS = {
     "label": "None",
     "reset_value": "None",
     "enable": "None",
-}
-# What a parameter is measured in and must be, by its name or by call and name.
-NOTES = {
-    "bit_count": "in bits",
-    "make_indexed_part_select.width": "in bits, or in elements of an array",
-    "hi": "a bit's or an element's number, from 0",
-    "make_slice_expr.hi": "a bit's or an element's number",
-    "make_slice_expr.lo": "a bit's or an element's number",
-    "lo": "a bit's or an element's number, from 0",
-    "make_index.index": "a bit's or an element's number, from 0",
-    "dimensions": "numbers of elements, the outermost dimension first",
-    "hoist_module_declarations.start": "in members, from 0",
-    "make_literal.text": "`bits[WIDTH]:VALUE`, of 1 to 1,048,576 bits and a value below 2^128",
-    "bits_msb": "digits `0`, `1` and `?`, the highest first",
-    "make_replicated_concat_i64.replication": "how many times",
-    "sensitivity_list": "edges, or names",
-    "connection_expressions": "`None` leaves the port open",
-    "label": "of the loop's block; `None` for no label",
-}
-SAYS = {
-    "DataKind": "What a definition declares.",
-    "LiteralFormat": "How a literal is written.",
-    "ModulePortDirection": "Which way a port leads.",
-    "Port": "A port, as `File.module_ports` tells it: its width in bits, 0 where it isn't known.",
-    "RegisterDefinition": "A register of `File.add_registers`, with its value at reset, and when it changes.",
-    "Reset": "The reset of `File.add_registers`.",
-}
-ANSWERS = {
-    "type_width_as_int64": "in bits",
-    "type_flat_bit_count_as_int64": "in bits",
-    "module_member_count": "in members",
 }
 INTEGERS = {(-(2**31), 2**31 - 1): "int32", (-(2**63), 2**63 - 1): "int64", (0, 2**64 - 1): "size"}
 
@@ -157,7 +129,7 @@ class PythonBinding:
         kinds = [self.kind_class(kind) for kind in self.table.kinds if kind.kind not in ("scope", "port")]
         groups = [self.group(type) for type in self.table.named_types("group")]
         scope = ", ".join(class_of(self.kinds[each]) for each in self.kinds["scope"].takes)
-        words = sorted({words[0] for words in OWNERS.values()} - set(FAMILIES.values()))
+        words = sorted({words[0] for words in OWNERS.values() if words[0].endswith("Words")})
         return "\n".join(
             [
                 HEAD.format("The kinds of handles, and the enums and groups of calls."),
@@ -165,6 +137,7 @@ class PythonBinding:
                 "import enum",
                 "from typing import List, NamedTuple, Optional, Sequence, Union\n",
                 "from .handle import Handle",
+                "from .operators import Operators",
                 "from .words import (",
             ]
             + [f"    {word}," for word in words]
@@ -249,7 +222,8 @@ class PythonBinding:
     def calls_file(self):
         """The calls of a file."""
         groups = [type for type in self.table.named_types("group") if self.is_argument(type)]
-        writers = [self.group_writer(type) for type in groups]
+        body = [self.group_writer(type) for type in groups]
+        body += [self.call(call) for call in self.table.calls if call.method not in BY_HAND]
         return "\n".join(
             [
                 HEAD.format("The calls of a file."),
@@ -258,7 +232,7 @@ class PythonBinding:
                 "from .core import Core",
                 "from .kinds import (",
             ]
-            + [f"    {name}," for name in self.imported()]
+            + [f"    {name}," for name in self.imported("\n".join(body))]
             + [
                 ")",
                 "from .writing import int32, int64, listed, optional, quoted, size, truth, word",
@@ -266,8 +240,7 @@ class PythonBinding:
                 "class Calls(Core):",
                 '    """Each call of the table, by its name in snake case."""\n',
             ]
-            + writers
-            + [self.call(call) for call in self.table.calls]
+            + body
         )
 
     def is_argument(self, type):
@@ -276,15 +249,15 @@ class PythonBinding:
             type.of == part.of
             for call in self.table.calls
             for parameter in call.parameters
-            for part in parts_of(parameter.type)
+            for part in parts(parameter.type)
         )
 
-    def imported(self):
+    def imported(self, body):
         """The names of `kinds.py` that the calls use."""
         names = [class_of(kind) for kind in self.table.kinds if kind.kind != "port"]
         names += ["Operand", "TypeLike", *FAMILIES.values()]
         names += [type.of for form in ("word", "group") for type in self.table.named_types(form)]
-        return sorted(set(names))
+        return sorted(name for name in set(names) if re.search(rf"\b{name}\b", body))
 
     def group_writer(self, type):
         """The method that writes such a group."""
@@ -328,11 +301,7 @@ class PythonBinding:
 
     def says(self, call):
         """What the doc comment of a call says."""
-        meaning = call.meaning[0].upper() + call.meaning[1:]
-        if call.answer.form == "truth":
-            meaning = f"Whether: {call.meaning}"
-        if call.method in ANSWERS:
-            meaning += f", {ANSWERS[call.method]}"
+        meaning = MEANINGS.get(call.method) or call.meaning[0].upper() + call.meaning[1:]
         said = [meaning + "."]
         for parameter in call.parameters:
             note = NOTES.get(f"{call.method}.{parameter.name}") or NOTES.get(parameter.name)
@@ -340,8 +309,8 @@ class PythonBinding:
                 said.append(f"`{parameter.name}`: {note}.")
         if call.conditions:
             said.append(f"Raises `Condition` unless: {call.conditions}.")
-        if call.is_refused:
-            said.append("Raises `Refused` where it is refused.")
+        if call.method in REFUSALS:
+            said.append(f"Raises `Refused` {REFUSALS[call.method]}.")
         return "\n".join(said)
 
     def body(self, call):
@@ -372,56 +341,3 @@ READERS = {
 def reader_key(type):
     """The forms of an answer."""
     return (type.form, type.of.form) if isinstance(type.of, Type) else (type.form,)
-
-
-def parts_of(type):
-    """The type and those within it."""
-    yield type
-    if isinstance(type.of, Type):
-        yield from parts_of(type.of)
-    for field in type.fields:
-        yield from parts_of(field.type)
-
-
-def wrapped(start, expression):
-    """A statement; an f-string that is too long for its line is joined of parts."""
-    line = start + expression
-    if len(line) <= WIDTH:
-        return line
-    head, _, rest = expression.partition('f"')
-    text, _, tail = rest.rpartition('"')
-    indent = " " * (len(start) - len(start.lstrip()) + 4)
-    rows = "\n".join(f'{indent}f"{part}"' for part in pieces(text, WIDTH - len(indent) - 3))
-    if not head:
-        head, tail = "(", ")"
-    closing = " " * (len(start) - len(start.lstrip()))
-    return f"{start}{head}\n{rows}\n{closing}{tail}"
-
-
-def pieces(text, width):
-    """Parts of the text of an f-string, cut before a space that stands between two arguments."""
-    cuts, depth = [], 0
-    for at, character in enumerate(text):
-        depth += {"{": 1, "}": -1}.get(character, 0)
-        if character == " " and depth == 0:
-            cuts.append(at)
-    found, start = [], 0
-    for cut, after in zip(cuts, cuts[1:] + [len(text)]):
-        if after - start > width and cut > start:
-            found.append(text[start:cut])
-            start = cut
-    return found + [text[start:]]
-
-
-def doc(text, indent):
-    """A doc string of a first paragraph and, in the lines behind it, others."""
-    first, *others = [
-        textwrap.wrap(line, WIDTH - len(indent) - 3, break_on_hyphens=False)
-        for line in text.split("\n")
-    ]
-    if len(first) == 1 and not others:
-        return f'{indent}"""{first[0]}"""'
-    rows = [indent + row for row in first[1:]]
-    rows += [""] if others else []
-    rows += [indent + row for other in others for row in other]
-    return "\n".join([f'{indent}"""{first[0]}', *rows, f'{indent}"""'])

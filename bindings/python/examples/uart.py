@@ -21,8 +21,9 @@ def uart() -> str:
         m.assign(tx, state.eq(send).ternary(shift[0], state.ne(begin)))
         with m.always_ff(clk.posedge, rst_n.negedge) as block:
             with block.if_(rst_n.logical_not()) as arm:
-                for register, value in ((state, idle), (ticks, 0), (place, 0), (shift, 0)):
-                    arm.nonblocking(register, value)
+                arm.nonblocking(state, idle)
+                for register in (ticks, place, shift):
+                    arm.nonblocking(register, 0)
             with arm.else_() as arm:
                 arm.nonblocking(ticks, state.eq(idle).logical_or(last).ternary(0, ticks + 1))
                 with arm.case(state, unique=True) as cases:

@@ -18,7 +18,6 @@ from .kinds import (
     DataType,
     Def,
     Expr,
-    Expression,
     Function,
     GenerateLoop,
     Index,
@@ -31,7 +30,6 @@ from .kinds import (
     MacroRef,
     MacroStatement,
     Module,
-    ModulePortDirection,
     Operand,
     ParameterRef,
     Port,
@@ -188,7 +186,7 @@ class Calls(Core):
         """The literal `bits[N]:value` in the format: refused as a text first, then by the format.
 
         `text`: `bits[WIDTH]:VALUE`, of 1 to 1,048,576 bits and a value below 2^128.
-        Raises `Refused` where it is refused.
+        Raises `Refused` where the text is no such literal, or the format doesn't hold its value.
         """
         return Expr(self, self._now(f"MakeLiteral {quoted(text)} {word(LiteralFormat, format)}"))
 
@@ -196,7 +194,7 @@ class Calls(Core):
         """A pattern, whose value isn't known.
 
         `bits_msb`: digits `0`, `1` and `?`, the highest first.
-        Raises `Refused` where it is refused.
+        Raises `Refused` where there is another digit, none, or more than 1,048,576.
         """
         return Expr(self, self._now(f"MakeBinaryPattern {quoted(bits_msb)}"))
 
@@ -471,7 +469,7 @@ class Calls(Core):
     def add_reg(self, owner: Module, name: str, data_type: TypeLike) -> LogicRef:
         """A reg, or the name is taken.
 
-        Raises `Refused` where it is refused.
+        Raises `Refused` where the module has the name.
         """
         return LogicRef(self, self._now(
             f"AddReg {self._own(owner, Module)} {quoted(name)} {self._type(data_type)}"
@@ -480,7 +478,7 @@ class Calls(Core):
     def add_logic(self, owner: Module, name: str, data_type: TypeLike) -> LogicRef:
         """A logic, or the name is taken.
 
-        Raises `Refused` where it is refused.
+        Raises `Refused` where the module has the name.
         """
         return LogicRef(self, self._now(
             f"AddLogic {self._own(owner, Module)} {quoted(name)} {self._type(data_type)}"
@@ -598,7 +596,7 @@ class Calls(Core):
         """`always_ff`, as the loop's last member.
 
         `sensitivity_list`: edges, or names.
-        Raises `Refused` where it is refused.
+        Raises `Refused` where an event is neither an edge nor a name.
         """
         return AlwaysBase(self, self._now(
             f"GenerateAddAlwaysFf {self._own(generate, GenerateLoop)}"
@@ -613,7 +611,7 @@ class Calls(Core):
         """`always @`, as the loop's last member.
 
         `sensitivity_list`: edges, or names.
-        Raises `Refused` where it is refused.
+        Raises `Refused` where an event is neither an edge nor a name.
         """
         return AlwaysBase(self, self._now(
             f"GenerateAddAlwaysAt {self._own(generate, GenerateLoop)}"
@@ -708,7 +706,7 @@ class Calls(Core):
     def add_function(self, owner: Module, name: str, result_type: TypeLike) -> Function:
         """A function with an empty body, as the last member.
 
-        Raises `Refused` where it is refused.
+        Raises `Refused` where the result is an unpacked array, or the module has the name.
         """
         return Function(self, self._now(
             f"AddFunction {self._own(owner, Module)} {quoted(name)} {self._type(result_type)}"
@@ -717,7 +715,7 @@ class Calls(Core):
     def function_add_input(self, function: Function, name: str, data_type: TypeLike) -> LogicRef:
         """An input with the word `reg`, as the last; its name as an expression.
 
-        Raises `Refused` where it is refused.
+        Raises `Refused` where the function has the name.
         """
         return LogicRef(self, self._now(
             f"FunctionAddInput {self._own(function, Function)} {quoted(name)}"
@@ -732,7 +730,7 @@ class Calls(Core):
     ) -> LogicRef:
         """An input with the word `logic`, as the last; its name as an expression.
 
-        Raises `Refused` where it is refused.
+        Raises `Refused` where the function has the name.
         """
         return LogicRef(self, self._now(
             f"FunctionAddLogicInput {self._own(function, Function)} {quoted(name)}"
@@ -742,7 +740,7 @@ class Calls(Core):
     def function_add_reg(self, function: Function, name: str, data_type: TypeLike) -> LogicRef:
         """A reg, as the last local; its name as an expression.
 
-        Raises `Refused` where it is refused.
+        Raises `Refused` where the function has the name.
         """
         return LogicRef(self, self._now(
             f"FunctionAddReg {self._own(function, Function)} {quoted(name)} {self._type(data_type)}"
@@ -751,7 +749,7 @@ class Calls(Core):
     def function_add_logic(self, function: Function, name: str, data_type: TypeLike) -> LogicRef:
         """A logic, as the last local; its name as an expression.
 
-        Raises `Refused` where it is refused.
+        Raises `Refused` where the function has the name.
         """
         return LogicRef(self, self._now(
             f"FunctionAddLogic {self._own(function, Function)} {quoted(name)}"
@@ -770,7 +768,7 @@ class Calls(Core):
         """`always_ff`, as the module's last member.
 
         `sensitivity_list`: edges, or names.
-        Raises `Refused` where it is refused.
+        Raises `Refused` where an event is neither an edge nor a name.
         """
         return AlwaysBase(self, self._now(
             f"AddAlwaysFf {self._own(owner, Module)} {listed(self._value, sensitivity_list)}"
@@ -780,7 +778,7 @@ class Calls(Core):
         """`always @`, as the module's last member.
 
         `sensitivity_list`: edges, or names.
-        Raises `Refused` where it is refused.
+        Raises `Refused` where an event is neither an edge nor a name.
         """
         return AlwaysBase(self, self._now(
             f"AddAlwaysAt {self._own(owner, Module)} {listed(self._value, sensitivity_list)}"
@@ -913,7 +911,7 @@ class Calls(Core):
     def case_set_unique(self, case: CaseStatement, unique: bool = True) -> None:
         """`unique` or not; `unique` is refused in Verilog.
 
-        Raises `Refused` where it is refused.
+        Raises `Refused` for `True` in Verilog.
         """
         self._now(f"CaseSetUnique {self._own(case, CaseStatement)} {truth(unique)}")
 
@@ -1023,18 +1021,19 @@ class Calls(Core):
         )
 
     def conditional_has_else(self, conditional: Conditional) -> bool:
-        """Whether: it has its `else`."""
+        """Whether it has its `else`."""
         return read_truth(self._ask(f"?ConditionalHasElse {self._own(conditional, Conditional)}"))
 
     def emit_expression(self, e: Operand) -> str:
         """The text of the expression, or its first refusal.
 
-        Raises `Refused` where it is refused.
+        Raises `Refused` where an index or a slice of a named scalar has a bound that is no
+        literal 0.
         """
         return self._ask(f"?EmitExpression {self._value(e)}")
 
     def is_system_verilog_keyword(self, identifier: str) -> bool:
-        """Whether: exactly on the list of keywords."""
+        """Whether the word is a keyword of Verilog or SystemVerilog."""
         return read_truth(self._ask(f"?IsSystemVerilogKeyword {quoted(identifier)}"))
 
     def logic_ref_name(self, logic_ref: LogicRef) -> str:
@@ -1046,7 +1045,7 @@ class Calls(Core):
         return read_ports(self._ask(f"?ModuleInputPorts {self._own(owner, Module)}"))
 
     def module_member_count(self, owner: Module) -> int:
-        """The number of its members, in members."""
+        """The number of its members."""
         return read_number(self._ask(f"?ModuleMemberCount {self._own(owner, Module)}"))
 
     def module_name(self, owner: Module) -> str:
@@ -1062,32 +1061,32 @@ class Calls(Core):
         return read_ports(self._ask(f"?ModulePorts {self._own(owner, Module)}"))
 
     def name_is_free(self, owner: Module, name: str) -> bool:
-        """Whether: no port, wire, reg, logic or function of the module has the name."""
+        """Whether no port, wire, reg, logic or function of the module has the name."""
         return read_truth(self._ask(f"?NameIsFree {self._own(owner, Module)} {quoted(name)}"))
 
     def type_can_be_cast(self, data_type: TypeLike) -> bool:
-        """Whether: no array."""
+        """Whether it is no array."""
         return read_truth(self._ask(f"?TypeCanBeCast {self._type(data_type)}"))
 
     def type_can_be_packed(self, data_type: TypeLike) -> bool:
-        """Whether: no unpacked array, `integer` or `int`."""
+        """Whether it is no unpacked array, `integer` or `int`."""
         return read_truth(self._ask(f"?TypeCanBePacked {self._type(data_type)}"))
 
     def type_flat_bit_count_as_int64(self, data_type: TypeLike) -> int:
-        """The bits of the type within times all dimensions, or the first refusal, in bits.
+        """The bits of the type within the arrays times all dimensions.
 
-        Raises `Refused` where it is refused.
+        Raises `Refused` where they aren't known, or are 2^63 or more.
         """
         return read_number(self._ask(f"?TypeFlatBitCountAsInt64 {self._type(data_type)}"))
 
     def type_is_signed(self, data_type: TypeLike) -> bool:
-        """Whether: the sign of the type within the arrays."""
+        """Whether the type within the arrays is signed."""
         return read_truth(self._ask(f"?TypeIsSigned {self._type(data_type)}"))
 
     def type_width_as_int64(self, data_type: TypeLike) -> int:
-        """The width that the type within the arrays declares, or why it has none, in bits.
+        """The width, in bits, that the type within the arrays declares.
 
-        Raises `Refused` where it is refused.
+        Raises `Refused` where it declares none, or none that is a number.
         """
         return read_number(self._ask(f"?TypeWidthAsInt64 {self._type(data_type)}"))
 
@@ -1096,7 +1095,7 @@ class Calls(Core):
         return read_optional(self._ask(f"?TypeWidthExpr {self._type(data_type)}"))
 
     def width_is_usable(self, width: Operand) -> bool:
-        """Whether: no literal with a value below 1."""
+        """Whether it is no literal with a value below 1."""
         return read_truth(self._ask(f"?WidthIsUsable {self._value(width)}"))
 
     def add_registers(
@@ -1109,7 +1108,7 @@ class Calls(Core):
         """One `always_ff`, last in its scope, by which each register takes its value; a reset value
         without a reset is refused; no registers change nothing.
 
-        Raises `Refused` where it is refused.
+        Raises `Refused` where a register has a value at reset and there is no reset.
         """
         self._now(
             f"!AddRegisters {self._value(clk)} {optional(self._reset, reset)}"
@@ -1118,10 +1117,7 @@ class Calls(Core):
         )
 
     def bitwise_or_reduce(self, values: Sequence[Operand]) -> Expr:
-        """`a | b | c`, of none `'0`.
-
-        Raises `Refused` where it is refused.
-        """
+        """`a | b | c`, of none `'0`."""
         return Expr(self, self._now(f"!BitwiseOrReduce {listed(self._value, values)}"))
 
     def bitwise_or_reduce_array_elements(
@@ -1132,26 +1128,20 @@ class Calls(Core):
         """All elements joined by `|`, those of the first slot first, or the first check that fails.
 
         `dimensions`: numbers of elements, the outermost dimension first.
-        Raises `Refused` where it is refused.
+        Raises `Refused` where there is no dimension, one is 0, or they aren't the value's.
         """
         return Expr(self, self._now(
             f"!BitwiseOrReduceArrayElements {self._subject(value)} {listed(int64, dimensions)}"
         ))
 
     def logical_and_reduce(self, values: Sequence[Operand], invert: bool = False) -> Expr:
-        """`a && b && c`, of none `1'h1`; inverted one `!` over the whole, of none `1'h0`.
-
-        Raises `Refused` where it is refused.
-        """
+        """`a && b && c`, of none `1'h1`; inverted one `!` over the whole, of none `1'h0`."""
         return Expr(self, self._now(
             f"!LogicalAndReduce {listed(self._value, values)} {truth(invert)}"
         ))
 
     def logical_or_reduce(self, values: Sequence[Operand], invert: bool = False) -> Expr:
-        """`a || b || c`, of none `1'h0`; inverted one `!` over the whole, of none `1'h1`.
-
-        Raises `Refused` where it is refused.
-        """
+        """`a || b || c`, of none `1'h0`; inverted one `!` over the whole, of none `1'h1`."""
         return Expr(self, self._now(
             f"!LogicalOrReduce {listed(self._value, values)} {truth(invert)}"
         ))

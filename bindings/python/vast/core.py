@@ -1,16 +1,27 @@
 """The lines of a file, and when they are sent."""
 from __future__ import annotations
 
-from typing import Dict, List, Optional, Tuple, Type, Union
+import os
+import sys
+from typing import Any, Dict, List, Optional, Tuple, Type, Union
 
 from .errors import Condition, VastFault
 from .handle import Handle
 from .kinds import DataType, Expression, Operand, Selectable, TypeLike
 from .session import Session
-from .writing import int32
+from .writing import int32, int64
 
 # Lines that wait at most.
 BATCH = 1024
+_PACKAGE = os.path.dirname(os.path.abspath(__file__))
+
+
+def caller() -> str:
+    """The file and line of Python that called this package."""
+    frame = sys._getframe(1)
+    while frame.f_back is not None and os.path.dirname(frame.f_code.co_filename) == _PACKAGE:
+        frame = frame.f_back
+    return f"{frame.f_code.co_filename}:{frame.f_lineno}"
 
 
 class Core:
@@ -21,10 +32,12 @@ class Core:
     call does. What asks (`_ask`) is made at once too.
     """
 
-    def __init__(self, session: Session, strict: bool) -> None:
+    def __init__(self, session: Session, strict: bool, places: bool) -> None:
         self._session = session
         self._strict = strict
         self._lines: List[str] = []
+        # Of each line that was made or waits, where it was written.
+        self._places: Optional[List[str]] = [] if places else None
         self._count = 0
         self._types: Dict[int, int] = {}
         self._fault: Optional[VastFault] = None
@@ -40,13 +53,33 @@ class Core:
             raise self._fault
         if not self._lines:
             return
-        taken, fault = self._session.lines(self._lines)
-        del self._lines[:taken]
+        # Cleared behind the call, so that lines whose sending was interrupted, as from the keyboard, aren't sent twice.
+        self._fault = VastFault("a call was interrupted: whether it was made isn't known")
+        try:
+            taken, fault = self._session.lines(self._lines)
+            del self._lines[:taken]
+        except Exception:
+            self._fault = None
+            raise
+        self._fault = None
         if fault is None:
             return
-        if not isinstance(fault, MemoryError) and (len(self._lines) > 1 or not self._strict):
-            self._fault = fault
+        if isinstance(fault, VastFault):
+            self._placed(fault)
+            if len(self._lines) > 1 or not self._strict:
+                self._fault = fault
         raise fault
+
+    def _placed(self, fault: VastFault) -> None:
+        """Gives the fault its place."""
+        if self._places is not None and fault.line is not None and fault.line < len(self._places):
+            fault.place = self._places[fault.line]
+
+    def _append(self, line: str) -> None:
+        """One line more that waits."""
+        self._lines.append(line)
+        if self._places is not None:
+            self._places.append(caller())
 
     def _later(self, line: str) -> int:
         """The number of a call that waits."""
@@ -54,28 +87,45 @@ class Core:
             self.flush()
         number = self._count
         self._count = number + 1
-        self._lines.append(line)
+        self._append(line)
         return number
 
     def _now(self, line: str) -> int:
         """The number of a call that is made at once, or its fault, and then nothing changed."""
         if not self._strict:
             return self._later(line)
-        self._lines.append(line)
+        self._append(line)
         try:
             self.flush()
         except BaseException:
             # Where an earlier line was refused memory, this one stands behind it, and is let go.
             del self._lines[-1:]
+            if self._places is not None:
+                del self._places[-1:]
             raise
         number = self._count
         self._count = number + 1
         return number
 
-    def _ask(self, line: str) -> str:
-        """The answer's text."""
+    def _ask(self, line: str) -> Any:
+        """The answer, as the session has it."""
         self.flush()
-        return self._session.ask(line)
+        answer = self._session.ask(line)
+        if self._places is not None:
+            self._places.append(caller())
+        return answer
+
+    def emit(self) -> str:
+        """The text of the file.
+
+        Raises `Refused` where an index or a slice of a named scalar has a bound that is no literal 0.
+        """
+        self.flush()
+        try:
+            return self._session.text()
+        except VastFault as fault:
+            self._placed(fault)
+            raise
 
     def _own(self, given: Handle, kind: Union[Type[Handle], Tuple[Type[Handle], ...]]) -> int:
         """The number of a handle of this kind."""
@@ -109,5 +159,5 @@ class Core:
         if not isinstance(given, int) or isinstance(given, bool):
             raise TypeError(f"a type or a number of bits is wanted, not {given!r}")
         if given not in self._types:
-            self._types[given] = self.make_bit_vector_type(given).number
+            self._types[given] = self._now(f"MakeBitVectorType {int64(given)} false")
         return self._types[given]

@@ -41,6 +41,9 @@ class File(Calls):
     call of the file raises it again. Wrong kinds of handles and numbers out of range are `TypeError` and `ValueError` of the
     call itself in either case, handles of another file `Condition`.
 
+    With `places=True` each fault names the line of Python that made the call, and over the library a refusal of `emit` the
+    line whose call made what is refused; calls then take about twice as long.
+
     A file is used by one thread at a time.
     """
 
@@ -48,10 +51,11 @@ class File(Calls):
         self,
         dialect: Union[FileType, str] = FileType.SYSTEM_VERILOG,
         strict: bool = True,
+        places: bool = False,
         session: Optional[Session] = None,
     ) -> None:
         self.file_type = FileType(dialect)
-        super().__init__(session or open_session(self.file_type.value), strict)
+        super().__init__(session or open_session(self.file_type.value), strict, places)
 
     @classmethod
     def listed(cls, dialect: Union[FileType, str] = FileType.SYSTEM_VERILOG) -> File:
@@ -65,16 +69,8 @@ class File(Calls):
         self.close()
 
     def close(self) -> None:
-        """Lets go of the file's memory. No call may be made of it afterwards."""
+        """Lets go of the file, as is done where nothing holds it any more. Each later call that is sent is a `ValueError`."""
         self._session.close()
-
-    def emit(self) -> str:
-        """The text of the file.
-
-        Raises `Refused` where an index or a slice of a named scalar has a bound that is no literal 0.
-        """
-        self.flush()
-        return self._session.text()
 
     def add_function(self, owner: Module, name: str, result_type: TypeLike) -> Function:
         made = super().add_function(owner, name, result_type)

@@ -1,7 +1,7 @@
 """What all handles are."""
 from __future__ import annotations
 
-from typing import TYPE_CHECKING
+from typing import TYPE_CHECKING, Any
 
 if TYPE_CHECKING:
     from .file import File
@@ -15,8 +15,10 @@ class Handle:
     """
 
     __slots__ = ("file", "number")
+    file: File
+    number: int
 
-    def __init__(self, file: "File", number: int) -> None:
+    def __init__(self, file: Any, number: int) -> None:
         self.file = file
         self.number = number
 

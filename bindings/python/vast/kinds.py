@@ -8,6 +8,7 @@ import enum
 from typing import List, NamedTuple, Optional, Sequence, Union
 
 from .handle import Handle
+from .operators import Operators
 from .words import (
     AlwaysWords,
     BlockWords,
@@ -16,7 +17,6 @@ from .words import (
     FunctionWords,
     LoopWords,
     ModuleWords,
-    Operators,
     TypeWords,
 )
 
@@ -55,8 +55,8 @@ class ModulePortDirection(enum.Enum):
 
 
 class Expression(Operators):
-    """What may stand as `Expr`: Expr, LogicRef, IndexableExpr, Slice, Index, ParameterRef,
-    LocalparamRef, MacroRef.
+    """What may stand as `Expr`: Expr, LogicRef, IndexableExpr, Slice, Index, MacroRef,
+    ParameterRef, LocalparamRef.
     """
 
     __slots__ = ()

@@ -1,17 +1,24 @@
 """What makes the calls: the proved library by its shared library, or the proved program by pipes."""
 from __future__ import annotations
 
+import functools
 import json
 import os
 import shutil
 import subprocess
+import weakref
+from bisect import bisect_left
 from ctypes import CDLL, POINTER, byref, c_char_p, c_int32, c_size_t, c_void_p, create_string_buffer
-from typing import List, Optional, Protocol, Tuple
+from typing import IO, Any, Iterator, List, Optional, Protocol, Tuple, cast
 
-from .errors import Condition, NoLibrary, NotInForm, Refused, VastFault
+from .errors import Condition, NoLibrary, NotInForm, Refused, read_fault
 
 _HERE = os.path.dirname(os.path.abspath(__file__))
 _ROOT = os.path.dirname(os.path.dirname(os.path.dirname(_HERE)))
+
+
+class Plain(str):
+    """An answer as lists print it, where another session has a value of JSON."""
 
 
 class Session(Protocol):
@@ -20,8 +27,8 @@ class Session(Protocol):
     def lines(self, lines: List[str]) -> Tuple[int, Optional[Exception]]:
         """Makes the calls of the lines up to the first at fault: how many were made, and the fault if there is one."""
 
-    def ask(self, line: str) -> str:
-        """The answer of a question. Raises its fault."""
+    def ask(self, line: str) -> Any:
+        """The answer of a question, `Plain` or of JSON. Raises its fault."""
 
     def text(self) -> str:
         """The text of the file. Raises its refusal."""
@@ -40,36 +47,39 @@ class LibrarySession:
     def __init__(self, library: CDLL, dialect: str) -> None:
         self._library = library
         self._at = c_void_p()
-        self._check(library.vast_open(byref(self._at), self.DIALECTS[dialect]))
+        self._session = byref(self._at)
+        self._taken = c_size_t()
+        self._taken_at = byref(self._taken)
+        self._check(library.vast_open(self._session, self.DIALECTS[dialect]))
+        self._end = weakref.finalize(self, library.vast_close, self._session)
 
     def lines(self, lines: List[str]) -> Tuple[int, Optional[Exception]]:
         """See `Session`."""
         sent = "\n".join(lines).encode()
-        taken = c_size_t()
-        status = self._library.vast_lines(byref(self._at), sent, len(sent), byref(taken))
-        return taken.value, None if status == 0 else self._fault(status)
+        status = self._library.vast_lines(self._session, sent, len(sent), self._taken_at)
+        return self._taken.value, None if status == 0 else self._fault(status)
 
-    def ask(self, line: str) -> str:
+    def ask(self, line: str) -> Plain:
         """See `Session`."""
         _, fault = self.lines([line])
         if fault is not None:
             raise fault
-        return self._text(self.ANSWER)
+        return Plain(self._text(self.ANSWER))
 
     def text(self) -> str:
         """See `Session`."""
-        self._check(self._library.vast_print(byref(self._at)))
+        self._check(self._library.vast_print(self._session))
         return self._text(self.FILE)
 
     def close(self) -> None:
         """See `Session`."""
-        self._library.vast_close(byref(self._at))
+        self._end()
 
     def _text(self, number: int) -> str:
         """A text of the session."""
-        length = self._library.vast_text(byref(self._at), number, None, 0)
+        length = self._library.vast_text(self._session, number, None, 0)
         room = create_string_buffer(length + 1)
-        self._library.vast_text(byref(self._at), number, room, length)
+        self._library.vast_text(self._session, number, room, length)
         return room.raw[:length].decode()
 
     def _check(self, status: int) -> None:
@@ -82,7 +92,7 @@ class LibrarySession:
             return MemoryError("out of memory")
         if status == 5:
             return ValueError("the file is closed")
-        return self.FAULTS[status](self._text(self.MESSAGE))
+        return read_fault(self.FAULTS[status], self._text(self.MESSAGE))
 
 
 def load_library(path: str) -> CDLL:
@@ -102,36 +112,119 @@ def load_library(path: str) -> CDLL:
 class ProcessSession:
     """A process `vast_replay --session`: a line in, a line of JSON out."""
 
-    # Bytes that are sent before their answers are read: what a pipe holds at least, so that writing never waits for an
-    # answer to be read.
+    # Bytes that are sent before their answers are read: less than a pipe holds, so that sending never waits for a reading.
     ROOM = 32768
+    FAULTS = {
+        "refused": Refused,
+        "condition": Condition,
+        "kind": Condition,
+        "no answer": Condition,
+        "form": NotInForm,
+    }
 
     def __init__(self, program: str, dialect: str) -> None:
         self._process = subprocess.Popen(
-            [program, "--session"], stdin=subprocess.PIPE, stdout=subprocess.PIPE, bufsize=-1
+            [program, "--session"], stdin=subprocess.PIPE, stdout=subprocess.PIPE
         )
-        _, fault = self.lines([dialect])
-        if fault is not None:
-            raise fault
+        self._input = cast(IO[bytes], self._process.stdin)
+        self._output = cast(IO[bytes], self._process.stdout)
+        self._end = weakref.finalize(self, end_process, self._process)
+        self._sent = 0
+        # Replies that are to come.
+        self._owed = 0
+        # The numbers, from 1, of lines that made nothing: the dialect's, those at fault, and questions for the text.
+        self._empty: List[int] = []
+        self._reply(dialect)
+        self._empty.append(1)
 
     def lines(self, lines: List[str]) -> Tuple[int, Optional[Exception]]:
-        """See `Session`."""
-        raise NotImplementedError
+        """See `Session`. Lines behind one at fault are sent all the same."""
+        made, first = 0, None
+        for sent, count in self._parts(lines):
+            self._send(sent, count)
+            for _ in range(count):
+                fault = self._fault_of(self._read())
+                if first is None:
+                    first = fault
+                    made += fault is None
+        return made, first
 
-    def ask(self, line: str) -> str:
+    def ask(self, line: str) -> Any:
         """See `Session`."""
-        raise NotImplementedError
+        reply = self._reply(line)
+        fault = self._fault_of(reply)
+        if fault is not None:
+            raise fault
+        return json.loads(reply)["answer"]
 
     def text(self) -> str:
         """See `Session`."""
-        raise NotImplementedError
+        text = self.ask("?Emit")
+        self._empty.append(self._sent)
+        return text
 
     def close(self) -> None:
         """See `Session`."""
-        if self._process.poll() is None:
-            self._process.stdin.close()
-            self._process.stdout.close()
-            self._process.wait()
+        self._end()
+
+    def _parts(self, lines: List[str]) -> Iterator[Tuple[bytes, int]]:
+        """The lines in parts of at most `ROOM` bytes, or of one line, with their numbers of lines."""
+        part: List[bytes] = []
+        length = 0
+        for line in lines:
+            sent = line.encode()
+            if part and length + len(sent) >= self.ROOM:
+                yield b"".join(part), len(part)
+                part, length = [], 0
+            part.append(sent + b"\n")
+            length += len(sent) + 1
+        if part:
+            yield b"".join(part), len(part)
+
+    def _reply(self, line: str) -> bytes:
+        """The reply to a line."""
+        self._send(line.encode() + b"\n", 1)
+        return self._read()
+
+    def _send(self, sent: bytes, count: int) -> None:
+        """Sends so many lines."""
+        if self._input.closed:
+            raise ValueError("the file is closed")
+        if self._owed:
+            raise BrokenPipeError("an exchange with vast_replay --session was interrupted")
+        self._owed = count
+        self._input.write(sent)
+        self._input.flush()
+
+    def _read(self) -> bytes:
+        """The next reply."""
+        reply = self._output.readline()
+        if not reply.endswith(b"\n"):
+            raise BrokenPipeError(f"vast_replay --session ended, status {self._process.wait()}")
+        self._owed -= 1
+        self._sent += 1
+        return reply
+
+    def _fault_of(self, reply: bytes) -> Optional[Exception]:
+        """The fault that a reply tells. Quotes within texts stand behind a backslash, so they are no sign of one."""
+        if b',"cause":"' not in reply:
+            return None
+        given = json.loads(reply)
+        self._empty.append(self._sent)
+        if given["cause"] == "memory":
+            return MemoryError("out of memory")
+        line = given["line"]
+        return self.FAULTS[given["cause"]](
+            given["words"], given.get("call"), line - 1 - bisect_left(self._empty, line)
+        )
+
+
+def end_process(process: subprocess.Popen) -> None:
+    """Ends a process by the end of its input."""
+    for stream in (process.stdin, process.stdout):
+        if stream is not None:
+            stream.close()
+    process.wait()
 
 
 class ListSession:
@@ -145,7 +238,7 @@ class ListSession:
         self._kept += lines
         return len(lines), None
 
-    def ask(self, line: str) -> str:
+    def ask(self, line: str) -> Any:
         """A list has no answers."""
         raise NoLibrary(f"a file that is only written as a list answers nothing: {line}")
 
@@ -157,23 +250,19 @@ class ListSession:
         """See `Session`."""
 
 
-_library: Optional[CDLL] = None
-
-
+@functools.lru_cache(maxsize=None)
 def found_library() -> Optional[CDLL]:
-    """The shared library: that of the path VAST_LIBRARY, or `libvast.so` beside this file."""
-    global _library
-    path = os.environ.get("VAST_LIBRARY", f"{_HERE}/libvast.so")
-    if _library is None and os.path.exists(path):
-        _library = load_library(path)
-    return _library
+    """The shared library: that of the path VAST_LIBRARY, or as `bindings/python/build` makes it; an empty path is none."""
+    path = os.environ.get("VAST_LIBRARY", f"{os.path.dirname(_HERE)}/out/libvast.so")
+    return load_library(path) if os.path.exists(path) else None
 
 
 def found_program() -> Optional[str]:
     """The program: that of the path VAST_REPLAY, or on PATH, or as it was built in this checkout."""
-    path = os.environ.get("VAST_REPLAY") or shutil.which("vast_replay")
-    built = f"{_ROOT}/crates/vast_replay/out/vast_replay"
-    return path or (built if os.path.exists(built) else None)
+    named = os.environ.get("VAST_REPLAY")
+    if named is not None:
+        return shutil.which(named)
+    return shutil.which("vast_replay") or shutil.which(f"{_ROOT}/crates/vast_replay/out/vast_replay")
 
 
 def open_session(dialect: str) -> Session:

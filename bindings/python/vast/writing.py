@@ -1,13 +1,15 @@
 """Arguments as lines have them, and answers as lines give them."""
 from __future__ import annotations
 
+import json
 import re
-from json.encoder import encode_basestring
-from typing import Callable, Iterable, List, Optional, Type, TypeVar
+from enum import Enum
+from typing import Any, Callable, Dict, Iterable, List, Optional, Type, Union
 
 from .kinds import ModulePortDirection, Port
+from .session import Plain
 
-T = TypeVar("T")
+_encoded = json.JSONEncoder(ensure_ascii=False).encode
 
 
 def quoted(text: str) -> str:
@@ -16,7 +18,7 @@ def quoted(text: str) -> str:
         raise TypeError(f"a text is wanted, not {text!r}")
     if not text.isascii():
         text.encode()  # Half of a surrogate pair is no character: a UnicodeEncodeError, before anything is made.
-    return encode_basestring(text)
+    return _encoded(text)
 
 
 def truth(given: bool) -> str:
@@ -51,45 +53,49 @@ def size(given: int) -> int:
     return _number(given, 0, 0xFFFF_FFFF_FFFF_FFFF)
 
 
-def word(kind: Type, given: object) -> str:
+def word(kind: Type[Enum], given: object) -> str:
     """A variant's word; the variant may be given by its word too."""
     return kind(given).value
 
 
-def listed(write: Callable[[T], object], given: Iterable[T]) -> str:
+def listed(write: Callable[[Any], object], given: Iterable[Any]) -> str:
     """A list."""
     if isinstance(given, str):
         raise TypeError(f"a list is wanted, not {given!r}")
     return "[ " + "".join([f"{write(item)} " for item in given]) + "]"
 
 
-def optional(write: Callable[[T], object], given: Optional[T]) -> str:
+def optional(write: Callable[[Any], object], given: Optional[Any]) -> str:
     """What may be `None`."""
     return "-" if given is None else f"+ {write(given)}"
 
 
-def read_truth(answer: str) -> bool:
+def read_truth(answer: Union[str, bool]) -> bool:
     """The answer of a test."""
-    return answer == "true"
+    return answer is True or answer == "true"
 
 
-def read_number(answer: str) -> int:
+def read_number(answer: Union[str, int]) -> int:
     """A number."""
     return int(answer)
 
 
-def read_optional(answer: str) -> Optional[str]:
+def read_optional(answer: Optional[str]) -> Optional[str]:
     """A text that may be missing."""
-    return None if answer == "-" else answer
+    return None if isinstance(answer, Plain) and answer == "-" else answer
 
 
 # A port's name stands at both ends, so that a space or a line break in it is no end.
-_PORT = re.compile(r"\n(.*?) (Input|Output|InOut) (-?\d+) (true|false) \1(?=\n|\Z)", re.DOTALL)
+_PORT = re.compile(r"\n(.*?) (Input|Output|InOut) (-?\d+) (true|false) (\1)(?=\n|\Z)", re.DOTALL)
 
 
-def read_ports(answer: str) -> List[Port]:
+def read_ports(answer: Union[str, List[Dict[str, Any]]]) -> List[Port]:
     """The ports of a module."""
+    if isinstance(answer, str):
+        rows = _PORT.findall(answer)
+    else:
+        rows = [[port[field] for field in Port._fields] for port in answer]
     return [
-        Port(name, ModulePortDirection(direction), int(width), signed == "true", name)
-        for name, direction, width, signed in _PORT.findall(answer)
+        Port(name, ModulePortDirection(direction), int(width), read_truth(signed), reference)
+        for name, direction, width, signed, reference in rows
     ]

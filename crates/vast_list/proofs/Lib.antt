@@ -1,1 +1,2 @@
 pub mod Headers
+mod JsonLaws

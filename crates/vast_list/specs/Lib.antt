@@ -1,1 +1,4 @@
 pub mod Output
+pub mod Json
+pub mod Helpers
+pub mod Session

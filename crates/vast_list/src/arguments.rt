@@ -1,17 +1,23 @@
 //! The arguments of a line, from the first to the last.
 
-use crate::problem::Problem;
+use crate::names::{Named, Names};
+use crate::problem::{Misfit, Problem};
+use crate::texts::unquoted;
 use std::alloc::Global;
-use std::collections::BTreeMap;
 
-/// The numbers of the steps that have a name.
-pub(crate) type Names = BTreeMap<String, usize>;
+/// What the reading of a line knows: the names so far, and which steps were passed over.
+#[derive(Clone, Copy)]
+pub(crate) struct Known<'a> {
+    pub(crate) alloc: Global,
+    pub(crate) names: &'a Names,
+    /// The numbers of steps and helpers that were passed over, from the least to the greatest.
+    pub(crate) skipped: &'a [usize],
+}
 
 /// What is left of a line behind its call: arguments with a space between two.
 #[derive(Clone, Copy)]
 pub(crate) struct Arguments<'a> {
-    alloc: Global,
-    names: &'a Names,
+    known: Known<'a>,
     rest: Option<&'a str>,
 }
 
@@ -21,18 +27,26 @@ pub(crate) trait FromArguments: Sized + Drop {
     ///
     /// # Errors
     /// Where something else stands there, and want of memory.
-    fn take(arguments: &mut Arguments<'_>) -> Result<Self, Problem>;
+    fn take(arguments: &mut Arguments<'_>) -> Result<Self, Misfit>;
+}
+
+/// The place among the answers of the step of this number; none has the greatest place.
+fn place(skipped: &[usize], number: usize) -> usize {
+    match skipped.binary_search(&number) {
+        Ok(_) => usize::MAX,
+        Err(before) => number.saturating_sub(before),
+    }
 }
 
 impl<'a> Arguments<'a> {
     /// The arguments of this text; none where there is no text.
-    pub(crate) fn new(alloc: Global, names: &'a Names, rest: Option<&'a str>) -> Self {
-        Arguments { alloc, names, rest }
+    pub(crate) fn new(known: Known<'a>, rest: Option<&'a str>) -> Self {
+        Arguments { known, rest }
     }
 
     /// The allocator of what is taken.
     pub(crate) fn allocator(&self) -> Global {
-        self.alloc
+        self.known.alloc
     }
 
     /// The bytes that are left.
@@ -40,14 +54,27 @@ impl<'a> Arguments<'a> {
         self.rest.map_or(0, |rest| rest.len())
     }
 
-    /// The number of the step that has the name.
-    pub(crate) fn named(&self, name: &str) -> Result<usize, Problem> {
-        self.names.get(name).copied().ok_or(Problem::NameUnknown)
+    /// The problem, at what is next.
+    pub(crate) fn misfit(&self, problem: Problem) -> Misfit {
+        let left = self.bytes_left();
+        Misfit { left, problem }
+    }
+
+    /// What a name stands for.
+    pub(crate) fn named(&self, name: &str) -> Option<Named> {
+        self.known.names.get(name).copied()
+    }
+
+    /// The place among the answers of the step of this number.
+    pub(crate) fn place(&self, number: usize) -> usize {
+        place(self.known.skipped, number)
     }
 
     /// The next word, which goes to the next space.
-    pub(crate) fn word(&mut self) -> Result<&'a str, Problem> {
-        let rest = self.rest.ok_or(Problem::Missing)?;
+    pub(crate) fn word(&mut self) -> Result<&'a str, Misfit> {
+        let Some(rest) = self.rest else {
+            return Err(self.misfit(Problem::Missing));
+        };
         match rest.split_once(' ') {
             Some((word, rest)) => {
                 self.rest = Some(rest);
@@ -57,6 +84,17 @@ impl<'a> Arguments<'a> {
                 self.rest = None;
                 Ok(rest)
             }
+        }
+    }
+
+    /// The next word, or an empty one for the next text; `None` where there is none.
+    pub(crate) fn word_or_text(&mut self) -> Option<&'a str> {
+        match self.rest {
+            Some(rest) if rest.starts_with('"') => match self.text() {
+                Ok(_) => Some(""),
+                Err(_) => None,
+            },
+            _ => self.word().ok(),
         }
     }
 
@@ -73,52 +111,62 @@ impl<'a> Arguments<'a> {
     }
 
     /// The next text, without its quotes and escapes.
-    pub(crate) fn text(&mut self) -> Result<String, Problem> {
-        let rest = self.rest.ok_or(Problem::Missing)?;
-        let quoted = rest.strip_prefix('"').ok_or(Problem::NoText)?;
-        let (text, rest) = unquoted(self.alloc, quoted)?;
-        self.rest = if rest.is_empty() {
-            None
-        } else {
-            Some(rest.strip_prefix(' ').ok_or(Problem::NoSpace)?)
+    pub(crate) fn text(&mut self) -> Result<String, Misfit> {
+        let Some(rest) = self.rest else {
+            return Err(self.misfit(Problem::Missing));
         };
+        let Some(quoted) = rest.strip_prefix('"') else {
+            let is_space = rest.is_empty() || rest.starts_with(' ');
+            return Err(self.misfit(if is_space { Problem::Space } else { Problem::NoText }));
+        };
+        let (text, rest) = unquoted(self.known.alloc, quoted)?;
+        self.rest = behind_text(rest)?;
         Ok(text)
     }
 
     /// Goes into a list or a group.
-    pub(crate) fn open(&mut self) -> Result<(), Problem> {
+    pub(crate) fn open(&mut self) -> Result<(), Misfit> {
         if self.skip("[") {
             Ok(())
         } else {
-            Err(Problem::NoList)
+            Err(self.misfit(self.or_missing(Problem::NoList)))
         }
     }
 
     /// Leaves a group.
-    pub(crate) fn close(&mut self) -> Result<(), Problem> {
+    pub(crate) fn close(&mut self) -> Result<(), Misfit> {
         if self.skip("]") {
             Ok(())
         } else {
-            Err(Problem::OpenList)
+            Err(self.misfit(Problem::OpenList))
+        }
+    }
+
+    /// The problem, or that an argument is missing where nothing is left.
+    pub(crate) fn or_missing(&self, problem: Problem) -> Problem {
+        match self.rest {
+            None => Problem::Missing,
+            Some(_) => problem,
         }
     }
 
     /// Nothing is left.
-    fn end(&self) -> Result<(), Problem> {
+    fn end(&self) -> Result<(), Misfit> {
         match self.rest {
             None => Ok(()),
-            Some(_) => Err(Problem::TooMany),
+            Some("") => Err(self.misfit(Problem::Space)),
+            Some(_) => Err(self.misfit(Problem::TooMany)),
         }
     }
 
     /// What was made of no arguments.
-    pub(crate) fn none<R: Drop>(self, made: R) -> Result<R, Problem> {
+    pub(crate) fn none<R: Drop>(self, made: R) -> Result<R, Misfit> {
         self.end()?;
         Ok(made)
     }
 
     /// What is made of one argument.
-    pub(crate) fn one<A: FromArguments, R, M>(mut self, make: M) -> Result<R, Problem>
+    pub(crate) fn one<A: FromArguments, R, M>(mut self, make: M) -> Result<R, Misfit>
     where
         M: FnOnce(A) -> R + Drop,
         requires { M.IsAlwaysCallable make }
@@ -132,7 +180,7 @@ impl<'a> Arguments<'a> {
     pub(crate) fn two<A: FromArguments, B: FromArguments, R, M>(
         mut self,
         make: M,
-    ) -> Result<R, Problem>
+    ) -> Result<R, Misfit>
     where
         M: FnOnce(A, B) -> R + Drop,
         requires { M.IsAlwaysCallable make }
@@ -147,7 +195,7 @@ impl<'a> Arguments<'a> {
     pub(crate) fn three<A: FromArguments, B: FromArguments, C: FromArguments, R, M>(
         mut self,
         make: M,
-    ) -> Result<R, Problem>
+    ) -> Result<R, Misfit>
     where
         M: FnOnce(A, B, C) -> R + Drop,
         requires { M.IsAlwaysCallable make }
@@ -167,7 +215,7 @@ impl<'a> Arguments<'a> {
         D: FromArguments,
         R,
         M,
-    >(mut self, make: M) -> Result<R, Problem>
+    >(mut self, make: M) -> Result<R, Misfit>
     where
         M: FnOnce(A, B, C, D) -> R + Drop,
         requires { M.IsAlwaysCallable make }
@@ -189,7 +237,7 @@ impl<'a> Arguments<'a> {
         E: FromArguments,
         R,
         M,
-    >(mut self, make: M) -> Result<R, Problem>
+    >(mut self, make: M) -> Result<R, Misfit>
     where
         M: FnOnce(A, B, C, D, E) -> R + Drop,
         requires { M.IsAlwaysCallable make }
@@ -213,7 +261,7 @@ impl<'a> Arguments<'a> {
         F: FromArguments,
         R,
         M,
-    >(mut self, make: M) -> Result<R, Problem>
+    >(mut self, make: M) -> Result<R, Misfit>
     where
         M: FnOnce(A, B, C, D, E, F) -> R + Drop,
         requires { M.IsAlwaysCallable make }
@@ -229,31 +277,16 @@ impl<'a> Arguments<'a> {
     }
 }
 
-/// A text up to its closing quote, and what stands behind that.
-fn unquoted<'a>(alloc: Global, quoted: &'a str) -> Result<(String, &'a str), Problem> {
-    let mut text = String::new(alloc);
-    let mut chars = quoted.chars();
-    let mut is_escaped = false;
-    for c in chars.by_ref() {
-        if is_escaped {
-            text.push(unescaped(c)?)?;
-            is_escaped = false;
-        } else if c == '\\' {
-            is_escaped = true;
-        } else if c == '"' {
-            return Ok((text, chars.as_str()));
-        } else {
-            text.push(c)?;
-        }
+/// What stands behind a text and the space after it.
+fn behind_text(rest: &str) -> Result<Option<&str>, Misfit> {
+    if rest.is_empty() {
+        return Ok(None);
     }
-    Err(Problem::OpenText)
-}
-
-/// What an escape of this character stands for.
-fn unescaped(c: char) -> Result<char, Problem> {
-    match c {
-        '"' | '\\' => Ok(c),
-        'n' => Ok('\n'),
-        _ => Err(Problem::UnknownEscape),
+    match rest.strip_prefix(' ') {
+        Some(rest) => Ok(Some(rest)),
+        None => Err(Misfit {
+            left: rest.len(),
+            problem: Problem::NoSpace,
+        }),
     }
 }

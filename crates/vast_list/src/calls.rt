@@ -9,7 +9,7 @@ mod statements;
 mod types;
 
 use crate::arguments::Arguments;
-use crate::problem::Problem;
+use crate::problem::{Misfit, Problem};
 use artifacts::artifact_step;
 use expressions::expression_step;
 use loops::generate_loop_step;
@@ -23,7 +23,7 @@ use vast_script::Step;
 ///
 /// # Errors
 /// Where no call has the name or the arguments are not those of the call, and want of memory.
-pub(crate) fn make_step(name: &str, arguments: Arguments<'_>) -> Result<Step, Problem> {
+pub(crate) fn make_step(name: &str, arguments: Arguments<'_>) -> Result<Step, Misfit> {
     if let Some(made) = operator_step(name, arguments) {
         return Ok(Step::Operators(made?));
     }
@@ -44,6 +44,6 @@ pub(crate) fn make_step(name: &str, arguments: Arguments<'_>) -> Result<Step, Pr
     }
     match artifact_step(name, arguments) {
         Some(made) => Ok(Step::Artifacts(made?)),
-        None => Err(Problem::UnknownCall),
+        None => Err(arguments.misfit(Problem::UnknownCall)),
     }
 }

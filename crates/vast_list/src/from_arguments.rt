@@ -1,83 +1,150 @@
 //! What may stand as an argument.
 
 use crate::arguments::{Arguments, FromArguments};
-use crate::problem::Problem;
+use crate::names::{Named, is_name};
+use crate::problem::{Misfit, Problem};
 use std::str::FromStr;
 use xlsynth_vast::{DataKind, LiteralFormat};
 
-/// An optional minus and digits.
-fn is_number(word: &str) -> bool {
-    let digits = word.strip_prefix('-').unwrap_or(word);
-    !digits.is_empty() && digits.bytes().all(|byte| byte.is_ascii_digit())
+/// A plain number that is no handle and has no sign.
+#[derive(Clone, Copy)]
+pub(crate) struct Count(pub(crate) usize);
+
+fn is_digits(word: &str) -> bool {
+    !word.is_empty() && word.bytes().all(|byte| byte.is_ascii_digit())
 }
 
-fn number<N: FromStr>(word: &str) -> Result<N, Problem>
+/// An optional minus and digits.
+fn is_signed(word: &str) -> bool {
+    is_digits(word.strip_prefix('-').unwrap_or(word))
+}
+
+/// Why this is no number: an empty word is a space too many.
+fn no_number(word: &str, other: Problem) -> Problem {
+    if word.is_empty() {
+        Problem::Space
+    } else if is_name(word) {
+        Problem::NameForNumber
+    } else {
+        other
+    }
+}
+
+fn parsed<N: FromStr>(word: &str) -> Result<N, Problem>
 where
     N::Err: Drop,
 {
-    if !is_number(word) {
-        return Err(Problem::NoNumber);
-    }
     match word.parse::<N>() {
         Ok(number) => Ok(number),
         Err(_) => Err(Problem::OutOfRange),
     }
 }
 
-/// A name begins with a letter or `_`, and goes on with those and digits.
-pub(crate) fn is_name(word: &str) -> bool {
-    let is_word = word
-        .bytes()
-        .all(|byte| byte.is_ascii_alphanumeric() || byte == b'_');
-    is_word
-        && word
-            .bytes()
-            .next()
-            .is_some_and(|byte| !byte.is_ascii_digit())
+/// The number that the answer of the question of this name is.
+fn answered(arguments: &Arguments<'_>, name: &str) -> Result<i64, Problem> {
+    match arguments.named(name) {
+        Some(Named::Number(number)) => Ok(number),
+        Some(Named::Other) => Err(Problem::AnswerNoNumber),
+        Some(Named::Handle(_)) => Err(Problem::NameOfHandle),
+        Some(Named::Skipped) => Err(Problem::Skipped),
+        None => Err(Problem::NameUnknown),
+    }
+}
+
+/// A number that may have a sign, or the answer of a question that has a name.
+fn signed(arguments: &Arguments<'_>, word: &str) -> Result<i64, Problem> {
+    match word.strip_prefix('?') {
+        Some(name) => answered(arguments, name),
+        None if is_signed(word) => parsed(word),
+        None => Err(no_number(word, Problem::NoNumber)),
+    }
+}
+
+/// A number without a sign, or the answer of a question that has a name.
+fn unsigned(arguments: &Arguments<'_>, word: &str) -> Result<usize, Problem> {
+    match word.strip_prefix('?') {
+        Some(name) => match usize::try_from(answered(arguments, name)?) {
+            Ok(number) => Ok(number),
+            Err(_) => Err(Problem::OutOfRange),
+        },
+        None if is_digits(word) => parsed(word),
+        None => Err(no_number(word, Problem::NoNumber)),
+    }
+}
+
+/// The place among the answers that a name or the number of a step stands for.
+pub(crate) fn handle(arguments: &Arguments<'_>, word: &str) -> Result<usize, Problem> {
+    if is_digits(word) {
+        return Ok(arguments.place(parsed(word)?));
+    }
+    if !is_name(word) {
+        return Err(no_number(word, Problem::NoHandle));
+    }
+    match arguments.named(word) {
+        Some(Named::Handle(place)) => Ok(place),
+        Some(Named::Skipped) => Ok(usize::MAX),
+        Some(Named::Number(_)) => Err(Problem::NameOfQuestion),
+        Some(Named::Other) => Err(Problem::NameOfQuestion),
+        None => Err(Problem::NameUnknown),
+    }
 }
 
 /// The number of a step, or the name of one.
 impl FromArguments for usize {
-    fn take(arguments: &mut Arguments<'_>) -> Result<usize, Problem> {
+    fn take(arguments: &mut Arguments<'_>) -> Result<usize, Misfit> {
+        let before = *arguments;
         let word = arguments.word()?;
-        if is_name(word) {
-            arguments.named(word)
-        } else {
-            number(word)
+        handle(&before, word).map_err(|problem| before.misfit(problem))
+    }
+}
+
+impl FromArguments for Count {
+    fn take(arguments: &mut Arguments<'_>) -> Result<Count, Misfit> {
+        let before = *arguments;
+        let word = arguments.word()?;
+        match unsigned(&before, word) {
+            Ok(number) => Ok(Count(number)),
+            Err(problem) => Err(before.misfit(problem)),
         }
     }
 }
 
 impl FromArguments for i64 {
-    fn take(arguments: &mut Arguments<'_>) -> Result<i64, Problem> {
-        number(arguments.word()?)
+    fn take(arguments: &mut Arguments<'_>) -> Result<i64, Misfit> {
+        let before = *arguments;
+        let word = arguments.word()?;
+        signed(&before, word).map_err(|problem| before.misfit(problem))
     }
 }
 
 impl FromArguments for i32 {
-    fn take(arguments: &mut Arguments<'_>) -> Result<i32, Problem> {
-        number(arguments.word()?)
+    fn take(arguments: &mut Arguments<'_>) -> Result<i32, Misfit> {
+        let before = *arguments;
+        let word = arguments.word()?;
+        let number = signed(&before, word).map_err(|problem| before.misfit(problem))?;
+        i32::try_from(number).map_err(|_| before.misfit(Problem::OutOfRange))
     }
 }
 
 impl FromArguments for bool {
-    fn take(arguments: &mut Arguments<'_>) -> Result<bool, Problem> {
+    fn take(arguments: &mut Arguments<'_>) -> Result<bool, Misfit> {
+        let before = *arguments;
         match arguments.word()? {
             "true" => Ok(true),
             "false" => Ok(false),
-            _ => Err(Problem::NoTruth),
+            _ => Err(before.misfit(Problem::NoTruth)),
         }
     }
 }
 
 impl FromArguments for String {
-    fn take(arguments: &mut Arguments<'_>) -> Result<String, Problem> {
+    fn take(arguments: &mut Arguments<'_>) -> Result<String, Misfit> {
         arguments.text()
     }
 }
 
 impl<T: FromArguments> FromArguments for Vec<T> {
-    fn take(arguments: &mut Arguments<'_>) -> Result<Vec<T>, Problem> {
+    fn take(arguments: &mut Arguments<'_>) -> Result<Vec<T>, Misfit> {
         arguments.open()?;
         let mut items = Vec::new(arguments.allocator());
         // An item takes a word at least.
@@ -85,26 +152,30 @@ impl<T: FromArguments> FromArguments for Vec<T> {
             if arguments.skip("]") {
                 return Ok(items);
             }
+            if arguments.bytes_left() == 0 {
+                break;
+            }
             items.push(T::take(arguments)?)?;
         }
-        Err(Problem::OpenList)
+        Err(arguments.misfit(Problem::OpenList))
     }
 }
 
 impl<T: FromArguments> FromArguments for Option<T> {
-    fn take(arguments: &mut Arguments<'_>) -> Result<Option<T>, Problem> {
+    fn take(arguments: &mut Arguments<'_>) -> Result<Option<T>, Misfit> {
         if arguments.skip("-") {
             return Ok(None);
         }
         if !arguments.skip("+") {
-            return Err(Problem::NoOption);
+            return Err(arguments.misfit(arguments.or_missing(Problem::NoOption)));
         }
         Ok(Some(T::take(arguments)?))
     }
 }
 
 impl FromArguments for LiteralFormat {
-    fn take(arguments: &mut Arguments<'_>) -> Result<LiteralFormat, Problem> {
+    fn take(arguments: &mut Arguments<'_>) -> Result<LiteralFormat, Misfit> {
+        let before = *arguments;
         match arguments.word()? {
             "Binary" => Ok(LiteralFormat::Binary),
             "Hex" => Ok(LiteralFormat::Hex),
@@ -113,13 +184,14 @@ impl FromArguments for LiteralFormat {
             "UnsizedBinary" => Ok(LiteralFormat::UnsizedBinary),
             "UnsizedDecimal" => Ok(LiteralFormat::UnsizedDecimal),
             "UnsizedHex" => Ok(LiteralFormat::UnsizedHex),
-            _ => Err(Problem::UnknownVariant),
+            _ => Err(before.misfit(Problem::NoFormat)),
         }
     }
 }
 
 impl FromArguments for DataKind {
-    fn take(arguments: &mut Arguments<'_>) -> Result<DataKind, Problem> {
+    fn take(arguments: &mut Arguments<'_>) -> Result<DataKind, Misfit> {
+        let before = *arguments;
         match arguments.word()? {
             "Reg" => Ok(DataKind::Reg),
             "Wire" => Ok(DataKind::Wire),
@@ -129,7 +201,7 @@ impl FromArguments for DataKind {
             "User" => Ok(DataKind::User),
             "UntypedEnum" => Ok(DataKind::UntypedEnum),
             "Genvar" => Ok(DataKind::Genvar),
-            _ => Err(Problem::UnknownVariant),
+            _ => Err(before.misfit(Problem::NoKind)),
         }
     }
 }

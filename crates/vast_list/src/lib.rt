@@ -1,24 +1,41 @@
 //! Lists of builder calls as text: a list is read, its calls are made, its questions are answered, its file is printed.
 //!
-//! `docs/LISTS.md` has the form. [`list_output`] answers one list, whose lines [`ListLines`] holds.
+//! `docs/LISTS.md` has the form. A [`Session`] takes the lines of a list one by one; [`list_output`] answers a whole list.
 #![tactic(auto)]
 
 mod again;
+mod answering;
 mod arguments;
 mod calls;
+mod explain;
+mod fault;
 mod from_arguments;
-mod handles;
+mod helpers;
+mod json;
+mod json_line;
+mod line;
 mod lines;
-mod list;
+mod names;
+mod nearest;
 mod output;
 mod problem;
 mod questions;
-mod refusal;
-mod report;
+mod reply;
+mod session;
+mod table;
+mod talk;
+mod texts;
 mod tries;
 
+pub use fault::{Fault, LineFault};
+pub use json::push_json_text;
+pub use json_line::list_json;
+pub use line::dialect_of;
 pub use lines::{HEADER, ListLines};
-pub use list::BadLine;
-pub use output::{ListFault, list_output};
-pub use problem::Problem;
+pub use output::{ListOutput, MOST_FAULTS, Verdict, list_output};
+pub use questions::answered::{PortValue, Value};
+pub use session::{Given, Session};
+pub use table::json::calls_json;
+pub use table::text::calls_text;
+pub use talk::Talk;
 pub use tries::Tries;

@@ -1,38 +1,92 @@
-//! Makes files of lists of calls, and prints them: `vast_replay < list > design.sv`.
-//!
-//! `vast_replay --again` tries once more what was refused memory, for tests that refuse it.
+//! Makes files of lists of calls, and prints them: `vast_replay counter.list > counter.sv`; `--help` tells the rest.
 #![tactic(auto)]
 
+mod files;
+mod help;
 mod input;
+mod outcome;
 mod program;
+mod session;
+mod words;
 
-use program::run;
+use files::answer_files;
+use help::{HELP, VERSION};
+use outcome::Outcome;
+use program::fail;
+use session::answer_lines;
+use std::alloc::{AllocError, Global};
 use std::env;
+use std::io::{BufReader, ErrorKind, Write};
 use std::process::ExitCode;
-use vast_list::Tries;
+use vast_list::{calls_json, calls_text};
+use words::{Request, WordFault, requested};
 
-/// Whether a word after the program's name is `--again`; asked twice, since memory may be refused.
-fn tries(rt: &HostRuntime) -> Tries {
-    for _ in 0..2 {
-        if let Ok(words) = env::args(rt) {
-            for word in words.skip(1) {
-                if word.as_str() == "--again" {
-                    return Tries::Again;
-                }
-            }
-            return Tries::Once;
-        }
+/// The words after the program's name.
+fn arguments(rt: &HostRuntime) -> std::io::Result<Vec<String>> {
+    let mut words = Vec::new(rt.alloc());
+    for word in env::args(rt)?.skip(1) {
+        words.push(word)?;
     }
-    Tries::Once
+    Ok(words)
+}
+
+fn slices(alloc: Global, words: &[String]) -> Result<Vec<&str>, AllocError> {
+    words.iter().map(|word| word.as_str()).collect(alloc)
 }
 
 fn main(rt: HostRuntime) -> ExitCode {
-    let status = run(
-        rt.alloc(),
-        tries(&rt),
-        &mut rt.stdin(),
-        &mut rt.stdout(),
-        &mut rt.stderr(),
-    );
-    ExitCode::from(status)
+    let alloc = rt.alloc();
+    let mut err = rt.stderr();
+    let outcome = match arguments(&rt) {
+        Ok(words) => match slices(alloc, &words) {
+            Ok(words) => answer_words(&rt, &words),
+            Err(_) => fail("out of memory", &mut err),
+        },
+        Err(error) if error.kind() == ErrorKind::OutOfMemory => fail("out of memory", &mut err),
+        Err(_) => {
+            let _ = err.write_all(b"vast_replay: a word is not UTF-8\n");
+            Outcome::NotInForm
+        }
+    };
+    ExitCode::from(outcome.status())
+}
+
+fn answer_words(rt: &HostRuntime, words: &[&str]) -> Outcome {
+    let alloc = rt.alloc();
+    let mut err = rt.stderr();
+    match requested(alloc, words) {
+        Ok(Request::Help) => print(rt, HELP),
+        Ok(Request::Version) => print(rt, VERSION),
+        Ok(Request::Calls) => print_made(rt, calls_text(alloc)),
+        Ok(Request::CallsJson) => print_made(rt, calls_json(alloc)),
+        Ok(Request::Session) => talk(rt),
+        Ok(Request::Lists { form, again, files }) => answer_files(rt, form, again, &files),
+        Err(WordFault::Memory) => fail("out of memory", &mut err),
+        Err(fault) => {
+            let _ = writeln!(err, "vast_replay: {fault}; --help tells the words");
+            Outcome::NotInForm
+        }
+    }
+}
+
+fn print(rt: &HostRuntime, text: &str) -> Outcome {
+    match rt.stdout().write_all(text.as_bytes()) {
+        Ok(()) => Outcome::Made,
+        Err(_) => fail("write fault", &mut rt.stderr()),
+    }
+}
+
+fn print_made(rt: &HostRuntime, text: Result<String, AllocError>) -> Outcome {
+    match text {
+        Ok(text) => print(rt, &text),
+        Err(_) => fail("out of memory", &mut rt.stderr()),
+    }
+}
+
+fn talk(rt: &HostRuntime) -> Outcome {
+    let mut err = rt.stderr();
+    match BufReader::new(rt.alloc(), rt.stdin()) {
+        Ok(mut input) => answer_lines(rt.alloc(), &mut input, &mut rt.stdout(), &mut err),
+        Err(_) => fail("out of memory", &mut err),
+    }
 }

@@ -1,43 +1,55 @@
-//! What the program does with its streams.
+//! What the program does with lists.
 
-ghost use Rattle.std.specs.Prelude.{◌≡◌, ◌≤◌};
+ghost use Rattle.std.specs.Prelude.{◌≡◌};
 ghost use Rattle.std.specs.Io.KnownBytes.{IsAtEnd};
 
 #[cfg(test)]
 mod tests;
 
 use crate::input::split_lists;
+use crate::outcome::Outcome;
+use crate::words::Form;
 use std::alloc::Global;
 use std::io::{ErrorKind, Read, Write};
-use vast_list::{BadLine, ListFault, ListLines, Tries, list_output, tried};
+use vast_list::{LineFault, ListLines, Tries, Verdict, list_json, list_output, tried};
 
-/// Reads lists of calls to the end of `input`, makes their calls and prints what they give, and answers the status.
+/// How lists are answered.
+#[derive(Clone, Copy)]
+pub struct Manner<'a> {
+    /// What is printed of each.
+    pub form: Form,
+    /// How often what was refused memory is tried; a list is answered as JSON once.
+    pub tries: Tries,
+    /// What stands before each fault: where the lists are from.
+    pub source: &'a str,
+}
+
+/// Reads lists of calls to the end of `input`, makes their calls and prints what they give.
 ///
 /// Where the first line is a header, `== TITLE`, each list is answered to `out` behind its header, refusals included.
-/// Else there is one list, and its file's text alone goes to `out`; where a step, a question or the text is refused, the
-/// first refusal goes to `err` in its place, status 1. A list with a line that is not in the form prints nothing to `out`
-/// and `line 7: ` with what is wrong to `err`, status 2; lists behind it are answered. A failed read (`read fault`),
-/// a failed write (`write fault`) and want of memory (`out of memory`) are told on `err` and end the run, status 1.
-/// Otherwise the status is 0. A failed write to `err` changes no status.
+/// Else there is one list, and its file's text alone goes to `out`, where nothing of it was refused. A list with a line
+/// that is not in the form prints nothing. Each fault is told on `err` behind its source and its line. With
+/// `Form::Faults` nothing goes to `out`; with `Form::Json` a line for each list does, and no fault goes to `err`.
+/// A failed read (`read fault`), a failed write (`write fault`) and want of memory (`out of memory`) are told on `err` and
+/// end the run. A failed write to `err` changes nothing.
 ///
 /// With `Tries::Again` what was refused memory is made once more, and a refused call must have left the file as it was:
 /// where one request is refused, the run gives what it gives without.
 ///
-/// The contract says what a status of 0 promises of the streams; the rest of this is tested, not proved.
+/// The contract says what the outcome `Made` promises of the streams; the rest of this is tested, not proved.
 pub fn run<R: Read, W: Write, E: Write>(
     alloc: Global,
-    tries: Tries,
+    manner: Manner<'_>,
     input: &mut R,
     out: &mut W,
     err: &mut E,
-) -> u8
-    ensures status { result ≤ 2 }
-    ensures silent { result ≡ 0 → E.contents err.new ≡ E.contents err.old }
-    ensures read { result ≡ 0 → IsAtEnd (R.remaining input.new) }
+) -> Outcome
+    ensures silent { result ≡ Outcome.Made → E.contents err.new ≡ E.contents err.old }
+    ensures read { result ≡ Outcome.Made → IsAtEnd (R.remaining input.new) }
 {
     let mut bytes = Vec::new(alloc);
-    match tried!(tries, input.read_to_end(&mut bytes)) {
-        Ok(_) => answer_lists(alloc, tries, &bytes, out, err),
+    match tried!(manner.tries, input.read_to_end(&mut bytes)) {
+        Ok(_) => answer_lists(alloc, manner, &bytes, out, err),
         Err(error) => {
             if error.kind() == ErrorKind::OutOfMemory {
                 fail("out of memory", err)
@@ -48,62 +60,112 @@ pub fn run<R: Read, W: Write, E: Write>(
     }
 }
 
-fn answer_lists<W: Write, E: Write>(
+/// Answers the lists of an input, as `run` does.
+pub fn answer_lists<W: Write, E: Write>(
     alloc: Global,
-    tries: Tries,
+    manner: Manner<'_>,
     input: &[u8],
     out: &mut W,
     err: &mut E,
-) -> u8
-    ensures status { result ≤ 2 }
-    ensures silent { result ≡ 0 → E.contents err.new ≡ E.contents err.old }
+) -> Outcome
+    ensures { result ≡ Outcome.Made → E.contents err.new ≡ E.contents err.old }
 {
-    let Ok(lists) = tried!(tries, split_lists(alloc, input)) else {
+    let Ok(lists) = tried!(manner.tries, split_lists(alloc, input)) else {
         return fail("out of memory", err);
     };
-    let mut status = 0;
+    let mut outcome = Outcome::Made;
     for list in &lists {
-        match answer_list(alloc, tries, list, out, err) {
-            0 => {}
-            1 => return 1,
-            other => status = other,
+        outcome = outcome.and(answer_list(alloc, manner, list, out, err));
+        if outcome == Outcome::Failed {
+            break;
         }
     }
-    status
+    outcome
 }
 
-/// Answers one list to `out`, its output in one piece.
 fn answer_list<W: Write, E: Write>(
     alloc: Global,
-    tries: Tries,
+    manner: Manner<'_>,
     list: &ListLines<'_>,
     out: &mut W,
     err: &mut E,
-) -> u8
-    ensures status { result ≤ 2 }
-    ensures silent { result ≡ 0 → E.contents err.new ≡ E.contents err.old }
+) -> Outcome
+    ensures { result ≡ Outcome.Made → E.contents err.new ≡ E.contents err.old }
 {
-    match list_output(alloc, tries, list) {
-        Ok(output) => match out.write_all(&output) {
-            Ok(()) => 0,
-            Err(_) => fail("write fault", err),
-        },
-        Err(ListFault::Refused(refusal)) => {
-            let _ = err.write_all(refusal.as_bytes());
-            1
-        }
-        Err(ListFault::Memory) => fail("out of memory", err),
-        Err(ListFault::Line(BadLine { number, problem })) => {
-            let _ = writeln!(err, "line {number}: {problem}");
-            2
-        }
+    match manner.form {
+        Form::Text | Form::Faults => answer_text(alloc, manner, list, out, err),
+        Form::Json => answer_json(alloc, manner.source, list, out, err),
     }
 }
 
-fn fail<E: Write>(text: &str, err: &mut E) -> u8
-    ensures { result ≡ 1 }
+/// Answers one list to `out`, its output in one piece, and its faults to `err`.
+fn answer_text<W: Write, E: Write>(
+    alloc: Global,
+    manner: Manner<'_>,
+    list: &ListLines<'_>,
+    out: &mut W,
+    err: &mut E,
+) -> Outcome
+    ensures { result ≡ Outcome.Made → E.contents err.new ≡ E.contents err.old }
+{
+    let Ok(made) = list_output(alloc, manner.tries, list) else {
+        return fail("out of memory", err);
+    };
+    if let (Form::Text, Some(output)) = (manner.form, &made.output) {
+        if out.write_all(output).is_err() {
+            return fail("write fault", err);
+        }
+    }
+    let outcome = outcome_of(made.verdict, list.title.is_some());
+    if outcome != Outcome::Made {
+        tell(manner.source, &made.faults, made.more, err);
+    }
+    outcome
+}
+
+/// Answers one list to `out` by a line of JSON.
+fn answer_json<W: Write, E: Write>(
+    alloc: Global,
+    source: &str,
+    list: &ListLines<'_>,
+    out: &mut W,
+    err: &mut E,
+) -> Outcome
+    ensures { result ≡ Outcome.Made → E.contents err.new ≡ E.contents err.old }
+{
+    let Ok((line, verdict)) = list_json(alloc, source, list) else {
+        return fail("out of memory", err);
+    };
+    match out.write_all(line.as_bytes()) {
+        Ok(()) => outcome_of(verdict, list.title.is_some()),
+        Err(_) => fail("write fault", err),
+    }
+}
+
+fn outcome_of(verdict: Verdict, has_title: bool) -> Outcome {
+    match verdict {
+        Verdict::Made => Outcome::Made,
+        Verdict::Refused if has_title => Outcome::Told,
+        Verdict::Refused => Outcome::Refused,
+        Verdict::NotInForm => Outcome::NotInForm,
+    }
+}
+
+/// Tells the faults of a list, each with its line.
+fn tell<E: Write>(source: &str, faults: &[LineFault], more: usize, err: &mut E) {
+    for fault in faults {
+        let _ = writeln!(err, "{source}:{fault}");
+    }
+    if more > 0 {
+        let _ = writeln!(err, "{source}: {more} faults more");
+    }
+}
+
+/// Tells what ends the run.
+pub fn fail<E: Write>(text: &str, err: &mut E) -> Outcome
+    ensures { result ≡ Outcome.Failed }
 {
     let _ = err.write_all(text.as_bytes());
     let _ = err.write_all(b"\n");
-    1
+    Outcome::Failed
 }

@@ -39,7 +39,7 @@ pub(crate) fn found<A: Argument>(answers: &[Answer], number: usize) -> Result<A,
 
 /// One argument, which is the file's.
 #[tactic(auto, unfolding(crate::specs::Arguments::one))]
-pub(crate) fn one<A: Argument>(
+pub fn one<A: Argument>(
     file: &VastFile,
     answers: &[Answer],
     number: usize,

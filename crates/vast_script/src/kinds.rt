@@ -4,8 +4,8 @@ use crate::answer::Answer;
 use crate::arguments::Argument;
 use xlsynth_vast::{
     BlankLine, CaseStatement, Comment, Conditional, ContinuousAssignment, Def, Expr, GenerateLoop,
-    IndexableExpr, InlineVerilogStatement, Instantiation, MacroRef, MacroStatement, VastAlwaysBase,
-    VastDataType, VastFunction, VastModule, VastStatementBlock,
+    IndexableExpr, InlineVerilogStatement, Instantiation, LogicRef, MacroRef, MacroStatement,
+    VastAlwaysBase, VastDataType, VastFunction, VastModule, VastStatementBlock,
 };
 
 impl Argument for VastModule {
@@ -93,6 +93,22 @@ impl Argument for IndexableExpr {
             Answer::LogicRef(handle) => Some(handle.to_indexable_expr()),
             Answer::Index(handle) => Some(handle.to_indexable_expr()),
             Answer::ParameterRef(handle) => Some(handle.to_indexable_expr()),
+            _ => None,
+        }
+    }
+}
+
+impl Argument for LogicRef {
+    ghost use Rattle.vast_script.specs.Kinds.{a_logic_ref};
+    ghost use Rattle.vast_script.specs.Owned.{owned_where};
+
+    ghost kind = { a_logic_ref };
+
+    ghost is_own = { λ b handle. owned_where b handle.id _ };
+
+    fn of(answer: Answer) -> Option<LogicRef> {
+        match answer {
+            Answer::LogicRef(handle) => Some(handle),
             _ => None,
         }
     }

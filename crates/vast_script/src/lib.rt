@@ -26,7 +26,8 @@ mod step;
 mod types;
 
 pub use answer::Answer;
-pub use arguments::Argument;
+pub use arguments::{Argument, one};
+pub use lists::many;
 pub use fault::{ScriptFault, StepFault};
 pub use script::{replay, replay_step};
 pub use step::{

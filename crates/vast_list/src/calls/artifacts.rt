@@ -1,14 +1,14 @@
 //! Calls of parts that are made beforehand, and that add them to modules, by their names.
 
 use crate::arguments::Arguments;
-use crate::problem::Problem;
+use crate::problem::Misfit;
 use vast_script::ArtifactStep;
 
 /// The call of the name over the arguments; `None` where no such call has the name.
 pub(crate) fn artifact_step(
     name: &str,
     arguments: Arguments<'_>,
-) -> Option<Result<ArtifactStep, Problem>> {
+) -> Option<Result<ArtifactStep, Misfit>> {
     Some(match name {
         "MakeDef" => arguments.three(ArtifactStep::MakeDef),
         "MakeBlankLine" => arguments.none(ArtifactStep::MakeBlankLine),

@@ -1,14 +1,14 @@
 //! Calls that make any other expression, by their names.
 
 use crate::arguments::Arguments;
-use crate::problem::Problem;
+use crate::problem::Misfit;
 use vast_script::ExpressionStep;
 
 /// The call of the name over the arguments; `None` where no such call has the name.
 pub(crate) fn expression_step(
     name: &str,
     arguments: Arguments<'_>,
-) -> Option<Result<ExpressionStep, Problem>> {
+) -> Option<Result<ExpressionStep, Misfit>> {
     Some(match name {
         "MakeLiteral" => arguments.two(ExpressionStep::MakeLiteral),
         "MakeBinaryPattern" => arguments.one(ExpressionStep::MakeBinaryPattern),

@@ -1,14 +1,14 @@
 //! Calls of generate loops and their members, by their names.
 
 use crate::arguments::Arguments;
-use crate::problem::Problem;
+use crate::problem::Misfit;
 use vast_script::LoopStep;
 
 /// The call of the name over the arguments; `None` where no such call has the name.
 pub(crate) fn generate_loop_step(
     name: &str,
     arguments: Arguments<'_>,
-) -> Option<Result<LoopStep, Problem>> {
+) -> Option<Result<LoopStep, Misfit>> {
     Some(match name {
         "AddGenerateLoop" => arguments.five(LoopStep::AddGenerateLoop),
         "GenerateAddGenerateLoop" => arguments.five(LoopStep::GenerateAddGenerateLoop),

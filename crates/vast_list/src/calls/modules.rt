@@ -1,14 +1,15 @@
 //! Calls of the file's items, and of modules with their ports, declarations and parameters, by their names.
 
 use crate::arguments::Arguments;
-use crate::problem::Problem;
+use crate::from_arguments::Count;
+use crate::problem::Misfit;
 use vast_script::ModuleStep;
 
 /// The call of the name over the arguments; `None` where no such call has the name.
 pub(crate) fn module_step(
     name: &str,
     arguments: Arguments<'_>,
-) -> Option<Result<ModuleStep, Problem>> {
+) -> Option<Result<ModuleStep, Misfit>> {
     Some(match name {
         "AddInclude" => arguments.one(ModuleStep::AddInclude),
         "AddBlankLine" => arguments.one(ModuleStep::AddBlankLine),
@@ -29,7 +30,9 @@ pub(crate) fn module_step(
         "AddLocalparam" => arguments.three(ModuleStep::AddLocalparam),
         "AddIntLocalparam" => arguments.three(ModuleStep::AddIntLocalparam),
         "AddTypedLocalparam" => arguments.three(ModuleStep::AddTypedLocalparam),
-        "HoistModuleDeclarations" => arguments.two(ModuleStep::HoistModuleDeclarations),
+        "HoistModuleDeclarations" => arguments.two(|module, Count(start)| {
+            ModuleStep::HoistModuleDeclarations(module, start)
+        }),
         _ => return None,
     })
 }

@@ -1,14 +1,14 @@
 //! Calls that make an expression of one or two operands, by their names.
 
 use crate::arguments::Arguments;
-use crate::problem::Problem;
+use crate::problem::Misfit;
 use vast_script::OperatorStep;
 
 /// The call of the name over the arguments; `None` where no such call has the name.
 pub(crate) fn operator_step(
     name: &str,
     arguments: Arguments<'_>,
-) -> Option<Result<OperatorStep, Problem>> {
+) -> Option<Result<OperatorStep, Misfit>> {
     Some(match name {
         "MakeNot" => arguments.one(OperatorStep::MakeNot),
         "MakeBitwiseNot" => arguments.one(OperatorStep::MakeBitwiseNot),

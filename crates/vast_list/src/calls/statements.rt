@@ -1,14 +1,14 @@
 //! Calls of functions, always blocks, conditionals and statements, by their names.
 
 use crate::arguments::Arguments;
-use crate::problem::Problem;
+use crate::problem::Misfit;
 use vast_script::StatementStep;
 
 /// The call of the name over the arguments; `None` where no such call has the name.
 pub(crate) fn statement_step(
     name: &str,
     arguments: Arguments<'_>,
-) -> Option<Result<StatementStep, Problem>> {
+) -> Option<Result<StatementStep, Misfit>> {
     Some(match name {
         "AddFunction" => arguments.three(StatementStep::AddFunction),
         "FunctionAddInput" => arguments.three(StatementStep::FunctionAddInput),

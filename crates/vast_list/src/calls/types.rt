@@ -1,14 +1,14 @@
 //! Calls that make a type, by their names.
 
 use crate::arguments::Arguments;
-use crate::problem::Problem;
+use crate::problem::Misfit;
 use vast_script::TypeStep;
 
 /// The call of the name over the arguments; `None` where no such call has the name.
 pub(crate) fn data_type_step(
     name: &str,
     arguments: Arguments<'_>,
-) -> Option<Result<TypeStep, Problem>> {
+) -> Option<Result<TypeStep, Misfit>> {
     Some(match name {
         "MakeScalarType" => arguments.none(TypeStep::MakeScalarType),
         "MakeIntegerType" => arguments.one(TypeStep::MakeIntegerType),

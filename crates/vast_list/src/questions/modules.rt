@@ -4,12 +4,10 @@ ghost use Rattle.std.specs.Prelude.{All};
 ghost use Rattle.vast_core.specs.Bench.{OwnsPort};
 
 use crate::arguments::Arguments;
-use crate::handles::{handle, logic_ref};
-use crate::problem::Problem;
-use crate::refusal::Refusal;
-use std::fmt::Write;
-use vast_script::Answer;
-use xlsynth_vast::{ModulePort, ModulePortDirection, VastFile, VastModule};
+use crate::problem::Misfit;
+use crate::questions::answered::{PortValue, Value};
+use vast_script::{Answer, StepFault, one};
+use xlsynth_vast::{LogicRef, ModulePort, VastFile, VastModule};
 
 /// A question of a module, or of a name.
 #[derive(Drop)]
@@ -27,7 +25,7 @@ pub(crate) enum ModuleQuestion {
 pub(crate) fn module_question(
     name: &str,
     arguments: Arguments<'_>,
-) -> Option<Result<ModuleQuestion, Problem>> {
+) -> Option<Result<ModuleQuestion, Misfit>> {
     Some(match name {
         "?LogicRefName" => arguments.one(ModuleQuestion::LogicRefName),
         "?ModuleInputPorts" => arguments.one(ModuleQuestion::ModuleInputPorts),
@@ -48,63 +46,52 @@ pub(crate) fn answer_module(
     file: &VastFile,
     answers: &[Answer],
     question: &ModuleQuestion,
-) -> Result<String, Refusal> {
+) -> Result<Value, StepFault> {
     match question {
         ModuleQuestion::LogicRefName(name) => {
-            let name = logic_ref(file, answers, *name)?;
-            Ok(file.logic_ref_name(name)?)
+            let name: LogicRef = one(file, answers, *name)?;
+            Ok(Value::Text(file.logic_ref_name(name)?))
         }
         ModuleQuestion::ModuleInputPorts(owner) => {
-            let owner: VastModule = handle(file, answers, *owner)?;
-            port_lines(file, &file.module_input_ports(owner)?)
+            let owner: VastModule = one(file, answers, *owner)?;
+            port_values(file, &file.module_input_ports(owner)?)
         }
         ModuleQuestion::ModuleMemberCount(owner) => {
-            let owner: VastModule = handle(file, answers, *owner)?;
-            Ok(file.module_member_count(owner).to_string(file.allocator())?)
+            let owner: VastModule = one(file, answers, *owner)?;
+            Ok(Value::Count(file.module_member_count(owner)))
         }
         ModuleQuestion::ModuleName(owner) => {
-            let owner: VastModule = handle(file, answers, *owner)?;
-            Ok(file.module_name(owner)?)
+            let owner: VastModule = one(file, answers, *owner)?;
+            Ok(Value::Text(file.module_name(owner)?))
         }
         ModuleQuestion::ModuleOutputPorts(owner) => {
-            let owner: VastModule = handle(file, answers, *owner)?;
-            port_lines(file, &file.module_output_ports(owner)?)
+            let owner: VastModule = one(file, answers, *owner)?;
+            port_values(file, &file.module_output_ports(owner)?)
         }
         ModuleQuestion::ModulePorts(owner) => {
-            let owner: VastModule = handle(file, answers, *owner)?;
-            port_lines(file, &file.module_ports(owner)?)
+            let owner: VastModule = one(file, answers, *owner)?;
+            port_values(file, &file.module_ports(owner)?)
         }
         ModuleQuestion::NameIsFree(owner, name) => {
-            let owner: VastModule = handle(file, answers, *owner)?;
-            Ok(file.name_is_free(owner, name).to_string(file.allocator())?)
+            let owner: VastModule = one(file, answers, *owner)?;
+            Ok(Value::Truth(file.name_is_free(owner, name)))
         }
     }
 }
 
-/// The number of ports, and for each port its name, direction, width, whether it is signed, and its name as an
-/// expression.
-fn port_lines(file: &VastFile, ports: &[ModulePort]) -> Result<String, Refusal>
+/// Each port with its name, direction, width, whether it is signed, and its name as an expression.
+fn port_values(file: &VastFile, ports: &[ModulePort]) -> Result<Value, StepFault>
     requires { All (OwnsPort file.now) ports.now }
 {
-    let mut lines = ports.len().to_string(file.allocator())?;
+    let mut values = Vec::new(file.allocator());
     for port in ports {
-        let name = file.port_name(*port)?;
-        let direction = direction_word(file.port_direction(*port));
-        let width = file.port_width(*port);
-        let is_signed = file.type_is_signed(file.port_data_type(*port));
-        let reference = file.logic_ref_name(file.port_logic_ref(*port))?;
-        write!(
-            lines,
-            "\n{name} {direction} {width} {is_signed} {reference}"
-        )?;
+        values.push(PortValue {
+            name: file.port_name(*port)?,
+            direction: file.port_direction(*port),
+            width: file.port_width(*port),
+            signed: file.type_is_signed(file.port_data_type(*port)),
+            reference: file.logic_ref_name(file.port_logic_ref(*port))?,
+        })?;
     }
-    Ok(lines)
-}
-
-fn direction_word(direction: ModulePortDirection) -> &'static str {
-    match direction {
-        ModulePortDirection::Input => "Input",
-        ModulePortDirection::Output => "Output",
-        ModulePortDirection::InOut => "InOut",
-    }
+    Ok(Value::Ports(values))
 }

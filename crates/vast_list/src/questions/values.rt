@@ -1,16 +1,16 @@
 //! Questions of expressions, types and words.
 
 use crate::arguments::Arguments;
-use crate::handles::handle;
-use crate::problem::Problem;
-use crate::refusal::Refusal;
-use vast_script::Answer;
+use crate::problem::Misfit;
+use crate::questions::answered::Value;
+use vast_script::{Answer, StepFault, one};
 use xlsynth_vast::{Conditional, Expr, VastDataType, VastFile, is_system_verilog_keyword};
 
 /// A question of an expression, a type, a conditional or a word.
 #[derive(Drop)]
 pub(crate) enum ValueQuestion {
     ConditionalHasElse(usize),
+    Emit,
     EmitExpression(usize),
     IsSystemVerilogKeyword(String),
     TypeCanBeCast(usize),
@@ -26,9 +26,10 @@ pub(crate) enum ValueQuestion {
 pub(crate) fn value_question(
     name: &str,
     arguments: Arguments<'_>,
-) -> Option<Result<ValueQuestion, Problem>> {
+) -> Option<Result<ValueQuestion, Misfit>> {
     Some(match name {
         "?ConditionalHasElse" => arguments.one(ValueQuestion::ConditionalHasElse),
+        "?Emit" => arguments.none(ValueQuestion::Emit),
         "?EmitExpression" => arguments.one(ValueQuestion::EmitExpression),
         "?IsSystemVerilogKeyword" => arguments.one(ValueQuestion::IsSystemVerilogKeyword),
         "?TypeCanBeCast" => arguments.one(ValueQuestion::TypeCanBeCast),
@@ -50,53 +51,50 @@ pub(crate) fn answer_value(
     file: &VastFile,
     answers: &[Answer],
     question: &ValueQuestion,
-) -> Result<String, Refusal> {
-    let alloc = file.allocator();
+) -> Result<Value, StepFault> {
     match question {
         ValueQuestion::ConditionalHasElse(conditional) => {
-            let conditional: Conditional = handle(file, answers, *conditional)?;
-            Ok(file.conditional_has_else(conditional).to_string(alloc)?)
+            let conditional: Conditional = one(file, answers, *conditional)?;
+            Ok(Value::Truth(file.conditional_has_else(conditional)))
         }
+        ValueQuestion::Emit => Ok(Value::Text(file.emit()?)),
         ValueQuestion::EmitExpression(expression) => {
-            let expression: Expr = handle(file, answers, *expression)?;
-            Ok(file.emit_expression(&expression)?)
+            let expression: Expr = one(file, answers, *expression)?;
+            Ok(Value::Text(file.emit_expression(&expression)?))
         }
         ValueQuestion::IsSystemVerilogKeyword(word) => {
-            Ok(is_system_verilog_keyword(word).to_string(alloc)?)
+            Ok(Value::Truth(is_system_verilog_keyword(word)))
         }
         ValueQuestion::TypeCanBeCast(data_type) => {
-            let data_type: VastDataType = handle(file, answers, *data_type)?;
-            Ok(file.type_can_be_cast(data_type).to_string(alloc)?)
+            let data_type: VastDataType = one(file, answers, *data_type)?;
+            Ok(Value::Truth(file.type_can_be_cast(data_type)))
         }
         ValueQuestion::TypeCanBePacked(data_type) => {
-            let data_type: VastDataType = handle(file, answers, *data_type)?;
-            Ok(file.type_can_be_packed(data_type).to_string(alloc)?)
+            let data_type: VastDataType = one(file, answers, *data_type)?;
+            Ok(Value::Truth(file.type_can_be_packed(data_type)))
         }
         ValueQuestion::TypeFlatBitCountAsInt64(data_type) => {
-            let data_type: VastDataType = handle(file, answers, *data_type)?;
-            Ok(
-                file.type_flat_bit_count_as_int64(data_type)?
-                    .to_string(alloc)?,
-            )
+            let data_type: VastDataType = one(file, answers, *data_type)?;
+            Ok(Value::Number(file.type_flat_bit_count_as_int64(data_type)?))
         }
         ValueQuestion::TypeIsSigned(data_type) => {
-            let data_type: VastDataType = handle(file, answers, *data_type)?;
-            Ok(file.type_is_signed(data_type).to_string(alloc)?)
+            let data_type: VastDataType = one(file, answers, *data_type)?;
+            Ok(Value::Truth(file.type_is_signed(data_type)))
         }
         ValueQuestion::TypeWidthAsInt64(data_type) => {
-            let data_type: VastDataType = handle(file, answers, *data_type)?;
-            Ok(file.type_width_as_int64(data_type)?.to_string(alloc)?)
+            let data_type: VastDataType = one(file, answers, *data_type)?;
+            Ok(Value::Number(file.type_width_as_int64(data_type)?))
         }
         ValueQuestion::TypeWidthExpr(data_type) => {
-            let data_type: VastDataType = handle(file, answers, *data_type)?;
+            let data_type: VastDataType = one(file, answers, *data_type)?;
             match file.type_width_expr(data_type) {
-                Some(width) => Ok(file.emit_expression(&width)?),
-                None => Ok(String::from_str(alloc, "-")?),
+                Some(width) => Ok(Value::Text(file.emit_expression(&width)?)),
+                None => Ok(Value::Nothing),
             }
         }
         ValueQuestion::WidthIsUsable(width) => {
-            let width: Expr = handle(file, answers, *width)?;
-            Ok(file.width_is_usable(&width).to_string(alloc)?)
+            let width: Expr = one(file, answers, *width)?;
+            Ok(Value::Truth(file.width_is_usable(&width)))
         }
     }
 }

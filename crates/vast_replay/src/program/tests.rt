@@ -1,6 +1,10 @@
-//! Runs over inputs in memory: what goes to which stream, and the status.
+//! Runs over inputs in memory: what goes to which stream, and the outcome.
 
-use super::run;
+use super::{Manner, run};
+use crate::outcome::Outcome;
+use crate::session::answer_lines;
+use crate::words::Form;
+use std::alloc::Global;
 use std::io;
 use std::io::{Read, Write};
 use vast_list::Tries;
@@ -31,6 +35,31 @@ const NAMED: &str = "verilog\nm = AddModule \"m\"\nbit = MakeScalarType\nAddWire
 
 const DESIGN: &str = "module m;\n  wire a;\nendmodule\n";
 
+const TWO: &str =
+    "== one\nverilog\n?IsSystemVerilogKeyword \"wire\"\nMakeNot\n== two\nverilog\nMakeNot 0\n";
+
+/// The outcome, and what went to both streams.
+#[derive(Drop)]
+struct Ran {
+    outcome: Outcome,
+    out: Vec<u8>,
+    err: Vec<u8>,
+}
+
+fn ran(alloc: Global, form: Form, tries: Tries, list: &[u8]) -> Ran {
+    let mut out: Vec<u8> = Vec::new(alloc);
+    let mut err: Vec<u8> = Vec::new(alloc);
+    let mut input = list;
+    let source = "a.list";
+    let manner = Manner {
+        form,
+        tries,
+        source,
+    };
+    let outcome = run(alloc, manner, &mut input, &mut out, &mut err);
+    Ran { outcome, out, err }
+}
+
 #[test]
 fn one_list_is_a_design(rt: HostRuntime) {
     let lists = [
@@ -39,98 +68,113 @@ fn one_list_is_a_design(rt: HostRuntime) {
         (Tries::Again, NAMED),
     ];
     for (tries, list) in lists {
-        let mut out: Vec<u8> = Vec::new(rt.alloc());
-        let mut err: Vec<u8> = Vec::new(rt.alloc());
-        let mut input = list.as_bytes();
-        assert_eq!(rt; run(rt.alloc(), tries, &mut input, &mut out, &mut err), 0);
-        assert!(rt; out.as_slice() == DESIGN.as_bytes());
-        assert!(rt; err.is_empty());
+        let ran = ran(rt.alloc(), Form::Text, tries, list.as_bytes());
+        assert_eq!(rt; ran.outcome, Outcome::Made);
+        assert!(rt; ran.out.as_slice() == DESIGN.as_bytes());
+        assert!(rt; ran.err.is_empty());
     }
 }
 
 #[test]
 fn a_fault_is_told_in_place_of_a_design(rt: HostRuntime) {
-    let faults: [(&[u8], u8, &str); 8] = [
-        (
-            b"verilog\nAddModule \"m\"\nMakeNot 0",
-            1,
-            "refused: step 1: answer of another kind\n",
-        ),
+    let faults: [(&[u8], Outcome, &str); 5] = [
         (
             b"verilog\n?ModuleName 0",
-            1,
-            "?ModuleName: refused: no such answer\n",
+            Outcome::Refused,
+            "a.list:2: ?ModuleName: ",
         ),
         (
             b"verilog\nMakeScalarType\n\n\n\n\nMakeNot 0",
-            2,
-            "line 3: unknown call\n",
+            Outcome::Refused,
+            "a.list:7: MakeNot: ",
         ),
+        (b"verilog\nMakeNot a", Outcome::NotInForm, "a.list:2:9: "),
         (
-            b"verilog\nMakeNot a",
-            2,
-            "line 2: no earlier step has the name\n",
+            b"verilog\nAddModule \"\xff\"",
+            Outcome::NotInForm,
+            "a.list:2:",
         ),
-        (b"verilog\nMakeNot -1", 2, "line 2: number out of range\n"),
-        (
-            b"verilog\nMakeConcat [ [ [ [ [",
-            2,
-            "line 2: number expected\n",
-        ),
-        (b"verilog\nAddModule \"\xff\"", 2, "line 2: not UTF-8\n"),
-        (b"", 2, "line 1: `verilog` or `systemverilog` expected\n"),
+        (b"", Outcome::NotInForm, "a.list:1:1: "),
     ];
-    for (list, status, told) in faults {
-        let mut out: Vec<u8> = Vec::new(rt.alloc());
-        let mut err: Vec<u8> = Vec::new(rt.alloc());
-        let mut input = list;
-        assert_eq!(rt;
-            run(rt.alloc(), Tries::Once, &mut input, &mut out, &mut err),
-            status
-        );
-        assert!(rt; out.is_empty());
-        assert!(rt; err.as_slice() == told.as_bytes());
+    for (list, outcome, told) in faults {
+        let ran = ran(rt.alloc(), Form::Text, Tries::Once, list);
+        assert_eq!(rt; ran.outcome, outcome);
+        assert!(rt; ran.out.is_empty());
+        assert!(rt; ran.err.starts_with(told.as_bytes()));
     }
 }
 
 #[test]
+fn a_check_prints_no_design(rt: HostRuntime) {
+    let made = ran(rt.alloc(), Form::Faults, Tries::Once, NAMED.as_bytes());
+    assert_eq!(rt; made.outcome, Outcome::Made);
+    assert!(rt; made.out.is_empty() && made.err.is_empty());
+    let list = b"verilog\nMakeNot 0";
+    let refused = ran(rt.alloc(), Form::Faults, Tries::Once, list);
+    assert_eq!(rt; refused.outcome, Outcome::Refused);
+    assert!(rt; refused.out.is_empty());
+    assert!(rt; refused.err.starts_with(b"a.list:2: MakeNot: "));
+}
+
+#[test]
 fn lists_around_a_bad_line_are_answered(rt: HostRuntime) {
-    let mut out: Vec<u8> = Vec::new(rt.alloc());
-    let mut err: Vec<u8> = Vec::new(rt.alloc());
-    let lists =
-        "== one\nverilog\n?IsSystemVerilogKeyword \"wire\"\nMakeNot\n== two\nverilog\nMakeNot 0\n";
-    let mut input = lists.as_bytes();
-    assert_eq!(rt;
-        run(rt.alloc(), Tries::Once, &mut input, &mut out, &mut err),
-        2
-    );
-    assert!(rt; out.as_slice() == "== two\nrefused: step 0: no such answer\n".as_bytes());
-    assert!(rt; err.as_slice() == "line 4: a step behind a question\n".as_bytes());
+    let ran = ran(rt.alloc(), Form::Text, Tries::Once, TWO.as_bytes());
+    assert_eq!(rt; ran.outcome, Outcome::NotInForm);
+    assert!(rt; ran.out.as_slice() == "== two\nrefused: step 0: no such answer\n".as_bytes());
+    assert!(rt; ran.err.starts_with(b"a.list:4:"));
+}
+
+#[test]
+fn a_list_is_a_line_of_json(rt: HostRuntime) {
+    let list = b"verilog\nm = AddModule \"m\"\nt = MakeScalarType\nAddWire m \"a\" t\n?ModuleName m\n?ModuleMemberCount m\n";
+    let ran = ran(rt.alloc(), Form::Json, Tries::Once, list);
+    let wanted =
+        r#"{"source":"a.list","title":null,"line":1,"verdict":"made","answers":[{"line":5,"call":"?ModuleName","answer":"m"},{"line":6,"call":"?ModuleMemberCount","answer":1}],"faults":[],"more":0,"text":"module m;\n  wire a;\nendmodule\n"}"#;
+    assert_eq!(rt; ran.outcome, Outcome::Made);
+    assert!(rt; ran.out.starts_with(wanted.as_bytes()));
+    assert!(rt; ran.err.is_empty());
+}
+
+#[test]
+fn a_session_answers_each_line(rt: HostRuntime) {
+    let alloc = rt.alloc();
+    let mut out: Vec<u8> = Vec::new(alloc);
+    let mut err: Vec<u8> = Vec::new(alloc);
+    let mut lines: &[u8] = b"# one\nverilog\nm = AddModule \"m\"\n?ModuleName m\n== two\n?Emit";
+    let wanted = "{\"line\":1}\n{\"line\":2,\"dialect\":\"verilog\"}\n\
+        {\"line\":3,\"call\":\"AddModule\",\"step\":0}\n\
+        {\"line\":4,\"call\":\"?ModuleName\",\"answer\":\"m\"}\n\
+        {\"line\":5,\"title\":\"two\"}\n{\"line\":6,\"column\":1,\"cause\":\"form\",";
+    let outcome = answer_lines(alloc, &mut lines, &mut out, &mut err);
+    assert_eq!(rt; outcome, Outcome::Made);
+    assert!(rt; out.starts_with(wanted.as_bytes()));
+    assert!(rt; out.ends_with(b"}\n"));
+    assert!(rt; err.is_empty());
+    let mut lines: &[u8] = b"verilog\n";
+    let outcome = answer_lines(alloc, &mut lines, &mut Closed, &mut err);
+    assert_eq!(rt; outcome, Outcome::Failed);
+    assert!(rt; err.as_slice() == b"write fault\n");
 }
 
 #[test]
 fn failing_streams_are_told(rt: HostRuntime) {
-    let mut out: Vec<u8> = Vec::new(rt.alloc());
-    let mut err: Vec<u8> = Vec::new(rt.alloc());
-    assert_eq!(rt;
-        run(rt.alloc(), Tries::Once, &mut Closed, &mut out, &mut err),
-        1
-    );
+    let alloc = rt.alloc();
+    let source = "a.list";
+    let (form, tries) = (Form::Text, Tries::Once);
+    let manner = Manner {
+        form,
+        tries,
+        source,
+    };
+    let mut out: Vec<u8> = Vec::new(alloc);
+    let mut err: Vec<u8> = Vec::new(alloc);
+    let outcome = run(alloc, manner, &mut Closed, &mut out, &mut err);
+    assert_eq!(rt; outcome, Outcome::Failed);
     let mut input = NUMBERED.as_bytes();
-    assert_eq!(rt;
-        run(rt.alloc(), Tries::Once, &mut input, &mut Closed, &mut err),
-        1
-    );
+    let outcome = run(alloc, manner, &mut input, &mut Closed, &mut err);
+    assert_eq!(rt; outcome, Outcome::Failed);
     assert!(rt; err.as_slice() == "read fault\nwrite fault\n".as_bytes());
     let mut input = NUMBERED.as_bytes();
-    assert_eq!(rt;
-        run(
-            rt.alloc(),
-            Tries::Once,
-            &mut input,
-            &mut Closed,
-            &mut Closed
-        ),
-        1
-    );
+    let outcome = run(alloc, manner, &mut input, &mut Closed, &mut Closed);
+    assert_eq!(rt; outcome, Outcome::Failed);
 }

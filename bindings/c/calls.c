@@ -1,0 +1,113 @@
+/* Each function of vast.h, each status, each text and each number, on two sessions at once.
+ * Says the first check that fails, with its line, and ends with status 1. */
+#include "vast.h"
+
+#include <stdio.h>
+#include <string.h>
+
+#define CHECK(condition)                                                            \
+    do {                                                                            \
+        if (!(condition)) {                                                         \
+            fprintf(stderr, "%s:%d: %s does not hold\n", __FILE__, __LINE__, #condition); \
+            return 1;                                                               \
+        }                                                                           \
+    } while (0)
+
+static int32_t lines(vast_session *session, const char *text, size_t *taken)
+{
+    return vast_lines(session, (const uint8_t *)text, strlen(text), taken);
+}
+
+/* Whether the text is this one, and no byte behind it is written. */
+static int is_text(vast_session *session, int32_t text, const char *wanted)
+{
+    uint8_t room[512];
+    memset(room, '#', sizeof room);
+    size_t length = vast_text(session, text, room, sizeof room);
+    return length == strlen(wanted) && memcmp(room, wanted, length) == 0 && room[length] == '#';
+}
+
+/* A session that is not open: each call says so, or answers nothing. */
+static int not_open(void)
+{
+    vast_session session = NULL;
+    size_t taken = 7;
+    CHECK(lines(&session, "MakeScalarType", &taken) == VAST_NOT_OPEN && taken == 0 && session == NULL);
+    CHECK(vast_print(&session) == VAST_NOT_OPEN);
+    CHECK(is_text(&session, VAST_FILE, "") && is_text(&session, VAST_MESSAGE, ""));
+    CHECK(vast_number(&session, VAST_COUNT) == 0);
+    CHECK(vast_open(&session, 2) == VAST_NO_DIALECT && session == NULL);
+    vast_close(&session);
+    CHECK(session == NULL);
+    return 0;
+}
+
+/* Lines one by one and at once, the last one with its line feed or without, and two sessions that share nothing. */
+static int made(void)
+{
+    vast_session one = NULL, other = NULL;
+    size_t taken;
+    CHECK(vast_open(&one, VAST_VERILOG) == VAST_OK && vast_open(&other, VAST_SYSTEMVERILOG) == VAST_OK);
+    CHECK(one != NULL && other != NULL && one != other);
+    CHECK(lines(&one, "m = AddModule \"first\"\n", &taken) == VAST_OK && taken == 1);
+    CHECK(lines(&one, "bit = MakeScalarType\nAddWire m \"a\" bit", &taken) == VAST_OK && taken == 2);
+    CHECK(lines(&one, "", &taken) == VAST_OK && taken == 0);
+    CHECK(lines(&one, "\n# no call\n", &taken) == VAST_OK && taken == 2);
+    CHECK(lines(&other, "m = AddModule \"second\"\n", &taken) == VAST_OK && taken == 1);
+    CHECK(vast_number(&one, VAST_COUNT) == 3 && vast_number(&other, VAST_COUNT) == 1);
+    CHECK(lines(&one, "?ModuleName m\n", &taken) == VAST_OK && is_text(&one, VAST_ANSWER, "first"));
+    CHECK(lines(&one, "MakeScalarType\n", &taken) == VAST_OK && is_text(&one, VAST_ANSWER, ""));
+    CHECK(is_text(&one, VAST_FILE, ""));
+    CHECK(vast_print(&one) == VAST_OK && is_text(&one, VAST_FILE, "module first;\n  wire a;\nendmodule\n"));
+    CHECK(vast_print(&other) == VAST_OK && is_text(&other, VAST_FILE, "module second;\n\nendmodule\n"));
+    uint8_t room[4] = "....";
+    CHECK(vast_text(&one, VAST_FILE, room, 3) == 34 && memcmp(room, "mod.", 4) == 0);
+    CHECK(vast_text(&one, 99, room, 3) == 0 && vast_number(&one, 99) == 0);
+    CHECK(vast_open(&one, VAST_VERILOG) == VAST_OK && vast_number(&one, VAST_COUNT) == 0);
+    vast_close(&one);
+    vast_close(&other);
+    CHECK(one == NULL && other == NULL);
+    vast_close(&one);
+    return 0;
+}
+
+/* Each fault of a line: the lines before it stay made, and no more is. */
+static int faults(void)
+{
+    vast_session s = NULL;
+    size_t taken;
+    CHECK(vast_open(&s, VAST_VERILOG) == VAST_OK);
+    CHECK(lines(&s, "m = AddModule \"m\"\nbit = MakeScalarType\na = AddWire m \"a\" bit\nAddWire m \"a\" bit\n", &taken) == VAST_REFUSED);
+    CHECK(taken == 3 && vast_number(&s, VAST_COUNT) == 3);
+    CHECK(vast_number(&s, VAST_LINE) == 4 && vast_number(&s, VAST_COLUMN) == 0 && is_text(&s, VAST_CALL, "AddWire"));
+    CHECK(vast_text(&s, VAST_MESSAGE, (uint8_t *)&taken, 0) > vast_text(&s, VAST_WORDS, (uint8_t *)&taken, 0));
+    CHECK(lines(&s, "MakeScalarType\nAddWire bit \"b\" bit\n", &taken) == VAST_CONDITION && taken == 1);
+    CHECK(vast_number(&s, VAST_LINE) == 5 && vast_number(&s, VAST_COUNT) == 4);
+    CHECK(lines(&s, "AddWire m \"b\" bit bit\n", &taken) == VAST_FORM && taken == 0 && vast_number(&s, VAST_COLUMN) > 0);
+    CHECK(lines(&s, "\xff\n", &taken) == VAST_FORM && taken == 0 && is_text(&s, VAST_CALL, ""));
+    CHECK(lines(&s, "AddWire m \"b\" bit\n", &taken) == VAST_OK && is_text(&s, VAST_MESSAGE, ""));
+    CHECK(vast_number(&s, VAST_LINE) == 0 && vast_number(&s, VAST_COUNT) == 5);
+    CHECK(vast_print(&s) == VAST_OK && is_text(&s, VAST_FILE, "module m;\n  wire a;\n  wire b;\nendmodule\n"));
+    vast_close(&s);
+    return 0;
+}
+
+/* A text that is refused, whose line is told; the text of before stays. */
+static int refused_text(void)
+{
+    vast_session s = NULL;
+    size_t taken;
+    CHECK(vast_open(&s, VAST_VERILOG) == VAST_OK && vast_print(&s) == VAST_OK);
+    CHECK(lines(&s, "m = AddModule \"m\"\nbit = MakeScalarType\na = AddWire m \"a\" bit\ni = MakeIndex a 1\n", &taken) == VAST_OK);
+    CHECK(lines(&s, "b = AddWire m \"b\" bit\nc = MakeContinuousAssignment b i\nAddMemberContinuousAssignment m c\n", &taken) == VAST_OK);
+    CHECK(vast_print(&s) == VAST_REFUSED && vast_number(&s, VAST_LINE) == 4);
+    CHECK(is_text(&s, VAST_WORDS, "a scalar signal can only be indexed with zero"));
+    CHECK(is_text(&s, VAST_FILE, ""));
+    vast_close(&s);
+    return 0;
+}
+
+int main(void)
+{
+    return not_open() || made() || faults() || refused_text();
+}

@@ -1,0 +1,114 @@
+/* Each request for memory is refused in turn, of all that the counter's session asks for: the call whose request it is
+ * answers VAST_MEMORY and leaves the session as it was, and made again it gives what it gives undisturbed.
+ * Linked with -Wl,--wrap=malloc -Wl,--wrap=realloc. The last line counts; the status is 1 where an answer was another. */
+#include "vast.h"
+
+#include <stdio.h>
+#include <stdlib.h>
+#include <string.h>
+
+static long left = -1; /* requests before the one that is refused; below 0: none is */
+static int was_refused;
+
+static int is_refused(void)
+{
+    if (left < 0 || left-- > 0)
+        return 0;
+    was_refused = 1;
+    return 1;
+}
+
+void *__real_malloc(size_t size);
+void *__real_realloc(void *old, size_t size);
+void *__wrap_malloc(size_t size) { return is_refused() ? NULL : __real_malloc(size); }
+void *__wrap_realloc(void *old, size_t size) { return is_refused() ? NULL : __real_realloc(old, size); }
+
+static const char *const lines[] = {
+    "counter = AddModule \"counter\"",
+    "bit = MakeScalarType",
+    "byte = MakeBitVectorType 8 false",
+    "clk = AddInput counter \"clk\" bit",
+    "rst = AddInput counter \"rst\" bit",
+    "count = AddOutput counter \"count\" byte",
+    "value = AddLogic counter \"value\" byte",
+    "drive = MakeContinuousAssignment count value",
+    "AddMemberContinuousAssignment counter drive",
+    "one = MakeLiteral \"bits[8]:1\" UnsignedDecimal",
+    "zero = MakeLiteral \"bits[8]:0\" UnsignedDecimal",
+    "next = MakeAdd value one",
+    "!AddRegisters clk + [ rst false ] [ [ value next + zero - ] ] counter",
+    "?ModulePorts counter",
+};
+enum { COUNT = sizeof lines / sizeof lines[0] };
+
+static uint8_t wanted[4096];
+static size_t wanted_length;
+
+/* Whether the file prints as it does undisturbed; the first one is kept. */
+static int is_counter(vast_session *session)
+{
+    uint8_t room[4096];
+    size_t length = vast_text(session, VAST_FILE, room, sizeof room);
+    if (wanted_length == 0) {
+        wanted_length = length;
+        memcpy(wanted, room, length);
+    }
+    return length == wanted_length && length < sizeof room && memcmp(room, wanted, length) == 0;
+}
+
+/* How many calls answered VAST_MEMORY where request k is refused, or -1 for a wrong answer. */
+static int session_with(long k)
+{
+    vast_session s = NULL;
+    size_t taken = 0;
+    int refused = 0;
+    left = k;
+    if (vast_open(&s, VAST_SYSTEMVERILOG) == VAST_MEMORY) {
+        refused++;
+        if (s != NULL || vast_open(&s, VAST_SYSTEMVERILOG) != VAST_OK)
+            return -1;
+    }
+    for (int i = 0; i < COUNT; i++) {
+        const uint8_t *line = (const uint8_t *)lines[i];
+        size_t before = vast_number(&s, VAST_COUNT), length = strlen(lines[i]);
+        int32_t status = vast_lines(&s, line, length, &taken);
+        if (status == VAST_MEMORY) {
+            refused++;
+            if (taken != 0 || vast_number(&s, VAST_COUNT) != before)
+                return -1;
+            status = vast_lines(&s, line, length, &taken);
+        }
+        if (status != VAST_OK || taken != 1)
+            return -1;
+    }
+    if (vast_print(&s) == VAST_MEMORY) {
+        refused++;
+        if (vast_print(&s) != VAST_OK)
+            return -1;
+    }
+    left = -1;
+    if (!is_counter(&s))
+        return -1;
+    vast_close(&s);
+    return s == NULL ? refused : -1;
+}
+
+int main(void)
+{
+    long request = 0, answers = 0;
+    if (session_with(-1) != 0)
+        return 1;
+    for (;; request++) {
+        was_refused = 0;
+        int refused = session_with(request);
+        if (refused < 0 || refused > was_refused) {
+            printf("request %ld: another answer\n", request);
+            return 1;
+        }
+        if (!was_refused)
+            break;
+        answers += refused;
+    }
+    printf("refused: %ld requests in turn, %ld told by VAST_MEMORY\n", request, answers);
+    return answers == 0;
+}

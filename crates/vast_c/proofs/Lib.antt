@@ -1,0 +1,3 @@
+-- Lemmas on lines.
+pub mod FirstLine
+pub mod Steps

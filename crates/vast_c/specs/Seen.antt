@@ -1,0 +1,112 @@
+-- What C sees of a session, `None` where it is not open.
+use Rattle.std.specs.Prelude.{◌≡◌, ℕ, List, [], ◌∷◌, ◌++◌, length, take, drop, Option, None, Some, string_bytes, unwrap_or}
+use Rattle.vast_core.specs.Bench.{start}
+use Rattle.vast_core.specs.FileTree.{tree}
+use Rattle.vast_literal.specs.declared.kind.VastFileType.{VastFileType}
+use Rattle.vast_list.specs.Session.{Gives, IsLeft, IsSame, IsTextOf}
+use Rattle.vast_list.specs.declared.fault.Fault.TheVariants.{Memory as FaultMemory}
+use Rattle.vast_list.specs.declared.session.Given.{Given}
+use Rattle.vast_list.specs.declared.session.Session.{Session}
+use Rattle.vast_c.specs.declared.kept.Cause.{Cause}
+use Rattle.vast_c.specs.declared.kept.Cause.TheVariants.{Refused, Condition, Form, Memory}
+use Rattle.vast_c.specs.declared.kept.Kept.{Kept}
+use Rattle.vast_c.specs.declared.kept.Told.{Told}
+
+-- The file's tree and the answers are as before.
+abbrev pub IsSameTree : (before after : Session) → Type 0
+IsSameTree before after = IsLeft before after FaultMemory
+
+-- A line that gives nothing leaves the session as it was; where memory was refused, its tree and its answers.
+abbrev pub LeftBy : (before after : Session) → Cause → Type 0
+LeftBy before after Refused = IsSame before after
+LeftBy before after Condition = IsSame before after
+LeftBy before after Form = IsSame before after
+LeftBy before after Memory = IsSameTree before after
+
+abbrev pub LeftIfAny : (before after : Session) → Option Cause → Type 0
+LeftIfAny before after None = after ≡ before
+LeftIfAny before after (Some cause) = LeftBy before after cause
+
+-- Lines gave these, one after another.
+abbrev pub Gave : (before : Session) → List Given → (after : Session) → Type 0
+Gave before [] after = after ≡ before
+Gave before (given ∷ more) after = (between : Session) × Gives before between given × Gave between more after
+
+-- So many lines gave what they gave, and the next one, if there was one, nothing.
+abbrev pub MadeAll : (before : Session) → ℕ → Option Cause → (after : Session) → Type 0
+MadeAll before taken cause after = (between : Session) × (given : List Given) × (length given ≡ taken) × Gave before given between × LeftIfAny between after cause
+
+-- So many lines gave what they gave to the session that is open, and since then it is the same but for what Same leaves out.
+abbrev pub Made : (before : Option Kept) → ℕ → (Same : Session → Session → Type 0) → (after : Option Kept) → Type 0
+Made (Some before) taken Same (Some after) = (between : Session) × (given : List Given) × (length given ≡ taken) × Gave before.session given between × Same between after.session
+Made None taken Same None = taken ≡ 0
+Made _ taken Same _ = ⊥
+
+-- The bytes of a text went to the start of a buffer, as many as it holds, and the text's length is told.
+abbrev pub Copied : (text : List ℕ) → (before after : List ℕ) → (told : ℕ) → Type 0
+Copied text before after told = (told ≡ length text) × (after ≡ take (length before) text ++ drop (length text) before)
+
+-- the session
+abbrev pub session_in : Option Kept → Option Session
+session_in None = None
+session_in (Some kept) = Some kept.session
+
+-- what the last line answered
+abbrev pub answer_in : Option Kept → List ℕ
+answer_in None = []
+answer_in (Some kept) = string_bytes kept.answer
+
+-- the file as it was printed last
+abbrev pub file_in : Option Kept → List ℕ
+file_in None = []
+file_in (Some kept) = string_bytes kept.file
+
+-- the last fault, if there is one
+abbrev pub told_in : Option Kept → Option Told
+told_in None = None
+told_in (Some kept) = kept.told
+
+abbrev pub message_of : Option Told → List ℕ
+message_of None = []
+message_of (Some told) = string_bytes told.message
+
+abbrev pub words_of : Option Told → List ℕ
+words_of None = []
+words_of (Some told) = string_bytes told.fault.words
+
+abbrev pub call_of : Option Told → List ℕ
+call_of None = []
+call_of (Some told) = string_bytes told.fault.call
+
+abbrev pub line_of : Option Told → ℕ
+line_of None = 0
+line_of (Some told) = told.fault.line
+
+abbrev pub column_of : Option Told → ℕ
+column_of None = 0
+column_of (Some told) = unwrap_or told.fault.column 0
+
+abbrev pub message_in : Option Kept → List ℕ
+message_in kept = message_of (told_in kept)
+
+abbrev pub words_in : Option Kept → List ℕ
+words_in kept = words_of (told_in kept)
+
+abbrev pub call_in : Option Kept → List ℕ
+call_in kept = call_of (told_in kept)
+
+abbrev pub line_in : Option Kept → ℕ
+line_in kept = line_of (told_in kept)
+
+abbrev pub column_in : Option Kept → ℕ
+column_in kept = column_of (told_in kept)
+
+-- A session is open whose file is empty.
+abbrev pub IsFresh : VastFileType → Option Kept → Type 0
+IsFresh dialect None = ⊥
+IsFresh dialect (Some kept) = (kept.session.file ≡ start dialect 1) × (kept.session.answers.items ≡ [])
+
+-- The text is that of the session.
+abbrev pub Printed : (before after : Option Kept) → Type 0
+Printed (Some before) (Some after) = IsTextOf (tree before.session.file) (string_bytes after.file)
+Printed _ _ = ⊥

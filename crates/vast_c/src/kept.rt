@@ -1,0 +1,179 @@
+//! What C keeps by its pointer: a session, and what was told of it last.
+
+ghost use Rattle.std.specs.Prelude.{◌≡◌, ◌<◌, [], IfErr, IfOk, OnErr, IsSome, None, length, string_bytes};
+ghost use Rattle.vast_core.specs.Bench.{start};
+ghost use Rattle.vast_core.specs.FileTree.{tree};
+ghost use Rattle.vast_list.specs.Session.{Gives, IsLeft, IsTextOf};
+ghost use Rattle.vast_list.specs.declared.session.Given.{Given as AnyGiven};
+ghost use Rattle.vast_list.specs.declared.session.Session.{Session as AnySession};
+ghost use Rattle.vast_c.specs.declared.kept.Cause.TheVariants.{Memory};
+ghost use Rattle.vast_c.specs.Lines.{lines_of};
+ghost use Rattle.vast_c.specs.Seen.{LeftBy, MadeAll};
+
+use crate::lines::first_line;
+use std::alloc::Global;
+use vast_list::{Fault, Given, LineFault, Session, Value};
+use vast_script::StepFault;
+use xlsynth_vast::VastFileType;
+
+/// Why a line was not made, or a text not printed.
+#[derive(Drop, Clone, Copy)]
+pub(crate) enum Cause {
+    /// The library refuses what the call asks.
+    Refused,
+    /// A condition of the call is not met.
+    Condition,
+    /// The line is not in the form.
+    Form,
+    /// Memory was refused.
+    Memory,
+}
+
+/// A fault, and its message.
+#[derive(Drop)]
+pub(crate) struct Told {
+    pub(crate) message: String,
+    pub(crate) fault: LineFault,
+}
+
+/// A session, and what was told of it last.
+#[derive(Drop)]
+pub(crate) struct Kept {
+    pub(crate) session: Session,
+    /// The lines so far.
+    pub(crate) lines: usize,
+    /// What the last line answered.
+    pub(crate) answer: String,
+    /// The last fault, where the last call had one.
+    pub(crate) told: Option<Told>,
+    /// The file as it was printed last.
+    pub(crate) file: String,
+}
+
+/// What was made of some lines.
+#[derive(Drop)]
+pub(crate) struct MadeLines {
+    /// How many were made.
+    pub(crate) taken: usize,
+    /// Why the next one was not, if there is one.
+    pub(crate) cause: Option<Cause>,
+}
+
+impl Kept {
+    /// A session with no line.
+    pub(crate) fn new(alloc: Global, dialect: VastFileType) -> Kept
+        ensures file { result.session.file ≡ start dialect 1 }
+        ensures answers { result.session.answers.items ≡ [] }
+    {
+        Kept {
+            session: Session::new(alloc, dialect),
+            lines: 0,
+            answer: String::new(alloc),
+            told: None,
+            file: String::new(alloc),
+        }
+    }
+
+    /// Makes the calls of the lines, up to the first at fault.
+    pub(crate) fn make_lines(&mut self, lines: &[u8]) -> MadeLines
+        ensures made { MadeAll self.old.session result.taken result.cause self.new.session }
+        ensures all { result.cause ≡ None → result.taken ≡ length (lines_of lines.now) }
+        ensures fault { IsSome result.cause → result.taken < length (lines_of lines.now) }
+    {
+        self.answer.clear();
+        self.told = None;
+        let mut rest = lines;
+        let mut taken = 0;
+        while !rest.is_empty() {
+            let (line, behind) = first_line(rest);
+            if let Err(cause) = self.make_line(line) {
+                return MadeLines {
+                    taken,
+                    cause: Some(cause),
+                };
+            }
+            taken += 1;
+            rest = behind;
+        }
+        MadeLines { taken, cause: None }
+    }
+
+    /// Prints the file.
+    ///
+    /// # Errors
+    /// A refusal of the text, and want of memory; the text of before stays.
+    pub(crate) fn print(&mut self) -> Result<(), Cause>
+        ensures printed { IfOk result (λ _. IsTextOf (tree self.old.session.file) (string_bytes self.new.file)) }
+        ensures session { self.new.session ≡ self.old.session }
+        ensures unchanged { OnErr result (self.new.file ≡ self.old.file) }
+    {
+        self.told = None;
+        match self.session.text() {
+            Ok(text) => {
+                self.file = text;
+                Ok(())
+            }
+            Err(fault) => Err(self.tell(fault)),
+        }
+    }
+
+    /// Makes the call of one line.
+    fn make_line(&mut self, line: &[u8]) -> Result<(), Cause>
+        ensures given { IfOk result (λ _. (given : AnyGiven) × Gives self.old.session self.new.session given) }
+        ensures left { IfErr result (λ cause. LeftBy self.old.session self.new.session cause) }
+    {
+        let number = self.lines.saturating_add(1);
+        match self.session.line(number, line) {
+            Ok(Given::Answer { value, .. }) => {
+                self.answer = text_of(*self.answer.allocator(), value)?;
+                self.lines = number;
+                Ok(())
+            }
+            Ok(_) => {
+                self.answer.clear();
+                self.lines = number;
+                Ok(())
+            }
+            Err(fault) => Err(self.tell(fault)),
+        }
+    }
+
+    /// Keeps the fault, and answers its cause.
+    fn tell(&mut self, fault: Fault) -> Cause
+        ensures left { (a b : AnySession) → IsLeft a b fault → LeftBy a b result }
+        ensures session { self.new.session ≡ self.old.session }
+        ensures file { self.new.file ≡ self.old.file }
+    {
+        let Fault::Line(fault) = fault else {
+            return Cause::Memory;
+        };
+        let Ok(message) = format!(in *self.answer.allocator(); "{fault}") else {
+            return Cause::Memory;
+        };
+        let cause = cause_of(&fault);
+        self.told = Some(Told { message, fault });
+        cause
+    }
+}
+
+/// The answer's text. One that is a text already takes no memory.
+fn text_of(alloc: Global, value: Value) -> Result<String, Cause>
+    ensures { IfErr result (λ cause. cause ≡ Memory) }
+{
+    if let Value::Text(text) = value {
+        return Ok(text);
+    }
+    match format!(in alloc; "{value}") {
+        Ok(text) => Ok(text),
+        Err(_) => Err(Cause::Memory),
+    }
+}
+
+fn cause_of(fault: &LineFault) -> Cause {
+    match &fault.cause {
+        None => Cause::Form,
+        Some(StepFault::Refused(_)) => Cause::Refused,
+        Some(StepFault::Memory) => Cause::Memory,
+        Some(_) => Cause::Condition,
+    }
+}

@@ -1,0 +1,226 @@
+//! The library for C: `bindings/c/vast.h` says what each function is for.
+//!
+//! A session is held by a pointer, which is null before `vast_open` and after `vast_close`.
+#![tactic(auto)]
+
+ghost use Rattle.std.specs.Prelude.{◌≡◌, ◌<◌, ◌⊎◌, ◌↔◌, ℕ, Option, Some, None, length, take, [], IfSome};
+ghost use Rattle.vast_list.specs.Session.{IsSame};
+ghost use Rattle.vast_literal.specs.declared.kind.VastFileType.TheVariants.{Verilog, SystemVerilog};
+ghost use Rattle.vast_c.specs.declared.kept.Cause.TheVariants.{Memory};
+ghost use Rattle.vast_c.specs.Lines.{lines_of};
+ghost use Rattle.vast_c.specs.Seen.{answer_in, call_in, column_in, Copied, file_in, IsFresh, IsSameTree, line_in, Made, message_in, Printed, session_in, words_in};
+
+mod handle;
+mod kept;
+mod lines;
+
+use handle::Handle;
+use kept::{Cause, Kept};
+use std::alloc::Global;
+use xlsynth_vast::VastFileType;
+
+/// What a call answers.
+pub const OK: i32 = 0;
+
+/// The library refuses what the line asks.
+pub const REFUSED: i32 = 1;
+
+/// A condition of the call is not met.
+pub const CONDITION: i32 = 2;
+
+/// The line is not in the form.
+pub const FORM: i32 = 3;
+
+/// Memory was refused.
+pub const MEMORY: i32 = 4;
+
+/// The session is not open.
+pub const NOT_OPEN: i32 = 5;
+
+/// The number is no dialect's.
+pub const NO_DIALECT: i32 = 6;
+
+/// The dialects.
+pub const VERILOG: i32 = 0;
+
+pub const SYSTEMVERILOG: i32 = 1;
+
+/// The texts of a session: what the last line answered.
+pub const ANSWER: i32 = 0;
+
+/// The last fault, with its line and its call.
+pub const MESSAGE: i32 = 1;
+
+/// The last fault, in words alone.
+pub const WORDS: i32 = 2;
+
+/// The name of the call at fault.
+pub const CALL: i32 = 3;
+
+/// The file as it was printed last.
+pub const FILE: i32 = 4;
+
+/// The numbers of a session: how many handles it has answered.
+pub const COUNT: i32 = 0;
+
+/// The line at fault, of all lines of the session, from 1.
+pub const LINE: i32 = 1;
+
+/// The character of that line where it stops being in the form, from 1.
+pub const COLUMN: i32 = 2;
+
+/// A session with an empty file, in place of one that was there.
+#[unsafe(no_mangle)]
+pub extern "C" fn vast_open(alloc: Global, handle: &mut Handle, dialect: i32) -> i32
+    ensures verilog { result ≡ OK → dialect ≡ VERILOG → IsFresh Verilog handle.new.kept }
+    ensures systemverilog { result ≡ OK → dialect ≡ SYSTEMVERILOG → IsFresh SystemVerilog handle.new.kept }
+    ensures dialect { result ≡ NO_DIALECT ↔ ¬ (dialect ≡ VERILOG) × ¬ (dialect ≡ SYSTEMVERILOG) }
+    ensures unchanged { ¬ (result ≡ OK) → handle.new.kept ≡ handle.old.kept }
+{
+    let dialect = match dialect {
+        VERILOG => VastFileType::Verilog,
+        SYSTEMVERILOG => VastFileType::SystemVerilog,
+        _ => return NO_DIALECT,
+    };
+    let Ok(kept) = Box::new(alloc, Kept::new(alloc, dialect)) else {
+        return MEMORY;
+    };
+    handle.put(kept);
+    OK
+}
+
+/// Makes the calls of the lines, up to the first at fault.
+#[unsafe(no_mangle)]
+pub extern "C" fn vast_lines(
+    alloc: Global,
+    handle: &mut Handle,
+    lines: &[u8],
+    taken: &mut usize,
+) -> i32
+    ensures closed { result ≡ NOT_OPEN ↔ handle.old.kept ≡ None }
+    ensures made { Made handle.old.kept taken.new IsSameTree handle.new.kept }
+    ensures exact { ¬ (result ≡ MEMORY) → Made handle.old.kept taken.new IsSame handle.new.kept }
+    ensures all { result ≡ OK → taken.new ≡ length (lines_of lines.now) }
+    ensures fault { ¬ (result ≡ OK) → ¬ (result ≡ NOT_OPEN) → taken.new < length (lines_of lines.now) }
+{
+    let Some(mut kept) = handle.take(alloc) else {
+        *taken = 0;
+        return NOT_OPEN;
+    };
+    let made = kept.make_lines(lines);
+    handle.put(kept);
+    *taken = made.taken;
+    match made.cause {
+        None => OK,
+        Some(cause) => status(cause),
+    }
+}
+
+fn status(cause: Cause) -> i32
+    ensures memory { result ≡ MEMORY → cause ≡ Memory }
+    ensures ok { ¬ (result ≡ OK) }
+    ensures open { ¬ (result ≡ NOT_OPEN) }
+{
+    match cause {
+        Cause::Refused => REFUSED,
+        Cause::Condition => CONDITION,
+        Cause::Form => FORM,
+        Cause::Memory => MEMORY,
+    }
+}
+
+/// Prints the file, which is the text FILE from then on.
+#[unsafe(no_mangle)]
+pub extern "C" fn vast_print(alloc: Global, handle: &mut Handle) -> i32
+    ensures closed { result ≡ NOT_OPEN ↔ handle.old.kept ≡ None }
+    ensures printed { result ≡ OK → Printed handle.old.kept handle.new.kept }
+    ensures session { session_in handle.new.kept ≡ session_in handle.old.kept }
+{
+    let Some(mut kept) = handle.take(alloc) else {
+        return NOT_OPEN;
+    };
+    let printed = kept.print();
+    handle.put(kept);
+    match printed {
+        Ok(()) => OK,
+        Err(cause) => status(cause),
+    }
+}
+
+/// Copies the start of a text, as much as fits, and answers the length of all of it; 0 where there is none.
+#[unsafe(no_mangle)]
+pub extern "C" fn vast_text(alloc: Global, handle: &mut Handle, text: i32, out: &mut [u8]) -> usize
+    ensures answer { text ≡ ANSWER → Copied (answer_in handle.old.kept) out.old out.new result }
+    ensures message { text ≡ MESSAGE → Copied (message_in handle.old.kept) out.old out.new result }
+    ensures words { text ≡ WORDS → Copied (words_in handle.old.kept) out.old out.new result }
+    ensures call { text ≡ CALL → Copied (call_in handle.old.kept) out.old out.new result }
+    ensures file { text ≡ FILE → Copied (file_in handle.old.kept) out.old out.new result }
+    ensures unchanged { handle.new.kept ≡ handle.old.kept }
+{
+    let Some(kept) = handle.take(alloc) else {
+        return 0;
+    };
+    let length = copy_start(text_of(&kept, text).as_bytes(), out);
+    handle.put(kept);
+    length
+}
+
+fn text_of(kept: &Kept, text: i32) -> &str
+    ensures answer { text ≡ ANSWER → result.now ≡ answer_in (Some kept.now) }
+    ensures message { text ≡ MESSAGE → result.now ≡ message_in (Some kept.now) }
+    ensures words { text ≡ WORDS → result.now ≡ words_in (Some kept.now) }
+    ensures call { text ≡ CALL → result.now ≡ call_in (Some kept.now) }
+    ensures file { text ≡ FILE → result.now ≡ file_in (Some kept.now) }
+{
+    match (text, &kept.told) {
+        (ANSWER, _) => &kept.answer,
+        (FILE, _) => &kept.file,
+        (MESSAGE, Some(told)) => &told.message,
+        (WORDS, Some(told)) => &told.fault.words,
+        (CALL, Some(told)) => &told.fault.call,
+        _ => "",
+    }
+}
+
+fn copy_start(text: &[u8], out: &mut [u8]) -> usize
+    ensures { Copied text.now out.old out.new result }
+{
+    let n = text.len().min(out.len());
+    out[..n].copy_from_slice(&text[..n]);
+    text.len()
+}
+
+/// A number of the session: how many handles it has answered, and where its last fault is; 0 where there is none.
+#[unsafe(no_mangle)]
+pub extern "C" fn vast_number(alloc: Global, handle: &mut Handle, number: i32) -> usize
+    ensures line { number ≡ LINE → result ≡ line_in handle.old.kept }
+    ensures column { number ≡ COLUMN → result ≡ column_in handle.old.kept }
+    ensures unchanged { handle.new.kept ≡ handle.old.kept }
+{
+    let Some(kept) = handle.take(alloc) else {
+        return 0;
+    };
+    let answer = number_of(&kept, number);
+    handle.put(kept);
+    answer
+}
+
+fn number_of(kept: &Kept, number: i32) -> usize
+    ensures line { number ≡ LINE → result ≡ line_in (Some kept.now) }
+    ensures column { number ≡ COLUMN → result ≡ column_in (Some kept.now) }
+{
+    match (number, &kept.told) {
+        (COUNT, _) => kept.session.counted(),
+        (LINE, Some(told)) => told.fault.line,
+        (COLUMN, Some(told)) => told.fault.column.unwrap_or(0),
+        _ => 0,
+    }
+}
+
+/// Frees the session, and leaves null.
+#[unsafe(no_mangle)]
+pub extern "C" fn vast_close(alloc: Global, handle: &mut Handle)
+    ensures { handle.new.kept ≡ None }
+{
+    drop(handle.take(alloc));
+}

@@ -1,0 +1,56 @@
+-- What a line of a list does to a session: to its file and the answers so far.
+use Rattle.std.specs.Prelude.{◌≡◌, ℕ, List, [], ◌∷◌, ◌++◌, None, Result, Ok, Err}
+use Rattle.vast_core.specs.Bench.{Bench}
+use Rattle.vast_core.specs.FileTree.{tree}
+use Rattle.vast_literal.specs.Tree.{FileTree}
+use Rattle.vast_print.specs.Layout.{layout}
+use Rattle.vast_print.specs.Page.{print}
+use Rattle.vast_script.specs.declared.answer.Answer.{Answer}
+use Rattle.vast_script.specs.declared.fault.StepFault.{StepFault}
+use Rattle.vast_script.specs.Outcome.{Replays}
+use Rattle.vast_script.specs.Script.{call_of}
+use Rattle.vast_list.specs.declared.fault.Fault.{Fault}
+use Rattle.vast_list.specs.declared.fault.Fault.TheVariants.{Line, Memory}
+use Rattle.vast_list.specs.declared.line.Call.{Call}
+use Rattle.vast_list.specs.declared.line.Call.TheVariants.{Step as StepCall, Helper as HelperCall}
+use Rattle.vast_list.specs.declared.session.Given.{Given}
+use Rattle.vast_list.specs.declared.session.Given.TheVariants.{Nothing, Step, Helper, Answer as Answered}
+use Rattle.vast_list.specs.declared.session.Session.{Session}
+use Rattle.vast_list.specs.Helpers.{Helps}
+
+-- What becomes of a call that is counted: of a step what becomes of it in a replay, of a helper what its equation says.
+abbrev pub Calls : (old new : Bench) → List Answer → Result Answer StepFault → Call → Type 0
+Calls old new answers result (StepCall step) = Replays old new answers result (call_of step)
+Calls old new answers result (HelperCall helper) = Helps old new answers result helper
+
+-- The call was made over the answers so far, and its answer stands behind them.
+abbrev pub IsMade : (old new : Session) → Call → Type 0
+IsMade old new call = (answer : Answer) × Calls old.file new.file old.answers.items (Ok answer) call × (new.answers.items ≡ old.answers.items ++ answer ∷ [])
+
+abbrev pub IsSame : (old new : Session) → Type 0
+IsSame old new = (new.file ≡ old.file) × (new.answers.items ≡ old.answers.items)
+
+-- After a fault the file and the answers are as before; where memory was refused, a helper may have left nodes that nothing
+-- uses.
+abbrev pub IsLeft : (old new : Session) → Fault → Type 0
+IsLeft old new (Line fault) = IsSame old new
+IsLeft old new Memory = (tree new.file ≡ tree old.file) × (new.answers.items ≡ old.answers.items)
+
+abbrev pub Makes : (old new : Session) → Call → Result (Unit {0}) Fault → Type 0
+Makes old new call (Ok done) = IsMade old new call
+Makes old new call (Err fault) = IsLeft old new fault
+
+-- A step or a helper is a call that was made; a question, a comment and a blank line change nothing.
+abbrev pub Gives : (old new : Session) → Given → Type 0
+Gives old new Nothing = IsSame old new
+Gives old new (Step number call) = (call : Call) × IsMade old new call
+Gives old new (Helper number call) = (call : Call) × IsMade old new call
+Gives old new (Answered call value) = IsSame old new
+
+abbrev pub Takes : (old new : Session) → Result Given Fault → Type 0
+Takes old new (Ok given) = Gives old new given
+Takes old new (Err fault) = IsLeft old new fault
+
+-- The text is the printed layout of the tree, which nothing refuses.
+abbrev pub IsTextOf : FileTree → (text : List ℕ) → Type 0
+IsTextOf file text = ((layout file).fault ≡ None) × (text ≡ print (layout file))

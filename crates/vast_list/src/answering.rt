@@ -1,0 +1,220 @@
+//! A list in the answering.
+
+use crate::again::Trial;
+use crate::fault::{Fault, LineFault};
+use crate::line::is_step;
+use crate::output::{ListOutput, MOST_FAULTS, Verdict};
+use crate::questions::answered::Value;
+use crate::session::{Given, Session};
+use crate::tried;
+use crate::tries::Tries;
+use std::alloc::{AllocError, Global};
+use vast_script::StepFault;
+
+/// A list whose lines are taken one by one.
+#[derive(Drop)]
+pub(crate) struct Answering<'a> {
+    pub(crate) session: Session,
+    /// Of lines that are taken once more.
+    pub(crate) trial: Option<Trial<'a>>,
+    /// What is printed behind a header so far.
+    pub(crate) report: Option<Vec<u8>>,
+    /// Whether a step or a helper was refused.
+    pub(crate) is_stopped: bool,
+    pub(crate) told: Told,
+}
+
+/// What is told of a list.
+#[derive(Drop)]
+pub(crate) struct Told {
+    pub(crate) verdict: Verdict,
+    pub(crate) faults: Vec<LineFault>,
+    /// How many faults there are beside those.
+    pub(crate) more: usize,
+}
+
+impl Told {
+    pub(crate) fn new(alloc: Global) -> Told {
+        Told {
+            verdict: Verdict::Made,
+            faults: Vec::new(alloc),
+            more: 0,
+        }
+    }
+
+    /// Keeps the fault, unless it follows from an earlier one.
+    pub(crate) fn keep(&mut self, tries: Tries, fault: LineFault) -> Result<(), AllocError> {
+        self.verdict = match (self.verdict, &fault.cause) {
+            (Verdict::NotInForm, _) | (_, None) => Verdict::NotInForm,
+            _ => Verdict::Refused,
+        };
+        if fault.follows {
+            return Ok(());
+        }
+        if self.faults.len() >= MOST_FAULTS {
+            self.more = self.more.saturating_add(1);
+            return Ok(());
+        }
+        tried!(tries, self.faults.reserve(1))?;
+        self.faults.push(fault)?;
+        Ok(())
+    }
+}
+
+impl Answering<'_> {
+    fn tries(&self) -> Tries {
+        match self.trial {
+            None => Tries::Once,
+            Some(_) => Tries::Again,
+        }
+    }
+
+    /// Takes a line.
+    ///
+    /// # Errors
+    /// Want of memory.
+    pub(crate) fn take(&mut self, number: usize, line: &[u8]) -> Result<(), AllocError> {
+        if self.is_stopped && self.report.is_some() && is_step(line) {
+            return self.pass_over(number, line);
+        }
+        let taken = match &mut self.trial {
+            None => self.session.line(number, line),
+            Some(trial) => trial.take(&mut self.session, number, line),
+        };
+        self.print_change()?;
+        match taken {
+            Ok(given) => self.print(&given),
+            Err(Fault::Memory) => Err(AllocError),
+            Err(Fault::Line(fault)) => {
+                self.is_stopped = self.is_stopped || fault.step.is_some();
+                self.print_fault(&fault)?;
+                tried!(self.tries(), self.session.skip(line))?;
+                self.told.keep(self.tries(), fault)
+            }
+        }
+    }
+
+    /// Only reads a step behind one that was refused.
+    fn pass_over(&mut self, number: usize, line: &[u8]) -> Result<(), AllocError> {
+        let tries = self.tries();
+        let checked = match self.session.check(number, line) {
+            Err(Fault::Memory) if matches!(tries, Tries::Again) => self.session.check(number, line),
+            checked => checked,
+        };
+        tried!(tries, self.session.skip(line))?;
+        match checked {
+            Ok(()) => Ok(()),
+            Err(Fault::Memory) => Err(AllocError),
+            Err(Fault::Line(fault)) => self.told.keep(tries, fault),
+        }
+    }
+
+    fn print(&mut self, given: &Given<'_>) -> Result<(), AllocError> {
+        match given {
+            Given::Nothing | Given::Step { number: _, call: _ } => Ok(()),
+            Given::Answer { call, value } => self.print_answer(call, value),
+            Given::Helper { number, call } => self.print_helper(*number, call),
+        }
+    }
+
+    fn print_answer(&mut self, call: &str, value: &Value) -> Result<(), AllocError> {
+        if self.report.is_none() {
+            return Ok(());
+        }
+        let alloc = self.session.file().allocator();
+        let text = tried!(self.tries(), format!(in alloc; "{value}"))?;
+        self.print_words(call, ": ", &text)
+    }
+
+    /// Behind a header the text of a helper's expression is printed.
+    fn print_helper(&mut self, number: usize, call: &str) -> Result<(), AllocError> {
+        if self.report.is_none() {
+            return Ok(());
+        }
+        match tried!(self.tries(), self.session.helper_text(number)) {
+            Ok(text) => self.print_words(call, ": ", &text),
+            Err(StepFault::Memory) => Err(AllocError),
+            Err(fault) => {
+                let alloc = self.session.file().allocator();
+                let text = tried!(self.tries(), format!(in alloc; "{fault}"))?;
+                self.told.verdict = match self.told.verdict {
+                    Verdict::NotInForm => Verdict::NotInForm,
+                    _ => Verdict::Refused,
+                };
+                self.print_words(call, ": refused: ", &text)
+            }
+        }
+    }
+
+    fn print_fault(&mut self, fault: &LineFault) -> Result<(), AllocError> {
+        let Some(cause) = &fault.cause else {
+            return Ok(());
+        };
+        let alloc = self.session.file().allocator();
+        let tries = self.tries();
+        match fault.step {
+            Some(step) if !fault.call.starts_with('!') => {
+                let text = tried!(tries, format!(in alloc; "step {step}: {cause}"))?;
+                self.print_words("refused", ": ", &text)
+            }
+            _ => {
+                let text = tried!(tries, format!(in alloc; "{cause}"))?;
+                self.print_words(&fault.call, ": refused: ", &text)
+            }
+        }
+    }
+
+    fn print_change(&mut self) -> Result<(), AllocError> {
+        let is_changed = match &mut self.trial {
+            None => false,
+            Some(trial) => trial.take_change(),
+        };
+        if is_changed {
+            self.print_words("changed by a call that was refused memory", "", "")?;
+        }
+        Ok(())
+    }
+
+    /// Prints a line behind the header.
+    fn print_words(&mut self, first: &str, sign: &str, text: &str) -> Result<(), AllocError> {
+        for words in [first, sign, text, "\n"] {
+            self.print_text(words)?;
+        }
+        Ok(())
+    }
+
+    /// Prints a text behind the header.
+    pub(crate) fn print_text(&mut self, text: &str) -> Result<(), AllocError> {
+        let tries = self.tries();
+        if let Some(report) = &mut self.report {
+            tried!(tries, report.reserve(text.len()))?;
+            report.extend_from_slice(text.as_bytes())?;
+        }
+        Ok(())
+    }
+
+    /// Prints the file's text behind the header, or its refusal.
+    pub(crate) fn print_file(&mut self) -> Result<(), AllocError> {
+        self.print_left()?;
+        match tried!(self.tries(), self.session.text()) {
+            Ok(text) => self.print_text(&text),
+            Err(Fault::Memory) => Err(AllocError),
+            Err(Fault::Line(fault)) => {
+                self.print_words("refused", ": ", &fault.words)?;
+                self.told.keep(self.tries(), fault)
+            }
+        }
+    }
+
+    fn print_left(&mut self) -> Result<(), AllocError> {
+        let is_prefix = match &self.trial {
+            None => true,
+            Some(trial) => trial.is_prefix(&self.session)?,
+        };
+        if !is_prefix {
+            let words = "left by a replay that was refused memory, and not by its first steps";
+            self.print_words(words, "", "")?;
+        }
+        Ok(())
+    }
+}

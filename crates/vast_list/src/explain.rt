@@ -1,0 +1,51 @@
+//! Faults of calls in words.
+
+mod conditions;
+mod handles;
+mod kinds;
+
+use crate::arguments::Known;
+use crate::line::Call;
+use crate::names::Named;
+use conditions::condition;
+use handles::{faulty_handle, missing_handle};
+use std::alloc::AllocError;
+use vast_script::{Answer, StepFault};
+use xlsynth_vast::VastFile;
+
+/// What is wrong with a call, in words: for arguments which it is and what was wanted, for a condition which it is.
+pub(crate) fn explained(
+    known: Known<'_>,
+    file: &VastFile,
+    answers: &[Answer],
+    text: &str,
+    made: Option<&Call>,
+    cause: &StepFault,
+) -> Result<String, AllocError> {
+    let alloc = known.alloc;
+    match cause {
+        StepFault::NoAnswer => missing_handle(known, answers, text),
+        StepFault::WrongKind => faulty_handle(known, answers, text),
+        StepFault::Condition => match made {
+            Some(Call::Step(step)) => condition(file, answers, step),
+            _ => String::from_str(alloc, "condition not met"),
+        },
+        StepFault::Refused(error) => format!(in alloc; "{error}"),
+        StepFault::Memory => Err(AllocError),
+    }
+}
+
+/// Whether a word of the line stands for an answer of a line that was passed over.
+pub(crate) fn uses_skipped(known: Known<'_>, text: &str) -> bool {
+    for word in text.split(' ') {
+        if let Some(Named::Skipped) = known.names.get(word) {
+            return true;
+        }
+        if let Ok(number) = word.parse::<usize>() {
+            if known.skipped.binary_search(&number).is_ok() {
+                return true;
+            }
+        }
+    }
+    false
+}

@@ -1,0 +1,168 @@
+//! The helper that adds registers.
+
+ghost use Rattle.std.specs.Prelude.{All, IfOk, IfSome};
+ghost use Rattle.vast_core.specs.Bench.{OwnsExpr};
+ghost use Rattle.xlsynth_vast.specs.Registers.{OwnsRegister, OwnsReset, OwnsScope};
+ghost use Rattle.vast_script.specs.declared.answer.Answer.TheVariants.{Nothing};
+ghost use Rattle.vast_script.specs.Outcome.{WrapsRefusable};
+ghost use Rattle.vast_list.specs.Helpers.{AddsAny};
+
+use crate::arguments::{Arguments, FromArguments};
+use crate::problem::Misfit;
+use vast_script::{Answer, StepFault, one};
+use xlsynth_vast::helpers::{RegisterDefinition, RegisterScope, Reset};
+use xlsynth_vast::{Expr, GenerateLoop, VastFault, VastFile, VastModule, helpers};
+
+/// A reset, `[ signal active_low ]`.
+#[derive(Clone, Copy)]
+pub(crate) struct ResetNumbers {
+    signal: usize,
+    active_low: bool,
+}
+
+/// A register, `[ reg next reset_value? enable? ]`.
+#[derive(Clone, Copy)]
+pub(crate) struct RegisterNumbers {
+    reg: usize,
+    next: usize,
+    reset_value: Option<usize>,
+    enable: Option<usize>,
+}
+
+impl FromArguments for ResetNumbers {
+    fn take(arguments: &mut Arguments<'_>) -> Result<ResetNumbers, Misfit> {
+        arguments.open()?;
+        let signal = usize::take(arguments)?;
+        let active_low = bool::take(arguments)?;
+        arguments.close()?;
+        Ok(ResetNumbers { signal, active_low })
+    }
+}
+
+impl FromArguments for RegisterNumbers {
+    fn take(arguments: &mut Arguments<'_>) -> Result<RegisterNumbers, Misfit> {
+        arguments.open()?;
+        let reg = usize::take(arguments)?;
+        let next = usize::take(arguments)?;
+        let reset_value = <Option<usize> as FromArguments>::take(arguments)?;
+        let enable = <Option<usize> as FromArguments>::take(arguments)?;
+        arguments.close()?;
+        Ok(RegisterNumbers {
+            reg,
+            next,
+            reset_value,
+            enable,
+        })
+    }
+}
+
+/// Adds the registers to the scope, a module or a loop.
+///
+/// # Errors
+/// Where a number is no such answer, and where the helper refuses.
+pub(crate) fn add_registers(
+    file: &mut VastFile,
+    answers: &[Answer],
+    clk: usize,
+    reset: &Option<ResetNumbers>,
+    registers: &[RegisterNumbers],
+    scope: usize,
+) -> Result<Answer, StepFault>
+    ensures { AddsAny file.old file.new result }
+{
+    let clk: Expr = one(file, answers, clk)?;
+    let reset = reset_of(file, answers, *reset)?;
+    let registers = definitions(file, answers, registers)?;
+    let scope = scope_of(file, answers, scope)?;
+    added(helpers::add_registers(&clk, reset, &registers, scope, file))
+}
+
+/// Registers that a helper added, as an answer.
+fn added(made: Result<(), VastFault>) -> Result<Answer, StepFault>
+    ensures { WrapsRefusable made result (λ x. Nothing) }
+{
+    made?;
+    Ok(Answer::Nothing)
+}
+
+fn reset_of(
+    file: &VastFile,
+    answers: &[Answer],
+    reset: Option<ResetNumbers>,
+) -> Result<Option<Reset>, StepFault>
+    ensures { IfOk result (λ reset. IfSome reset (OwnsReset file.now)) }
+{
+    match reset {
+        None => Ok(None),
+        Some(reset) => {
+            let signal: Expr = one(file, answers, reset.signal)?;
+            let active_low = reset.active_low;
+            Ok(Some(Reset { signal, active_low }))
+        }
+    }
+}
+
+fn definitions(
+    file: &VastFile,
+    answers: &[Answer],
+    registers: &[RegisterNumbers],
+) -> Result<Vec<RegisterDefinition>, StepFault>
+    ensures { IfOk result (λ made. All (OwnsRegister file.now) made.items) }
+{
+    let mut made = Vec::new(file.allocator());
+    for register in registers {
+        let register = definition(file, answers, *register)?;
+        made.push(register)?;
+    }
+    Ok(made)
+}
+
+fn definition(
+    file: &VastFile,
+    answers: &[Answer],
+    register: RegisterNumbers,
+) -> Result<RegisterDefinition, StepFault>
+    ensures { IfOk result (λ made. OwnsRegister file.now made) }
+{
+    let reg: Expr = one(file, answers, register.reg)?;
+    let next: Expr = one(file, answers, register.next)?;
+    let reset_value = handle_if(file, answers, register.reset_value)?;
+    let enable = handle_if(file, answers, register.enable)?;
+    Ok(RegisterDefinition {
+        reg,
+        next,
+        reset_value,
+        enable,
+    })
+}
+
+fn handle_if(
+    file: &VastFile,
+    answers: &[Answer],
+    number: Option<usize>,
+) -> Result<Option<Expr>, StepFault>
+    ensures { IfOk result (λ made. IfSome made (OwnsExpr file.now)) }
+{
+    match number {
+        None => Ok(None),
+        Some(number) => {
+            let expression: Expr = one(file, answers, number)?;
+            Ok(Some(expression))
+        }
+    }
+}
+
+fn scope_of(file: &VastFile, answers: &[Answer], number: usize) -> Result<RegisterScope, StepFault>
+    ensures { IfOk result (λ scope. OwnsScope file.now scope) }
+{
+    match answers.get(number) {
+        Some(Answer::GenerateLoop(_)) => {
+            let owner: GenerateLoop = one(file, answers, number)?;
+            Ok(RegisterScope::GenerateLoop(owner))
+        }
+        _ => {
+            let owner: VastModule = one(file, answers, number)?;
+            Ok(RegisterScope::Module(owner))
+        }
+    }
+}

@@ -1,0 +1,197 @@
+//! The lines of a list.
+
+use crate::arguments::{Arguments, Known};
+use crate::calls::make_step;
+use crate::fault::{Fault, misread};
+use crate::helpers::{Helper, make_helper};
+use crate::names::is_name;
+use crate::problem::{Misfit, Problem};
+use crate::questions::{Question, make_question};
+use std::alloc::Global;
+use std::str;
+use vast_script::Step;
+use xlsynth_vast::VastFileType;
+
+/// A call that is counted.
+#[derive(Drop)]
+pub(crate) enum Call {
+    /// A builder call.
+    Step(Step),
+    /// A call of a helper.
+    Helper(Helper),
+}
+
+/// What a line does.
+#[derive(Drop)]
+pub(crate) enum Action {
+    Call(Call),
+    Ask(Question),
+}
+
+/// A line that is neither blank nor a comment.
+#[derive(Drop)]
+pub(crate) struct Line<'a> {
+    /// The name of its answer.
+    pub(crate) name: Option<&'a str>,
+    /// The call's name, its sign included.
+    pub(crate) call: &'a str,
+    pub(crate) action: Action,
+}
+
+/// Why a line is not in the form, and the call's name where it has one.
+#[derive(Clone, Copy)]
+pub(crate) struct Misread<'a> {
+    pub(crate) call: &'a str,
+    pub(crate) misfit: Misfit,
+}
+
+/// The line's text, without the `CR` of its end.
+pub(crate) fn text_of(line: &[u8]) -> Result<&str, Misfit> {
+    let line = line.strip_suffix(b"\r").unwrap_or(line);
+    match str::from_utf8(line) {
+        Ok(text) => Ok(text),
+        Err(_) => Err(Misfit {
+            left: line.len(),
+            problem: Problem::NotUtf8,
+        }),
+    }
+}
+
+/// Whether the line is blank or a comment.
+pub(crate) fn is_empty(text: &str) -> bool {
+    let text = text.trim_start_matches([' ', '\t']);
+    text.is_empty() || text.starts_with('#')
+}
+
+/// The name of a line's answer, its call and what stands behind that.
+pub(crate) fn split_line(text: &str) -> (Option<&str>, &str, Option<&str>) {
+    let (word, rest) = split_word(text);
+    match named_call(rest) {
+        None => (None, word, rest),
+        Some(call) => {
+            let (call, rest) = split_word(call);
+            (Some(word), call, rest)
+        }
+    }
+}
+
+/// Reads a line that is neither blank nor a comment.
+///
+/// # Errors
+/// Where the line is not in the form, and want of memory.
+pub(crate) fn read_line<'a>(known: Known<'_>, text: &'a str) -> Result<Line<'a>, Misread<'a>> {
+    check_begin(text).map_err(|misfit| Misread { call: "", misfit })?;
+    let (name, call, rest) = split_line(text);
+    if let Some(name) = name {
+        check_name(known, text, name).map_err(|misfit| Misread { call: "", misfit })?;
+    }
+    match read_action(known, call, rest) {
+        Ok(action) => Ok(Line { name, call, action }),
+        Err(misfit) => {
+            let misfit = at_call(call, rest, misfit);
+            Err(Misread { call, misfit })
+        }
+    }
+}
+
+/// An unknown call is wrong from its first character on.
+fn at_call(call: &str, rest: Option<&str>, misfit: Misfit) -> Misfit {
+    if !matches!(misfit.problem, Problem::UnknownCall) {
+        return misfit;
+    }
+    let behind = rest.map_or(0, |rest| rest.len().saturating_add(1));
+    Misfit {
+        left: call.len().saturating_add(behind),
+        problem: misfit.problem,
+    }
+}
+
+/// The line does not begin with a space.
+fn check_begin(text: &str) -> Result<(), Misfit> {
+    if !text.starts_with(' ') && !text.starts_with('\t') {
+        return Ok(());
+    }
+    Err(Misfit {
+        left: text.len(),
+        problem: Problem::Indented,
+    })
+}
+
+/// The first word, and what stands behind the space after it.
+fn split_word(text: &str) -> (&str, Option<&str>) {
+    match text.split_once(' ') {
+        Some((word, rest)) => (word, Some(rest)),
+        None => (text, None),
+    }
+}
+
+/// The call behind a name, where the name's `=` stands before it.
+fn named_call<'a>(rest: Option<&'a str>) -> Option<&'a str> {
+    rest?.strip_prefix("= ")
+}
+
+/// The word may be the name of this line's answer.
+fn check_name(known: Known<'_>, text: &str, name: &str) -> Result<(), Misfit> {
+    let left = text.len();
+    if !is_name(name) {
+        let problem = Problem::NotAName;
+        return Err(Misfit { left, problem });
+    }
+    if known.names.contains_key(name) {
+        let problem = Problem::NameTaken;
+        return Err(Misfit { left, problem });
+    }
+    Ok(())
+}
+
+fn read_action(known: Known<'_>, call: &str, rest: Option<&str>) -> Result<Action, Misfit> {
+    let arguments = Arguments::new(known, rest);
+    if call.starts_with('?') {
+        return Ok(Action::Ask(make_question(call, arguments)?));
+    }
+    if call.starts_with('!') {
+        return Ok(Action::Call(Call::Helper(make_helper(call, arguments)?)));
+    }
+    Ok(Action::Call(Call::Step(make_step(call, arguments)?)))
+}
+
+/// The dialect that the line names.
+///
+/// # Errors
+/// Where it names none, and want of memory.
+pub fn dialect_of(alloc: Global, number: usize, line: &[u8]) -> Result<VastFileType, Fault> {
+    let text = match text_of(line) {
+        Ok(text) => text,
+        Err(misfit) => return Err(misread(alloc, number, "", "", misfit)),
+    };
+    let left = text.len();
+    let problem = Problem::NoDialect;
+    match text {
+        "verilog" => Ok(VastFileType::Verilog),
+        "systemverilog" => Ok(VastFileType::SystemVerilog),
+        _ => Err(misread(alloc, number, text, "", Misfit { left, problem })),
+    }
+}
+
+/// The fault of a list without a line.
+pub(crate) fn dialect_missing(alloc: Global, number: usize) -> Fault {
+    let problem = Problem::NoDialect;
+    misread(alloc, number, "", "", Misfit { left: 0, problem })
+}
+
+/// Whether the line is blank or a comment.
+pub(crate) fn is_empty_line(line: &[u8]) -> bool {
+    match text_of(line) {
+        Ok(text) => is_empty(text),
+        Err(_) => false,
+    }
+}
+
+/// Whether the line's call is a step, and no helper and no question.
+pub(crate) fn is_step(line: &[u8]) -> bool {
+    let Ok(text) = text_of(line) else {
+        return false;
+    };
+    let (_, call, _) = split_line(text);
+    !is_empty(text) && !call.starts_with('?') && !call.starts_with('!')
+}

@@ -1,0 +1,333 @@
+//! A file with the answers so far, whose calls are lines.
+
+ghost use Rattle.std.specs.Prelude.{◌≡◌, [], IfOk, string_bytes};
+ghost use Rattle.vast_core.specs.Bench.{start};
+ghost use Rattle.vast_core.specs.FileTree.{tree};
+ghost use Rattle.vast_list.specs.Session.{Calls, IsSame, IsTextOf, Makes, Takes};
+
+use crate::arguments::Known;
+use crate::explain::{explained, uses_skipped};
+use crate::fault::{Fault, LineFault, misread, refused_text};
+use crate::helpers::call_helper;
+use crate::line::{Action, Call, Line, is_empty, read_line, split_line, text_of};
+use crate::names::{Named, Names, is_name};
+use crate::problem::Problem;
+use crate::questions::answered::Value;
+use crate::questions::{Question, answer};
+use std::alloc::{AllocError, Global};
+use vast_literal::VastFault;
+use vast_script::{Answer, StepFault, one, replay_step};
+use xlsynth_vast::{Expr, FileIds, VastFile, VastFileType};
+
+/// A file with the answers so far: the lines of a list are its calls. It keeps no lines.
+#[derive(Drop)]
+pub struct Session {
+    file: VastFile,
+    answers: Vec<Answer>,
+    /// The line of each answer.
+    lines: Vec<usize>,
+    names: Names,
+    /// The numbers of steps and helpers that were passed over, from the least to the greatest.
+    skipped: Vec<usize>,
+}
+
+/// What a line gave. `call` is the call's name as it stands in the line, its sign included.
+#[derive(Drop)]
+pub enum Given<'a> {
+    /// The line is blank or a comment.
+    Nothing,
+    /// A step of this number.
+    Step { number: usize, call: &'a str },
+    /// A helper of this number; steps and helpers are counted together, from 0.
+    Helper { number: usize, call: &'a str },
+    /// A question's answer.
+    Answer { call: &'a str, value: Value },
+}
+
+/// Makes the call, over the answers so far.
+fn make_call(
+    file: &mut VastFile,
+    answers: &[Answer],
+    call: &Call,
+) -> Result<Answer, StepFault>
+    ensures { Calls file.old file.new answers.now result call.now }
+{
+    match call {
+        Call::Step(step) => replay_step(file, answers, step),
+        Call::Helper(helper) => call_helper(file, answers, helper),
+    }
+}
+
+impl Session {
+    /// An empty file of the dialect. It takes no memory.
+    pub fn new(alloc: Global, dialect: VastFileType) -> Session
+        ensures file { result.file ≡ start dialect 1 }
+        ensures answers { result.answers.items ≡ [] }
+    {
+        let mut ids = FileIds::new();
+        Session {
+            file: VastFile::new(alloc, dialect, &mut ids).unwrap(),
+            answers: Vec::new(alloc),
+            lines: Vec::new(alloc),
+            names: Names::new(alloc),
+            skipped: Vec::new(alloc),
+        }
+    }
+
+    /// Takes a line of a list, behind the dialect's, without its line feed; its number in the input is `number`.
+    ///
+    /// # Errors
+    /// The line's fault. The file, the answers and the names are then as before, and the line is not counted.
+    pub fn line<'a>(&mut self, number: usize, line: &'a [u8]) -> Result<Given<'a>, Fault>
+        ensures { Takes self.old self.new result }
+    {
+        let text = self.text_of(number, line)?;
+        if is_empty(text) {
+            return Ok(Given::Nothing);
+        }
+        let Line { name, call, action } = self.read(number, text)?;
+        match action {
+            Action::Ask(question) => {
+                let value = self.ask(number, text, call, &question)?;
+                self.name_answer(name, &value)?;
+                Ok(Given::Answer { call, value })
+            }
+            Action::Call(made) => {
+                let step = self.counted();
+                self.make(number, text, name, call, &made)?;
+                match made {
+                    Call::Step(_) => Ok(Given::Step { number: step, call }),
+                    Call::Helper(_) => Ok(Given::Helper { number: step, call }),
+                }
+            }
+        }
+    }
+
+    /// Whether the line is in the form; nothing is made of it.
+    ///
+    /// # Errors
+    /// Where it is not in the form, and want of memory.
+    pub fn check(&self, number: usize, line: &[u8]) -> Result<(), Fault> {
+        let text = self.text_of(number, line)?;
+        if is_empty(text) {
+            return Ok(());
+        }
+        self.read(number, text)?;
+        Ok(())
+    }
+
+    /// Passes the line over, be it in the form or not: a step or a helper is counted, so that later numbers stand for what
+    /// they would behind it, and its name is taken. Who uses its answer is told `no such answer`.
+    ///
+    /// # Errors
+    /// Want of memory; nothing is then passed over.
+    pub fn skip(&mut self, line: &[u8]) -> Result<(), AllocError>
+        ensures { IsSame self.old self.new }
+    {
+        let Ok(text) = text_of(line) else {
+            return Ok(());
+        };
+        if is_empty(text) {
+            return Ok(());
+        }
+        let (name, call, _) = split_line(text);
+        if !call.starts_with('?') {
+            self.skipped.reserve(1)?;
+        }
+        if let Some(name) = name {
+            if is_name(name) && !self.names.contains_key(name) {
+                self.enter(Some(name), Named::Skipped)?;
+            }
+        }
+        if !call.starts_with('?') {
+            let number = self.counted();
+            self.skipped.push(number)?;
+        }
+        Ok(())
+    }
+
+    /// The text of the expression that the helper of this number answered, or `ok` where it answers nothing.
+    ///
+    /// # Errors
+    /// A refusal of the text, and want of memory. `no such answer` where no step or helper has the number.
+    pub fn helper_text(&self, number: usize) -> Result<String, StepFault> {
+        let place = match self.skipped.binary_search(&number) {
+            Ok(_) => usize::MAX,
+            Err(before) => number.saturating_sub(before),
+        };
+        match self.answers.get(place) {
+            Some(Answer::Nothing) => Ok(String::from_str(self.file.allocator(), "ok")?),
+            _ => {
+                let made: Expr = one(&self.file, &self.answers, place)?;
+                Ok(self.file.emit_expression(&made)?)
+            }
+        }
+    }
+
+    /// The file's text.
+    ///
+    /// # Errors
+    /// A refusal names the line whose call made what is refused. Want of memory.
+    pub fn text(&self) -> Result<String, Fault>
+        ensures { IfOk result (λ text. IsTextOf (tree self.now.file) (string_bytes text)) }
+    {
+        match self.file.emit() {
+            Ok(text) => Ok(text),
+            Err(VastFault::Memory(_)) => Err(Fault::Memory),
+            Err(VastFault::Refused(error)) => Err(Fault::Line(refused_text(self, error)?)),
+        }
+    }
+
+    /// How many steps and helpers there are so far, those that were passed over included.
+    pub fn counted(&self) -> usize {
+        self.answers.len().saturating_add(self.skipped.len())
+    }
+
+    /// The file.
+    pub fn file(&self) -> &VastFile {
+        &self.file
+    }
+
+    /// What steps and helpers answered, in order, without those that were passed over.
+    pub fn answers(&self) -> &[Answer] {
+        &self.answers
+    }
+
+    /// The line whose call gave the answer at this place.
+    pub fn line_of(&self, place: usize) -> Option<usize> {
+        self.lines.get(place).copied()
+    }
+
+    fn known(&self) -> Known<'_> {
+        Known {
+            alloc: self.file.allocator(),
+            names: &self.names,
+            skipped: &self.skipped,
+        }
+    }
+
+    fn text_of<'a>(&self, number: usize, line: &'a [u8]) -> Result<&'a str, Fault> {
+        match text_of(line) {
+            Ok(text) => Ok(text),
+            Err(misfit) => Err(misread(self.file.allocator(), number, "", "", misfit)),
+        }
+    }
+
+    fn read<'a>(&self, number: usize, text: &'a str) -> Result<Line<'a>, Fault> {
+        match read_line(self.known(), text) {
+            Ok(line) => Ok(line),
+            Err(read) => Err(misread(self.file.allocator(), number, text, read.call, read.misfit)),
+        }
+    }
+
+    /// Makes the call and keeps its answer, under the name.
+    fn make(
+        &mut self,
+        number: usize,
+        text: &str,
+        name: Option<&str>,
+        call: &str,
+        made: &Call,
+    ) -> Result<(), Fault>
+        ensures { Makes self.old self.new made.now result }
+    {
+        self.answers.reserve(1)?;
+        self.lines.reserve(1)?;
+        let place = self.answers.len();
+        self.enter(name, Named::Handle(place))?;
+        match make_call(&mut self.file, &self.answers, made) {
+            Ok(answer) => {
+                self.answers.push(answer)?;
+                let _ = self.lines.push(number);
+                Ok(())
+            }
+            Err(fault) => {
+                self.forget(name);
+                Err(self.told(number, text, call, Some(made), fault))
+            }
+        }
+    }
+
+    /// The name stands for this from now on.
+    fn enter(&mut self, name: Option<&str>, named: Named) -> Result<(), AllocError>
+        ensures { IsSame self.old self.new }
+    {
+        if let Some(name) = name {
+            let name = String::from_str(self.file.allocator(), name)?;
+            self.names.insert(name, named)?;
+        }
+        Ok(())
+    }
+
+    fn forget(&mut self, name: Option<&str>)
+        ensures { IsSame self.old self.new }
+    {
+        if let Some(name) = name {
+            let _ = self.names.remove(name);
+        }
+    }
+
+    fn ask(
+        &self,
+        number: usize,
+        text: &str,
+        call: &str,
+        question: &Question,
+    ) -> Result<Value, Fault> {
+        match answer(&self.file, &self.answers, question) {
+            Ok(value) => Ok(value),
+            Err(fault) => Err(self.told(number, text, call, None, fault)),
+        }
+    }
+
+    /// The name stands for a question's answer from now on.
+    fn name_answer(&mut self, name: Option<&str>, value: &Value) -> Result<(), AllocError>
+        ensures { IsSame self.old self.new }
+    {
+        let named = match value {
+            Value::Number(number) => Named::Number(*number),
+            Value::Count(count) => i64::try_from(*count).map_or(Named::Other, Named::Number),
+            _ => Named::Other,
+        };
+        self.enter(name, named)
+    }
+
+    /// The fault of a line that is in the form.
+    fn told(
+        &self,
+        line: usize,
+        text: &str,
+        call: &str,
+        made: Option<&Call>,
+        cause: StepFault,
+    ) -> Fault {
+        if let StepFault::Memory = cause {
+            return Fault::Memory;
+        }
+        match self.explained(line, text, call, made, cause) {
+            Ok(fault) => Fault::Line(fault),
+            Err(_) => Fault::Memory,
+        }
+    }
+
+    fn explained(
+        &self,
+        line: usize,
+        text: &str,
+        call: &str,
+        made: Option<&Call>,
+        cause: StepFault,
+    ) -> Result<LineFault, AllocError> {
+        let known = self.known();
+        let follows = uses_skipped(known, text);
+        Ok(LineFault {
+            line,
+            column: None,
+            call: String::from_str(known.alloc, call)?,
+            step: made.map(|_| self.counted()),
+            words: explained(known, &self.file, &self.answers, text, made, &cause)?,
+            cause: Some(cause),
+            follows,
+        })
+    }
+}

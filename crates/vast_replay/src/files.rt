@@ -1,0 +1,68 @@
+//! The files that the program is given.
+
+use crate::outcome::Outcome;
+use crate::program::{Manner, answer_lists, fail, run};
+use crate::words::Form;
+use std::fs;
+use std::io::{ErrorKind, IsTerminal, Write};
+use vast_list::{Tries, tried};
+
+/// Answers the lists of the files in order, or of standard input where there are none.
+///
+/// A file that can't be read is told, and the files behind it are answered.
+pub(crate) fn answer_files(rt: &HostRuntime, form: Form, again: bool, files: &[&str]) -> Outcome {
+    let tries = if again { Tries::Again } else { Tries::Once };
+    let source = "<stdin>";
+    let manner = Manner {
+        form,
+        tries,
+        source,
+    };
+    if files.is_empty() {
+        if rt.stdin().is_terminal() {
+            let _ = rt.stderr().write_all(
+                b"vast_replay: reads a list from the terminal, to its end; --help tells more\n",
+            );
+        }
+        return run(
+            rt.alloc(),
+            manner,
+            &mut rt.stdin(),
+            &mut rt.stdout(),
+            &mut rt.stderr(),
+        );
+    }
+    let mut outcome = Outcome::Made;
+    for file in files {
+        outcome = outcome.and(answer_file(rt, manner, file));
+        if outcome == Outcome::Failed {
+            break;
+        }
+    }
+    outcome
+}
+
+fn answer_file(rt: &HostRuntime, manner: Manner<'_>, file: &str) -> Outcome {
+    let alloc = rt.alloc();
+    let mut out = rt.stdout();
+    let mut err = rt.stderr();
+    if file == "-" {
+        return run(alloc, manner, &mut rt.stdin(), &mut out, &mut err);
+    }
+    match tried!(manner.tries, fs::read(rt, file)) {
+        Ok(bytes) => {
+            let Manner { form, tries, .. } = manner;
+            let manner = Manner {
+                form,
+                tries,
+                source: file,
+            };
+            answer_lists(alloc, manner, &bytes, &mut out, &mut err)
+        }
+        Err(error) if error.kind() == ErrorKind::OutOfMemory => fail("out of memory", &mut err),
+        Err(error) => {
+            let _ = writeln!(err, "vast_replay: {file}: {error}");
+            Outcome::NotInForm
+        }
+    }
+}

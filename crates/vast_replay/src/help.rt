@@ -1,0 +1,25 @@
+//! What the program tells of itself.
+
+/// How the program is called.
+pub(crate) const HELP: &str = "\
+vast_replay [--check | --json | --again] [FILE ..]
+vast_replay --session
+vast_replay --calls [--json]
+
+Makes Verilog files of lists of calls, and prints them. Without FILE, or where FILE is `-`, the lists are read from
+standard input.
+
+  --check    makes the lists and prints faults alone
+  --json     prints a line of JSON for each list
+  --session  answers each line of standard input at once, by a line of JSON
+  --calls    prints the table of all calls, with --json as JSON
+  --again    tries once more what was refused memory, for tests that refuse it
+  --help     prints this, --version the version
+  --         before files whose names begin with `-`
+
+Status 0: all was made. 1: a list was refused, a read or a write failed, or memory was refused. 2: a line is not in the
+form, a word is unknown, or a file can't be read. 3: a list behind a header was refused.
+";
+
+/// Which program it is.
+pub(crate) const VERSION: &str = "vast_replay, with the calls of xlsynth-vast 0.79.0\n";

@@ -1,0 +1,47 @@
+//! How a run ends.
+
+ghost use Rattle.std.specs.Prelude.{◌≡◌, ◌≤◌};
+
+/// What became of lists.
+#[derive(Clone, Copy, Debug, PartialEq, Eq)]
+pub enum Outcome {
+    /// All of them were made.
+    Made,
+    /// A list was refused, and its output says so.
+    Told,
+    /// A list was refused, and nothing is printed of it.
+    Refused,
+    /// A line is not in the form, or a file can't be read.
+    NotInForm,
+    /// A stream failed or memory was refused, which ends the run.
+    Failed,
+}
+
+impl Outcome {
+    /// What became of these lists and of the next.
+    pub fn and(self, next: Outcome) -> Outcome
+        ensures made { result ≡ Outcome.Made → next ≡ Outcome.Made }
+        ensures both { result ≡ Outcome.Made → self ≡ Outcome.Made }
+    {
+        match (self, next) {
+            (Outcome::Failed, _) | (_, Outcome::Failed) => Outcome::Failed,
+            (Outcome::NotInForm, _) | (_, Outcome::NotInForm) => Outcome::NotInForm,
+            (Outcome::Refused, _) | (_, Outcome::Refused) => Outcome::Refused,
+            (Outcome::Told, _) | (_, Outcome::Told) => Outcome::Told,
+            (Outcome::Made, Outcome::Made) => Outcome::Made,
+        }
+    }
+
+    /// The program's status.
+    pub fn status(self) -> u8
+        ensures most { result ≤ 3 }
+        ensures made { result ≡ 0 → self ≡ Outcome.Made }
+    {
+        match self {
+            Outcome::Made => 0,
+            Outcome::Refused | Outcome::Failed => 1,
+            Outcome::NotInForm => 2,
+            Outcome::Told => 3,
+        }
+    }
+}

@@ -1,0 +1,233 @@
+//! The words behind the program's name.
+
+use std::alloc::{AllocError, AllocFailed, Global};
+use thiserror::Error;
+
+/// What the words ask for.
+#[derive(Drop)]
+pub(crate) enum Request<'a> {
+    /// How the program is called.
+    Help,
+    /// Which program it is.
+    Version,
+    /// The table of calls.
+    Calls,
+    /// The table of calls as JSON.
+    CallsJson,
+    /// To answer each line of standard input at once.
+    Session,
+    /// Lists of files; of standard input where there are none.
+    Lists {
+        /// What is printed of each list.
+        form: Form,
+        /// Whether what was refused memory is made once more.
+        again: bool,
+        /// The files' names, where `-` is standard input.
+        files: Vec<&'a str>,
+    },
+}
+
+/// What is printed of a list.
+#[derive(Clone, Copy, Debug, PartialEq, Eq)]
+pub(crate) enum Form {
+    /// The file's text; behind a header the answers before it.
+    Text,
+    /// Faults alone.
+    Faults,
+    /// A line of JSON.
+    Json,
+}
+
+/// Why the words ask for nothing.
+#[derive(Debug, Drop, Error)]
+pub(crate) enum WordFault<'a> {
+    #[error("unknown word {0}")]
+    Unknown(&'a str),
+    #[error("{0} and {1} exclude each other")]
+    Together(&'static str, &'static str),
+    #[error("{0} takes no file")]
+    WithFile(&'static str),
+    #[error("out of memory")]
+    Memory,
+}
+
+impl From<AllocFailed<&str>> for WordFault<'_> {
+    fn from(_failed: AllocFailed<&str>) -> Self {
+        WordFault::Memory
+    }
+}
+
+/// What is asked for but for files and `--again`.
+#[derive(Clone, Copy, PartialEq, Eq)]
+enum Mode {
+    Help,
+    Version,
+    Calls,
+    CallsJson,
+    Session,
+    Check,
+    Json,
+}
+
+impl Mode {
+    fn word(self) -> &'static str {
+        match self {
+            Mode::Help => "--help",
+            Mode::Version => "--version",
+            Mode::Calls | Mode::CallsJson => "--calls",
+            Mode::Session => "--session",
+            Mode::Check => "--check",
+            Mode::Json => "--json",
+        }
+    }
+}
+
+/// The words so far.
+#[derive(Drop)]
+struct Seen<'a> {
+    mode: Option<Mode>,
+    again: bool,
+    /// Whether `--` was there, behind which each word is a file.
+    only_files: bool,
+    files: Vec<&'a str>,
+}
+
+/// What the words ask for, in any order: `--help` whatever else there is, else one thing.
+///
+/// # Errors
+/// An unknown word, words that exclude each other, a file where none is taken, and want of memory.
+pub(crate) fn requested<'a>(
+    alloc: Global,
+    words: &[&'a str],
+) -> Result<Request<'a>, WordFault<'a>> {
+    let mut seen = Seen {
+        mode: None,
+        again: false,
+        only_files: false,
+        files: Vec::new(alloc),
+    };
+    for word in words {
+        seen.take(word)?;
+    }
+    seen.request()
+}
+
+impl<'a> Seen<'a> {
+    fn take(&mut self, word: &'a str) -> Result<(), WordFault<'a>> {
+        if self.only_files || word == "-" || !word.starts_with('-') {
+            self.files.push(word)?;
+            return Ok(());
+        }
+        match word {
+            "--" => self.only_files = true,
+            "--again" => self.again = true,
+            "--help" | "-h" => self.choose(Mode::Help)?,
+            "--version" | "-V" => self.choose(Mode::Version)?,
+            "--calls" => self.choose(Mode::Calls)?,
+            "--session" => self.choose(Mode::Session)?,
+            "--check" => self.choose(Mode::Check)?,
+            "--json" => self.choose(Mode::Json)?,
+            _ => return Err(WordFault::Unknown(word)),
+        }
+        Ok(())
+    }
+
+    fn choose(&mut self, mode: Mode) -> Result<(), WordFault<'a>> {
+        self.mode = Some(match (self.mode, mode) {
+            (None, _) => mode,
+            (Some(Mode::Help), _) | (_, Mode::Help) => Mode::Help,
+            (Some(Mode::Calls | Mode::CallsJson), Mode::Json)
+            | (Some(Mode::Json | Mode::CallsJson), Mode::Calls) => Mode::CallsJson,
+            (Some(earlier), _) if earlier == mode => mode,
+            (Some(earlier), _) => return Err(WordFault::Together(earlier.word(), mode.word())),
+        });
+        Ok(())
+    }
+
+    fn request(self) -> Result<Request<'a>, WordFault<'a>> {
+        match self.mode {
+            None => Ok(self.lists(Form::Text)),
+            Some(Mode::Help) => Ok(Request::Help),
+            Some(mode) if self.again => Err(WordFault::Together("--again", mode.word())),
+            Some(Mode::Check) => Ok(self.lists(Form::Faults)),
+            Some(Mode::Json) => Ok(self.lists(Form::Json)),
+            Some(mode) if !self.files.is_empty() => Err(WordFault::WithFile(mode.word())),
+            Some(Mode::Version) => Ok(Request::Version),
+            Some(Mode::Calls) => Ok(Request::Calls),
+            Some(Mode::CallsJson) => Ok(Request::CallsJson),
+            Some(Mode::Session) => Ok(Request::Session),
+        }
+    }
+
+    fn lists(self, form: Form) -> Request<'a> {
+        Request::Lists {
+            form,
+            again: self.again,
+            files: self.files,
+        }
+    }
+}
+
+#[cfg(test)]
+mod tests {
+    use super::{Form, Request, WordFault, requested};
+    use std::alloc::Global;
+
+    /// What was asked for, in short.
+    fn short(alloc: Global, words: &[&str]) -> String {
+        let told = match requested(alloc, words) {
+            Ok(Request::Help) => String::from_str(alloc, "help"),
+            Ok(Request::Version) => String::from_str(alloc, "version"),
+            Ok(Request::Calls) => String::from_str(alloc, "calls"),
+            Ok(Request::CallsJson) => String::from_str(alloc, "calls as JSON"),
+            Ok(Request::Session) => String::from_str(alloc, "session"),
+            Ok(Request::Lists { form, again, files }) => {
+                format!(in alloc; "{form:?} {again} {}", files.len())
+            }
+            Err(WordFault::Memory) => String::from_str(alloc, "no memory"),
+            Err(fault) => format!(in alloc; "{fault}"),
+        };
+        told.unwrap_or(String::new(alloc))
+    }
+
+    #[test]
+    fn words_ask_for_one_thing(rt: HostRuntime) {
+        let alloc = rt.alloc();
+        let rows: [(&[&str], &str); 22] = [
+            (&[], "Text false 0"),
+            (&["a.list", "-"], "Text false 2"),
+            (&["--again"], "Text true 0"),
+            (&["--check", "a.list"], "Faults false 1"),
+            (&["--json", "--json"], "Json false 0"),
+            (&["--session"], "session"),
+            (&["--calls"], "calls"),
+            (&["--calls", "--json"], "calls as JSON"),
+            (&["--json", "--calls"], "calls as JSON"),
+            (&["--help", "a.list"], "help"),
+            (&["--session", "-h", "--check"], "help"),
+            (&["-V"], "version"),
+            (&["--", "--help"], "Text false 1"),
+            (&["--hepl"], "unknown word --hepl"),
+            (&["-x", "--help"], "unknown word -x"),
+            (&["--agian"], "unknown word --agian"),
+            (
+                &["--check", "--json"],
+                "--check and --json exclude each other",
+            ),
+            (
+                &["--again", "--session"],
+                "--again and --session exclude each other",
+            ),
+            (
+                &["--json", "--again"],
+                "--again and --json exclude each other",
+            ),
+            (&["--session", "a.list"], "--session takes no file"),
+            (&["--calls", "-"], "--calls takes no file"),
+            (&["--version", "a"], "--version takes no file"),
+        ];
+        for (words, wanted) in rows {
+            assert_eq!(rt; short(alloc, words).as_str(), wanted);
+        }
+    }
+}
