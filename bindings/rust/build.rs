@@ -1,23 +1,22 @@
-//! Links the static library that `rt lib` makes of `crates/vast_c`.
+//! Links the library that `tools/bindings` leaves in `bindings/out`.
 
 use std::env;
 use std::path::PathBuf;
 
 fn main() {
-    println!("cargo:rerun-if-env-changed=VAST_C_FOLDER");
-    let folder = match env::var_os("VAST_C_FOLDER") {
+    println!("cargo:rerun-if-env-changed=VAST_LIBRARY_FOLDER");
+    let folder = match env::var_os("VAST_LIBRARY_FOLDER") {
         Some(folder) => PathBuf::from(folder),
-        None => PathBuf::from(env::var_os("CARGO_MANIFEST_DIR").unwrap_or_default())
-            .join("../../crates/vast_c/out"),
+        None => PathBuf::from(env::var_os("CARGO_MANIFEST_DIR").unwrap_or_default()).join("../out"),
     };
-    let library = folder.join("libvast_c.a");
+    let library = folder.join("libvast.a");
     if !library.is_file() {
         println!(
-            "cargo:warning={} is not there: run `rt lib` in crates/vast_c, or name its folder in VAST_C_FOLDER",
+            "cargo:warning={} is not there: run tools/bindings, or name its folder in VAST_LIBRARY_FOLDER",
             library.display()
         );
     }
     println!("cargo:rerun-if-changed={}", library.display());
     println!("cargo:rustc-link-search=native={}", folder.display());
-    println!("cargo:rustc-link-lib=static=vast_c");
+    println!("cargo:rustc-link-lib=static=vast");
 }

@@ -1,4 +1,4 @@
-"""The stored lists of calls, made by the methods: those of the original's recorded answers, and all others without names.
+"""The stored lists of calls, made by the methods: the first 253 are those of the original's recorded answers.
 
 `crates/vast_replay/stdin` has the lists, `stdout` what they give. The table says which argument is what, so that each call
 is made by its method with arguments of Python.
@@ -15,11 +15,14 @@ ROOT = os.path.dirname(os.path.dirname(os.path.dirname(os.path.dirname(os.path.a
 STORED = f"{ROOT}/crates/vast_replay"
 TEXT = json.JSONDecoder(strict=False)  # control characters stand in them as they are
 WORD = re.compile(r'"(?:[^"\\]|\\.)*"|\S+')
-PLAIN = re.compile(r'[?!]?[A-Z]\w*(?: (?:-?\d+|true|false|[A-Z]\w*|[\[\]+-]|"(?:[^"\\]|\\.)*"))*')
+NAMED = re.compile(r"([A-Za-z_]\w*) = ")
 
 
-class NoAnswer(Exception):
-    """A number that no step has."""
+class Missing:
+    """In the place of an answer whose number no step has; the method tells of it as of another kind."""
+
+    def __repr__(self):
+        return "no such answer"
 
 
 def blocks(path):
@@ -47,9 +50,7 @@ class Arguments:
         if form == "optional":
             return None if word == "-" else self.read(kind["of"])
         if form == "handle":
-            if int(word) >= len(self.answers):
-                raise NoAnswer
-            return self.answers[int(word)]
+            return self.answers.get(word, Missing())
         plain = {"text": TEXT.decode, "truth": json.loads, "integer": int}
         return plain.get(form, str)(word)
 
@@ -94,28 +95,26 @@ class Stored(FileTest):
     def test_lists(self):
         given, wanted = blocks(f"{STORED}/stdin"), blocks(f"{STORED}/stdout")
         self.assertEqual([title for title, _ in given], [title for title, _ in wanted])
-        made = 0
         for number, ((title, lines), (_, text)) in enumerate(zip(given, wanted)):
             dialect, *calls = lines.removesuffix("\n").split("\n")
-            if not all(PLAIN.fullmatch(line) for line in calls):
-                continue
-            made += 1
             for name in SESSIONS:
                 with self.subTest(list=f"{title}, number {number}", session=name):
                     with File(dialect, session=Noted(name, dialect)) as file:
                         self.compare(file, calls, text)
-        self.assertGreater(made, 253)
 
     def compare(self, file, calls, text):
         """Makes the calls, and compares what they give."""
         steps = [line for line in calls if line[0] not in "?!"]
-        answers, said = [], ""
+        answers, said = {}, ""
         for number, line in enumerate(steps):
-            answer, fault = self.make(file, line, answers)
+            name = NAMED.match(line)
+            answer, fault = self.make(file, line[name.end() :] if name else line, answers)
             if fault is not None:
                 said = f"refused: step {number}: {fault}\n"
                 break
-            answers.append(answer)
+            answers[str(number)] = answer
+            if name:
+                answers[name[1]] = answer
         for line in calls[len(steps) :]:
             answer, fault = self.make(file, line, answers)
             said += f"{line.split(' ')[0]}: {shown(answer) if fault is None else 'refused: ' + fault}\n"
@@ -136,10 +135,8 @@ class Stored(FileTest):
             if name.startswith("!"):
                 answer = "ok" if answer is None else answer.emit_expression()
             return answer, None
-        except NoAnswer:
-            return None, "no such answer"
-        except TypeError:
-            return None, "answer of another kind"
+        except TypeError as fault:
+            return None, "no such answer" if "no such answer" in str(fault) else "answer of another kind"
         except Condition:
             return None, "condition not met"
         except Refused as fault:

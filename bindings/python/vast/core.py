@@ -13,15 +13,16 @@ from .writing import int32, int64
 
 # Lines that wait at most.
 BATCH = 1024
-_PACKAGE = os.path.dirname(os.path.abspath(__file__))
+# What the paths of this package's files begin with.
+_PACKAGE = os.path.join(os.path.dirname(__file__), "")
 
 
-def caller() -> str:
+def caller() -> Tuple[str, int]:
     """The file and line of Python that called this package."""
-    frame = sys._getframe(1)
-    while frame.f_back is not None and os.path.dirname(frame.f_code.co_filename) == _PACKAGE:
+    frame = sys._getframe(2)
+    while frame.f_back is not None and frame.f_code.co_filename.startswith(_PACKAGE):
         frame = frame.f_back
-    return f"{frame.f_code.co_filename}:{frame.f_lineno}"
+    return frame.f_code.co_filename, frame.f_lineno
 
 
 class Core:
@@ -37,7 +38,7 @@ class Core:
         self._strict = strict
         self._lines: List[str] = []
         # Of each line that was made or waits, where it was written.
-        self._places: Optional[List[str]] = [] if places else None
+        self._places: Optional[List[Tuple[str, int]]] = [] if places else None
         self._count = 0
         self._types: Dict[int, int] = {}
         self._fault: Optional[VastFault] = None
@@ -73,7 +74,7 @@ class Core:
     def _placed(self, fault: VastFault) -> None:
         """Gives the fault its place."""
         if self._places is not None and fault.line is not None and fault.line < len(self._places):
-            fault.place = self._places[fault.line]
+            fault.place = "{}:{}".format(*self._places[fault.line])
 
     def _append(self, line: str) -> None:
         """One line more that waits."""

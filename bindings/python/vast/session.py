@@ -252,8 +252,8 @@ class ListSession:
 
 @functools.lru_cache(maxsize=None)
 def found_library() -> Optional[CDLL]:
-    """The shared library: that of the path VAST_LIBRARY, or as `bindings/python/build` makes it; an empty path is none."""
-    path = os.environ.get("VAST_LIBRARY", f"{os.path.dirname(_HERE)}/out/libvast.so")
+    """The shared library: that of the path VAST_LIBRARY, or as `tools/bindings` leaves it; an empty path is none."""
+    path = os.environ.get("VAST_LIBRARY", f"{_ROOT}/bindings/out/libvast.so")
     return load_library(path) if os.path.exists(path) else None
 
 

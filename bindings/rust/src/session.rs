@@ -29,8 +29,11 @@ const VERILOG: i32 = 0;
 const SYSTEM_VERILOG: i32 = 1;
 
 const ANSWER: i32 = 0;
-const MESSAGE: i32 = 1;
-const FILE: i32 = 2;
+const WORDS: i32 = 2;
+const FILE: i32 = 4;
+
+// Texts of so many bytes, as most answers are, are copied by one call.
+const SHORT: usize = 256;
 
 /// Why a line or a printing gave nothing.
 #[derive(Debug)]
@@ -96,21 +99,28 @@ impl Session {
     fn checked(&mut self, status: i32) -> Result<(), Fault> {
         match status {
             OK => Ok(()),
-            REFUSED => Err(Fault::Refused(self.text(MESSAGE))),
-            CONDITION => Err(Fault::Condition(self.text(MESSAGE))),
+            REFUSED => Err(Fault::Refused(self.text(WORDS))),
+            CONDITION => Err(Fault::Condition(self.text(WORDS))),
             MEMORY => Err(Fault::Memory),
-            _ => Err(Fault::Form(self.text(MESSAGE))),
+            _ => Err(Fault::Form(self.text(WORDS))),
         }
     }
 
     fn text(&mut self, which: i32) -> String {
-        // SAFETY: a capacity of 0 lets `out` be null.
-        let length = unsafe { vast_text(&mut self.state, which, ptr::null_mut(), 0) };
-        let mut bytes = vec![0; length];
-        // SAFETY: `out` has room for `length` bytes.
-        let copied = unsafe { vast_text(&mut self.state, which, bytes.as_mut_ptr(), length) };
-        bytes.truncate(copied);
+        let mut bytes = vec![0; SHORT];
+        let length = self.copy(which, &mut bytes);
+        if length > bytes.len() {
+            bytes.resize(length, 0);
+            self.copy(which, &mut bytes);
+        }
+        bytes.truncate(length);
         String::from_utf8_lossy(&bytes).into_owned()
+    }
+
+    /// Copies the start of the text, and answers the length of all of it.
+    fn copy(&mut self, which: i32, bytes: &mut [u8]) -> usize {
+        // SAFETY: `out` has room for as many bytes as are told.
+        unsafe { vast_text(&mut self.state, which, bytes.as_mut_ptr(), bytes.len()) }
     }
 }
 
