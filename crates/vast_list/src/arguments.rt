@@ -117,7 +117,11 @@ impl<'a> Arguments<'a> {
         };
         let Some(quoted) = rest.strip_prefix('"') else {
             let is_space = rest.is_empty() || rest.starts_with(' ');
-            return Err(self.misfit(if is_space { Problem::Space } else { Problem::NoText }));
+            return Err(self.misfit(if is_space {
+                Problem::Space
+            } else {
+                Problem::NoText
+            }));
         };
         let (text, rest) = unquoted(self.known.alloc, quoted)?;
         self.rest = behind_text(rest)?;

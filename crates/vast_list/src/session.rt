@@ -11,7 +11,6 @@ use crate::fault::{Fault, LineFault, misread, refused_text};
 use crate::helpers::call_helper;
 use crate::line::{Action, Call, Line, is_empty, read_line, split_line, text_of};
 use crate::names::{Named, Names, is_name};
-use crate::problem::Problem;
 use crate::questions::answered::Value;
 use crate::questions::{Question, answer};
 use std::alloc::{AllocError, Global};
@@ -45,11 +44,7 @@ pub enum Given<'a> {
 }
 
 /// Makes the call, over the answers so far.
-fn make_call(
-    file: &mut VastFile,
-    answers: &[Answer],
-    call: &Call,
-) -> Result<Answer, StepFault>
+fn make_call(file: &mut VastFile, answers: &[Answer], call: &Call) -> Result<Answer, StepFault>
     ensures { Calls file.old file.new answers.now result call.now }
 {
     match call {
