@@ -148,10 +148,15 @@ fn finished(
 }
 
 /// The file's text, where nothing was refused.
+#[tactic(auto, using(crate::proofs::Sessions::emitted))]
 fn design(tries: Tries, answering: Answering<'_>) -> Result<ListOutput, AllocError>
     ensures { IfOk result (λ made. IfSome made.output (λ output. IsFileText output.items)) }
 {
-    let Answering { session, mut told, .. } = answering;
+    let Answering {
+        session,
+        mut told,
+        ..
+    } = answering;
     if let Verdict::Refused = told.verdict {
         return Ok(output_of(None, told));
     }
