@@ -154,7 +154,7 @@ fn a_session_answers_each_line(rt: HostRuntime) {
     let mut lines: &[u8] = b"verilog\n";
     let outcome = answer_lines(alloc, &mut lines, &mut Closed, &mut err);
     assert_eq!(rt; outcome, Outcome::Failed);
-    assert!(rt; err.as_slice() == b"write fault\n");
+    assert!(rt; err.as_slice() == "write fault\n".as_bytes());
 }
 
 #[test]
