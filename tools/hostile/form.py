@@ -1,4 +1,4 @@
-"""The first line of a list of calls that is not in the form of docs/LISTS.md, by a reader of its own.
+"""The lines of a list of calls that are not in the form of docs/LISTS.md, by a reader of its own.
 
 It knows the calls of the lists that `inputs` damages, and no others.
 """
@@ -28,7 +28,7 @@ CALLS = {
 REGISTER = listing(HANDLE, HANDLE, option(HANDLE), option(HANDLE))
 QUESTIONS = {"!AddRegisters": (HANDLE, option(listing(HANDLE, TRUTH)), listing(REGISTER, ...), HANDLE)}
 PATTERNS = {
-    INT64: "-?[0-9]+", TRUTH: "true|false", TEXT: r'"(?:[^"\\]|\\["\\n])*"', FORMAT: "|".join(FORMATS),
+    INT64: "-?[0-9]+", TRUTH: "true|false", TEXT: r'"(?:[^"\\]|\\(?:["\\/ntrbf]|u(?![dD][89a-fA-F])[0-9a-fA-F]{4}|u[dD][89abAB][0-9a-fA-F]{2}\\u[dD][c-fC-F][0-9a-fA-F]{2}))*"', FORMAT: "|".join(FORMATS),
     HANDLE: "[0-9]+|[A-Za-z_][A-Za-z0-9_]*",
 }
 
@@ -68,15 +68,25 @@ def argument(kind, line, at, names):
     return need(r"\](?: |\Z)", line, at)
 
 
-def read_line(line, names, is_question_seen):
-    """Reads a line behind the dialect; answers whether it is a question."""
+def read_line(line, names):
+    """Reads a line behind the dialect. Its name is taken, be the line in the form or not."""
     given = re.match(r"([A-Za-z_][A-Za-z0-9_]*) = ", line)
-    call, *_ = line[given.end() if given else 0:].split(" ", 1)
-    is_question = call in QUESTIONS
-    kinds = (QUESTIONS if is_question else CALLS).get(call)
-    if kinds is None or is_question_seen > is_question or (given and (is_question or given[1] in names)):
+    try:
+        if given and given[1] in names:
+            raise Fault
+        read_call(line, given.end() if given else 0, names)
+    finally:
+        if given:
+            names.add(given[1])
+
+
+def read_call(line, at, names):
+    """Reads the call that begins at this place."""
+    call, *_ = line[at:].split(" ", 1)
+    kinds = {**CALLS, **QUESTIONS}.get(call)
+    if kinds is None:
         raise Fault
-    at = (given.end() if given else 0) + len(call)
+    at += len(call)
     at = at + 1 if kinds and line.startswith(" ", at) else at
     for kind in kinds:
         if line[at - 1] != " ":
@@ -84,21 +94,33 @@ def read_line(line, names, is_question_seen):
         at = argument(kind, line, at, names)
     if at != len(line) or (kinds and line.endswith(" ")):
         raise Fault
-    if given:
-        names.add(given[1])
-    return is_question
 
 
-def faulty_line(given):
-    """The number of the first line that is not in the form, or None."""
-    names, is_question_seen = set(), False
+def text_of(line):
+    """The text of a line, without the CR of its end; raises Fault where it is no UTF-8."""
+    try:
+        return (line[:-1] if line.endswith(b"\r") else line).decode()
+    except UnicodeDecodeError:
+        raise Fault from None
+
+
+def faulty_lines(given):
+    """The numbers of the lines that are not in the form; of a list without its dialect one alone."""
+    names, faulty, is_dialect_read = set(), [], False
+    given = given.removeprefix(b"\xef\xbb\xbf")
     for number, line in enumerate((given[:-1] if given.endswith(b"\n") else given).split(b"\n"), 1):
         try:
-            text = line.decode()
-            if number > 1:
-                is_question_seen = read_line(text, names, is_question_seen)
-            elif text not in ("verilog", "systemverilog"):
-                return number
-        except (Fault, UnicodeDecodeError):
-            return number
-    return None
+            text = text_of(line)
+            if re.fullmatch(r"[ \t]*(#.*)?", text, re.DOTALL):
+                continue
+            if is_dialect_read:
+                read_line(text, names)
+            elif text in ("verilog", "systemverilog"):
+                is_dialect_read = True
+            else:
+                return [number]
+        except Fault:
+            faulty.append(number)
+            if not is_dialect_read:
+                return faulty
+    return faulty if is_dialect_read else [1]

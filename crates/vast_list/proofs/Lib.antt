@@ -1,2 +1,3 @@
 pub mod Headers
 mod JsonLaws
+pub mod Sessions

@@ -1,9 +1,7 @@
 -- What is printed of a list.
-use Rattle.std.specs.Prelude.{◌≡◌, ℕ, List, ◌++◌, codes, Option, Some, None, string_bytes, ⊤}
+use Rattle.std.specs.Prelude.{◌≡◌, ℕ, List, ◌++◌, codes, Option, Some, None}
 use Rattle.std.specs.Borrow.{Bor}
 use Rattle.vast_print.specs.Layout.{IsFileText}
-use Rattle.vast_list.specs.declared.report.Entry.{Entry}
-use Rattle.vast_list.specs.declared.report.Entry.TheVariants.{Text, Refusal}
 
 -- the line before a list
 abbrev pub header_line : (title : List ℕ) → List ℕ
@@ -12,11 +10,6 @@ header_line title = codes "== " ++ title ++ codes "\n"
 -- the output begins with the line before the list
 abbrev pub BeginsWithHeader : (title output : List ℕ) → Type 0
 BeginsWithHeader title output = (rest : List ℕ) × (output ≡ header_line title ++ rest)
-
--- where the entry is no refusal, it is a file's text
-abbrev pub HoldsFile : Entry → Type 0
-HoldsFile (Text text) = IsFileText (string_bytes text)
-HoldsFile (Refusal _) = ⊤
 
 -- where the list has a title, the output begins with its line; else it is a file's text, and nothing else
 abbrev pub IsOutput : Option (Bor (List ℕ)) → (output : List ℕ) → Type 0

@@ -1,5 +1,5 @@
 -- What a line of a list does to a session: to its file and the answers so far.
-use Rattle.std.specs.Prelude.{◌≡◌, ℕ, List, [], ◌∷◌, ◌++◌, None, Result, Ok, Err}
+use Rattle.std.specs.Prelude.{◌≡◌, ℕ, List, [], ◌∷◌, ◌++◌, None, Result, Ok, Err, ⊤}
 use Rattle.vast_core.specs.Bench.{Bench}
 use Rattle.vast_core.specs.FileTree.{tree}
 use Rattle.vast_literal.specs.Tree.{FileTree}
@@ -7,6 +7,7 @@ use Rattle.vast_print.specs.Layout.{layout}
 use Rattle.vast_print.specs.Page.{print}
 use Rattle.vast_script.specs.declared.answer.Answer.{Answer}
 use Rattle.vast_script.specs.declared.fault.StepFault.{StepFault}
+use Rattle.vast_script.specs.declared.fault.StepFault.TheVariants.{Memory as OutOfMemory}
 use Rattle.vast_script.specs.Outcome.{Replays}
 use Rattle.vast_script.specs.Script.{call_of}
 use Rattle.vast_list.specs.declared.fault.Fault.{Fault}
@@ -23,9 +24,17 @@ abbrev pub Calls : (old new : Bench) → List Answer → Result Answer StepFault
 Calls old new answers result (StepCall step) = Replays old new answers result (call_of step)
 Calls old new answers result (HelperCall helper) = Helps old new answers result helper
 
+-- Want of memory is told as such; any other fault as a line's, unless memory for its words was refused.
+abbrev pub IsToldAs : StepFault → Fault → Type 0
+IsToldAs OutOfMemory told = told ≡ Memory
+IsToldAs _ told = ⊤
+
 -- The call was made over the answers so far, and its answer stands behind them.
 abbrev pub IsMade : (old new : Session) → Call → Type 0
 IsMade old new call = (answer : Answer) × Calls old.file new.file old.answers.items (Ok answer) call × (new.answers.items ≡ old.answers.items ++ answer ∷ [])
+
+abbrev pub HasMade : (old new : Session) → Type 0
+HasMade old new = (call : Call) × IsMade old new call
 
 abbrev pub IsSame : (old new : Session) → Type 0
 IsSame old new = (new.file ≡ old.file) × (new.answers.items ≡ old.answers.items)
@@ -43,9 +52,9 @@ Makes old new call (Err fault) = IsLeft old new fault
 -- A step or a helper is a call that was made; a question, a comment and a blank line change nothing.
 abbrev pub Gives : (old new : Session) → Given → Type 0
 Gives old new Nothing = IsSame old new
-Gives old new (Step number call) = (call : Call) × IsMade old new call
-Gives old new (Helper number call) = (call : Call) × IsMade old new call
-Gives old new (Answered call value) = IsSame old new
+Gives old new (Step number name) = HasMade old new
+Gives old new (Helper number name) = HasMade old new
+Gives old new (Answered name value) = IsSame old new
 
 abbrev pub Takes : (old new : Session) → Result Given Fault → Type 0
 Takes old new (Ok given) = Gives old new given

@@ -30,11 +30,14 @@ pub(crate) trait FromArguments: Sized + Drop {
     fn take(arguments: &mut Arguments<'_>) -> Result<Self, Misfit>;
 }
 
-/// The place among the answers of the step of this number; none has the greatest place.
-fn place(skipped: &[usize], number: usize) -> usize {
+/// The place among the answers of a step that was passed over: no answer has it.
+pub(crate) const SKIPPED: usize = usize::MAX;
+
+/// The place among the answers of the step of this number.
+pub(crate) fn place_of(skipped: &[usize], number: usize) -> usize {
     match skipped.binary_search(&number) {
-        Ok(_) => usize::MAX,
-        Err(before) => number.saturating_sub(before),
+        Ok(_) => SKIPPED,
+        Err(before) => number.saturating_sub(before).min(SKIPPED - 1),
     }
 }
 
@@ -67,7 +70,7 @@ impl<'a> Arguments<'a> {
 
     /// The place among the answers of the step of this number.
     pub(crate) fn place(&self, number: usize) -> usize {
-        place(self.known.skipped, number)
+        place_of(self.known.skipped, number)
     }
 
     /// The next word, which goes to the next space.
@@ -117,7 +120,11 @@ impl<'a> Arguments<'a> {
         };
         let Some(quoted) = rest.strip_prefix('"') else {
             let is_space = rest.is_empty() || rest.starts_with(' ');
-            return Err(self.misfit(if is_space { Problem::Space } else { Problem::NoText }));
+            return Err(self.misfit(if is_space {
+                Problem::Space
+            } else {
+                Problem::NoText
+            }));
         };
         let (text, rest) = unquoted(self.known.alloc, quoted)?;
         self.rest = behind_text(rest)?;

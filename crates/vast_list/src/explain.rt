@@ -6,8 +6,8 @@ mod kinds;
 
 use crate::arguments::Known;
 use crate::line::Call;
-use crate::names::Named;
 use conditions::condition;
+pub(crate) use handles::uses_skipped;
 use handles::{faulty_handle, missing_handle};
 use std::alloc::AllocError;
 use vast_script::{Answer, StepFault};
@@ -33,19 +33,4 @@ pub(crate) fn explained(
         StepFault::Refused(error) => format!(in alloc; "{error}"),
         StepFault::Memory => Err(AllocError),
     }
-}
-
-/// Whether a word of the line stands for an answer of a line that was passed over.
-pub(crate) fn uses_skipped(known: Known<'_>, text: &str) -> bool {
-    for word in text.split(' ') {
-        if let Some(Named::Skipped) = known.names.get(word) {
-            return true;
-        }
-        if let Ok(number) = word.parse::<usize>() {
-            if known.skipped.binary_search(&number).is_ok() {
-                return true;
-            }
-        }
-    }
-    false
 }

@@ -1,6 +1,6 @@
 //! What may stand as an argument.
 
-use crate::arguments::{Arguments, FromArguments};
+use crate::arguments::{Arguments, FromArguments, SKIPPED};
 use crate::names::{Named, is_name};
 use crate::problem::{Misfit, Problem};
 use std::str::FromStr;
@@ -82,7 +82,7 @@ pub(crate) fn handle(arguments: &Arguments<'_>, word: &str) -> Result<usize, Pro
     }
     match arguments.named(word) {
         Some(Named::Handle(place)) => Ok(place),
-        Some(Named::Skipped) => Ok(usize::MAX),
+        Some(Named::Skipped) => Ok(SKIPPED),
         Some(Named::Number(_)) => Err(Problem::NameOfQuestion),
         Some(Named::Other) => Err(Problem::NameOfQuestion),
         None => Err(Problem::NameUnknown),

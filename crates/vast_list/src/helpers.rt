@@ -85,9 +85,7 @@ fn elements_or(
         (elements_joined dimensions.now file.old) }
 {
     let value: IndexableExpr = one(file, answers, value)?;
-    made(helpers::bitwise_or_reduce_array_elements(
-        &value, dimensions, file,
-    ))
+    made(helpers::bitwise_or_reduce_array_elements(&value, dimensions, file))
 }
 
 fn logical_and(

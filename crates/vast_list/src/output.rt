@@ -1,7 +1,11 @@
 //! What is printed of a list.
 
-ghost use Rattle.std.specs.Prelude.{◌≡◌, IfOk};
+ghost use Rattle.std.specs.Prelude.{◌≡◌, IfOk, IfSome, None};
+ghost use Rattle.vast_print.specs.Layout.{IsFileText};
 ghost use Rattle.vast_list.specs.Output.{header_line, BeginsWithHeader, IsOutput};
+
+#[cfg(test)]
+mod tests;
 
 use crate::again::Trial;
 use crate::answering::{Answering, Told};
@@ -55,16 +59,16 @@ pub fn list_output(
     alloc: Global,
     tries: Tries,
     list: &ListLines<'_>,
-) -> Result<ListOutput, AllocError> {
+) -> Result<ListOutput, AllocError>
+    ensures { IfOk result (λ made. IfSome made.output
+        (λ output. IsOutput list.now.title output.items)) }
+{
     let (dialect, lines) = match tried!(tries, dialect_line(alloc, list)) {
         Ok(found) => found,
         Err(Fault::Memory) => return Err(AllocError),
         Err(Fault::Line(fault)) => return bad_dialect(alloc, tries, fault),
     };
-    let report = match list.title {
-        None => None,
-        Some(title) => Some(tried!(tries, header(alloc, title))?),
-    };
+    let report = list.title.map(|_| Vec::new(alloc));
     let trial = match tries {
         Tries::Once => None,
         Tries::Again => Some(Trial::new(alloc, dialect, lines)?),
@@ -79,7 +83,7 @@ pub fn list_output(
     for (number, line) in lines {
         answering.take(*number, line)?;
     }
-    finished(tries, answering)
+    finished(alloc, tries, list.title, answering)
 }
 
 /// The dialect, and the lines behind the one that names it.
@@ -100,13 +104,17 @@ pub(crate) fn dialect_line<'l, 'a>(
 }
 
 /// A list without a dialect.
-fn bad_dialect(alloc: Global, tries: Tries, fault: LineFault) -> Result<ListOutput, AllocError> {
+fn bad_dialect(alloc: Global, tries: Tries, fault: LineFault) -> Result<ListOutput, AllocError>
+    ensures { IfOk result (λ made. made.output ≡ None) }
+{
     let mut told = Told::new(alloc);
     told.keep(tries, fault)?;
     Ok(output_of(None, told))
 }
 
-fn output_of(output: Option<Vec<u8>>, told: Told) -> ListOutput {
+fn output_of(output: Option<Vec<u8>>, told: Told) -> ListOutput
+    ensures { result.output ≡ output }
+{
     let Told {
         verdict,
         faults,
@@ -121,25 +129,71 @@ fn output_of(output: Option<Vec<u8>>, told: Told) -> ListOutput {
 }
 
 /// What the list gives, all of whose lines were taken.
-fn finished(tries: Tries, mut answering: Answering<'_>) -> Result<ListOutput, AllocError> {
+#[tactic(auto, using(crate::proofs::Headers::titles))]
+fn finished(
+    alloc: Global,
+    tries: Tries,
+    title: Option<&[u8]>,
+    answering: Answering<'_>,
+) -> Result<ListOutput, AllocError>
+    ensures { IfOk result (λ made. IfSome made.output (λ output. IsOutput title output.items)) }
+{
     if let Verdict::NotInForm = answering.told.verdict {
         return Ok(output_of(None, answering.told));
     }
-    if answering.report.is_some() {
-        answering.print_file()?;
-        return Ok(output_of(answering.report, answering.told));
+    match title {
+        None => design(tries, answering),
+        Some(title) => report(alloc, tries, title, answering),
     }
-    if let Verdict::Refused = answering.told.verdict {
-        return Ok(output_of(None, answering.told));
+}
+
+/// The file's text, where nothing was refused.
+#[tactic(auto, using(crate::proofs::Sessions::emitted))]
+fn design(tries: Tries, answering: Answering<'_>) -> Result<ListOutput, AllocError>
+    ensures { IfOk result (λ made. IfSome made.output (λ output. IsFileText output.items)) }
+{
+    let Answering {
+        session,
+        mut told,
+        ..
+    } = answering;
+    if let Verdict::Refused = told.verdict {
+        return Ok(output_of(None, told));
     }
-    match tried!(tries, answering.session.text()) {
-        Ok(text) => Ok(output_of(Some(text.into_bytes()), answering.told)),
+    match tried!(tries, session.text()) {
+        Ok(text) => Ok(output_of(Some(text.into_bytes()), told)),
         Err(Fault::Memory) => Err(AllocError),
         Err(Fault::Line(fault)) => {
-            answering.told.keep(tries, fault)?;
-            Ok(output_of(None, answering.told))
+            told.keep(tries, fault)?;
+            Ok(output_of(None, told))
         }
     }
+}
+
+/// The header, and behind it what the lines give and the file's text.
+fn report(
+    alloc: Global,
+    tries: Tries,
+    title: &[u8],
+    mut answering: Answering<'_>,
+) -> Result<ListOutput, AllocError>
+    ensures { IfOk result (λ made. IfSome made.output
+        (λ output. BeginsWithHeader title.now output.items)) }
+{
+    answering.print_file()?;
+    let body = answering.report.unwrap_or(Vec::new(alloc));
+    let output = tried!(tries, titled(alloc, title, &body))?;
+    Ok(output_of(Some(output), answering.told))
+}
+
+/// The header and what stands behind it.
+#[tactic(auto, using(crate::proofs::Headers::headers))]
+fn titled(alloc: Global, title: &[u8], body: &[u8]) -> Result<Vec<u8>, AllocError>
+    ensures { IfOk result (λ output. BeginsWithHeader title.now output.items) }
+{
+    let mut output = header(alloc, title)?;
+    output.extend_from_slice(body)?;
+    Ok(output)
 }
 
 /// The line before a list.

@@ -3,15 +3,14 @@
 ghost use Rattle.std.specs.Prelude.{◌≡◌, [], IfOk, string_bytes};
 ghost use Rattle.vast_core.specs.Bench.{start};
 ghost use Rattle.vast_core.specs.FileTree.{tree};
-ghost use Rattle.vast_list.specs.Session.{Calls, IsSame, IsTextOf, Makes, Takes};
+ghost use Rattle.vast_list.specs.Session.{Calls, IsSame, IsTextOf, IsToldAs, Makes, Takes};
 
-use crate::arguments::Known;
+use crate::arguments::{Known, place_of};
 use crate::explain::{explained, uses_skipped};
 use crate::fault::{Fault, LineFault, misread, refused_text};
 use crate::helpers::call_helper;
 use crate::line::{Action, Call, Line, is_empty, read_line, split_line, text_of};
 use crate::names::{Named, Names, is_name};
-use crate::problem::Problem;
 use crate::questions::answered::Value;
 use crate::questions::{Question, answer};
 use std::alloc::{AllocError, Global};
@@ -45,16 +44,42 @@ pub enum Given<'a> {
 }
 
 /// Makes the call, over the answers so far.
-fn make_call(
-    file: &mut VastFile,
-    answers: &[Answer],
-    call: &Call,
-) -> Result<Answer, StepFault>
+fn make_call(file: &mut VastFile, answers: &[Answer], call: &Call) -> Result<Answer, StepFault>
     ensures { Calls file.old file.new answers.now result call.now }
 {
     match call {
         Call::Step(step) => replay_step(file, answers, step),
         Call::Helper(helper) => call_helper(file, answers, helper),
+    }
+}
+
+/// The name stands for this from now on.
+fn enter(
+    alloc: Global,
+    names: &mut Names,
+    name: Option<&str>,
+    stands_for: Named,
+) -> Result<(), AllocError> {
+    if let Some(name) = name {
+        let name = String::from_str(alloc, name)?;
+        names.insert(name, stands_for)?;
+    }
+    Ok(())
+}
+
+/// The name stands for nothing.
+fn forget(names: &mut Names, name: Option<&str>) {
+    if let Some(name) = name {
+        let _ = names.remove(name);
+    }
+}
+
+/// What the name of a question's answer stands for.
+fn named(value: &Value) -> Named {
+    match value {
+        Value::Number(number) => Named::Number(*number),
+        Value::Count(count) => i64::try_from(*count).map_or(Named::Other, Named::Number),
+        _ => Named::Other,
     }
 }
 
@@ -78,6 +103,7 @@ impl Session {
     ///
     /// # Errors
     /// The line's fault. The file, the answers and the names are then as before, and the line is not counted.
+    #[tactic(auto, using(crate::proofs::Sessions::lines))]
     pub fn line<'a>(&mut self, number: usize, line: &'a [u8]) -> Result<Given<'a>, Fault>
         ensures { Takes self.old self.new result }
     {
@@ -89,7 +115,8 @@ impl Session {
         match action {
             Action::Ask(question) => {
                 let value = self.ask(number, text, call, &question)?;
-                self.name_answer(name, &value)?;
+                let alloc = self.file.allocator();
+                enter(alloc, &mut self.names, name, named(&value))?;
                 Ok(Given::Answer { call, value })
             }
             Action::Call(made) => {
@@ -136,7 +163,8 @@ impl Session {
         }
         if let Some(name) = name {
             if is_name(name) && !self.names.contains_key(name) {
-                self.enter(Some(name), Named::Skipped)?;
+                let alloc = self.file.allocator();
+                enter(alloc, &mut self.names, Some(name), Named::Skipped)?;
             }
         }
         if !call.starts_with('?') {
@@ -151,10 +179,7 @@ impl Session {
     /// # Errors
     /// A refusal of the text, and want of memory. `no such answer` where no step or helper has the number.
     pub fn helper_text(&self, number: usize) -> Result<String, StepFault> {
-        let place = match self.skipped.binary_search(&number) {
-            Ok(_) => usize::MAX,
-            Err(before) => number.saturating_sub(before),
-        };
+        let place = place_of(&self.skipped, number);
         match self.answers.get(place) {
             Some(Answer::Nothing) => Ok(String::from_str(self.file.allocator(), "ok")?),
             _ => {
@@ -168,6 +193,7 @@ impl Session {
     ///
     /// # Errors
     /// A refusal names the line whose call made what is refused. Want of memory.
+    #[tactic(auto, using(crate::proofs::Sessions::emitted))]
     pub fn text(&self) -> Result<String, Fault>
         ensures { IfOk result (λ text. IsTextOf (tree self.now.file) (string_bytes text)) }
     {
@@ -221,6 +247,7 @@ impl Session {
     }
 
     /// Makes the call and keeps its answer, under the name.
+    #[tactic(auto, using(crate::proofs::Sessions::faults))]
     fn make(
         &mut self,
         number: usize,
@@ -233,8 +260,9 @@ impl Session {
     {
         self.answers.reserve(1)?;
         self.lines.reserve(1)?;
+        let alloc = self.file.allocator();
         let place = self.answers.len();
-        self.enter(name, Named::Handle(place))?;
+        enter(alloc, &mut self.names, name, Named::Handle(place))?;
         match make_call(&mut self.file, &self.answers, made) {
             Ok(answer) => {
                 self.answers.push(answer)?;
@@ -242,28 +270,9 @@ impl Session {
                 Ok(())
             }
             Err(fault) => {
-                self.forget(name);
+                forget(&mut self.names, name);
                 Err(self.told(number, text, call, Some(made), fault))
             }
-        }
-    }
-
-    /// The name stands for this from now on.
-    fn enter(&mut self, name: Option<&str>, named: Named) -> Result<(), AllocError>
-        ensures { IsSame self.old self.new }
-    {
-        if let Some(name) = name {
-            let name = String::from_str(self.file.allocator(), name)?;
-            self.names.insert(name, named)?;
-        }
-        Ok(())
-    }
-
-    fn forget(&mut self, name: Option<&str>)
-        ensures { IsSame self.old self.new }
-    {
-        if let Some(name) = name {
-            let _ = self.names.remove(name);
         }
     }
 
@@ -280,18 +289,6 @@ impl Session {
         }
     }
 
-    /// The name stands for a question's answer from now on.
-    fn name_answer(&mut self, name: Option<&str>, value: &Value) -> Result<(), AllocError>
-        ensures { IsSame self.old self.new }
-    {
-        let named = match value {
-            Value::Number(number) => Named::Number(*number),
-            Value::Count(count) => i64::try_from(*count).map_or(Named::Other, Named::Number),
-            _ => Named::Other,
-        };
-        self.enter(name, named)
-    }
-
     /// The fault of a line that is in the form.
     fn told(
         &self,
@@ -300,7 +297,9 @@ impl Session {
         call: &str,
         made: Option<&Call>,
         cause: StepFault,
-    ) -> Fault {
+    ) -> Fault
+        ensures { IsToldAs cause result }
+    {
         if let StepFault::Memory = cause {
             return Fault::Memory;
         }
@@ -319,7 +318,8 @@ impl Session {
         cause: StepFault,
     ) -> Result<LineFault, AllocError> {
         let known = self.known();
-        let follows = uses_skipped(known, text);
+        let is_missing = matches!(cause, StepFault::NoAnswer);
+        let follows = is_missing && uses_skipped(known, text)?;
         Ok(LineFault {
             line,
             column: None,

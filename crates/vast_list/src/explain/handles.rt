@@ -1,6 +1,6 @@
 //! Arguments that are no answers, or answers of another kind.
 
-use crate::arguments::{Arguments, Known};
+use crate::arguments::{Arguments, Known, SKIPPED};
 use crate::explain::kinds::{is_of, kind_of};
 use crate::from_arguments::handle;
 use crate::line::split_line;
@@ -75,6 +75,16 @@ fn add_word<'a>(
         })?;
     }
     Ok(())
+}
+
+/// Whether a handle of the line stands for the answer of a line that was passed over.
+pub(crate) fn uses_skipped(known: Known<'_>, text: &str) -> Result<bool, AllocError> {
+    for found in &handle_words(known, text)? {
+        if found.place == SKIPPED {
+            return Ok(true);
+        }
+    }
+    Ok(false)
 }
 
 /// Which argument is no earlier answer.

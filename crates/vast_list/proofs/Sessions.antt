@@ -1,0 +1,73 @@
+-- What the lines of a session leave.
+use Rattle.std.proofs.Common.{◌≡◌, ℕ, List, Result, Ok, Err, String, ap, subst, sym, string_bytes}
+use Rattle.std.specs.declared.alloc.Global.{Global}
+use Rattle.vast_literal.specs.Tree.{FileTree}
+use Rattle.vast_literal.specs.declared.error.VastFault.{VastFault}
+use Rattle.vast_core.specs.Bench.{Bench}
+use Rattle.vast_core.specs.FileTree.{tree}
+use Rattle.vast_print.specs.Emits.{Emits}
+use Rattle.vast_print.specs.Layout.{IsFileText, layout}
+use Rattle.vast_script.specs.declared.answer.Answer.{Answer}
+use Rattle.vast_script.specs.declared.fault.StepFault.{StepFault}
+use Rattle.vast_script.specs.declared.fault.StepFault.TheVariants.{NoAnswer, WrongKind, Condition, Refused, Memory as OutOfMemory}
+use Rattle.vast_list.specs.declared.fault.Fault.{Fault}
+use Rattle.vast_list.specs.declared.fault.Fault.TheVariants.{Line, Memory}
+use Rattle.vast_list.specs.declared.helpers.Helper.{Helper}
+use Rattle.vast_list.specs.declared.helpers.Helper.TheVariants.{AddRegisters, BitwiseOrReduce, BitwiseOrReduceArrayElements, LogicalAndReduce, LogicalOrReduce}
+use Rattle.vast_list.specs.declared.line.Call.{Call}
+use Rattle.vast_list.specs.declared.line.Call.TheVariants.{Step as StepCall, Helper as HelperCall}
+use Rattle.vast_list.specs.declared.session.Session.{Session}
+use Rattle.vast_list.specs.Helpers.{Helps, IsKept}
+use Rattle.vast_list.specs.Session.{Calls, HasMade, IsLeft, IsMade, IsSame, IsTextOf, IsToldAs}
+
+kept_same : (old new : Bench) (fault : StepFault) → new ≡ old → IsKept old new fault
+kept_same old new NoAnswer e = e
+kept_same old new WrongKind e = e
+kept_same old new Condition e = e
+kept_same old new (Refused r) e = e
+kept_same old new OutOfMemory e = ap tree e
+
+kept_helper : (old new : Bench) (answers : List Answer) (fault : StepFault) (helper : Helper) → Helps old new answers (Err fault) helper → IsKept old new fault
+kept_helper old new answers fault (AddRegisters clk reset registers scope) h = h
+kept_helper old new answers fault (BitwiseOrReduce values) h = h
+kept_helper old new answers fault (BitwiseOrReduceArrayElements value dimensions) h = h
+kept_helper old new answers fault (LogicalAndReduce values invert) h = h
+kept_helper old new answers fault (LogicalOrReduce values invert) h = h
+
+-- A call at fault keeps the file.
+kept_call : (old new : Bench) (answers : List Answer) (fault : StepFault) (call : Call) → Calls old new answers (Err fault) call → IsKept old new fault
+kept_call old new answers fault (StepCall step) h = kept_same old new fault h.1
+kept_call old new answers fault (HelperCall helper) h = kept_helper old new answers fault helper h
+
+left_kept : (old new : Session) (fault : StepFault) (told : Fault) → IsKept old.file new.file fault → new.answers.items ≡ old.answers.items → IsToldAs fault told → IsLeft old new told
+left_kept old new NoAnswer (Line f) k a t = (k, a)
+left_kept old new NoAnswer Memory k a t = (ap tree k, a)
+left_kept old new WrongKind (Line f) k a t = (k, a)
+left_kept old new WrongKind Memory k a t = (ap tree k, a)
+left_kept old new Condition (Line f) k a t = (k, a)
+left_kept old new Condition Memory k a t = (ap tree k, a)
+left_kept old new (Refused r) (Line f) k a t = (k, a)
+left_kept old new (Refused r) Memory k a t = (ap tree k, a)
+left_kept old new OutOfMemory told k a t = subst (λ (f : Fault). IsLeft old new f) (sym t) (k, a)
+
+pub left_call : (old new : Session) (call : Call) (fault : StepFault) (told : Fault) → Calls old.file new.file old.answers.items (Err fault) call → new.answers.items ≡ old.answers.items → IsToldAs fault told → IsLeft old new told
+left_call old new call fault told h a t = left_kept old new fault told (kept_call old.file new.file old.answers.items fault call h) a t
+
+pub left_same : (old new : Session) (fault : Fault) → new.file ≡ old.file → new.answers.items ≡ old.answers.items → IsLeft old new fault
+left_same old new (Line f) e a = (e, a)
+left_same old new Memory e a = (ap tree e, a)
+
+pub ruleset faults = (left_call, left_same)
+
+pub has_made : (old new : Session) (call : Call) → IsMade old new call → HasMade old new
+has_made old new call h = (call, h)
+
+pub ruleset lines = (left_same, has_made)
+
+pub text_of : (file : FileTree) (text : String Global) (answer : Result (String Global) VastFault) → Emits (layout file) answer → answer ≡ Ok text → IsTextOf file (string_bytes text)
+text_of file text answer h e = let m = subst (λ (r : Result (String Global) VastFault). Emits (layout file) r) e h in (m.0, m.1)
+
+pub file_text : (file : FileTree) (text : List ℕ) → IsTextOf file text → IsFileText text
+file_text file text t = (file, t.0, t.1)
+
+pub ruleset emitted = (text_of, file_text)
