@@ -3,21 +3,23 @@ use Rattle.std.proofs.Common.{◌≡◌, ◌==◌, true, ℕ, suc, ◌+◌, ◌<
 use Rattle.std.proofs.lemmas.Bool.{eqb-true}
 use Rattle.std.proofs.lemmas.List.{length-drop, length_push, nil_from_length}
 use Rattle.std.proofs.Math.Seq.{drop-cons, take-suc}
-use Rattle.vast_list.specs.Session.{Gives}
+use Rattle.vast_core.specs.FileTree.{tree}
+use Rattle.vast_list.specs.Session.{Gives, IsSame}
 use Rattle.vast_list.specs.declared.session.Given.{Given}
 use Rattle.vast_list.specs.declared.session.Session.{Session}
 use Rattle.vast_c.specs.Lines.{lines_of}
-use Rattle.vast_c.specs.Seen.{Gave}
-
-abbrev GaveSome : (before : Session) → ℕ → (after : Session) → Type 0
-GaveSome before taken after = (given : List Given) × (length given ≡ taken) × Gave before given after
+use Rattle.vast_c.specs.Seen.{Gave, GaveOne, GaveSome, IsSameTree, LeftIfAny, Made, MadeAll}
+use Rattle.vast_c.specs.declared.kept.Cause.{Cause}
+use Rattle.vast_c.specs.declared.kept.Cause.TheVariants.{Refused, Condition, Form, Memory}
+use Rattle.vast_c.specs.declared.kept.Kept.{Kept}
+use Rattle.std.specs.Prelude.{Option, None, Some}
 
 behind : (a : Session) (given : List Given) (b : Session) (last : Given) (c : Session) → Gave a given b → Gives b c last → Gave a (given ++ last ∷ []) c
 behind a [] b last c same gives = (c, subst (λ (s : Session). Gives s c last) same gives, refl)
 behind a (first ∷ given) b last c gave gives = (gave.0, gave.1, behind gave.0 given b last c gave.2 gives)
 
 -- one line more gave what it gave
-pub gave_more : (a : Session) (taken : ℕ) (b c : Session) → GaveSome a taken b → (last : Given) × Gives b c last → GaveSome a (taken + 1) c
+pub gave_more : (a : Session) (taken : ℕ) (b c : Session) → GaveSome a taken b → GaveOne b c → GaveSome a (taken + 1) c
 gave_more a taken b c gave last = (gave.0 ++ last.0 ∷ [], omega (arith, length_push gave.0 last.0, gave.1), behind a gave.0 b last.0 c gave.2 last.1)
 
 -- the item behind the first n
@@ -40,3 +42,33 @@ next all n x xs is =
 -- where there is no byte there is no line
 pub no_lines : (bytes : List ℕ) → true ≡ (length bytes == 0) → lines_of bytes ≡ []
 no_lines bytes none = ap lines_of (nil_from_length bytes (eqb-true (length bytes) 0 (sym none)))
+
+-- what is the same has the same tree
+pub same_tree : (a b : Session) → IsSame a b → IsSameTree a b
+same_tree a b same = (ap tree same.0, same.1)
+
+left_tree : (a b : Session) (cause : Option Cause) → LeftIfAny a b cause → IsSameTree a b
+left_tree a b None same = same_tree a b (ap (λ (s : Session). s.file) same, ap (λ (s : Session). s.answers.items) same)
+left_tree a b (Some Refused) left = same_tree a b left
+left_tree a b (Some Condition) left = same_tree a b left
+left_tree a b (Some Form) left = same_tree a b left
+left_tree a b (Some Memory) left = left
+
+left_same : (a b : Session) (cause : Option Cause) → (cause ≡ Some Memory → ⊥) → LeftIfAny a b cause → IsSame a b
+left_same a b None other same = (ap (λ (s : Session). s.file) same, ap (λ (s : Session). s.answers.items) same)
+left_same a b (Some Refused) other left = left
+left_same a b (Some Condition) other left = left
+left_same a b (Some Form) other left = left
+left_same a b (Some Memory) other left = absurd (other refl)
+
+-- what lines did to the session that is open
+pub made_tree : (b a : Kept) (taken : ℕ) (cause : Option Cause) (before after : Option Kept) → before ≡ Some b → after ≡ Some a
+    → MadeAll b.session taken cause a.session → Made before taken IsSameTree after
+made_tree b a taken cause before after is_before is_after made =
+    rw (is_before, is_after) (made.0, made.1, left_tree made.0 a.session cause made.2)
+
+-- the same where memory was not refused
+pub made_exact : (b a : Kept) (taken : ℕ) (cause : Option Cause) (before after : Option Kept) → before ≡ Some b → after ≡ Some a → (cause ≡ Some Memory → ⊥)
+    → MadeAll b.session taken cause a.session → Made before taken IsSame after
+made_exact b a taken cause before after is_before is_after other made =
+    rw (is_before, is_after) (made.0, made.1, left_same made.0 a.session cause other made.2)

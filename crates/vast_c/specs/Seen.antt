@@ -1,5 +1,7 @@
 -- What C sees of a session, `None` where it is not open.
-use Rattle.std.specs.Prelude.{◌≡◌, ℕ, List, [], ◌∷◌, ◌++◌, length, take, drop, Option, None, Some, string_bytes, unwrap_or}
+use Rattle.std.specs.Prelude.{◌≡◌, ℕ, List, [], ◌∷◌, ◌++◌, length, take, drop}
+use Rattle.std.specs.Prelude.{Option, None, Some, String, string_bytes, unwrap_or}
+use Rattle.std.specs.declared.alloc.Global.{Global}
 use Rattle.vast_core.specs.Bench.{start}
 use Rattle.vast_core.specs.FileTree.{tree}
 use Rattle.vast_literal.specs.declared.kind.VastFileType.{VastFileType}
@@ -32,13 +34,23 @@ abbrev pub Gave : (before : Session) → List Given → (after : Session) → Ty
 Gave before [] after = after ≡ before
 Gave before (given ∷ more) after = (between : Session) × Gives before between given × Gave between more after
 
+-- One line gave something.
+abbrev pub GaveOne : (before after : Session) → Type 0
+GaveOne before after = (given : Given) × Gives before after given
+
+-- Lines of this number gave what they gave.
+abbrev pub GaveSome : (before : Session) → ℕ → (after : Session) → Type 0
+GaveSome before taken after = (given : List Given) × (length given ≡ taken) × Gave before given after
+
 -- So many lines gave what they gave, and the next one, if there was one, nothing.
 abbrev pub MadeAll : (before : Session) → ℕ → Option Cause → (after : Session) → Type 0
-MadeAll before taken cause after = (between : Session) × (given : List Given) × (length given ≡ taken) × Gave before given between × LeftIfAny between after cause
+MadeAll before taken cause after =
+    (between : Session) × GaveSome before taken between × LeftIfAny between after cause
 
 -- So many lines gave what they gave to the session that is open, and since then it is the same but for what Same leaves out.
-abbrev pub Made : (before : Option Kept) → ℕ → (Same : Session → Session → Type 0) → (after : Option Kept) → Type 0
-Made (Some before) taken Same (Some after) = (between : Session) × (given : List Given) × (length given ≡ taken) × Gave before.session given between × Same between after.session
+abbrev pub Made : Option Kept → ℕ → (Same : Session → Session → Type 0) → Option Kept → Type 0
+Made (Some before) taken Same (Some after) =
+    (between : Session) × GaveSome before.session taken between × Same between after.session
 Made None taken Same None = taken ≡ 0
 Made _ taken Same _ = ⊥
 
@@ -107,6 +119,9 @@ IsFresh dialect None = ⊥
 IsFresh dialect (Some kept) = (kept.session.file ≡ start dialect 1) × (kept.session.answers.items ≡ [])
 
 -- The text is that of the session.
+abbrev pub IsPrinted : Session → String Global → Type 0
+IsPrinted session file = IsTextOf (tree session.file) (string_bytes file)
+
 abbrev pub Printed : (before after : Option Kept) → Type 0
-Printed (Some before) (Some after) = IsTextOf (tree before.session.file) (string_bytes after.file)
+Printed (Some before) (Some after) = IsPrinted before.session after.file
 Printed _ _ = ⊥

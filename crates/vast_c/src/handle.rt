@@ -30,7 +30,7 @@ unsafe impl Send for Handle {}
 impl Handle {
     /// Takes the session out, and leaves null.
     pub(crate) fn take(&mut self, alloc: Global) -> Option<Box<Kept>>
-        ensures kept { MatchOption result (self.old.kept ≡ None) (λ b. self.old.kept ≡ Some b.value) }
+        ensures had { MatchOption result (self.old.kept ≡ None) (λ b. self.old.kept ≡ Some b.value) }
         ensures closed { self.new.kept ≡ None }
     {
         replace(self, Handle::closed(alloc)).into_box()
@@ -53,7 +53,7 @@ impl Handle {
         Some(kept.into_box())
     }
 
-    // The three functions below only move what is owned, and call nothing. Each is proved by a walk.
+    // The three functions below move what is owned, and call nothing. Each is proved by a walk.
     fn closed(alloc: Global) -> Handle
         ensures { result.kept ≡ None }
     {
@@ -88,7 +88,7 @@ impl Handle {
     }
 }
 
-// What is handed to C may go to another thread: the proof of `Send` is asked for at the call of this.
+// What is handed to C may go to another thread: a call of this asks for the proof of `Send`.
 fn crosses<T: Send>(value: T) -> T
     ensures { result ≡ value }
 {

@@ -1,14 +1,13 @@
 //! What C keeps by its pointer: a session, and what was told of it last.
 
-ghost use Rattle.std.specs.Prelude.{◌≡◌, ◌<◌, [], IfErr, IfOk, OnErr, IsSome, None, length, string_bytes};
+ghost use Rattle.std.specs.Prelude.{◌≡◌, ◌<◌, [], IfErr, IfOk, OnErr, IsSome, None};
+ghost use Rattle.std.specs.Prelude.{length};
 ghost use Rattle.vast_core.specs.Bench.{start};
-ghost use Rattle.vast_core.specs.FileTree.{tree};
-ghost use Rattle.vast_list.specs.Session.{Gives, IsLeft, IsTextOf};
-ghost use Rattle.vast_list.specs.declared.session.Given.{Given as AnyGiven};
+ghost use Rattle.vast_list.specs.Session.{IsLeft};
 ghost use Rattle.vast_list.specs.declared.session.Session.{Session as AnySession};
 ghost use Rattle.vast_c.specs.declared.kept.Cause.TheVariants.{Memory};
 ghost use Rattle.vast_c.specs.Lines.{lines_of};
-ghost use Rattle.vast_c.specs.Seen.{LeftBy, MadeAll};
+ghost use Rattle.vast_c.specs.Seen.{GaveOne, IsPrinted, LeftBy, MadeAll};
 
 use crate::lines::first_line;
 use std::alloc::Global;
@@ -103,7 +102,7 @@ impl Kept {
     /// # Errors
     /// A refusal of the text, and want of memory; the text of before stays.
     pub(crate) fn print(&mut self) -> Result<(), Cause>
-        ensures printed { IfOk result (λ _. IsTextOf (tree self.old.session.file) (string_bytes self.new.file)) }
+        ensures printed { IfOk result (λ _. IsPrinted self.old.session self.new.file) }
         ensures session { self.new.session ≡ self.old.session }
         ensures unchanged { OnErr result (self.new.file ≡ self.old.file) }
     {
@@ -119,7 +118,7 @@ impl Kept {
 
     /// Makes the call of one line.
     fn make_line(&mut self, line: &[u8]) -> Result<(), Cause>
-        ensures given { IfOk result (λ _. (given : AnyGiven) × Gives self.old.session self.new.session given) }
+        ensures given { IfOk result (λ _. GaveOne self.old.session self.new.session) }
         ensures left { IfErr result (λ cause. LeftBy self.old.session self.new.session cause) }
     {
         let number = self.lines.saturating_add(1);

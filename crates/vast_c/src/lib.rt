@@ -3,12 +3,14 @@
 //! A session is held by a pointer, which is null before `vast_open` and after `vast_close`.
 #![tactic(auto)]
 
-ghost use Rattle.std.specs.Prelude.{◌≡◌, ◌<◌, ◌⊎◌, ◌↔◌, ℕ, Option, Some, None, length, take, [], IfSome};
+ghost use Rattle.std.specs.Prelude.{◌≡◌, ◌≢◌, ◌<◌, ◌↔◌, Some, None, length};
 ghost use Rattle.vast_list.specs.Session.{IsSame};
 ghost use Rattle.vast_literal.specs.declared.kind.VastFileType.TheVariants.{Verilog, SystemVerilog};
 ghost use Rattle.vast_c.specs.declared.kept.Cause.TheVariants.{Memory};
 ghost use Rattle.vast_c.specs.Lines.{lines_of};
-ghost use Rattle.vast_c.specs.Seen.{answer_in, call_in, column_in, Copied, file_in, IsFresh, IsSameTree, line_in, Made, message_in, Printed, session_in, words_in};
+ghost use Rattle.vast_c.specs.Seen.{Copied, IsFresh, IsSameTree, Made, Printed};
+ghost use Rattle.vast_c.specs.Seen.{answer_in, call_in, column_in, file_in, line_in, message_in};
+ghost use Rattle.vast_c.specs.Seen.{session_in, words_in};
 
 mod handle;
 mod kept;
@@ -73,9 +75,9 @@ pub const COLUMN: i32 = 2;
 #[unsafe(no_mangle)]
 pub extern "C" fn vast_open(alloc: Global, handle: &mut Handle, dialect: i32) -> i32
     ensures verilog { result ≡ OK → dialect ≡ VERILOG → IsFresh Verilog handle.new.kept }
-    ensures systemverilog { result ≡ OK → dialect ≡ SYSTEMVERILOG → IsFresh SystemVerilog handle.new.kept }
-    ensures dialect { result ≡ NO_DIALECT ↔ ¬ (dialect ≡ VERILOG) × ¬ (dialect ≡ SYSTEMVERILOG) }
-    ensures unchanged { ¬ (result ≡ OK) → handle.new.kept ≡ handle.old.kept }
+    ensures other { result ≡ OK → dialect ≡ SYSTEMVERILOG → IsFresh SystemVerilog handle.new.kept }
+    ensures dialect { result ≡ NO_DIALECT ↔ (dialect ≢ VERILOG) × (dialect ≢ SYSTEMVERILOG) }
+    ensures unchanged { result ≢ OK → handle.new.kept ≡ handle.old.kept }
 {
     let dialect = match dialect {
         VERILOG => VastFileType::Verilog,
@@ -99,9 +101,9 @@ pub extern "C" fn vast_lines(
 ) -> i32
     ensures closed { result ≡ NOT_OPEN ↔ handle.old.kept ≡ None }
     ensures made { Made handle.old.kept taken.new IsSameTree handle.new.kept }
-    ensures exact { ¬ (result ≡ MEMORY) → Made handle.old.kept taken.new IsSame handle.new.kept }
+    ensures exact { result ≢ MEMORY → Made handle.old.kept taken.new IsSame handle.new.kept }
     ensures all { result ≡ OK → taken.new ≡ length (lines_of lines.now) }
-    ensures fault { ¬ (result ≡ OK) → ¬ (result ≡ NOT_OPEN) → taken.new < length (lines_of lines.now) }
+    ensures fault { result ≢ OK → result ≢ NOT_OPEN → taken.new < length (lines_of lines.now) }
 {
     let Some(mut kept) = handle.take(alloc) else {
         *taken = 0;
@@ -117,9 +119,9 @@ pub extern "C" fn vast_lines(
 }
 
 fn status(cause: Cause) -> i32
-    ensures memory { result ≡ MEMORY → cause ≡ Memory }
-    ensures ok { ¬ (result ≡ OK) }
-    ensures open { ¬ (result ≡ NOT_OPEN) }
+    ensures memory { cause ≡ Memory → result ≡ MEMORY }
+    ensures ok { result ≢ OK }
+    ensures open { result ≢ NOT_OPEN }
 {
     match cause {
         Cause::Refused => REFUSED,
@@ -147,7 +149,7 @@ pub extern "C" fn vast_print(alloc: Global, handle: &mut Handle) -> i32
     }
 }
 
-/// Copies the start of a text, as much as fits, and answers the length of all of it; 0 where there is none.
+/// Copies the start of a text, as much as fits, and answers the length of all of it.
 #[unsafe(no_mangle)]
 pub extern "C" fn vast_text(alloc: Global, handle: &mut Handle, text: i32, out: &mut [u8]) -> usize
     ensures answer { text ≡ ANSWER → Copied (answer_in handle.old.kept) out.old out.new result }
@@ -190,7 +192,7 @@ fn copy_start(text: &[u8], out: &mut [u8]) -> usize
     text.len()
 }
 
-/// A number of the session: how many handles it has answered, and where its last fault is; 0 where there is none.
+/// How many handles the session has answered, or where its last fault is; 0 where there is none.
 #[unsafe(no_mangle)]
 pub extern "C" fn vast_number(alloc: Global, handle: &mut Handle, number: i32) -> usize
     ensures line { number ≡ LINE → result ≡ line_in handle.old.kept }

@@ -17,10 +17,12 @@ loop-rest-preserved c =
 
 pub returns-clause-made : goal.returns-clause-made
 returns-clause-made c =
-    let gave = c.loop-rest.invariant.gave in
-    (c.loop-rest.self.session, gave.0, gave.1, gave.2, refl)
+    (c.loop-rest.self.session, c.loop-rest.invariant.gave, refl)
 
 pub returns-clause-all : goal.returns-clause-all
 returns-clause-all c = λ _.
     let left : length (drop c.loop-rest.taken (lines_of c.args.lines.now)) ≡ 0 = ap length (c.loop-rest.invariant.behind ∙ no_lines c.loop-rest.rest.now (sym c.loop-rest-test.false ∙ c.is_empty.ensures)) in
     omega (arith, left, length-drop c.loop-rest.taken (lines_of c.args.lines.now), c.loop-rest.invariant.within)
+
+pub returns-in-Err-clause-made : goal.returns-in-Err-clause-made
+returns-in-Err-clause-made c = (c.loop-rest.self.session, c.loop-rest.invariant.gave, c.in-Err.ensures.left)
