@@ -1,14 +1,14 @@
 -- A text of JSON: what each character adds, and that a reader gets the content back.
-use Rattle.std.proofs.Common.{◌≡◌, ℕ, ◌+◌, ◌-◌, ◌*◌, ◌/◌, ◌%◌, ◌<◌, ◌≤◌, List, [], ◌∷◌, ◌++◌, Bool, true, false, cond, ◌&&◌, refl, sym, ap, ◌∙◌, append_assoc, arith, ⊎_elim, eqb, eqb-true, ltb, leb, length, mod-lt, lit<}
+use Rattle.std.proofs.Common.{◌≡◌, ℕ, ◌+◌, ◌*◌, ◌/◌, ◌%◌, ◌<◌, ◌≤◌, List, [], ◌∷◌, ◌++◌, Bool, true, false, cond, refl, sym, ap, ◌∙◌, append_assoc, arith, ⊎_elim, eqb, eqb-true, ltb, length, mod-lt, lit<}
 use Rattle.std.proofs.lemmas.Bool.Decides.{nat_tests}
 use Rattle.std.specs.Prelude.{◌≢◌, ◌⊎◌}
 use Rattle.std.proofs.lemmas.Bool.{le-ltb, lt-ltb, cases_lt, ne_eqb}
 use Rattle.std.specs.Prelude.{encode_utf8}
 use lib.Utf8.{encode, next}
 use Rattle.std.specs.List.{flat_map}
-use Rattle.vast_list.specs.Json.{escaped, code_escape, json_text, read_on, json_read, behind, Reading, hex_digit, hex_value, is_hex}
+use Rattle.vast_list.specs.Json.{escaped, code_escape, json_text, read_on, json_read, behind, hex_digit, hex_value, is_hex}
 use Rattle.vast_list.specs.Json.Escape.{Outside}
-use Rattle.vast_list.specs.Json.Reading.{NoText, TextThen}
+use Rattle.vast_list.specs.Json.Reading.{TextThen}
 use Rattle.std.proofs.lemmas.List.Concat.{flat_map-append}
 use mathlib.Core.List.{append-nil}
 use Rattle.std.specs.Char.{is_ascii_control}
