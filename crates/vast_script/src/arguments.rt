@@ -39,11 +39,7 @@ pub(crate) fn found<A: Argument>(answers: &[Answer], number: usize) -> Result<A,
 
 /// One argument, which is the file's.
 #[tactic(auto, unfolding(crate::specs::Arguments::one))]
-pub fn one<A: Argument>(
-    file: &VastFile,
-    answers: &[Answer],
-    number: usize,
-) -> Result<A, StepFault>
+pub fn one<A: Argument>(file: &VastFile, answers: &[Answer], number: usize) -> Result<A, StepFault>
     ensures finds { Finds result (one A.kind file.now answers.now number) }
     ensures owned { IfOk result (λ x. A.owned file.now x) }
 {

@@ -27,8 +27,8 @@ mod types;
 
 pub use answer::Answer;
 pub use arguments::{Argument, one};
-pub use lists::many;
 pub use fault::{ScriptFault, StepFault};
+pub use lists::many;
 pub use script::{replay, replay_step};
 pub use step::{
     ArtifactStep, ExpressionStep, LoopStep, ModuleStep, OperatorStep, StatementStep, Step, TypeStep,

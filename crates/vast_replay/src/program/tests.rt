@@ -126,7 +126,8 @@ fn lists_around_a_bad_line_are_answered(rt: HostRuntime) {
 
 #[test]
 fn a_list_is_a_line_of_json(rt: HostRuntime) {
-    let list = b"verilog\nm = AddModule \"m\"\nt = MakeScalarType\nAddWire m \"a\" t\n?ModuleName m\n?ModuleMemberCount m\n";
+    let list =
+        b"verilog\nm = AddModule \"m\"\nt = MakeScalarType\nAddWire m \"a\" t\n?ModuleName m\n?ModuleMemberCount m\n";
     let ran = ran(rt.alloc(), Form::Json, Tries::Once, list);
     let wanted =
         r#"{"source":"a.list","title":null,"line":1,"verdict":"made","answers":[{"line":5,"call":"?ModuleName","answer":"m"},{"line":6,"call":"?ModuleMemberCount","answer":1}],"faults":[],"more":0,"text":"module m;\n  wire a;\nendmodule\n"}"#;
