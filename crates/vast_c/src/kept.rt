@@ -5,13 +5,12 @@ ghost use Rattle.std.specs.Prelude.{length};
 ghost use Rattle.vast_core.specs.Bench.{start};
 ghost use Rattle.vast_list.specs.Session.{IsLeft};
 ghost use Rattle.vast_list.specs.declared.session.Session.{Session as AnySession};
-ghost use Rattle.vast_c.specs.declared.kept.Cause.TheVariants.{Memory};
 ghost use Rattle.vast_c.specs.Lines.{lines_of};
 ghost use Rattle.vast_c.specs.Seen.{GaveOne, IsPrinted, LeftBy, MadeAll};
 
 use crate::lines::first_line;
 use std::alloc::Global;
-use vast_list::{Fault, Given, LineFault, Session, Value};
+use vast_list::{Fault, Given, LineFault, Session};
 use vast_script::StepFault;
 use xlsynth_vast::VastFileType;
 
@@ -124,7 +123,10 @@ impl Kept {
         let number = self.lines.saturating_add(1);
         match self.session.line(number, line) {
             Ok(Given::Answer { value, .. }) => {
-                self.answer = text_of(*self.answer.allocator(), value)?;
+                let Ok(answer) = format!(in *self.answer.allocator(); "{value}") else {
+                    return Err(Cause::Memory);
+                };
+                self.answer = answer;
                 self.lines = number;
                 Ok(())
             }
@@ -152,19 +154,6 @@ impl Kept {
         let cause = cause_of(&fault);
         self.told = Some(Told { message, fault });
         cause
-    }
-}
-
-/// The answer's text. One that is a text already takes no memory.
-fn text_of(alloc: Global, value: Value) -> Result<String, Cause>
-    ensures { IfErr result (λ cause. cause ≡ Memory) }
-{
-    if let Value::Text(text) = value {
-        return Ok(text);
-    }
-    match format!(in alloc; "{value}") {
-        Ok(text) => Ok(text),
-        Err(_) => Err(Cause::Memory),
     }
 }
 
