@@ -38,13 +38,18 @@ pub(crate) enum Shadow<'t> {
 
 impl<'t> Build<'t> for Unbuilt {
     type Expr = Snapshot<Shadow<'t>>;
+
     type Parts = Snapshot<Shadow<'t>>;
+
     type Word = Snapshot<&'t str>;
 
     ghost use Rattle.vast_read.specs.Readings.{tree_of, trees_of};
 
-    ghost sees = { record { tree = λ x. tree_of x.value; trees = λ x. trees_of x.value;
-        text = λ w. w.value.now } };
+    ghost sees = { record {
+      tree = λ x. tree_of x.value;
+      trees = λ x. trees_of x.value;
+      text = λ w. w.value.now;
+    } };
 
     fn word(_alloc: Global, text: &'t str) -> Result<Snapshot<&'t str>, Fault> {
         Ok(Snapshot::of(&text))

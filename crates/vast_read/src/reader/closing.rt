@@ -5,8 +5,8 @@ ghost use Rattle.vast_read.specs.Steps.{part_at};
 ghost use Rattle.vast_read.specs.Answers.{ReadsAs};
 ghost use Rattle.vast_read.specs.Machine.{finished, load, resumed, then_primary, Keeps, Leaves};
 
-use crate::fault::Fault;
 use crate::build::Build;
+use crate::fault::Fault;
 use crate::machine::{Head, State, Waiting, Waits};
 use crate::reader::Reader;
 use crate::token::{Key, Mark};
@@ -36,7 +36,9 @@ impl<'t> Reader<'t> {
             }
             Waiting::Paren => self.close_paren::<B>(stack, whole),
             Waiting::Index(subject) => self.close_index::<B>(stack, subject, whole),
-            Waiting::Slice(subject, high) => State::primary(self.close_slice::<B>(subject, high, whole)),
+            Waiting::Slice(subject, high) => State::primary(self.close_slice::<B>(
+                subject, high, whole,
+            )),
             Waiting::Cast(head) => State::primary(self.close_cast::<B>(head, whole)),
             Waiting::PackageCast(scope, name) => {
                 State::primary(self.close_package::<B>(scope, name, whole))
@@ -115,7 +117,11 @@ impl<'t> Reader<'t> {
 
     /// Ends a cast by a keyword.
     #[tactic(auto, using(crate::proofs::Loops::key_casts))]
-    pub(crate) fn close_word<B: Build<'t>>(&mut self, key: Key, operand: B::Expr) -> Result<B::Expr, Fault>
+    pub(crate) fn close_word<B: Build<'t>>(
+        &mut self,
+        key: Key,
+        operand: B::Expr,
+    ) -> Result<B::Expr, Fault>
         ensures reads { ReadsAs B.sees.tree result self.new
             (finished B.sees (Waiting.WordCast key) (B.sees.tree operand) self.old) }
         ensures fewer { length self.new ≤ length self.old }
