@@ -10,16 +10,16 @@ ghost use Rattle.vast_read.specs.TokenView.{sign_view, key_view};
 mod trees;
 mod unbuilt;
 
-pub(crate) use trees::Trees;
-pub(crate) use unbuilt::Unbuilt;
-
 use crate::fault::Fault;
 use crate::token::{Key, Sign};
 use std::alloc::Global;
+pub(crate) use trees::Trees;
+pub(crate) use unbuilt::Unbuilt;
 
 /// What a reader of expressions makes of what it reads, from texts that live for `'t`.
 ///
-/// `sees` is the tree that what was made stands for. Each maker fails where memory is refused, and for nothing else.
+/// `sees` is the tree that what was made stands for. Each maker fails where memory is refused, and
+/// for nothing else.
 pub(crate) trait Build<'t> {
     /// What is made of an expression.
     type Expr: Drop;
@@ -153,11 +153,7 @@ pub(crate) trait Build<'t> {
         ensures err { IfErr result (λ e. e ≡ Memory) };
 
     /// A list with its count before it.
-    fn replicated(
-        alloc: Global,
-        count: Self::Expr,
-        parts: Self::Parts,
-    ) -> Result<Self::Expr, Fault>
+    fn replicated(alloc: Global, count: Self::Expr, parts: Self::Parts) -> Result<Self::Expr, Fault>
         ensures ok { IfOk result (λ x. sees.tree x
             ≡ NormalReplicated (sees.tree count) (sees.trees parts)) }
         ensures err { IfErr result (λ e. e ≡ Memory) };

@@ -13,7 +13,9 @@ pub(crate) struct Trees;
 
 impl<'t> Build<'t> for Trees {
     type Expr = NormalExpr;
+
     type Parts = Children<NormalExpr>;
+
     type Word = Word;
 
     ghost use Rattle.vast_read.specs.Readings.{trees};

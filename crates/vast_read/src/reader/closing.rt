@@ -5,8 +5,8 @@ ghost use Rattle.vast_read.specs.Steps.{part_at};
 ghost use Rattle.vast_read.specs.Answers.{ReadsAs};
 ghost use Rattle.vast_read.specs.Machine.{finished, load, resumed, then_primary, Keeps, Leaves};
 
-use crate::fault::Fault;
 use crate::build::Build;
+use crate::fault::Fault;
 use crate::machine::{Head, State, Waiting, Waits};
 use crate::reader::Reader;
 use crate::token::{Key, Mark};
@@ -36,7 +36,9 @@ impl<'t> Reader<'t> {
             }
             Waiting::Paren => self.close_paren::<B>(stack, whole),
             Waiting::Index(subject) => self.close_index::<B>(stack, subject, whole),
-            Waiting::Slice(subject, high) => State::primary(self.close_slice::<B>(subject, high, whole)),
+            Waiting::Slice(subject, high) => State::primary(self.close_slice::<B>(
+                subject, high, whole,
+            )),
             Waiting::Cast(head) => State::primary(self.close_cast::<B>(head, whole)),
             Waiting::PackageCast(scope, name) => {
                 State::primary(self.close_package::<B>(scope, name, whole))
@@ -57,7 +59,8 @@ impl<'t> Reader<'t> {
         consequent: B::Expr,
     ) -> Result<State<B::Expr>, Fault>
         ensures keeps { Keeps B.sees result stack.new self.new
-            (resumed B.sees (Waiting.Then condition ∷ stack.old) (B.sees.tree consequent) self.old) }
+            (resumed B.sees (Waiting.Then condition ∷ stack.old)
+            (B.sees.tree consequent) self.old) }
         ensures less { Leaves (load stack.old self.old + 2) result stack.new self.new }
         ensures fewer { length self.new ≤ length self.old }
     {
@@ -115,7 +118,11 @@ impl<'t> Reader<'t> {
 
     /// Ends a cast by a keyword.
     #[tactic(auto, using(crate::proofs::Loops::key_casts))]
-    pub(crate) fn close_word<B: Build<'t>>(&mut self, key: Key, operand: B::Expr) -> Result<B::Expr, Fault>
+    pub(crate) fn close_word<B: Build<'t>>(
+        &mut self,
+        key: Key,
+        operand: B::Expr,
+    ) -> Result<B::Expr, Fault>
         ensures reads { ReadsAs B.sees.tree result self.new
             (finished B.sees (Waiting.WordCast key) (B.sees.tree operand) self.old) }
         ensures fewer { length self.new ≤ length self.old }
@@ -132,7 +139,8 @@ impl<'t> Reader<'t> {
         inner: B::Expr,
     ) -> Result<State<B::Expr>, Fault>
         ensures keeps { Keeps B.sees result stack.new self.new
-            (then_primary B.sees stack.old (finished B.sees Waiting.Paren (B.sees.tree inner) self.old)) }
+            (then_primary B.sees stack.old
+            (finished B.sees Waiting.Paren (B.sees.tree inner) self.old)) }
         ensures less { Leaves (load stack.old self.old + 2) result stack.new self.new }
         ensures fewer { length self.new ≤ length self.old }
     {
@@ -153,7 +161,8 @@ impl<'t> Reader<'t> {
         index: B::Expr,
     ) -> Result<State<B::Expr>, Fault>
         ensures keeps { Keeps B.sees result stack.new self.new
-            (then_primary B.sees stack.old (finished B.sees (Waiting.Index subject) (B.sees.tree index) self.old)) }
+            (then_primary B.sees stack.old
+            (finished B.sees (Waiting.Index subject) (B.sees.tree index) self.old)) }
         ensures less { Leaves (load stack.old self.old + 2) result stack.new self.new }
         ensures fewer { length self.new ≤ length self.old }
     {
@@ -177,7 +186,8 @@ impl<'t> Reader<'t> {
         first: B::Expr,
     ) -> Result<State<B::Expr>, Fault>
         ensures keeps { Keeps B.sees result stack.new self.new
-            (then_primary B.sees stack.old (finished B.sees Waiting.Brace (B.sees.tree first) self.old)) }
+            (then_primary B.sees stack.old
+            (finished B.sees Waiting.Brace (B.sees.tree first) self.old)) }
         ensures less { Leaves (load stack.old self.old + 2) result stack.new self.new }
         ensures fewer { length self.new ≤ length self.old }
     {
@@ -199,7 +209,8 @@ impl<'t> Reader<'t> {
         part: B::Expr,
     ) -> Result<State<B::Expr>, Fault>
         ensures keeps { Keeps B.sees result stack.new self.new
-            (then_primary B.sees stack.old (finished B.sees (Waiting.List head parts) (B.sees.tree part) self.old)) }
+            (then_primary B.sees stack.old
+            (finished B.sees (Waiting.List head parts) (B.sees.tree part) self.old)) }
         ensures less { Leaves (load stack.old self.old + 2) result stack.new self.new }
         ensures fewer { length self.new ≤ length self.old }
     {

@@ -3,8 +3,8 @@
 ghost use Rattle.std.specs.Prelude.{◌≡◌, ℕ, ◌+◌, ◌*◌, ◌<◌, ◌≤◌, length, IfOk};
 ghost use Rattle.vast_read.specs.Machine.{asked_then, load, meaning, operand_then, primary_then, work, Keeps, Leaves};
 
-use crate::fault::Fault;
 use crate::build::Build;
+use crate::fault::Fault;
 use crate::machine::{Binding, State, Waiting, Waits};
 use crate::reader::Reader;
 use crate::token::Mark;
@@ -12,7 +12,10 @@ use crate::token::Mark;
 impl<'t> Reader<'t> {
     /// Begins an operand.
     #[tactic(auto, using(crate::proofs::Loops::begins))]
-    pub(crate) fn begin<B: Build<'t>>(&mut self, stack: &mut Waits<'t, B>) -> Result<State<B::Expr>, Fault>
+    pub(crate) fn begin<B: Build<'t>>(
+        &mut self,
+        stack: &mut Waits<'t, B>,
+    ) -> Result<State<B::Expr>, Fault>
         ensures keeps { Keeps B.sees result stack.new self.new
             (meaning B.sees State.Due stack.old self.old) }
         ensures less { IfOk result (λ s. work s stack.new self.new < load stack.old self.old) }

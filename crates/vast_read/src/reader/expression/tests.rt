@@ -8,12 +8,19 @@ use std::alloc::{AllocError, Global};
 const MANY: u32 = 100_000;
 
 const OPEN: Token<'static> = Token::Mark(Mark::OpenParen);
+
 const CLOSE: Token<'static> = Token::Mark(Mark::CloseParen);
+
 const TICK: Token<'static> = Token::Mark(Mark::Apostrophe);
+
 const OPEN_BRACE: Token<'static> = Token::Mark(Mark::OpenBrace);
+
 const CLOSE_BRACE: Token<'static> = Token::Mark(Mark::CloseBrace);
+
 const OPEN_BRACKET: Token<'static> = Token::Mark(Mark::OpenBracket);
+
 const CLOSE_BRACKET: Token<'static> = Token::Mark(Mark::CloseBracket);
+
 const ONE: Token<'static> = Token::Number("1");
 
 /// The first tokens, `a`, and the others, the first and the others so many times.
@@ -76,21 +83,30 @@ fn sums(rt: HostRuntime) {
 #[test]
 fn sums_on_the_right(rt: HostRuntime) {
     let plus = Token::Operator(Sign::Plus);
-    assert_eq!(rt; spells(rt.alloc(), &[ONE, plus, OPEN], &[CLOSE]), Some(true));
+    assert_eq!(rt;
+        spells(rt.alloc(), &[ONE, plus, OPEN], &[CLOSE]),
+        Some(true)
+    );
 }
 
 #[test]
 fn choices(rt: HostRuntime) {
     let question = Token::Mark(Mark::Question);
     let colon = Token::Mark(Mark::Colon);
-    assert_eq!(rt; spells(rt.alloc(), &[ONE, question, ONE, colon], &[]), Some(true));
+    assert_eq!(rt;
+        spells(rt.alloc(), &[ONE, question, ONE, colon], &[]),
+        Some(true)
+    );
 }
 
 #[test]
 fn choices_in_the_middle(rt: HostRuntime) {
     let question = Token::Mark(Mark::Question);
     let colon = Token::Mark(Mark::Colon);
-    assert_eq!(rt; spells(rt.alloc(), &[ONE, question], &[colon, ONE]), Some(true));
+    assert_eq!(rt;
+        spells(rt.alloc(), &[ONE, question], &[colon, ONE]),
+        Some(true)
+    );
 }
 
 #[test]
@@ -101,21 +117,37 @@ fn selects(rt: HostRuntime) {
 
 #[test]
 fn selects_within(rt: HostRuntime) {
-    assert_eq!(rt; spells(rt.alloc(), &[Token::Word("b"), OPEN_BRACKET], &[CLOSE_BRACKET]), Some(true));
+    assert_eq!(rt;
+        spells(
+            rt.alloc(),
+            &[Token::Word("b"), OPEN_BRACKET],
+            &[CLOSE_BRACKET]
+        ),
+        Some(true)
+    );
 }
 
 #[test]
 fn casts(rt: HostRuntime) {
     let signed = Token::Reserved(Key::Signed);
-    assert_eq!(rt; spells(rt.alloc(), &[signed, TICK, OPEN], &[CLOSE]), Some(true));
+    assert_eq!(rt;
+        spells(rt.alloc(), &[signed, TICK, OPEN], &[CLOSE]),
+        Some(true)
+    );
 }
 
 #[test]
 fn calls(rt: HostRuntime) {
-    assert_eq!(rt; spells(rt.alloc(), &[Token::Word("f"), OPEN], &[CLOSE]), Some(true));
+    assert_eq!(rt;
+        spells(rt.alloc(), &[Token::Word("f"), OPEN], &[CLOSE]),
+        Some(true)
+    );
 }
 
 #[test]
 fn braces(rt: HostRuntime) {
-    assert_eq!(rt; spells(rt.alloc(), &[OPEN_BRACE], &[CLOSE_BRACE]), Some(true));
+    assert_eq!(rt;
+        spells(rt.alloc(), &[OPEN_BRACE], &[CLOSE_BRACE]),
+        Some(true)
+    );
 }
