@@ -18,7 +18,8 @@ pub(crate) use unbuilt::Unbuilt;
 
 /// What a reader of expressions makes of what it reads, from texts that live for `'t`.
 ///
-/// `sees` is the tree that what was made stands for. Each maker fails where memory is refused, and for nothing else.
+/// `sees` is the tree that what was made stands for. Each maker fails where memory is refused, and
+/// for nothing else.
 pub(crate) trait Build<'t> {
     /// What is made of an expression.
     type Expr: Drop;

@@ -9,7 +9,9 @@ use crate::fault::Fault;
 use crate::stack::Stack;
 use crate::token::{Key, Mark, Sign};
 
-/// What waits for an expression. An `E` is what is made of an expression, a `P` of a list of them, and a `W` of a word.
+/// What waits for an expression.
+///
+/// An `E` is what is made of an expression, a `P` of a list of them, and a `W` of a word.
 #[derive(Drop)]
 pub(crate) enum Waiting<E, P, W> {
     /// A sign before its operand.
@@ -119,7 +121,8 @@ impl<E, P, W> Waiting<E, P, W> {
 impl<E> State<E> {
     /// A primary expression stands, where one was made.
     pub(crate) fn primary(read: Result<E, Fault>) -> Result<State<E>, Fault>
-        ensures { MatchResult read (λ x. result ≡ Ok (State.Primary x)) (λ e. result ≡ Err e) }
+        ensures { MatchResult read
+            (λ x. result ≡ Ok (State.Primary x)) (λ e. result ≡ Err e) }
     {
         match read {
             Ok(read) => Ok(State::Primary(read)),
@@ -129,7 +132,8 @@ impl<E> State<E> {
 
     /// An operand stands, where one was made.
     pub(crate) fn operand(read: Result<E, Fault>) -> Result<State<E>, Fault>
-        ensures { MatchResult read (λ x. result ≡ Ok (State.Operand x)) (λ e. result ≡ Err e) }
+        ensures { MatchResult read
+            (λ x. result ≡ Ok (State.Operand x)) (λ e. result ≡ Err e) }
     {
         match read {
             Ok(read) => Ok(State::Operand(read)),
@@ -139,7 +143,8 @@ impl<E> State<E> {
 
     /// What was waited for stands, where it was made.
     pub(crate) fn whole(read: Result<E, Fault>) -> Result<State<E>, Fault>
-        ensures { MatchResult read (λ x. result ≡ Ok (State.Whole x)) (λ e. result ≡ Err e) }
+        ensures { MatchResult read
+            (λ x. result ≡ Ok (State.Whole x)) (λ e. result ≡ Err e) }
     {
         match read {
             Ok(read) => Ok(State::Whole(read)),

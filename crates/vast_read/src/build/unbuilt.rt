@@ -2,11 +2,19 @@
 
 use crate::build::Build;
 use crate::fault::Fault;
+use crate::machine::Waiting;
 use crate::token::{Key, Sign};
 use std::alloc::Global;
+use std::mem::size_of;
 use std::snapshot::Snapshot;
 
-/// Nothing is made of an expression: what stands for it takes no bytes, and only clauses see its tree.
+type Nothing = Snapshot<Shadow<'static>>;
+
+// What waits for an expression takes four bytes at most, where nothing is made of one.
+const _: () = prove!(size_of::<Waiting<Nothing, Nothing, Snapshot<&'static str>>>() <= 4);
+
+/// Nothing is made of an expression: what stands for it takes no bytes, and only clauses see its
+/// tree.
 pub(crate) struct Unbuilt;
 
 /// What clauses see of an expression of which nothing is made, or of a list of them.

@@ -59,7 +59,8 @@ impl<'t> Reader<'t> {
         consequent: B::Expr,
     ) -> Result<State<B::Expr>, Fault>
         ensures keeps { Keeps B.sees result stack.new self.new
-            (resumed B.sees (Waiting.Then condition ∷ stack.old) (B.sees.tree consequent) self.old) }
+            (resumed B.sees (Waiting.Then condition ∷ stack.old)
+            (B.sees.tree consequent) self.old) }
         ensures less { Leaves (load stack.old self.old + 2) result stack.new self.new }
         ensures fewer { length self.new ≤ length self.old }
     {
@@ -138,7 +139,8 @@ impl<'t> Reader<'t> {
         inner: B::Expr,
     ) -> Result<State<B::Expr>, Fault>
         ensures keeps { Keeps B.sees result stack.new self.new
-            (then_primary B.sees stack.old (finished B.sees Waiting.Paren (B.sees.tree inner) self.old)) }
+            (then_primary B.sees stack.old
+            (finished B.sees Waiting.Paren (B.sees.tree inner) self.old)) }
         ensures less { Leaves (load stack.old self.old + 2) result stack.new self.new }
         ensures fewer { length self.new ≤ length self.old }
     {
@@ -159,7 +161,8 @@ impl<'t> Reader<'t> {
         index: B::Expr,
     ) -> Result<State<B::Expr>, Fault>
         ensures keeps { Keeps B.sees result stack.new self.new
-            (then_primary B.sees stack.old (finished B.sees (Waiting.Index subject) (B.sees.tree index) self.old)) }
+            (then_primary B.sees stack.old
+            (finished B.sees (Waiting.Index subject) (B.sees.tree index) self.old)) }
         ensures less { Leaves (load stack.old self.old + 2) result stack.new self.new }
         ensures fewer { length self.new ≤ length self.old }
     {
@@ -183,7 +186,8 @@ impl<'t> Reader<'t> {
         first: B::Expr,
     ) -> Result<State<B::Expr>, Fault>
         ensures keeps { Keeps B.sees result stack.new self.new
-            (then_primary B.sees stack.old (finished B.sees Waiting.Brace (B.sees.tree first) self.old)) }
+            (then_primary B.sees stack.old
+            (finished B.sees Waiting.Brace (B.sees.tree first) self.old)) }
         ensures less { Leaves (load stack.old self.old + 2) result stack.new self.new }
         ensures fewer { length self.new ≤ length self.old }
     {
@@ -205,7 +209,8 @@ impl<'t> Reader<'t> {
         part: B::Expr,
     ) -> Result<State<B::Expr>, Fault>
         ensures keeps { Keeps B.sees result stack.new self.new
-            (then_primary B.sees stack.old (finished B.sees (Waiting.List head parts) (B.sees.tree part) self.old)) }
+            (then_primary B.sees stack.old
+            (finished B.sees (Waiting.List head parts) (B.sees.tree part) self.old)) }
         ensures less { Leaves (load stack.old self.old + 2) result stack.new self.new }
         ensures fewer { length self.new ≤ length self.old }
     {
