@@ -2,54 +2,29 @@
 
 use crate::build::Unbuilt;
 use crate::reader::Reader;
-use crate::token::{Key, Mark, Sign, Token};
 use std::alloc::{AllocError, Global};
 
 const MANY: u32 = 100_000;
 
-const OPEN: Token<'static> = Token::Mark(Mark::OpenParen);
-
-const CLOSE: Token<'static> = Token::Mark(Mark::CloseParen);
-
-const TICK: Token<'static> = Token::Mark(Mark::Apostrophe);
-
-const OPEN_BRACE: Token<'static> = Token::Mark(Mark::OpenBrace);
-
-const CLOSE_BRACE: Token<'static> = Token::Mark(Mark::CloseBrace);
-
-const OPEN_BRACKET: Token<'static> = Token::Mark(Mark::OpenBracket);
-
-const CLOSE_BRACKET: Token<'static> = Token::Mark(Mark::CloseBracket);
-
-const ONE: Token<'static> = Token::Number("1");
-
-/// The first tokens, `a`, and the others, the first and the others so many times.
-fn around(
-    alloc: Global,
-    before: &[Token<'static>],
-    behind: &[Token<'static>],
-) -> Result<Vec<Token<'static>>, AllocError> {
-    let mut tokens = Vec::new(alloc);
+/// The first text, `a`, and the other text, the first and the other so many times.
+fn around(alloc: Global, before: &str, behind: &str) -> Result<String, AllocError> {
+    let mut text = String::new(alloc);
     for _ in 0..MANY {
-        for token in before {
-            tokens.push(*token)?;
-        }
+        text.push_str(before)?;
     }
-    tokens.push(Token::Word("a"))?;
+    text.push('a')?;
     for _ in 0..MANY {
-        for token in behind {
-            tokens.push(*token)?;
-        }
+        text.push_str(behind)?;
     }
-    Ok(tokens)
+    Ok(text)
 }
 
-/// Whether the tokens spell an expression, and nothing more.
-fn spells(alloc: Global, before: &[Token<'static>], behind: &[Token<'static>]) -> Option<bool> {
+/// Whether the text spells an expression, and nothing more.
+fn spells(alloc: Global, before: &str, behind: &str) -> Option<bool> {
     match around(alloc, before, behind) {
         Err(_) => None,
-        Ok(tokens) => {
-            let mut reader = Reader::new(alloc, &tokens);
+        Ok(text) => {
+            let mut reader = Reader::new(alloc, &text);
             match reader.read::<Unbuilt>() {
                 Ok(_) => Some(reader.is_done()),
                 Err(_) => Some(false),
@@ -60,94 +35,60 @@ fn spells(alloc: Global, before: &[Token<'static>], behind: &[Token<'static>]) -
 
 #[test]
 fn parentheses(rt: HostRuntime) {
-    assert_eq!(rt; spells(rt.alloc(), &[OPEN], &[CLOSE]), Some(true));
+    assert_eq!(rt; spells(rt.alloc(), "(", ")"), Some(true));
 }
 
 #[test]
 fn parentheses_that_stay_open(rt: HostRuntime) {
-    assert_eq!(rt; spells(rt.alloc(), &[OPEN], &[]), Some(false));
+    assert_eq!(rt; spells(rt.alloc(), "(", ""), Some(false));
 }
 
 #[test]
 fn signs(rt: HostRuntime) {
-    let minus = Token::Operator(Sign::Minus);
-    assert_eq!(rt; spells(rt.alloc(), &[minus], &[]), Some(true));
+    assert_eq!(rt; spells(rt.alloc(), "- ", ""), Some(true));
 }
 
 #[test]
 fn sums(rt: HostRuntime) {
-    let plus = Token::Operator(Sign::Plus);
-    assert_eq!(rt; spells(rt.alloc(), &[], &[plus, ONE]), Some(true));
+    assert_eq!(rt; spells(rt.alloc(), "", "+1"), Some(true));
 }
 
 #[test]
 fn sums_on_the_right(rt: HostRuntime) {
-    let plus = Token::Operator(Sign::Plus);
-    assert_eq!(rt;
-        spells(rt.alloc(), &[ONE, plus, OPEN], &[CLOSE]),
-        Some(true)
-    );
+    assert_eq!(rt; spells(rt.alloc(), "1+(", ")"), Some(true));
 }
 
 #[test]
 fn choices(rt: HostRuntime) {
-    let question = Token::Mark(Mark::Question);
-    let colon = Token::Mark(Mark::Colon);
-    assert_eq!(rt;
-        spells(rt.alloc(), &[ONE, question, ONE, colon], &[]),
-        Some(true)
-    );
+    assert_eq!(rt; spells(rt.alloc(), "1?1:", ""), Some(true));
 }
 
 #[test]
 fn choices_in_the_middle(rt: HostRuntime) {
-    let question = Token::Mark(Mark::Question);
-    let colon = Token::Mark(Mark::Colon);
-    assert_eq!(rt;
-        spells(rt.alloc(), &[ONE, question], &[colon, ONE]),
-        Some(true)
-    );
+    assert_eq!(rt; spells(rt.alloc(), "1?", ":1"), Some(true));
 }
 
 #[test]
 fn selects(rt: HostRuntime) {
-    let select = [OPEN_BRACKET, ONE, CLOSE_BRACKET];
-    assert_eq!(rt; spells(rt.alloc(), &[], &select), Some(true));
+    assert_eq!(rt; spells(rt.alloc(), "", "[1]"), Some(true));
 }
 
 #[test]
 fn selects_within(rt: HostRuntime) {
-    assert_eq!(rt;
-        spells(
-            rt.alloc(),
-            &[Token::Word("b"), OPEN_BRACKET],
-            &[CLOSE_BRACKET]
-        ),
-        Some(true)
-    );
+    assert_eq!(rt; spells(rt.alloc(), "b[", "]"), Some(true));
 }
 
 #[test]
 fn casts(rt: HostRuntime) {
-    let signed = Token::Reserved(Key::Signed);
-    assert_eq!(rt;
-        spells(rt.alloc(), &[signed, TICK, OPEN], &[CLOSE]),
-        Some(true)
-    );
+    assert_eq!(rt; spells(rt.alloc(), "signed'(", ")"), Some(true));
 }
 
 #[test]
 fn calls(rt: HostRuntime) {
-    assert_eq!(rt;
-        spells(rt.alloc(), &[Token::Word("f"), OPEN], &[CLOSE]),
-        Some(true)
-    );
+    assert_eq!(rt; spells(rt.alloc(), "f(", ")"), Some(true));
 }
 
 #[test]
 fn braces(rt: HostRuntime) {
-    assert_eq!(rt;
-        spells(rt.alloc(), &[OPEN_BRACE], &[CLOSE_BRACE]),
-        Some(true)
-    );
+    assert_eq!(rt; spells(rt.alloc(), "{", "}"), Some(true));
 }
