@@ -10,9 +10,6 @@ ghost use Rattle.vast_read.specs.Steps.{in_parens};
 ghost use Rattle.vast_read.specs.TokenView.{mark_view};
 ghost use Rattle.vast_read.specs.View.{view};
 
-#[cfg(test)]
-mod tests;
-
 use crate::build::{Build, Trees};
 use crate::children::Children;
 use crate::fault::Fault;
