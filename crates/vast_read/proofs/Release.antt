@@ -1,5 +1,5 @@
 -- Rounds of a list whose last item is taken out.
-use Rattle.std.proofs.Common.{ℕ, ◌≡◌, ◌+◌, ◌<◌, ◌≤◌, List, [], ◌∷◌, ◌++◌, Option, Some, None, MatchOption, length, map, arith, ap, ◌∙◌, subst, sym}
+use Rattle.std.proofs.Common.{◌≡◌, ◌+◌, ◌<◌, ◌≤◌, List, [], ◌∷◌, ◌++◌, Option, Some, None, MatchOption, length, map, arith, ap, ◌∙◌, subst, sym}
 use Rattle.std.specs.Prelude.{⊤}
 use Rattle.vast_read.specs.declared.tree.expression.NormalExpr.{NormalExpr}
 use Rattle.vast_read.specs.declared.tree.expression.NormalExpr.TheVariants.{Concat, Replicated, rolls-Concat, rolls-Replicated}

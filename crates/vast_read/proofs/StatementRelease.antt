@@ -1,5 +1,5 @@
 -- Rounds of blocks and arms, the last of which is taken out.
-use Rattle.std.proofs.Common.{ℕ, ◌≡◌, ◌+◌, ◌<◌, ◌≤◌, List, [], ◌∷◌, ◌++◌, Option, Some, None, MatchOption, length, map, arith, ap, ◌∙◌, subst, sym, Bool}
+use Rattle.std.proofs.Common.{ℕ, ◌≡◌, ◌+◌, ◌<◌, ◌≤◌, List, [], ◌∷◌, ◌++◌, Option, Some, None, MatchOption, length, map, arith, ap, ◌∙◌, subst, sym}
 use Rattle.std.specs.Prelude.{option_map}
 use Rattle.vast_read.specs.declared.tree.statement.NormalStatement.{NormalStatement}
 use Rattle.vast_read.specs.declared.tree.statement.NormalStatement.TheVariants.{Choice, Case, rolls-Choice, rolls-Case}
@@ -9,7 +9,7 @@ use Rattle.vast_read.specs.declared.tree.statement.Arm.{Arm}
 use Rattle.vast_read.specs.declared.tree.statement.CaseArm.{CaseArm}
 use Rattle.vast_read.specs.Release.{Rounds, rounds_each, rounds_first_last, of_list}
 use Rattle.vast_read.proofs.Release.{each_last, first_last_last}
-use Rattle.vast_read.specs.StatementRelease.{of_block, of_last, of_choice, statement_step, arm_step, label_step, statement_rounds, arm_rounds, label_rounds, statement_beside, statement_alone, statement_left, block_beside, block_alone, choice_alone}
+use Rattle.vast_read.specs.StatementRelease.{of_block, of_last, of_choice, statement_step, arm_step, label_step, statement_rounds, arm_rounds, label_rounds, statement_beside, statement_alone, block_beside, block_alone, choice_alone}
 
 choice_rounds : (arms : List Arm) (last : Option (List NormalStatement)) → statement_rounds (Choice arms last) ≡ of_choice (map arm_rounds arms) (of_last (option_map (map statement_rounds) last))
 choice_rounds arms None = ap statement_rounds (sym (rolls-Choice arms None)) ∙ fold-roll-NormalStatement Rounds Rounds Rounds statement_step arm_step label_step (NormalStatement-F.Choice arms None)

@@ -1,7 +1,10 @@
 -- What is decided of a text: whether the grammar derives a file from it, and which.
-use Rattle.std.proofs.Common.{◌≡◌, ℕ, List, [], Option, Some, None, Result, Ok, Err, IfOk, IfSome, option_map, refl, ap, subst, arith, ◌∙◌}
+use Rattle.std.proofs.Common.{◌≡◌, ℕ, List, [], Option, Some, None, Result, Ok, Err, IfOk, IfSome, option_map, refl, sym, ap, subst, arith, ◌∙◌}
 use Rattle.vast_literal.specs.Tokens.{Token}
-use Rattle.vast_literal.specs.Scan.{tokens}
+use Rattle.vast_literal.specs.Scan.{Gap}
+use Rattle.vast_read.specs.Lexed.{lex}
+use Rattle.vast_read.proofs.Spellable.{file_used}
+use Rattle.vast_read.proofs.Lexed.{tokens_lexed, tokens_used}
 use Rattle.vast_literal.specs.NormalFile.{NormalFile}
 use Rattle.vast_read.specs.FileView.{file_view}
 use Rattle.vast_read.specs.declared.tree.file.NormalFile as code
@@ -14,32 +17,33 @@ use Rattle.vast_literal.proofs.DerivedOnce.{file_once}
 pub file_spelled : (ts rest : List Token) (x : NormalFile) → settled_file ts ≡ Some (x, rest) → rest ≡ [] → IsFile ts x
 file_spelled ts rest x e d = let s = file_soon ts (x, []) (e ∙ ap (λ (r : List Token). Some (x, r)) d) in file_derived s.from ts x (s.holds s.from (omega arith))
 
-pub text_derives : (text : List ℕ) (ts : List Token) (x : NormalFile) → tokens text ≡ Some ts → IsFile ts x → DerivesFile text x
-text_derives text ts x e d = record { parts = ts; has_parts = e; spelled = d }
+pub text_derives : (text : List ℕ) (x : NormalFile) → IsFile (lex Gap text) x → DerivesFile text x
+text_derives text x d = record { parts = lex Gap text; has_parts = tokens_used text (file_used (lex Gap text) x d); spelled = d }
 
-pub text_without_tokens : (text : List ℕ) → tokens text ≡ None → (x : NormalFile) → DerivesFile text x → ⊥
-text_without_tokens text e x d = let h = d.has_parts in absurd (cc (e, h))
-
-pub text_without_file : (text : List ℕ) (ts : List Token) → tokens text ≡ Some ts → ((x : NormalFile) → IsFile ts x → ⊥) → (x : NormalFile) → DerivesFile text x → ⊥
-text_without_file text ts e n x d = let h = d.has_parts in let c : d.parts ≡ ts = cc in n x (subst (λ us. IsFile us x) c d.spelled)
+pub text_without_file : (text : List ℕ) → ((x : NormalFile) → IsFile (lex Gap text) x → ⊥) → (x : NormalFile) → DerivesFile text x → ⊥
+text_without_file text n x d = n x (subst (λ us. IsFile us x) (sym (tokens_lexed text d.parts d.has_parts)) d.spelled)
 
 -- What is derived is what was read: there is no other.
 
-pub text_read_back : (text : List ℕ) (o : Option code.NormalFile) → IfSome o (λ x. DerivesFile text (file_view x)) →
-    (o ≡ None → (t : NormalFile) → DerivesFile text t → ⊥) → (t : NormalFile) → DerivesFile text t → option_map file_view o ≡ Some t
-text_read_back text (Some x) d n t y = ap (λ (u : NormalFile). Some u) (file_once text (file_view x) t d y)
-text_read_back text None d n t y = absurd (n refl t y)
+module _ {E : Type 0} (text : List ℕ) where
+  abbrev pub Spelled : Result (Option code.NormalFile) E → Type 0
+  Spelled answer = IfOk answer (λ o. IfSome o (λ x. IsFile (lex Gap text) (file_view x)))
 
-pub nothing_read_back : (text : List ℕ) → tokens text ≡ None → (t : NormalFile) → DerivesFile text t → None ≡ Some t
-nothing_read_back text e t y = absurd (text_without_tokens text e t y)
+  abbrev pub Unspelled : Result (Option code.NormalFile) E → Type 0
+  Unspelled answer = IfOk answer (λ o. o ≡ None → (t : NormalFile) → IsFile (lex Gap text) t → ⊥)
 
-pub file_read_back : {E : Type 0} (text : List ℕ) (ts : List Token) (answer : Result (Option code.NormalFile) E) → tokens text ≡ Some ts →
-    IfOk answer (λ o. IfSome o (λ x. IsFile ts (file_view x))) → IfOk answer (λ o. o ≡ None → (t : NormalFile) → IsFile ts t → ⊥) →
-    IfOk answer (λ o. (t : NormalFile) → DerivesFile text t → option_map file_view o ≡ Some t)
-file_read_back text ts (Ok (Some x)) e d n = text_read_back text (Some x) (text_derives text ts (file_view x) e d) (λ none. absurd (cc none))
-file_read_back text ts (Ok None) e d n = text_read_back text None tt (λ none. text_without_file text ts e (n refl))
-file_read_back text ts (Err _) e d n = tt
+  pub answer_derived : (answer : Result (Option code.NormalFile) E) → Spelled answer → IfOk answer (λ o. IfSome o (λ x. DerivesFile text (file_view x)))
+  answer_derived (Ok (Some x)) d = text_derives text (file_view x) d
+  answer_derived (Ok None) d = tt
+  answer_derived (Err _) d = tt
+
+  pub answer_none : (answer : Result (Option code.NormalFile) E) → Unspelled answer → IfOk answer (λ o. o ≡ None → (t : NormalFile) → DerivesFile text t → ⊥)
+  answer_none (Ok o) n = λ none. text_without_file text (n none)
+  answer_none (Err _) n = tt
+
+  pub answer_read_back : (answer : Result (Option code.NormalFile) E) → Spelled answer → Unspelled answer → IfOk answer (λ o. (t : NormalFile) → DerivesFile text t → option_map file_view o ≡ Some t)
+  answer_read_back (Ok (Some x)) d n = λ t y. ap (λ (u : NormalFile). Some u) (file_once text (file_view x) t (text_derives text (file_view x) d) y)
+  answer_read_back (Ok None) d n = λ t y. absurd (text_without_file text (n refl) t y)
+  answer_read_back (Err _) d n = tt
 
 pub ruleset files = (file_spelled, file_none, file_more)
-
-pub ruleset texts = (text_derives, text_without_tokens, text_without_file, nothing_read_back, file_read_back)

@@ -5,5 +5,5 @@ mod Literals
 mod BasedLiterals
 mod Strings
 mod Signs
-mod Tokens
-mod Keys
+mod Tables
+mod Keywords

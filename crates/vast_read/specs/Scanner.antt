@@ -1,10 +1,10 @@
 -- What stands at the front of a text, as the scan of the text says it.
-use Rattle.std.specs.Prelude.{◌≡◌, ◌<◌, ◌≤◌, ◌+◌, ◌-◌, ℕ, List, [], ◌∷◌, length, take, drop, get_or, Bool, not, ◌||◌, ◌&&◌, cond, eqb, Option, Some, None, Vec}
+use Rattle.std.specs.Prelude.{◌≡◌, ◌<◌, ◌≤◌, ◌+◌, ◌-◌, ℕ, List, [], ◌∷◌, length, take, drop, get_or, Bool, not, ◌||◌, ◌&&◌, cond, eqb, Option, Some, None}
 use Rattle.std.specs.Str.{IsUtf8, IsCharBoundary}
 use Rattle.vast_literal.specs.Tokens as to
-use Rattle.vast_literal.specs.Scan.{is_letter, is_word_byte, is_digit, is_based_digit, is_radix, is_space, Gap, AfterTick, InComment, Pending, Step, keep, give, fail, cons_token, join_tokens, scan}
-use Rattle.std.specs.declared.alloc.Global.{Global}
-use Rattle.vast_read.specs.TokenView.{token_view, tokens_view}
+use Rattle.vast_literal.specs.Scan.{is_letter, is_word_byte, is_digit, is_based_digit, is_radix, is_space, Gap, AfterTick, InComment, Pending, Step, keep, give, fail}
+use Rattle.vast_read.specs.Lexed.{lex, lex_on, unspelled}
+use Rattle.vast_read.specs.TokenView.{token_view}
 use Rattle.vast_read.specs.declared.token.Token.{Token}
 use Rattle.vast_read.specs.declared.scanner.class.Class.{Class}
 use Rattle.vast_read.specs.declared.scanner.class.Class.TheVariants as class
@@ -19,16 +19,17 @@ byte_at text place = get_or text place 10
 
 -- Whether a byte may stand in a run.
 abbrev pub passes : Class → ℕ → Bool
+passes class.Space c = is_space c
 passes class.Word c = is_word_byte c
 passes class.Digit c = is_digit c
 passes class.BasedDigit c = is_based_digit c
 passes class.Line c = not (eqb c 10)
 
--- The tokens of a text are the token at its front and those behind it, those behind a gap, or none; what is behind is shorter.
+-- The tokens of a text are the token at its front and those behind it, those behind a gap, or none fits; what is behind is shorter.
 abbrev pub Fronts : Front → List ℕ → Type 0
-Fronts (front.Token t rest) text = (scan Gap text ≡ cons_token (token_view t) (scan Gap rest.now)) × (length rest.now < length text)
-Fronts (front.Gap rest) text = (scan Gap text ≡ scan Gap rest.now) × (length rest.now < length text)
-Fronts front.Unspelled text = scan Gap text ≡ None
+Fronts (front.Token t rest) text = (lex Gap text ≡ (token_view t ∷ lex Gap rest.now)) × (length rest.now < length text)
+Fronts (front.Gap rest) text = (lex Gap text ≡ lex Gap rest.now) × (length rest.now < length text)
+Fronts front.Unspelled text = lex Gap text ≡ (unspelled ∷ [])
 
 -- Whether a byte begins a sign or nothing.
 abbrev pub starts_sign : ℕ → Bool
@@ -47,7 +48,7 @@ growth_or_fail (Some g) = growth_step g
 
 -- The scan of the bytes before a place ends by this step, and the text may be cut there.
 pub record Reaches (text : List ℕ) (place : ℕ) (last : Step) : Type 0 where
-  pub scanned : scan Gap text ≡ join_tokens last.out (scan last.state (drop place text))
+  pub scanned : lex Gap text ≡ lex_on [] last.out (lex last.state (drop place text))
   pub moved : 0 < place
   pub utf8 : IsUtf8 text
   pub boundary : IsCharBoundary text place
@@ -70,7 +71,7 @@ radix_place next tick = cond (eqb next 115) (tick + 2) (tick + 1)
 
 -- An apostrophe stands at a place, behind digits or none.
 pub record IsTick (text : List ℕ) (tick : ℕ) : Type 0 where
-  pub scanned : scan Gap text ≡ scan (AfterTick (take tick text)) (drop (tick + 1) text)
+  pub scanned : lex Gap text ≡ lex (AfterTick (take tick text)) (drop (tick + 1) text)
   pub within : tick < length text
   pub here : byte_at text tick ≡ 39
 
@@ -80,12 +81,7 @@ string_part c d = cond (eqb c 10) 0 (cond (eqb c 92) (cond (eqb d 10) 0 2) 1)
 
 -- The string at the front of a text ends at a place, behind its quote.
 pub record EndsString (text : List ℕ) (end : ℕ) : Type 0 where
-  pub scanned : scan Gap text ≡ cons_token (to.Quoted (take end text)) (scan Gap (drop end text))
+  pub scanned : lex Gap text ≡ (to.Quoted (take end text) ∷ lex Gap (drop end text))
   pub moved : 0 < end
   pub within : end ≤ length text
   pub closed : byte_at text (end - 1) ≡ 34
-
--- What the scan of a text answered.
-abbrev pub Scans : Option (Vec Token Global) → Option (List to.Token) → Type 0
-Scans None read = read ≡ None
-Scans (Some found) read = read ≡ Some (tokens_view found.items)

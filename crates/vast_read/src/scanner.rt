@@ -1,45 +1,53 @@
-//! The scan of a text into tokens.
+//! The scan of a text, token by token.
 
-ghost use Rattle.std.specs.Prelude.{◌<◌, IfOk, length};
-ghost use Rattle.vast_literal.specs.Scan.{tokens};
-ghost use Rattle.vast_read.specs.Scanner.{Fronts, Scans};
+ghost use Rattle.std.specs.Prelude.{◌≡◌, ◌<◌, length};
+ghost use Rattle.vast_literal.specs.Scan.{Gap};
+ghost use Rattle.vast_read.specs.Lexed.{lex};
+ghost use Rattle.vast_read.specs.Position.{position_view};
+ghost use Rattle.vast_read.specs.Scanner.{Fronts};
 
-use crate::scanner::class::{is_digit, is_letter, is_space};
+use crate::scanner::class::{Class, is_digit, is_letter, is_space};
 use crate::scanner::front::Front;
 use crate::scanner::literal::{apostrophe, number, quoted};
-use crate::scanner::run::byte_at;
+use crate::scanner::run::{byte_at, run_end};
 use crate::scanner::sign::sign;
 use crate::scanner::word::{macro_word, system_word, word};
 use crate::token::Token;
-use std::alloc::{AllocError, Global};
 
 mod class;
 mod front;
+mod keyword;
 mod literal;
+mod position;
 mod run;
 mod sign;
 mod word;
 
-/// The tokens of a text, where it has some. It takes memory for the tokens alone.
-pub(crate) fn scan_tokens<'t>(
-    alloc: Global,
-    text: &'t str,
-) -> Result<Option<Vec<Token<'t>>>, AllocError>
-    ensures { IfOk result (λ answer. Scans answer (tokens text.now)) }
+pub(crate) use position::Position;
+
+/// The first token of a text, and what is behind it; where no token fits, one that stands for what is left. It takes no
+/// memory.
+pub(crate) fn first_of<'t>(text: &'t str) -> Position<'t>
+    ensures { position_view result ≡ lex Gap text.now }
 {
-    let mut found = Vec::new(alloc);
     let mut rest = text;
     while !rest.is_empty() {
         match front_of(rest) {
-            Front::Token(token, behind) => {
-                found.push(token)?;
-                rest = behind;
-            }
+            Front::Token(token, behind) => return Position {
+                token: Some(token),
+                behind,
+            },
             Front::Gap(behind) => rest = behind,
-            Front::Unspelled => return Ok(None),
+            Front::Unspelled => return Position {
+                token: Some(Token::Keyword("")),
+                behind: "",
+            },
         }
     }
-    Ok(Some(found))
+    Position {
+        token: None,
+        behind: rest,
+    }
 }
 
 /// What stands at the front of a text.
@@ -53,7 +61,7 @@ fn front_of<'t>(text: &'t str) -> Front<'t>
     } else if is_digit(first) {
         number(text)
     } else if is_space(first) {
-        let (_, rest) = text.split_at(1);
+        let (_, rest) = text.split_at(run_end(text, 1, Class::Space));
         Front::Gap(rest)
     } else if first == b'$' {
         system_word(text)

@@ -4,7 +4,8 @@ use Rattle.std.specs.List.{prefix_len}
 use Rattle.std.proofs.lemmas.List.{take_more}
 use Rattle.std.proofs.lemmas.Bool.Decides.{nat_tests}
 use Rattle.vast_literal.specs.Tokens.{Based}
-use Rattle.vast_literal.specs.Scan.{is_based_digit, is_radix, Gap, AfterTick, InSigned, InRadix, InBased, cons_token, scan}
+use Rattle.vast_literal.specs.Scan.{is_based_digit, is_radix, Gap, AfterTick, InSigned, InRadix, InBased}
+use Rattle.vast_read.specs.Lexed.{lex, unspelled}
 use Rattle.vast_read.specs.Scanner.{opens_based, radix_place, IsTick}
 use Rattle.vast_read.proofs.scanner.Lexemes.{At, advance, fails, run, run_stops, ends}
 use Rattle.vast_read.proofs.scanner.Strings.{two_taken}
@@ -42,31 +43,31 @@ module _ (text : List ℕ) (tick : ℕ) (is : IsTick text tick) (opened : opens_
       let two : place + 1 ≡ tick + 2 = omega arith in
       rw two (radix_on (rw e at h))
 
-  radix_none_by : (sign : Bool) (place : ℕ) → eqb (get_or text (tick + 1) 10) 115 ≡ sign → place ≡ cond sign (tick + 2) (tick + 1) → is_radix (get_or text place 10) ≡ false → scan Gap text ≡ None
+  radix_none_by : (sign : Bool) (place : ℕ) → eqb (get_or text (tick + 1) 10) 115 ≡ sign → place ≡ cond sign (tick + 2) (tick + 1) → is_radix (get_or text place 10) ≡ false → lex Gap text ≡ (unspelled ∷ [])
   radix_none_by true place es e h =
       let signed : At (InSigned (take place text)) text place = rw e (sign_on (grind (arith, nat_tests))) in
-      fails (InSigned (take place text)) text place signed refl (rw h refl)
+      fails (InSigned (take place text)) text place signed refl refl (rw h refl)
   radix_none_by false place es e h =
       let no : is_radix (get_or text (tick + 1) 10) ≡ false = rw e at h in
       let clash : opens_based (get_or text (tick + 1) 10) ≡ false = rw (no, es) refl in
       cc
 
   module _ (place : ℕ) (here : place ≡ radix_place (get_or text (tick + 1) 10) tick) where
-    pub radix_none : is_radix (get_or text place 10) ≡ false → scan Gap text ≡ None
+    pub radix_none : is_radix (get_or text place 10) ≡ false → lex Gap text ≡ (unspelled ∷ [])
     radix_none = radix_none_by (eqb (get_or text (tick + 1) 10) 115) place refl here
 
     at_radix : is_radix (get_or text place 10) ≡ true → At (InRadix (take (place + 1) text)) text (place + 1)
     at_radix = radix_by (eqb (get_or text (tick + 1) 10) 115) place refl here
 
-    pub digit_none : is_radix (get_or text place 10) ≡ true → is_based_digit (get_or text (place + 1) 10) ≡ false → scan Gap text ≡ None
-    digit_none h k = fails (InRadix (take (place + 1) text)) text (place + 1) (at_radix h) refl (rw k refl)
+    pub digit_none : is_radix (get_or text place 10) ≡ true → is_based_digit (get_or text (place + 1) 10) ≡ false → lex Gap text ≡ (unspelled ∷ [])
+    digit_none h k = fails (InRadix (take (place + 1) text)) text (place + 1) (at_radix h) refl refl (rw k refl)
 
     pub based_front : (n : ℕ) → is_radix (get_or text place 10) ≡ true → is_based_digit (get_or text (place + 1) 10) ≡ true → n ≡ place + 2 + prefix_len is_based_digit (drop (place + 2) text) →
-        scan Gap text ≡ cons_token (Based (take n text)) (scan Gap (drop n text))
+        lex Gap text ≡ ((Based (take n text)) ∷ lex Gap (drop n text))
     based_front n h k e =
         let within = passed_within is_based_digit text (place + 1) refl k in
         let first = advance (InRadix (take (place + 1) text)) (InBased (take (place + 1) text ++ (get_or text (place + 1) 10 ∷ []))) text (place + 1) within (at_radix h) (rw k refl) in
         let two : place + 1 + 1 ≡ place + 2 = omega arith in
         let at : At (InBased (take (place + 2) text)) text (place + 2) = rw (← two, take_more text (place + 1) 10 within) first in
         let last = run InBased is_based_digit (λ w c g. rw g refl) text (place + 2) n at e in
-        ends (InBased (take n text)) (Based (take n text)) text n last refl (rw (run_stops is_based_digit refl text (place + 2) n e) refl)
+        ends (InBased (take n text)) (Based (take n text)) text n last refl refl (rw (run_stops is_based_digit refl text (place + 2) n e) refl)

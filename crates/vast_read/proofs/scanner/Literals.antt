@@ -4,14 +4,15 @@ use Rattle.std.specs.List.{prefix_len}
 use Rattle.std.proofs.lemmas.List.{get_or-drop}
 use Rattle.std.proofs.lemmas.Bool.Decides.{nat_tests}
 use Rattle.vast_literal.specs.Tokens.{Number, Based, Mark, Apostrophe, OpenParen, OpenBrace}
-use Rattle.vast_literal.specs.Scan.{is_digit, is_radix, is_filler, Gap, InNumber, AfterTick, cons_token, join_tokens, keep, give, fail, before_tick, step, scan}
+use Rattle.vast_literal.specs.Scan.{is_digit, is_radix, is_filler, Gap, InNumber, AfterTick, keep, give, fail, before_tick, step}
+use Rattle.vast_read.specs.Lexed.{lex, lex_on, unspelled}
 use Rattle.vast_literal.proofs.ScanLaws.{digit_letter, and_left, and_right}
 use Rattle.vast_read.specs.Scanner.{opens_based, is_based_tick, opens_mark, IsTick}
 use Rattle.vast_read.proofs.scanner.Lexemes.{At, head_at, one_more, advance, run, run_stops, ends_by}
 use Rattle.vast_read.proofs.scanner.Strings.{other_within}
 
 number_on : (text : List ℕ) → is_digit (get_or text 0 10) ≡ true → At (InNumber (take 1 text)) text 1
-unfolding scan
+unfolding lex
 number_on [] h = cc
 number_on (c ∷ cs) h = rw (digit_letter c h, h) refl
 
@@ -32,14 +33,14 @@ digits_tick text n at e =
 marks_apart : (d : ℕ) (ds : List ℕ) (filler paren brace : Bool) (x : ℕ) (xs : List ℕ) →
     let with = cond filler (give (before_tick (d ∷ ds) ++ (Based (39 ∷ x ∷ []) ∷ []))) (cond paren (give (before_tick (d ∷ ds) ++ (Mark Apostrophe ∷ Mark OpenParen ∷ []))) (cond brace (give (before_tick (d ∷ ds) ++ (Mark Apostrophe ∷ Mark OpenBrace ∷ []))) fail)) in
     let alone = cond filler (give (Based (39 ∷ x ∷ []) ∷ [])) (cond paren (give (Mark Apostrophe ∷ Mark OpenParen ∷ [])) (cond brace (give (Mark Apostrophe ∷ Mark OpenBrace ∷ [])) fail)) in
-    join_tokens with.out (scan with.state xs) ≡ cons_token (Number (d ∷ ds)) (join_tokens alone.out (scan alone.state xs))
+    lex_on (Number (d ∷ ds) ∷ []) with.out (lex with.state xs) ≡ (Number (d ∷ ds) ∷ lex_on [] alone.out (lex alone.state xs))
 marks_apart d ds true paren brace x xs = refl
 marks_apart d ds false true brace x xs = refl
 marks_apart d ds false false true x xs = refl
 marks_apart d ds false false false x xs = refl
 
-tick_apart : (d : ℕ) (ds rest : List ℕ) → opens_based (get_or rest 0 10) ≡ false → scan (AfterTick (d ∷ ds)) rest ≡ cons_token (Number (d ∷ ds)) (scan (AfterTick []) rest)
-unfolding scan
+tick_apart : (d : ℕ) (ds rest : List ℕ) → opens_based (get_or rest 0 10) ≡ false → lex (AfterTick (d ∷ ds)) rest ≡ (Number (d ∷ ds) ∷ lex (AfterTick []) rest)
+unfolding lex
 tick_apart d ds [] h = refl
 tick_apart d ds (x ∷ xs) h =
     let no_radix : is_radix x ≡ false = grind (arith, nat_tests) in
@@ -47,16 +48,16 @@ tick_apart d ds (x ∷ xs) h =
     rw (no_radix, no_sign) (marks_apart d ds (is_filler x) (eqb x 40) (eqb x 123) x xs)
 
 number_ends : (d : ℕ) (ds rest : List ℕ) (tick : Bool) → is_digit (get_or rest 0 10) ≡ false → eqb (get_or rest 0 10) 39 ≡ tick → (tick ≡ true → opens_based (get_or rest 1 10) ≡ false) →
-    scan (InNumber (d ∷ ds)) rest ≡ cons_token (Number (d ∷ ds)) (scan Gap rest)
-unfolding scan
+    lex (InNumber (d ∷ ds)) rest ≡ ((Number (d ∷ ds)) ∷ lex Gap rest)
+unfolding lex
 number_ends d ds [] tick h e f = refl
 number_ends d ds (c ∷ cs) true h e f =
     let is : c ≡ 39 = grind (arith, nat_tests) in
     rw is (tick_apart d ds cs (f refl))
-number_ends d ds (c ∷ cs) false h e f = ends_by (InNumber (d ∷ ds)) (Number (d ∷ ds)) (c ∷ cs) refl (rw (h, e) refl)
+number_ends d ds (c ∷ cs) false h e f = ends_by (InNumber (d ∷ ds)) (Number (d ∷ ds)) (c ∷ cs) refl refl (rw (h, e) refl)
 
 number_behind : (w : List ℕ) (d : ℕ) (ds rest : List ℕ) → w ≡ d ∷ ds → is_digit (get_or rest 0 10) ≡ false → (eqb (get_or rest 0 10) 39 ≡ true → opens_based (get_or rest 1 10) ≡ false) →
-    scan (InNumber w) rest ≡ cons_token (Number w) (scan Gap rest)
+    lex (InNumber w) rest ≡ ((Number w) ∷ lex Gap rest)
 number_behind w d ds rest e h f = rw e (number_ends d ds rest (eqb (get_or rest 0 10) 39) h refl f)
 
 denied_right : (a b : Bool) → a && b ≡ false → a ≡ true → b ≡ false
@@ -64,7 +65,7 @@ denied_right true b e h = e
 denied_right false b e h = cc
 
 pub number_front : (text : List ℕ) (n : ℕ) → is_digit (get_or text 0 10) ≡ true → n ≡ 1 + prefix_len is_digit (drop 1 text) →
-    is_based_tick text n ≡ false → scan Gap text ≡ cons_token (Number (take n text)) (scan Gap (drop n text))
+    is_based_tick text n ≡ false → lex Gap text ≡ ((Number (take n text)) ∷ lex Gap (drop n text))
 number_front [] n h e f = cc
 number_front (c ∷ cs) n h e f =
     let text = c ∷ cs in
@@ -76,12 +77,12 @@ number_front (c ∷ cs) n h e f =
 
 -- an apostrophe at the front of a text
 pub tick_on : (text : List ℕ) → get_or text 0 10 ≡ 39 → IsTick text 0
-unfolding scan
+unfolding lex
 tick_on [] e = absurd (omega arith)
 tick_on (c ∷ cs) e = record { scanned = rw e refl; within = omega arith; here = e }
 
-pub filler_front : (text : List ℕ) → get_or text 0 10 ≡ 39 → opens_based (get_or text 1 10) ≡ false → is_filler (get_or text 1 10) ≡ true → scan Gap text ≡ cons_token (Based (take 2 text)) (scan Gap (drop 2 text))
-unfolding scan
+pub filler_front : (text : List ℕ) → get_or text 0 10 ≡ 39 → opens_based (get_or text 1 10) ≡ false → is_filler (get_or text 1 10) ≡ true → lex Gap text ≡ ((Based (take 2 text)) ∷ lex Gap (drop 2 text))
+unfolding lex
 filler_front [] e h k = absurd (omega arith)
 filler_front (c ∷ []) e h k = cc
 filler_front (c ∷ x ∷ xs) e h k =
@@ -89,20 +90,20 @@ filler_front (c ∷ x ∷ xs) e h k =
     let no_sign : eqb x 115 ≡ false = grind (arith, nat_tests) in
     rw (e, no_radix, no_sign, k) refl
 
-mark_by : (x : ℕ) (xs : List ℕ) (paren brace : Bool) → eqb x 40 ≡ paren → eqb x 123 ≡ brace → paren || brace ≡ true → scan (AfterTick []) (x ∷ xs) ≡ cons_token (Mark Apostrophe) (scan Gap (x ∷ xs))
-unfolding scan
+mark_by : (x : ℕ) (xs : List ℕ) (paren brace : Bool) → eqb x 40 ≡ paren → eqb x 123 ≡ brace → paren || brace ≡ true → lex (AfterTick []) (x ∷ xs) ≡ ((Mark Apostrophe) ∷ lex Gap (x ∷ xs))
+unfolding lex
 mark_by x xs true brace ep eb h = let is : x ≡ 40 = grind (arith, nat_tests) in rw is refl
 mark_by x xs false true ep eb h = let is : x ≡ 123 = grind (arith, nat_tests) in rw is refl
 mark_by x xs false false ep eb h = cc
 
-pub mark_front : (text : List ℕ) → get_or text 0 10 ≡ 39 → opens_mark (get_or text 1 10) ≡ true → scan Gap text ≡ cons_token (Mark Apostrophe) (scan Gap (drop 1 text))
-unfolding scan
+pub mark_front : (text : List ℕ) → get_or text 0 10 ≡ 39 → opens_mark (get_or text 1 10) ≡ true → lex Gap text ≡ ((Mark Apostrophe) ∷ lex Gap (drop 1 text))
+unfolding lex
 mark_front [] e h = absurd (omega arith)
 mark_front (c ∷ []) e h = cc
 mark_front (c ∷ x ∷ xs) e h = rw e (mark_by x xs (eqb x 40) (eqb x 123) refl refl h)
 
-pub tick_none : (text : List ℕ) → get_or text 0 10 ≡ 39 → opens_based (get_or text 1 10) ≡ false → is_filler (get_or text 1 10) ≡ false → opens_mark (get_or text 1 10) ≡ false → scan Gap text ≡ None
-unfolding scan
+pub tick_none : (text : List ℕ) → get_or text 0 10 ≡ 39 → opens_based (get_or text 1 10) ≡ false → is_filler (get_or text 1 10) ≡ false → opens_mark (get_or text 1 10) ≡ false → lex Gap text ≡ (unspelled ∷ [])
+unfolding lex
 tick_none [] e h k m = absurd (omega arith)
 tick_none (c ∷ []) e h k m = rw e refl
 tick_none (c ∷ x ∷ xs) e h k m =

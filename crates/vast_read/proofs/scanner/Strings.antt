@@ -4,7 +4,8 @@ use Rattle.std.proofs.Math.Seq.{take-add, drop-cons}
 use Rattle.std.proofs.lemmas.List.{get_or_past, take_more}
 use Rattle.std.proofs.lemmas.Bool.Decides.{nat_tests}
 use Rattle.vast_literal.specs.Tokens.{Quoted}
-use Rattle.vast_literal.specs.Scan.{Gap, InString, InEscape, cons_token, scan}
+use Rattle.vast_literal.specs.Scan.{Gap, InString, InEscape}
+use Rattle.vast_read.specs.Lexed.{lex, unspelled}
 use Rattle.vast_read.specs.Scanner.{string_part, EndsString}
 use Rattle.vast_read.proofs.scanner.Lexemes.{At, advance, fails}
 
@@ -21,7 +22,7 @@ two_taken text place within =
     take-add place 2 text ∙ ap (λ rest. take place text ++ take 2 rest) (first ∙ ap (λ rest. get_or text place 10 ∷ rest) (second ∙ ap (λ n. get_or text n 10 ∷ drop (suc (suc place)) text) next))
 
 pub quote_on : (text : List ℕ) → get_or text 0 10 ≡ 34 → At (InString (take 1 text)) text 1
-unfolding scan
+unfolding lex
 quote_on [] e = absurd (omega arith)
 quote_on (c ∷ cs) e = rw e refl
 
@@ -40,10 +41,10 @@ escape_on text place within is no_break at =
     let next : place + 1 + 1 ≡ place + 2 = omega arith in
     rw (two_taken text place within, is, ← next) both
 
-escape_none : (text : List ℕ) (place : ℕ) → place < length text → get_or text place 10 ≡ 92 → get_or text (place + 1) 10 ≡ 10 → At (InString (take place text)) text place → scan Gap text ≡ None
+escape_none : (text : List ℕ) (place : ℕ) → place < length text → get_or text place 10 ≡ 92 → get_or text (place + 1) 10 ≡ 10 → At (InString (take place text)) text place → lex Gap text ≡ (unspelled ∷ [])
 escape_none text place within is break at =
     let first = advance (InString (take place text)) (InEscape (take place text)) text place within at (rw is refl) in
-    fails (InEscape (take place text)) text (place + 1) first refl (rw break refl)
+    fails (InEscape (take place text)) text (place + 1) first refl refl (rw break refl)
 
 module _ (text : List ℕ) (place : ℕ) (within : place < length text) (at : At (InString (take place text)) text place) (no_quote : eqb (get_or text place 10) 34 ≡ false) where
   part_by : (slash break next : Bool) → eqb (get_or text place 10) 10 ≡ break → eqb (get_or text place 10) 92 ≡ slash → eqb (get_or text (place + 1) 10) 10 ≡ next →
@@ -56,10 +57,10 @@ module _ (text : List ℕ) (place : ℕ) (within : place < length text) (at : At
   part_by false false next eb es en n e some = (rw e (plain_on text place _ within refl at no_quote es eb), omega arith)
 
   none_by : (slash break next : Bool) → eqb (get_or text place 10) 10 ≡ break → eqb (get_or text place 10) 92 ≡ slash → eqb (get_or text (place + 1) 10) 10 ≡ next →
-      (n : ℕ) → n ≡ cond break 0 (cond slash (cond next 0 2) 1) → n ≡ 0 → scan Gap text ≡ None
+      (n : ℕ) → n ≡ cond break 0 (cond slash (cond next 0 2) 1) → n ≡ 0 → lex Gap text ≡ (unspelled ∷ [])
   none_by slash true next eb es en n e z =
       let is : get_or text place 10 ≡ 10 = grind (arith, nat_tests) in
-      fails (InString (take place text)) text place at refl (rw is refl)
+      fails (InString (take place text)) text place at refl refl (rw is refl)
   none_by true false true eb es en n e z = escape_none text place within (grind (arith, nat_tests)) (grind (arith, nat_tests)) at
   none_by true false false eb es en n e z = absurd (omega arith)
   none_by false false next eb es en n e z = absurd (omega arith)
@@ -68,12 +69,12 @@ module _ (text : List ℕ) (place : ℕ) (within : place < length text) (at : At
   pub part_on : (n : ℕ) → n ≡ string_part (get_or text place 10) (get_or text (place + 1) 10) → 0 < n → (At (InString (take (place + n) text)) text (place + n)) × (place + n ≤ length text)
   part_on = part_by (eqb (get_or text place 10) 92) (eqb (get_or text place 10) 10) (eqb (get_or text (place + 1) 10) 10) refl refl refl
 
-  pub part_none : (n : ℕ) → n ≡ string_part (get_or text place 10) (get_or text (place + 1) 10) → n ≡ 0 → scan Gap text ≡ None
+  pub part_none : (n : ℕ) → n ≡ string_part (get_or text place 10) (get_or text (place + 1) 10) → n ≡ 0 → lex Gap text ≡ (unspelled ∷ [])
   part_none = none_by (eqb (get_or text place 10) 92) (eqb (get_or text place 10) 10) (eqb (get_or text (place + 1) 10) 10) refl refl refl
 
 -- the closing quote
-closes : (w rest : List ℕ) (c : ℕ) → c ≡ 34 → scan (InString w) (c ∷ rest) ≡ cons_token (Quoted (w ++ (c ∷ []))) (scan Gap rest)
-unfolding scan
+closes : (w rest : List ℕ) (c : ℕ) → c ≡ 34 → lex (InString w) (c ∷ rest) ≡ (Quoted (w ++ (c ∷ [])) ∷ lex Gap rest)
+unfolding lex
 closes w rest c e = rw e refl
 
 pub string_ends : (text : List ℕ) (place : ℕ) → place < length text → At (InString (take place text)) text place → get_or text place 10 ≡ 34 → EndsString text (place + 1)

@@ -18,11 +18,18 @@ pub(crate) fn is_digit(byte: u8) -> bool
     byte.is_ascii_digit()
 }
 
+/// For each byte `1` where it stands in words, or `0`.
+static WORD_BYTES: [u8; 256] = *b"\
+    0000000000000000000000000000000000001000000000001111111111000000\
+    0111111111111111111111111110000101111111111111111111111111100000\
+    0000000000000000000000000000000000000000000000000000000000000000\
+    0000000000000000000000000000000000000000000000000000000000000000";
+
 /// A letter, a digit, `_` or `$`.
 pub(crate) fn is_word_byte(byte: u8) -> bool
     ensures { result ≡ is_word_byte byte }
 {
-    is_letter(byte) || is_digit(byte) || byte == b'$'
+    WORD_BYTES[byte as usize] == b'1'
 }
 
 /// A digit of a based literal.
@@ -63,6 +70,8 @@ pub(crate) fn is_space(byte: u8) -> bool
 /// The bytes that may stand in a run.
 #[derive(Clone, Copy)]
 pub(crate) enum Class {
+    /// White space.
+    Space,
     /// Bytes of a word behind its first letter.
     Word,
     /// Decimal digits.
@@ -79,6 +88,7 @@ impl Class {
         ensures { result ≡ passes self byte }
     {
         match self {
+            Class::Space => is_space(byte),
             Class::Word => is_word_byte(byte),
             Class::Digit => is_digit(byte),
             Class::BasedDigit => is_based_digit(byte),

@@ -1,7 +1,8 @@
 //! Literals: numbers, based literals and strings.
 
-ghost use Rattle.std.specs.Prelude.{◌≡◌, ◌+◌, ◌<◌, ◌≤◌, ◌^◌, true, length, MatchOption, None};
-ghost use Rattle.vast_literal.specs.Scan.{is_digit, Gap, scan};
+ghost use Rattle.std.specs.Prelude.{◌≡◌, ◌+◌, ◌<◌, ◌≤◌, ◌^◌, [], ◌∷◌, true, length, MatchOption};
+ghost use Rattle.vast_literal.specs.Scan.{is_digit, Gap};
+ghost use Rattle.vast_read.specs.Lexed.{lex, unspelled};
 ghost use Rattle.vast_read.specs.Scanner.{byte_at, Fronts, opens_based, is_based_tick, radix_place, IsTick, EndsString, string_part};
 
 use crate::scanner::class::{Class, is_based_digit, is_filler, is_radix, opens_mark};
@@ -92,7 +93,7 @@ fn string_part(byte: u8, next: u8) -> usize
 /// The place behind the closing quote of a string, where it has one.
 fn string_end(text: &str) -> Option<usize>
     requires { byte_at text.now 0 ≡ 34 }
-    ensures { MatchOption result (scan Gap text.now ≡ None) (EndsString text.now) }
+    ensures { MatchOption result (lex Gap text.now ≡ (unspelled ∷ [])) (EndsString text.now) }
 {
     let mut place = 1;
     while place < text.len() {

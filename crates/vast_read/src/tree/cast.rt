@@ -1,7 +1,7 @@
 //! Casts.
 
 ghost use Rattle.std.specs.Prelude.{◌≡◌, IfOk, IfErr};
-ghost use Rattle.vast_literal.specs.NormalExpr.{Name as NormalName, Literal as NormalLiteral, Cast as NormalCast, PackageCast as NormalPackageCast, WordCast as NormalWordCast};
+ghost use Rattle.vast_literal.specs.NormalExpr.{Cast as NormalCast, PackageCast as NormalPackageCast, WordCast as NormalWordCast};
 ghost use Rattle.vast_read.specs.declared.fault.Fault.TheVariants.{Memory};
 ghost use Rattle.vast_read.specs.TokenView.{key_view};
 ghost use Rattle.vast_read.specs.View.{view};
@@ -30,16 +30,14 @@ impl NormalExpr {
     /// A cast by a package's type.
     pub(crate) fn package_cast(
         alloc: Global,
-        scope: &str,
-        name: &str,
+        scope: Word,
+        name: Word,
         operand: NormalExpr,
     ) -> Result<NormalExpr, Fault>
         ensures ok { IfOk result (λ x. view x
-            ≡ NormalPackageCast scope.now name.now (view operand)) }
+            ≡ NormalPackageCast scope name (view operand)) }
         ensures err { IfErr result (λ e. e ≡ Memory) }
     {
-        let scope = Word::new(alloc, scope)?;
-        let name = Word::new(alloc, name)?;
         let operand = Box::new(alloc, operand)?;
         Ok(NormalExpr::PackageCast(scope, name, operand))
     }
@@ -56,32 +54,5 @@ impl NormalExpr {
         let word = Word::new(alloc, key.text())?;
         let operand = Box::new(alloc, operand)?;
         Ok(NormalExpr::WordCast(word, operand))
-    }
-
-    /// A cast by the name of a type.
-    pub(crate) fn name_cast(
-        alloc: Global,
-        name: &str,
-        operand: NormalExpr,
-    ) -> Result<NormalExpr, Fault>
-        ensures ok { IfOk result (λ x. view x ≡ NormalCast (NormalName name.now) (view operand)) }
-        ensures err { IfErr result (λ e. e ≡ Memory) }
-    {
-        let head = NormalExpr::name(alloc, name)?;
-        NormalExpr::cast(alloc, head, operand)
-    }
-
-    /// A cast by a number.
-    pub(crate) fn number_cast(
-        alloc: Global,
-        number: &str,
-        operand: NormalExpr,
-    ) -> Result<NormalExpr, Fault>
-        ensures ok { IfOk result (λ x. view x
-            ≡ NormalCast (NormalLiteral number.now) (view operand)) }
-        ensures err { IfErr result (λ e. e ≡ Memory) }
-    {
-        let head = NormalExpr::literal(alloc, number)?;
-        NormalExpr::cast(alloc, head, operand)
     }
 }

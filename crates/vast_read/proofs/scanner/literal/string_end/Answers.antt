@@ -31,4 +31,4 @@ loop-place-preserved c =
     part_on text c.loop-place.place c.loop-place-test.true c.loop-place.invariant.0 other c.string_part-part.result part (omega arith)
 
 pub returns : goal.returns
-returns c = fails (InString (take c.loop-place.place c.args.text.now)) c.args.text.now c.loop-place.place c.loop-place.invariant.0 refl (rw (get_or_past c.args.text.now c.loop-place.place 10 c.loop-place-test.false) refl)
+returns c = fails (InString (take c.loop-place.place c.args.text.now)) c.args.text.now c.loop-place.place c.loop-place.invariant.0 refl refl (rw (get_or_past c.args.text.now c.loop-place.place 10 c.loop-place-test.false) refl)

@@ -13,7 +13,7 @@ sign_from-requires t c =
     let e : grown (token_view c.in-Open.token) (get_or text c.args.place 10) ≡ Some (growth_step c.in-Some.longer) = ap (grown (token_view c.in-Open.token)) (sym c.byte_at.ensures) ∙ sym c.in-Some.ensures.growth in
     let large : 32 < get_or text c.args.place 10 = omega (arith, c.in-Some.ensures.byte) in
     let within = other_within text c.args.place (λ b. absurd (omega arith)) in
-    (omega arith, grown_reaches text c.args.place (token_view c.in-Open.token) (growth_step c.in-Some.longer) r e large (omega (arith, c.in-Some.ensures.byte)))
+    (omega arith, grown_reaches text c.args.place (token_view c.in-Open.token) c.in-Some.longer r e large (omega (arith, c.in-Some.ensures.byte)))
 
 pub returns-in-None : goal.returns-in-None
 returns-in-None t c =

@@ -1,0 +1,12 @@
+//! Places of a text between its tokens.
+
+use crate::token::Token;
+
+/// The token that stands next in a text, and what is behind it.
+#[derive(Clone, Copy)]
+pub(crate) struct Position<'t> {
+    /// The next token; none at the end of the text.
+    pub(crate) token: Option<Token<'t>>,
+    /// The text behind it.
+    pub(crate) behind: &'t str,
+}
