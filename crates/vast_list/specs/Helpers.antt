@@ -1,5 +1,5 @@
 -- What a helper does that is a line of a list.
-use Rattle.std.specs.Prelude.{◌≡◌, ℕ, ℤ, Bool, true, false, List, [], ◌∷◌, map, Option, Result, Ok, Err, IsOkAnd, ⊥}
+use Rattle.std.specs.Prelude.{◌≡◌, ℕ, ℤ, Bool, true, false, List, [], ◌∷◌, map, Option, Result, Ok, Err, IsOkAnd}
 use Rattle.vast_literal.specs.declared.operator.BinaryOperator.TheVariants.{LogicalAnd as LogicalAndOp, LogicalOr as LogicalOrOp}
 use Rattle.vast_literal.specs.Tree.{ExprTree}
 use Rattle.vast_core.specs.declared.handle.Expr.{Expr as ExprHandle}

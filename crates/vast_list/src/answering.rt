@@ -88,8 +88,9 @@ impl Answering<'_> {
             Err(Fault::Line(fault)) => {
                 self.is_stopped = self.is_stopped || fault.step.is_some();
                 self.print_fault(&fault)?;
-                tried!(self.tries(), self.session.skip(line))?;
-                self.told.keep(self.tries(), fault)
+                let tries = self.tries();
+                tried!(tries, self.session.skip(line))?;
+                self.told.keep(tries, fault)
             }
         }
     }
@@ -201,7 +202,8 @@ impl Answering<'_> {
             Err(Fault::Memory) => Err(AllocError),
             Err(Fault::Line(fault)) => {
                 self.print_words("refused", ": ", &fault.words)?;
-                self.told.keep(self.tries(), fault)
+                let tries = self.tries();
+                self.told.keep(tries, fault)
             }
         }
     }

@@ -3,7 +3,7 @@
 use crate::nearest::nearest_call;
 use crate::problem::{Misfit, Problem};
 use crate::session::Session;
-use crate::table::row_of;
+use crate::table::{Parameter, row_of};
 use std::alloc::{AllocError, AllocFailed, Global};
 use std::fmt;
 use vast_literal::{VastError, VastFault};
@@ -173,12 +173,18 @@ fn unknown_call(alloc: Global, call: &str) -> Result<String, AllocError> {
 fn usage(alloc: Global, call: &str) -> Result<String, AllocError> {
     let mut usage = String::from_str(alloc, call)?;
     if let Some(row) = row_of(call) {
-        for parameter in row.parameters {
-            usage.push(' ')?;
-            usage.push_str(parameter.name)?;
-        }
+        push_names(&mut usage, row.parameters)?;
     }
     Ok(usage)
+}
+
+/// Each parameter's name, behind a space.
+fn push_names(usage: &mut String, parameters: &[Parameter]) -> Result<(), AllocError> {
+    for parameter in parameters {
+        usage.push(' ')?;
+        usage.push_str(parameter.name)?;
+    }
+    Ok(())
 }
 
 /// The fault of a text that is refused; its line is that of the first bit select or part select that is refused in the

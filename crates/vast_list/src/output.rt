@@ -86,18 +86,27 @@ pub fn list_output(
     finished(alloc, tries, list.title, answering)
 }
 
+/// How many of the first lines are blank or comments.
+fn empty_lines(lines: &[(usize, &[u8])]) -> usize {
+    let mut count = 0usize;
+    for (_, line) in lines {
+        if !is_empty_line(line) {
+            return count;
+        }
+        count = count.saturating_add(1);
+    }
+    count
+}
+
 /// The dialect, and the lines behind the one that names it.
 pub(crate) fn dialect_line<'l, 'a>(
     alloc: Global,
     list: &'l ListLines<'a>,
 ) -> Result<(VastFileType, &'l [(usize, &'a [u8])]), Fault> {
-    let mut lines = list.lines.as_slice();
-    for _ in 0..list.lines.len() {
+    if let Some(lines) = list.lines.get(empty_lines(&list.lines)..) {
         if let Some(((number, line), rest)) = lines.split_first() {
-            if !is_empty_line(line) {
-                return Ok((dialect_of(alloc, *number, line)?, rest));
-            }
-            lines = rest;
+            let dialect = dialect_of(alloc, *number, line)?;
+            return Ok((dialect, rest));
         }
     }
     Err(dialect_missing(alloc, list.number))
@@ -136,7 +145,7 @@ fn finished(
     title: Option<&[u8]>,
     answering: Answering<'_>,
 ) -> Result<ListOutput, AllocError>
-    ensures { IfOk result (λ made. IfSome made.output (λ output. IsOutput title output.items)) }
+    ensures { IfOk result (λ made. IfSome made.output (λ output. IsOutput title.entry output.items)) }
 {
     if let Verdict::NotInForm = answering.told.verdict {
         return Ok(output_of(None, answering.told));
