@@ -100,7 +100,7 @@ fn deep(alloc: Global, one: Part, other: Part) -> Result<NormalExpr, Fail> {
 }
 
 /// An assignment, the statement, and an assignment.
-fn block(alloc: Global, inner: NormalStatement) -> Result<Children<NormalStatement>, Fail> {
+fn framed(alloc: Global, inner: NormalStatement) -> Result<Children<NormalStatement>, Fail> {
     let mut statements = Children::new(alloc);
     statements.push(NormalStatement::Blocking(leaf(alloc)?, leaf(alloc)?))?;
     statements.push(inner)?;
@@ -110,7 +110,7 @@ fn block(alloc: Global, inner: NormalStatement) -> Result<Children<NormalStateme
 
 /// A statement that holds another.
 fn nest(alloc: Global, part: Block, inner: NormalStatement) -> Result<NormalStatement, Fail> {
-    let inner = block(alloc, inner)?;
+    let inner = framed(alloc, inner)?;
     Ok(match part {
         Block::Arm => {
             let mut arms = Children::new(alloc);
