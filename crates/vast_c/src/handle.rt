@@ -1,5 +1,7 @@
 // The pointer to a session that C keeps.
 ghost use Rattle.std.specs.Prelude.{◌≡◌, Option, MatchOption};
+ghost use Rattle.std.specs.Coded.{coded_option};
+ghost use Rattle.vast_c.specs.contracts.kept.Kept.{the_row as kept_row};
 ghost use Rattle.vast_c.specs.declared.kept.Kept.{Kept as KeptSeen};
 
 use crate::kept::Kept;
@@ -14,7 +16,7 @@ use vast_handle::OwnedPointer;
 pub struct Handle {
     at: *mut u8,
     alloc: Global,
-    pub ghost kept: { Option KeptSeen },
+    pub ghost kept: { Option KeptSeen } by { coded_option kept_row.coded },
 }
 
 impl Model for Handle {

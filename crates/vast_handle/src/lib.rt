@@ -42,9 +42,11 @@ mod tests {
 
     #[test]
     fn a_box_comes_back(rt: HostRuntime) {
-        let value = Box::new(rt.alloc(), 7u64).unwrap();
-        let pointer = OwnedPointer::from_box(value);
-        let value = pointer.into_box();
+        let Ok(value) = Box::new(rt.alloc(), 7u64) else {
+            assert!(rt; false);
+            return;
+        };
+        let value = OwnedPointer::from_box(value).into_box();
         assert_eq!(rt; *value, 7);
     }
 }

@@ -1,12 +1,10 @@
 -- `from_box` takes the box apart: its pointer, its allocator's handle, and what it owned.
-use Rattle.std.proofs.Common.{◌≡◌, ℕ, List, [], ◌∷◌, ◌++◌, refl, sym, ap, ◌∙◌, subst}
-use seplogic.Ra.Ura.{Ura}
-use mir.Syntax.{Fn, Args, Dict, a_type, dcons, dnil}
+use Rattle.std.proofs.Common.{◌≡◌, List, [], ◌∷◌, ◌++◌, refl, sym, ap, ◌∙◌, subst}
+use mir.Syntax.{Fn, Args, a_type, dcons, dnil}
 use mir.MapTy.{inst_fn}
 use mir.Raw.{raw as bare}
 use mir.Val.{Val, vptr}
 use base.Logic.{SProp, ent, emp, id⊢, fst∗, never}
-use base.Fml.{ftrue, flft}
 use contract.Monad.{fact, fact_i}
 use contract.Running.{tables}
 use denote.Exit.{no}
@@ -14,7 +12,7 @@ use denote.Memory.{lone}
 use denote.Param.{bounded, param}
 use denote.Param.Laws.{param_laws}
 use types.Logic.{sem}
-use denote.RattleType.{RattleType, owns}
+use denote.RattleType.{owns}
 use denote.RawPtr.{Ptr, RawPtr, block_ptr, null_ptr, ptr_val, in_a_block}
 use denote.Signature.{plain}
 use denote.Steps.{nothing, heard, only}
@@ -35,7 +33,7 @@ use Rattle.std.proofs.raw_atomic.Walks.{proved_at, leaves}
 use Rattle.std_alloc.specs.Box.Ownership.{box_owns}
 use Rattle.std_alloc.specs.contracts.boxed.Box.into_raw_with_allocator as g
 use Rattle.std_alloc.proofs.boxed.Box.into_raw_with_allocator.Met.{met}
-use Rattle.vast_handle.proofs.Values.{both, OwnedPointer, pointer_good, pointer_in, Boxed, box_tells, pair_out}
+use Rattle.vast_handle.proofs.Values.{both, pointer_good, pointer_in, Boxed, box_tells, pair_out}
 use Rattle.vast_handle.specs.contracts.OwnedPointer.from_box as f
 use Rattle.vast_handle.proofs.OwnedPointer.from_box.Statement.{statement}
 use Rattle.vast_handle.proofs.OwnedPointer.from_box.Code as code

@@ -1,19 +1,18 @@
 -- `into_box` puts the pointer and the allocator's handle together, with what they own.
-use Rattle.std.proofs.Common.{◌≡◌, ℕ, List, [], ◌∷◌, ◌++◌, refl, sym, ap, ◌∙◌, subst}
+use Rattle.std.proofs.Common.{◌≡◌, List, [], ◌∷◌, ◌++◌, refl, sym, ap, subst}
 use mir.Syntax.{Fn, Args, a_type, dcons, dnil}
 use mir.MapTy.{inst_fn}
 use mir.Val.{Val, vptr}
 use base.Logic.{SProp, ent, emp, id⊢}
-use base.Fml.{ftrue}
 use contract.BorrowLft.{◌⊑◌}
 use contract.Monad.{fact, fact_i}
 use contract.Running.{tables}
-use denote.Exit.{yes, no}
+use denote.Exit.{no}
 use denote.Param.{bounded, param, layout}
 use Rattle.core.proofs.cell.Inside.{Good}
 use denote.Param.Laws.{param_laws}
 use denote.RattleType.{RattleType, owns}
-use denote.RawPtr.{RawPtr, block_ptr}
+use denote.RawPtr.{block_ptr}
 use denote.Signature.{plain}
 use denote.Steps.{nothing, heard, only}
 use denote.Triple.Call.{calls_at_last}
@@ -26,11 +25,10 @@ use prog.Wp.{WpFn}
 use types.ByLocal.{alloc_all, pass_all, free_all, look_at, get, get_in, sets, lands_last, env}
 use Rattle.std.proofs.VecSteps.Shapes.{after}
 use types.Kit.{‵, raw, ◌⊛◌, some, later, at_ret, ◌$◌, ◌∵◌, !, qed, by, move, keep, drop, use0, use1, split, split3, join, fsplit, fjoin, feq_i, pick, await, rewrite, suffices}
-use types.Part.{agg, sub, whole}
+use types.Part.{sub, whole}
 use types.Run.{stop, fld, of_opd, no_more, and_then, returns, enter, first, blocks, exec}
 use Rattle.core.proofs.alloc.Calls.{Goes-blank}
 use Rattle.std.proofs.raw_atomic.Walks.{proved_at, leaves}
-use Rattle.std_alloc.specs.Box.Ownership.{box_owns}
 use Rattle.std_alloc.specs.contracts.boxed.Box.from_raw as g
 use Rattle.std_alloc.proofs.boxed.Box.from_raw.Met.{met}
 use Rattle.vast_handle.proofs.Values.{both, OwnedPointer, pointer_good, pointer_out, Boxed, box_tells}
