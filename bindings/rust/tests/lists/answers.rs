@@ -56,9 +56,19 @@ impl From<VastError> for Fault {
 pub struct Answers {
     pub items: Vec<Answer>,
     pub names: HashMap<String, usize>,
+    /// What named questions answered.
+    pub values: HashMap<String, String>,
 }
 
 impl Answers {
+    /// Keeps the next answer, and its name.
+    pub fn keep(&mut self, name: Option<String>, answer: Answer) {
+        if let Some(name) = name {
+            self.names.insert(name, self.items.len());
+        }
+        self.items.push(answer);
+    }
+
     /// What the argument's step answered.
     pub fn of(&self, argument: &Argument) -> Result<Answer, Fault> {
         let step = argument.step(&self.names);

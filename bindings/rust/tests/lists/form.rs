@@ -68,22 +68,47 @@ fn read_argument(chars: &mut Peekable<Chars<'_>>) -> Option<Argument> {
 }
 
 fn read_text(chars: &mut Peekable<Chars<'_>>) -> String {
-    let mut text = String::new();
+    let mut units: Vec<u16> = Vec::new();
+    let mut buffer = [0; 2];
     while let Some(c) = chars.next() {
-        match c {
+        let read = match c {
             '"' => break,
             '\\' => match chars.next() {
-                Some('n') => text.push('\n'),
-                Some(escaped) => text.push(escaped),
+                Some('n') => '\n',
+                Some('t') => '\t',
+                Some('r') => '\r',
+                Some('b') => '\u{8}',
+                Some('f') => '\u{c}',
+                Some('u') => {
+                    let digits: String = chars.take(4).collect();
+                    units.push(u16::from_str_radix(&digits, 16).unwrap_or_default());
+                    continue;
+                }
+                Some(escaped) => escaped,
                 None => break,
             },
-            _ => text.push(c),
-        }
+            _ => c,
+        };
+        units.extend_from_slice(read.encode_utf16(&mut buffer));
     }
-    text
+    String::from_utf16_lossy(&units)
 }
 
 impl Argument {
+    /// Puts what named questions answered in the place of their names.
+    pub fn resolve(&mut self, values: &HashMap<String, String>) {
+        match self {
+            Argument::Word(word) => {
+                if let Some(value) = word.strip_prefix('?').and_then(|name| values.get(name)) {
+                    *word = value.clone();
+                }
+            }
+            Argument::List(items) => items.iter_mut().for_each(|item| item.resolve(values)),
+            Argument::Some(item) => item.resolve(values),
+            Argument::Text(_) | Argument::Nothing => {}
+        }
+    }
+
     pub fn word(&self) -> &str {
         match self {
             Argument::Word(word) => word,

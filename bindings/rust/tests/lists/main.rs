@@ -29,7 +29,6 @@ const OWN: [&str; 6] = [
 
 #[test]
 fn stored_lists_print_what_is_stored() {
-    panic::set_hook(Box::new(|_| {}));
     let folder = Path::new(env!("CARGO_MANIFEST_DIR")).join("../../crates/vast_replay");
     let lists = fs::read_to_string(folder.join("stdin")).unwrap();
     let printed = fs::read_to_string(folder.join("stdout")).unwrap();
@@ -37,8 +36,9 @@ fn stored_lists_print_what_is_stored() {
     let mut made = 0;
     for list in lists.split("== ").skip(1) {
         let (title, body) = list.split_once('\n').unwrap();
-        let (dialect, lines) = body.split_once('\n').unwrap_or((body, ""));
-        let lines: Vec<&str> = lines.lines().collect();
+        let mut lines = body.lines().filter(|line| !is_empty(line));
+        let dialect = lines.next().unwrap_or_default();
+        let lines: Vec<&str> = lines.collect();
         let header = format!("== {title}\n");
         wanted = wanted.strip_prefix(header.as_str()).unwrap_or_else(|| {
             panic!(
@@ -46,7 +46,11 @@ fn stored_lists_print_what_is_stored() {
                 &wanted[..wanted.len().min(60)]
             )
         });
-        let end = wanted.find("\n== ").map_or(wanted.len(), |at| at + 1);
+        let end = match wanted.find("\n== ") {
+            _ if wanted.starts_with("== ") => 0,
+            Some(at) => at + 1,
+            None => wanted.len(),
+        };
         let (own, rest) = wanted.split_at(end);
         assert_eq!(
             output(dialect, &lines),
@@ -67,6 +71,12 @@ fn without_own(stored: &str) -> String {
         .collect()
 }
 
+/// Whether the line is blank or a comment.
+fn is_empty(line: &str) -> bool {
+    let words = line.trim_start();
+    words.is_empty() || words.starts_with('#')
+}
+
 /// What the list gives.
 fn output(dialect: &str, lines: &[&str]) -> String {
     let mut file = VastFile::new(match dialect {
@@ -77,54 +87,66 @@ fn output(dialect: &str, lines: &[&str]) -> String {
     let mut output = String::new();
     let mut is_stopped = false;
     for line in lines {
-        let line = Line::read(line);
+        let mut line = Line::read(line);
+        line.arguments
+            .iter_mut()
+            .for_each(|argument| argument.resolve(&answers.values));
         if line.call.starts_with('?') {
             if !OWN.contains(&line.call.as_str()) {
-                output += &said(&line.call, quietly(|| ask(&file, &answers, &line)));
+                let answer = quietly(|| ask(&file, &answers, &line));
+                output += &said(&line.call, &answer);
+                if let (Some(name), Ok(value)) = (line.name, answer) {
+                    answers.values.insert(name, value);
+                }
             }
         } else if line.call.starts_with('!') {
-            output += &said(&line.call, quietly(|| helped(&mut file, &answers, &line)));
+            match quietly(|| helped(&mut file, &answers, &line)) {
+                Ok((answer, text)) => {
+                    answers.keep(line.name, answer);
+                    output += &said(&line.call, &Ok(text));
+                }
+                Err(fault) => output += &said(&line.call, &Err(fault)),
+            }
         } else if !is_stopped {
             match quietly(|| make(&mut file, &answers, &line)) {
-                Ok(answer) => {
-                    if let Some(name) = line.name {
-                        answers.names.insert(name, answers.items.len());
-                    }
-                    answers.items.push(answer);
-                }
+                Ok(answer) => answers.keep(line.name, answer),
                 Err(fault) => {
                     is_stopped = true;
                     let step = answers.items.len();
-                    output += &format!("refused: step {step}: {}\n", words(fault));
+                    output += &format!("refused: step {step}: {}\n", words(&fault));
                 }
             }
         }
     }
     match quietly(|| Ok(file.emit())) {
         Ok(text) => output + &text,
-        Err(fault) => output + &format!("refused: {}\n", words(fault)),
+        Err(fault) => output + &format!("refused: {}\n", words(&fault)),
     }
 }
 
-fn said(call: &str, answer: Result<String, Fault>) -> String {
+fn said(call: &str, answer: &Result<String, Fault>) -> String {
     match answer {
         Ok(text) => format!("{call}: {text}\n"),
         Err(fault) => format!("{call}: refused: {}\n", words(fault)),
     }
 }
 
-fn words(fault: Fault) -> String {
+fn words(fault: &Fault) -> String {
     match fault {
         Fault::NoAnswer => "no such answer".to_owned(),
         Fault::WrongKind => "answer of another kind".to_owned(),
         Fault::Condition => "condition not met".to_owned(),
-        Fault::Refused(words) => words,
+        Fault::Refused(words) => words.clone(),
     }
 }
 
 /// What it answers; a panic is a condition that isn't met, or the words of a text that is refused.
 fn quietly<T>(call: impl FnOnce() -> Result<T, Fault>) -> Result<T, Fault> {
-    match panic::catch_unwind(AssertUnwindSafe(call)) {
+    let hook = panic::take_hook();
+    panic::set_hook(Box::new(|_| {}));
+    let made = panic::catch_unwind(AssertUnwindSafe(call));
+    panic::set_hook(hook);
+    match made {
         Ok(answer) => answer,
         Err(payload) => match payload.downcast_ref::<String>() {
             Some(words) if is_text_refusal(words) => Err(Fault::Refused(words.clone())),

@@ -1,6 +1,6 @@
 //! Questions and helpers of lists, by this crate's calls.
 
-use crate::answers::{Answers, Fault};
+use crate::answers::{Answer, Answers, Fault};
 use crate::form::{Argument, Line};
 use xlsynth_vast::helpers::{
     add_registers, bitwise_or_reduce, bitwise_or_reduce_array_elements, logical_and_reduce,
@@ -50,8 +50,12 @@ fn ports(file: &VastFile, ports: &[ModulePort]) -> String {
     lines
 }
 
-/// What the helper answers.
-pub fn helped(file: &mut VastFile, answers: &Answers, line: &Line) -> Result<String, Fault> {
+/// What the helper answers, and what is printed of it.
+pub fn helped(
+    file: &mut VastFile,
+    answers: &Answers,
+    line: &Line,
+) -> Result<(Answer, String), Fault> {
     let arguments = &line.arguments;
     let made = match line.call.as_str() {
         "!AddRegisters" => return registers(file, answers, arguments),
@@ -68,14 +72,14 @@ pub fn helped(file: &mut VastFile, answers: &Answers, line: &Line) -> Result<Str
         }
         other => panic!("no helper: {other}"),
     };
-    Ok(file.emit_expression(&made))
+    Ok((Answer::Expr(made), file.emit_expression(&made)))
 }
 
 fn registers(
     file: &mut VastFile,
     answers: &Answers,
     arguments: &[Argument],
-) -> Result<String, Fault> {
+) -> Result<(Answer, String), Fault> {
     let clk: Expr = answers.handle(&arguments[0])?;
     let reset = match arguments[1].option() {
         None => None,
@@ -103,5 +107,5 @@ fn registers(
         Err(fault) => return Err(fault),
     };
     add_registers(&clk, reset, &definitions, scope, file)?;
-    Ok("ok".to_owned())
+    Ok((Answer::Nothing, "ok".to_owned()))
 }
