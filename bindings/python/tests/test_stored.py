@@ -97,6 +97,8 @@ class Stored(FileTest):
         self.assertEqual([title for title, _ in given], [title for title, _ in wanted])
         for number, ((title, lines), (_, text)) in enumerate(zip(given, wanted)):
             dialect, *calls = lines.removesuffix("\n").split("\n")
+            if dialect.startswith("#"):
+                continue  # a list of what only lists have: comments, named questions
             for name in SESSIONS:
                 with self.subTest(list=f"{title}, number {number}", session=name):
                     with File(dialect, session=Noted(name, dialect)) as file:

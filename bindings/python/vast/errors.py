@@ -1,13 +1,7 @@
 """Why a call gave nothing."""
 from __future__ import annotations
 
-import re
-from typing import Optional, Type, TypeVar
-
-Kind = TypeVar("Kind", bound="VastFault")
-
-# A fault as the library tells it: the line's number, a column in it, the call, the words.
-_FAULT = re.compile(r"(?:(\d+)(?::\d+)?: )?(?:([?!]?[A-Z][A-Za-z0-9]*): )?(.*)", re.DOTALL)
+from typing import Optional
 
 
 class VastFault(Exception):
@@ -28,13 +22,6 @@ class VastFault(Exception):
 
     def __str__(self) -> str:
         return ": ".join(part for part in (self.place, self.call, self.words) if part)
-
-
-def read_fault(kind: Type[Kind], message: str) -> Kind:
-    """The fault of this message; lines are numbered from 1."""
-    found = _FAULT.fullmatch(message)
-    line, call, words = found.groups() if found else (None, None, message)
-    return kind(words or "", call, None if line is None else int(line) - 1)
 
 
 class Refused(VastFault):

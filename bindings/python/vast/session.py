@@ -11,7 +11,7 @@ from bisect import bisect_left
 from ctypes import CDLL, POINTER, byref, c_char_p, c_int32, c_size_t, c_void_p, create_string_buffer
 from typing import IO, Any, Iterator, List, Optional, Protocol, Tuple, cast
 
-from .errors import Condition, NoLibrary, NotInForm, Refused, read_fault
+from .errors import Condition, NoLibrary, NotInForm, Refused
 
 _HERE = os.path.dirname(os.path.abspath(__file__))
 _ROOT = os.path.dirname(os.path.dirname(os.path.dirname(_HERE)))
@@ -42,7 +42,9 @@ class LibrarySession:
 
     DIALECTS = {"verilog": 0, "systemverilog": 1}
     FAULTS = {1: Refused, 2: Condition, 3: NotInForm}
-    ANSWER, MESSAGE, FILE = 0, 1, 2
+    ANSWER, WORDS, CALL, FILE = 0, 2, 3, 4
+    LINE = 1
+    SHORT = 256  # bytes: texts up to this length are copied by one call
 
     def __init__(self, library: CDLL, dialect: str) -> None:
         self._library = library
@@ -77,9 +79,11 @@ class LibrarySession:
 
     def _text(self, number: int) -> str:
         """A text of the session."""
-        length = self._library.vast_text(self._session, number, None, 0)
-        room = create_string_buffer(length + 1)
-        self._library.vast_text(self._session, number, room, length)
+        room = create_string_buffer(self.SHORT)
+        length = self._library.vast_text(self._session, number, room, self.SHORT)
+        if length > self.SHORT:
+            room = create_string_buffer(length)
+            self._library.vast_text(self._session, number, room, length)
         return room.raw[:length].decode()
 
     def _check(self, status: int) -> None:
@@ -92,7 +96,11 @@ class LibrarySession:
             return MemoryError("out of memory")
         if status == 5:
             return ValueError("the file is closed")
-        return read_fault(self.FAULTS[status], self._text(self.MESSAGE))
+        line = self._library.vast_number(self._session, self.LINE)
+        call = self._text(self.CALL)
+        words = self._text(self.WORDS)
+        # Lines are numbered from 1, and 0 is none.
+        return self.FAULTS[status](words, call or None, line - 1 if line else None)
 
 
 def load_library(path: str) -> CDLL:
@@ -103,6 +111,8 @@ def load_library(path: str) -> CDLL:
     library.vast_lines.argtypes = [session, c_char_p, c_size_t, POINTER(c_size_t)]
     library.vast_print.argtypes = [session]
     library.vast_text.argtypes = [session, c_int32, c_char_p, c_size_t]
+    library.vast_number.argtypes = [session, c_int32]
+    library.vast_number.restype = c_size_t
     library.vast_close.argtypes = [session]
     library.vast_close.restype = None
     library.vast_text.restype = c_size_t
