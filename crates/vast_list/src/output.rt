@@ -4,9 +4,6 @@ ghost use Rattle.std.specs.Prelude.{◌≡◌, IfOk, IfSome, None};
 ghost use Rattle.vast_print.specs.Layout.{IsFileText};
 ghost use Rattle.vast_list.specs.Output.{header_line, BeginsWithHeader, IsOutput};
 
-#[cfg(test)]
-mod tests;
-
 use crate::again::Trial;
 use crate::answering::{Answering, Told};
 use crate::fault::{Fault, LineFault};

@@ -4,6 +4,8 @@
 mod files;
 mod help;
 mod input;
+#[cfg(test)]
+mod mistakes;
 mod outcome;
 mod program;
 mod session;

@@ -1,10 +1,8 @@
 //! What is told of lists: a row for each mistake.
 
-use super::{MOST_FAULTS, Verdict, list_output};
-use crate::lines::ListLines;
-use crate::tries::Tries;
 use std::alloc::{AllocError, Global};
 use std::fmt::Write;
+use vast_list::{ListLines, ListOutput, MOST_FAULTS, Tries, Verdict, list_output};
 
 /// The lines of a list without a header.
 fn lines_of(alloc: Global, list: &str) -> Result<ListLines<'_>, AllocError> {
@@ -33,7 +31,8 @@ fn told(alloc: Global, list: &str) -> Result<String, AllocError> {
 /// The file's text.
 fn printed(alloc: Global, list: &str) -> Result<String, AllocError> {
     let made = list_output(alloc, Tries::Once, &lines_of(alloc, list)?)?;
-    match made.output {
+    let ListOutput { output, .. } = made;
+    match output {
         Some(text) => Ok(String::from_utf8(text).unwrap_or(String::new(alloc))),
         None => Ok(String::new(alloc)),
     }
