@@ -46,7 +46,7 @@ struct Ran {
     err: Vec<u8>,
 }
 
-fn ran(alloc: Global, form: Form, tries: Tries, list: &[u8]) -> Ran {
+fn outcome_of(alloc: Global, form: Form, tries: Tries, list: &[u8]) -> Ran {
     let mut out: Vec<u8> = Vec::new(alloc);
     let mut err: Vec<u8> = Vec::new(alloc);
     let mut input = list;
@@ -68,7 +68,7 @@ fn one_list_is_a_design(rt: HostRuntime) {
         (Tries::Again, NAMED),
     ];
     for (tries, list) in lists {
-        let ran = ran(rt.alloc(), Form::Text, tries, list.as_bytes());
+        let ran = outcome_of(rt.alloc(), Form::Text, tries, list.as_bytes());
         assert_eq!(rt; ran.outcome, Outcome::Made);
         assert!(rt; ran.out.as_slice() == DESIGN.as_bytes());
         assert!(rt; ran.err.is_empty());
@@ -97,7 +97,7 @@ fn a_fault_is_told_in_place_of_a_design(rt: HostRuntime) {
         (b"", Outcome::NotInForm, "a.list:1:1: "),
     ];
     for (list, outcome, told) in faults {
-        let ran = ran(rt.alloc(), Form::Text, Tries::Once, list);
+        let ran = outcome_of(rt.alloc(), Form::Text, Tries::Once, list);
         assert_eq!(rt; ran.outcome, outcome);
         assert!(rt; ran.out.is_empty());
         assert!(rt; ran.err.starts_with(told.as_bytes()));
@@ -106,11 +106,11 @@ fn a_fault_is_told_in_place_of_a_design(rt: HostRuntime) {
 
 #[test]
 fn a_check_prints_no_design(rt: HostRuntime) {
-    let made = ran(rt.alloc(), Form::Faults, Tries::Once, NAMED.as_bytes());
+    let made = outcome_of(rt.alloc(), Form::Faults, Tries::Once, NAMED.as_bytes());
     assert_eq!(rt; made.outcome, Outcome::Made);
     assert!(rt; made.out.is_empty() && made.err.is_empty());
     let list = b"verilog\nMakeNot 0";
-    let refused = ran(rt.alloc(), Form::Faults, Tries::Once, list);
+    let refused = outcome_of(rt.alloc(), Form::Faults, Tries::Once, list);
     assert_eq!(rt; refused.outcome, Outcome::Refused);
     assert!(rt; refused.out.is_empty());
     assert!(rt; refused.err.starts_with(b"a.list:2: MakeNot: "));
@@ -118,7 +118,7 @@ fn a_check_prints_no_design(rt: HostRuntime) {
 
 #[test]
 fn lists_around_a_bad_line_are_answered(rt: HostRuntime) {
-    let ran = ran(rt.alloc(), Form::Text, Tries::Once, TWO.as_bytes());
+    let ran = outcome_of(rt.alloc(), Form::Text, Tries::Once, TWO.as_bytes());
     assert_eq!(rt; ran.outcome, Outcome::NotInForm);
     assert!(rt; ran.out.as_slice() == "== two\nrefused: step 0: no such answer\n".as_bytes());
     assert!(rt; ran.err.starts_with(b"a.list:4:"));
@@ -128,7 +128,7 @@ fn lists_around_a_bad_line_are_answered(rt: HostRuntime) {
 fn a_list_is_a_line_of_json(rt: HostRuntime) {
     let list =
         b"verilog\nm = AddModule \"m\"\nt = MakeScalarType\nAddWire m \"a\" t\n?ModuleName m\n?ModuleMemberCount m\n";
-    let ran = ran(rt.alloc(), Form::Json, Tries::Once, list);
+    let ran = outcome_of(rt.alloc(), Form::Json, Tries::Once, list);
     let wanted =
         r#"{"source":"a.list","title":null,"line":1,"verdict":"made","answers":[{"line":5,"call":"?ModuleName","answer":"m"},{"line":6,"call":"?ModuleMemberCount","answer":1}],"faults":[],"more":0,"text":"module m;\n  wire a;\nendmodule\n"}"#;
     assert_eq!(rt; ran.outcome, Outcome::Made);
