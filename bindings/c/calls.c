@@ -77,10 +77,13 @@ static int faults(void)
     vast_session s = NULL;
     size_t taken;
     CHECK(vast_open(&s, VAST_VERILOG) == VAST_OK);
-    CHECK(lines(&s, "m = AddModule \"m\"\nbit = MakeScalarType\na = AddWire m \"a\" bit\nAddReg m \"a\" bit\n", &taken) == VAST_REFUSED);
+    CHECK(lines(&s, "m = AddModule \"m\"\nbit = MakeScalarType\na = AddWire m \"a\" bit\nAddWire m \"a\" bit\n", &taken) == VAST_CONDITION);
     CHECK(taken == 3 && vast_number(&s, VAST_COUNT) == 3);
-    CHECK(vast_number(&s, VAST_LINE) == 4 && vast_number(&s, VAST_COLUMN) == 0 && is_text(&s, VAST_CALL, "AddReg"));
-    CHECK(vast_text(&s, VAST_MESSAGE, (uint8_t *)&taken, 0) > vast_text(&s, VAST_WORDS, (uint8_t *)&taken, 0));
+    CHECK(vast_number(&s, VAST_LINE) == 4 && vast_number(&s, VAST_COLUMN) == 0 && is_text(&s, VAST_CALL, "AddWire"));
+    CHECK(is_text(&s, VAST_WORDS, "the name \"a\" is taken in the module"));
+    CHECK(is_text(&s, VAST_MESSAGE, "4: AddWire: the name \"a\" is taken in the module"));
+    CHECK(lines(&s, "MakeLiteral \"bits[8]:999\" Hex\n", &taken) == VAST_REFUSED && taken == 0);
+    CHECK(is_text(&s, VAST_WORDS, "literal `bits[8]:999` does not fit in 8 bits"));
     CHECK(lines(&s, "MakeScalarType\nAddWire bit \"b\" bit\n", &taken) == VAST_CONDITION && taken == 1);
     CHECK(vast_number(&s, VAST_LINE) == 5 && vast_number(&s, VAST_COUNT) == 4);
     CHECK(lines(&s, "AddWire m \"b\" bit bit\n", &taken) == VAST_FORM && taken == 0 && vast_number(&s, VAST_COLUMN) > 0);

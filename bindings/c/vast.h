@@ -41,13 +41,14 @@ typedef struct vast_session_state *vast_session;
 /* What a call answers. */
 enum {
     VAST_OK = 0,
-    /* The library refuses what the line asks, as a name that is taken. */
+    /* The library refuses what the line asks, as a literal that does not fit its width; or the file's text. */
     VAST_REFUSED = 1,
-    /* A condition of the call is not met, as a handle of another kind, or a width below 1. */
+    /* A condition of the call is not met, as a name that is taken, a handle of another kind, or a width below 1. */
     VAST_CONDITION = 2,
     /* The line is not in the form of docs/LISTS.md, or not UTF-8. */
     VAST_FORM = 3,
-    /* A request for memory was refused. The same call may be made again. */
+    /* A request for memory was refused. The same line may be given again; but where it is a question with a name, the
+     * name may be taken by then. */
     VAST_MEMORY = 4,
     /* The session is NULL. */
     VAST_NOT_OPEN = 5,
