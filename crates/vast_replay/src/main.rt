@@ -32,6 +32,29 @@ fn arguments(rt: &HostRuntime) -> std::io::Result<Vec<String>> {
     Ok(words)
 }
 
+/// The words, asked twice, since memory may be refused.
+fn arguments_again(rt: &HostRuntime) -> std::io::Result<Vec<String>> {
+    match arguments(rt) {
+        Err(error) if error.kind() == ErrorKind::OutOfMemory => arguments(rt),
+        read => read,
+    }
+}
+
+/// What the words ask for, asked twice, since memory may be refused.
+fn requested_again<'a>(alloc: Global, words: &[&'a str]) -> Result<Request<'a>, WordFault<'a>> {
+    match requested(alloc, words) {
+        Err(WordFault::Memory) => requested(alloc, words),
+        read => read,
+    }
+}
+
+fn slices_again(alloc: Global, words: &[String]) -> Result<Vec<&str>, AllocError> {
+    match slices(alloc, words) {
+        Err(_) => slices(alloc, words),
+        made => made,
+    }
+}
+
 fn slices(alloc: Global, words: &[String]) -> Result<Vec<&str>, AllocError> {
     words.iter().map(|word| word.as_str()).collect(alloc)
 }
@@ -39,8 +62,8 @@ fn slices(alloc: Global, words: &[String]) -> Result<Vec<&str>, AllocError> {
 fn main(rt: HostRuntime) -> ExitCode {
     let alloc = rt.alloc();
     let mut err = rt.stderr();
-    let outcome = match arguments(&rt) {
-        Ok(words) => match slices(alloc, &words) {
+    let outcome = match arguments_again(&rt) {
+        Ok(words) => match slices_again(alloc, &words) {
             Ok(words) => answer_words(&rt, &words),
             Err(_) => fail("out of memory", &mut err),
         },
@@ -56,7 +79,7 @@ fn main(rt: HostRuntime) -> ExitCode {
 fn answer_words(rt: &HostRuntime, words: &[&str]) -> Outcome {
     let alloc = rt.alloc();
     let mut err = rt.stderr();
-    match requested(alloc, words) {
+    match requested_again(alloc, words) {
         Ok(Request::Help) => print(rt, HELP),
         Ok(Request::Version) => print(rt, VERSION),
         Ok(Request::Calls) => print_made(rt, calls_text(alloc)),
