@@ -12,3 +12,4 @@ pub mod Statements
 pub mod Loops
 pub mod Script
 pub mod Laws
+pub mod Headline
