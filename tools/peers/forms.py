@@ -1,0 +1,3 @@
+"""forms"""
+def show_forms(tools):
+    pass
