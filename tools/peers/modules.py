@@ -141,7 +141,8 @@ class Modules(Random):
         if self.source.random() < 0.2:
             members = (self.inner_loop(made, place),)
         self.places = []
-        self.members.append(("loop", place, integer(0), self.of(integer(8), ("binary", "+", name("P"), integer(5))), label, members))
+        end = self.of(integer(8), ("binary", "+", name("P"), integer(5)))
+        self.members.append(("loop", place, integer(0), end, label, members))
         self.know(made, BYTE)
 
     def loop_members(self, bit):
@@ -211,8 +212,10 @@ class Modules(Random):
         """A case over distinct labels, with a default or without."""
         word, arms = self.of("case", "case", "casez", "casex"), []
         for value in self.source.sample(range(16), self.of(1, 2, 3)):
-            plain = self.number(4, value, self.of("Binary", "Hex", "UnsignedDecimal"))
-            arms.append((self.pattern(4) if word != "case" and self.source.random() < 0.6 else plain, self.body(depth, sign, targets)))
+            label = self.number(4, value, self.of("Binary", "Hex", "UnsignedDecimal"))
+            if word != "case" and self.source.random() < 0.6:
+                label = self.pattern(4)
+            arms.append((label, self.body(depth, sign, targets)))
         if self.source.random() < 0.7:
             arms.append((None, self.body(depth, sign, targets)))
         unique = self.source.random() < 0.2 and arms[-1][0] is None

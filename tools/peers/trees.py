@@ -65,9 +65,9 @@ def plain(tree):
 
 
 def vector(width, signed=False, dimensions=()):
-    """The type of so many bits, in an array of these dimensions."""
+    """The type of so many bits, in an array of these dimensions; a single bit has no sign."""
     high = None if width == 1 else integer(width - 1)
-    return (signed, high, tuple(map(integer, dimensions)))
+    return (signed and width > 1, high, tuple(map(integer, dimensions)))
 
 
 def coarse(tree):
