@@ -41,6 +41,9 @@ COMMANDS = {
                   "verilog": ["verilator", "--lint-only", "-Wno-fatal", "-Wno-lint", "-Wno-style",
                               "--language", "1364-2005", "form.v"]},
 }
+# Of an error's words, which say that the text was not read.
+SYNTAX = (r"syntax error|SystemVerilog mode|[Rr]equires SystemVerilog|only supported in System|irective|unterminated|"
+          r"Unknown verilator|without matching|no matching|outside of macro")
 NAMES = {"yosys": "Yosys", "iverilog": "Icarus", "verilator": "Verilator"}
 
 
@@ -85,13 +88,13 @@ def verdict(tool, form, text):
             ran = subprocess.run(command, cwd=room, capture_output=True, text=True, errors="replace", timeout=60)
         except subprocess.TimeoutExpired:
             return "no end"
-    said = ran.stdout + ran.stderr
     if ran.returncode == 0:
         return ""
-    if ran.returncode < 0 or ran.returncode > 128 or re.search(r"assert|Internal Error|Abort", said):
+    errors = [it for it in (ran.stdout + ran.stderr).splitlines() if re.search(r"(?i)error|assert|abort", it)]
+    first = errors[0] if errors else ""
+    if ran.returncode < 0 or ran.returncode > 128 or re.search("assert|Internal Error", first):
         return "crash"
-    return "syntax" if re.search(r"syntax error|SystemVerilog mode|[Rr]equires SystemVerilog|irective|Unknown verilator|"
-                                 r"unterminated|without matching|no matching|only supported in System", said) else "elaboration"
+    return "syntax" if re.search(SYNTAX, first) else "elaboration"
 
 
 def code(text):
