@@ -13,7 +13,6 @@ use Rattle.vast_read.specs.declared.tree.member.NormalMember.{NormalMember}
 use Rattle.vast_read.proofs.Steps.{then_some, then_none, either_some, either_none}
 use Rattle.vast_read.proofs.MemberLists.{events_join, events_end, events_go_on, events_fail, connections_join, connections_end, connections_go_on, connections_fail, givens_join, givens_end, givens_go_on, givens_fail, inputs_join, inputs_end, inputs_go_on, inputs_fail, locals_begin, locals_end, locals_go_on, locals_fail}
 use Rattle.vast_read.proofs.MemberSteps.{event_reads, value_reads, connection_reads, given_reads, instance_end_reads, given_parameters_read, instance_reads, macro_ending_reads, macro_reads, same_word_none, number_one_none, loop_start_reads, loop_bound_reads, loop_step_reads, loop_label_reads, loop_block_reads, loop_end_reads, loop_reads, input_reads, local_reads, lone_reads, function_block_reads, function_ending_reads, function_reads, assign_part_reads, combinational_reads, conditional_reads, parameter_part_reads, clocked_reads, declaration_part_reads, member_reads, other_part_reads, unkeyed_kind, unkeyed_plain, plain_end, plain_word, plain_macro, plain_key, plain_keyword, plain_system, plain_number, plain_based, plain_quoted, plain_operator, plain_mark, members_begin, members_end, members_go_on, members_fail}
-use Rattle.vast_read.proofs.DeclarationLaws.{declarations_more}
 
 pub events_more : (es : List Event) (e : Event) → events_view (es ++ e ∷ []) ≡ events_view es ++ (event_view e ∷ [])
 events_more [] e = refl
@@ -91,9 +90,9 @@ pub ruleset others = (either_some, either_none, other_part_reads)
 
 pub ruleset inputs = (then_some, then_none, input_reads)
 
-pub ruleset input_lists = (then_some, then_none, declarations_more, inputs_join, inputs_end, inputs_go_on, inputs_fail)
+pub ruleset input_lists = (then_some, then_none, inputs_join, inputs_end, inputs_go_on, inputs_fail)
 
-pub ruleset local_lists = (then_some, then_none, declarations_more, locals_begin, locals_end, locals_go_on, locals_fail)
+pub ruleset local_lists = (then_some, then_none, locals_begin, locals_end, locals_go_on, locals_fail)
 
 pub ruleset lone_cases = (then_some, then_none, lone_reads)
 

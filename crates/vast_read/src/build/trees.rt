@@ -1,5 +1,7 @@
 //! Trees.
 
+mod declarations;
+
 use crate::build::Build;
 use crate::children::Children;
 use crate::fault::Fault;

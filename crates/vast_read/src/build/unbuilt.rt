@@ -1,5 +1,7 @@
 //! Nothing, where no tree is wanted.
 
+mod declarations;
+
 use crate::build::Build;
 use crate::fault::Fault;
 use crate::machine::Waiting;

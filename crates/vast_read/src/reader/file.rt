@@ -7,6 +7,7 @@ ghost use Rattle.vast_read.specs.Answers.{ReadsAs};
 ghost use Rattle.vast_read.specs.Includes.{include_text};
 ghost use Rattle.vast_read.specs.FileView.{parameter_view, parameters_view, port_view, ports_view, item_view, items_view, file_view};
 
+use crate::build::Trees;
 use crate::children::Children;
 use crate::fault::Fault;
 use crate::reader::Reader;
@@ -22,7 +23,7 @@ impl<'t> Reader<'t> {
         ensures fewer { length self.new ≤ length self.old }
     {
         self.expect_key(Key::Parameter)?;
-        let declared = self.declaration()?;
+        let declared = self.declaration::<Trees>()?;
         self.expect(Mark::Assign)?;
         let value = self.expression()?;
         Parameter::new(self.alloc, declared, value)
@@ -78,7 +79,7 @@ impl<'t> Reader<'t> {
         match self.key_in(KeyClass::Direction) {
             None => Err(Fault::Underived),
             Some(direction) => {
-                let declared = self.declaration()?;
+                let declared = self.declaration::<Trees>()?;
                 Port::new(self.alloc, direction, declared)
             }
         }

@@ -8,6 +8,7 @@ ghost use Rattle.vast_read.specs.MemberSteps.{joined_inputs};
 ghost use Rattle.vast_read.specs.MemberView.{member_view};
 ghost use Rattle.vast_read.specs.StatementView.{block_view};
 
+use crate::build::{BuildDeclarations, Trees};
 use crate::children::Children;
 use crate::fault::Fault;
 use crate::reader::Reader;
@@ -17,54 +18,56 @@ use crate::tree::{NormalDeclaration, NormalMember, NormalStatement};
 impl<'t> Reader<'t> {
     /// Reads an input.
     #[tactic(auto, using(crate::proofs::MemberRules::inputs))]
-    pub(crate) fn input(&mut self) -> Result<NormalDeclaration, Fault>
-        ensures reads { ReadsAs declaration_view result self.new (settled_input self.old) }
+    pub(crate) fn input<B: BuildDeclarations<'t>>(&mut self) -> Result<B::Declaration, Fault>
+        ensures reads { ReadsAs B.declares.declaration result self.new (settled_input self.old) }
         ensures fewer { length self.new ≤ length self.old }
     {
         self.expect_key(Key::Input)?;
-        self.declaration()
+        self.declaration::<B>()
     }
 
     /// Reads inputs, at least one.
     #[tactic(auto, using(crate::proofs::MemberRules::input_lists))]
-    pub(crate) fn joined_inputs(&mut self) -> Result<Children<NormalDeclaration>, Fault>
-        ensures reads { ReadsAs declarations_view result self.new (joined_inputs self.old) }
+    pub(crate) fn joined_inputs<B: BuildDeclarations<'t>>(
+        &mut self,
+    ) -> Result<B::Declarations, Fault>
+        ensures reads { ReadsAs B.declares.declarations result self.new (joined_inputs self.old) }
         ensures fewer { length self.new ≤ length self.old }
     {
-        let mut items = Children::new(self.alloc);
-        let first = self.input()?;
-        items.push(first)?;
+        let mut items = B::declarations(self.alloc);
+        let first = self.input::<B>()?;
+        B::push_declaration(&mut items, first)?;
         while self.eat(Mark::Comma) {
-            let item = self.input()?;
-            items.push(item)?;
+            let item = self.input::<B>()?;
+            B::push_declaration(&mut items, item)?;
         }
         Ok(items)
     }
 
     /// Reads inputs, perhaps none, and the parenthesis that closes them.
     #[tactic(auto, using(crate::proofs::MemberLists::closed_inputs))]
-    pub(crate) fn inputs(&mut self) -> Result<Children<NormalDeclaration>, Fault>
-        ensures reads { ReadsAs declarations_view result self.new (settled_inputs self.old) }
+    pub(crate) fn inputs<B: BuildDeclarations<'t>>(&mut self) -> Result<B::Declarations, Fault>
+        ensures reads { ReadsAs B.declares.declarations result self.new (settled_inputs self.old) }
         ensures fewer { length self.new ≤ length self.old }
     {
         if self.eat(Mark::CloseParen) {
-            return Ok(Children::new(self.alloc));
+            return Ok(B::declarations(self.alloc));
         }
-        let items = self.joined_inputs()?;
+        let items = self.joined_inputs::<B>()?;
         self.expect(Mark::CloseParen)?;
         Ok(items)
     }
 
     /// Reads the declarations of a function's locals, perhaps none.
     #[tactic(auto, using(crate::proofs::MemberRules::local_lists))]
-    pub(crate) fn locals(&mut self) -> Result<Children<NormalDeclaration>, Fault>
-        ensures reads { ReadsAs declarations_view result self.new (settled_locals self.old) }
+    pub(crate) fn locals<B: BuildDeclarations<'t>>(&mut self) -> Result<B::Declarations, Fault>
+        ensures reads { ReadsAs B.declares.declarations result self.new (settled_locals self.old) }
         ensures fewer { length self.new ≤ length self.old }
     {
-        let mut locals = Children::new(self.alloc);
+        let mut locals = B::declarations(self.alloc);
         while self.begins(KeyClass::Variable) {
-            let local = self.local()?;
-            locals.push(local)?;
+            let local = self.local::<B>()?;
+            B::push_declaration(&mut locals, local)?;
         }
         Ok(locals)
     }
@@ -109,7 +112,7 @@ impl<'t> Reader<'t> {
             (function_ending (declaration_view output) (declarations_view inputs) self.old) }
         ensures fewer { length self.new ≤ length self.old }
     {
-        let locals = self.locals()?;
+        let locals = self.locals::<Trees>()?;
         let body = self.function_block()?;
         self.expect_key(Key::EndFunction)?;
         NormalMember::function(self.alloc, output, inputs, locals, body)
@@ -122,9 +125,9 @@ impl<'t> Reader<'t> {
         ensures fewer { length self.new ≤ length self.old }
     {
         self.expect_key(Key::Automatic)?;
-        let output = self.declaration()?;
+        let output = self.declaration::<Trees>()?;
         self.expect(Mark::OpenParen)?;
-        let inputs = self.inputs()?;
+        let inputs = self.inputs::<Trees>()?;
         self.expect(Mark::Semicolon)?;
         self.function_ending(output, inputs)
     }

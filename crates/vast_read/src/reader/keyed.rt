@@ -3,16 +3,16 @@
 ghost use Rattle.std.specs.Prelude.{◌≡◌, ℕ, ◌<◌, ◌≤◌, length, IfOk};
 ghost use Rattle.vast_literal.specs.SettledMembers.{settled_local, assign_part, combinational_part, conditional_part, parameter_part, clocked_part, declaration_part};
 ghost use Rattle.vast_read.specs.Answers.{ReadsAs};
-ghost use Rattle.vast_read.specs.DeclarationView.{declaration_view};
 ghost use Rattle.vast_read.specs.MemberSteps.{unkeyed_part, other_part};
 ghost use Rattle.vast_read.specs.MemberView.{member_view};
 ghost use Rattle.vast_read.specs.TokenView.{key_view};
 
+use crate::build::{BuildDeclarations, Trees};
 use crate::children::Children;
 use crate::fault::Fault;
 use crate::reader::Reader;
 use crate::token::{Key, KeyClass, Mark};
-use crate::tree::{NormalDeclaration, NormalMember};
+use crate::tree::NormalMember;
 
 impl<'t> Reader<'t> {
     /// Reads a continuous assignment, behind its keyword.
@@ -55,7 +55,7 @@ impl<'t> Reader<'t> {
             (parameter_part (key_view key) self.old) }
         ensures fewer { length self.new ≤ length self.old }
     {
-        let declared = self.declaration()?;
+        let declared = self.declaration::<Trees>()?;
         self.expect(Mark::Assign)?;
         let value = self.enclosed(Mark::Semicolon)?;
         NormalMember::parameter(self.alloc, key, declared, value)
@@ -76,12 +76,12 @@ impl<'t> Reader<'t> {
 
     /// Reads a declaration and its semicolon.
     #[tactic(auto, using(crate::proofs::MemberRules::locals))]
-    pub(crate) fn local(&mut self) -> Result<NormalDeclaration, Fault>
-        ensures reads { ReadsAs declaration_view result self.new (settled_local self.old) }
+    pub(crate) fn local<B: BuildDeclarations<'t>>(&mut self) -> Result<B::Declaration, Fault>
+        ensures reads { ReadsAs B.declares.declaration result self.new (settled_local self.old) }
         ensures fewer { length self.new ≤ length self.old }
         ensures less { IfOk result (λ _. length self.new < length self.old) }
     {
-        let declared = self.declaration()?;
+        let declared = self.declaration::<B>()?;
         self.expect(Mark::Semicolon)?;
         Ok(declared)
     }
@@ -93,7 +93,7 @@ impl<'t> Reader<'t> {
         ensures fewer { length self.new ≤ length self.old }
         ensures less { IfOk result (λ _. length self.new < length self.old) }
     {
-        let declared = self.local()?;
+        let declared = self.local::<Trees>()?;
         NormalMember::declaration(self.alloc, declared)
     }
 
