@@ -7,11 +7,13 @@ ghost use Rattle.vast_read.specs.Reading.{Reading};
 ghost use Rattle.vast_read.specs.Steps.{join};
 ghost use Rattle.vast_read.specs.TokenView.{sign_view, key_view};
 
+mod statements;
 mod trees;
 mod unbuilt;
 
 use crate::fault::Fault;
 use crate::token::{Key, Sign};
+pub(crate) use statements::BuildStatements;
 use std::alloc::Global;
 pub(crate) use trees::Trees;
 pub(crate) use unbuilt::Unbuilt;

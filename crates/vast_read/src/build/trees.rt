@@ -1,5 +1,7 @@
 //! Trees.
 
+mod statements;
+
 use crate::build::Build;
 use crate::children::Children;
 use crate::fault::Fault;

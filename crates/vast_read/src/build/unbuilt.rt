@@ -1,5 +1,7 @@
 //! Nothing, where no tree is wanted.
 
+mod statements;
+
 use crate::build::Build;
 use crate::fault::Fault;
 use crate::machine::Waiting;

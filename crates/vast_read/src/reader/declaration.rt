@@ -11,6 +11,7 @@ ghost use Rattle.vast_read.specs.KeyClasses.{class_test};
 ghost use Rattle.vast_read.specs.TokenView.{key_view};
 ghost use Rattle.vast_read.specs.View.{view};
 
+use crate::build::Trees;
 use crate::children::Children;
 use crate::fault::Fault;
 use crate::reader::Reader;
@@ -59,7 +60,7 @@ impl<'t> Reader<'t> {
         ensures reads { ReadsAs group_view result self.new (group_rest self.old) }
         ensures fewer { length self.new ≤ length self.old }
     {
-        let first = self.expression()?;
+        let first = self.expression::<Trees>()?;
         self.group_end(first)
     }
 
@@ -73,7 +74,7 @@ impl<'t> Reader<'t> {
             Group::one(self.alloc, first)
         } else {
             self.expect(Mark::Colon)?;
-            let second = self.enclosed(Mark::CloseBracket)?;
+            let second = self.enclosed::<Trees>(Mark::CloseBracket)?;
             Group::range(self.alloc, first, second)
         }
     }

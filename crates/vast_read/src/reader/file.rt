@@ -7,6 +7,7 @@ ghost use Rattle.vast_read.specs.Answers.{ReadsAs};
 ghost use Rattle.vast_read.specs.Includes.{include_text};
 ghost use Rattle.vast_read.specs.FileView.{parameter_view, parameters_view, port_view, ports_view, item_view, items_view, file_view};
 
+use crate::build::Trees;
 use crate::children::Children;
 use crate::fault::Fault;
 use crate::reader::Reader;
@@ -24,7 +25,7 @@ impl<'t> Reader<'t> {
         self.expect_key(Key::Parameter)?;
         let declared = self.declaration()?;
         self.expect(Mark::Assign)?;
-        let value = self.expression()?;
+        let value = self.expression::<Trees>()?;
         Parameter::new(self.alloc, declared, value)
     }
 

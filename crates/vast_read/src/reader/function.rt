@@ -8,6 +8,7 @@ ghost use Rattle.vast_read.specs.MemberSteps.{joined_inputs};
 ghost use Rattle.vast_read.specs.MemberView.{member_view};
 ghost use Rattle.vast_read.specs.StatementView.{block_view};
 
+use crate::build::Trees;
 use crate::children::Children;
 use crate::fault::Fault;
 use crate::reader::Reader;
@@ -75,7 +76,7 @@ impl<'t> Reader<'t> {
         ensures reads { ReadsAs block_view result self.new (lone_case is_unique self.old) }
         ensures fewer { length self.new ≤ length self.old }
     {
-        let statement = self.cases(is_unique, Key::Casez)?;
+        let statement = self.cases::<Trees>(is_unique, Key::Casez)?;
         let mut block = Children::new(self.alloc);
         block.push(statement)?;
         Ok(block)
@@ -88,7 +89,7 @@ impl<'t> Reader<'t> {
         ensures fewer { length self.new ≤ length self.old }
     {
         if self.eat_key(Key::Begin) {
-            self.statements()
+            self.statements::<Trees>()
         } else if self.eat_key(Key::Unique) {
             self.expect_key(Key::Casez)?;
             self.lone_case(true)
