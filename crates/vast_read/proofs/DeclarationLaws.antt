@@ -1,12 +1,12 @@
 -- The laws that the functions of the reader of declarations are proved by.
-use Rattle.vast_read.proofs.Steps.{then_some, then_none, either_some, either_none, enclosed_reads}
+use Rattle.vast_read.proofs.Steps.{then_some, then_none, either_some, either_none}
 use Rattle.vast_read.proofs.DeclarationSteps.{groups_begin, groups_end, groups_go_on, groups_fail, group_rest_reads, group_end_reads, maybe_present, maybe_absent, named_reads, signed_given, type_or_name_reads, plain_word_reads, scoped_reads, behind_word_reads, behind_kind_reads, declaration_given}
 
 pub ruleset maybes = (maybe_present, maybe_absent)
 
 pub ruleset groups = (then_some, then_none, group_rest_reads)
 
-pub ruleset group_ends = (then_some, then_none, either_some, either_none, group_end_reads, enclosed_reads)
+pub ruleset group_ends = (then_some, then_none, either_some, either_none, group_end_reads)
 
 pub ruleset group_lists = (then_some, then_none, groups_begin, groups_end, groups_go_on, groups_fail)
 

@@ -9,12 +9,14 @@ ghost use Rattle.vast_read.specs.TokenView.{sign_view, key_view};
 
 mod declarations;
 mod listed;
+mod statements;
 mod trees;
 mod unbuilt;
 
 use crate::fault::Fault;
 use crate::token::{Key, Sign};
 pub(crate) use declarations::BuildDeclarations;
+pub(crate) use statements::BuildStatements;
 use std::alloc::Global;
 pub(crate) use trees::Trees;
 pub(crate) use unbuilt::Unbuilt;

@@ -1,6 +1,7 @@
 //! Trees.
 
 mod declarations;
+mod statements;
 
 use crate::build::Build;
 use crate::children::Children;

@@ -1,6 +1,7 @@
 //! Nothing, where no tree is wanted.
 
 mod declarations;
+mod statements;
 
 use crate::build::Build;
 use crate::fault::Fault;

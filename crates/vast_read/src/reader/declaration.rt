@@ -57,7 +57,7 @@ impl<'t> Reader<'t> {
         ensures reads { ReadsAs B.declares.group result self.new (group_rest self.old) }
         ensures fewer { length self.new ≤ length self.old }
     {
-        let first = self.read::<B>()?;
+        let first = self.expression::<B>()?;
         self.group_end::<B>(first)
     }
 
@@ -74,8 +74,7 @@ impl<'t> Reader<'t> {
             B::one(self.alloc, first)
         } else {
             self.expect(Mark::Colon)?;
-            let second = self.read::<B>()?;
-            self.expect(Mark::CloseBracket)?;
+            let second = self.enclosed::<B>(Mark::CloseBracket)?;
             B::range(self.alloc, first, second)
         }
     }

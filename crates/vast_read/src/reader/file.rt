@@ -25,7 +25,7 @@ impl<'t> Reader<'t> {
         self.expect_key(Key::Parameter)?;
         let declared = self.declaration::<Trees>()?;
         self.expect(Mark::Assign)?;
-        let value = self.expression()?;
+        let value = self.expression::<Trees>()?;
         Parameter::new(self.alloc, declared, value)
     }
 

@@ -78,7 +78,7 @@ impl<'t> Reader<'t> {
         ensures reads { ReadsAs block_view result self.new (lone_case is_unique self.old) }
         ensures fewer { length self.new ≤ length self.old }
     {
-        let statement = self.cases(is_unique, Key::Casez)?;
+        let statement = self.cases::<Trees>(is_unique, Key::Casez)?;
         let mut block = Children::new(self.alloc);
         block.push(statement)?;
         Ok(block)
@@ -91,7 +91,7 @@ impl<'t> Reader<'t> {
         ensures fewer { length self.new ≤ length self.old }
     {
         if self.eat_key(Key::Begin) {
-            self.statements()
+            self.statements::<Trees>()
         } else if self.eat_key(Key::Unique) {
             self.expect_key(Key::Casez)?;
             self.lone_case(true)

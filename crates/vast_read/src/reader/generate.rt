@@ -8,6 +8,7 @@ ghost use Rattle.vast_read.specs.MemberView.{member_view, members_view};
 ghost use Rattle.vast_read.specs.TokenView.{key_view};
 ghost use Rattle.vast_read.specs.View.{view};
 
+use crate::build::Trees;
 use crate::children::Children;
 use crate::fault::Fault;
 use crate::reader::Reader;
@@ -56,7 +57,7 @@ impl<'t> Reader<'t> {
         self.expect_key(Key::Genvar)?;
         let variable = self.word()?;
         self.expect(Mark::Assign)?;
-        let start = self.enclosed(Mark::Semicolon)?;
+        let start = self.enclosed::<Trees>(Mark::Semicolon)?;
         Ok((variable, start))
     }
 
@@ -66,7 +67,7 @@ impl<'t> Reader<'t> {
         ensures reads { ReadsAs view result self.new (loop_bound variable.now self.old) }
         ensures fewer { length self.new ≤ length self.old }
     {
-        let condition = self.enclosed(Mark::Semicolon)?;
+        let condition = self.enclosed::<Trees>(Mark::Semicolon)?;
         match condition.bound(variable) {
             Some(end) => Ok(end),
             None => Err(Fault::Underived),

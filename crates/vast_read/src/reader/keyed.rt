@@ -21,9 +21,9 @@ impl<'t> Reader<'t> {
         ensures reads { ReadsAs member_view result self.new (assign_part self.old) }
         ensures fewer { length self.new ≤ length self.old }
     {
-        let left = self.selected()?;
+        let left = self.selected::<Trees>()?;
         self.expect(Mark::Assign)?;
-        let right = self.enclosed(Mark::Semicolon)?;
+        let right = self.enclosed::<Trees>(Mark::Semicolon)?;
         NormalMember::assign(self.alloc, left, right)
     }
 
@@ -33,7 +33,7 @@ impl<'t> Reader<'t> {
         ensures reads { ReadsAs member_view result self.new (combinational_part self.old) }
         ensures fewer { length self.new ≤ length self.old }
     {
-        let body = self.block()?;
+        let body = self.block::<Trees>()?;
         let none = Children::new(self.alloc);
         NormalMember::always(self.alloc, Key::AlwaysComb, none, body)
     }
@@ -44,7 +44,7 @@ impl<'t> Reader<'t> {
         ensures reads { ReadsAs member_view result self.new (conditional_part self.old) }
         ensures fewer { length self.new ≤ length self.old }
     {
-        let choice = self.conditional()?;
+        let choice = self.conditional::<Trees>()?;
         NormalMember::conditional(self.alloc, choice)
     }
 
@@ -57,7 +57,7 @@ impl<'t> Reader<'t> {
     {
         let declared = self.declaration::<Trees>()?;
         self.expect(Mark::Assign)?;
-        let value = self.enclosed(Mark::Semicolon)?;
+        let value = self.enclosed::<Trees>(Mark::Semicolon)?;
         NormalMember::parameter(self.alloc, key, declared, value)
     }
 
@@ -70,7 +70,7 @@ impl<'t> Reader<'t> {
         self.expect(Mark::At)?;
         self.expect(Mark::OpenParen)?;
         let events = self.events()?;
-        let body = self.block()?;
+        let body = self.block::<Trees>()?;
         NormalMember::always(self.alloc, key, events, body)
     }
 

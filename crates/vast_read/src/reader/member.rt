@@ -10,6 +10,7 @@ ghost use Rattle.vast_read.specs.MemberView.{event_view, events_view, connection
 ghost use Rattle.vast_read.specs.TokenView.{key_view};
 ghost use Rattle.vast_read.specs.View.{listed};
 
+use crate::build::Trees;
 use crate::children::Children;
 use crate::fault::Fault;
 use crate::reader::Reader;
@@ -39,7 +40,7 @@ impl<'t> Reader<'t> {
     {
         match self.key_in(KeyClass::Edge) {
             Some(edge) => {
-                let expression = self.expression()?;
+                let expression = self.expression::<Trees>()?;
                 Event::at_edge(self.alloc, edge, expression)
             }
             None => {
@@ -89,7 +90,7 @@ impl<'t> Reader<'t> {
         if self.eat(Mark::CloseParen) {
             Connection::open(self.alloc, name)
         } else {
-            let value = self.enclosed(Mark::CloseParen)?;
+            let value = self.enclosed::<Trees>(Mark::CloseParen)?;
             Connection::new(self.alloc, name, value)
         }
     }
@@ -115,7 +116,7 @@ impl<'t> Reader<'t> {
         self.expect(Mark::Dot)?;
         let name = self.word()?;
         self.expect(Mark::OpenParen)?;
-        let value = self.enclosed(Mark::CloseParen)?;
+        let value = self.enclosed::<Trees>(Mark::CloseParen)?;
         Connection::new(self.alloc, name, value)
     }
 
@@ -236,7 +237,7 @@ impl<'t> Reader<'t> {
         ensures fewer { length self.new ≤ length self.old }
     {
         if self.eat(Mark::OpenParen) {
-            let parts = self.arguments(Mark::CloseParen)?;
+            let parts = self.arguments::<Trees>(Mark::CloseParen)?;
             self.macro_ending(name, Some(parts))
         } else {
             self.macro_ending(name, None)
