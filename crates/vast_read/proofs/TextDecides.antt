@@ -46,4 +46,14 @@ module _ {E : Type 0} (text : List ℕ) where
   answer_read_back (Ok None) d n = λ t y. absurd (text_without_file text (n refl) t y)
   answer_read_back (Err _) d n = tt
 
+-- Whether a file is derived, by what was read.
+
+module _ {F : Type 0} (text : List ℕ) (see : F → NormalFile) where
+  pub some_derives : (o : Option F) (x : F) → o ≡ Some x → IfSome o (λ y. IsFile (lex Gap text) (see y)) → (t : NormalFile) × DerivesFile text t
+  some_derives o x e d = go o e d
+    where
+      go : (u : Option F) → u ≡ Some x → IfSome u (λ y. IsFile (lex Gap text) (see y)) → (t : NormalFile) × DerivesFile text t
+      go None e d = absurd (cc)
+      go (Some y) e d = (see y, text_derives text (see y) d)
+
 pub ruleset files = (file_spelled, file_none, file_more)

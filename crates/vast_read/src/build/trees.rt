@@ -1,6 +1,8 @@
 //! Trees.
 
 mod declarations;
+mod files;
+mod members;
 mod statements;
 
 use crate::build::Build;
