@@ -9,12 +9,4 @@ pub ruleset simple_statements = (then_some, then_none, either_some, either_none,
 
 pub ruleset assignments = (then_some, then_none, either_some, either_none, assign_reads)
 
-pub ruleset cases = (then_some, then_none, either_some, either_none, cases_read, unique_reads)
-
 pub ruleset blocks = (then_some, then_none, either_some, either_none, block_reads, statements_begin, statements_end, statements_go_on, statements_fail)
-
-pub ruleset arms = (then_some, then_none, either_some, either_none, choice_arm_reads)
-
-pub ruleset labels = (then_some, then_none, either_some, either_none, label_reads, label_arm_reads)
-
-pub ruleset bodies = (then_some, then_none, either_some, either_none, body_reads, bare_reads)

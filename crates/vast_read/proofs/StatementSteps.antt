@@ -135,7 +135,7 @@ pub statements_end : (xs : NormalStatements) (ts us : List Token) → after_key 
 unfolding with_block
 statements_end xs ts us e = rw (statements_read ts) (simp (e, either_some, then_some, join_done))
 
-with_one : (xs : NormalStatements) (s : NormalStatement) (o : ReadOf NormalStatements) → with_block xs (o >>= λ ss. Some (Then s ss.0, ss.1)) ≡ with_block (join_block xs (Then s Done)) o
+pub with_one : (xs : NormalStatements) (s : NormalStatement) (o : ReadOf NormalStatements) → with_block xs (o >>= λ ss. Some (Then s ss.0, ss.1)) ≡ with_block (join_block xs (Then s Done)) o
 unfolding with_block ◌>>=◌
 with_one xs s None = refl
 with_one xs s (Some y) = ap (λ (zs : NormalStatements). Some (zs, y.1)) (sym (join_twice xs (Then s Done) y.0))
@@ -275,7 +275,7 @@ pub labels_end : (z : Bool) (xs : Labels) (ts us : List Token) → after_key End
 unfolding with_labels
 labels_end z xs ts us e = rw (labels_read z ts) (simp (e, either_some, then_some, labels_none))
 
-with_one_label : (xs : Labels) (l : LabelPart) (o : ReadOf Labels) → with_labels xs (o >>= λ a. Some (Label l.0 l.1 a.0, a.1)) ≡ with_labels (join_labels xs (Label l.0 l.1 NoLabels)) o
+pub with_one_label : (xs : Labels) (l : LabelPart) (o : ReadOf Labels) → with_labels xs (o >>= λ a. Some (Label l.0 l.1 a.0, a.1)) ≡ with_labels (join_labels xs (Label l.0 l.1 NoLabels)) o
 unfolding with_labels ◌>>=◌
 with_one_label xs l None = refl
 with_one_label xs l (Some y) = ap (λ (zs : Labels). Some (zs, y.1)) (sym (labels_twice xs (Label l.0 l.1 NoLabels) y.0))

@@ -197,7 +197,7 @@ impl<'t> Reader<'t> {
     }
 
     /// Begins a case, behind `unique`.
-    #[tactic(auto, using(crate::proofs::StatementLaws::cases))]
+    #[tactic(auto, using(crate::proofs::OpenBlocks::uniques))]
     fn begin_unique<B: BuildStatements<'t>>(&mut self) -> Result<ProgressOf<'t, B>, Fault>
         ensures keeps { Ends B.sees.tree B.acts result self.new (unique_case self.old) }
         ensures fewer { length self.new ≤ length self.old }
@@ -264,7 +264,7 @@ impl<'t> Reader<'t> {
     }
 
     /// Makes a case of its arms.
-    #[tactic(auto, using(crate::proofs::OpenBlocks::case_ends))]
+    #[tactic(auto, using(crate::proofs::OpenBlocks::whole_cases))]
     fn end_case<B: BuildStatements<'t>>(
         &mut self,
         case: CaseOf<'t, B>,

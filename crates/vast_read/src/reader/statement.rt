@@ -87,7 +87,6 @@ impl<'t> Reader<'t> {
     }
 
     /// Reads a statement.
-    #[tactic(auto, using(crate::proofs::OpenBlocks::statements))]
     pub(crate) fn statement<B: BuildStatements<'t>>(&mut self) -> Result<B::Statement, Fault>
         ensures reads { ReadsAs B.acts.statement result self.new
             (settled_reader.statement self.old) }
@@ -110,7 +109,6 @@ impl<'t> Reader<'t> {
     }
 
     /// Reads a case, behind its word.
-    #[tactic(auto, using(crate::proofs::OpenBlocks::cases))]
     pub(crate) fn cases<B: BuildStatements<'t>>(
         &mut self,
         is_unique: bool,
