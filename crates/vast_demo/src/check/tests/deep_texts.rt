@@ -1,4 +1,4 @@
-//! Expressions and statements of 100,000 levels are read, whichever way they nest.
+//! Expressions, statements and generate loops of 100,000 levels are read, whichever way they nest.
 
 use crate::check::tests::checked;
 use std::alloc::Global;
@@ -56,14 +56,54 @@ fn statements(rt: HostRuntime) -> Result<(), Fail> {
     let ends = ("module m; always_comb begin ", "end endmodule");
     for (before, behind, answer) in [
         ("if (a) begin ", "end ", "derived\n"),
-        ("if (a) begin end else if (a) begin ", "end else begin end ", "derived\n"),
+        (
+            "if (a) begin end else if (a) begin ",
+            "end else begin end ",
+            "derived\n",
+        ),
         ("if (a) begin end else begin ", "end ", "derived\n"),
         ("case (a) 1: begin ", "end endcase ", "derived\n"),
-        ("unique casez (a) 1: x = a; default: begin ", "end endcase ", "derived\n"),
+        (
+            "unique casez (a) 1: x = a; default: begin ",
+            "end endcase ",
+            "derived\n",
+        ),
         ("if (a) begin ", "", "not derived\n"),
-        ("case (a) 1: x = a; 2: begin ", "end endcase ", "not derived\n"),
+        (
+            "case (a) 1: x = a; 2: begin ",
+            "end endcase ",
+            "not derived\n",
+        ),
     ] {
         let text = nested(rt.alloc(), ends, "x = a; ", before, behind)?;
+        let (_, out, err) = checked(rt.alloc(), &mut text.as_bytes());
+        assert!(rt; out.as_slice() == answer.as_bytes());
+        assert!(rt; err.is_empty());
+    }
+    Ok(())
+}
+
+#[test]
+fn generate_loops(rt: HostRuntime) -> Result<(), Fail> {
+    let ends = ("module m; ", "endmodule");
+    for (before, behind, answer) in [
+        (
+            "for (genvar i = 0; i < 2; i = i + 1) begin : a ",
+            "end ",
+            "derived\n",
+        ),
+        (
+            "wire a; for (genvar i = 0; i < 2; i = i + 1) begin ",
+            "wire b; end ",
+            "derived\n",
+        ),
+        (
+            "for (genvar i = 0; i < 2; i = i + 1) begin ",
+            "",
+            "not derived\n",
+        ),
+    ] {
+        let text = nested(rt.alloc(), ends, "wire c; ", before, behind)?;
         let (_, out, err) = checked(rt.alloc(), &mut text.as_bytes());
         assert!(rt; out.as_slice() == answer.as_bytes());
         assert!(rt; err.is_empty());
