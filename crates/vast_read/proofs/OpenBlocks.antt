@@ -1,16 +1,16 @@
 -- What is read from each step of a statement on.
-use Rattle.std.proofs.Common.{◌≡◌, Bool, true, false, List, [], ◌∷◌, ◌++◌, Option, Some, None, refl, ap, ◌∙◌}
+use Rattle.std.proofs.Common.{◌≡◌, Bool, true, false, List, [], ◌∷◌, ◌++◌, Option, Some, None, refl, ◌∙◌}
 use Rattle.vast_literal.specs.Tokens.{Token, Key, ElseKey, EndCaseKey, BeginKey, EndKey}
 use Rattle.vast_literal.specs.NormalExpr.{NormalExpr}
 use Rattle.vast_literal.specs.NormalFile.{NormalStatement, ChoiceStatement, CaseStatement, NormalStatements, Done, Then, Labels, NoLabels, Label}
 use Rattle.vast_literal.specs.Parser.{◌>>=◌}
 use Rattle.vast_literal.specs.StatementParser.{ReadOf, after_key}
-use Rattle.vast_literal.specs.Settled.{either, settled_reader}
+use Rattle.vast_literal.specs.Settled.{settled_reader}
 use Rattle.vast_literal.proofs.Agree.{chained}
 use Rattle.vast_read.specs.Steps.{in_parens}
 use Rattle.vast_read.specs.StatementParts.{ChoicePart, LabelPart, arms_of, join_block, join_labels}
 use Rattle.vast_read.specs.StatementReading.{StatementReading}
-use Rattle.vast_read.specs.StatementSteps.{is_casez, cases_of, choice_statement, choice_arm, choice_behind, else_if, block, with_block, with_labels, label_at, bare_body, body_at, label_arm}
+use Rattle.vast_read.specs.StatementSteps.{is_casez, cases_of, choice_statement, choice_behind, else_if, block, with_block, with_labels, label_at, bare_body}
 use Rattle.vast_read.specs.TokenView.{key_view}
 use Rattle.vast_read.specs.declared.open.Case.{Case}
 use Rattle.vast_read.specs.declared.open.Owner.{Owner}

@@ -56,12 +56,24 @@ fn statements(rt: HostRuntime) -> Result<(), Fail> {
     let ends = ("module m; always_comb begin ", "end endmodule");
     for (before, behind, answer) in [
         ("if (a) begin ", "end ", "derived\n"),
-        ("if (a) begin end else if (a) begin ", "end else begin end ", "derived\n"),
+        (
+            "if (a) begin end else if (a) begin ",
+            "end else begin end ",
+            "derived\n",
+        ),
         ("if (a) begin end else begin ", "end ", "derived\n"),
         ("case (a) 1: begin ", "end endcase ", "derived\n"),
-        ("unique casez (a) 1: x = a; default: begin ", "end endcase ", "derived\n"),
+        (
+            "unique casez (a) 1: x = a; default: begin ",
+            "end endcase ",
+            "derived\n",
+        ),
         ("if (a) begin ", "", "not derived\n"),
-        ("case (a) 1: x = a; 2: begin ", "end endcase ", "not derived\n"),
+        (
+            "case (a) 1: x = a; 2: begin ",
+            "end endcase ",
+            "not derived\n",
+        ),
     ] {
         let text = nested(rt.alloc(), ends, "x = a; ", before, behind)?;
         let (_, out, err) = checked(rt.alloc(), &mut text.as_bytes());
