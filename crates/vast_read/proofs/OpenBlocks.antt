@@ -181,7 +181,7 @@ module _ {E S K A L C : Type 0} (tree : E → NormalExpr) (acts : StatementReadi
   case_next : (c : Case E C) (ts : List Token) → after_key EndCaseKey ts ≡ None →
       ended tree acts (progress.Arms c) ts ≡ (label_at ts >>= λ x. body_then tree acts c x.0 x.1)
   unfolding ended case_of labelled body_then
-  case_next c ts e = rw (labels_read (is_casez (key_view c.key)) ts) (rw e (simp (either_none, with_next_label, label_arm_reads, chained, then_some)))
+  case_next c ts e = rw (labels_read (is_casez (key_view c.key)) ts) (rw e (simp (either_none, with_next_label) (simp (label_arm_reads, chained, then_some))))
 
   pub case_goes_on : (c : Case E C) (x : Option NormalExpr) (ts us : List Token) → after_key EndCaseKey ts ≡ None → label_at ts ≡ Some (x, us) →
       ended tree acts (progress.Arms c) ts ≡ body_then tree acts c x us
@@ -198,7 +198,7 @@ module _ {E S K A L C : Type 0} (tree : E → NormalExpr) (acts : StatementReadi
   pub body_stands : (c : Case E C) (x : Option NormalExpr) (b : NormalStatements) (ts us : List Token) → after_key BeginKey ts ≡ None → is_casez (key_view c.key) ≡ true →
       bare_body ts ≡ Some (b, us) → body_then tree acts c x ts ≡ labelled tree acts c x b us
   unfolding body_then
-  body_stands c x b ts us e d f = rw (body_reads (is_casez (key_view c.key)) ts) (rw e (rw d (rw f (either_none _ _ ∙ then_some _ _))))
+  body_stands c x b ts us e d f = rw (body_reads (is_casez (key_view c.key)) ts) (rw e (rw d (rw f (simp (either_none, then_some)))))
 
   pub body_lacks : (c : Case E C) (x : Option NormalExpr) (ts : List Token) → after_key BeginKey ts ≡ None → is_casez (key_view c.key) ≡ true →
       bare_body ts ≡ None → body_then tree acts c x ts ≡ None
