@@ -1,16 +1,16 @@
 -- What is read from each step of a statement on.
-use Rattle.std.proofs.Common.{◌≡◌, Bool, true, false, List, [], ◌∷◌, ◌++◌, Option, Some, None, refl, ap, ◌∙◌}
+use Rattle.std.proofs.Common.{◌≡◌, Bool, true, false, List, [], ◌∷◌, ◌++◌, Option, Some, None, refl, ◌∙◌}
 use Rattle.vast_literal.specs.Tokens.{Token, Key, ElseKey, EndCaseKey, BeginKey, EndKey}
 use Rattle.vast_literal.specs.NormalExpr.{NormalExpr}
 use Rattle.vast_literal.specs.NormalFile.{NormalStatement, ChoiceStatement, CaseStatement, NormalStatements, Done, Then, Labels, NoLabels, Label}
 use Rattle.vast_literal.specs.Parser.{◌>>=◌}
 use Rattle.vast_literal.specs.StatementParser.{ReadOf, after_key}
-use Rattle.vast_literal.specs.Settled.{either, settled_reader}
+use Rattle.vast_literal.specs.Settled.{settled_reader}
 use Rattle.vast_literal.proofs.Agree.{chained}
 use Rattle.vast_read.specs.Steps.{in_parens}
 use Rattle.vast_read.specs.StatementParts.{ChoicePart, LabelPart, arms_of, join_block, join_labels}
 use Rattle.vast_read.specs.StatementReading.{StatementReading}
-use Rattle.vast_read.specs.StatementSteps.{is_casez, cases_of, choice_statement, choice_arm, choice_behind, else_if, block, with_block, with_labels, label_at, bare_body, body_at, label_arm}
+use Rattle.vast_read.specs.StatementSteps.{is_casez, cases_of, choice_statement, choice_behind, else_if, block, with_block, with_labels, label_at, bare_body}
 use Rattle.vast_read.specs.TokenView.{key_view}
 use Rattle.vast_read.specs.declared.open.Case.{Case}
 use Rattle.vast_read.specs.declared.open.Owner.{Owner}
@@ -181,7 +181,7 @@ module _ {E S K A L C : Type 0} (tree : E → NormalExpr) (acts : StatementReadi
   case_next : (c : Case E C) (ts : List Token) → after_key EndCaseKey ts ≡ None →
       ended tree acts (progress.Arms c) ts ≡ (label_at ts >>= λ x. body_then tree acts c x.0 x.1)
   unfolding ended case_of labelled body_then
-  case_next c ts e = rw (labels_read (is_casez (key_view c.key)) ts) (rw e (simp (either_none, with_next_label, label_arm_reads, chained, then_some)))
+  case_next c ts e = rw (labels_read (is_casez (key_view c.key)) ts) (rw e (simp (either_none, with_next_label) (simp (label_arm_reads, chained, then_some))))
 
   pub case_goes_on : (c : Case E C) (x : Option NormalExpr) (ts us : List Token) → after_key EndCaseKey ts ≡ None → label_at ts ≡ Some (x, us) →
       ended tree acts (progress.Arms c) ts ≡ body_then tree acts c x us
@@ -198,7 +198,7 @@ module _ {E S K A L C : Type 0} (tree : E → NormalExpr) (acts : StatementReadi
   pub body_stands : (c : Case E C) (x : Option NormalExpr) (b : NormalStatements) (ts us : List Token) → after_key BeginKey ts ≡ None → is_casez (key_view c.key) ≡ true →
       bare_body ts ≡ Some (b, us) → body_then tree acts c x ts ≡ labelled tree acts c x b us
   unfolding body_then
-  body_stands c x b ts us e d f = rw (body_reads (is_casez (key_view c.key)) ts) (rw e (rw d (rw f (either_none _ _ ∙ then_some _ _))))
+  body_stands c x b ts us e d f = rw (body_reads (is_casez (key_view c.key)) ts) (rw e (rw d (rw f (simp (either_none, then_some)))))
 
   pub body_lacks : (c : Case E C) (x : Option NormalExpr) (ts : List Token) → after_key BeginKey ts ≡ None → is_casez (key_view c.key) ≡ true →
       bare_body ts ≡ None → body_then tree acts c x ts ≡ None

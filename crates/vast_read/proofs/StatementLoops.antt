@@ -1,17 +1,17 @@
 -- The settled parser of statements as the loops of the reader go through it.
-use Rattle.std.proofs.Common.{◌≡◌, false, List, [], ◌∷◌, ◌++◌, map, Option, Some, None, refl, ap, ◌∙◌}
+use Rattle.std.proofs.Common.{◌≡◌, false, List, [], ◌∷◌, Option, Some, None, refl, ◌∙◌}
 use Rattle.vast_literal.specs.Tokens.{IfKey, ElseKey, UniqueKey, AssignKey, Token}
-use Rattle.vast_literal.specs.NormalFile.{NormalStatement, ChoiceStatement, NormalStatements, Done, Then, Arms, NoLabels, Label}
+use Rattle.vast_literal.specs.NormalFile.{NormalStatement, ChoiceStatement, NormalStatements, Done, Then, Arms}
 use Rattle.vast_literal.specs.Parser.{◌>>=◌}
 use Rattle.vast_literal.specs.StatementParser.{ReadOf, after_key, simple_at}
 use Rattle.vast_literal.specs.Nexts.{key_with}
 use Rattle.vast_literal.specs.Settled.{either, settled, settled_reader}
 use Rattle.vast_literal.proofs.Agree.{chained}
 use Rattle.vast_literal.proofs.SettledStatements.{statement_settled}
-use Rattle.vast_read.specs.StatementParts.{ChoicePart, arms_of, join_block, join_labels}
+use Rattle.vast_read.specs.StatementParts.{ChoicePart, arms_of, join_block}
 use Rattle.vast_read.specs.StatementSteps.{is_case_word, assign_at, choice_statement, cases_of, unique_case, block, choice_arm, more_arms, else_arm, arms_end, else_if, last_block, choice_behind, case_or_simple}
 use Rattle.vast_read.proofs.Steps.{then_some, then_none, either_some, either_none, enclosed_reads}
-use Rattle.vast_read.proofs.StatementSteps.{step_reads, choice_reads, choice_statement_reads, more_arms_read, label_reads, bare_reads, statements_begin, statements_end, statements_go_on, statements_fail, labels_begin, labels_end, labels_go_on, labels_fail}
+use Rattle.vast_read.proofs.StatementSteps.{step_reads, choice_reads, choice_statement_reads, label_reads, bare_reads, statements_begin, statements_end, statements_go_on, statements_fail}
 
 -- a block of one statement
 pub lone : (s : NormalStatement) → join_block Done (Then s Done) ≡ Then s Done
@@ -57,14 +57,6 @@ arms_behind ps ts us e = go (after_key ElseKey ts) e
         either o (λ vs. either (after_key IfKey vs) (λ ws. more_arms ps ws) (block vs >>= λ d. Some (arms_of ps (Some d.0), d.1))) (Some (arms_of ps None, ts)) ≡ more_arms ps us
     go None e = absurd (cc)
     go (Some vs) e = inner vs (after_key IfKey vs) e
-
-pub choice_goes_on : (ps : List ChoicePart) (p : ChoicePart) (ts us vs : List Token) → else_if ts ≡ Some us → choice_arm us ≡ Some (p, vs) → choice_behind ps ts ≡ choice_behind (ps ++ p ∷ []) vs
-unfolding choice_behind
-choice_goes_on ps p ts us vs e d = rw (arms_behind ps ts us e, more_arms_read ps us, d) (simp then_some)
-
-pub choice_fails : (ps : List ChoicePart) (ts us : List Token) → else_if ts ≡ Some us → choice_arm us ≡ None → choice_behind ps ts ≡ None
-unfolding choice_behind
-choice_fails ps ts us e d = rw (arms_behind ps ts us e, more_arms_read ps us, d) (simp then_none)
 
 abbrev with_last : NormalStatements × List Token → ReadOf (Option NormalStatements)
 with_last d = Some (Some d.0, d.1)

@@ -69,11 +69,11 @@ impl<'t> BuildStatements<'t> for Trees {
     }
 
     fn choice(arms: Children<Arm>) -> NormalStatement {
-        NormalStatement::Choice(arms, None)
+        NormalStatement::choice(arms, None)
     }
 
     fn choice_else(arms: Children<Arm>, last: Children<NormalStatement>) -> NormalStatement {
-        NormalStatement::Choice(arms, Some(last))
+        NormalStatement::choice(arms, Some(last))
     }
 
     fn label(_alloc: Global, label: NormalExpr) -> Result<Option<NormalExpr>, Fault> {
