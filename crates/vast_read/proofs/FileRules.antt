@@ -21,13 +21,9 @@ pub include_no : (m w : List ℕ) (ts us : List Token) (t : Token) → ts ≡ (t
 unfolding include_on
 include_no m w ts us t e d h = rw (e, quoted_is t w d) (rw h)
 
-pub include_found : (w p : List ℕ) (ts : List Token) → path_of w ≡ Some p → include_text w ts ≡ Some (IncludePart p, ts)
+pub include_reads : (w : List ℕ) (ts : List Token) → include_text w ts ≡ (path_of w >>= λ p. Some (IncludePart p, ts))
 unfolding include_text
-include_found w p ts e = rw e (rw then_some)
-
-pub include_lost : (w : List ℕ) (ts : List Token) → path_of w ≡ None → include_text w ts ≡ None
-unfolding include_text
-include_lost w ts e = rw e (rw then_none)
+include_reads w ts = refl
 
 -- the path between its quotes
 
@@ -96,7 +92,7 @@ pub ruleset macro_names = (include_nothing, include_other, include_macro)
 
 pub ruleset include_paths = (path_missing, path_other, include_yes, include_no)
 
-pub ruleset include_texts = (include_found, include_lost)
+pub ruleset include_texts = (then_some, then_none, include_reads)
 
 pub ruleset includes = (then_some, then_none)
 

@@ -9,7 +9,7 @@ ghost use Rattle.vast_read.specs.Includes.{include_text};
 use crate::build::BuildFiles;
 use crate::fault::Fault;
 use crate::reader::Reader;
-use crate::reader::path::path_of;
+use crate::reader::path::include_path_of;
 use crate::token::{Key, KeyClass, Mark};
 
 impl<'t> Reader<'t> {
@@ -160,10 +160,8 @@ impl<'t> Reader<'t> {
         ensures reads { ReadsAs B.files.item result self.new (include_text text.now self.old) }
         ensures fewer { length self.new ≤ length self.old }
     {
-        match path_of(text) {
-            None => Err(Fault::Underived),
-            Some(path) => B::include(self.alloc, path),
-        }
+        let path = include_path_of(text)?;
+        B::include(self.alloc, path)
     }
 
     /// Reads an include, behind its macro.
