@@ -1,20 +1,22 @@
 -- What a check finds.
-use Rattle.std.proofs.Common.{◌≡◌, ◌↔◌, ℕ, Bool, true, false, List, Option, IsTrue, IsUtf8, refl, sym, subst, rules, []}
-use Rattle.std.specs.Bool.{MatchBool}
+use Rattle.std.proofs.Common.{◌≡◌, ◌↔◌, ℕ, Bool, true, false, List, Option, Some, None, IsTrue, IfSome, IsUtf8, refl, sym, subst, rules, []}
+use Rattle.std.specs.Option.{is_some}
 use Rattle.std.specs.Io.KnownBytes.{Appends}
 use Rattle.std.proofs.KnownBytes.{Appends-nil}
-use Rattle.vast_literal.specs.NormalFile.{NormalFile}
+use Rattle.vast_literal.specs.NormalFile as normal
 use Rattle.vast_literal.specs.FileGrammar.{DerivesFile}
+use Rattle.vast_read.specs.FileView.{file_view}
+use Rattle.vast_read.specs.declared.tree.file.NormalFile.{NormalFile}
 use Rattle.vast_demo.specs.Check.{GivesAll, IsDerived, answer_line, AppendsPart, CheckEnds, derived, not_derived, fault}
 
 untrue : IsTrue false → ⊥
 untrue e = cc e
 
 pub text_answer :
-    (text bytes : List ℕ) (answer : Bool) → text ≡ bytes → IsUtf8 bytes → MatchBool answer ((t : NormalFile) × DerivesFile text t) ((t : NormalFile) → DerivesFile text t → ⊥) →
-    IsTrue answer ↔ IsDerived bytes
-text_answer text bytes true same utf8 d = (λ _. (utf8, (d.0, subst (λ x. DerivesFile x d.0) same d.1)), λ _. refl)
-text_answer text bytes false same utf8 n = (λ h. absurd (untrue h), λ h. absurd (n h.1.0 (subst (λ x. DerivesFile x h.1.0) (sym same) h.1.1)))
+    (text bytes : List ℕ) (o : Option NormalFile) (answer : Bool) → answer ≡ is_some o → text ≡ bytes → IsUtf8 bytes → IfSome o (λ t. DerivesFile text (file_view t)) →
+    (o ≡ None → (t : normal.NormalFile) → DerivesFile text t → ⊥) → IsTrue answer ↔ IsDerived bytes
+text_answer text bytes (Some t) answer e same utf8 d n = rw e (λ _. (utf8, (file_view t, subst (λ x. DerivesFile x (file_view t)) same d)), λ _. refl)
+text_answer text bytes None answer e same utf8 d n = rw e (λ h. absurd (untrue h), λ h. absurd (n refl h.1.0 (subst (λ x. DerivesFile x h.1.0) (sym same) h.1.1)))
 
 -- What `check` knows of its answer.
 abbrev Answers : Option (List ℕ) → Option (List ℕ) → Bool → Type 0

@@ -11,6 +11,7 @@ use crate::input::{InputFault, read_input};
 use std::alloc::{AllocError, Global};
 use std::io::Read;
 use std::str;
+use vast_read::read_normal;
 
 /// Whether all that the reader gives is the UTF-8 of a text that the grammar derives.
 ///
@@ -29,7 +30,7 @@ fn is_derived(alloc: Global, bytes: &[u8]) -> Result<bool, AllocError>
     ensures { IfOk result (λ answer. IsTrue answer ↔ IsDerived bytes.now) }
 {
     match str::from_utf8(bytes) {
-        Ok(text) => Ok(vast_read::is_derived(alloc, text)?),
+        Ok(text) => Ok(read_normal(alloc, text)?.is_some()),
         Err(_) => Ok(false),
     }
 }
