@@ -1,18 +1,6 @@
 -- The laws that the functions of the reader of declarations are proved by.
-use Rattle.std.proofs.Common.{◌≡◌, List, [], ◌∷◌, ◌++◌, refl, ap}
-use Rattle.vast_read.specs.DeclarationView.{group_view, groups_view, declaration_view, declarations_view}
-use Rattle.vast_read.specs.declared.tree.declaration.Group.{Group}
-use Rattle.vast_read.specs.declared.tree.declaration.NormalDeclaration.{NormalDeclaration}
 use Rattle.vast_read.proofs.Steps.{then_some, then_none, either_some, either_none}
 use Rattle.vast_read.proofs.DeclarationSteps.{groups_begin, groups_end, groups_go_on, groups_fail, group_rest_reads, group_end_reads, maybe_present, maybe_absent, named_reads, signed_given, type_or_name_reads, plain_word_reads, scoped_reads, behind_word_reads, behind_kind_reads, declaration_given}
-
-pub groups_more : (gs : List Group) (g : Group) → groups_view (gs ++ g ∷ []) ≡ groups_view gs ++ (group_view g ∷ [])
-groups_more [] g = refl
-groups_more (h ∷ gs) g = ap (λ xs. group_view h ∷ xs) (groups_more gs g)
-
-pub declarations_more : (ds : List NormalDeclaration) (d : NormalDeclaration) → declarations_view (ds ++ d ∷ []) ≡ declarations_view ds ++ (declaration_view d ∷ [])
-declarations_more [] d = refl
-declarations_more (e ∷ ds) d = ap (λ xs. declaration_view e ∷ xs) (declarations_more ds d)
 
 pub ruleset maybes = (maybe_present, maybe_absent)
 
@@ -20,7 +8,7 @@ pub ruleset groups = (then_some, then_none, group_rest_reads)
 
 pub ruleset group_ends = (then_some, then_none, either_some, either_none, group_end_reads)
 
-pub ruleset group_lists = (then_some, then_none, groups_more, groups_begin, groups_end, groups_go_on, groups_fail)
+pub ruleset group_lists = (then_some, then_none, groups_begin, groups_end, groups_go_on, groups_fail)
 
 pub ruleset heads = (then_some, then_none, named_reads)
 

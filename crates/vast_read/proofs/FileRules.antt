@@ -7,25 +7,9 @@ use Rattle.vast_literal.specs.NormalFile.{IncludePart}
 use Rattle.vast_literal.specs.Parser.{◌>>=◌}
 use Rattle.vast_literal.specs.FileParser.{path_end, path_of, include_on}
 use Rattle.vast_read.specs.FileSteps.{quoted_in}
-use Rattle.vast_read.specs.FileView.{parameter_view, parameters_view, port_view, ports_view, item_view, items_view}
 use Rattle.vast_read.specs.Includes.{include_text}
-use Rattle.vast_read.specs.declared.tree.file.Parameter.{Parameter}
-use Rattle.vast_read.specs.declared.tree.file.Port.{Port}
-use Rattle.vast_read.specs.declared.tree.file.NormalItem.{NormalItem as Item}
 use Rattle.vast_read.proofs.Steps.{then_some, then_none, either_some, either_none}
 use Rattle.vast_read.proofs.FileSteps.{parameter_reads, parameters_join, parameters_end, parameters_go_on, parameters_fail, parameter_list_reads, parameters_read, port_reads, ports_join, ports_end, ports_go_on, ports_fail, port_list_reads, ports_read, module_reads, include_nothing, include_other, include_macro, path_missing, path_other, quoted_is, path_end_gives, item_reads, items_begin, items_end, items_go_on, items_fail, file_reads}
-
-pub parameters_more : (ps : List Parameter) (p : Parameter) → parameters_view (ps ++ p ∷ []) ≡ parameters_view ps ++ (parameter_view p ∷ [])
-parameters_more [] p = refl
-parameters_more (q ∷ ps) p = ap (λ xs. parameter_view q ∷ xs) (parameters_more ps p)
-
-pub ports_more : (ps : List Port) (p : Port) → ports_view (ps ++ p ∷ []) ≡ ports_view ps ++ (port_view p ∷ [])
-ports_more [] p = refl
-ports_more (q ∷ ps) p = ap (λ xs. port_view q ∷ xs) (ports_more ps p)
-
-pub items_more : (xs : List Item) (x : Item) → items_view (xs ++ x ∷ []) ≡ items_view xs ++ (item_view x ∷ [])
-items_more [] x = refl
-items_more (y ∷ xs) x = ap (λ zs. item_view y ∷ zs) (items_more xs x)
 
 -- includes
 
@@ -37,13 +21,9 @@ pub include_no : (m w : List ℕ) (ts us : List Token) (t : Token) → ts ≡ (t
 unfolding include_on
 include_no m w ts us t e d h = rw (e, quoted_is t w d) (rw h)
 
-pub include_found : (w p : List ℕ) (ts : List Token) → path_of w ≡ Some p → include_text w ts ≡ Some (IncludePart p, ts)
+pub include_reads : (w : List ℕ) (ts : List Token) → include_text w ts ≡ (path_of w >>= λ p. Some (IncludePart p, ts))
 unfolding include_text
-include_found w p ts e = rw e (rw then_some)
-
-pub include_lost : (w : List ℕ) (ts : List Token) → path_of w ≡ None → include_text w ts ≡ None
-unfolding include_text
-include_lost w ts e = rw e (rw then_none)
+include_reads w ts = refl
 
 -- the path between its quotes
 
@@ -92,7 +72,7 @@ pub ruleset paths = (opened, unopened)
 
 pub ruleset parameters = (then_some, then_none, parameter_reads)
 
-pub ruleset parameter_lists = (then_some, then_none, parameters_more, parameters_join, parameters_end, parameters_go_on, parameters_fail)
+pub ruleset parameter_lists = (then_some, then_none, parameters_join, parameters_end, parameters_go_on, parameters_fail)
 
 pub ruleset parameters_in_parentheses = (then_some, then_none, parameter_list_reads)
 
@@ -100,7 +80,7 @@ pub ruleset header_parameters = (either_some, either_none, parameters_read)
 
 pub ruleset ports = (then_some, then_none, port_reads)
 
-pub ruleset port_lists = (then_some, then_none, ports_more, ports_join, ports_end, ports_go_on, ports_fail)
+pub ruleset port_lists = (then_some, then_none, ports_join, ports_end, ports_go_on, ports_fail)
 
 pub ruleset closed_ports = (then_some, then_none, port_list_reads)
 
@@ -112,12 +92,12 @@ pub ruleset macro_names = (include_nothing, include_other, include_macro)
 
 pub ruleset include_paths = (path_missing, path_other, include_yes, include_no)
 
-pub ruleset include_texts = (include_found, include_lost)
+pub ruleset include_texts = (then_some, then_none, include_reads)
 
 pub ruleset includes = (then_some, then_none)
 
 pub ruleset items = (either_some, either_none, item_reads)
 
-pub ruleset item_lists = (then_some, then_none, items_more, items_begin, items_end, items_go_on, items_fail)
+pub ruleset item_lists = (then_some, then_none, items_begin, items_end, items_go_on, items_fail)
 
 pub ruleset files = (then_some, then_none, file_reads)

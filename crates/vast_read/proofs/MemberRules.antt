@@ -1,31 +1,12 @@
 -- The laws that the functions of the reader of members are proved by.
-use Rattle.std.proofs.Common.{◌≡◌, ℕ, true, false, List, [], ◌∷◌, ◌++◌, Some, None, bytes_eq, codes, refl, ap}
+use Rattle.std.proofs.Common.{◌≡◌, ℕ, true, false, List, Some, None, bytes_eq, codes}
 use Rattle.vast_literal.specs.Tokens.{Token}
 use Rattle.vast_literal.specs.Parser.{word_at, number_at}
 use Rattle.vast_literal.specs.MemberParser.{same_word}
 use Rattle.vast_literal.specs.SettledMembers.{number_one}
-use Rattle.vast_literal.specs.NormalFile.{NoParts, MoreParts}
-use Rattle.vast_read.specs.MemberSteps.{join_members}
-use Rattle.vast_read.specs.MemberView.{event_view, events_view, connection_view, connections_view, member_view, members_view}
-use Rattle.vast_read.specs.declared.tree.member.Event.{Event}
-use Rattle.vast_read.specs.declared.tree.member.Connection.{Connection}
-use Rattle.vast_read.specs.declared.tree.member.NormalMember.{NormalMember}
 use Rattle.vast_read.proofs.Steps.{then_some, then_none, either_some, either_none}
 use Rattle.vast_read.proofs.MemberLists.{events_join, events_end, events_go_on, events_fail, connections_join, connections_end, connections_go_on, connections_fail, givens_join, givens_end, givens_go_on, givens_fail, inputs_join, inputs_end, inputs_go_on, inputs_fail, locals_begin, locals_end, locals_go_on, locals_fail}
-use Rattle.vast_read.proofs.MemberSteps.{event_reads, value_reads, connection_reads, given_reads, instance_end_reads, given_parameters_read, instance_reads, macro_ending_reads, macro_reads, same_word_none, number_one_none, loop_start_reads, loop_bound_reads, loop_step_reads, loop_label_reads, loop_block_reads, loop_end_reads, loop_reads, input_reads, local_reads, lone_reads, function_block_reads, function_ending_reads, function_reads, assign_part_reads, combinational_reads, conditional_reads, parameter_part_reads, clocked_reads, declaration_part_reads, member_reads, other_part_reads, unkeyed_kind, unkeyed_plain, plain_end, plain_word, plain_macro, plain_key, plain_keyword, plain_system, plain_number, plain_based, plain_quoted, plain_operator, plain_mark, members_begin, members_end, members_go_on, members_fail}
-use Rattle.vast_read.proofs.DeclarationLaws.{declarations_more}
-
-pub events_more : (es : List Event) (e : Event) → events_view (es ++ e ∷ []) ≡ events_view es ++ (event_view e ∷ [])
-events_more [] e = refl
-events_more (f ∷ es) e = ap (λ xs. event_view f ∷ xs) (events_more es e)
-
-pub connections_more : (cs : List Connection) (c : Connection) → connections_view (cs ++ c ∷ []) ≡ connections_view cs ++ (connection_view c ∷ [])
-connections_more [] c = refl
-connections_more (d ∷ cs) c = ap (λ xs. connection_view d ∷ xs) (connections_more cs c)
-
-pub members_more : (ms : List NormalMember) (m : NormalMember) → members_view (ms ++ m ∷ []) ≡ join_members (members_view ms) (MoreParts (member_view m) NoParts)
-members_more [] m = refl
-members_more (n ∷ ms) m = ap (MoreParts (member_view n)) (members_more ms m)
+use Rattle.vast_read.proofs.MemberSteps.{event_reads, value_reads, connection_reads, given_reads, instance_end_reads, given_parameters_read, instance_reads, macro_ending_reads, macro_reads, same_word_none, number_one_none, loop_start_reads, loop_bound_reads, loop_step_reads, loop_label_reads, input_reads, local_reads, lone_reads, function_block_reads, function_ending_reads, function_reads, assign_part_reads, combinational_reads, conditional_reads, parameter_part_reads, clocked_reads, declaration_part_reads, other_part_reads, unkeyed_kind, unkeyed_plain, plain_end, plain_word, plain_macro, plain_key, plain_keyword, plain_system, plain_number, plain_based, plain_quoted, plain_operator, plain_mark}
 
 -- words and numbers by how they compare
 
@@ -47,7 +28,7 @@ no_one_text w ts us e h = rw (e, then_some) (rw h)
 
 pub ruleset events = (then_some, then_none, either_some, either_none, event_reads)
 
-pub ruleset event_lists = (then_some, then_none, events_more, events_join, events_end, events_go_on, events_fail)
+pub ruleset event_lists = (then_some, then_none, events_join, events_end, events_go_on, events_fail)
 
 pub ruleset connection_values = (then_some, then_none, either_some, either_none, value_reads)
 
@@ -55,9 +36,9 @@ pub ruleset connections = (then_some, then_none, connection_reads)
 
 pub ruleset givens = (then_some, then_none, given_reads)
 
-pub ruleset connection_lists = (then_some, then_none, connections_more, connections_join, connections_end, connections_go_on, connections_fail)
+pub ruleset connection_lists = (then_some, then_none, connections_join, connections_end, connections_go_on, connections_fail)
 
-pub ruleset given_lists = (then_some, then_none, connections_more, givens_join, givens_end, givens_go_on, givens_fail)
+pub ruleset given_lists = (then_some, then_none, givens_join, givens_end, givens_go_on, givens_fail)
 
 pub ruleset parameter_lists = (then_some, then_none, given_parameters_read)
 
@@ -91,9 +72,9 @@ pub ruleset others = (either_some, either_none, other_part_reads)
 
 pub ruleset inputs = (then_some, then_none, input_reads)
 
-pub ruleset input_lists = (then_some, then_none, declarations_more, inputs_join, inputs_end, inputs_go_on, inputs_fail)
+pub ruleset input_lists = (then_some, then_none, inputs_join, inputs_end, inputs_go_on, inputs_fail)
 
-pub ruleset local_lists = (then_some, then_none, declarations_more, locals_begin, locals_end, locals_go_on, locals_fail)
+pub ruleset local_lists = (then_some, then_none, locals_begin, locals_end, locals_go_on, locals_fail)
 
 pub ruleset lone_cases = (then_some, then_none, lone_reads)
 
@@ -114,13 +95,3 @@ pub ruleset loop_bounds = (then_some, then_none, loop_bound_reads)
 pub ruleset loop_steps = (then_some, then_none, loop_step_reads)
 
 pub ruleset loop_labels = (then_some, then_none, either_some, either_none, loop_label_reads)
-
-pub ruleset loops = (then_some, then_none, loop_reads)
-
-pub ruleset loop_ends = (then_some, then_none, loop_end_reads)
-
-pub ruleset loop_blocks = (then_some, then_none, loop_block_reads)
-
-pub ruleset members = (either_some, either_none, member_reads)
-
-pub ruleset member_lists = (then_some, then_none, members_more, members_begin, members_end, members_go_on, members_fail)

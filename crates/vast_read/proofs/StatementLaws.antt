@@ -1,7 +1,7 @@
 -- The laws that the functions of the reader of statements are proved by.
 use Rattle.vast_read.proofs.Steps.{then_some, then_none, either_some, either_none}
 use Rattle.vast_read.proofs.KeyNexts.{arrow_reads}
-use Rattle.vast_read.proofs.StatementSteps.{simple_reads, assign_reads, cases_read, unique_reads, block_reads, statements_begin, statements_end, statements_go_on, statements_fail, choice_arm_reads, label_reads, bare_reads, body_reads, label_arm_reads}
+use Rattle.vast_read.proofs.StatementSteps.{simple_reads, assign_reads, block_reads, statements_begin, statements_end, statements_go_on, statements_fail}
 
 pub ruleset arrows = (then_some, then_none, either_some, either_none, arrow_reads)
 
@@ -9,12 +9,4 @@ pub ruleset simple_statements = (then_some, then_none, either_some, either_none,
 
 pub ruleset assignments = (then_some, then_none, either_some, either_none, assign_reads)
 
-pub ruleset cases = (then_some, then_none, either_some, either_none, cases_read, unique_reads)
-
 pub ruleset blocks = (then_some, then_none, either_some, either_none, block_reads, statements_begin, statements_end, statements_go_on, statements_fail)
-
-pub ruleset arms = (then_some, then_none, either_some, either_none, choice_arm_reads)
-
-pub ruleset labels = (then_some, then_none, either_some, either_none, label_reads, label_arm_reads)
-
-pub ruleset bodies = (then_some, then_none, either_some, either_none, body_reads, bare_reads)

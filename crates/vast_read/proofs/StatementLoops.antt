@@ -1,35 +1,21 @@
 -- The settled parser of statements as the loops of the reader go through it.
-use Rattle.std.proofs.Common.{◌≡◌, false, List, [], ◌∷◌, ◌++◌, map, Option, Some, None, refl, ap, ◌∙◌}
+use Rattle.std.proofs.Common.{◌≡◌, false, List, [], ◌∷◌, Option, Some, None, refl, ◌∙◌}
 use Rattle.vast_literal.specs.Tokens.{IfKey, ElseKey, UniqueKey, AssignKey, Token}
-use Rattle.vast_literal.specs.NormalFile.{NormalStatement, ChoiceStatement, NormalStatements, Done, Then, Arms, NoLabels, Label}
+use Rattle.vast_literal.specs.NormalFile.{NormalStatement, ChoiceStatement, NormalStatements, Done, Then, Arms}
 use Rattle.vast_literal.specs.Parser.{◌>>=◌}
 use Rattle.vast_literal.specs.StatementParser.{ReadOf, after_key, simple_at}
 use Rattle.vast_literal.specs.Nexts.{key_with}
 use Rattle.vast_literal.specs.Settled.{either, settled, settled_reader}
 use Rattle.vast_literal.proofs.Agree.{chained}
 use Rattle.vast_literal.proofs.SettledStatements.{statement_settled}
-use Rattle.vast_read.specs.StatementParts.{ChoicePart, arms_of, join_block, join_labels}
+use Rattle.vast_read.specs.StatementParts.{ChoicePart, arms_of, join_block}
 use Rattle.vast_read.specs.StatementSteps.{is_case_word, assign_at, choice_statement, cases_of, unique_case, block, choice_arm, more_arms, else_arm, arms_end, else_if, last_block, choice_behind, case_or_simple}
-use Rattle.vast_read.specs.StatementView.{statement_view, arm_view, label_view, block_view, labels_view}
-use Rattle.vast_read.specs.declared.tree.statement.NormalStatement.{NormalStatement as Tree}
-use Rattle.vast_read.specs.declared.tree.statement.Arm.{Arm}
-use Rattle.vast_read.specs.declared.tree.statement.CaseArm.{CaseArm}
 use Rattle.vast_read.proofs.Steps.{then_some, then_none, either_some, either_none, enclosed_reads}
-use Rattle.vast_read.proofs.StatementSteps.{step_reads, choice_reads, choice_statement_reads, more_arms_read, label_reads, bare_reads, statements_begin, statements_end, statements_go_on, statements_fail, labels_begin, labels_end, labels_go_on, labels_fail}
+use Rattle.vast_read.proofs.StatementSteps.{step_reads, choice_reads, choice_statement_reads, label_reads, bare_reads, statements_begin, statements_end, statements_go_on, statements_fail}
 
--- lists of trees and of one more
-
-pub block_more : (ss : List Tree) (s : Tree) → block_view (ss ++ s ∷ []) ≡ join_block (block_view ss) (Then (statement_view s) Done)
-block_more [] s = refl
-block_more (t ∷ ss) s = ap (Then (statement_view t)) (block_more ss s)
-
-pub labels_more : (bs : List CaseArm) (a : CaseArm) → labels_view (bs ++ a ∷ []) ≡ join_labels (labels_view bs) (Label (label_view a).0 (label_view a).1 NoLabels)
-labels_more [] a = refl
-labels_more (b ∷ bs) a = ap (Label (label_view b).0 (label_view b).1) (labels_more bs a)
-
-pub arms_more : (bs : List Arm) (a : Arm) → map arm_view (bs ++ a ∷ []) ≡ map arm_view bs ++ (arm_view a ∷ [])
-arms_more [] a = refl
-arms_more (b ∷ bs) a = ap (λ ps. arm_view b ∷ ps) (arms_more bs a)
+-- a block of one statement
+pub lone : (s : NormalStatement) → join_block Done (Then s Done) ≡ Then s Done
+lone s = refl
 
 -- statements
 
@@ -59,7 +45,7 @@ unfolding choice_behind
 choice_begins ts = rw (choice_statement_reads ts, choice_reads ts) (simp chained)
 
 -- arms behind `else if`
-arms_behind : (ps : List ChoicePart) (ts us : List Token) → else_if ts ≡ Some us → arms_end ps ts ≡ more_arms ps us
+pub arms_behind : (ps : List ChoicePart) (ts us : List Token) → else_if ts ≡ Some us → arms_end ps ts ≡ more_arms ps us
 unfolding else_if arms_end else_arm either ◌>>=◌
 arms_behind ps ts us e = go (after_key ElseKey ts) e
   where
@@ -71,14 +57,6 @@ arms_behind ps ts us e = go (after_key ElseKey ts) e
         either o (λ vs. either (after_key IfKey vs) (λ ws. more_arms ps ws) (block vs >>= λ d. Some (arms_of ps (Some d.0), d.1))) (Some (arms_of ps None, ts)) ≡ more_arms ps us
     go None e = absurd (cc)
     go (Some vs) e = inner vs (after_key IfKey vs) e
-
-pub choice_goes_on : (ps : List ChoicePart) (p : ChoicePart) (ts us vs : List Token) → else_if ts ≡ Some us → choice_arm us ≡ Some (p, vs) → choice_behind ps ts ≡ choice_behind (ps ++ p ∷ []) vs
-unfolding choice_behind
-choice_goes_on ps p ts us vs e d = rw (arms_behind ps ts us e, more_arms_read ps us, d) (simp then_some)
-
-pub choice_fails : (ps : List ChoicePart) (ts us : List Token) → else_if ts ≡ Some us → choice_arm us ≡ None → choice_behind ps ts ≡ None
-unfolding choice_behind
-choice_fails ps ts us e d = rw (arms_behind ps ts us e, more_arms_read ps us, d) (simp then_none)
 
 abbrev with_last : NormalStatements × List Token → ReadOf (Option NormalStatements)
 with_last d = Some (Some d.0, d.1)
@@ -114,20 +92,10 @@ choice_stops ps ts e = go (after_key ElseKey ts) e
     go None e = refl
     go (Some vs) e = inner vs (after_key IfKey vs) e
 
-pub ruleset statements = (then_some, then_none, either_some, either_none, statement_by_key)
-
-pub ruleset case_statements = (then_some, then_none, either_some, either_none, case_or_simple_reads)
-
-pub ruleset statement_lists = (then_some, then_none, either_some, either_none, block_more, statements_begin, statements_end, statements_go_on, statements_fail)
-
-pub ruleset label_lists = (then_some, then_none, either_some, either_none, labels_more, labels_begin, labels_end, labels_go_on, labels_fail)
+pub ruleset statement_lists = (then_some, then_none, either_some, either_none, statements_begin, statements_end, statements_go_on, statements_fail)
 
 pub ruleset else_ifs = (then_some, then_none, else_if_reads)
 
-pub ruleset last_blocks = (then_some, then_none, either_some, either_none, last_block_reads)
-
-pub ruleset choices = (then_some, then_none, arms_more, choice_begins, choice_goes_on, choice_fails, choice_stops)
-
-pub ruleset bare_bodies = (then_some, then_none, bare_reads)
+pub ruleset bare_bodies = (then_some, then_none, bare_reads, lone)
 
 pub ruleset case_labels = (then_some, then_none, either_some, either_none, label_reads, enclosed_reads)

@@ -135,7 +135,7 @@ pub statements_end : (xs : NormalStatements) (ts us : List Token) → after_key 
 unfolding with_block
 statements_end xs ts us e = rw (statements_read ts) (simp (e, either_some, then_some, join_done))
 
-with_one : (xs : NormalStatements) (s : NormalStatement) (o : ReadOf NormalStatements) → with_block xs (o >>= λ ss. Some (Then s ss.0, ss.1)) ≡ with_block (join_block xs (Then s Done)) o
+pub with_one : (xs : NormalStatements) (s : NormalStatement) (o : ReadOf NormalStatements) → with_block xs (o >>= λ ss. Some (Then s ss.0, ss.1)) ≡ with_block (join_block xs (Then s Done)) o
 unfolding with_block ◌>>=◌
 with_one xs s None = refl
 with_one xs s (Some y) = ap (λ (zs : NormalStatements). Some (zs, y.1)) (sym (join_twice xs (Then s Done) y.0))
@@ -275,18 +275,7 @@ pub labels_end : (z : Bool) (xs : Labels) (ts us : List Token) → after_key End
 unfolding with_labels
 labels_end z xs ts us e = rw (labels_read z ts) (simp (e, either_some, then_some, labels_none))
 
-with_one_label : (xs : Labels) (l : LabelPart) (o : ReadOf Labels) → with_labels xs (o >>= λ a. Some (Label l.0 l.1 a.0, a.1)) ≡ with_labels (join_labels xs (Label l.0 l.1 NoLabels)) o
+pub with_one_label : (xs : Labels) (l : LabelPart) (o : ReadOf Labels) → with_labels xs (o >>= λ a. Some (Label l.0 l.1 a.0, a.1)) ≡ with_labels (join_labels xs (Label l.0 l.1 NoLabels)) o
 unfolding with_labels ◌>>=◌
 with_one_label xs l None = refl
 with_one_label xs l (Some y) = ap (λ (zs : Labels). Some (zs, y.1)) (sym (labels_twice xs (Label l.0 l.1 NoLabels) y.0))
-
-labels_behind : (z : Bool) (ts us : List Token) (l : LabelPart) → after_key EndCaseKey ts ≡ None → label_arm z ts ≡ Some (l, us) → settled_reader.labels z ts ≡ (settled_reader.labels z us >>= λ a. Some (Label l.0 l.1 a.0, a.1))
-labels_behind z ts us l e d = rw (labels_read z ts) (simp (e, either_none, d, then_some))
-
-pub labels_go_on : (z : Bool) (xs : Labels) (l : LabelPart) (ts us : List Token) → after_key EndCaseKey ts ≡ None → label_arm z ts ≡ Some (l, us) →
-    with_labels xs (settled_reader.labels z ts) ≡ with_labels (join_labels xs (Label l.0 l.1 NoLabels)) (settled_reader.labels z us)
-labels_go_on z xs l ts us e d = ap (with_labels xs) (labels_behind z ts us l e d) ∙ with_one_label xs l (settled_reader.labels z us)
-
-pub labels_fail : (z : Bool) (xs : Labels) (ts : List Token) → after_key EndCaseKey ts ≡ None → label_arm z ts ≡ None → with_labels xs (settled_reader.labels z ts) ≡ None
-unfolding with_labels
-labels_fail z xs ts e d = rw (labels_read z ts) (simp (e, either_none, d, then_none))

@@ -1,5 +1,7 @@
 -- What is decided of a text: whether the grammar derives a file from it, and which.
-use Rattle.std.proofs.Common.{◌≡◌, ℕ, List, [], Option, Some, None, Result, Ok, Err, IfOk, IfSome, option_map, refl, sym, ap, subst, arith, ◌∙◌}
+use Rattle.std.proofs.Common.{◌≡◌, ℕ, Bool, List, [], Option, Some, None, Result, Ok, Err, IfOk, IfSome, option_map, refl, sym, ap, subst, arith, ◌∙◌}
+use Rattle.std.specs.Bool.{MatchBool}
+use Rattle.std.specs.Option.{is_some}
 use Rattle.vast_literal.specs.Tokens.{Token}
 use Rattle.vast_literal.specs.Scan.{Gap}
 use Rattle.vast_read.specs.Lexed.{lex}
@@ -45,5 +47,13 @@ module _ {E : Type 0} (text : List ℕ) where
   answer_read_back (Ok (Some x)) d n = λ t y. ap (λ (u : NormalFile). Some u) (file_once text (file_view x) t (text_derives text (file_view x) d) y)
   answer_read_back (Ok None) d n = λ t y. absurd (text_without_file text (n refl) t y)
   answer_read_back (Err _) d n = tt
+
+-- Whether a file is derived, by what was read.
+
+pub text_decides :
+    {F : Type 0} (text : List ℕ) (see : F → NormalFile) (o : Option F) (answer : Bool) → answer ≡ is_some o → IfSome o (λ x. IsFile (lex Gap text) (see x)) →
+    (o ≡ None → (t : NormalFile) → IsFile (lex Gap text) t → ⊥) → MatchBool answer ((t : NormalFile) × DerivesFile text t) ((t : NormalFile) → DerivesFile text t → ⊥)
+text_decides text see (Some x) answer e d n = rw e (see x, text_derives text (see x) d)
+text_decides text see None answer e d n = rw e (text_without_file text (n refl))
 
 pub ruleset files = (file_spelled, file_none, file_more)

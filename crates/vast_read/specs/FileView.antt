@@ -41,7 +41,7 @@ items_view is = map item_view is
 abbrev pub file_view : NormalFile → normal.NormalFile
 file_view f = record { items = items_view f.items }
 
--- A parameter, a port and a module of these parts.
+-- A parameter, a port, a module and a file of these parts.
 abbrev pub parameter_of : normal.NormalDeclaration → NormalExpr → normal.NormalParameter
 parameter_of d x = record { declaration = d; value = x }
 
@@ -50,3 +50,6 @@ port_of k d = record { direction = k; declaration = d }
 
 abbrev pub module_of : List ℕ → List normal.NormalParameter → List normal.NormalPort → NormalMembers → normal.NormalModule
 module_of w ps qs ms = record { name = w; parameters = ps; ports = qs; members = ms }
+
+abbrev pub file_of : List normal.NormalItem → normal.NormalFile
+file_of is = record { items = is }

@@ -42,6 +42,7 @@ step (Shadow-F.WordCast k x) = one (normal.WordCast (key_view k) x.value.0)
 step (Shadow-F.Replicated x xs) = one (normal.Replicated x.value.0 xs.value.1)
 step (Shadow-F.Concat xs) = one (normal.Concat xs.value.1)
 step (Shadow-F.Pattern xs) = one (normal.Pattern xs.value.1)
+step (Shadow-F.Tree x) = one (view x.value)
 step Shadow-F.Nothing = many NoNormals
 step (Shadow-F.More xs x) = many (join xs.value.1 (MoreNormals x.value.0 NoNormals))
 

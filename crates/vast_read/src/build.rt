@@ -7,11 +7,20 @@ ghost use Rattle.vast_read.specs.Reading.{Reading};
 ghost use Rattle.vast_read.specs.Steps.{join};
 ghost use Rattle.vast_read.specs.TokenView.{sign_view, key_view};
 
+mod declarations;
+mod files;
+mod listed;
+mod members;
+mod statements;
 mod trees;
 mod unbuilt;
 
 use crate::fault::Fault;
 use crate::token::{Key, Sign};
+pub(crate) use declarations::BuildDeclarations;
+pub(crate) use files::BuildFiles;
+pub(crate) use members::BuildMembers;
+pub(crate) use statements::BuildStatements;
 use std::alloc::Global;
 pub(crate) use trees::Trees;
 pub(crate) use unbuilt::Unbuilt;

@@ -8,6 +8,7 @@ use crate::program::run;
 use std::alloc::Global;
 use std::io;
 use std::io::{Read, Write};
+use std::test::Fail;
 
 /// The status, the output and the errors of `check` on this input.
 fn checked<R: Read>(alloc: Global, input: &mut R) -> (u8, Vec<u8>, Vec<u8>) {
@@ -31,6 +32,17 @@ fn texts(rt: HostRuntime) {
         assert!(rt; out.as_slice() == answer.as_bytes());
         assert!(rt; err.is_empty());
     }
+}
+
+#[test]
+fn derived_without_a_tree(rt: HostRuntime) -> Result<(), Fail> {
+    for (text, is_derived) in [
+        ("module m; assign a=((b)); endmodule", true),
+        ("module m; endmodule x", false),
+    ] {
+        assert!(rt; vast_read::is_derived(rt.alloc(), text)? == is_derived);
+    }
+    Ok(())
 }
 
 /// Gives one space at a read, and then fails.

@@ -1,5 +1,10 @@
 //! Trees.
 
+mod declarations;
+mod files;
+mod members;
+mod statements;
+
 use crate::build::Build;
 use crate::children::Children;
 use crate::fault::Fault;

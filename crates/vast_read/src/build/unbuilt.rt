@@ -1,9 +1,15 @@
 //! Nothing, where no tree is wanted.
 
+mod declarations;
+mod files;
+mod members;
+mod statements;
+
 use crate::build::Build;
 use crate::fault::Fault;
 use crate::machine::Waiting;
 use crate::token::{Key, Sign};
+use crate::tree::NormalExpr;
 use std::alloc::Global;
 use std::mem::size_of;
 use std::snapshot::Snapshot;
@@ -38,6 +44,8 @@ pub(crate) enum Shadow<'t> {
     Replicated(Snapshot<Shadow<'t>>, Snapshot<Shadow<'t>>),
     Concat(Snapshot<Shadow<'t>>),
     Pattern(Snapshot<Shadow<'t>>),
+    /// A tree that was made and let go.
+    Tree(Snapshot<NormalExpr>),
     /// The empty list.
     Nothing,
     /// A list and one more behind it.

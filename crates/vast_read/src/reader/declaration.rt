@@ -6,17 +6,15 @@ ghost use Rattle.vast_literal.specs.Parser.{word_at};
 ghost use Rattle.vast_literal.specs.SettledDeclarations.{group_end, settled_groups, signed_end, type_or_name, plain_word, scoped_type, behind_word, behind_kind, settled_declaration};
 ghost use Rattle.vast_read.specs.Answers.{ReadsAs};
 ghost use Rattle.vast_read.specs.DeclarationSteps.{group_rest};
-ghost use Rattle.vast_read.specs.DeclarationView.{group_view, groups_view, declaration_view, head_view, headed};
+ghost use Rattle.vast_read.specs.DeclarationView.{head_view, headed};
 ghost use Rattle.vast_read.specs.KeyClasses.{class_test};
 ghost use Rattle.vast_read.specs.TokenView.{key_view};
-ghost use Rattle.vast_read.specs.View.{view};
 
-use crate::children::Children;
+use crate::build::BuildDeclarations;
 use crate::fault::Fault;
 use crate::reader::Reader;
 use crate::token::{Key, KeyClass, Mark};
 use crate::tree::declaration::Head;
-use crate::tree::{Group, NormalDeclaration, NormalExpr};
 
 impl<'t> Reader<'t> {
     /// The name that stands next, where one does; it is then read.
@@ -55,65 +53,71 @@ impl<'t> Reader<'t> {
 
     /// Reads what stands between brackets, behind the first.
     #[tactic(auto, using(crate::proofs::DeclarationLaws::groups))]
-    pub(crate) fn group(&mut self) -> Result<Group, Fault>
-        ensures reads { ReadsAs group_view result self.new (group_rest self.old) }
+    pub(crate) fn group<B: BuildDeclarations<'t>>(&mut self) -> Result<B::Group, Fault>
+        ensures reads { ReadsAs B.declares.group result self.new (group_rest self.old) }
         ensures fewer { length self.new ≤ length self.old }
     {
-        let first = self.expression()?;
-        self.group_end(first)
+        let first = self.expression::<B>()?;
+        self.group_end::<B>(first)
     }
 
     /// Reads what stands behind the first expression of a group.
     #[tactic(auto, using(crate::proofs::DeclarationLaws::group_ends))]
-    pub(crate) fn group_end(&mut self, first: NormalExpr) -> Result<Group, Fault>
-        ensures reads { ReadsAs group_view result self.new (group_end (view first) self.old) }
+    pub(crate) fn group_end<B: BuildDeclarations<'t>>(
+        &mut self,
+        first: B::Expr,
+    ) -> Result<B::Group, Fault>
+        ensures reads { ReadsAs B.declares.group result self.new (group_end (B.sees.tree first) self.old) }
         ensures fewer { length self.new ≤ length self.old }
     {
         if self.eat(Mark::CloseBracket) {
-            Group::one(self.alloc, first)
+            B::one(self.alloc, first)
         } else {
             self.expect(Mark::Colon)?;
-            let second = self.enclosed(Mark::CloseBracket)?;
-            Group::range(self.alloc, first, second)
+            let second = self.enclosed::<B>(Mark::CloseBracket)?;
+            B::range(self.alloc, first, second)
         }
     }
 
     /// Reads groups, perhaps none.
     #[tactic(auto, using(crate::proofs::DeclarationLaws::group_lists))]
-    pub(crate) fn groups(&mut self) -> Result<Children<Group>, Fault>
-        ensures reads { ReadsAs groups_view result self.new (settled_groups self.old) }
+    pub(crate) fn groups<B: BuildDeclarations<'t>>(&mut self) -> Result<B::Groups, Fault>
+        ensures reads { ReadsAs B.declares.groups result self.new (settled_groups self.old) }
         ensures fewer { length self.new ≤ length self.old }
     {
-        let mut groups = Children::new(self.alloc);
+        let mut groups = B::groups(self.alloc);
         while self.eat(Mark::OpenBracket) {
-            let group = self.group()?;
-            groups.push(group)?;
+            let group = self.group::<B>()?;
+            B::push_group(&mut groups, group)?;
         }
         Ok(groups)
     }
 
     /// Reads a declaration behind its kind, its type and its sign.
     #[tactic(auto, using(crate::proofs::DeclarationLaws::heads))]
-    pub(crate) fn headed(&mut self, head: &Head) -> Result<NormalDeclaration, Fault>
-        ensures reads { ReadsAs declaration_view result self.new
+    pub(crate) fn headed<B: BuildDeclarations<'t>>(
+        &mut self,
+        head: &Head<'t>,
+    ) -> Result<B::Declaration, Fault>
+        ensures reads { ReadsAs B.declares.declaration result self.new
             (headed (head_view head.now) self.old) }
         ensures fewer { length self.new ≤ length self.old }
     {
-        let groups = self.groups()?;
+        let groups = self.groups::<B>()?;
         let name = self.word()?;
-        let after = self.groups()?;
-        NormalDeclaration::new(self.alloc, head, groups, name, after)
+        let after = self.groups::<B>()?;
+        B::declaration(self.alloc, head, groups, name, after)
     }
 
     /// Reads a declaration behind its kind and its type.
     #[tactic(auto, using(crate::proofs::DeclarationLaws::signs))]
-    pub(crate) fn signed(
+    pub(crate) fn signed<B: BuildDeclarations<'t>>(
         &mut self,
         kind: Option<Key>,
-        scope: Option<&str>,
-        type_name: Option<&str>,
-    ) -> Result<NormalDeclaration, Fault>
-        ensures reads { ReadsAs declaration_view result self.new
+        scope: Option<&'t str>,
+        type_name: Option<&'t str>,
+    ) -> Result<B::Declaration, Fault>
+        ensures reads { ReadsAs B.declares.declaration result self.new
             (signed_end (option_map key_view kind) (option_map (λ w. w.now) scope.entry)
             (option_map (λ w. w.now) type_name.entry) self.old) }
         ensures fewer { length self.new ≤ length self.old }
@@ -125,31 +129,31 @@ impl<'t> Reader<'t> {
             type_name,
             sign,
         };
-        self.headed(&head)
+        self.headed::<B>(&head)
     }
 
     /// Reads a declaration behind a word and groups.
     #[tactic(auto, using(crate::proofs::DeclarationLaws::named))]
-    pub(crate) fn type_or_name(
+    pub(crate) fn type_or_name<B: BuildDeclarations<'t>>(
         &mut self,
         kind: Option<Key>,
-        word: &str,
-        groups: Children<Group>,
-    ) -> Result<NormalDeclaration, Fault>
-        ensures reads { ReadsAs declaration_view result self.new
-            (type_or_name (option_map key_view kind) word.now (groups_view groups) self.old) }
+        word: &'t str,
+        groups: B::Groups,
+    ) -> Result<B::Declaration, Fault>
+        ensures reads { ReadsAs B.declares.declaration result self.new
+            (type_or_name (option_map key_view kind) word.now (B.declares.groups groups) self.old) }
         ensures fewer { length self.new ≤ length self.old }
     {
         match self.eat_word() {
             Some(name) => {
-                let after = self.groups()?;
+                let after = self.groups::<B>()?;
                 let head = Head {
                     kind,
                     scope: None,
                     type_name: Some(word),
                     sign: None,
                 };
-                NormalDeclaration::new(self.alloc, &head, groups, name, after)
+                B::declaration(self.alloc, &head, groups, name, after)
             }
             None => {
                 let head = Head {
@@ -158,20 +162,20 @@ impl<'t> Reader<'t> {
                     type_name: None,
                     sign: None,
                 };
-                let none = Children::new(self.alloc);
-                NormalDeclaration::new(self.alloc, &head, none, word, groups)
+                let none = B::groups(self.alloc);
+                B::declaration(self.alloc, &head, none, word, groups)
             }
         }
     }
 
     /// Reads a declaration behind a word that no package scopes.
     #[tactic(auto, using(crate::proofs::DeclarationLaws::plain_words))]
-    pub(crate) fn plain_word(
+    pub(crate) fn plain_word<B: BuildDeclarations<'t>>(
         &mut self,
         kind: Option<Key>,
-        word: &str,
-    ) -> Result<NormalDeclaration, Fault>
-        ensures reads { ReadsAs declaration_view result self.new
+        word: &'t str,
+    ) -> Result<B::Declaration, Fault>
+        ensures reads { ReadsAs B.declares.declaration result self.new
             (plain_word (option_map key_view kind) word.now self.old) }
         ensures fewer { length self.new ≤ length self.old }
     {
@@ -183,68 +187,71 @@ impl<'t> Reader<'t> {
                     type_name: Some(word),
                     sign: Some(sign),
                 };
-                self.headed(&head)
+                self.headed::<B>(&head)
             }
             None => {
-                let groups = self.groups()?;
-                self.type_or_name(kind, word, groups)
+                let groups = self.groups::<B>()?;
+                self.type_or_name::<B>(kind, word, groups)
             }
         }
     }
 
     /// Reads a declaration behind a package and two colons.
     #[tactic(auto, using(crate::proofs::DeclarationLaws::scoped_types))]
-    pub(crate) fn scoped_type(
+    pub(crate) fn scoped_type<B: BuildDeclarations<'t>>(
         &mut self,
         kind: Option<Key>,
-        scope: &str,
-    ) -> Result<NormalDeclaration, Fault>
-        ensures reads { ReadsAs declaration_view result self.new
+        scope: &'t str,
+    ) -> Result<B::Declaration, Fault>
+        ensures reads { ReadsAs B.declares.declaration result self.new
             (scoped_type (option_map key_view kind) scope.now self.old) }
         ensures fewer { length self.new ≤ length self.old }
     {
         let name = self.word()?;
-        self.signed(kind, Some(scope), Some(name))
+        self.signed::<B>(kind, Some(scope), Some(name))
     }
 
     /// Reads a declaration behind its first word.
     #[tactic(auto, using(crate::proofs::DeclarationLaws::first_words))]
-    pub(crate) fn behind_word(
+    pub(crate) fn behind_word<B: BuildDeclarations<'t>>(
         &mut self,
         kind: Option<Key>,
-        word: &str,
-    ) -> Result<NormalDeclaration, Fault>
-        ensures reads { ReadsAs declaration_view result self.new
+        word: &'t str,
+    ) -> Result<B::Declaration, Fault>
+        ensures reads { ReadsAs B.declares.declaration result self.new
             (behind_word (option_map key_view kind) word.now self.old) }
         ensures fewer { length self.new ≤ length self.old }
     {
         if self.eat(Mark::DoubleColon) {
-            self.scoped_type(kind, word)
+            self.scoped_type::<B>(kind, word)
         } else {
-            self.plain_word(kind, word)
+            self.plain_word::<B>(kind, word)
         }
     }
 
     /// Reads a declaration behind its kind.
     #[tactic(auto, using(crate::proofs::DeclarationLaws::kinds))]
-    pub(crate) fn behind_kind(&mut self, kind: Option<Key>) -> Result<NormalDeclaration, Fault>
-        ensures reads { ReadsAs declaration_view result self.new
+    pub(crate) fn behind_kind<B: BuildDeclarations<'t>>(
+        &mut self,
+        kind: Option<Key>,
+    ) -> Result<B::Declaration, Fault>
+        ensures reads { ReadsAs B.declares.declaration result self.new
             (behind_kind (option_map key_view kind) self.old) }
         ensures fewer { length self.new ≤ length self.old }
     {
         match self.eat_word() {
-            Some(word) => self.behind_word(kind, word),
-            None => self.signed(kind, None, None),
+            Some(word) => self.behind_word::<B>(kind, word),
+            None => self.signed::<B>(kind, None, None),
         }
     }
 
     /// Reads a declaration.
     #[tactic(auto, using(crate::proofs::DeclarationLaws::declarations))]
-    pub(crate) fn declaration(&mut self) -> Result<NormalDeclaration, Fault>
-        ensures reads { ReadsAs declaration_view result self.new (settled_declaration self.old) }
+    pub(crate) fn declaration<B: BuildDeclarations<'t>>(&mut self) -> Result<B::Declaration, Fault>
+        ensures reads { ReadsAs B.declares.declaration result self.new (settled_declaration self.old) }
         ensures fewer { length self.new ≤ length self.old }
     {
         let kind = self.maybe_key(KeyClass::Kind);
-        self.behind_kind(kind)
+        self.behind_kind::<B>(kind)
     }
 }

@@ -4,41 +4,22 @@ ghost use Rattle.std.specs.Prelude.{◌≡◌, ℕ, ◌≤◌, length};
 ghost use Rattle.vast_literal.specs.Tokens.{Comma};
 ghost use Rattle.vast_literal.specs.Parser.{after, enclosed_at, arguments, list_on, selected_at};
 ghost use Rattle.vast_literal.specs.Settled.{settled};
-ghost use Rattle.vast_read.specs.Answers.{Reads, ReadsAs, ReadsList};
+ghost use Rattle.vast_read.specs.Answers.{ReadsAs};
 ghost use Rattle.vast_read.specs.Machine.{load, meaning, resumed, work, KeepsStep, Lessens};
 ghost use Rattle.vast_read.specs.Steps.{in_parens};
 ghost use Rattle.vast_read.specs.TokenView.{mark_view};
-ghost use Rattle.vast_read.specs.View.{view};
 
-use crate::build::{Build, Trees};
-use crate::children::Children;
+use crate::build::Build;
 use crate::fault::Fault;
 use crate::machine::{State, Step, Waiting, Waits};
 use crate::reader::Reader;
 use crate::stack::Stack;
 use crate::token::Mark;
-use crate::tree::NormalExpr;
 
 impl<'t> Reader<'t> {
-    /// Reads an expression.
-    pub(crate) fn expression(&mut self) -> Result<NormalExpr, Fault>
-        ensures reads { Reads result self.new (settled.expression_at self.old) }
-        ensures fewer { length self.new ≤ length self.old }
-    {
-        self.read::<Trees>()
-    }
-
-    /// Reads a primary expression and its selects.
-    pub(crate) fn selected(&mut self) -> Result<NormalExpr, Fault>
-        ensures reads { Reads result self.new (selected_at settled self.old) }
-        ensures fewer { length self.new ≤ length self.old }
-    {
-        self.target::<Trees>()
-    }
-
     /// Reads an expression, and makes this of it.
     #[tactic(auto, using(crate::proofs::Loops::expressions))]
-    pub(crate) fn read<B: Build<'t>>(&mut self) -> Result<B::Expr, Fault>
+    pub(crate) fn expression<B: Build<'t>>(&mut self) -> Result<B::Expr, Fault>
         ensures reads { ReadsAs B.sees.tree result self.new (settled.expression_at self.old) }
         ensures fewer { length self.new ≤ length self.old }
     {
@@ -48,7 +29,7 @@ impl<'t> Reader<'t> {
 
     /// Reads a primary expression and its selects, and makes this of it.
     #[tactic(auto, using(crate::proofs::Loops::targets))]
-    pub(crate) fn target<B: Build<'t>>(&mut self) -> Result<B::Expr, Fault>
+    pub(crate) fn selected<B: Build<'t>>(&mut self) -> Result<B::Expr, Fault>
         ensures reads { ReadsAs B.sees.tree result self.new (selected_at settled self.old) }
         ensures fewer { length self.new ≤ length self.old }
     {
@@ -131,52 +112,54 @@ impl<'t> Reader<'t> {
 
     /// Reads an expression and the mark that closes it.
     #[tactic(auto, using(crate::proofs::Laws::enclosures))]
-    pub(crate) fn enclosed(&mut self, close: Mark) -> Result<NormalExpr, Fault>
-        ensures reads { Reads result self.new (enclosed_at settled (mark_view close) self.old) }
+    pub(crate) fn enclosed<B: Build<'t>>(&mut self, close: Mark) -> Result<B::Expr, Fault>
+        ensures reads { ReadsAs B.sees.tree result self.new
+            (enclosed_at settled (mark_view close) self.old) }
         ensures fewer { length self.new ≤ length self.old }
     {
-        let inner = self.expression()?;
+        let inner = self.expression::<B>()?;
         self.expect(close)?;
         Ok(inner)
     }
 
     /// Reads an expression in parentheses.
     #[tactic(auto, using(crate::proofs::Laws::parentheses))]
-    pub(crate) fn in_parens(&mut self) -> Result<NormalExpr, Fault>
-        ensures reads { Reads result self.new (in_parens self.old) }
+    pub(crate) fn in_parens<B: Build<'t>>(&mut self) -> Result<B::Expr, Fault>
+        ensures reads { ReadsAs B.sees.tree result self.new (in_parens self.old) }
         ensures fewer { length self.new ≤ length self.old }
     {
         self.expect(Mark::OpenParen)?;
-        self.enclosed(Mark::CloseParen)
+        self.enclosed::<B>(Mark::CloseParen)
     }
 
     /// Reads the rest of a list behind its first expression.
     #[tactic(auto, using(crate::proofs::Laws::lists))]
-    pub(crate) fn more(&mut self, first: NormalExpr) -> Result<Children<NormalExpr>, Fault>
-        ensures reads { ReadsList result self.new
-            (list_on settled (view first) self.old (after Comma self.old)) }
+    pub(crate) fn more<B: Build<'t>>(&mut self, first: B::Expr) -> Result<B::Parts, Fault>
+        ensures reads { ReadsAs B.sees.trees result self.new
+            (list_on settled (B.sees.tree first) self.old (after Comma self.old)) }
         ensures fewer { length self.new ≤ length self.old }
     {
-        let mut parts = Children::new(self.alloc);
-        parts.push(first)?;
+        let mut parts = B::parts(self.alloc);
+        B::push(&mut parts, first)?;
         while self.eat(Mark::Comma) {
-            let part = self.expression()?;
-            parts.push(part)?;
+            let part = self.expression::<B>()?;
+            B::push(&mut parts, part)?;
         }
         Ok(parts)
     }
 
     /// Reads expressions, perhaps none, and the mark that closes them.
     #[tactic(auto, using(crate::proofs::Laws::argument_lists))]
-    pub(crate) fn arguments(&mut self, close: Mark) -> Result<Children<NormalExpr>, Fault>
-        ensures reads { ReadsList result self.new (arguments settled (mark_view close) self.old) }
+    pub(crate) fn arguments<B: Build<'t>>(&mut self, close: Mark) -> Result<B::Parts, Fault>
+        ensures reads { ReadsAs B.sees.trees result self.new
+            (arguments settled (mark_view close) self.old) }
         ensures fewer { length self.new ≤ length self.old }
     {
         if self.eat(close) {
-            return Ok(Children::new(self.alloc));
+            return Ok(B::parts(self.alloc));
         }
-        let first = self.expression()?;
-        let parts = self.more(first)?;
+        let first = self.expression::<B>()?;
+        let parts = self.more::<B>(first)?;
         self.expect(close)?;
         Ok(parts)
     }

@@ -5,137 +5,135 @@ ghost use Rattle.vast_literal.specs.FileParser.{include_on};
 ghost use Rattle.vast_literal.specs.SettledFiles.{settled_parameter, settled_port, joined_parameters, joined_ports, parameter_list, settled_parameters, port_list, settled_ports, settled_module, include_at, settled_item, settled_items, settled_file};
 ghost use Rattle.vast_read.specs.Answers.{ReadsAs};
 ghost use Rattle.vast_read.specs.Includes.{include_text};
-ghost use Rattle.vast_read.specs.FileView.{parameter_view, parameters_view, port_view, ports_view, item_view, items_view, file_view};
 
-use crate::children::Children;
+use crate::build::BuildFiles;
 use crate::fault::Fault;
 use crate::reader::Reader;
-use crate::reader::path::path_of;
+use crate::reader::path::include_path_of;
 use crate::token::{Key, KeyClass, Mark};
-use crate::tree::{NormalFile, NormalItem, NormalModule, Parameter, Port};
 
 impl<'t> Reader<'t> {
     /// Reads a parameter of a header.
     #[tactic(auto, using(crate::proofs::FileRules::parameters))]
-    pub(crate) fn parameter(&mut self) -> Result<Parameter, Fault>
-        ensures reads { ReadsAs parameter_view result self.new (settled_parameter self.old) }
+    pub(crate) fn parameter<B: BuildFiles<'t>>(&mut self) -> Result<B::Parameter, Fault>
+        ensures reads { ReadsAs B.files.parameter result self.new (settled_parameter self.old) }
         ensures fewer { length self.new ≤ length self.old }
     {
         self.expect_key(Key::Parameter)?;
-        let declared = self.declaration()?;
+        let declared = self.declaration::<B>()?;
         self.expect(Mark::Assign)?;
-        let value = self.expression()?;
-        Parameter::new(self.alloc, declared, value)
+        let value = self.expression::<B>()?;
+        B::parameter(self.alloc, declared, value)
     }
 
     /// Reads parameters of a header, at least one.
     #[tactic(auto, using(crate::proofs::FileRules::parameter_lists))]
-    pub(crate) fn joined_parameters(&mut self) -> Result<Children<Parameter>, Fault>
-        ensures reads { ReadsAs parameters_view result self.new (joined_parameters self.old) }
+    pub(crate) fn joined_parameters<B: BuildFiles<'t>>(&mut self) -> Result<B::Parameters, Fault>
+        ensures reads { ReadsAs B.files.parameters result self.new (joined_parameters self.old) }
         ensures fewer { length self.new ≤ length self.old }
     {
-        let mut items = Children::new(self.alloc);
-        let first = self.parameter()?;
-        items.push(first)?;
+        let mut items = B::parameters(self.alloc);
+        let first = self.parameter::<B>()?;
+        B::push_parameter(&mut items, first)?;
         while self.eat(Mark::Comma) {
-            let item = self.parameter()?;
-            items.push(item)?;
+            let item = self.parameter::<B>()?;
+            B::push_parameter(&mut items, item)?;
         }
         Ok(items)
     }
 
     /// Reads the parameters of a header in their parentheses.
     #[tactic(auto, using(crate::proofs::FileRules::parameters_in_parentheses))]
-    pub(crate) fn parameter_list(&mut self) -> Result<Children<Parameter>, Fault>
-        ensures reads { ReadsAs parameters_view result self.new (parameter_list self.old) }
+    pub(crate) fn parameter_list<B: BuildFiles<'t>>(&mut self) -> Result<B::Parameters, Fault>
+        ensures reads { ReadsAs B.files.parameters result self.new (parameter_list self.old) }
         ensures fewer { length self.new ≤ length self.old }
     {
         self.expect(Mark::OpenParen)?;
-        let items = self.joined_parameters()?;
+        let items = self.joined_parameters::<B>()?;
         self.expect(Mark::CloseParen)?;
         Ok(items)
     }
 
     /// Reads the parameters of a header, where there are any.
     #[tactic(auto, using(crate::proofs::FileRules::header_parameters))]
-    pub(crate) fn parameters(&mut self) -> Result<Children<Parameter>, Fault>
-        ensures reads { ReadsAs parameters_view result self.new (settled_parameters self.old) }
+    pub(crate) fn parameters<B: BuildFiles<'t>>(&mut self) -> Result<B::Parameters, Fault>
+        ensures reads { ReadsAs B.files.parameters result self.new (settled_parameters self.old) }
         ensures fewer { length self.new ≤ length self.old }
     {
         if self.eat(Mark::Hash) {
-            self.parameter_list()
+            self.parameter_list::<B>()
         } else {
-            Ok(Children::new(self.alloc))
+            Ok(B::parameters(self.alloc))
         }
     }
 
     /// Reads a port.
     #[tactic(auto, using(crate::proofs::FileRules::ports))]
-    pub(crate) fn port(&mut self) -> Result<Port, Fault>
-        ensures reads { ReadsAs port_view result self.new (settled_port self.old) }
+    pub(crate) fn port<B: BuildFiles<'t>>(&mut self) -> Result<B::Port, Fault>
+        ensures reads { ReadsAs B.files.port result self.new (settled_port self.old) }
         ensures fewer { length self.new ≤ length self.old }
     {
         match self.key_in(KeyClass::Direction) {
             None => Err(Fault::Underived),
             Some(direction) => {
-                let declared = self.declaration()?;
-                Port::new(self.alloc, direction, declared)
+                let declared = self.declaration::<B>()?;
+                B::port(self.alloc, direction, declared)
             }
         }
     }
 
     /// Reads ports, at least one.
     #[tactic(auto, using(crate::proofs::FileRules::port_lists))]
-    pub(crate) fn joined_ports(&mut self) -> Result<Children<Port>, Fault>
-        ensures reads { ReadsAs ports_view result self.new (joined_ports self.old) }
+    pub(crate) fn joined_ports<B: BuildFiles<'t>>(&mut self) -> Result<B::Ports, Fault>
+        ensures reads { ReadsAs B.files.ports result self.new (joined_ports self.old) }
         ensures fewer { length self.new ≤ length self.old }
     {
-        let mut items = Children::new(self.alloc);
-        let first = self.port()?;
-        items.push(first)?;
+        let mut items = B::ports(self.alloc);
+        let first = self.port::<B>()?;
+        B::push_port(&mut items, first)?;
         while self.eat(Mark::Comma) {
-            let item = self.port()?;
-            items.push(item)?;
+            let item = self.port::<B>()?;
+            B::push_port(&mut items, item)?;
         }
         Ok(items)
     }
 
     /// Reads ports and the parenthesis behind them.
     #[tactic(auto, using(crate::proofs::FileRules::closed_ports))]
-    pub(crate) fn port_list(&mut self) -> Result<Children<Port>, Fault>
-        ensures reads { ReadsAs ports_view result self.new (port_list self.old) }
+    pub(crate) fn port_list<B: BuildFiles<'t>>(&mut self) -> Result<B::Ports, Fault>
+        ensures reads { ReadsAs B.files.ports result self.new (port_list self.old) }
         ensures fewer { length self.new ≤ length self.old }
     {
-        let items = self.joined_ports()?;
+        let items = self.joined_ports::<B>()?;
         self.expect(Mark::CloseParen)?;
         Ok(items)
     }
 
     /// Reads the ports of a header, where there are any.
     #[tactic(auto, using(crate::proofs::FileRules::header_ports))]
-    pub(crate) fn ports(&mut self) -> Result<Children<Port>, Fault>
-        ensures reads { ReadsAs ports_view result self.new (settled_ports self.old) }
+    pub(crate) fn ports<B: BuildFiles<'t>>(&mut self) -> Result<B::Ports, Fault>
+        ensures reads { ReadsAs B.files.ports result self.new (settled_ports self.old) }
         ensures fewer { length self.new ≤ length self.old }
     {
         if self.eat(Mark::OpenParen) {
-            self.port_list()
+            self.port_list::<B>()
         } else {
-            Ok(Children::new(self.alloc))
+            Ok(B::ports(self.alloc))
         }
     }
 
     /// Reads a module, behind its keyword.
     #[tactic(auto, using(crate::proofs::FileRules::modules))]
-    pub(crate) fn module_item(&mut self) -> Result<NormalItem, Fault>
-        ensures reads { ReadsAs item_view result self.new (settled_module self.old) }
+    pub(crate) fn module_item<B: BuildFiles<'t>>(&mut self) -> Result<B::Item, Fault>
+        ensures reads { ReadsAs B.files.item result self.new (settled_module self.old) }
         ensures fewer { length self.new ≤ length self.old }
     {
         let name = self.word()?;
-        let parameters = self.parameters()?;
-        let ports = self.ports()?;
+        let parameters = self.parameters::<B>()?;
+        let ports = self.ports::<B>()?;
         self.expect(Mark::Semicolon)?;
-        let members = self.members(Key::EndModule)?;
-        NormalItem::module_of(self.alloc, name, parameters, ports, members)
+        let members = self.members::<B>(Key::EndModule)?;
+        B::module_item(self.alloc, name, parameters, ports, members)
     }
 
     /// Reads the name of a macro.
@@ -158,20 +156,21 @@ impl<'t> Reader<'t> {
 
     /// An include of the path between the quotes of this string.
     #[tactic(auto, using(crate::proofs::FileRules::include_texts))]
-    pub(crate) fn include_of(&mut self, text: &str) -> Result<NormalItem, Fault>
-        ensures reads { ReadsAs item_view result self.new (include_text text.now self.old) }
+    pub(crate) fn include_of<B: BuildFiles<'t>>(&mut self, text: &'t str) -> Result<B::Item, Fault>
+        ensures reads { ReadsAs B.files.item result self.new (include_text text.now self.old) }
         ensures fewer { length self.new ≤ length self.old }
     {
-        match path_of(text) {
-            None => Err(Fault::Underived),
-            Some(path) => NormalItem::include(self.alloc, path),
-        }
+        let path = include_path_of(text)?;
+        B::include(self.alloc, path)
     }
 
     /// Reads an include, behind its macro.
     #[tactic(auto, using(crate::proofs::FileRules::include_paths))]
-    pub(crate) fn include_path(&mut self, name: &str) -> Result<NormalItem, Fault>
-        ensures reads { ReadsAs item_view result self.new (include_on name.now self.old) }
+    pub(crate) fn include_path<B: BuildFiles<'t>>(
+        &mut self,
+        name: &'t str,
+    ) -> Result<B::Item, Fault>
+        ensures reads { ReadsAs B.files.item result self.new (include_on name.now self.old) }
         ensures fewer { length self.new ≤ length self.old }
     {
         match self.next() {
@@ -180,7 +179,7 @@ impl<'t> Reader<'t> {
                 None => Err(Fault::Underived),
                 Some(text) => {
                     if name == "include" {
-                        self.include_of(text)
+                        self.include_of::<B>(text)
                     } else {
                         Err(Fault::Underived)
                     }
@@ -191,50 +190,50 @@ impl<'t> Reader<'t> {
 
     /// Reads an include.
     #[tactic(auto, using(crate::proofs::FileRules::includes))]
-    pub(crate) fn include(&mut self) -> Result<NormalItem, Fault>
-        ensures reads { ReadsAs item_view result self.new (include_at self.old) }
+    pub(crate) fn include<B: BuildFiles<'t>>(&mut self) -> Result<B::Item, Fault>
+        ensures reads { ReadsAs B.files.item result self.new (include_at self.old) }
         ensures fewer { length self.new ≤ length self.old }
         ensures less { IfOk result (λ _. length self.new < length self.old) }
     {
         let name = self.macro_name()?;
-        self.include_path(name)
+        self.include_path::<B>(name)
     }
 
     /// Reads an item of a file.
     #[tactic(auto, using(crate::proofs::FileRules::items))]
-    pub(crate) fn item(&mut self) -> Result<NormalItem, Fault>
-        ensures reads { ReadsAs item_view result self.new (settled_item self.old) }
+    pub(crate) fn item<B: BuildFiles<'t>>(&mut self) -> Result<B::Item, Fault>
+        ensures reads { ReadsAs B.files.item result self.new (settled_item self.old) }
         ensures fewer { length self.new ≤ length self.old }
         ensures less { IfOk result (λ _. length self.new < length self.old) }
     {
         if self.eat_key(Key::Module) {
-            self.module_item()
+            self.module_item::<B>()
         } else {
-            self.include()
+            self.include::<B>()
         }
     }
 
     /// Reads items up to the end of the tokens.
     #[tactic(auto, using(crate::proofs::FileRules::item_lists))]
-    pub(crate) fn items(&mut self) -> Result<Children<NormalItem>, Fault>
-        ensures reads { ReadsAs items_view result self.new (settled_items self.old) }
+    pub(crate) fn items<B: BuildFiles<'t>>(&mut self) -> Result<B::Items, Fault>
+        ensures reads { ReadsAs B.files.items result self.new (settled_items self.old) }
         ensures fewer { length self.new ≤ length self.old }
     {
-        let mut items = Children::new(self.alloc);
+        let mut items = B::items(self.alloc);
         while !self.is_done() {
-            let item = self.item()?;
-            items.push(item)?;
+            let item = self.item::<B>()?;
+            B::push_item(&mut items, item)?;
         }
         Ok(items)
     }
 
     /// Reads a file.
     #[tactic(auto, using(crate::proofs::FileRules::files))]
-    pub(crate) fn file(&mut self) -> Result<NormalFile, Fault>
-        ensures reads { ReadsAs file_view result self.new (settled_file self.old) }
+    pub(crate) fn file<B: BuildFiles<'t>>(&mut self) -> Result<B::File, Fault>
+        ensures reads { ReadsAs B.files.file result self.new (settled_file self.old) }
         ensures fewer { length self.new ≤ length self.old }
     {
-        let items = self.items()?;
-        Ok(NormalFile { items })
+        let items = self.items::<B>()?;
+        Ok(B::file(items))
     }
 }

@@ -3,126 +3,126 @@
 ghost use Rattle.std.specs.Prelude.{◌≡◌, ℕ, ◌<◌, ◌≤◌, length, IfOk};
 ghost use Rattle.vast_literal.specs.SettledMembers.{settled_local, assign_part, combinational_part, conditional_part, parameter_part, clocked_part, declaration_part};
 ghost use Rattle.vast_read.specs.Answers.{ReadsAs};
-ghost use Rattle.vast_read.specs.DeclarationView.{declaration_view};
 ghost use Rattle.vast_read.specs.MemberSteps.{unkeyed_part, other_part};
-ghost use Rattle.vast_read.specs.MemberView.{member_view};
 ghost use Rattle.vast_read.specs.TokenView.{key_view};
 
-use crate::children::Children;
+use crate::build::{BuildDeclarations, BuildMembers};
 use crate::fault::Fault;
 use crate::reader::Reader;
 use crate::token::{Key, KeyClass, Mark};
-use crate::tree::{NormalDeclaration, NormalMember};
 
 impl<'t> Reader<'t> {
     /// Reads a continuous assignment, behind its keyword.
     #[tactic(auto, using(crate::proofs::MemberRules::assignments))]
-    pub(crate) fn continuous(&mut self) -> Result<NormalMember, Fault>
-        ensures reads { ReadsAs member_view result self.new (assign_part self.old) }
+    pub(crate) fn continuous<B: BuildMembers<'t>>(&mut self) -> Result<B::Member, Fault>
+        ensures reads { ReadsAs B.holds.member result self.new (assign_part self.old) }
         ensures fewer { length self.new ≤ length self.old }
     {
-        let left = self.selected()?;
+        let left = self.selected::<B>()?;
         self.expect(Mark::Assign)?;
-        let right = self.enclosed(Mark::Semicolon)?;
-        NormalMember::assign(self.alloc, left, right)
+        let right = self.enclosed::<B>(Mark::Semicolon)?;
+        B::continuous(self.alloc, left, right)
     }
 
     /// Reads a combinational always block, behind its keyword.
     #[tactic(auto, using(crate::proofs::MemberRules::combinational))]
-    pub(crate) fn combinational(&mut self) -> Result<NormalMember, Fault>
-        ensures reads { ReadsAs member_view result self.new (combinational_part self.old) }
+    pub(crate) fn combinational<B: BuildMembers<'t>>(&mut self) -> Result<B::Member, Fault>
+        ensures reads { ReadsAs B.holds.member result self.new (combinational_part self.old) }
         ensures fewer { length self.new ≤ length self.old }
     {
-        let body = self.block()?;
-        let none = Children::new(self.alloc);
-        NormalMember::always(self.alloc, Key::AlwaysComb, none, body)
+        let body = self.block::<B>()?;
+        let none = B::events(self.alloc);
+        B::always(self.alloc, Key::AlwaysComb, none, body)
     }
 
     /// Reads a conditional generate construct, behind its keyword.
     #[tactic(auto, using(crate::proofs::MemberRules::conditionals))]
-    pub(crate) fn conditional_member(&mut self) -> Result<NormalMember, Fault>
-        ensures reads { ReadsAs member_view result self.new (conditional_part self.old) }
+    pub(crate) fn conditional_member<B: BuildMembers<'t>>(&mut self) -> Result<B::Member, Fault>
+        ensures reads { ReadsAs B.holds.member result self.new (conditional_part self.old) }
         ensures fewer { length self.new ≤ length self.old }
     {
-        let choice = self.conditional()?;
-        NormalMember::conditional(self.alloc, choice)
+        let choice = self.conditional::<B>()?;
+        B::conditional(self.alloc, choice)
     }
 
     /// Reads a parameter, behind its word.
     #[tactic(auto, using(crate::proofs::MemberRules::parameters))]
-    pub(crate) fn parameter_member(&mut self, key: Key) -> Result<NormalMember, Fault>
-        ensures reads { ReadsAs member_view result self.new
+    pub(crate) fn parameter_member<B: BuildMembers<'t>>(
+        &mut self,
+        key: Key,
+    ) -> Result<B::Member, Fault>
+        ensures reads { ReadsAs B.holds.member result self.new
             (parameter_part (key_view key) self.old) }
         ensures fewer { length self.new ≤ length self.old }
     {
-        let declared = self.declaration()?;
+        let declared = self.declaration::<B>()?;
         self.expect(Mark::Assign)?;
-        let value = self.enclosed(Mark::Semicolon)?;
-        NormalMember::parameter(self.alloc, key, declared, value)
+        let value = self.enclosed::<B>(Mark::Semicolon)?;
+        B::constant(self.alloc, key, declared, value)
     }
 
     /// Reads an always block that waits for events, behind its keyword.
     #[tactic(auto, using(crate::proofs::MemberRules::clocked))]
-    pub(crate) fn clocked(&mut self, key: Key) -> Result<NormalMember, Fault>
-        ensures reads { ReadsAs member_view result self.new (clocked_part (key_view key) self.old) }
+    pub(crate) fn clocked<B: BuildMembers<'t>>(&mut self, key: Key) -> Result<B::Member, Fault>
+        ensures reads { ReadsAs B.holds.member result self.new (clocked_part (key_view key) self.old) }
         ensures fewer { length self.new ≤ length self.old }
     {
         self.expect(Mark::At)?;
         self.expect(Mark::OpenParen)?;
-        let events = self.events()?;
-        let body = self.block()?;
-        NormalMember::always(self.alloc, key, events, body)
+        let events = self.events::<B>()?;
+        let body = self.block::<B>()?;
+        B::always(self.alloc, key, events, body)
     }
 
     /// Reads a declaration and its semicolon.
     #[tactic(auto, using(crate::proofs::MemberRules::locals))]
-    pub(crate) fn local(&mut self) -> Result<NormalDeclaration, Fault>
-        ensures reads { ReadsAs declaration_view result self.new (settled_local self.old) }
+    pub(crate) fn local<B: BuildDeclarations<'t>>(&mut self) -> Result<B::Declaration, Fault>
+        ensures reads { ReadsAs B.declares.declaration result self.new (settled_local self.old) }
         ensures fewer { length self.new ≤ length self.old }
         ensures less { IfOk result (λ _. length self.new < length self.old) }
     {
-        let declared = self.declaration()?;
+        let declared = self.declaration::<B>()?;
         self.expect(Mark::Semicolon)?;
         Ok(declared)
     }
 
     /// Reads a declaration of a net or a variable.
     #[tactic(auto, using(crate::proofs::MemberRules::declarations))]
-    pub(crate) fn declaration_member(&mut self) -> Result<NormalMember, Fault>
-        ensures reads { ReadsAs member_view result self.new (declaration_part self.old) }
+    pub(crate) fn declaration_member<B: BuildMembers<'t>>(&mut self) -> Result<B::Member, Fault>
+        ensures reads { ReadsAs B.holds.member result self.new (declaration_part self.old) }
         ensures fewer { length self.new ≤ length self.old }
         ensures less { IfOk result (λ _. length self.new < length self.old) }
     {
-        let declared = self.local()?;
-        NormalMember::declaration(self.alloc, declared)
+        let declared = self.local::<B>()?;
+        B::declared(self.alloc, declared)
     }
 
     /// Reads a declaration, or a member that no keyword begins.
     #[tactic(auto, using(crate::proofs::MemberRules::unkeyed))]
-    pub(crate) fn unkeyed_member(&mut self) -> Result<NormalMember, Fault>
-        ensures reads { ReadsAs member_view result self.new (unkeyed_part self.old) }
+    pub(crate) fn unkeyed_member<B: BuildMembers<'t>>(&mut self) -> Result<B::Member, Fault>
+        ensures reads { ReadsAs B.holds.member result self.new (unkeyed_part self.old) }
         ensures fewer { length self.new ≤ length self.old }
         ensures less { IfOk result (λ _. length self.new < length self.old) }
     {
         if self.begins(KeyClass::Net) {
-            self.declaration_member()
+            self.declaration_member::<B>()
         } else {
-            self.plain_member()
+            self.plain_member::<B>()
         }
     }
 
     /// Reads a member that no keyword of one form alone begins.
     #[tactic(auto, using(crate::proofs::MemberRules::others))]
-    pub(crate) fn other_member(&mut self) -> Result<NormalMember, Fault>
-        ensures reads { ReadsAs member_view result self.new (other_part self.old) }
+    pub(crate) fn other_member<B: BuildMembers<'t>>(&mut self) -> Result<B::Member, Fault>
+        ensures reads { ReadsAs B.holds.member result self.new (other_part self.old) }
         ensures fewer { length self.new ≤ length self.old }
         ensures less { IfOk result (λ _. length self.new < length self.old) }
     {
         match self.key_in(KeyClass::Parameter) {
-            Some(key) => self.parameter_member(key),
+            Some(key) => self.parameter_member::<B>(key),
             None => match self.key_in(KeyClass::Clocked) {
-                Some(key) => self.clocked(key),
-                None => self.unkeyed_member(),
+                Some(key) => self.clocked::<B>(key),
+                None => self.unkeyed_member::<B>(),
             },
         }
     }

@@ -1,74 +1,71 @@
 //! Statements.
 
-ghost use Rattle.std.specs.Prelude.{◌≡◌, ℕ, ◌<◌, ◌≤◌, length, IfOk, option_map, Some, None};
+ghost use Rattle.std.specs.Prelude.{◌≡◌, ℕ, ◌<◌, ◌≤◌, length, IfOk, Some, None};
 ghost use Rattle.std.specs.Bool.{MatchBool};
 ghost use Rattle.vast_literal.specs.Settled.{settled, settled_reader};
 ghost use Rattle.vast_literal.specs.StatementParser.{simple_at};
 ghost use Rattle.vast_read.specs.Answers.{ReadsAs};
-ghost use Rattle.vast_read.specs.StatementSteps.{assign_at, choice_statement, cases_of, unique_case, block, choice_arm, else_if, last_block, label_at, bare_body, body_at, label_arm, case_or_simple};
-ghost use Rattle.vast_read.specs.StatementView.{statement_view, arm_view, label_view, block_view, labels_view};
+ghost use Rattle.vast_read.specs.StatementSteps.{assign_at, choice_statement, cases_of, block, else_if, label_at, bare_body};
 ghost use Rattle.vast_read.specs.TokenView.{key_view};
-ghost use Rattle.vast_read.specs.View.{view};
 
-use crate::children::Children;
+use crate::build::BuildStatements;
 use crate::fault::Fault;
 use crate::reader::Reader;
-use crate::token::{Key, KeyClass, Mark};
-use crate::tree::{Arm, CaseArm, NormalExpr, NormalStatement};
+use crate::token::{Key, Mark};
 
 impl<'t> Reader<'t> {
     /// Reads a blocking or a nonblocking assignment.
     #[tactic(auto, using(crate::proofs::StatementLaws::simple_statements))]
-    pub(crate) fn simple(&mut self) -> Result<NormalStatement, Fault>
-        ensures reads { ReadsAs statement_view result self.new (simple_at settled self.old) }
+    pub(crate) fn simple<B: BuildStatements<'t>>(&mut self) -> Result<B::Statement, Fault>
+        ensures reads { ReadsAs B.acts.statement result self.new (simple_at settled self.old) }
         ensures fewer { length self.new ≤ length self.old }
         ensures less { IfOk result (λ _. length self.new < length self.old) }
     {
-        let left = self.selected()?;
+        let left = self.selected::<B>()?;
         let is_blocking = self.arrow()?;
-        let right = self.enclosed(Mark::Semicolon)?;
-        NormalStatement::assignment(self.alloc, is_blocking, left, right)
+        let right = self.enclosed::<B>(Mark::Semicolon)?;
+        B::assignment(self.alloc, is_blocking, left, right)
     }
 
     /// Reads a procedural continuous assignment, behind its keyword.
     #[tactic(auto, using(crate::proofs::StatementLaws::assignments))]
-    pub(crate) fn assigned(&mut self) -> Result<NormalStatement, Fault>
-        ensures reads { ReadsAs statement_view result self.new (assign_at self.old) }
+    pub(crate) fn assigned<B: BuildStatements<'t>>(&mut self) -> Result<B::Statement, Fault>
+        ensures reads { ReadsAs B.acts.statement result self.new (assign_at self.old) }
         ensures fewer { length self.new ≤ length self.old }
     {
-        let left = self.selected()?;
+        let left = self.selected::<B>()?;
         self.expect(Mark::Assign)?;
-        let right = self.enclosed(Mark::Semicolon)?;
-        NormalStatement::assign(self.alloc, left, right)
+        let right = self.enclosed::<B>(Mark::Semicolon)?;
+        B::assign(self.alloc, left, right)
     }
 
     /// Reads a block of one assignment.
     #[tactic(auto, using(crate::proofs::StatementLoops::bare_bodies))]
-    pub(crate) fn bare(&mut self) -> Result<Children<NormalStatement>, Fault>
-        ensures reads { ReadsAs block_view result self.new (bare_body self.old) }
+    pub(crate) fn bare<B: BuildStatements<'t>>(&mut self) -> Result<B::Block, Fault>
+        ensures reads { ReadsAs B.acts.block result self.new (bare_body self.old) }
         ensures fewer { length self.new ≤ length self.old }
         ensures less { IfOk result (λ _. length self.new < length self.old) }
     {
-        let statement = self.simple()?;
-        let mut block = Children::new(self.alloc);
-        block.push(statement)?;
+        let statement = self.simple::<B>()?;
+        let mut block = B::block(self.alloc);
+        B::then(&mut block, statement)?;
         Ok(block)
     }
 
     /// Reads the label of an arm and its colon; a default has none.
     #[tactic(auto, using(crate::proofs::StatementLoops::case_labels))]
-    pub(crate) fn label(&mut self) -> Result<Option<NormalExpr>, Fault>
-        ensures reads { ReadsAs (option_map view) result self.new (label_at self.old) }
+    pub(crate) fn label<B: BuildStatements<'t>>(&mut self) -> Result<B::Label, Fault>
+        ensures reads { ReadsAs B.acts.label result self.new (label_at self.old) }
         ensures fewer { length self.new ≤ length self.old }
         ensures less { IfOk result (λ _. length self.new < length self.old) }
     {
         if self.eat_key(Key::Default) {
             self.expect(Mark::Colon)?;
-            Ok(None)
+            Ok(B::default())
         } else {
-            let label = self.expression()?;
+            let label = self.expression::<B>()?;
             self.expect(Mark::Colon)?;
-            Ok(Some(label))
+            B::label(self.alloc, label)
         }
     }
 
@@ -90,176 +87,62 @@ impl<'t> Reader<'t> {
     }
 
     /// Reads a statement.
-    #[cycle(statements)]
-    #[tactic(auto, using(crate::proofs::StatementLoops::statements))]
-    pub(crate) fn statement(&mut self) -> Result<NormalStatement, Fault>
-        ensures reads { ReadsAs statement_view result self.new (settled_reader.statement self.old) }
+    pub(crate) fn statement<B: BuildStatements<'t>>(&mut self) -> Result<B::Statement, Fault>
+        ensures reads { ReadsAs B.acts.statement result self.new
+            (settled_reader.statement self.old) }
         ensures fewer { length self.new ≤ length self.old }
         ensures less { IfOk result (λ _. length self.new < length self.old) }
     {
-        if self.eat_key(Key::Assign) {
-            self.assigned()
-        } else if self.eat_key(Key::If) {
-            self.conditional()
-        } else if self.eat_key(Key::Unique) {
-            self.unique_case()
-        } else {
-            self.case_or_simple()
-        }
-    }
-
-    /// Reads a case, or an assignment.
-    #[cycle(statements)]
-    #[tactic(auto, using(crate::proofs::StatementLoops::case_statements))]
-    pub(crate) fn case_or_simple(&mut self) -> Result<NormalStatement, Fault>
-        ensures reads { ReadsAs statement_view result self.new (case_or_simple self.old) }
-        ensures fewer { length self.new ≤ length self.old }
-        ensures less { IfOk result (λ _. length self.new < length self.old) }
-    {
-        match self.key_in(KeyClass::Case) {
-            Some(key) => self.cases(false, key),
-            None => self.simple(),
-        }
-    }
-
-    /// Reads a case, behind `unique`.
-    #[cycle(statements)]
-    #[tactic(auto, using(crate::proofs::StatementLaws::cases))]
-    pub(crate) fn unique_case(&mut self) -> Result<NormalStatement, Fault>
-        ensures reads { ReadsAs statement_view result self.new (unique_case self.old) }
-        ensures fewer { length self.new ≤ length self.old }
-    {
-        match self.key_in(KeyClass::Case) {
-            Some(key) => self.cases(true, key),
-            None => Err(Fault::Underived),
-        }
-    }
-
-    /// Reads a case, behind its word.
-    #[cycle(statements)]
-    #[tactic(auto, using(crate::proofs::StatementLaws::cases))]
-    pub(crate) fn cases(&mut self, is_unique: bool, key: Key) -> Result<NormalStatement, Fault>
-        ensures reads { ReadsAs statement_view result self.new
-            (cases_of is_unique (key_view key) self.old) }
-        ensures fewer { length self.new ≤ length self.old }
-    {
-        let selector = self.in_parens()?;
-        let arms = self.labels(key.is_casez())?;
-        NormalStatement::case(self.alloc, is_unique, key, selector, arms)
-    }
-
-    /// Reads the arms of a case, with the keyword behind them.
-    #[cycle(statements)]
-    #[tactic(auto, using(crate::proofs::StatementLoops::label_lists))]
-    pub(crate) fn labels(&mut self, is_bare: bool) -> Result<Children<CaseArm>, Fault>
-        ensures reads { ReadsAs labels_view result self.new
-            (settled_reader.labels is_bare self.old) }
-        ensures fewer { length self.new ≤ length self.old }
-    {
-        let mut arms = Children::new(self.alloc);
-        while !self.eat_key(Key::EndCase) {
-            let arm = self.case_arm(is_bare)?;
-            arms.push(arm)?;
-        }
-        Ok(arms)
-    }
-
-    /// Reads an arm of a case.
-    #[cycle(statements)]
-    #[tactic(auto, using(crate::proofs::StatementLaws::labels))]
-    pub(crate) fn case_arm(&mut self, is_bare: bool) -> Result<CaseArm, Fault>
-        ensures reads { ReadsAs label_view result self.new (label_arm is_bare self.old) }
-        ensures fewer { length self.new ≤ length self.old }
-        ensures less { IfOk result (λ _. length self.new < length self.old) }
-    {
-        let label = self.label()?;
-        let block = self.body(is_bare)?;
-        CaseArm::new(self.alloc, label, block)
-    }
-
-    /// Reads a block, or one assignment where it may stand bare.
-    #[cycle(statements)]
-    #[tactic(auto, using(crate::proofs::StatementLaws::bodies))]
-    pub(crate) fn body(&mut self, is_bare: bool) -> Result<Children<NormalStatement>, Fault>
-        ensures reads { ReadsAs block_view result self.new (body_at is_bare self.old) }
-        ensures fewer { length self.new ≤ length self.old }
-    {
-        if self.eat_key(Key::Begin) {
-            self.statements()
-        } else if is_bare {
-            self.bare()
-        } else {
-            Err(Fault::Underived)
-        }
+        let progress = self.begin_statement::<B>()?;
+        self.end_statement::<B>(progress)
     }
 
     /// Reads a conditional, behind its first keyword.
-    #[cycle(statements)]
-    #[tactic(auto, using(crate::proofs::StatementLoops::choices))]
-    pub(crate) fn conditional(&mut self) -> Result<NormalStatement, Fault>
-        ensures reads { ReadsAs statement_view result self.new (choice_statement self.old) }
+    #[tactic(auto, using(crate::proofs::OpenBlocks::conditionals))]
+    pub(crate) fn conditional<B: BuildStatements<'t>>(&mut self) -> Result<B::Statement, Fault>
+        ensures reads { ReadsAs B.acts.statement result self.new (choice_statement self.old) }
         ensures fewer { length self.new ≤ length self.old }
     {
-        let mut arms = Children::new(self.alloc);
-        let first = self.arm()?;
-        arms.push(first)?;
-        while self.eat_else_if() {
-            let arm = self.arm()?;
-            arms.push(arm)?;
-        }
-        let last = self.last_block()?;
-        Ok(NormalStatement::choice(arms, last))
+        let arms = B::arms(self.alloc);
+        let progress = self.begin_arm::<B>(arms)?;
+        self.end_statement::<B>(progress)
     }
 
-    /// Reads an arm of a conditional.
-    #[cycle(statements)]
-    #[tactic(auto, using(crate::proofs::StatementLaws::arms))]
-    pub(crate) fn arm(&mut self) -> Result<Arm, Fault>
-        ensures reads { ReadsAs arm_view result self.new (choice_arm self.old) }
+    /// Reads a case, behind its word.
+    pub(crate) fn cases<B: BuildStatements<'t>>(
+        &mut self,
+        is_unique: bool,
+        key: Key,
+    ) -> Result<B::Statement, Fault>
+        ensures reads { ReadsAs B.acts.statement result self.new
+            (cases_of is_unique (key_view key) self.old) }
         ensures fewer { length self.new ≤ length self.old }
     {
-        let condition = self.in_parens()?;
-        let block = self.block()?;
-        Arm::new(self.alloc, condition, block)
-    }
-
-    /// Reads the block of the last `else`, where there is one.
-    #[cycle(statements)]
-    #[tactic(auto, using(crate::proofs::StatementLoops::last_blocks))]
-    pub(crate) fn last_block(&mut self) -> Result<Option<Children<NormalStatement>>, Fault>
-        ensures reads { ReadsAs (option_map block_view) result self.new (last_block self.old) }
-        ensures fewer { length self.new ≤ length self.old }
-    {
-        if self.eat_key(Key::Else) {
-            let block = self.block()?;
-            Ok(Some(block))
-        } else {
-            Ok(None)
-        }
+        let progress = self.begin_case::<B>(is_unique, key)?;
+        self.end_statement::<B>(progress)
     }
 
     /// Reads a block.
-    #[cycle(statements)]
     #[tactic(auto, using(crate::proofs::StatementLaws::blocks))]
-    pub(crate) fn block(&mut self) -> Result<Children<NormalStatement>, Fault>
-        ensures reads { ReadsAs block_view result self.new (block self.old) }
+    pub(crate) fn block<B: BuildStatements<'t>>(&mut self) -> Result<B::Block, Fault>
+        ensures reads { ReadsAs B.acts.block result self.new (block self.old) }
         ensures fewer { length self.new ≤ length self.old }
     {
         self.expect_key(Key::Begin)?;
-        self.statements()
+        self.statements::<B>()
     }
 
     /// Reads the statements of a block, with the keyword behind them.
-    #[cycle(statements)]
     #[tactic(auto, using(crate::proofs::StatementLoops::statement_lists))]
-    pub(crate) fn statements(&mut self) -> Result<Children<NormalStatement>, Fault>
-        ensures reads { ReadsAs block_view result self.new (settled_reader.statements self.old) }
+    pub(crate) fn statements<B: BuildStatements<'t>>(&mut self) -> Result<B::Block, Fault>
+        ensures reads { ReadsAs B.acts.block result self.new
+            (settled_reader.statements self.old) }
         ensures fewer { length self.new ≤ length self.old }
     {
-        let mut block = Children::new(self.alloc);
+        let mut block = B::block(self.alloc);
         while !self.eat_key(Key::End) {
-            let statement = self.statement()?;
-            block.push(statement)?;
+            let statement = self.statement::<B>()?;
+            B::then(&mut block, statement)?;
         }
         Ok(block)
     }

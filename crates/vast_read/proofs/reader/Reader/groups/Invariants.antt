@@ -1,11 +1,10 @@
 use Rattle.std.proofs.Common.{◌≡◌, ◌≤◌, length}
 use Rattle.vast_literal.specs.SettledDeclarations.{settled_groups}
 use Rattle.vast_read.specs.ListSteps.{with_list}
-use Rattle.vast_read.specs.DeclarationView.{groups_view}
 use Rattle.vast_read.proofs.reader.Reader.groups.Given as goal
 
 abbrev pub invariant-loop-self : goal.invariant-loop-self
-invariant-loop-self l = record { reads : settled_groups l.fn.self ≡ with_list (groups_view l.groups) (settled_groups l.self); fewer : length l.self ≤ length l.fn.self }
+invariant-loop-self g l = record { reads : settled_groups l.fn.self ≡ with_list (g.B.BuildDeclarations.declares.groups l.groups) (settled_groups l.self); fewer : length l.self ≤ length l.fn.self }
 
 abbrev pub decreases-loop-self : goal.decreases-loop-self
-decreases-loop-self l = length l.self
+decreases-loop-self g l = length l.self

@@ -1,11 +1,10 @@
 use Rattle.std.proofs.Common.{◌≡◌, ◌≤◌, length}
 use Rattle.vast_read.specs.MemberSteps.{joined_events, other_events}
-use Rattle.vast_read.specs.MemberView.{events_view}
 use Rattle.vast_read.specs.ListSteps.{with_list}
 use Rattle.vast_read.proofs.reader.Reader.joined_events.Given as goal
 
 abbrev pub invariant-loop-self : goal.invariant-loop-self
-invariant-loop-self l = record { reads : joined_events l.fn.self ≡ with_list (events_view l.items) (other_events l.self); fewer : length l.self ≤ length l.fn.self }
+invariant-loop-self g l = record { reads : joined_events l.fn.self ≡ with_list (g.B.BuildMembers.holds.events l.items) (other_events l.self); fewer : length l.self ≤ length l.fn.self }
 
 abbrev pub decreases-loop-self : goal.decreases-loop-self
-decreases-loop-self l = length l.self
+decreases-loop-self g l = length l.self

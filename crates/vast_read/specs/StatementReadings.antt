@@ -1,0 +1,62 @@
+-- The statements that stand for what is made of them: trees themselves, or nothing but shadows.
+use Rattle.std.specs.Prelude.{List, [], ◌∷◌, ◌++◌, Option, Some, None, option_map, map}
+use Rattle.vast_literal.specs.NormalExpr.{Name}
+use Rattle.vast_literal.specs.NormalFile.{NormalStatement, AssignStatement, ChoiceStatement, CaseStatement, NormalStatements, Done, Then, Labels, NoLabels, Label}
+use Rattle.vast_literal.specs.FileGrammar.{assignment}
+use Rattle.vast_read.specs.Readings.{tree_of}
+use Rattle.vast_read.specs.StatementParts.{ChoicePart, arms_of, join_block, join_labels}
+use Rattle.vast_read.specs.StatementReading.{StatementReading}
+use Rattle.vast_read.specs.StatementView.{statement_view, arm_view, block_view, labels_view}
+use Rattle.vast_read.specs.TokenView.{key_view}
+use Rattle.vast_read.specs.View.{view}
+use Rattle.vast_read.specs.declared.tree.expression.NormalExpr.{NormalExpr as Tree}
+use Rattle.vast_read.specs.declared.tree.statement.NormalStatement.{NormalStatement as StatementTree}
+use Rattle.vast_read.specs.declared.tree.statement.Arm.{Arm}
+use Rattle.vast_read.specs.declared.tree.statement.CaseArm.{CaseArm}
+use Rattle.vast_read.specs.declared.build.unbuilt.statements.StatementShadow.{StatementShadow, fold-StatementShadow}
+use Rattle.vast_read.specs.declared.build.unbuilt.statements.StatementShadow.TheOpen.{StatementShadow-F}
+
+abbrev pub statement_trees : StatementReading StatementTree (List StatementTree) (List Arm) (Option Tree) (List CaseArm)
+statement_trees = record {
+  statement = statement_view;
+  block = block_view;
+  arms = map arm_view;
+  label = option_map view;
+  cases = labels_view;
+}
+
+-- A statement, a block, or arms: each shadow stands for one of the four.
+pub record Seen : Type 0 where
+  pub statement : NormalStatement
+  pub block : NormalStatements
+  pub arms : List ChoicePart
+  pub cases : Labels
+
+abbrev nothing : Seen
+nothing = record { statement = AssignStatement (Name []) (Name []); block = Done; arms = []; cases = NoLabels }
+
+abbrev one : NormalStatement → Seen
+one s = record { statement = s; block = Done; arms = []; cases = NoLabels }
+
+abbrev in_block : NormalStatements → Seen
+in_block ss = record { statement = nothing.statement; block = ss; arms = []; cases = NoLabels }
+
+abbrev in_arms : List ChoicePart → Seen
+in_arms ps = record { statement = nothing.statement; block = Done; arms = ps; cases = NoLabels }
+
+abbrev in_cases : Labels → Seen
+in_cases ls = record { statement = nothing.statement; block = Done; arms = []; cases = ls }
+
+abbrev pub step : StatementShadow-F Seen → Seen
+step (StatementShadow-F.Assignment b l r) = one (assignment b (tree_of l.value) (tree_of r.value))
+step (StatementShadow-F.Assign l r) = one (AssignStatement (tree_of l.value) (tree_of r.value))
+step (StatementShadow-F.Choice ps) = one (ChoiceStatement (arms_of ps.value.arms None))
+step (StatementShadow-F.ChoiceElse ps b) = one (ChoiceStatement (arms_of ps.value.arms (Some b.value.block)))
+step (StatementShadow-F.Case u k x ls) = one (CaseStatement u (key_view k) (tree_of x.value) ls.value.cases)
+step StatementShadow-F.Nothing = nothing
+step (StatementShadow-F.Then ss s) = in_block (join_block ss.value.block (Then s.value.statement Done))
+step (StatementShadow-F.Arm ps x b) = in_arms (ps.value.arms ++ (tree_of x.value, b.value.block) ∷ [])
+step (StatementShadow-F.CaseArm ls x b) = in_cases (join_labels ls.value.cases (Label (option_map (λ y. tree_of y.value) x.value) b.value.block NoLabels))
+
+abbrev pub seen : StatementShadow → Seen
+seen = fold-StatementShadow Seen step
