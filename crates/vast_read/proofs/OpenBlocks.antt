@@ -44,6 +44,10 @@ arm_reads : (ps : List ChoicePart) (ts : List Token) → arm_then ps ts ≡
 unfolding arm_then
 arm_reads ps ts = rw (choice_arm_reads ts) (simp (chained, then_some, block_reads))
 
+pub choice_starts : (ps : List ChoicePart) (ts : List Token) → ps ≡ [] → choice_statement ts ≡ arm_then ps ts
+unfolding arm_then
+choice_starts ps ts e = rw e (choice_begins ts)
+
 pub arm_lacks : (ps : List ChoicePart) (ts : List Token) → in_parens ts ≡ None → arm_then ps ts ≡ None
 arm_lacks ps ts e = arm_reads ps ts ∙ rw e (then_none _)
 
@@ -151,10 +155,6 @@ module _ {E S K A L C : Type 0} (tree : E → NormalExpr) (acts : StatementReadi
   closed_case c l b ts = refl
 
   -- arms of a conditional
-
-  pub choice_starts : (ps : A) (ts : List Token) → acts.arms ps ≡ [] → choice_statement ts ≡ arm_then (acts.arms ps) ts
-  unfolding arm_then
-  choice_starts ps ts e = rw e (choice_begins ts)
 
   pub arm_opens : (ps : A) (x : E) (ts us vs : List Token) → in_parens ts ≡ Some (tree x, us) → after_key BeginKey us ≡ Some vs →
       arm_then (acts.arms ps) ts ≡ ended tree acts (progress.Inside (owner.Arm ps x)) vs
