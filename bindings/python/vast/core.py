@@ -42,6 +42,8 @@ class Core:
         self._count = 0
         self._types: Dict[int, int] = {}
         self._fault: Optional[VastFault] = None
+        # The fault while lines are being made, which stays where their making is interrupted, as from the keyboard.
+        self._interrupted = VastFault("a call was interrupted: whether it was made isn't known")
 
     def flush(self) -> None:
         """Makes the calls that wait.
@@ -52,13 +54,14 @@ class Core:
         """
         if self._fault is not None:
             raise self._fault
-        if not self._lines:
+        lines = self._lines
+        if not lines:
             return
-        # Cleared behind the call, so that lines whose sending was interrupted, as from the keyboard, aren't sent twice.
-        self._fault = VastFault("a call was interrupted: whether it was made isn't known")
+        # Cleared behind the call, so that lines whose sending was interrupted aren't sent twice.
+        self._fault = self._interrupted
         try:
-            taken, fault = self._session.lines(self._lines)
-            del self._lines[:taken]
+            taken, fault = self._session.lines(lines)
+            del lines[:taken]
         except Exception:
             self._fault = None
             raise
@@ -76,26 +79,24 @@ class Core:
         if self._places is not None and fault.line is not None and fault.line < len(self._places):
             fault.place = "{}:{}".format(*self._places[fault.line])
 
-    def _append(self, line: str) -> None:
-        """One line more that waits."""
-        self._lines.append(line)
-        if self._places is not None:
-            self._places.append(caller())
-
     def _later(self, line: str) -> int:
         """The number of a call that waits."""
         if len(self._lines) >= BATCH:
             self.flush()
         number = self._count
         self._count = number + 1
-        self._append(line)
+        self._lines.append(line)
+        if self._places is not None:
+            self._places.append(caller())
         return number
 
     def _now(self, line: str) -> int:
         """The number of a call that is made at once, or its fault, and then nothing changed."""
         if not self._strict:
             return self._later(line)
-        self._append(line)
+        self._lines.append(line)
+        if self._places is not None:
+            self._places.append(caller())
         try:
             self.flush()
         except BaseException:

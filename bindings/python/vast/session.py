@@ -52,13 +52,15 @@ class LibrarySession:
         self._session = byref(self._at)
         self._taken = c_size_t()
         self._taken_at = byref(self._taken)
+        # Found once, since each call of a file goes through it.
+        self._make = library.vast_lines
         self._check(library.vast_open(self._session, self.DIALECTS[dialect]))
         self._end = weakref.finalize(self, library.vast_close, self._session)
 
     def lines(self, lines: List[str]) -> Tuple[int, Optional[Exception]]:
         """See `Session`."""
         sent = "\n".join(lines).encode()
-        status = self._library.vast_lines(self._session, sent, len(sent), self._taken_at)
+        status = self._make(self._session, sent, len(sent), self._taken_at)
         return self._taken.value, None if status == 0 else self._fault(status)
 
     def ask(self, line: str) -> Plain:

@@ -1,15 +1,13 @@
 """Arguments as lines have them, and answers as lines give them."""
 from __future__ import annotations
 
-import json
 import re
 from enum import Enum
+from json.encoder import encode_basestring
 from typing import Any, Callable, Dict, Iterable, List, Optional, Type, Union
 
 from .kinds import ModulePortDirection, Port
 from .session import Plain
-
-_encoded = json.JSONEncoder(ensure_ascii=False).encode
 
 
 def quoted(text: str) -> str:
@@ -18,7 +16,7 @@ def quoted(text: str) -> str:
         raise TypeError(f"a text is wanted, not {text!r}")
     if not text.isascii():
         text.encode()  # Half of a surrogate pair is no character: a UnicodeEncodeError, before anything is made.
-    return _encoded(text)
+    return encode_basestring(text)
 
 
 def truth(given: bool) -> str:

@@ -1,7 +1,7 @@
 //! The files that the program is given.
 
 use crate::outcome::Outcome;
-use crate::program::{Manner, answer_lists, fail, run};
+use crate::program::{Failure, Manner, answer_lists, fail, run, tell};
 use crate::words::Form;
 use std::fs;
 use std::io::{ErrorKind, IsTerminal, Write};
@@ -10,11 +10,18 @@ use vast_list::{Tries, tried};
 /// Answers the lists of the files in order, or of standard input where there are none.
 ///
 /// A file that can't be read is told, and the files behind it are answered.
-pub(crate) fn answer_files(rt: &HostRuntime, form: Form, again: bool, files: &[&str]) -> Outcome {
+pub(crate) fn answer_files(
+    rt: &HostRuntime,
+    form: Form,
+    again: bool,
+    map: bool,
+    files: &[&str],
+) -> Outcome {
     let tries = if again { Tries::Again } else { Tries::Once };
     let source = "<stdin>";
     let manner = Manner {
         form,
+        map,
         tries,
         source,
     };
@@ -51,18 +58,21 @@ fn answer_file(rt: &HostRuntime, manner: Manner<'_>, file: &str) -> Outcome {
     }
     match tried!(manner.tries, fs::read(rt, file)) {
         Ok(bytes) => {
-            let Manner { form, tries, .. } = manner;
             let manner = Manner {
-                form,
-                tries,
+                form: manner.form,
+                map: manner.map,
+                tries: manner.tries,
                 source: file,
             };
             answer_lists(alloc, manner, &bytes, &mut out, &mut err)
         }
-        Err(error) if error.kind() == ErrorKind::OutOfMemory => fail("out of memory", &mut err),
+        Err(error) if error.kind() == ErrorKind::OutOfMemory => fail(Failure::Memory, &mut err),
         Err(error) => {
-            let _ = writeln!(err, "vast_replay: {file}: {error}");
-            Outcome::NotInForm
+            let told = tried!(
+                manner.tries,
+                format!(in alloc; "vast_replay: {file}: {error}\n")
+            );
+            tell(told, &mut err)
         }
     }
 }
