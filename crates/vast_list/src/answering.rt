@@ -132,7 +132,11 @@ impl Answering<'_> {
         if self.report.is_none() {
             return Ok(());
         }
-        match tried!(self.tries(), self.session.helper_text(number)) {
+        match tried!(
+            self.tries(),
+            self.session.helper_text(number),
+            StepFault::Memory
+        ) {
             Ok(text) => self.print_words(call, ": ", &text),
             Err(StepFault::Memory) => Err(AllocError),
             Err(fault) => {
@@ -197,7 +201,7 @@ impl Answering<'_> {
     /// Prints the file's text behind the header, or its refusal.
     pub(crate) fn print_file(&mut self) -> Result<(), AllocError> {
         self.print_left()?;
-        match tried!(self.tries(), self.session.text()) {
+        match tried!(self.tries(), self.session.text(), Fault::Memory) {
             Ok(text) => self.print_text(&text),
             Err(Fault::Memory) => Err(AllocError),
             Err(Fault::Line(fault)) => {

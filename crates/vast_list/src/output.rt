@@ -60,7 +60,7 @@ pub fn list_output(
     ensures { IfOk result (λ made. IfSome made.output
         (λ output. IsOutput list.now.title output.items)) }
 {
-    let (dialect, lines) = match tried!(tries, dialect_line(alloc, list)) {
+    let (dialect, lines) = match tried!(tries, dialect_line(alloc, list), Fault::Memory) {
         Ok(found) => found,
         Err(Fault::Memory) => return Err(AllocError),
         Err(Fault::Line(fault)) => return bad_dialect(alloc, tries, fault),
@@ -166,7 +166,7 @@ fn design(tries: Tries, answering: Answering<'_>) -> Result<ListOutput, AllocErr
     if let Verdict::Refused = told.verdict {
         return Ok(output_of(None, told));
     }
-    match tried!(tries, session.text()) {
+    match tried!(tries, session.text(), Fault::Memory) {
         Ok(text) => Ok(output_of(Some(text.into_bytes()), told)),
         Err(Fault::Memory) => Err(AllocError),
         Err(Fault::Line(fault)) => {

@@ -9,12 +9,19 @@ pub enum Tries {
     Again,
 }
 
-/// What is made; where that fails and the tries allow it, what is made the second time.
+/// What is made; where that fails and the tries allow it, what is made the second time. `$memory` is the pattern of the
+/// failures that are want of memory; without it each is.
 #[macro_export]
 macro_rules! tried {
     ($tries:expr, $made:expr) => {
         match $made {
             Err(_) if matches!($tries, $crate::Tries::Again) => $made,
+            made => made,
+        }
+    };
+    ($tries:expr, $made:expr, $memory:pat) => {
+        match $made {
+            Err($memory) if matches!($tries, $crate::Tries::Again) => $made,
             made => made,
         }
     };

@@ -1,7 +1,7 @@
 //! The files that the program is given.
 
 use crate::outcome::Outcome;
-use crate::program::{Manner, answer_lists, fail, run};
+use crate::program::{Failure, Manner, answer_lists, fail, run, tell};
 use crate::words::Form;
 use std::fs;
 use std::io::{ErrorKind, IsTerminal, Write};
@@ -59,10 +59,13 @@ fn answer_file(rt: &HostRuntime, manner: Manner<'_>, file: &str) -> Outcome {
             };
             answer_lists(alloc, manner, &bytes, &mut out, &mut err)
         }
-        Err(error) if error.kind() == ErrorKind::OutOfMemory => fail("out of memory", &mut err),
+        Err(error) if error.kind() == ErrorKind::OutOfMemory => fail(Failure::Memory, &mut err),
         Err(error) => {
-            let _ = writeln!(err, "vast_replay: {file}: {error}");
-            Outcome::NotInForm
+            let told = tried!(
+                manner.tries,
+                format!(in alloc; "vast_replay: {file}: {error}\n")
+            );
+            tell(told, &mut err)
         }
     }
 }

@@ -14,7 +14,7 @@ mod words;
 use files::answer_files;
 use help::{HELP, VERSION};
 use outcome::Outcome;
-use program::fail;
+use program::{Failure, fail, tell};
 use session::answer_lines;
 use std::alloc::{AllocError, Global};
 use std::env;
@@ -65,9 +65,9 @@ fn main(rt: HostRuntime) -> ExitCode {
     let outcome = match arguments_again(&rt) {
         Ok(words) => match slices_again(alloc, &words) {
             Ok(words) => answer_words(&rt, &words),
-            Err(_) => fail("out of memory", &mut err),
+            Err(_) => fail(Failure::Memory, &mut err),
         },
-        Err(error) if error.kind() == ErrorKind::OutOfMemory => fail("out of memory", &mut err),
+        Err(error) if error.kind() == ErrorKind::OutOfMemory => fail(Failure::Memory, &mut err),
         Err(_) => {
             let _ = err.write_all(b"vast_replay: a word is not UTF-8\n");
             Outcome::NotInForm
@@ -86,10 +86,10 @@ fn answer_words(rt: &HostRuntime, words: &[&str]) -> Outcome {
         Ok(Request::CallsJson) => print_made(rt, calls_json(alloc)),
         Ok(Request::Session) => talk(rt),
         Ok(Request::Lists { form, again, files }) => answer_files(rt, form, again, &files),
-        Err(WordFault::Memory) => fail("out of memory", &mut err),
+        Err(WordFault::Memory) => fail(Failure::Memory, &mut err),
         Err(fault) => {
-            let _ = writeln!(err, "vast_replay: {fault}; --help tells the words");
-            Outcome::NotInForm
+            let told = format!(in alloc; "vast_replay: {fault}; --help tells the words\n");
+            tell(told, &mut err)
         }
     }
 }
@@ -97,14 +97,14 @@ fn answer_words(rt: &HostRuntime, words: &[&str]) -> Outcome {
 fn print(rt: &HostRuntime, text: &str) -> Outcome {
     match rt.stdout().write_all(text.as_bytes()) {
         Ok(()) => Outcome::Made,
-        Err(_) => fail("write fault", &mut rt.stderr()),
+        Err(_) => fail(Failure::Write, &mut rt.stderr()),
     }
 }
 
 fn print_made(rt: &HostRuntime, text: Result<String, AllocError>) -> Outcome {
     match text {
         Ok(text) => print(rt, &text),
-        Err(_) => fail("out of memory", &mut rt.stderr()),
+        Err(_) => fail(Failure::Memory, &mut rt.stderr()),
     }
 }
 
@@ -112,6 +112,6 @@ fn talk(rt: &HostRuntime) -> Outcome {
     let mut err = rt.stderr();
     match BufReader::new(rt.alloc(), rt.stdin()) {
         Ok(mut input) => answer_lines(rt.alloc(), &mut input, &mut rt.stdout(), &mut err),
-        Err(_) => fail("out of memory", &mut err),
+        Err(_) => fail(Failure::Memory, &mut err),
     }
 }

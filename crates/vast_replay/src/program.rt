@@ -9,9 +9,32 @@ mod tests;
 use crate::input::split_lists;
 use crate::outcome::Outcome;
 use crate::words::Form;
-use std::alloc::Global;
+use std::alloc::{AllocError, Global};
+use std::fmt::Write as _;
 use std::io::{ErrorKind, Read, Write};
-use vast_list::{LineFault, ListLines, Tries, Verdict, list_json, list_output, tried};
+use vast_list::{ListLines, ListOutput, Tries, Verdict, list_json, list_output, tried};
+
+/// What ends a run.
+#[derive(Clone, Copy)]
+pub enum Failure {
+    Memory,
+    Read,
+    Write,
+    /// There are more lines than can be counted.
+    Lines,
+}
+
+impl Failure {
+    /// The line that tells it.
+    fn line(self) -> &'static str {
+        match self {
+            Failure::Memory => "out of memory\n",
+            Failure::Read => "read fault\n",
+            Failure::Write => "write fault\n",
+            Failure::Lines => "too many lines\n",
+        }
+    }
+}
 
 /// How lists are answered.
 #[derive(Clone, Copy)]
@@ -28,7 +51,8 @@ pub struct Manner<'a> {
 ///
 /// Where the first line is a header, `== TITLE`, each list is answered to `out` behind its header, refusals included.
 /// Else there is one list, and its file's text alone goes to `out`, where nothing of it was refused. A list with a line
-/// that is not in the form prints nothing. Each fault is told on `err` behind its source and its line. With
+/// that is not in the form prints nothing. Each fault is told on `err` behind its source and its line, all of a list in
+/// one write. With
 /// `Form::Faults` nothing goes to `out`; with `Form::Json` a line for each list does, and no fault goes to `err`.
 /// A failed read (`read fault`), a failed write (`write fault`) and want of memory (`out of memory`) are told on `err` and
 /// end the run. A failed write to `err` changes nothing.
@@ -52,9 +76,9 @@ pub fn run<R: Read, W: Write, E: Write>(
         Ok(_) => answer_lists(alloc, manner, &bytes, out, err),
         Err(error) => {
             if error.kind() == ErrorKind::OutOfMemory {
-                fail("out of memory", err)
+                fail(Failure::Memory, err)
             } else {
-                fail("read fault", err)
+                fail(Failure::Read, err)
             }
         }
     }
@@ -71,7 +95,7 @@ pub fn answer_lists<W: Write, E: Write>(
     ensures { result ≡ Outcome.Made → E.contents err.new ≡ E.contents err.old }
 {
     let Ok(lists) = tried!(manner.tries, split_lists(alloc, input)) else {
-        return fail("out of memory", err);
+        return fail(Failure::Memory, err);
     };
     let mut outcome = Outcome::Made;
     for list in &lists {
@@ -109,16 +133,19 @@ fn answer_text<W: Write, E: Write>(
     ensures { result ≡ Outcome.Made → E.contents err.new ≡ E.contents err.old }
 {
     let Ok(made) = list_output(alloc, manner.tries, list) else {
-        return fail("out of memory", err);
+        return fail(Failure::Memory, err);
+    };
+    let Ok(told) = tried!(manner.tries, told(alloc, manner.source, &made)) else {
+        return fail(Failure::Memory, err);
     };
     if let (Form::Text, Some(output)) = (manner.form, &made.output) {
         if out.write_all(output).is_err() {
-            return fail("write fault", err);
+            return fail(Failure::Write, err);
         }
     }
     let outcome = outcome_of(made.verdict, list.title.is_some());
     if outcome != Outcome::Made {
-        tell(manner.source, &made.faults, made.more, err);
+        let _ = err.write_all(told.as_bytes());
     }
     outcome
 }
@@ -134,11 +161,11 @@ fn answer_json<W: Write, E: Write>(
     ensures { result ≡ Outcome.Made → E.contents err.new ≡ E.contents err.old }
 {
     let Ok((line, verdict)) = list_json(alloc, source, list) else {
-        return fail("out of memory", err);
+        return fail(Failure::Memory, err);
     };
     match out.write_all(line.as_bytes()) {
         Ok(()) => outcome_of(verdict, list.title.is_some()),
-        Err(_) => fail("write fault", err),
+        Err(_) => fail(Failure::Write, err),
     }
 }
 
@@ -151,21 +178,33 @@ fn outcome_of(verdict: Verdict, has_title: bool) -> Outcome {
     }
 }
 
-/// Tells the faults of a list, each with its line.
-fn tell<E: Write>(source: &str, faults: &[LineFault], more: usize, err: &mut E) {
-    for fault in faults {
-        let _ = writeln!(err, "{source}:{fault}");
+/// The faults of a list, each in a line behind its source.
+fn told(alloc: Global, source: &str, made: &ListOutput) -> Result<String, AllocError> {
+    let mut told = String::new(alloc);
+    for fault in &made.faults {
+        writeln!(told, "{source}:{fault}")?;
     }
-    if more > 0 {
-        let _ = writeln!(err, "{source}: {more} faults more");
+    if made.more > 0 {
+        writeln!(told, "{source}: {} faults more", made.more)?;
+    }
+    Ok(told)
+}
+
+/// Tells in one write what is not in the form or can't be read, and that memory was refused to its words.
+pub fn tell<E: Write>(told: Result<String, AllocError>, err: &mut E) -> Outcome {
+    match told {
+        Ok(told) => {
+            let _ = err.write_all(told.as_bytes());
+            Outcome::NotInForm
+        }
+        Err(_) => fail(Failure::Memory, err),
     }
 }
 
 /// Tells what ends the run.
-pub fn fail<E: Write>(text: &str, err: &mut E) -> Outcome
+pub fn fail<E: Write>(failure: Failure, err: &mut E) -> Outcome
     ensures { result ≡ Outcome.Failed }
 {
-    let _ = err.write_all(text.as_bytes());
-    let _ = err.write_all(b"\n");
+    let _ = err.write_all(failure.line().as_bytes());
     Outcome::Failed
 }

@@ -3,7 +3,7 @@
 ghost use Rattle.std.specs.Prelude.{◌≡◌};
 
 use crate::outcome::Outcome;
-use crate::program::fail;
+use crate::program::{Failure, fail};
 use std::alloc::Global;
 use std::io;
 use std::io::{BufRead, ErrorKind, Write};
@@ -27,18 +27,18 @@ pub fn answer_lines<R: BufRead, W: Write, E: Write>(
             Ok(None) => return Outcome::Made,
             Ok(Some(line)) => line,
             Err(error) if error.kind() == ErrorKind::OutOfMemory => {
-                return fail("out of memory", err);
+                return fail(Failure::Memory, err);
             }
-            Err(_) => return fail("read fault", err),
+            Err(_) => return fail(Failure::Read, err),
         };
         let Ok(reply) = talk.reply(&line) else {
-            return fail("out of memory", err);
+            return fail(Failure::Memory, err);
         };
         if out.write_all(reply.as_bytes()).is_err() || out.flush().is_err() {
-            return fail("write fault", err);
+            return fail(Failure::Write, err);
         }
     }
-    fail("too many lines", err)
+    fail(Failure::Lines, err)
 }
 
 /// The next line without its line feed; `None` at the end.
