@@ -1,3 +1,5 @@
 pub mod Headers
 mod JsonLaws
 pub mod Sessions
+pub mod TextLines
+pub mod Mapped

@@ -10,11 +10,18 @@ use vast_list::{Tries, tried};
 /// Answers the lists of the files in order, or of standard input where there are none.
 ///
 /// A file that can't be read is told, and the files behind it are answered.
-pub(crate) fn answer_files(rt: &HostRuntime, form: Form, again: bool, files: &[&str]) -> Outcome {
+pub(crate) fn answer_files(
+    rt: &HostRuntime,
+    form: Form,
+    again: bool,
+    map: bool,
+    files: &[&str],
+) -> Outcome {
     let tries = if again { Tries::Again } else { Tries::Once };
     let source = "<stdin>";
     let manner = Manner {
         form,
+        map,
         tries,
         source,
     };
@@ -51,10 +58,10 @@ fn answer_file(rt: &HostRuntime, manner: Manner<'_>, file: &str) -> Outcome {
     }
     match tried!(manner.tries, fs::read(rt, file)) {
         Ok(bytes) => {
-            let Manner { form, tries, .. } = manner;
             let manner = Manner {
-                form,
-                tries,
+                form: manner.form,
+                map: manner.map,
+                tries: manner.tries,
                 source: file,
             };
             answer_lists(alloc, manner, &bytes, &mut out, &mut err)

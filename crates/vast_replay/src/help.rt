@@ -2,7 +2,8 @@
 
 /// How the program is called.
 pub(crate) const HELP: &str = "\
-vast_replay [--check | --json | --again] [FILE ..]
+vast_replay [--json] [--map] [--again] [FILE ..]
+vast_replay --check [FILE ..]
 vast_replay --session
 vast_replay --calls [--json]
 
@@ -11,6 +12,8 @@ standard input.
 
   --check    makes the lists and prints faults alone
   --json     prints a line of JSON for each list
+  --map      prints each line of a text behind the number of the line of the list that it comes from, and a tab; with
+             --json as a member, `map`
   --session  answers each line of standard input at once, by a line of JSON
   --calls    prints the table of all calls, with --json as JSON
   --again    tries once more what was refused memory, for tests that refuse it

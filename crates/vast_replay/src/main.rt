@@ -85,7 +85,14 @@ fn answer_words(rt: &HostRuntime, words: &[&str]) -> Outcome {
         Ok(Request::Calls) => print_made(rt, calls_text(alloc)),
         Ok(Request::CallsJson) => print_made(rt, calls_json(alloc)),
         Ok(Request::Session) => talk(rt),
-        Ok(Request::Lists { form, again, files }) => answer_files(rt, form, again, &files),
+        Ok(
+            Request::Lists {
+                form,
+                again,
+                map,
+                files,
+            },
+        ) => answer_files(rt, form, again, map, &files),
         Err(WordFault::Memory) => fail(Failure::Memory, &mut err),
         Err(fault) => {
             let told = format!(in alloc; "vast_replay: {fault}; --help tells the words\n");

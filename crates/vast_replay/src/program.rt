@@ -12,7 +12,10 @@ use crate::words::Form;
 use std::alloc::{AllocError, Global};
 use std::fmt::Write as _;
 use std::io::{ErrorKind, Read, Write};
-use vast_list::{ListLines, ListOutput, Tries, Verdict, list_json, list_output, tried};
+use vast_list::{
+    ListLines, ListOutput, Tries, Verdict, json_with_map, list_json, list_origins, list_output,
+    tried,
+};
 
 /// What ends a run.
 #[derive(Clone, Copy)]
@@ -41,7 +44,9 @@ impl Failure {
 pub struct Manner<'a> {
     /// What is printed of each.
     pub form: Form,
-    /// How often what was refused memory is tried; a list is answered as JSON once.
+    /// Whether each line of a text is printed behind the line of the list that it comes from.
+    pub map: bool,
+    /// How often what was refused memory is tried.
     pub tries: Tries,
     /// What stands before each fault: where the lists are from.
     pub source: &'a str,
@@ -53,7 +58,8 @@ pub struct Manner<'a> {
 /// Else there is one list, and its file's text alone goes to `out`, where nothing of it was refused. A list with a line
 /// that is not in the form prints nothing. Each fault is told on `err` behind its source and its line, all of a list in
 /// one write. With
-/// `Form::Faults` nothing goes to `out`; with `Form::Json` a line for each list does, and no fault goes to `err`.
+/// `Form::Faults` nothing goes to `out`; with a map each line of a text stands behind the number of the line of the list
+/// that it comes from, and a tab; with `Form::Json` a line for each list does, and no fault goes to `err`.
 /// A failed read (`read fault`), a failed write (`write fault`) and want of memory (`out of memory`) are told on `err` and
 /// end the run. A failed write to `err` changes nothing.
 ///
@@ -118,7 +124,7 @@ fn answer_list<W: Write, E: Write>(
 {
     match manner.form {
         Form::Text | Form::Faults => answer_text(alloc, manner, list, out, err),
-        Form::Json => answer_json(alloc, manner.source, list, out, err),
+        Form::Json => answer_json(alloc, manner, list, out, err),
     }
 }
 
@@ -138,34 +144,74 @@ fn answer_text<W: Write, E: Write>(
     let Ok(told) = tried!(manner.tries, told(alloc, manner.source, &made)) else {
         return fail(Failure::Memory, err);
     };
-    if let (Form::Text, Some(output)) = (manner.form, &made.output) {
+    let ListOutput {
+        output,
+        verdict,
+        ..
+    } = made;
+    let Ok(output) = mapped(alloc, manner, list, output) else {
+        return fail(Failure::Memory, err);
+    };
+    if let (Form::Text, Some(output)) = (manner.form, &output) {
         if out.write_all(output).is_err() {
             return fail(Failure::Write, err);
         }
     }
-    let outcome = outcome_of(made.verdict, list.title.is_some());
+    let outcome = outcome_of(verdict, list.title.is_some());
     if outcome != Outcome::Made {
         let _ = err.write_all(told.as_bytes());
     }
     outcome
 }
 
+/// The list's output; with a map each line of the file's text stands behind the line of the list that it comes from.
+fn mapped(
+    alloc: Global,
+    manner: Manner<'_>,
+    list: &ListLines<'_>,
+    output: Option<Vec<u8>>,
+) -> Result<Option<Vec<u8>>, AllocError> {
+    match output {
+        Some(output) if manner.map => {
+            match tried!(manner.tries, list_origins(alloc, list))? {
+                Some(origins) => Ok(Some(tried!(manner.tries, origins.mapped(&output))?)),
+                None => Ok(Some(output)),
+            }
+        }
+        output => Ok(output),
+    }
+}
+
 /// Answers one list to `out` by a line of JSON.
 fn answer_json<W: Write, E: Write>(
     alloc: Global,
-    source: &str,
+    manner: Manner<'_>,
     list: &ListLines<'_>,
     out: &mut W,
     err: &mut E,
 ) -> Outcome
     ensures { result ≡ Outcome.Made → E.contents err.new ≡ E.contents err.old }
 {
-    let Ok((line, verdict)) = list_json(alloc, source, list) else {
+    let Ok((line, verdict)) = tried!(manner.tries, json(alloc, manner, list)) else {
         return fail(Failure::Memory, err);
     };
     match out.write_all(line.as_bytes()) {
         Ok(()) => outcome_of(verdict, list.title.is_some()),
         Err(_) => fail(Failure::Write, err),
+    }
+}
+
+/// The list's line of JSON, with its map where that is asked for.
+fn json(
+    alloc: Global,
+    manner: Manner<'_>,
+    list: &ListLines<'_>,
+) -> Result<(String, Verdict), AllocError> {
+    let (line, verdict) = list_json(alloc, manner.source, list)?;
+    if manner.map {
+        Ok((json_with_map(alloc, list, &line, verdict)?, verdict))
+    } else {
+        Ok((line, verdict))
     }
 }
 

@@ -22,6 +22,8 @@ pub(crate) enum Request<'a> {
         form: Form,
         /// Whether what was refused memory is made once more.
         again: bool,
+        /// Whether each line of a text is printed behind the line of the list that it comes from.
+        map: bool,
         /// The files' names, where `-` is standard input.
         files: Vec<&'a str>,
     },
@@ -57,7 +59,7 @@ impl From<AllocFailed<&str>> for WordFault<'_> {
     }
 }
 
-/// What is asked for but for files and `--again`.
+/// What is asked for but for files, `--again` and `--map`.
 #[derive(Clone, Copy, PartialEq, Eq)]
 enum Mode {
     Help,
@@ -87,6 +89,7 @@ impl Mode {
 struct Seen<'a> {
     mode: Option<Mode>,
     again: bool,
+    map: bool,
     /// Whether `--` was there, behind which each word is a file.
     only_files: bool,
     files: Vec<&'a str>,
@@ -103,6 +106,7 @@ pub(crate) fn requested<'a>(
     let mut seen = Seen {
         mode: None,
         again: false,
+        map: false,
         only_files: false,
         files: Vec::new(alloc),
     };
@@ -121,6 +125,7 @@ impl<'a> Seen<'a> {
         match word {
             "--" => self.only_files = true,
             "--again" => self.again = true,
+            "--map" => self.map = true,
             "--help" | "-h" => self.choose(Mode::Help)?,
             "--version" | "-V" => self.choose(Mode::Version)?,
             "--calls" => self.choose(Mode::Calls)?,
@@ -148,9 +153,10 @@ impl<'a> Seen<'a> {
         match self.mode {
             None => Ok(self.lists(Form::Text)),
             Some(Mode::Help) => Ok(Request::Help),
-            Some(mode) if self.again => Err(WordFault::Together("--again", mode.word())),
-            Some(Mode::Check) => Ok(self.lists(Form::Faults)),
             Some(Mode::Json) => Ok(self.lists(Form::Json)),
+            Some(mode) if self.again => Err(WordFault::Together("--again", mode.word())),
+            Some(mode) if self.map => Err(WordFault::Together("--map", mode.word())),
+            Some(Mode::Check) => Ok(self.lists(Form::Faults)),
             Some(mode) if !self.files.is_empty() => Err(WordFault::WithFile(mode.word())),
             Some(Mode::Version) => Ok(Request::Version),
             Some(Mode::Calls) => Ok(Request::Calls),
@@ -163,6 +169,7 @@ impl<'a> Seen<'a> {
         Request::Lists {
             form,
             again: self.again,
+            map: self.map,
             files: self.files,
         }
     }
@@ -181,8 +188,16 @@ mod tests {
             Ok(Request::Calls) => String::from_str(alloc, "calls"),
             Ok(Request::CallsJson) => String::from_str(alloc, "calls as JSON"),
             Ok(Request::Session) => String::from_str(alloc, "session"),
-            Ok(Request::Lists { form, again, files }) => {
-                format!(in alloc; "{form:?} {again} {}", files.len())
+            Ok(
+                Request::Lists {
+                    form,
+                    again,
+                    map,
+                    files,
+                },
+            ) => {
+                let map = if map { " map" } else { "" };
+                format!(in alloc; "{form:?} {again} {}{map}", files.len())
             }
             Err(WordFault::Memory) => String::from_str(alloc, "no memory"),
             Err(fault) => format!(in alloc; "{fault}"),
@@ -193,7 +208,7 @@ mod tests {
     #[test]
     fn words_ask_for_one_thing(rt: HostRuntime) {
         let alloc = rt.alloc();
-        let rows: [(&[&str], &str); 22] = [
+        let rows: [(&[&str], &str); 28] = [
             (&[], "Text false 0"),
             (&["a.list", "-"], "Text false 2"),
             (&["--again"], "Text true 0"),
@@ -218,9 +233,21 @@ mod tests {
                 &["--again", "--session"],
                 "--again and --session exclude each other",
             ),
+            (&["--json", "--again"], "Json true 0"),
             (
-                &["--json", "--again"],
-                "--again and --json exclude each other",
+                &["--check", "--again"],
+                "--again and --check exclude each other",
+            ),
+            (&["--map", "a.list"], "Text false 1 map"),
+            (&["--map", "--again"], "Text true 0 map"),
+            (&["--json", "--map"], "Json false 0 map"),
+            (
+                &["--check", "--map"],
+                "--map and --check exclude each other",
+            ),
+            (
+                &["--map", "--calls"],
+                "--map and --calls exclude each other",
             ),
             (&["--session", "a.list"], "--session takes no file"),
             (&["--calls", "-"], "--calls takes no file"),

@@ -53,6 +53,7 @@ fn outcome_of(alloc: Global, form: Form, tries: Tries, list: &[u8]) -> Ran {
     let source = "a.list";
     let manner = Manner {
         form,
+        map: false,
         tries,
         source,
     };
@@ -164,6 +165,7 @@ fn failing_streams_are_told(rt: HostRuntime) {
     let (form, tries) = (Form::Text, Tries::Once);
     let manner = Manner {
         form,
+        map: false,
         tries,
         source,
     };
@@ -178,4 +180,54 @@ fn failing_streams_are_told(rt: HostRuntime) {
     let mut input = NUMBERED.as_bytes();
     let outcome = run(alloc, manner, &mut input, &mut Closed, &mut Closed);
     assert_eq!(rt; outcome, Outcome::Failed);
+}
+
+/// What is printed of the list with a map.
+fn mapped(alloc: Global, form: Form, list: &str) -> Vec<u8> {
+    let mut out: Vec<u8> = Vec::new(alloc);
+    let mut err: Vec<u8> = Vec::new(alloc);
+    let manner = Manner {
+        form,
+        map: true,
+        tries: Tries::Once,
+        source: "a.list",
+    };
+    let mut input = list.as_bytes();
+    let _ = run(alloc, manner, &mut input, &mut out, &mut err);
+    out
+}
+
+const MAPPED: &str = r#"verilog
+m = AddModule "m"
+bit = MakeScalarType
+o = AddOutput m "o" bit
+a = AddInput m "a" bit
+one = MakeUnsizedOneLiteral
+p = AddParameterPort m "P" one
+q = AddParameterPort m "Q" one
+x = AddAlwaysComb m
+b = StatementBlock x
+c = BlockAddCond b a
+t = ConditionalThenBlock c
+BlockAddBlockingAssignment t o one
+e = ConditionalAddElse c
+BlockAddBlockingAssignment e o a
+w = AddWire m "w" bit
+n = MakeContinuousAssignment w a
+AddMemberContinuousAssignment m n
+HoistModuleDeclarations m 0
+"#;
+
+#[test]
+fn each_line_is_told_where_it_comes_from(rt: HostRuntime) {
+    let wanted = "2\tmodule m #(\n7\t  parameter P = '1,\n8\t  parameter Q = '1\n2\t) (\n\
+        4\t  output wire o,\n5\t  input wire a\n2\t);\n16\t  wire w;\n9\t  always_comb begin\n\
+        11\t    if (a) begin\n13\t      o = '1;\n11\t    end else begin\n15\t      o = a;\n\
+        11\t    end\n9\t  end\n18\t  assign w = a;\n2\tendmodule\n";
+    let out = mapped(rt.alloc(), Form::Text, MAPPED);
+    assert!(rt; out.as_slice() == wanted.as_bytes());
+    let out = mapped(rt.alloc(), Form::Json, NAMED);
+    assert!(rt; out.ends_with(b",\"map\":[2,4,2]}\n"));
+    let out = mapped(rt.alloc(), Form::Text, TWO);
+    assert!(rt; out.as_slice() == "== two\nrefused: step 0: no such answer\n".as_bytes());
 }
