@@ -1,8 +1,10 @@
 //! What is printed of a list.
 
-ghost use Rattle.std.specs.Prelude.{◌≡◌, IfOk, IfSome, None};
+ghost use Rattle.std.specs.Prelude.{◌≡◌, IfOk, IfSome, None, string_bytes};
+ghost use Rattle.vast_core.specs.FileTree.{tree};
 ghost use Rattle.vast_print.specs.Layout.{IsFileText};
 ghost use Rattle.vast_list.specs.Output.{header_line, BeginsWithHeader, IsOutput};
+ghost use Rattle.vast_list.specs.Session.{IsTextOf};
 
 use crate::again::Trial;
 use crate::answering::{Answering, Told};
@@ -166,13 +168,23 @@ fn design(tries: Tries, answering: Answering<'_>) -> Result<ListOutput, AllocErr
     if let Verdict::Refused = told.verdict {
         return Ok(output_of(None, told));
     }
-    match tried!(tries, session.text(), Fault::Memory) {
+    match text_again(tries, &session) {
         Ok(text) => Ok(output_of(Some(text.into_bytes()), told)),
         Err(Fault::Memory) => Err(AllocError),
         Err(Fault::Line(fault)) => {
             told.keep(tries, fault)?;
             Ok(output_of(None, told))
         }
+    }
+}
+
+/// The file's text, asked for once more where memory was refused.
+fn text_again(tries: Tries, session: &Session) -> Result<String, Fault>
+    ensures { IfOk result (λ text. IsTextOf (tree session.now.file) (string_bytes text)) }
+{
+    match session.text() {
+        Err(Fault::Memory) if matches!(tries, Tries::Again) => session.text(),
+        made => made,
     }
 }
 
