@@ -63,6 +63,12 @@ impl<'a> Arguments<'a> {
         Misfit { left, problem }
     }
 
+    /// The next word, and how many bytes stand from its first on.
+    pub(crate) fn word_at(&mut self) -> Result<(usize, &'a str), Misfit> {
+        let left = self.bytes_left();
+        Ok((left, self.word()?))
+    }
+
     /// What a name stands for.
     pub(crate) fn named(&self, name: &str) -> Option<Named> {
         self.known.names.get(name).copied()
@@ -103,13 +109,19 @@ impl<'a> Arguments<'a> {
 
     /// Takes the word if it is next, and answers whether it was.
     pub(crate) fn skip(&mut self, sign: &str) -> bool {
-        let mut behind = *self;
-        match behind.word() {
-            Ok(word) if word == sign => {
-                *self = behind;
+        let Some(behind) = self.rest.and_then(|rest| rest.strip_prefix(sign)) else {
+            return false;
+        };
+        if behind.is_empty() {
+            self.rest = None;
+            return true;
+        }
+        match behind.strip_prefix(' ') {
+            Some(rest) => {
+                self.rest = Some(rest);
                 true
             }
-            _ => false,
+            None => false,
         }
     }
 
@@ -167,49 +179,49 @@ impl<'a> Arguments<'a> {
     }
 
     /// What was made of no arguments.
-    pub(crate) fn none<R: Drop>(self, made: R) -> Result<R, Misfit> {
+    pub(crate) fn none<R: Drop>(&self, made: R) -> Result<R, Misfit> {
         self.end()?;
         Ok(made)
     }
 
     /// What is made of one argument.
-    pub(crate) fn one<A: FromArguments, R, M>(mut self, make: M) -> Result<R, Misfit>
+    pub(crate) fn one<A: FromArguments, R, M>(&mut self, make: M) -> Result<R, Misfit>
     where
         M: FnOnce(A) -> R + Drop,
         requires { M.IsAlwaysCallable make }
     {
-        let first = A::take(&mut self)?;
+        let first = A::take(self)?;
         self.end()?;
         Ok(make(first))
     }
 
     /// What is made of two arguments.
     pub(crate) fn two<A: FromArguments, B: FromArguments, R, M>(
-        mut self,
+        &mut self,
         make: M,
     ) -> Result<R, Misfit>
     where
         M: FnOnce(A, B) -> R + Drop,
         requires { M.IsAlwaysCallable make }
     {
-        let first = A::take(&mut self)?;
-        let second = B::take(&mut self)?;
+        let first = A::take(self)?;
+        let second = B::take(self)?;
         self.end()?;
         Ok(make(first, second))
     }
 
     /// What is made of three arguments.
     pub(crate) fn three<A: FromArguments, B: FromArguments, C: FromArguments, R, M>(
-        mut self,
+        &mut self,
         make: M,
     ) -> Result<R, Misfit>
     where
         M: FnOnce(A, B, C) -> R + Drop,
         requires { M.IsAlwaysCallable make }
     {
-        let first = A::take(&mut self)?;
-        let second = B::take(&mut self)?;
-        let third = C::take(&mut self)?;
+        let first = A::take(self)?;
+        let second = B::take(self)?;
+        let third = C::take(self)?;
         self.end()?;
         Ok(make(first, second, third))
     }
@@ -222,15 +234,15 @@ impl<'a> Arguments<'a> {
         D: FromArguments,
         R,
         M,
-    >(mut self, make: M) -> Result<R, Misfit>
+    >(&mut self, make: M) -> Result<R, Misfit>
     where
         M: FnOnce(A, B, C, D) -> R + Drop,
         requires { M.IsAlwaysCallable make }
     {
-        let first = A::take(&mut self)?;
-        let second = B::take(&mut self)?;
-        let third = C::take(&mut self)?;
-        let fourth = D::take(&mut self)?;
+        let first = A::take(self)?;
+        let second = B::take(self)?;
+        let third = C::take(self)?;
+        let fourth = D::take(self)?;
         self.end()?;
         Ok(make(first, second, third, fourth))
     }
@@ -244,16 +256,16 @@ impl<'a> Arguments<'a> {
         E: FromArguments,
         R,
         M,
-    >(mut self, make: M) -> Result<R, Misfit>
+    >(&mut self, make: M) -> Result<R, Misfit>
     where
         M: FnOnce(A, B, C, D, E) -> R + Drop,
         requires { M.IsAlwaysCallable make }
     {
-        let first = A::take(&mut self)?;
-        let second = B::take(&mut self)?;
-        let third = C::take(&mut self)?;
-        let fourth = D::take(&mut self)?;
-        let fifth = E::take(&mut self)?;
+        let first = A::take(self)?;
+        let second = B::take(self)?;
+        let third = C::take(self)?;
+        let fourth = D::take(self)?;
+        let fifth = E::take(self)?;
         self.end()?;
         Ok(make(first, second, third, fourth, fifth))
     }
@@ -268,17 +280,17 @@ impl<'a> Arguments<'a> {
         F: FromArguments,
         R,
         M,
-    >(mut self, make: M) -> Result<R, Misfit>
+    >(&mut self, make: M) -> Result<R, Misfit>
     where
         M: FnOnce(A, B, C, D, E, F) -> R + Drop,
         requires { M.IsAlwaysCallable make }
     {
-        let first = A::take(&mut self)?;
-        let second = B::take(&mut self)?;
-        let third = C::take(&mut self)?;
-        let fourth = D::take(&mut self)?;
-        let fifth = E::take(&mut self)?;
-        let sixth = F::take(&mut self)?;
+        let first = A::take(self)?;
+        let second = B::take(self)?;
+        let third = C::take(self)?;
+        let fourth = D::take(self)?;
+        let fifth = E::take(self)?;
+        let sixth = F::take(self)?;
         self.end()?;
         Ok(make(first, second, third, fourth, fifth, sixth))
     }

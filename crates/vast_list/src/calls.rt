@@ -23,7 +23,7 @@ use vast_script::Step;
 ///
 /// # Errors
 /// Where no call has the name or the arguments are not those of the call, and want of memory.
-pub(crate) fn make_step(name: &str, arguments: Arguments<'_>) -> Result<Step, Misfit> {
+pub(crate) fn make_step(name: &str, arguments: &mut Arguments<'_>) -> Result<Step, Misfit> {
     if let Some(made) = operator_step(name, arguments) {
         return Ok(Step::Operators(made?));
     }

@@ -92,47 +92,49 @@ pub(crate) fn handle(arguments: &Arguments<'_>, word: &str) -> Result<usize, Pro
 /// The number of a step, or the name of one.
 impl FromArguments for usize {
     fn take(arguments: &mut Arguments<'_>) -> Result<usize, Misfit> {
-        let before = *arguments;
-        let word = arguments.word()?;
-        handle(&before, word).map_err(|problem| before.misfit(problem))
+        let (left, word) = arguments.word_at()?;
+        handle(arguments, word).map_err(|problem| Misfit { left, problem })
     }
 }
 
 impl FromArguments for Count {
     fn take(arguments: &mut Arguments<'_>) -> Result<Count, Misfit> {
-        let before = *arguments;
-        let word = arguments.word()?;
-        match unsigned(&before, word) {
+        let (left, word) = arguments.word_at()?;
+        match unsigned(arguments, word) {
             Ok(number) => Ok(Count(number)),
-            Err(problem) => Err(before.misfit(problem)),
+            Err(problem) => Err(Misfit { left, problem }),
         }
     }
 }
 
 impl FromArguments for i64 {
     fn take(arguments: &mut Arguments<'_>) -> Result<i64, Misfit> {
-        let before = *arguments;
-        let word = arguments.word()?;
-        signed(&before, word).map_err(|problem| before.misfit(problem))
+        let (left, word) = arguments.word_at()?;
+        signed(arguments, word).map_err(|problem| Misfit { left, problem })
     }
 }
 
 impl FromArguments for i32 {
     fn take(arguments: &mut Arguments<'_>) -> Result<i32, Misfit> {
-        let before = *arguments;
-        let word = arguments.word()?;
-        let number = signed(&before, word).map_err(|problem| before.misfit(problem))?;
-        i32::try_from(number).map_err(|_| before.misfit(Problem::OutOfRange))
+        let (left, word) = arguments.word_at()?;
+        let number = signed(arguments, word).map_err(|problem| Misfit { left, problem })?;
+        i32::try_from(number).map_err(|_| Misfit {
+            left,
+            problem: Problem::OutOfRange,
+        })
     }
 }
 
 impl FromArguments for bool {
     fn take(arguments: &mut Arguments<'_>) -> Result<bool, Misfit> {
-        let before = *arguments;
-        match arguments.word()? {
+        let (left, word) = arguments.word_at()?;
+        match word {
             "true" => Ok(true),
             "false" => Ok(false),
-            _ => Err(before.misfit(Problem::NoTruth)),
+            _ => Err(Misfit {
+                left,
+                problem: Problem::NoTruth,
+            }),
         }
     }
 }
@@ -175,8 +177,8 @@ impl<T: FromArguments> FromArguments for Option<T> {
 
 impl FromArguments for LiteralFormat {
     fn take(arguments: &mut Arguments<'_>) -> Result<LiteralFormat, Misfit> {
-        let before = *arguments;
-        match arguments.word()? {
+        let (left, word) = arguments.word_at()?;
+        match word {
             "Binary" => Ok(LiteralFormat::Binary),
             "Hex" => Ok(LiteralFormat::Hex),
             "SignedDecimal" => Ok(LiteralFormat::SignedDecimal),
@@ -184,15 +186,18 @@ impl FromArguments for LiteralFormat {
             "UnsizedBinary" => Ok(LiteralFormat::UnsizedBinary),
             "UnsizedDecimal" => Ok(LiteralFormat::UnsizedDecimal),
             "UnsizedHex" => Ok(LiteralFormat::UnsizedHex),
-            _ => Err(before.misfit(Problem::NoFormat)),
+            _ => Err(Misfit {
+                left,
+                problem: Problem::NoFormat,
+            }),
         }
     }
 }
 
 impl FromArguments for DataKind {
     fn take(arguments: &mut Arguments<'_>) -> Result<DataKind, Misfit> {
-        let before = *arguments;
-        match arguments.word()? {
+        let (left, word) = arguments.word_at()?;
+        match word {
             "Reg" => Ok(DataKind::Reg),
             "Wire" => Ok(DataKind::Wire),
             "Logic" => Ok(DataKind::Logic),
@@ -201,7 +206,10 @@ impl FromArguments for DataKind {
             "User" => Ok(DataKind::User),
             "UntypedEnum" => Ok(DataKind::UntypedEnum),
             "Genvar" => Ok(DataKind::Genvar),
-            _ => Err(before.misfit(Problem::NoKind)),
+            _ => Err(Misfit {
+                left,
+                problem: Problem::NoKind,
+            }),
         }
     }
 }

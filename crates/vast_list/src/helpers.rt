@@ -27,7 +27,7 @@ pub(crate) enum Helper {
 ///
 /// # Errors
 /// Where no helper has the name or the arguments are not those of the helper, and want of memory.
-pub(crate) fn make_helper(name: &str, arguments: Arguments<'_>) -> Result<Helper, Misfit> {
+pub(crate) fn make_helper(name: &str, arguments: &mut Arguments<'_>) -> Result<Helper, Misfit> {
     match name {
         "!AddRegisters" => arguments.four(Helper::AddRegisters),
         "!BitwiseOrReduce" => arguments.one(Helper::BitwiseOrReduce),

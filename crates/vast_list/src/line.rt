@@ -145,14 +145,14 @@ fn check_name(known: Known<'_>, text: &str, name: &str) -> Result<(), Misfit> {
 }
 
 fn read_action(known: Known<'_>, call: &str, rest: Option<&str>) -> Result<Action, Misfit> {
-    let arguments = Arguments::new(known, rest);
+    let mut arguments = Arguments::new(known, rest);
     if call.starts_with('?') {
-        return Ok(Action::Ask(make_question(call, arguments)?));
+        return Ok(Action::Ask(make_question(call, &mut arguments)?));
     }
     if call.starts_with('!') {
-        return Ok(Action::Call(Call::Helper(make_helper(call, arguments)?)));
+        return Ok(Action::Call(Call::Helper(make_helper(call, &mut arguments)?)));
     }
-    Ok(Action::Call(Call::Step(make_step(call, arguments)?)))
+    Ok(Action::Call(Call::Step(make_step(call, &mut arguments)?)))
 }
 
 /// The dialect that the line names.

@@ -25,7 +25,7 @@ pub(crate) enum Question {
 ///
 /// # Errors
 /// Where no question has the name or the arguments are not those of the question, and want of memory.
-pub(crate) fn make_question(name: &str, arguments: Arguments<'_>) -> Result<Question, Misfit> {
+pub(crate) fn make_question(name: &str, arguments: &mut Arguments<'_>) -> Result<Question, Misfit> {
     if let Some(made) = module_question(name, arguments) {
         return Ok(Question::Module(made?));
     }

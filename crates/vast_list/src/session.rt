@@ -215,7 +215,9 @@ impl Session {
     }
 
     /// What steps and helpers answered, in order, without those that were passed over.
-    pub fn answers(&self) -> &[Answer] {
+    pub fn answers(&self) -> &[Answer]
+        ensures { result.now ≡ self.now.answers.items }
+    {
         &self.answers
     }
 

@@ -8,6 +8,16 @@ use std::alloc::Global;
 /// # Errors
 /// Where the text isn't in the form, and want of memory.
 pub(crate) fn unquoted<'a>(alloc: Global, quoted: &'a str) -> Result<(String, &'a str), Misfit> {
+    match quoted.split_once('"') {
+        Some((plain, behind)) if !plain.contains('\\') => {
+            Ok((String::from_str(alloc, plain)?, behind))
+        }
+        _ => escaped(alloc, quoted),
+    }
+}
+
+/// The same of a text that may have escapes.
+fn escaped<'a>(alloc: Global, quoted: &'a str) -> Result<(String, &'a str), Misfit> {
     let mut text = String::new(alloc);
     let mut rest = quoted;
     for _ in 0..quoted.len() {

@@ -24,7 +24,7 @@ pub(crate) enum ModuleQuestion {
 /// The question of the name over the arguments; `None` where no such question has the name.
 pub(crate) fn module_question(
     name: &str,
-    arguments: Arguments<'_>,
+    arguments: &mut Arguments<'_>,
 ) -> Option<Result<ModuleQuestion, Misfit>> {
     Some(match name {
         "?LogicRefName" => arguments.one(ModuleQuestion::LogicRefName),

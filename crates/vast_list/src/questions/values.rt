@@ -25,7 +25,7 @@ pub(crate) enum ValueQuestion {
 /// The question of the name over the arguments; `None` where no such question has the name.
 pub(crate) fn value_question(
     name: &str,
-    arguments: Arguments<'_>,
+    arguments: &mut Arguments<'_>,
 ) -> Option<Result<ValueQuestion, Misfit>> {
     Some(match name {
         "?ConditionalHasElse" => arguments.one(ValueQuestion::ConditionalHasElse),
