@@ -1,6 +1,7 @@
 //! One line of a list of calls.
 
 use std::fmt::Write;
+use std::str;
 
 /// A line in the making: a call's name and its arguments, each behind a space.
 #[derive(Default)]
@@ -46,7 +47,8 @@ impl Line {
     pub(crate) fn text(&mut self, text: &str) -> &mut Line {
         self.text.push_str(" \"");
         let mut rest = text;
-        while let Some(at) = rest.find(['"', '\\', '\n', '\r']) {
+        // Such bytes are characters of their own, so the text may be cut before and behind them.
+        while let Some(at) = rest.bytes().position(needs_escape) {
             self.text.push_str(&rest[..at]);
             self.text.push_str(match rest.as_bytes()[at] {
                 b'"' => "\\\"",
@@ -103,6 +105,11 @@ impl Line {
     }
 }
 
+/// Whether the byte can't stand in a text as it is.
+fn needs_escape(byte: u8) -> bool {
+    matches!(byte, b'"' | b'\\' | b'\n' | b'\r')
+}
+
 /// A number that is written in decimal digits.
 pub(crate) trait Digits {
     fn write_to(self, text: &mut String);
@@ -122,7 +129,7 @@ impl Digits for usize {
                 break;
             }
         }
-        text.extend(digits[at..].iter().map(|digit| char::from(*digit)));
+        text.push_str(str::from_utf8(&digits[at..]).unwrap_or_default());
     }
 }
 
