@@ -9,6 +9,8 @@ use Rattle.vast_list.specs.Session.{Gives, IsLeft, IsSame, IsTextOf}
 use Rattle.vast_list.specs.declared.fault.Fault.TheVariants.{Memory as FaultMemory}
 use Rattle.vast_list.specs.declared.session.Given.{Given}
 use Rattle.vast_list.specs.declared.session.Session.{Session}
+use Rattle.vast_script.specs.declared.fault.StepFault.{StepFault}
+use Rattle.vast_script.specs.declared.fault.StepFault.TheVariants.{NoAnswer, WrongKind, Condition as NotMet, Refused as IsRefused, Memory as OutOfMemory}
 use Rattle.vast_c.specs.declared.kept.Cause.{Cause}
 use Rattle.vast_c.specs.declared.kept.Cause.TheVariants.{Refused, Condition, Form, Memory}
 use Rattle.vast_c.specs.declared.kept.Kept.{Kept}
@@ -112,6 +114,25 @@ line_in kept = line_of (told_in kept)
 
 abbrev pub column_in : Option Kept → ℕ
 column_in kept = column_of (told_in kept)
+
+-- how many handles the session has answered
+abbrev pub count_in : Option Kept → ℕ
+count_in None = 0
+count_in (Some kept) = length kept.session.answers.items
+
+-- What a fault's cause is to C: a line that is not in the form has none.
+abbrev pub cause_of : Option StepFault → Cause
+cause_of None = Form
+cause_of (Some NoAnswer) = Condition
+cause_of (Some WrongKind) = Condition
+cause_of (Some NotMet) = Condition
+cause_of (Some (IsRefused error)) = Refused
+cause_of (Some OutOfMemory) = Memory
+
+-- A fault of this cause is told; where none is, memory was refused.
+abbrev pub IsToldOf : Cause → Option Told → Type 0
+IsToldOf cause None = cause ≡ Memory
+IsToldOf cause (Some told) = cause_of told.fault.cause ≡ cause
 
 -- A session is open whose file is empty.
 abbrev pub IsFresh : VastFileType → Option Kept → Type 0

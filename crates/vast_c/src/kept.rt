@@ -1,12 +1,12 @@
 //! What C keeps by its pointer: a session, and what was told of it last.
 
-ghost use Rattle.std.specs.Prelude.{◌≡◌, ◌<◌, [], IfErr, IfOk, OnErr, IsSome, None};
+ghost use Rattle.std.specs.Prelude.{◌≡◌, ◌<◌, [], IfErr, IfOk, IfSome, OnErr, IsSome, None};
 ghost use Rattle.std.specs.Prelude.{length};
 ghost use Rattle.vast_core.specs.Bench.{start};
 ghost use Rattle.vast_list.specs.Session.{IsLeft};
 ghost use Rattle.vast_list.specs.declared.session.Session.{Session as AnySession};
 ghost use Rattle.vast_c.specs.Lines.{lines_of};
-ghost use Rattle.vast_c.specs.Seen.{GaveOne, IsPrinted, LeftBy, MadeAll};
+ghost use Rattle.vast_c.specs.Seen.{GaveOne, IsPrinted, IsToldOf, LeftBy, MadeAll, cause_of};
 
 use crate::lines::first_line;
 use std::alloc::Global;
@@ -77,6 +77,7 @@ impl Kept {
         ensures made { MadeAll self.old.session result.taken result.cause self.new.session }
         ensures all { result.cause ≡ None → result.taken ≡ length (lines_of lines.now) }
         ensures fault { IsSome result.cause → result.taken < length (lines_of lines.now) }
+        ensures told { IfSome result.cause (λ cause. IsToldOf cause self.new.told) }
     {
         self.answer.clear();
         self.told = None;
@@ -104,6 +105,7 @@ impl Kept {
         ensures printed { IfOk result (λ _. IsPrinted self.old.session self.new.file) }
         ensures session { self.new.session ≡ self.old.session }
         ensures unchanged { OnErr result (self.new.file ≡ self.old.file) }
+        ensures told { IfErr result (λ cause. IsToldOf cause self.new.told) }
     {
         self.told = None;
         match self.session.text() {
@@ -119,11 +121,13 @@ impl Kept {
     fn make_line(&mut self, line: &[u8]) -> Result<(), Cause>
         ensures given { IfOk result (λ _. GaveOne self.old.session self.new.session) }
         ensures left { IfErr result (λ cause. LeftBy self.old.session self.new.session cause) }
+        ensures told { IfErr result (λ cause. IsToldOf cause self.new.told) }
     {
         let number = self.lines.saturating_add(1);
         match self.session.line(number, line) {
             Ok(Given::Answer { value, .. }) => {
                 let Ok(answer) = format!(in *self.answer.allocator(); "{value}") else {
+                    self.told = None;
                     return Err(Cause::Memory);
                 };
                 self.answer = answer;
@@ -144,7 +148,9 @@ impl Kept {
         ensures left { (a b : AnySession) → IsLeft a b fault → LeftBy a b result }
         ensures session { self.new.session ≡ self.old.session }
         ensures file { self.new.file ≡ self.old.file }
+        ensures told { IsToldOf result self.new.told }
     {
+        self.told = None;
         let Fault::Line(fault) = fault else {
             return Cause::Memory;
         };
@@ -157,7 +163,9 @@ impl Kept {
     }
 }
 
-fn cause_of(fault: &LineFault) -> Cause {
+fn cause_of(fault: &LineFault) -> Cause
+    ensures { result ≡ cause_of fault.now.cause }
+{
     match &fault.cause {
         None => Cause::Form,
         Some(StepFault::Refused(_)) => Cause::Refused,

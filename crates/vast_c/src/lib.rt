@@ -6,11 +6,11 @@
 ghost use Rattle.std.specs.Prelude.{◌≡◌, ◌≢◌, ◌<◌, ◌↔◌, Some, None, length};
 ghost use Rattle.vast_list.specs.Session.{IsSame};
 ghost use Rattle.vast_literal.specs.declared.kind.VastFileType.TheVariants.{Verilog, SystemVerilog};
-ghost use Rattle.vast_c.specs.declared.kept.Cause.TheVariants.{Memory};
+ghost use Rattle.vast_c.specs.declared.kept.Cause.TheVariants.{Condition, Form, Memory, Refused};
 ghost use Rattle.vast_c.specs.Lines.{lines_of};
-ghost use Rattle.vast_c.specs.Seen.{Copied, IsFresh, IsSameTree, Made, Printed};
-ghost use Rattle.vast_c.specs.Seen.{answer_in, call_in, column_in, file_in, line_in, message_in};
-ghost use Rattle.vast_c.specs.Seen.{session_in, words_in};
+ghost use Rattle.vast_c.specs.Seen.{Copied, IsFresh, IsSameTree, IsToldOf, Made, Printed};
+ghost use Rattle.vast_c.specs.Seen.{answer_in, call_in, column_in, count_in, file_in, line_in, message_in};
+ghost use Rattle.vast_c.specs.Seen.{session_in, told_in, words_in};
 
 mod handle;
 mod kept;
@@ -104,6 +104,10 @@ pub extern "C" fn vast_lines(
     ensures exact { result ≢ MEMORY → Made handle.old.kept taken.new IsSame handle.new.kept }
     ensures all { result ≡ OK → taken.new ≡ length (lines_of lines.now) }
     ensures fault { result ≢ OK → result ≢ NOT_OPEN → taken.new < length (lines_of lines.now) }
+    ensures refused { result ≡ REFUSED → IsToldOf Refused (told_in handle.new.kept) }
+    ensures condition { result ≡ CONDITION → IsToldOf Condition (told_in handle.new.kept) }
+    ensures form { result ≡ FORM → IsToldOf Form (told_in handle.new.kept) }
+    ensures memory { result ≡ MEMORY → IsToldOf Memory (told_in handle.new.kept) }
 {
     let Some(mut kept) = handle.take(alloc) else {
         *taken = 0;
@@ -119,6 +123,9 @@ pub extern "C" fn vast_lines(
 }
 
 fn status(cause: Cause) -> i32
+    ensures refused { cause ≡ Refused → result ≡ REFUSED }
+    ensures condition { cause ≡ Condition → result ≡ CONDITION }
+    ensures form { cause ≡ Form → result ≡ FORM }
     ensures memory { cause ≡ Memory → result ≡ MEMORY }
     ensures ok { result ≢ OK }
     ensures open { result ≢ NOT_OPEN }
@@ -137,6 +144,7 @@ pub extern "C" fn vast_print(alloc: Global, handle: &mut Handle) -> i32
     ensures closed { result ≡ NOT_OPEN ↔ handle.old.kept ≡ None }
     ensures printed { result ≡ OK → Printed handle.old.kept handle.new.kept }
     ensures session { session_in handle.new.kept ≡ session_in handle.old.kept }
+    ensures refused { result ≡ REFUSED → IsToldOf Refused (told_in handle.new.kept) }
 {
     let Some(mut kept) = handle.take(alloc) else {
         return NOT_OPEN;
@@ -195,6 +203,7 @@ fn copy_start(text: &[u8], out: &mut [u8]) -> usize
 /// How many handles the session has answered, or where its last fault is; 0 where there is none.
 #[unsafe(no_mangle)]
 pub extern "C" fn vast_number(alloc: Global, handle: &mut Handle, number: i32) -> usize
+    ensures count { number ≡ COUNT → result ≡ count_in handle.old.kept }
     ensures line { number ≡ LINE → result ≡ line_in handle.old.kept }
     ensures column { number ≡ COLUMN → result ≡ column_in handle.old.kept }
     ensures unchanged { handle.new.kept ≡ handle.old.kept }
@@ -208,11 +217,12 @@ pub extern "C" fn vast_number(alloc: Global, handle: &mut Handle, number: i32) -
 }
 
 fn number_of(kept: &Kept, number: i32) -> usize
+    ensures count { number ≡ COUNT → result ≡ count_in (Some kept.now) }
     ensures line { number ≡ LINE → result ≡ line_in (Some kept.now) }
     ensures column { number ≡ COLUMN → result ≡ column_in (Some kept.now) }
 {
     match (number, &kept.told) {
-        (COUNT, _) => kept.session.counted(),
+        (COUNT, _) => kept.session.answers().len(),
         (LINE, Some(told)) => told.fault.line,
         (COLUMN, Some(told)) => told.fault.column.unwrap_or(0),
         _ => 0,
