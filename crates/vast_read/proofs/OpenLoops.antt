@@ -87,7 +87,7 @@ module _ {E M : Type 0} (tree : E → NormalExpr) (members : M → NormalMembers
   pub loop_opens : (c : Key) (l : OpenLoop E M) (ls : List (OpenLoop E M)) (xs : NormalMembers) (ts us vs : List Token) → after_key (closing c ls) ts ≡ None → after_key ForKey ts ≡ Some us →
       loop_head us ≡ Some (opening_of tree l.head, vs) → members l.before ≡ xs → resumed tree members c ls xs ts ≡ resumed tree members c (l ∷ ls) NoParts vs
   unfolding resumed with_members ◌>>=◌
-  loop_opens c l ls xs ts us vs e f h b = rw (sym b) (go (settled_members EndKey vs) (looped ts us f ∙ loop_by_head us ∙ (rw h (then_some _ _))))
+  loop_opens c l ls xs ts us vs e f h b = rw (sym b) (go (settled_members EndKey vs) (looped ts us f ∙ loop_by_head us ∙ ap (λ (o : ReadOf Opening). o >>= λ k. settled_members EndKey k.1 >>= λ m. Some (loop_of k.0 m.0, m.1)) h))
     where
       go : (o : ReadOf NormalMembers) → settled_member ts ≡ (o >>= λ m. Some (loop_of (opening_of tree l.head) m.0, m.1)) →
           resumed tree members c ls (members l.before) ts ≡ (with_members NoParts o >>= λ ms. resumed tree members c ls (with_loop tree members c l ms.0) ms.1)
