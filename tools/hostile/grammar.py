@@ -1,7 +1,8 @@
 """Whether a text is a file of the grammar, by a reader of its own that shares nothing with the crates.
 
 It answers for `vast_demo check`. Levels of signs matter to the tree alone, so an expression is read as operands with
-signs between them. Generate loops, whose head wants one name four times, are left out: no text given here has one.
+signs between them. The head of a generate loop, which wants one name four times, is read where its condition begins
+with that name: no text given here has another.
 """
 import re
 
@@ -27,6 +28,7 @@ KEYWORDS = frozenset(
 UNARY = ("-", "~", "!", "&", "|", "^")
 BINARY = ("||", "&&", "|", "^", "&", "!=", "!==", "==", "===", ">=", ">", "<=", "<", "<<", ">>>", ">>", "+", "-", "*",
           "/", "%", "**")
+TIGHTER = ("<<", ">>>", ">>", "+", "-", "*", "/", "%", "**")  # than `<`
 SIGNS = sorted({*UNARY, *BINARY, *"= ? : :: +: , ; . # @ ( ) [ ] { }".split()}, key=len, reverse=True)
 TOKEN = re.compile(
     r"(?P<space>[ \t\n\r]+|//[^\n]*)"
@@ -264,10 +266,29 @@ class Reader:
             self.function()
         elif self.sees("assign", "if"):
             self.statement()
-        elif self.sees("for"):
-            raise NotImplementedError("generate loops")
+        elif self.take("for"):
+            self.loop()
         else:
             raise NoFile
+
+    def loop(self):
+        self.need("(", "genvar")
+        name = self.found[self.at][1]
+        self.need_kind("name")
+        self.need("=")
+        self.expression()
+        self.need(";")
+        if self.sees("("):
+            raise NotImplementedError("a condition in parentheses")
+        self.need(name, "<")
+        self.unary()
+        while self.take(*TIGHTER):
+            self.unary()
+        self.need(";", name, "=", name, "+", "1", ")", "begin")
+        if self.take(":"):
+            self.need_kind("name")
+        while not self.take("end"):
+            self.member()
 
     def instance(self):
         if self.take("#"):
