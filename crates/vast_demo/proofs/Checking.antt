@@ -1,38 +1,59 @@
--- What a check finds.
-use Rattle.std.proofs.Common.{◌≡◌, ◌↔◌, ℕ, Bool, true, false, List, Option, Some, None, IsTrue, IfSome, IsUtf8, refl, sym, subst, rules, []}
-use Rattle.std.specs.Option.{is_some}
+-- What a check finds, and how it ends.
+use Rattle.std.proofs.Common.{◌≡◌, ◌↔◌, ℕ, ◌≤◌, Bool, true, false, List, Option, Result, Ok, Err, IsTrue, IfOk, IsUtf8, codes, refl, sym, subst, rules}
+use Rattle.std.specs.Bool.{MatchBool}
 use Rattle.std.specs.Io.KnownBytes.{Appends}
-use Rattle.std.proofs.KnownBytes.{Appends-nil}
-use Rattle.vast_literal.specs.NormalFile as normal
+use Rattle.std.specs.declared.alloc.AllocError.{AllocError}
+use Rattle.vast_literal.specs.NormalFile.{NormalFile}
 use Rattle.vast_literal.specs.FileGrammar.{DerivesFile}
-use Rattle.vast_read.specs.FileView.{file_view}
-use Rattle.vast_read.specs.declared.tree.file.NormalFile.{NormalFile}
-use Rattle.vast_demo.specs.Check.{GivesAll, IsDerived, answer_line, AppendsPart, CheckEnds, derived, not_derived, fault}
+use Rattle.vast_demo.specs.Check.{IsDerived, IsDerivedText, IsAnswer, GivesSome, answer_line, AppendsPart, AppendsFront, CheckEnds, derived, not_derived, unwritten, unread, refused}
 
 untrue : IsTrue false → ⊥
 untrue e = cc e
 
-pub text_answer :
-    (text bytes : List ℕ) (o : Option NormalFile) (answer : Bool) → answer ≡ is_some o → text ≡ bytes → IsUtf8 bytes → IfSome o (λ t. DerivesFile text (file_view t)) →
-    (o ≡ None → (t : normal.NormalFile) → DerivesFile text t → ⊥) → IsTrue answer ↔ IsDerived bytes
-text_answer text bytes (Some t) answer e same utf8 d n = rw e (λ _. (utf8, (file_view t, subst (λ x. DerivesFile x (file_view t)) same d)), λ _. refl)
-text_answer text bytes None answer e same utf8 d n = rw e (λ h. absurd (untrue h), λ h. absurd (n refl h.1.0 (subst (λ x. DerivesFile x h.1.0) (sym same) h.1.1)))
+-- what is decided is what the grammar derives
+decided :
+    (text : List ℕ) (answer : Bool) → MatchBool answer ((t : NormalFile) × DerivesFile text t) ((t : NormalFile) → DerivesFile text t → ⊥) →
+    IsTrue answer ↔ IsDerivedText text
+decided text true d = (λ _. d, λ _. refl)
+decided text false d = (λ h. absurd (untrue h), λ h. absurd (d h.0 h.1))
 
--- What `check` knows of its answer.
-abbrev Answers : Option (List ℕ) → Option (List ℕ) → Bool → Type 0
-Answers before after answer = (bytes : List ℕ) × GivesAll before after bytes × (IsTrue answer ↔ IsDerived bytes)
+pub decided_answer :
+    (text : List ℕ) (r : Result Bool AllocError) → IfOk r (λ answer. MatchBool answer ((t : NormalFile) × DerivesFile text t) ((t : NormalFile) → DerivesFile text t → ⊥)) →
+    IfOk r (λ answer. IsTrue answer ↔ IsDerivedText text)
+decided_answer text (Ok answer) d = decided text answer d
+decided_answer text (Err e) d = tt
+
+-- the bytes are the text's
+pub text_answer : (text bytes : List ℕ) (answer : Bool) → text ≡ bytes → IsUtf8 bytes → IsTrue answer ↔ IsDerivedText text → IsTrue answer ↔ IsDerived bytes
+text_answer text bytes answer same utf8 found = (λ h. (utf8, subst IsDerivedText same (found.0 h)), λ h. found.1 (subst IsDerivedText (sym same) h.1))
 
 pub ends_derived :
-    (before after old new : Option (List ℕ)) (answer : Bool) → Answers before after answer → answer ≡ true → Appends old new (answer_line true) → CheckEnds before after old new 0
-ends_derived before after old new answer h e w = derived h.0 h.1 (h.2.0 e) w
+    (before after old new err : Option (List ℕ)) (answer : Bool) → IsAnswer before after answer → answer ≡ true → Appends old new (answer_line true) →
+    CheckEnds before after old new err err 0
+ends_derived before after old new err answer h e w = derived (subst (IsAnswer before after) e h) w refl
 
 pub ends_not_derived :
-    (before after old new : Option (List ℕ)) (answer : Bool) → Answers before after answer → answer ≡ false → Appends old new (answer_line false) → CheckEnds before after old new 1
-ends_not_derived before after old new answer h e w = not_derived h.0 h.1 (λ d. let x = h.2.1 d in cc (e, x)) w
+    (before after old new err : Option (List ℕ)) (answer : Bool) → IsAnswer before after answer → answer ≡ false → Appends old new (answer_line false) →
+    CheckEnds before after old new err err 1
+ends_not_derived before after old new err answer h e w = not_derived (subst (IsAnswer before after) e h) w refl
 
 pub ends_unwritten :
-    (before after old new : Option (List ℕ)) (answer : Bool) (status : ℕ) → AppendsPart old new (answer_line answer) → status ≡ 1 → CheckEnds before after old new status
-ends_unwritten before after old new answer status h e = rw e (fault answer h)
+    (before after old new untold told : Option (List ℕ)) (answer line : Bool) (status : ℕ) → IsAnswer before after answer → answer ≡ line →
+    AppendsPart old new (answer_line line) → AppendsFront untold told (codes "write fault\n") → status ≡ 1 → CheckEnds before after old new untold told status
+ends_unwritten before after old new untold told answer line status h e part front one = rw one (unwritten line (subst (IsAnswer before after) e h) part front)
 
-pub ends_unread : (before after old : Option (List ℕ)) (status : ℕ) → status ≡ 1 → CheckEnds before after old old status
-ends_unread before after old status e = ends_unwritten before after old old true status ([], answer_line true, refl, search rules, Appends-nil old) e
+pub ends_unread :
+    (before after old untold told : Option (List ℕ)) (status : ℕ) → GivesSome before after → AppendsFront untold told (codes "read fault\n") → status ≡ 1 →
+    CheckEnds before after old old untold told status
+ends_unread before after old untold told status h front one = rw one (unread h refl front)
+
+pub ends_refused :
+    (before after old untold told : Option (List ℕ)) (status : ℕ) → GivesSome before after → AppendsFront untold told (codes "out of memory\n") → status ≡ 1 →
+    CheckEnds before after old old untold told status
+ends_refused before after old untold told status h front one = rw one (refused h refl front)
+
+pub at_most_one : (status : ℕ) → status ≡ 1 → status ≤ 1
+at_most_one status one = rw one (search rules)
+
+pub not_zero : {A : Type 0} (status : ℕ) → status ≡ 1 → status ≡ 0 → A
+not_zero status one zero = cc (one, zero)

@@ -1,5 +1,5 @@
 -- What `check` reads, finds and writes.
-use Rattle.std.specs.Prelude.{◌≡◌, ℕ, ◌<◌, ◌≤◌, ◌^◌, Bool, true, false, List, ◌++◌, length, codes, Option, IsUtf8}
+use Rattle.std.specs.Prelude.{◌≡◌, ◌↔◌, ℕ, ◌<◌, ◌≤◌, ◌+◌, ◌^◌, Bool, true, false, IsTrue, List, ◌++◌, length, codes, Option, IsUtf8}
 use Rattle.std.specs.Io.KnownBytes.{Consumes, Appends, IsAtEnd}
 use Rattle.vast_literal.specs.NormalFile.{NormalFile}
 use Rattle.vast_literal.specs.FileGrammar.{DerivesFile}
@@ -8,22 +8,46 @@ use Rattle.vast_literal.specs.FileGrammar.{DerivesFile}
 abbrev pub GivesAll : Option (List ℕ) → Option (List ℕ) → List ℕ → Type 0
 GivesAll before after bytes = Consumes before after bytes × IsAtEnd after × (length bytes ≤ 2 ^ 24)
 
+-- the reader gives some bytes, and no more than one too many
+abbrev pub GivesSome : Option (List ℕ) → Option (List ℕ) → Type 0
+GivesSome before after = (bytes : List ℕ) × Consumes before after bytes × (length bytes ≤ 2 ^ 24 + 1)
+
+-- the reader gives one byte too many
+abbrev pub GivesTooMany : Option (List ℕ) → Option (List ℕ) → Type 0
+GivesTooMany before after = (bytes : List ℕ) × Consumes before after bytes × (length bytes ≡ 2 ^ 24 + 1)
+
+-- the grammar derives the text
+abbrev pub IsDerivedText : List ℕ → Type 0
+IsDerivedText text = (t : NormalFile) × DerivesFile text t
+
 -- the bytes are the UTF-8 of a text that the grammar derives
 abbrev pub IsDerived : List ℕ → Type 0
-IsDerived bytes = IsUtf8 bytes × ((t : NormalFile) × DerivesFile bytes t)
+IsDerived bytes = IsUtf8 bytes × IsDerivedText bytes
+
+-- the answer is true of all that the reader gives
+abbrev pub IsAnswer : Option (List ℕ) → Option (List ℕ) → Bool → Type 0
+IsAnswer before after answer = (bytes : List ℕ) × GivesAll before after bytes × (IsTrue answer ↔ IsDerived bytes)
 
 -- the line that answers
 abbrev pub answer_line : (derived : Bool) → List ℕ
 answer_line true = codes "derived\n"
 answer_line false = codes "not derived\n"
 
+-- known bytes grow by a front of the line, maybe by all of it
+abbrev pub AppendsFront : Option (List ℕ) → Option (List ℕ) → List ℕ → Type 0
+AppendsFront old new line = (part : List ℕ) × (rest : List ℕ) × (part ++ rest ≡ line) × Appends old new part
+
 -- known bytes grow by a front of the line, and not by all of it
 abbrev pub AppendsPart : Option (List ℕ) → Option (List ℕ) → List ℕ → Type 0
 AppendsPart old new line = (part : List ℕ) × (rest : List ℕ) × (part ++ rest ≡ line) × (0 < length rest) × Appends old new part
 
--- How a check ends: what it read from an input, what it wrote to an output, and its status.
-pub data CheckEnds (before after old new : Option (List ℕ)) : (status : ℕ) → Type 0 where
-  derived : (bytes : List ℕ) → GivesAll before after bytes → IsDerived bytes → Appends old new (answer_line true) → CheckEnds before after old new 0
-  not_derived : (bytes : List ℕ) → GivesAll before after bytes → (IsDerived bytes → ⊥) → Appends old new (answer_line false) → CheckEnds before after old new 1
-  -- A read, a write or a growth failed, or the input was too long: there is no whole answer.
-  fault : (answer : Bool) → AppendsPart old new (answer_line answer) → CheckEnds before after old new 1
+-- How a check ends: what it read from an input, what it wrote to an output and told beside it, and its status.
+pub data CheckEnds (before after old new untold told : Option (List ℕ)) : (status : ℕ) → Type 0 where
+  derived : IsAnswer before after true → Appends old new (answer_line true) → told ≡ untold → CheckEnds before after old new untold told 0
+  not_derived : IsAnswer before after false → Appends old new (answer_line false) → told ≡ untold → CheckEnds before after old new untold told 1
+  -- A write of the answer failed.
+  unwritten : (answer : Bool) → IsAnswer before after answer → AppendsPart old new (answer_line answer) → AppendsFront untold told (codes "write fault\n") → CheckEnds before after old new untold told 1
+  -- A read failed, or there were too many bytes or reads.
+  unread : GivesSome before after → new ≡ old → AppendsFront untold told (codes "read fault\n") → CheckEnds before after old new untold told 1
+  -- Memory was refused.
+  refused : GivesSome before after → new ≡ old → AppendsFront untold told (codes "out of memory\n") → CheckEnds before after old new untold told 1

@@ -1,7 +1,7 @@
 //! Whether the grammar derives what is read.
 
-ghost use Rattle.std.specs.Prelude.{◌↔◌, ℕ, List, IsTrue, IfOk};
-ghost use Rattle.vast_demo.specs.Check.{GivesAll, IsDerived};
+ghost use Rattle.std.specs.Prelude.{◌↔◌, IsTrue, IfOk, OnErr};
+ghost use Rattle.vast_demo.specs.Check.{GivesSome, IsAnswer, IsDerived, IsDerivedText};
 
 mod read_back;
 #[cfg(test)]
@@ -11,26 +11,31 @@ use crate::input::{InputFault, read_input};
 use std::alloc::{AllocError, Global};
 use std::io::Read;
 use std::str;
-use vast_read::read_normal;
 
 /// Whether all that the reader gives is the UTF-8 of a text that the grammar derives.
 ///
 /// # Errors
 /// Those of [`read_input`].
 pub(crate) fn check<R: Read>(alloc: Global, input: &mut R) -> Result<bool, InputFault>
-    ensures { IfOk result (λ answer. (bytes : List ℕ)
-        × GivesAll (R.remaining input.old) (R.remaining input.new) bytes
-        × (IsTrue answer ↔ IsDerived bytes)) }
+    ensures answer { IfOk result (λ answer.
+        IsAnswer (R.remaining input.old) (R.remaining input.new) answer) }
+    ensures some { OnErr result (GivesSome (R.remaining input.old) (R.remaining input.new)) }
 {
     let bytes = read_input(alloc, input)?;
-    Ok(is_derived(alloc, &bytes)?)
+    Ok(is_derived_utf8(alloc, &bytes)?)
 }
 
-fn is_derived(alloc: Global, bytes: &[u8]) -> Result<bool, AllocError>
+fn is_derived_utf8(alloc: Global, bytes: &[u8]) -> Result<bool, AllocError>
     ensures { IfOk result (λ answer. IsTrue answer ↔ IsDerived bytes.now) }
 {
     match str::from_utf8(bytes) {
-        Ok(text) => Ok(read_normal(alloc, text)?.is_some()),
+        Ok(text) => is_derived(alloc, text),
         Err(_) => Ok(false),
     }
+}
+
+fn is_derived(alloc: Global, text: &str) -> Result<bool, AllocError>
+    ensures { IfOk result (λ answer. IsTrue answer ↔ IsDerivedText text.now) }
+{
+    vast_read::is_derived(alloc, text)
 }

@@ -2,7 +2,7 @@
 
 ghost use Rattle.std.specs.Prelude.{◌≡◌, ◌≤◌, true, false, IsNone, IsSome, IfSome, MatchResult, string_bytes};
 ghost use Rattle.std.specs.Io.KnownBytes.{Appends};
-ghost use Rattle.vast_demo.specs.Check.{CheckEnds};
+ghost use Rattle.vast_demo.specs.Check.{AppendsFront, CheckEnds};
 ghost use Rattle.vast_demo.specs.Words.{text_of, design_text, is_check};
 
 use crate::check::check;
@@ -21,8 +21,10 @@ use vast_designs::{cases, passthrough, registers};
 /// status. No design reads `input`.
 ///
 /// `check` reads `input` to its end and prints `derived`, status 0, where that is the UTF-8 of a text that the grammar
-/// derives, and `not derived`, status 1, where it isn't. A failed read, more than 16,777,216 bytes or no end after
-/// 16,777,217 reads prints `read fault` to `err`, status 1.
+/// derives, and `not derived`, status 1, where it isn't; where a write failed, a front of that line. A failed read, more
+/// than 16,777,216 bytes or no end after 16,777,217 reads prints `read fault` to `err`, status 1, and want of memory its
+/// text: no more than 16,777,217 bytes are read then, and nothing is written to `out`. An interrupted read or write is
+/// tried again; such a read counts as one. A text on `err` may lack its end where a write to it failed.
 pub fn run<R: Read, W: Write, E: Write>(
     alloc: Global,
     words: &[&str],
@@ -36,7 +38,7 @@ pub fn run<R: Read, W: Write, E: Write>(
         Appends (W.contents out.old) (W.contents out.new) text) }
     ensures checked { is_check words.now ≡ true →
         CheckEnds (R.remaining input.old) (R.remaining input.new)
-        (W.contents out.old) (W.contents out.new) result }
+        (W.contents out.old) (W.contents out.new) (E.contents err.old) (E.contents err.new) result }
     ensures unread { is_check words.now ≡ false → R.remaining input.new ≡ R.remaining input.old }
     ensures unwritten { result ≡ 2 → W.contents out.new ≡ W.contents out.old }
     ensures silent { result ≡ 0 → E.contents err.new ≡ E.contents err.old }
@@ -106,21 +108,33 @@ fn print_answer<R: Read, W: Write, E: Write>(
 ) -> u8
     ensures status { result ≤ 1 }
     ensures ends { CheckEnds (R.remaining input.old) (R.remaining input.new)
-        (W.contents out.old) (W.contents out.new) result }
+        (W.contents out.old) (W.contents out.new) (E.contents err.old) (E.contents err.new) result }
     ensures silent { result ≡ 0 → E.contents err.new ≡ E.contents err.old }
 {
     match check(alloc, input) {
         Ok(true) => match write_line(b"derived\n", out) {
             Ok(()) => 0,
-            Err(WriteFault) => fail("write fault", err),
+            Err(WriteFault) => tell(b"write fault\n", err),
         },
         Ok(false) => match write_line(b"not derived\n", out) {
             Ok(()) => 1,
-            Err(WriteFault) => fail("write fault", err),
+            Err(WriteFault) => tell(b"write fault\n", err),
         },
-        Err(InputFault::Read | InputFault::Length) => fail("read fault", err),
-        Err(InputFault::Memory) => fail("out of memory", err),
+        Err(InputFault::Read(_) | InputFault::Length | InputFault::Reads) => tell(
+            b"read fault\n",
+            err,
+        ),
+        Err(InputFault::Memory) => tell(b"out of memory\n", err),
     }
+}
+
+/// Writes the line of a fault, or a front of it, and answers the status.
+fn tell<E: Write>(line: &[u8], err: &mut E) -> u8
+    ensures status { result ≡ 1 }
+    ensures told { AppendsFront (E.contents err.old) (E.contents err.new) line.now }
+{
+    let _ = write_line(line, err);
+    1
 }
 
 fn fail<F: Display + Drop, E: Write>(fault: F, err: &mut E) -> u8

@@ -21,10 +21,24 @@ fn checked<R: Read>(alloc: Global, input: &mut R) -> (u8, Vec<u8>, Vec<u8>) {
 #[test]
 fn texts(rt: HostRuntime) {
     for (text, status, answer) in [
+        ("", 0, "derived\n"),
+        ("module m; endmodule", 0, "derived\n"),
         ("module m; assign a=((b)); endmodule", 0, "derived\n"),
+        (
+            "module m; for (genvar i = 0; i < b; i = i + 1) begin : g end endmodule",
+            0,
+            "derived\n",
+        ),
         ("// x", 0, "derived\n"),
+        ("module m;", 1, "not derived\n"),
         ("module m; assign a = &&b; endmodule", 1, "not derived\n"),
+        (
+            "module m; for (genvar i = 0; i < a || b; i = i + 1) begin end endmodule",
+            1,
+            "not derived\n",
+        ),
         ("module m; endmodule x", 1, "not derived\n"),
+        ("\"a", 1, "not derived\n"),
         ("\u{e9}", 1, "not derived\n"),
     ] {
         let (got, out, err) = checked(rt.alloc(), &mut text.as_bytes());
@@ -43,6 +57,36 @@ fn derived_without_a_tree(rt: HostRuntime) -> Result<(), Fail> {
         assert!(rt; vast_read::is_derived(rt.alloc(), text)? == is_derived);
     }
     Ok(())
+}
+
+#[test]
+fn no_utf8(rt: HostRuntime) {
+    let (status, out, err) = checked(rt.alloc(), &mut [255].as_slice());
+    assert_eq!(rt; status, 1);
+    assert!(rt; out.as_slice() == "not derived\n".as_bytes());
+    assert!(rt; err.is_empty());
+}
+
+#[test]
+fn designs_are_derived(rt: HostRuntime) {
+    let alloc = rt.alloc();
+    for word in ["passthrough", "cases", "registers"] {
+        let mut text = Vec::new(alloc);
+        let mut err = Vec::new(alloc);
+        let _ = run(alloc, &[word], &mut "".as_bytes(), &mut text, &mut err);
+        let (status, out, err) = checked(alloc, &mut text.as_slice());
+        assert_eq!(rt; status, 0, "{word}");
+        assert!(rt; out.as_slice() == "derived\n".as_bytes());
+        assert!(rt; err.is_empty());
+    }
+}
+
+#[test]
+fn longest_input(rt: HostRuntime) {
+    let (status, out, err) = checked(rt.alloc(), &mut io::repeat(b' ').take(16_777_216));
+    assert_eq!(rt; status, 0);
+    assert!(rt; out.as_slice() == "derived\n".as_bytes());
+    assert!(rt; err.is_empty());
 }
 
 /// Gives one space at a read, and then fails.
@@ -102,6 +146,97 @@ fn last_read(rt: HostRuntime) {
     assert!(rt; out.is_empty());
     assert!(rt; err.as_slice() == "read fault\n".as_bytes());
     assert_eq!(rt; input.reads, 16_777_217);
+}
+
+/// Is interrupted at every other read, and gives one byte of the text at the others.
+#[derive(Drop)]
+struct Interrupted<'t> {
+    text: &'t [u8],
+    is_next: bool,
+}
+
+impl Read for Interrupted<'_> {
+    fn read(&mut self, buf: &mut [u8]) -> io::Result<usize> {
+        self.is_next = !self.is_next;
+        if self.is_next {
+            return Err(io::Error::from(io::ErrorKind::Interrupted));
+        }
+        let room = buf.len().min(1);
+        self.text.read(&mut buf[..room])
+    }
+}
+
+#[test]
+fn interrupted_reads(rt: HostRuntime) {
+    let text = "module m; assign a = b; endmodule".as_bytes();
+    let mut input = Interrupted {
+        text,
+        is_next: false,
+    };
+    let (status, out, err) = checked(rt.alloc(), &mut input);
+    assert_eq!(rt; status, 0);
+    assert!(rt; out.as_slice() == "derived\n".as_bytes());
+    assert!(rt; err.is_empty());
+}
+
+/// Is interrupted at every read, and counts them.
+#[derive(Drop)]
+struct Busy {
+    reads: u32,
+}
+
+impl Read for Busy {
+    fn read(&mut self, _buf: &mut [u8]) -> io::Result<usize> {
+        self.reads = self.reads.wrapping_add(1);
+        Err(io::Error::from(io::ErrorKind::Interrupted))
+    }
+}
+
+#[test]
+fn interrupted_reads_count(rt: HostRuntime) {
+    let mut input = Busy { reads: 0 };
+    let (status, out, err) = checked(rt.alloc(), &mut input);
+    assert_eq!(rt; status, 1);
+    assert!(rt; out.is_empty());
+    assert!(rt; err.as_slice() == "read fault\n".as_bytes());
+    assert_eq!(rt; input.reads, 16_777_217);
+}
+
+/// Is interrupted at every other write, and counts the bytes that it takes at the others, one at a time.
+#[derive(Drop)]
+struct Slow {
+    is_next: bool,
+    bytes: usize,
+}
+
+impl Write for Slow {
+    fn write(&mut self, buf: &[u8]) -> io::Result<usize> {
+        self.is_next = !self.is_next;
+        if self.is_next {
+            return Err(io::Error::from(io::ErrorKind::Interrupted));
+        }
+        let count = buf.len().min(1);
+        self.bytes = self.bytes.wrapping_add(count);
+        Ok(count)
+    }
+
+    fn flush(&mut self) -> io::Result<()> {
+        Ok(())
+    }
+}
+
+#[test]
+fn interrupted_writes(rt: HostRuntime) {
+    let alloc = rt.alloc();
+    let mut err = Vec::new(alloc);
+    let mut out = Slow {
+        is_next: false,
+        bytes: 0,
+    };
+    let status = run(alloc, &["check"], &mut "".as_bytes(), &mut out, &mut err);
+    assert_eq!(rt; status, 0);
+    assert_eq!(rt; out.bytes, "derived\n".len());
+    assert!(rt; err.is_empty());
 }
 
 /// Takes one byte, and then fails.
