@@ -97,6 +97,7 @@ class Others(FileTest):
         self.assert_expression(file.make_unsized_one_literal(), "'1")
         self.assert_expression(file.make_unsized_zero_literal(), "'0")
         self.assert_expression(file.make_unsized_x_literal(), "'X")
+        self.assert_expression(file.make_name("shadow"), "shadow")
 
     @over_each()
     def test_strings(self, file):

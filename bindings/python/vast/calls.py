@@ -218,6 +218,10 @@ class Calls(Core):
         """`'X`, without a value."""
         return Expr(self, self._later("MakeUnsizedXLiteral"))
 
+    def make_name(self, name: str) -> Expr:
+        """The bare name, printed as it is, without a type."""
+        return Expr(self, self._later(f"MakeName {quoted(name)}"))
+
     def make_indexable_expression(self, expression: Operand) -> IndexableExpr:
         """The same node, as an expression that may be selected from."""
         return IndexableExpr(self, self._later(

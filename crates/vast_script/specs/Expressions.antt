@@ -1,7 +1,7 @@
 -- What becomes of a call that makes any other expression.
 use Rattle.std.specs.Prelude.{ℕ, ℤ, pos, int_le, ◌&&◌, List, Some, None, codes, string_bytes}
 use Rattle.vast_literal.specs.declared.literal.LiteralFormat.{LiteralFormat}
-use Rattle.vast_literal.specs.Tree.{ExprTree, LiteralTree}
+use Rattle.vast_literal.specs.Tree.{ExprTree, NameTree, LiteralTree, Untyped}
 use Rattle.vast_literal.specs.Pattern.{pattern}
 use Rattle.vast_core.specs.Types.{is_castable}
 use Rattle.vast_core.specs.Bench.{type_of}
@@ -11,7 +11,7 @@ use Rattle.xlsynth_vast.specs.Expressions.{with_index, with_slice, with_part_sel
 use Rattle.xlsynth_vast.specs.Literals.{literal_in, pattern_literal, string_literal, selector_text}
 use Rattle.vast_script.specs.declared.answer.Answer.TheVariants.{Expr, IndexableExpr, Slice, Index, MacroRef}
 use Rattle.vast_script.specs.declared.step.ExpressionStep.{ExpressionStep}
-use Rattle.vast_script.specs.declared.step.ExpressionStep.TheVariants.{MakeLiteral, MakeBinaryPattern, MakeUnsizedDecimalLiteral, MakeStringLiteral, MakeUnsizedOneLiteral, MakeUnsizedZeroLiteral, MakeUnsizedXLiteral, MakeIndexableExpression, MakeSlice, MakeIndex, MakeSliceExpr, MakeIndexExpr, MakeIndexedPartSelect, MakeFunctionCall, MakeConcat, MakeReplicatedConcat, MakeReplicatedConcatI64, MakeArrayAssignmentPattern, MakeTernary, MakeWidthCast, MakeTypeCast, MakePosEdge, MakeNegEdge, MakeMacroRef, MakeMacroRefWithArgs}
+use Rattle.vast_script.specs.declared.step.ExpressionStep.TheVariants.{MakeLiteral, MakeBinaryPattern, MakeUnsizedDecimalLiteral, MakeStringLiteral, MakeUnsizedOneLiteral, MakeUnsizedZeroLiteral, MakeUnsizedXLiteral, MakeName, MakeIndexableExpression, MakeSlice, MakeIndex, MakeSliceExpr, MakeIndexExpr, MakeIndexedPartSelect, MakeFunctionCall, MakeConcat, MakeReplicatedConcat, MakeReplicatedConcatI64, MakeArrayAssignmentPattern, MakeTernary, MakeWidthCast, MakeTypeCast, MakePosEdge, MakeNegEdge, MakeMacroRef, MakeMacroRefWithArgs}
 use Rattle.vast_script.specs.Outcome.{Call, Made, given, provided, allowed}
 use Rattle.vast_script.specs.Kinds.{an_expr, an_indexable, a_type}
 use Rattle.vast_script.specs.Arguments.{one, two, three, many, one_and_many}
@@ -114,6 +114,7 @@ expression_call (MakeStringLiteral value) = make_leaf (string_literal (string_by
 expression_call MakeUnsizedOneLiteral = make_leaf (LiteralTree (codes "'1") (Some (pos 1)))
 expression_call MakeUnsizedZeroLiteral = make_leaf (LiteralTree (codes "'0") (Some (pos 0)))
 expression_call MakeUnsizedXLiteral = make_leaf (LiteralTree (codes "'X") None)
+expression_call (MakeName name) = make_leaf (NameTree (string_bytes name) Untyped)
 expression_call (MakeIndexableExpression e) = make_indexable_expression e
 expression_call (MakeSlice subject high low) = make_slice subject high low
 expression_call (MakeIndex subject index) = make_index subject index

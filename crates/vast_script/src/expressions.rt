@@ -99,6 +99,7 @@ pub(crate) fn replay_expression(
         ExpressionStep::MakeUnsizedOneLiteral => expression(file.make_unsized_one_literal()),
         ExpressionStep::MakeUnsizedZeroLiteral => expression(file.make_unsized_zero_literal()),
         ExpressionStep::MakeUnsizedXLiteral => expression(file.make_unsized_x_literal()),
+        ExpressionStep::MakeName(name) => expression(file.make_name(name)),
         ExpressionStep::MakeIndexableExpression(operand) => {
             let operand: Expr = one(file, answers, *operand)?;
             Ok(Answer::IndexableExpr(file.make_indexable_expression(&operand)))

@@ -68,6 +68,7 @@ pub enum ExpressionStep {
     MakeUnsizedOneLiteral,
     MakeUnsizedZeroLiteral,
     MakeUnsizedXLiteral,
+    MakeName(String),
     MakeIndexableExpression(usize),
     MakeSlice(usize, i64, i64),
     MakeIndex(usize, i64),

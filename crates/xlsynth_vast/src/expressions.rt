@@ -5,5 +5,6 @@ mod casts;
 mod comparisons;
 mod lists;
 mod literals;
+mod names;
 mod selects;
 mod unary;

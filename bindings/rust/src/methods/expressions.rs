@@ -56,6 +56,12 @@ impl VastFile {
         Expr(self.made("MakeUnsizedXLiteral", "", |line| line))
     }
 
+    /// The bare name, which prints as it is and has no type: what inline text, an include or another file
+    /// declares can be named by it. It enters no name, so a later declaration may have it.
+    pub fn make_name(&mut self, name: &str) -> Expr {
+        Expr(self.made("MakeName", "", |line| line.text(name)))
+    }
+
     /// The same node, as an expression that may be selected from.
     pub fn make_indexable_expression(&self, expression: &Expr) -> IndexableExpr {
         let step = self.answered("MakeIndexableExpression", expression.0).step;

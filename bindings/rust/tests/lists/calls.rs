@@ -178,6 +178,10 @@ pub fn make(file: &mut VastFile, answers: &Answers, line: &Line) -> Result<Answe
         "MakeUnsizedOneLiteral" => Ok(Answer::Expr(file.make_unsized_one_literal())),
         "MakeUnsizedZeroLiteral" => Ok(Answer::Expr(file.make_unsized_zero_literal())),
         "MakeUnsizedXLiteral" => Ok(Answer::Expr(file.make_unsized_x_literal())),
+        "MakeName" => {
+            let name = words[0].text();
+            Ok(Answer::Expr(file.make_name(name)))
+        }
         "MakeIndexableExpression" => {
             let expression = answers.handle(&words[0])?;
             Ok(Answer::IndexableExpr(

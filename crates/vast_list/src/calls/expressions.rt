@@ -19,6 +19,7 @@ pub(crate) fn expression_step(
         (21, "MakeUnsizedOneLiteral") => arguments.none(ExpressionStep::MakeUnsizedOneLiteral),
         (22, "MakeUnsizedZeroLiteral") => arguments.none(ExpressionStep::MakeUnsizedZeroLiteral),
         (19, "MakeUnsizedXLiteral") => arguments.none(ExpressionStep::MakeUnsizedXLiteral),
+        (8, "MakeName") => arguments.one(ExpressionStep::MakeName),
         (23, "MakeIndexableExpression") => arguments.one(ExpressionStep::MakeIndexableExpression),
         (9, "MakeSlice") => arguments.three(ExpressionStep::MakeSlice),
         (9, "MakeIndex") => arguments.two(ExpressionStep::MakeIndex),

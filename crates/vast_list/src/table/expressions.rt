@@ -8,7 +8,7 @@ use super::by_name::{
 use super::{CallRow, kinds};
 
 /// Calls that make any other expression.
-pub(super) static CALLS: [CallRow; 25] = [
+pub(super) static CALLS: [CallRow; 26] = [
     CallRow {
         name: "MakeLiteral",
         parameters: &[TEXT, FORMAT],
@@ -42,6 +42,11 @@ pub(super) static CALLS: [CallRow; 25] = [
     CallRow {
         name: "MakeUnsizedXLiteral",
         parameters: &[],
+        answer: kinds::EXPRESSION,
+    },
+    CallRow {
+        name: "MakeName",
+        parameters: &[NAME],
         answer: kinds::EXPRESSION,
     },
     CallRow {

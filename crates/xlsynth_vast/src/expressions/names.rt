@@ -1,0 +1,22 @@
+//! Names.
+
+ghost use Rattle.vast_literal.specs.Tree.{NameTree, Untyped};
+ghost use Rattle.vast_core.specs.Growth.{Builds, next_expr, with_expr};
+
+use crate::file::VastFile;
+use std::alloc::AllocError;
+use vast_core::{Expr, ExprNode};
+
+impl VastFile {
+    /// The bare name, which prints as it is and has no type: what inline text, an include or another file declares can
+    /// be named by it. It enters no name, so a later declaration may have it.
+    ///
+    /// # Errors
+    /// `AllocError` where a growth was refused; the file is unchanged.
+    pub fn make_name(&mut self, name: &str) -> Result<Expr, AllocError>
+        ensures { Builds self.old self.new result next_expr (with_expr (NameTree name.now Untyped)) }
+    {
+        let name = String::from_str(self.ast.allocator(), name)?;
+        self.ast.push_expr(ExprNode::Name(name, None))
+    }
+}
