@@ -1,0 +1,33 @@
+-- How much is still to look at: less for newer containers, so that the test ends.
+use Rattle.std.proofs.Common.{ℕ, ◌+◌, ◌-◌, ◌*◌, ◌^◌}
+use Rattle.vast_core.specs.Handles.{conditional_index, case_index, loop_index}
+use Rattle.vast_core.specs.Records.{MemberEntry, DeclarationEntry, AssignmentEntry, ParameterEntry, BlankEntry, CommentEntry, InlineEntry, MacroEntry, InstanceEntry, FunctionEntry, AlwaysEntry, ConditionalEntry, LoopEntry}
+use Rattle.vast_core.specs.Nests.{StatementEntry, AssignStatement, ContinuousStatement, ConditionalStatement, CasesStatement, BlankStatement, CommentStatement, InlineStatement}
+
+abbrev pub height : ℕ → ℕ
+height i = 8 * (2 ^ 64 - i)
+
+-- of a statement, by the container that it is
+abbrev pub statement_height : StatementEntry → ℕ
+statement_height (AssignStatement s) = 0
+statement_height (ContinuousStatement s) = 0
+statement_height (ConditionalStatement c) = height (conditional_index c) + 4
+statement_height (CasesStatement c) = height (case_index c) + 4
+statement_height BlankStatement = 0
+statement_height (CommentStatement text) = 0
+statement_height (InlineStatement text) = 0
+
+-- of a member, by the loop that it is
+abbrev pub member_height : MemberEntry → ℕ
+member_height (DeclarationEntry kind name data_type) = 0
+member_height (AssignmentEntry a) = 0
+member_height (ParameterEntry local form value) = 0
+member_height BlankEntry = 0
+member_height (CommentEntry a) = 0
+member_height (InlineEntry a) = 0
+member_height (MacroEntry a) = 0
+member_height (InstanceEntry x) = 0
+member_height (FunctionEntry f) = 0
+member_height (AlwaysEntry a) = 0
+member_height (ConditionalEntry c) = 0
+member_height (LoopEntry l) = height (loop_index l) + 1

@@ -1,0 +1,43 @@
+-- Laws of lists whose elements are looked at one after the other.
+use Rattle.std.proofs.Common.{◌≡◌, ℕ, zero, suc, ◌+◌, ◌<◌, Bool, List, [], ◌∷◌, length, get_or, map, drop, refl, ap, arith, add-one, All}
+use Rattle.std.specs.Prelude.{◌&&◌}
+use Rattle.std.specs.List.{list_all}
+use Rattle.vast_literal.specs.LiteralToken.{every}
+use Rattle.vast_literal.specs.PlainFile.{are_plain_items, is_plain_file}
+use Rattle.vast_core.specs.declared.node.Function.{Function}
+use Rattle.vast_core.specs.declared.node.FileItem.{FileItem}
+use Rattle.vast_core.specs.Bench.{Bench}
+use Rattle.vast_core.specs.Records.{file_entry}
+use Rattle.vast_core.specs.Nests.{variable_record, function_record}
+use Rattle.vast_core.specs.Sound.{VariableSound, FunctionSound}
+use Rattle.vast_core.specs.FileTree.{item_tree, tree}
+use Rattle.vast_core.proofs.Lists.{All-Each}
+
+-- bytes
+
+pub every-all : (p : ℕ → Bool) (xs : List ℕ) → every p xs ≡ list_all p xs
+every-all p [] = refl
+every-all p (x ∷ xs) = ap (λ r. p x && r) (every-all p xs)
+
+pub ruleset bytes = (every-all)
+
+-- what is left of a list: its next element, and what is behind it
+
+pub all-left : {A : Type 0} (one : A → Bool) (all : List A → Bool) → ((x : A) (xs : List A) → all (x ∷ xs) ≡ (one x && all xs)) → (xs : List A) (i : ℕ) (x : A) → i < length xs → x ≡ get_or xs i x → all (drop i xs) ≡ (one x && all (drop (i + 1) xs))
+all-left one all step [] i x h e = absurd (omega arith)
+all-left one all step (y ∷ xs) zero x h e = rw e (step y xs)
+all-left one all step (y ∷ xs) (suc i) x h e = rw add-one (rw add-one at (all-left one all step xs i x (omega arith) e))
+
+-- the items of a file
+
+pub all-items : (b : Bench) (items : List FileItem) → b.items ≡ map file_entry items → is_plain_file (tree b) ≡ are_plain_items (map (item_tree b) (map file_entry items))
+unfolding tree
+all-items b items e = ap (λ xs. are_plain_items (map (item_tree b) xs)) e
+
+-- the inputs and the locals of a function
+
+pub inputs-own : (b : Bench) (f : Function) → FunctionSound b (function_record f) → All (λ v. VariableSound b (variable_record v)) f.inputs.items
+inputs-own b f h = All-Each variable_record (VariableSound b) f.inputs.items h.inputs
+
+pub locals-own : (b : Bench) (f : Function) → FunctionSound b (function_record f) → All (λ v. VariableSound b (variable_record v)) f.locals.items
+locals-own b f h = All-Each variable_record (VariableSound b) f.locals.items h.locals
