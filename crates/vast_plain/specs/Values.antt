@@ -18,7 +18,7 @@ abbrev pub Answers : Bool → Result Bool AllocError → Type 0
 Answers plain (Ok answer) = answer ≡ plain
 Answers plain (Err error) = Unit {0}
 
--- How many expressions wait at most before one was looked at, and all its parts.
+-- How many expressions stand in an expression or a type, itself and all its parts: each round looks at one of them.
 abbrev mutual
   pub expr_weight : ExprTree → ℕ
   expr_weight (NameTree name type) = 1

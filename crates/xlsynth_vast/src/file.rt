@@ -3,15 +3,17 @@
 ghost use Rattle.std.specs.Prelude.{◌≡◌, ◌+◌, ◌↔◌, IsTrue, IsErr, IfOk, OnOk, OnErr, string_bytes};
 ghost use Rattle.vast_core.specs.Bench.{start, tree_of, OwnsExpr};
 ghost use Rattle.vast_core.specs.FileTree.{tree};
+ghost use Rattle.vast_literal.specs.PlainFile.{is_plain_file};
 ghost use Rattle.vast_print.specs.Derived.{DerivesIfPlain, FileDerivesIfPlain};
 ghost use Rattle.vast_print.specs.Emits.{Emits, EmitsText};
 ghost use Rattle.vast_print.specs.Text.{expr_text};
 ghost use Rattle.vast_print.specs.Layout.{layout};
 
-use std::alloc::Global;
+use std::alloc::{AllocError, Global};
 use std::marker::Model;
 use vast_core::{Ast, Expr, FileIds, Handle, IdsSpent, VastFileType};
 use vast_literal::VastFault;
+use vast_plain::is_plain_file;
 use vast_print::{print_expr, print_file};
 
 /// A file of Verilog or SystemVerilog: every node is made by a call on it and lives as long as it.
@@ -102,5 +104,18 @@ impl VastFile {
             (λ text. FileDerivesIfPlain (string_bytes text) (tree self.now)) }
     {
         print_file(&self.ast)
+    }
+
+    /// Whether the file is plain, the condition under which the grammar derives the normal form of its tree from the text
+    /// that [`VastFile::emit`] answers: each printed name is an identifier and no keyword, left sides are names, selects
+    /// or concatenations, edges stand only in lists of events, an include's path has no quote, backslash or line
+    /// break, and there is no inline text.
+    ///
+    /// # Errors
+    /// `AllocError` where memory was refused.
+    pub fn is_plain(&self) -> Result<bool, AllocError>
+        ensures { IfOk result (λ is_plain. is_plain ≡ is_plain_file (tree self.now)) }
+    {
+        is_plain_file(&self.ast)
     }
 }
