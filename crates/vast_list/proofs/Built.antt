@@ -59,28 +59,28 @@ words-more lines line = rw (filter-append is_call_line lines (line ∷ [])) (map
 
 -- A line that is no call adds none.
 reads-pass : (lines : List (List ℕ)) (line : List ℕ) (calls : List Call) → is_call_line line ≡ false → ReadsCalls lines calls → ReadsCalls (lines ++ line ∷ []) calls
-reads-pass lines line calls no h = rw (words-more lines line, no) (h ∙ sym (append-nil (call_words lines)))
+reads-pass lines line calls none h = rw (words-more lines line, none) (h ∙ sym (append-nil (call_words lines)))
 
 -- A line that is a call adds it.
 reads-call :
     (lines : List (List ℕ)) (line : List ℕ) (calls : List Call) (call : Call) → is_call_line line ≡ true → call_name call ≡ line_word line → ReadsCalls lines calls →
     ReadsCalls (lines ++ line ∷ []) (calls ++ call ∷ [])
-reads-call lines line calls call yes name h =
-    rw (words-more lines line, yes, map-append call_name calls (call ∷ []), ← name) (ap (λ (words : List (List ℕ)). words ++ call_name call ∷ []) h)
+reads-call lines line calls call one name h =
+    rw (words-more lines line, one, map-append call_name calls (call ∷ []), ← name) (ap (λ (words : List (List ℕ)). words ++ call_name call ∷ []) h)
 
 pass-more :
     (again : Bool) (dialect : VastFileType) (lines : List (List ℕ)) (line : List ℕ) (b c d : Bench) (xs ys zs : List Answer) → LinesBuild again dialect lines b xs → Between again b c → ys ≡ xs →
     d ≡ c → zs ≡ ys → is_call_line line ≡ false → LinesBuild again dialect (lines ++ line ∷ []) d zs
-pass-more again dialect lines line b c d xs ys zs h k e file answers no =
-    rw (file, answers, e) (h.0, reads-pass lines line h.0 no h.1, builds-on again _ b c [] xs h.0 h.2 k)
+pass-more again dialect lines line b c d xs ys zs h k e file answers none =
+    rw (file, answers, e) (h.0, reads-pass lines line h.0 none h.1, builds-on again _ b c [] xs h.0 h.2 k)
 
 made-more :
     (again : Bool) (dialect : VastFileType) (lines : List (List ℕ)) (line : List ℕ) (b : Bench) (xs : List Answer) (between new : Session) (name : List ℕ) → LinesBuild again dialect lines b xs →
     Between again b between.file → between.answers.items ≡ xs → HasMade between new name → is_call_line line ≡ true → name ≡ line_word line → LinesBuild again dialect (lines ++ line ∷ []) new.file new.answers.items
-made-more again dialect lines line b xs between new name h k e made yes is =
+made-more again dialect lines line b xs between new name h k e made one is =
     let answer = made.2.0 in
     let calls = subst (λ (zs : List Answer). Calls between.file new.file zs (Ok answer) made.0) e made.2.1 in
-    rw (made.2.2, e) (h.0 ++ made.0 ∷ [], reads-call lines line h.0 made.0 yes (made.1 ∙ is) h.1, builds-more again _ b between.file new.file [] xs h.0 made.0 answer h.2 k calls)
+    rw (made.2.2, e) (h.0 ++ made.0 ∷ [], reads-call lines line h.0 made.0 one (made.1 ∙ is) h.1, builds-more again _ b between.file new.file [] xs h.0 made.0 answer h.2 k calls)
 
 gives-more :
     (again : Bool) (dialect : VastFileType) (lines : List (List ℕ)) (line : List ℕ) (b : Bench) (xs : List Answer) (between new : Session) (given : Given) → LinesBuild again dialect lines b xs →

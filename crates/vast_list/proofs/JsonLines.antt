@@ -1,5 +1,5 @@
 -- How a line of JSON ends.
-use Rattle.std.proofs.Common.{◌≡◌, ℕ, Bool, true, false, List, ◌++◌, Option, Some, None, String, string_bytes, refl, sym, ap, ◌∙◌, subst, append_assoc}
+use Rattle.std.proofs.Common.{◌≡◌, ℕ, ◌+◌, ◌<◌, length, get_or, take, Bor, Bool, true, false, List, ◌++◌, Option, Some, None, String, string_bytes, refl, sym, ap, ◌∙◌, subst, append_assoc}
 use Rattle.std.specs.Prelude.{IsTrue, MatchOption, codes}
 use Rattle.std.specs.declared.alloc.Global.{Global}
 use Rattle.vast_core.specs.FileTree.{tree}
@@ -8,9 +8,10 @@ use Rattle.vast_list.specs.declared.json_line.Answers.{Answers}
 use Rattle.vast_list.specs.declared.output.Verdict.{Verdict}
 use Rattle.vast_list.specs.declared.output.Verdict.TheVariants.{Made, Refused, NotInForm}
 use Rattle.vast_list.specs.declared.session.Session.{Session}
-use Rattle.vast_list.specs.JsonLine.{AreAnswers, EndsWithSession, EndsWithText, IsListJson, maybe_json}
-use Rattle.vast_list.specs.Lines.{BeginsWithDialect}
+use Rattle.vast_list.specs.JsonLine.{AnswersOn, AreAnswers, EndsWithSession, EndsWithText, IsListJson, maybe_json}
+use Rattle.vast_list.specs.Lines.{BeginsWithDialect, line_texts}
 use Rattle.vast_list.specs.Output.{is_made}
+use Rattle.vast_list.proofs.Outputs.{lines-next}
 use Rattle.vast_list.specs.Session.{IsTextOf}
 
 -- the pieces of the end, one behind the other
@@ -34,5 +35,12 @@ is_json Made lines behind dialect answers line begun are ends made =
     (ends.0, (dialect, behind, begun, answers.session.file, answers.session.answers.items, are (made refl), ends.1), ends.2)
 is_json Refused lines behind dialect answers line begun are ends made = ends
 is_json NotInForm lines behind dialect answers line begun are ends made = ends
+
+-- Of a list that is not at fault, one line more is taken.
+pub answers-next :
+    (dialect : VastFileType) (lines : List (ℕ × Bor (List ℕ))) (i : ℕ) (line : ℕ × Bor (List ℕ)) (old new : Answers) → i < length lines → line ≡ get_or lines i line →
+    AreAnswers dialect (line_texts (take i lines)) old → AnswersOn old new line.1.now → AreAnswers dialect (line_texts (take (i + 1) lines)) new
+answers-next dialect lines i line old new l at are on made =
+    lines-next false dialect lines i line old.session new.session l at (are (on.verdict made)) (on.taken made)
 
 pub ruleset endings = (ends_with, ends_session, is_json)

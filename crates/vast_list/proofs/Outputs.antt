@@ -1,6 +1,7 @@
 -- What is printed of a list. What begins with a header goes on beginning with it.
-use Rattle.std.proofs.Common.{◌≡◌, ℕ, zero, suc, ◌+◌, ◌<◌, arith, length, get_or, Bool, List, [], ◌∷◌, ◌++◌, take, drop, All, Option, Some, None, Result, Ok, Err, Bor, Vec, true, false, refl, sym, ap, subst, ◌∙◌}
-use Rattle.std.proofs.lemmas.List.{append-nil, append_assoc, map-append, take-append-drop, take_more}
+use Rattle.std.proofs.Common.{◌≡◌, ℕ, zero, suc, ◌+◌, ◌-◌, ◌<◌, arith, length, get_or, Bool, List, [], ◌∷◌, ◌++◌, take, drop, All, Option, Some, None, Result, Ok, Err, Bor, Vec, true, false, refl, sym, ap, subst, ◌∙◌}
+use Rattle.std.proofs.lemmas.List.{append-nil, append_assoc, map-append, take-append-drop, take_all, take_more, length-drop}
+use Rattle.std.proofs.lemmas.List.Elements.{All-push}
 use Rattle.std.specs.Prelude.{is_some, IsTrue, OnOk}
 use Rattle.std.specs.declared.alloc.AllocError.{AllocError}
 use Rattle.std.specs.declared.alloc.Global.{Global}
@@ -12,7 +13,7 @@ use Rattle.vast_list.specs.declared.tries.Tries.{Tries}
 use Rattle.vast_list.specs.Built.{LinesBuild, TakesLine}
 use Rattle.vast_list.proofs.Built.{lines-more}
 use Rattle.vast_list.specs.Lines.{BeginsWithDialect, Passed, dialect_word, line_kind, line_texts, without_return}
-use Rattle.vast_list.specs.Output.{header_line, BeginsWithHeader, IsAnswered, IsDesign, IsFinished, IsOutput, Prints, TakesOn, is_made}
+use Rattle.vast_list.specs.Output.{header_line, BeginsWithHeader, IsAnswered, IsDesign, IsFinished, IsOutput, Prints, TakesOn, is_again, is_made}
 
 pub header_begins : (title line : List ℕ) → line ≡ header_line title → BeginsWithHeader title line
 header_begins title line e = ([], e ∙ sym (append-nil (header_line title)))
@@ -24,12 +25,19 @@ pub ruleset headers = (header_begins, header_kept)
 
 -- The lines of a list that stand behind the first that is no comment.
 pub begins :
-    (lines : List (ℕ × Bor (List ℕ))) (n : ℕ) (line : ℕ × Bor (List ℕ)) (behind : List (ℕ × Bor (List ℕ))) (dialect : VastFileType) → All (λ (l : List ℕ). line_kind l ≡ Passed) (line_texts (take n lines)) →
-    drop n lines ≡ line ∷ behind → without_return line.1.now ≡ dialect_word dialect → BeginsWithDialect (line_texts lines) dialect (line_texts behind)
-begins lines n line behind dialect passed left word =
-    (line_texts (take n lines), line.1.now, passed, word, ap line_texts (sym (take-append-drop n lines) ∙ ap (λ (rest : List (ℕ × Bor (List ℕ))). take n lines ++ rest) left) ∙ map-append (λ (l : ℕ × Bor (List ℕ)). l.1.now) (take n lines) (line ∷ behind))
-
-pub ruleset dialects = (begins)
+    (lines first rest : List (ℕ × Bor (List ℕ))) (n : ℕ) (line : ℕ × Bor (List ℕ)) (behind : List (ℕ × Bor (List ℕ))) (dialect : VastFileType) → first ≡ lines → rest ≡ lines →
+    All (λ (l : List ℕ). line_kind l ≡ Passed) (line_texts (take n first)) → take (length rest - n) (drop n rest) ≡ line ∷ behind → without_return line.1.now ≡ dialect_word dialect →
+    BeginsWithDialect (line_texts lines) dialect (line_texts behind)
+begins lines first rest n line behind dialect f r passed left word =
+    let all : take (length lines - n) (drop n lines) ≡ drop n lines = take_all (length lines - n) (drop n lines) (omega (arith, length-drop n lines)) in
+    let begun : drop n lines ≡ line ∷ behind = sym all ∙ subst (λ (ls : List (ℕ × Bor (List ℕ))). take (length ls - n) (drop n ls) ≡ line ∷ behind) r left in
+    (
+      line_texts (take n lines),
+      line.1.now,
+      subst (λ (ls : List (ℕ × Bor (List ℕ))). All (λ (l : List ℕ). line_kind l ≡ Passed) (line_texts (take n ls))) f passed,
+      word,
+      ap line_texts (sym (take-append-drop n lines) ∙ ap (λ (rest : List (ℕ × Bor (List ℕ))). take n lines ++ rest) begun) ∙ map-append (λ (l : ℕ × Bor (List ℕ)). l.1.now) (take n lines) (line ∷ behind),
+    )
 
 pub without_title : (title : Option (Bor (List ℕ))) (answering : Answering) (output : List ℕ) → title ≡ None → IsDesign answering output → IsFinished title answering output
 without_title title answering output e t = subst (λ (t : Option (Bor (List ℕ))). IsFinished t answering output) (sym e) t
@@ -52,21 +60,25 @@ pub ruleset outputs = (is_output)
 pub texts-more : (lines : List (ℕ × Bor (List ℕ))) (i : ℕ) (line : ℕ × Bor (List ℕ)) → i < length lines → line ≡ get_or lines i line → line_texts (take (i + 1) lines) ≡ line_texts (take i lines) ++ line.1.now ∷ []
 texts-more lines i line l at = rw (take_more lines i line l, ← at) (map-append (λ (x : ℕ × Bor (List ℕ)). x.1.now) (take i lines) (line ∷ []))
 
-all-more : (lines : List (List ℕ)) (line : List ℕ) → All (λ (l : List ℕ). line_kind l ≡ Passed) lines → line_kind line ≡ Passed → All (λ (l : List ℕ). line_kind l ≡ Passed) (lines ++ line ∷ [])
-all-more [] line h k zero d l = k
-all-more [] line h k (suc n) d l = absurd (omega (arith, l))
-all-more (x ∷ lines) line h k zero d l = h zero d (omega arith)
-all-more (x ∷ lines) line h k (suc n) d l = all-more lines line (λ m e q. h (suc m) e (omega (arith, q))) k n d (omega (arith, l))
-
 pub passed-more :
     (lines : List (ℕ × Bor (List ℕ))) (i : ℕ) (line : ℕ × Bor (List ℕ)) → i < length lines → line ≡ get_or lines i line → All (λ (l : List ℕ). line_kind l ≡ Passed) (line_texts (take i lines)) →
     line_kind line.1.now ≡ Passed → All (λ (l : List ℕ). line_kind l ≡ Passed) (line_texts (take (i + 1) lines))
-passed-more lines i line l at h k = rw (texts-more lines i line l at) (all-more (line_texts (take i lines)) line.1.now h k)
+passed-more lines i line l at h k = rw (texts-more lines i line l at) (All-push (λ (l : List ℕ). line_kind l ≡ Passed) (line_texts (take i lines)) line.1.now h k)
 
 pub lines-next :
     (again : Bool) (dialect : VastFileType) (lines : List (ℕ × Bor (List ℕ))) (i : ℕ) (line : ℕ × Bor (List ℕ)) (old new : Session) → i < length lines → line ≡ get_or lines i line →
     LinesBuild again dialect (line_texts (take i lines)) old.file old.answers.items → TakesLine again old new line.1.now → LinesBuild again dialect (line_texts (take (i + 1) lines)) new.file new.answers.items
 lines-next again dialect lines i line old new l at h takes = rw (texts-more lines i line l at) (lines-more again dialect (line_texts (take i lines)) line.1.now old new h takes)
+
+-- Of a list without a title that is not at fault, one line more is taken.
+pub answered-next :
+    (tries : Tries) (title : Option (Bor (List ℕ))) (dialect : VastFileType) (lines : List (ℕ × Bor (List ℕ))) (i : ℕ) (line : ℕ × Bor (List ℕ)) (old new : Answering) → i < length lines →
+    line ≡ get_or lines i line → is_some old.trial ≡ is_again tries → is_some old.report ≡ is_some title → IsAnswered tries title dialect (line_texts (take i lines)) old → TakesOn old new line.1.now →
+    IsAnswered tries title dialect (line_texts (take (i + 1) lines)) new
+answered-next tries title dialect lines i line old new l at trial report built on untitled made =
+    let silent : is_some old.report ≡ false = report ∙ untitled in
+    let takes = subst (λ (again : Bool). TakesLine again old.session new.session line.1.now) trial (on.taken silent made) in
+    lines-next (is_again tries) dialect lines i line old.session new.session l at (built untitled (on.verdict silent made)) takes
 
 -- A line is taken, and what it gives is printed.
 pub takes-on :
@@ -86,8 +98,8 @@ takes-on old taken changed new line (Ok done) takes trial report told p q =
 pub at-fault :
     (old new : Answering) (line : List ℕ) (r : Result (Unit {0}) AllocError) → is_some new.trial ≡ is_some old.trial → is_some new.report ≡ is_some old.report → is_made new.told.verdict ≡ false →
     OnOk r (TakesOn old new line)
-at-fault old new line (Err fault) trial report no = tt
-at-fault old new line (Ok done) trial report no = record { trial = trial; report = report; verdict = λ _ made. absurd (cc (sym no ∙ made)); taken = λ _ made. absurd (cc (sym no ∙ made)) }
+at-fault old new line (Err error) trial report fault = tt
+at-fault old new line (Ok done) trial report fault = record { trial = trial; report = report; verdict = λ _ made. absurd (cc (sym fault ∙ made)); taken = λ _ made. absurd (cc (sym fault ∙ made)) }
 
 pub next-printed : (old now new : Answering) → Prints old now → Prints now new → Prints old new
 next-printed old now new p q = record { session = q.session ∙ p.session; trial = q.trial ∙ p.trial; report = q.report ∙ p.report; verdict = λ made. p.verdict (q.verdict made) }

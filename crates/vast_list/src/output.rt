@@ -89,7 +89,6 @@ fn empty_lines(lines: &[(usize, &[u8])]) -> usize
 }
 
 /// The dialect, and the lines behind the one that names it.
-#[tactic(auto, using(crate::proofs::Outputs::dialects))]
 pub(crate) fn dialect_line<'l, 'a>(
     alloc: Global,
     list: &'l ListLines<'a>,

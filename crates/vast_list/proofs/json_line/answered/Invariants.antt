@@ -4,4 +4,4 @@ use Rattle.vast_list.specs.Lines.{line_texts}
 use Rattle.vast_list.proofs.json_line.answered.Given as goal
 
 abbrev pub invariant-loop-number : goal.invariant-loop-number
-invariant-loop-number l = AreAnswers l.dialect (line_texts (take l.number-index l.lines)) l.answers
+invariant-loop-number l = AreAnswers l.fn.dialect (line_texts (take l.number-index l.lines)) l.answers

@@ -1,3 +1,4 @@
+use Rattle.std.proofs.Common.{[]}
 use Rattle.vast_list.proofs.Built.{steps-run}
 use Rattle.vast_list.proofs.laws.steps_build_as_replayed.Goals as goal
 

@@ -7,7 +7,7 @@ use Rattle.vast_list.proofs.output.answered.Given as goal
 
 abbrev pub invariant-loop-number : goal.invariant-loop-number
 invariant-loop-number l = record {
-  trial : is_some l.answering.trial ≡ is_again l.tries;
+  trial : is_some l.answering.trial ≡ is_again l.fn.tries;
   report : is_some l.answering.report ≡ is_some l.title;
-  built : is_some l.title ≡ false → IsTrue (is_made l.answering.told.verdict) → LinesBuild (is_again l.tries) l.dialect (line_texts (take l.number-index l.lines)) l.answering.session.file l.answering.session.answers.items;
+  built : is_some l.title ≡ false → IsTrue (is_made l.answering.told.verdict) → LinesBuild (is_again l.fn.tries) l.fn.dialect (line_texts (take l.number-index l.lines)) l.answering.session.file l.answering.session.answers.items;
 }

@@ -1,7 +1,9 @@
 use Rattle.std.proofs.Common.{◌≡◌, ◌+◌, ◌<◌, ℕ, List, [], ◌∷◌, ◌++◌, take, length, get_or, ap, subst, sym, ◌∙◌, arith}
-use Rattle.std.proofs.lemmas.List.{take_more}
+use Rattle.std.proofs.lemmas.List.{get_or_default, take_more}
+use Rattle.std.proofs.lemmas.List.Elements.{All-push}
 use Rattle.vast_core.specs.Bench.{Bench}
 use Rattle.xlsynth_vast.specs.declared.helpers.registers.RegisterDefinition.{RegisterDefinition}
+use Rattle.xlsynth_vast.specs.Registers.{OwnsRegister}
 use Rattle.vast_script.specs.declared.answer.Answer.{Answer}
 use Rattle.vast_list.specs.declared.helpers.registers.RegisterNumbers.{RegisterNumbers}
 use Rattle.vast_list.specs.Helpers.{NamesRegister, NamesRegisters}
@@ -21,4 +23,12 @@ names-next :
 names-next b answers ns i n rs r l at h k = rw (take_more ns i n l, ← at) (names-more b answers (take i ns) n rs r h k)
 
 pub loop-register-preserved : goal.loop-register-preserved
-loop-register-preserved c = ?
+loop-register-preserved c =
+    let inside = c.loop-register-test.true in
+    let i = c.loop-register.register-index in
+    let made = c.loop-register.made.items in
+    let next = c.in_ok-register.register in
+    rw c.in_ok-push.ensures.items (record {
+      owned = All-push (OwnsRegister c.args.file.now) made next c.loop-register.invariant.owned c.in_ok-register.ensures.owned;
+      named = names-next c.args.file.now c.args.answers.now c.args.registers.now i _ made next inside (get_or_default c.args.registers.now i _ _ inside) c.loop-register.invariant.named c.in_ok-register.ensures.named;
+    })
