@@ -1,12 +1,15 @@
 -- What the lines of a session leave.
-use Rattle.std.proofs.Common.{◌≡◌, ℕ, List, Result, Ok, Err, String, ap, subst, sym, string_bytes}
+use Rattle.std.proofs.Common.{◌≡◌, ℕ, List, [], Result, Ok, Err, String, refl, ap, subst, sym, ◌∙◌, append-nil, string_bytes}
 use Rattle.std.specs.declared.alloc.Global.{Global}
 use Rattle.vast_literal.specs.Tree.{FileTree}
 use Rattle.vast_literal.specs.declared.error.VastFault.{VastFault}
 use Rattle.vast_core.specs.Bench.{Bench}
 use Rattle.vast_core.specs.FileTree.{tree}
+use Rattle.xlsynth_vast.specs.Reductions.{HasMoreNodes}
+use Rattle.xlsynth_vast.specs.Registers.{HasUnused}
+use Rattle.xlsynth_vast.proofs.RegisterParts.{unused-none}
 use Rattle.vast_print.specs.Emits.{Emits}
-use Rattle.vast_print.specs.Layout.{IsFileText, layout}
+use Rattle.vast_print.specs.Layout.{layout}
 use Rattle.vast_script.specs.declared.answer.Answer.{Answer}
 use Rattle.vast_script.specs.declared.fault.StepFault.{StepFault}
 use Rattle.vast_script.specs.declared.fault.StepFault.TheVariants.{NoAnswer, WrongKind, Condition, Refused, Memory as OutOfMemory}
@@ -18,14 +21,24 @@ use Rattle.vast_list.specs.declared.line.Call.{Call}
 use Rattle.vast_list.specs.declared.line.Call.TheVariants.{Step as StepCall, Helper as HelperCall}
 use Rattle.vast_list.specs.declared.session.Session.{Session}
 use Rattle.vast_list.specs.Helpers.{Helps, IsKept}
+use Rattle.vast_list.specs.CallNames.{call_name}
 use Rattle.vast_list.specs.Session.{Calls, HasMade, IsLeft, IsMade, IsSame, IsTextOf, IsToldAs}
 
-kept_same : (old new : Bench) (fault : StepFault) → new ≡ old → IsKept old new fault
+pub nodes-unused : (old new : Bench) → HasMoreNodes old new → HasUnused old new
+nodes-unused old new h =
+    record { roots = h.more; assignments = []; containers = []; spare = old.spare; after = h.after ∙ rw (append-nil old.assignments, append-nil old.nests) refl }
+
+pub same-unused : (old new : Bench) → new ≡ old → HasUnused old new
+same-unused old new e = subst (λ (b : Bench). HasUnused old b) (sym e) (unused-none old)
+
+pub kept_same : (old new : Bench) (fault : StepFault) → new ≡ old → IsKept old new fault
 kept_same old new NoAnswer e = e
 kept_same old new WrongKind e = e
 kept_same old new Condition e = e
 kept_same old new (Refused r) e = e
-kept_same old new OutOfMemory e = ap tree e
+kept_same old new OutOfMemory e = (ap tree e, same-unused old new e)
+
+pub ruleset helping = (nodes-unused, kept_same)
 
 kept_helper : (old new : Bench) (answers : List Answer) (fault : StepFault) (helper : Helper) → Helps old new answers (Err fault) helper → IsKept old new fault
 kept_helper old new answers fault (AddRegisters clk reset registers scope) h = h
@@ -48,7 +61,17 @@ left_kept old new Condition (Line f) k a t = (k, a)
 left_kept old new Condition Memory k a t = (ap tree k, a)
 left_kept old new (Refused r) (Line f) k a t = (k, a)
 left_kept old new (Refused r) Memory k a t = (ap tree k, a)
-left_kept old new OutOfMemory told k a t = subst (λ (f : Fault). IsLeft old new f) (sym t) (k, a)
+left_kept old new OutOfMemory told k a t = subst (λ (f : Fault). IsLeft old new f) (sym t) (k.0, a)
+
+unused_kept : (old new : Bench) (fault : StepFault) → IsKept old new fault → HasUnused old new
+unused_kept old new NoAnswer k = same-unused old new k
+unused_kept old new WrongKind k = same-unused old new k
+unused_kept old new Condition k = same-unused old new k
+unused_kept old new (Refused r) k = same-unused old new k
+unused_kept old new OutOfMemory k = k.1
+
+pub unused_call : (old new : Bench) (answers : List Answer) (call : Call) (fault : StepFault) → Calls old new answers (Err fault) call → HasUnused old new
+unused_call old new answers call fault h = unused_kept old new fault (kept_call old new answers fault call h)
 
 pub left_call : (old new : Session) (call : Call) (fault : StepFault) (told : Fault) → Calls old.file new.file old.answers.items (Err fault) call → new.answers.items ≡ old.answers.items → IsToldAs fault told → IsLeft old new told
 left_call old new call fault told h a t = left_kept old new fault told (kept_call old.file new.file old.answers.items fault call h) a t
@@ -57,17 +80,14 @@ pub left_same : (old new : Session) (fault : Fault) → new.file ≡ old.file �
 left_same old new (Line f) e a = (e, a)
 left_same old new Memory e a = (ap tree e, a)
 
-pub ruleset faults = (left_call, left_same)
+pub ruleset faults = (left_call, left_same, unused_call, same-unused)
 
-pub has_made : (old new : Session) (call : Call) → IsMade old new call → HasMade old new
-has_made old new call h = (call, h)
+pub has_made : (old new : Session) (call : Call) (name : List ℕ) → IsMade old new call → call_name call ≡ name → HasMade old new name
+has_made old new call name h n = (call, n, h)
 
-pub ruleset lines = (left_same, has_made)
+pub ruleset lines = (left_same, has_made, same-unused)
 
 pub text_of : (file : FileTree) (text : String Global) (answer : Result (String Global) VastFault) → Emits (layout file) answer → answer ≡ Ok text → IsTextOf file (string_bytes text)
 text_of file text answer h e = let m = subst (λ (r : Result (String Global) VastFault). Emits (layout file) r) e h in (m.0, m.1)
 
-pub file_text : (file : FileTree) (text : List ℕ) → IsTextOf file text → IsFileText text
-file_text file text t = (file, t.0, t.1)
-
-pub ruleset emitted = (text_of, file_text)
+pub ruleset emitted = (text_of)

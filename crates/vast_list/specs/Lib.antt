@@ -1,5 +1,9 @@
+pub mod Lines
 pub mod Output
 pub mod Json
 pub mod Helpers
+pub mod CallNames
 pub mod Session
+pub mod Built
+pub mod JsonLine
 pub mod Origins

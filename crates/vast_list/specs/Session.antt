@@ -14,10 +14,15 @@ use Rattle.vast_list.specs.declared.fault.Fault.{Fault}
 use Rattle.vast_list.specs.declared.fault.Fault.TheVariants.{Line, Memory}
 use Rattle.vast_list.specs.declared.line.Call.{Call}
 use Rattle.vast_list.specs.declared.line.Call.TheVariants.{Step as StepCall, Helper as HelperCall}
+use Rattle.vast_list.specs.declared.line.Action.{Action}
+use Rattle.vast_list.specs.declared.line.Action.TheVariants.{Ask, Call as CallAction}
+use Rattle.vast_list.specs.declared.line.Line.{Line as ReadLine}
 use Rattle.vast_list.specs.declared.session.Given.{Given}
 use Rattle.vast_list.specs.declared.session.Given.TheVariants.{Nothing, Step, Helper, Answer as Answered}
 use Rattle.vast_list.specs.declared.session.Session.{Session}
+use Rattle.vast_list.specs.CallNames.{call_name}
 use Rattle.vast_list.specs.Helpers.{Helps}
+use Rattle.vast_list.specs.Lines.{LineKind, Passed, Asked, Helped, Stepped, call_word, line_kind, line_word, word_kind}
 
 -- What becomes of a call that is counted: of a step what becomes of it in a replay, of a helper what its equation says.
 abbrev pub Calls : (old new : Bench) → List Answer → Result Answer StepFault → Call → Type 0
@@ -33,8 +38,19 @@ IsToldAs _ told = ⊤
 abbrev pub IsMade : (old new : Session) → Call → Type 0
 IsMade old new call = (answer : Answer) × Calls old.file new.file old.answers.items (Ok answer) call × (new.answers.items ≡ old.answers.items ++ answer ∷ [])
 
-abbrev pub HasMade : (old new : Session) → Type 0
-HasMade old new = (call : Call) × IsMade old new call
+-- What a line is that is read as the call.
+abbrev pub call_kind : Call → LineKind
+call_kind (StepCall step) = Stepped
+call_kind (HelperCall helper) = Helped
+
+-- What a line does whose call has this name.
+abbrev pub IsActionOf : (name : List ℕ) → Action → Type 0
+IsActionOf name (Ask question) = word_kind name ≡ Asked
+IsActionOf name (CallAction call) = (word_kind name ≡ call_kind call) × (call_name call ≡ name)
+
+-- A call of this name was made.
+abbrev pub HasMade : (old new : Session) → (name : List ℕ) → Type 0
+HasMade old new name = (call : Call) × (call_name call ≡ name) × IsMade old new call
 
 abbrev pub IsSame : (old new : Session) → Type 0
 IsSame old new = (new.file ≡ old.file) × (new.answers.items ≡ old.answers.items)
@@ -52,9 +68,20 @@ Makes old new call (Err fault) = IsLeft old new fault
 -- A step or a helper is a call that was made; a question, a comment and a blank line change nothing.
 abbrev pub Gives : (old new : Session) → Given → Type 0
 Gives old new Nothing = IsSame old new
-Gives old new (Step number name) = HasMade old new
-Gives old new (Helper number name) = HasMade old new
+Gives old new (Step number name) = HasMade old new name.now
+Gives old new (Helper number name) = HasMade old new name.now
 Gives old new (Answered name value) = IsSame old new
+
+-- The text's call has the name that stands in it.
+abbrev pub IsRead : (text : List ℕ) → ReadLine → Type 0
+IsRead text line = (line.call.now ≡ call_word text) × IsActionOf line.call.now line.action
+
+-- The line is of the kind that gives this, under its call's name.
+abbrev pub IsGivenBy : (line : List ℕ) → Given → Type 0
+IsGivenBy line Nothing = line_kind line ≡ Passed
+IsGivenBy line (Step number name) = (line_kind line ≡ Stepped) × (name.now ≡ line_word line)
+IsGivenBy line (Helper number name) = (line_kind line ≡ Helped) × (name.now ≡ line_word line)
+IsGivenBy line (Answered name value) = (line_kind line ≡ Asked) × (name.now ≡ line_word line)
 
 abbrev pub Takes : (old new : Session) → Result Given Fault → Type 0
 Takes old new (Ok given) = Gives old new given

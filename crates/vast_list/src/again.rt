@@ -2,6 +2,9 @@
 //!
 //! With one request refused, such a run gives what it gives without a refusal: that is how want of memory is tried.
 
+ghost use Rattle.std.specs.Prelude.{OnOk, true};
+ghost use Rattle.vast_list.specs.Built.{TakesLine};
+
 use crate::fault::Fault;
 use crate::session::{Given, Session};
 use crate::tried;
@@ -55,22 +58,26 @@ impl<'a> Trial<'a> {
     }
 
     /// Takes the line; where memory was refused, once more.
+    #[tactic(auto, using(crate::proofs::Built::taking))]
     pub(crate) fn take<'l>(
         &mut self,
         session: &mut Session,
         number: usize,
         line: &'l [u8],
-    ) -> Result<Given<'l>, Fault> {
+    ) -> Result<Given<'l>, Fault>
+        ensures { OnOk result (TakesLine true session.old session.new line.now) }
+    {
         let before = self.sight(session)?;
         self.is_prefix = self.is_prefix || is_left(&self.stopped, &before.text);
         match session.line(number, line) {
+            Ok(given) => Ok(given),
+            Err(Fault::Line(fault)) => Err(Fault::Line(fault)),
             Err(Fault::Memory) => {
                 if self.sight(session)? != before {
                     self.is_changed = true;
                 }
                 session.line(number, line)
             }
-            taken => taken,
         }
     }
 

@@ -1,5 +1,9 @@
 //! A list in the answering.
 
+ghost use Rattle.std.specs.Prelude.{◌≡◌, IfOk, OnOk, is_some, false, true};
+ghost use Rattle.vast_list.specs.Built.{TakesLine};
+ghost use Rattle.vast_list.specs.Output.{Prints, TakesOn, is_again, is_made};
+
 use crate::again::Trial;
 use crate::fault::{Fault, LineFault};
 use crate::line::is_step;
@@ -34,7 +38,9 @@ pub(crate) struct Told {
 }
 
 impl Told {
-    pub(crate) fn new(alloc: Global) -> Told {
+    pub(crate) fn new(alloc: Global) -> Told
+        ensures { result.verdict ≡ Verdict.Made }
+    {
         Told {
             verdict: Verdict::Made,
             faults: Vec::new(alloc),
@@ -43,7 +49,9 @@ impl Told {
     }
 
     /// Keeps the fault, unless it follows from an earlier one.
-    pub(crate) fn keep(&mut self, tries: Tries, fault: LineFault) -> Result<(), AllocError> {
+    pub(crate) fn keep(&mut self, tries: Tries, fault: LineFault) -> Result<(), AllocError>
+        ensures { is_made self.new.verdict ≡ false }
+    {
         self.verdict = match (self.verdict, &fault.cause) {
             (Verdict::NotInForm, _) | (_, None) => Verdict::NotInForm,
             _ => Verdict::Refused,
@@ -62,7 +70,9 @@ impl Told {
 }
 
 impl Answering<'_> {
-    fn tries(&self) -> Tries {
+    fn tries(&self) -> Tries
+        ensures { is_again result ≡ is_some self.now.trial }
+    {
         match self.trial {
             None => Tries::Once,
             Some(_) => Tries::Again,
@@ -73,14 +83,13 @@ impl Answering<'_> {
     ///
     /// # Errors
     /// Want of memory.
-    pub(crate) fn take(&mut self, number: usize, line: &[u8]) -> Result<(), AllocError> {
+    pub(crate) fn take(&mut self, number: usize, line: &[u8]) -> Result<(), AllocError>
+        ensures { OnOk result (TakesOn self.old self.new line.now) }
+    {
         if self.is_stopped && self.report.is_some() && is_step(line) {
             return self.pass_over(number, line);
         }
-        let taken = match &mut self.trial {
-            None => self.session.line(number, line),
-            Some(trial) => trial.take(&mut self.session, number, line),
-        };
+        let taken = self.taken(number, line);
         self.print_change()?;
         match taken {
             Ok(given) => self.print(&given),
@@ -95,8 +104,26 @@ impl Answering<'_> {
         }
     }
 
+    /// Takes a line, and prints nothing.
+    #[tactic(auto, using(crate::proofs::Built::taking))]
+    fn taken<'l>(&mut self, number: usize, line: &'l [u8]) -> Result<Given<'l>, Fault>
+        ensures line { OnOk result
+            (TakesLine (is_some self.old.trial) self.old.session self.new.session line.now) }
+        ensures trial { is_some self.new.trial ≡ is_some self.old.trial }
+        ensures report { self.new.report ≡ self.old.report }
+        ensures told { self.new.told ≡ self.old.told }
+    {
+        match &mut self.trial {
+            None => self.session.line(number, line),
+            Some(trial) => trial.take(&mut self.session, number, line),
+        }
+    }
+
     /// Only reads a step behind one that was refused.
-    fn pass_over(&mut self, number: usize, line: &[u8]) -> Result<(), AllocError> {
+    fn pass_over(&mut self, number: usize, line: &[u8]) -> Result<(), AllocError>
+        ensures trial { OnOk result (is_some self.new.trial ≡ is_some self.old.trial) }
+        ensures report { OnOk result (is_some self.new.report ≡ is_some self.old.report) }
+    {
         let tries = self.tries();
         let checked = match self.session.check(number, line) {
             Err(Fault::Memory) if matches!(tries, Tries::Again) => self.session.check(number, line),
@@ -110,7 +137,9 @@ impl Answering<'_> {
         }
     }
 
-    fn print(&mut self, given: &Given<'_>) -> Result<(), AllocError> {
+    fn print(&mut self, given: &Given<'_>) -> Result<(), AllocError>
+        ensures { OnOk result (Prints self.old self.new) }
+    {
         match given {
             Given::Nothing | Given::Step { number: _, call: _ } => Ok(()),
             Given::Answer { call, value } => self.print_answer(call, value),
@@ -118,7 +147,9 @@ impl Answering<'_> {
         }
     }
 
-    fn print_answer(&mut self, call: &str, value: &Value) -> Result<(), AllocError> {
+    fn print_answer(&mut self, call: &str, value: &Value) -> Result<(), AllocError>
+        ensures { OnOk result (Prints self.old self.new) }
+    {
         if self.report.is_none() {
             return Ok(());
         }
@@ -128,7 +159,10 @@ impl Answering<'_> {
     }
 
     /// Behind a header the text of a helper's expression is printed.
-    fn print_helper(&mut self, number: usize, call: &str) -> Result<(), AllocError> {
+    #[tactic(auto, using(crate::proofs::Outputs::printing))]
+    fn print_helper(&mut self, number: usize, call: &str) -> Result<(), AllocError>
+        ensures { OnOk result (Prints self.old self.new) }
+    {
         if self.report.is_none() {
             return Ok(());
         }
@@ -151,7 +185,10 @@ impl Answering<'_> {
         }
     }
 
-    fn print_fault(&mut self, fault: &LineFault) -> Result<(), AllocError> {
+    #[tactic(auto, using(crate::proofs::Outputs::printing))]
+    fn print_fault(&mut self, fault: &LineFault) -> Result<(), AllocError>
+        ensures { OnOk result (Prints self.old self.new) }
+    {
         let Some(cause) = &fault.cause else {
             return Ok(());
         };
@@ -169,7 +206,10 @@ impl Answering<'_> {
         }
     }
 
-    fn print_change(&mut self) -> Result<(), AllocError> {
+    #[tactic(auto, using(crate::proofs::Outputs::printing))]
+    fn print_change(&mut self) -> Result<(), AllocError>
+        ensures { OnOk result (Prints self.old self.new) }
+    {
         let is_changed = match &mut self.trial {
             None => false,
             Some(trial) => trial.take_change(),
@@ -181,7 +221,10 @@ impl Answering<'_> {
     }
 
     /// Prints a line behind the header.
-    fn print_words(&mut self, first: &str, sign: &str, text: &str) -> Result<(), AllocError> {
+    #[tactic(auto, using(crate::proofs::Outputs::printing))]
+    fn print_words(&mut self, first: &str, sign: &str, text: &str) -> Result<(), AllocError>
+        ensures { OnOk result (Prints self.old self.new) }
+    {
         for words in [first, sign, text, "\n"] {
             self.print_text(words)?;
         }
@@ -189,7 +232,9 @@ impl Answering<'_> {
     }
 
     /// Prints a text behind the header.
-    pub(crate) fn print_text(&mut self, text: &str) -> Result<(), AllocError> {
+    pub(crate) fn print_text(&mut self, text: &str) -> Result<(), AllocError>
+        ensures { OnOk result (Prints self.old self.new) }
+    {
         let tries = self.tries();
         if let Some(report) = &mut self.report {
             tried!(tries, report.reserve(text.len()))?;

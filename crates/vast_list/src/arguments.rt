@@ -1,5 +1,7 @@
 //! The arguments of a line, from the first to the last.
 
+ghost use Rattle.std.specs.Prelude.{◌≡◌, IfOk};
+
 use crate::names::{Named, Names};
 use crate::problem::{Misfit, Problem};
 use crate::texts::unquoted;
@@ -179,7 +181,9 @@ impl<'a> Arguments<'a> {
     }
 
     /// What was made of no arguments.
-    pub(crate) fn none<R: Drop>(&self, made: R) -> Result<R, Misfit> {
+    pub(crate) fn none<R: Drop>(&self, made: R) -> Result<R, Misfit>
+        ensures { IfOk result (λ r. r ≡ made) }
+    {
         self.end()?;
         Ok(made)
     }
@@ -189,6 +193,7 @@ impl<'a> Arguments<'a> {
     where
         M: FnOnce(A) -> R + Drop,
         requires { M.IsAlwaysCallable make }
+        ensures { IfOk result (λ made. (first : A) × M.post make first made) }
     {
         let first = A::take(self)?;
         self.end()?;
@@ -203,6 +208,9 @@ impl<'a> Arguments<'a> {
     where
         M: FnOnce(A, B) -> R + Drop,
         requires { M.IsAlwaysCallable make }
+        ensures { IfOk result (λ made.
+            (first : A) × (second : B)
+            × M.post make first second made) }
     {
         let first = A::take(self)?;
         let second = B::take(self)?;
@@ -218,6 +226,9 @@ impl<'a> Arguments<'a> {
     where
         M: FnOnce(A, B, C) -> R + Drop,
         requires { M.IsAlwaysCallable make }
+        ensures { IfOk result (λ made.
+            (first : A) × (second : B) × (third : C)
+            × M.post make first second third made) }
     {
         let first = A::take(self)?;
         let second = B::take(self)?;
@@ -238,6 +249,9 @@ impl<'a> Arguments<'a> {
     where
         M: FnOnce(A, B, C, D) -> R + Drop,
         requires { M.IsAlwaysCallable make }
+        ensures { IfOk result (λ made.
+            (first : A) × (second : B) × (third : C) × (fourth : D)
+            × M.post make first second third fourth made) }
     {
         let first = A::take(self)?;
         let second = B::take(self)?;
@@ -260,6 +274,9 @@ impl<'a> Arguments<'a> {
     where
         M: FnOnce(A, B, C, D, E) -> R + Drop,
         requires { M.IsAlwaysCallable make }
+        ensures { IfOk result (λ made.
+            (first : A) × (second : B) × (third : C) × (fourth : D) × (fifth : E)
+            × M.post make first second third fourth fifth made) }
     {
         let first = A::take(self)?;
         let second = B::take(self)?;
@@ -284,6 +301,9 @@ impl<'a> Arguments<'a> {
     where
         M: FnOnce(A, B, C, D, E, F) -> R + Drop,
         requires { M.IsAlwaysCallable make }
+        ensures { IfOk result (λ made.
+            (first : A) × (second : B) × (third : C) × (fourth : D) × (fifth : E) × (sixth : F)
+            × M.post make first second third fourth fifth sixth made) }
     {
         let first = A::take(self)?;
         let second = B::take(self)?;

@@ -1,5 +1,8 @@
 //! Calls by their names.
 
+ghost use Rattle.std.specs.Prelude.{◌≡◌, IfOk};
+ghost use Rattle.vast_list.specs.CallNames.{step_name};
+
 mod artifacts;
 mod expressions;
 mod loops;
@@ -23,7 +26,9 @@ use vast_script::Step;
 ///
 /// # Errors
 /// Where no call has the name or the arguments are not those of the call, and want of memory.
-pub(crate) fn make_step(name: &str, arguments: &mut Arguments<'_>) -> Result<Step, Misfit> {
+pub(crate) fn make_step(name: &str, arguments: &mut Arguments<'_>) -> Result<Step, Misfit>
+    ensures { IfOk result (λ step. step_name step ≡ name.now) }
+{
     if let Some(made) = operator_step(name, arguments) {
         return Ok(Step::Operators(made?));
     }

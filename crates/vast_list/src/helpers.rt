@@ -1,8 +1,10 @@
 //! Helpers, which make expressions or registers on the file.
 
+ghost use Rattle.std.specs.Prelude.{◌≡◌, IfOk};
 ghost use Rattle.vast_script.specs.Arguments.{many, one};
 ghost use Rattle.vast_script.specs.Kinds.{an_expr, an_indexable};
 ghost use Rattle.vast_script.specs.Outcome.{WrapsRefusable};
+ghost use Rattle.vast_list.specs.CallNames.{helper_name};
 ghost use Rattle.vast_list.specs.Helpers.{Helps, Makes, all_hold, any_holds, elements_joined, joined};
 
 mod registers;
@@ -27,7 +29,9 @@ pub(crate) enum Helper {
 ///
 /// # Errors
 /// Where no helper has the name or the arguments are not those of the helper, and want of memory.
-pub(crate) fn make_helper(name: &str, arguments: &mut Arguments<'_>) -> Result<Helper, Misfit> {
+pub(crate) fn make_helper(name: &str, arguments: &mut Arguments<'_>) -> Result<Helper, Misfit>
+    ensures { IfOk result (λ helper. helper_name helper ≡ name.now) }
+{
     match name {
         "!AddRegisters" => arguments.four(Helper::AddRegisters),
         "!BitwiseOrReduce" => arguments.one(Helper::BitwiseOrReduce),
@@ -63,6 +67,7 @@ pub(crate) fn call_helper(
     }
 }
 
+#[tactic(auto, using(crate::proofs::Sessions::helping))]
 fn bitwise_or(
     file: &mut VastFile,
     answers: &[Answer],
@@ -75,6 +80,7 @@ fn bitwise_or(
     made(helpers::bitwise_or_reduce(&values, file))
 }
 
+#[tactic(auto, using(crate::proofs::Sessions::helping))]
 fn elements_or(
     file: &mut VastFile,
     answers: &[Answer],
@@ -88,6 +94,7 @@ fn elements_or(
     made(helpers::bitwise_or_reduce_array_elements(&value, dimensions, file))
 }
 
+#[tactic(auto, using(crate::proofs::Sessions::helping))]
 fn logical_and(
     file: &mut VastFile,
     answers: &[Answer],
@@ -101,6 +108,7 @@ fn logical_and(
     made(helpers::logical_and_reduce(&values, invert, file))
 }
 
+#[tactic(auto, using(crate::proofs::Sessions::helping))]
 fn logical_or(
     file: &mut VastFile,
     answers: &[Answer],

@@ -1,5 +1,12 @@
 //! What a list gives, as one line of JSON.
 
+ghost use Rattle.std.specs.Prelude.{◌≡◌, IfOk, IfSome, IsTrue, MatchOption, OnOk, codes, false, true, string_bytes};
+ghost use Rattle.vast_core.specs.FileTree.{tree};
+ghost use Rattle.vast_list.specs.JsonLine.{AnswersOn, AreAnswers, EndsWithSession, EndsWithText, IsListJson, maybe_json};
+ghost use Rattle.vast_list.specs.Lines.{line_texts};
+ghost use Rattle.vast_list.specs.Output.{is_made};
+ghost use Rattle.vast_list.specs.Session.{IsTextOf};
+
 use crate::answering::Told;
 use crate::fault::{Fault, LineFault};
 use crate::json::push_json_text;
@@ -30,11 +37,15 @@ struct Answers {
 ///
 /// # Errors
 /// Want of memory.
+#[tactic(auto, using(crate::proofs::JsonLines::endings))]
 pub fn list_json(
     alloc: Global,
     source: &str,
     list: &ListLines<'_>,
-) -> Result<(String, Verdict), AllocError> {
+) -> Result<(String, Verdict), AllocError>
+    ensures { IfOk result (λ made.
+        IsListJson made.1 (line_texts list.now.lines.items) (string_bytes made.0)) }
+{
     let mut text = String::from_str(alloc, "{\"source\":")?;
     push_json_text(&mut text, source)?;
     text.push_str(",\"title\":")?;
@@ -58,12 +69,15 @@ pub fn list_json(
 }
 
 /// The end of a list without a dialect.
-fn push_bad_dialect(alloc: Global, text: &mut String, fault: LineFault) -> Result<(), AllocError> {
+#[tactic(auto, using(crate::proofs::JsonLines::endings))]
+fn push_bad_dialect(alloc: Global, text: &mut String, fault: LineFault) -> Result<(), AllocError>
+    ensures { OnOk result (EndsWithText (codes "null") (string_bytes text.new)) }
+{
     let mut told = Told::new(alloc);
     told.keep(Tries::Once, fault)?;
     text.push_str(",\"verdict\":\"not in form\",\"answers\":[]")?;
     push_told(text, &told)?;
-    text.push_str(",\"text\":null}\n")
+    push_printed(text, None)
 }
 
 /// The list's answers, all of whose lines are taken.
@@ -71,7 +85,9 @@ fn answered(
     alloc: Global,
     dialect: VastFileType,
     lines: &[(usize, &[u8])],
-) -> Result<Answers, AllocError> {
+) -> Result<Answers, AllocError>
+    ensures { IfOk result (AreAnswers dialect (line_texts lines.now)) }
+{
     let mut answers = Answers {
         session: Session::new(alloc, dialect),
         given: String::new(alloc),
@@ -84,7 +100,10 @@ fn answered(
 }
 
 impl Answers {
-    fn take(&mut self, number: usize, line: &[u8]) -> Result<(), AllocError> {
+    #[tactic(auto, using(crate::proofs::Built::taking))]
+    fn take(&mut self, number: usize, line: &[u8]) -> Result<(), AllocError>
+        ensures { OnOk result (AnswersOn self.old self.new line.now) }
+    {
         match self.session.line(number, line) {
             Ok(given) => self.keep(number, &given),
             Err(Fault::Memory) => Err(AllocError),
@@ -95,7 +114,10 @@ impl Answers {
         }
     }
 
-    fn keep(&mut self, number: usize, given: &Given<'_>) -> Result<(), AllocError> {
+    fn keep(&mut self, number: usize, given: &Given<'_>) -> Result<(), AllocError>
+        ensures session { self.new.session ≡ self.old.session }
+        ensures told { self.new.told ≡ self.old.told }
+    {
         if let Given::Nothing | Given::Step { number: _, call: _ } = given {
             return Ok(());
         }
@@ -107,33 +129,62 @@ impl Answers {
 }
 
 /// Appends the end of the line, from the verdict on.
-fn push_answers(text: &mut String, answers: Answers) -> Result<Verdict, AllocError> {
+#[tactic(auto, using(crate::proofs::JsonLines::endings))]
+fn push_answers(text: &mut String, answers: Answers) -> Result<Verdict, AllocError>
+    ensures { IfOk result (λ verdict.
+        EndsWithSession verdict answers.session (string_bytes text.new)
+        × (IsTrue (is_made verdict) → IsTrue (is_made answers.told.verdict))) }
+{
     let Answers {
         session,
         given,
         mut told,
     } = answers;
-    let mut printed = None;
-    if let Verdict::Made = told.verdict {
-        match session.text() {
-            Ok(text) => printed = Some(text),
-            Err(Fault::Memory) => return Err(AllocError),
-            Err(Fault::Line(fault)) => told.keep(Tries::Once, fault)?,
-        }
-    }
+    let printed = printed(&session, &mut told)?;
     text.push_str(",\"verdict\":")?;
     push_json_text(text, verdict_word(told.verdict))?;
     text.push_str(",\"answers\":[")?;
     text.push_str(&given)?;
     text.push(']')?;
     push_told(text, &told)?;
+    push_printed(text, printed)?;
+    Ok(told.verdict)
+}
+
+/// The file's text; `None` where anything was at fault, as the text may be itself.
+#[tactic(auto, using(crate::proofs::Sessions::emitted))]
+fn printed(session: &Session, told: &mut Told) -> Result<Option<String>, AllocError>
+    ensures made { IfOk result (λ printed. IsTrue (is_made told.new.verdict) →
+        IsTrue (is_made told.old.verdict)) }
+    ensures text { IfOk result (λ printed. MatchOption printed (is_made told.new.verdict ≡ false)
+        (λ text. (is_made told.new.verdict ≡ true)
+        × IsTextOf (tree session.now.file) (string_bytes text))) }
+{
+    match told.verdict {
+        Verdict::Refused | Verdict::NotInForm => Ok(None),
+        Verdict::Made => match session.text() {
+            Ok(text) => Ok(Some(text)),
+            Err(Fault::Memory) => Err(AllocError),
+            Err(Fault::Line(fault)) => {
+                told.keep(Tries::Once, fault)?;
+                Ok(None)
+            }
+        },
+    }
+}
+
+/// Appends the text of the file, and the line's end.
+#[tactic(auto, using(crate::proofs::JsonLines::endings))]
+fn push_printed(text: &mut String, printed: Option<String>) -> Result<(), AllocError>
+    ensures { OnOk result
+        (EndsWithText (maybe_json printed) (string_bytes text.new)) }
+{
     text.push_str(",\"text\":")?;
     match &printed {
         None => text.push_str("null")?,
         Some(printed) => push_json_text(text, printed)?,
     }
-    text.push_str("}\n")?;
-    Ok(told.verdict)
+    text.push_str("}\n")
 }
 
 fn push_told(text: &mut String, told: &Told) -> Result<(), AllocError> {

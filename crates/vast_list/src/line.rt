@@ -1,5 +1,9 @@
 //! The lines of a list.
 
+ghost use Rattle.std.specs.Prelude.{◌≡◌, [], IfOk, IfSome, IfNone, IsTrue, MatchOption, drop, false, true};
+ghost use Rattle.vast_list.specs.Lines.{Passed, behind_word, call_word, dialect_word, first_word, is_equals_front, is_passed, line_kind, rest_text, without_return, word_kind};
+ghost use Rattle.vast_list.specs.Session.{IsActionOf, IsRead};
+
 use crate::arguments::{Arguments, Known};
 use crate::calls::make_step;
 use crate::fault::{Fault, misread};
@@ -46,7 +50,9 @@ pub(crate) struct Misread<'a> {
 }
 
 /// The line's text, without the `CR` of its end.
-pub(crate) fn text_of(line: &[u8]) -> Result<&str, Misfit> {
+pub(crate) fn text_of(line: &[u8]) -> Result<&str, Misfit>
+    ensures { IfOk result (λ text. text.now ≡ without_return line.now) }
+{
     let line = line.strip_suffix(b"\r").unwrap_or(line);
     match str::from_utf8(line) {
         Ok(text) => Ok(text),
@@ -58,13 +64,21 @@ pub(crate) fn text_of(line: &[u8]) -> Result<&str, Misfit> {
 }
 
 /// Whether the line is blank or a comment.
-pub(crate) fn is_empty(text: &str) -> bool {
-    let text = text.trim_start_matches([' ', '\t']);
-    text.is_empty() || text.starts_with('#')
+pub(crate) fn is_empty(text: &str) -> bool
+    ensures { result ≡ is_passed text.now }
+{
+    for byte in text.as_bytes() {
+        if *byte != b' ' && *byte != b'\t' {
+            return *byte == b'#';
+        }
+    }
+    true
 }
 
 /// The name of a line's answer, its call and what stands behind that.
-pub(crate) fn split_line(text: &str) -> (Option<&str>, &str, Option<&str>) {
+pub(crate) fn split_line(text: &str) -> (Option<&str>, &str, Option<&str>)
+    ensures { result.1.now ≡ call_word text.now }
+{
     let (word, rest) = split_word(text);
     match named_call(rest) {
         None => (None, word, rest),
@@ -79,7 +93,9 @@ pub(crate) fn split_line(text: &str) -> (Option<&str>, &str, Option<&str>) {
 ///
 /// # Errors
 /// Where the line is not in the form, and want of memory.
-pub(crate) fn read_line<'a>(known: Known<'_>, text: &'a str) -> Result<Line<'a>, Misread<'a>> {
+pub(crate) fn read_line<'a>(known: Known<'_>, text: &'a str) -> Result<Line<'a>, Misread<'a>>
+    ensures { IfOk result (λ line. IsRead text.now line) }
+{
     check_begin(text).map_err(|misfit| Misread { call: "", misfit })?;
     let (name, call, rest) = split_line(text);
     if let Some(name) = name {
@@ -118,7 +134,10 @@ fn check_begin(text: &str) -> Result<(), Misfit> {
 }
 
 /// The first word, and what stands behind the space after it.
-fn split_word(text: &str) -> (&str, Option<&str>) {
+fn split_word(text: &str) -> (&str, Option<&str>)
+    ensures word { result.0.now ≡ first_word text.now }
+    ensures behind { rest_text result.1 ≡ behind_word text.now }
+{
     match text.split_once(' ') {
         Some((word, rest)) => (word, Some(rest)),
         None => (text, None),
@@ -126,7 +145,11 @@ fn split_word(text: &str) -> (&str, Option<&str>) {
 }
 
 /// The call behind a name, where the name's `=` stands before it.
-fn named_call<'a>(rest: Option<&'a str>) -> Option<&'a str> {
+fn named_call<'a>(rest: Option<&'a str>) -> Option<&'a str>
+    ensures { MatchOption result (is_equals_front (rest_text rest.entry) ≡ false)
+        (λ call. (is_equals_front (rest_text rest.entry) ≡ true)
+        × (call.now ≡ drop 2 (rest_text rest.entry))) }
+{
     rest?.strip_prefix("= ")
 }
 
@@ -144,7 +167,9 @@ fn check_name(known: Known<'_>, text: &str, name: &str) -> Result<(), Misfit> {
     Ok(())
 }
 
-fn read_action(known: Known<'_>, call: &str, rest: Option<&str>) -> Result<Action, Misfit> {
+fn read_action(known: Known<'_>, call: &str, rest: Option<&str>) -> Result<Action, Misfit>
+    ensures { IfOk result (IsActionOf call.now) }
+{
     let mut arguments = Arguments::new(known, rest);
     if call.starts_with('?') {
         return Ok(Action::Ask(make_question(call, &mut arguments)?));
@@ -159,7 +184,9 @@ fn read_action(known: Known<'_>, call: &str, rest: Option<&str>) -> Result<Actio
 ///
 /// # Errors
 /// Where it names none, and want of memory.
-pub fn dialect_of(alloc: Global, number: usize, line: &[u8]) -> Result<VastFileType, Fault> {
+pub fn dialect_of(alloc: Global, number: usize, line: &[u8]) -> Result<VastFileType, Fault>
+    ensures { IfOk result (λ dialect. without_return line.now ≡ dialect_word dialect) }
+{
     let text = match text_of(line) {
         Ok(text) => text,
         Err(misfit) => return Err(misread(alloc, number, "", "", misfit)),
@@ -180,7 +207,9 @@ pub(crate) fn dialect_missing(alloc: Global, number: usize) -> Fault {
 }
 
 /// Whether the line is blank or a comment.
-pub(crate) fn is_empty_line(line: &[u8]) -> bool {
+pub(crate) fn is_empty_line(line: &[u8]) -> bool
+    ensures { IsTrue result → line_kind line.now ≡ Passed }
+{
     match text_of(line) {
         Ok(text) => is_empty(text),
         Err(_) => false,

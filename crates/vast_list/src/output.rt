@@ -1,9 +1,9 @@
 //! What is printed of a list.
 
-ghost use Rattle.std.specs.Prelude.{◌≡◌, IfOk, IfSome, None, string_bytes};
+ghost use Rattle.std.specs.Prelude.{◌≡◌, ◌≤◌, IfOk, IfSome, None, is_some, length, take, string_bytes, All};
 ghost use Rattle.vast_core.specs.FileTree.{tree};
-ghost use Rattle.vast_print.specs.Layout.{IsFileText};
-ghost use Rattle.vast_list.specs.Output.{header_line, BeginsWithHeader, IsOutput};
+ghost use Rattle.vast_list.specs.Lines.{BeginsWithDialect, Passed, line_kind, line_texts};
+ghost use Rattle.vast_list.specs.Output.{header_line, is_again, BeginsWithHeader, IsAnswered, IsDesign, IsFinished, IsOutput};
 ghost use Rattle.vast_list.specs.Session.{IsTextOf};
 
 use crate::again::Trial;
@@ -54,45 +54,36 @@ pub const MOST_FAULTS: usize = 20;
 ///
 /// # Errors
 /// Want of memory.
+#[tactic(auto, using(crate::proofs::Outputs::outputs))]
 pub fn list_output(
     alloc: Global,
     tries: Tries,
     list: &ListLines<'_>,
 ) -> Result<ListOutput, AllocError>
     ensures { IfOk result (λ made. IfSome made.output
-        (λ output. IsOutput list.now.title output.items)) }
+        (λ output. IsOutput tries list.now.title (line_texts list.now.lines.items) output.items)) }
 {
-    let (dialect, lines) = match tried!(tries, dialect_line(alloc, list), Fault::Memory) {
-        Ok(found) => found,
-        Err(Fault::Memory) => return Err(AllocError),
-        Err(Fault::Line(fault)) => return bad_dialect(alloc, tries, fault),
-    };
-    let report = list.title.map(|_| Vec::new(alloc));
-    let trial = match tries {
-        Tries::Once => None,
-        Tries::Again => Some(Trial::new(alloc, dialect, lines)?),
-    };
-    let mut answering = Answering {
-        session: Session::new(alloc, dialect),
-        trial,
-        report,
-        is_stopped: false,
-        told: Told::new(alloc),
-    };
-    for (number, line) in lines {
-        answering.take(*number, line)?;
+    match dialect_again(alloc, tries, list) {
+        Ok((dialect, lines)) => {
+            let answering = answered(alloc, tries, list.title, dialect, lines)?;
+            finished(alloc, tries, list.title, answering)
+        }
+        Err(Fault::Memory) => Err(AllocError),
+        Err(Fault::Line(fault)) => bad_dialect(alloc, tries, fault),
     }
-    finished(alloc, tries, list.title, answering)
 }
 
 /// How many of the first lines are blank or comments.
-fn empty_lines(lines: &[(usize, &[u8])]) -> usize {
+fn empty_lines(lines: &[(usize, &[u8])]) -> usize
+    ensures bound { result ≤ length lines.now }
+    ensures passed { All (λ line. line_kind line ≡ Passed) (line_texts (take result lines.now)) }
+{
     let mut count = 0usize;
     for (_, line) in lines {
         if !is_empty_line(line) {
             return count;
         }
-        count = count.saturating_add(1);
+        count += 1;
     }
     count
 }
@@ -101,14 +92,70 @@ fn empty_lines(lines: &[(usize, &[u8])]) -> usize {
 pub(crate) fn dialect_line<'l, 'a>(
     alloc: Global,
     list: &'l ListLines<'a>,
-) -> Result<(VastFileType, &'l [(usize, &'a [u8])]), Fault> {
-    if let Some(lines) = list.lines.get(empty_lines(&list.lines)..) {
-        if let Some(((number, line), rest)) = lines.split_first() {
+) -> Result<(VastFileType, &'l [(usize, &'a [u8])]), Fault>
+    ensures { IfOk result (λ found.
+        BeginsWithDialect (line_texts list.now.lines.items) found.0 (line_texts found.1.now)) }
+{
+    let lines = &list.lines[empty_lines(&list.lines)..];
+    match lines.split_first() {
+        Some(((number, line), behind)) => {
             let dialect = dialect_of(alloc, *number, line)?;
-            return Ok((dialect, rest));
+            Ok((dialect, behind))
         }
+        None => Err(dialect_missing(alloc, list.number)),
     }
-    Err(dialect_missing(alloc, list.number))
+}
+
+/// The same, once more where memory was refused and the tries allow it.
+fn dialect_again<'l, 'a>(
+    alloc: Global,
+    tries: Tries,
+    list: &'l ListLines<'a>,
+) -> Result<(VastFileType, &'l [(usize, &'a [u8])]), Fault>
+    ensures { IfOk result (λ found.
+        BeginsWithDialect (line_texts list.now.lines.items) found.0 (line_texts found.1.now)) }
+{
+    tried!(tries, dialect_line(alloc, list), Fault::Memory)
+}
+
+/// What the list's file is held against, where the tries want it.
+fn trial_of<'a>(
+    alloc: Global,
+    tries: Tries,
+    dialect: VastFileType,
+    lines: &[(usize, &'a [u8])],
+) -> Result<Option<Trial<'a>>, AllocError>
+    ensures { IfOk result (λ trial. is_some trial ≡ is_again tries) }
+{
+    match tries {
+        Tries::Once => Ok(None),
+        Tries::Again => Ok(Some(Trial::new(alloc, dialect, lines)?)),
+    }
+}
+
+/// Takes all lines.
+fn answered<'a>(
+    alloc: Global,
+    tries: Tries,
+    title: Option<&[u8]>,
+    dialect: VastFileType,
+    lines: &[(usize, &'a [u8])],
+) -> Result<Answering<'a>, AllocError>
+    ensures { IfOk result (λ answering.
+        IsAnswered tries title.entry dialect (line_texts lines.now) answering) }
+{
+    let trial = trial_of(alloc, tries, dialect, lines)?;
+    let mut answering = Answering {
+        session: Session::new(alloc, dialect),
+        trial,
+        report: title.map(|_| Vec::new(alloc)),
+        is_stopped: false,
+        told: Told::new(alloc),
+    };
+    for (number, line) in lines {
+        answering.take(*number, line)?;
+    }
+    Ok(answering)
 }
 
 /// A list without a dialect.
@@ -137,14 +184,15 @@ fn output_of(output: Option<Vec<u8>>, told: Told) -> ListOutput
 }
 
 /// What the list gives, all of whose lines were taken.
-#[tactic(auto, using(crate::proofs::Headers::titles))]
+#[tactic(auto, using(crate::proofs::Outputs::titles))]
 fn finished(
     alloc: Global,
     tries: Tries,
     title: Option<&[u8]>,
     answering: Answering<'_>,
 ) -> Result<ListOutput, AllocError>
-    ensures { IfOk result (λ made. IfSome made.output (λ output. IsOutput title.entry output.items)) }
+    ensures { IfOk result (λ made. IfSome made.output
+        (λ output. IsFinished title.entry answering.entry output.items)) }
 {
     if let Verdict::NotInForm = answering.told.verdict {
         return Ok(output_of(None, answering.told));
@@ -156,19 +204,23 @@ fn finished(
 }
 
 /// The file's text, where nothing was refused.
-#[tactic(auto, using(crate::proofs::Sessions::emitted))]
 fn design(tries: Tries, answering: Answering<'_>) -> Result<ListOutput, AllocError>
-    ensures { IfOk result (λ made. IfSome made.output (λ output. IsFileText output.items)) }
+    ensures { IfOk result (λ made. IfSome made.output
+        (λ output. IsDesign answering.entry output.items)) }
 {
-    let Answering {
-        session,
-        mut told,
-        ..
-    } = answering;
-    if let Verdict::Refused = told.verdict {
-        return Ok(output_of(None, told));
+    let Answering { session, told, .. } = answering;
+    match told.verdict {
+        Verdict::Made => printed(tries, &session, told),
+        Verdict::Refused | Verdict::NotInForm => Ok(output_of(None, told)),
     }
-    match text_again(tries, &session) {
+}
+
+/// The file's text, or its refusal.
+fn printed(tries: Tries, session: &Session, mut told: Told) -> Result<ListOutput, AllocError>
+    ensures { IfOk result (λ made. IfSome made.output
+        (λ output. IsTextOf (tree session.now.file) output.items)) }
+{
+    match text_again(tries, session) {
         Ok(text) => Ok(output_of(Some(text.into_bytes()), told)),
         Err(Fault::Memory) => Err(AllocError),
         Err(Fault::Line(fault)) => {
@@ -205,7 +257,7 @@ fn report(
 }
 
 /// The header and what stands behind it.
-#[tactic(auto, using(crate::proofs::Headers::headers))]
+#[tactic(auto, using(crate::proofs::Outputs::headers))]
 fn titled(alloc: Global, title: &[u8], body: &[u8]) -> Result<Vec<u8>, AllocError>
     ensures { IfOk result (λ output. BeginsWithHeader title.now output.items) }
 {

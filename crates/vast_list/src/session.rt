@@ -1,9 +1,11 @@
 //! A file with the answers so far, whose calls are lines.
 
-ghost use Rattle.std.specs.Prelude.{◌≡◌, [], IfOk, string_bytes};
+ghost use Rattle.std.specs.Prelude.{◌≡◌, [], IfErr, IfOk, string_bytes};
 ghost use Rattle.vast_core.specs.Bench.{start};
 ghost use Rattle.vast_core.specs.FileTree.{tree};
-ghost use Rattle.vast_list.specs.Session.{Calls, IsSame, IsTextOf, IsToldAs, Makes, Takes};
+ghost use Rattle.xlsynth_vast.specs.Registers.{HasUnused};
+ghost use Rattle.vast_list.specs.Lines.{without_return};
+ghost use Rattle.vast_list.specs.Session.{Calls, IsGivenBy, IsRead, IsSame, IsTextOf, IsToldAs, Makes, Takes};
 
 use crate::arguments::{Known, place_of};
 use crate::explain::{explained, uses_skipped};
@@ -105,7 +107,9 @@ impl Session {
     /// The line's fault. The file, the answers and the names are then as before, and the line is not counted.
     #[tactic(auto, using(crate::proofs::Sessions::lines))]
     pub fn line<'a>(&mut self, number: usize, line: &'a [u8]) -> Result<Given<'a>, Fault>
-        ensures { Takes self.old self.new result }
+        ensures takes { Takes self.old self.new result }
+        ensures given { IfOk result (IsGivenBy line.now) }
+        ensures unseen { IfErr result (λ fault. HasUnused self.old.file self.new.file) }
     {
         let text = self.text_of(number, line)?;
         if is_empty(text) {
@@ -234,14 +238,18 @@ impl Session {
         }
     }
 
-    fn text_of<'a>(&self, number: usize, line: &'a [u8]) -> Result<&'a str, Fault> {
+    fn text_of<'a>(&self, number: usize, line: &'a [u8]) -> Result<&'a str, Fault>
+        ensures { IfOk result (λ text. text.now ≡ without_return line.now) }
+    {
         match text_of(line) {
             Ok(text) => Ok(text),
             Err(misfit) => Err(misread(self.file.allocator(), number, "", "", misfit)),
         }
     }
 
-    fn read<'a>(&self, number: usize, text: &'a str) -> Result<Line<'a>, Fault> {
+    fn read<'a>(&self, number: usize, text: &'a str) -> Result<Line<'a>, Fault>
+        ensures { IfOk result (λ line. IsRead text.now line) }
+    {
         match read_line(self.known(), text) {
             Ok(line) => Ok(line),
             Err(read) => Err(misread(self.file.allocator(), number, text, read.call, read.misfit)),
@@ -258,7 +266,8 @@ impl Session {
         call: &str,
         made: &Call,
     ) -> Result<(), Fault>
-        ensures { Makes self.old self.new made.now result }
+        ensures made { Makes self.old self.new made.now result }
+        ensures unseen { IfErr result (λ fault. HasUnused self.old.file self.new.file) }
     {
         self.answers.reserve(1)?;
         self.lines.reserve(1)?;

@@ -1,5 +1,8 @@
 //! Calls of parts that are made beforehand, and that add them to modules, by their names.
 
+ghost use Rattle.std.specs.Prelude.{◌≡◌, IfOk, IfSome};
+ghost use Rattle.vast_list.specs.CallNames.{artifact_name};
+
 use crate::arguments::Arguments;
 use crate::problem::Misfit;
 use vast_script::ArtifactStep;
@@ -8,27 +11,29 @@ use vast_script::ArtifactStep;
 pub(crate) fn artifact_step(
     name: &str,
     arguments: &mut Arguments<'_>,
-) -> Option<Result<ArtifactStep, Misfit>> {
-    Some(match (name.len(), name) {
-        (7, "MakeDef") => arguments.three(ArtifactStep::MakeDef),
-        (13, "MakeBlankLine") => arguments.none(ArtifactStep::MakeBlankLine),
-        (11, "MakeComment") => arguments.one(ArtifactStep::MakeComment),
-        (26, "MakeInlineVerilogStatement") => arguments.one(
+) -> Option<Result<ArtifactStep, Misfit>>
+    ensures { IfSome result (λ made. IfOk made (λ step. artifact_name step ≡ name.now)) }
+{
+    match name {
+        "MakeDef" => Some(arguments.three(ArtifactStep::MakeDef)),
+        "MakeBlankLine" => Some(arguments.none(ArtifactStep::MakeBlankLine)),
+        "MakeComment" => Some(arguments.one(ArtifactStep::MakeComment)),
+        "MakeInlineVerilogStatement" => Some(arguments.one(
             ArtifactStep::MakeInlineVerilogStatement,
-        ),
-        (18, "MakeMacroStatement") => arguments.two(ArtifactStep::MakeMacroStatement),
-        (24, "MakeContinuousAssignment") => arguments.two(ArtifactStep::MakeContinuousAssignment),
-        (25, "MakeNonblockingAssignment") => arguments.two(ArtifactStep::MakeNonblockingAssignment),
-        (22, "MakeBlockingAssignment") => arguments.two(ArtifactStep::MakeBlockingAssignment),
-        (17, "MakeInstantiation") => arguments.six(ArtifactStep::MakeInstantiation),
-        (22, "AddMemberInstantiation") => arguments.two(ArtifactStep::AddMemberInstantiation),
-        (29, "AddMemberContinuousAssignment") => {
-            arguments.two(ArtifactStep::AddMemberContinuousAssignment)
-        }
-        (18, "AddMemberBlankLine") => arguments.two(ArtifactStep::AddMemberBlankLine),
-        (16, "AddMemberComment") => arguments.two(ArtifactStep::AddMemberComment),
-        (24, "AddMemberInlineStatement") => arguments.two(ArtifactStep::AddMemberInlineStatement),
-        (23, "AddMemberMacroStatement") => arguments.two(ArtifactStep::AddMemberMacroStatement),
-        _ => return None,
-    })
+        )),
+        "MakeMacroStatement" => Some(arguments.two(ArtifactStep::MakeMacroStatement)),
+        "MakeContinuousAssignment" => Some(arguments.two(ArtifactStep::MakeContinuousAssignment)),
+        "MakeNonblockingAssignment" => Some(arguments.two(ArtifactStep::MakeNonblockingAssignment)),
+        "MakeBlockingAssignment" => Some(arguments.two(ArtifactStep::MakeBlockingAssignment)),
+        "MakeInstantiation" => Some(arguments.six(ArtifactStep::MakeInstantiation)),
+        "AddMemberInstantiation" => Some(arguments.two(ArtifactStep::AddMemberInstantiation)),
+        "AddMemberContinuousAssignment" => Some(arguments.two(
+            ArtifactStep::AddMemberContinuousAssignment,
+        )),
+        "AddMemberBlankLine" => Some(arguments.two(ArtifactStep::AddMemberBlankLine)),
+        "AddMemberComment" => Some(arguments.two(ArtifactStep::AddMemberComment)),
+        "AddMemberInlineStatement" => Some(arguments.two(ArtifactStep::AddMemberInlineStatement)),
+        "AddMemberMacroStatement" => Some(arguments.two(ArtifactStep::AddMemberMacroStatement)),
+        _ => None,
+    }
 }

@@ -1,5 +1,8 @@
 //! Calls that make any other expression, by their names.
 
+ghost use Rattle.std.specs.Prelude.{◌≡◌, IfOk, IfSome};
+ghost use Rattle.vast_list.specs.CallNames.{expression_name};
+
 use crate::arguments::Arguments;
 use crate::problem::Misfit;
 use vast_script::ExpressionStep;
@@ -8,38 +11,40 @@ use vast_script::ExpressionStep;
 pub(crate) fn expression_step(
     name: &str,
     arguments: &mut Arguments<'_>,
-) -> Option<Result<ExpressionStep, Misfit>> {
-    Some(match (name.len(), name) {
-        (11, "MakeLiteral") => arguments.two(ExpressionStep::MakeLiteral),
-        (17, "MakeBinaryPattern") => arguments.one(ExpressionStep::MakeBinaryPattern),
-        (25, "MakeUnsizedDecimalLiteral") => arguments.one(
+) -> Option<Result<ExpressionStep, Misfit>>
+    ensures { IfSome result (λ made. IfOk made (λ step. expression_name step ≡ name.now)) }
+{
+    match name {
+        "MakeLiteral" => Some(arguments.two(ExpressionStep::MakeLiteral)),
+        "MakeBinaryPattern" => Some(arguments.one(ExpressionStep::MakeBinaryPattern)),
+        "MakeUnsizedDecimalLiteral" => Some(arguments.one(
             ExpressionStep::MakeUnsizedDecimalLiteral,
-        ),
-        (17, "MakeStringLiteral") => arguments.one(ExpressionStep::MakeStringLiteral),
-        (21, "MakeUnsizedOneLiteral") => arguments.none(ExpressionStep::MakeUnsizedOneLiteral),
-        (22, "MakeUnsizedZeroLiteral") => arguments.none(ExpressionStep::MakeUnsizedZeroLiteral),
-        (19, "MakeUnsizedXLiteral") => arguments.none(ExpressionStep::MakeUnsizedXLiteral),
-        (8, "MakeName") => arguments.one(ExpressionStep::MakeName),
-        (23, "MakeIndexableExpression") => arguments.one(ExpressionStep::MakeIndexableExpression),
-        (9, "MakeSlice") => arguments.three(ExpressionStep::MakeSlice),
-        (9, "MakeIndex") => arguments.two(ExpressionStep::MakeIndex),
-        (13, "MakeSliceExpr") => arguments.three(ExpressionStep::MakeSliceExpr),
-        (13, "MakeIndexExpr") => arguments.two(ExpressionStep::MakeIndexExpr),
-        (21, "MakeIndexedPartSelect") => arguments.three(ExpressionStep::MakeIndexedPartSelect),
-        (16, "MakeFunctionCall") => arguments.two(ExpressionStep::MakeFunctionCall),
-        (10, "MakeConcat") => arguments.one(ExpressionStep::MakeConcat),
-        (20, "MakeReplicatedConcat") => arguments.two(ExpressionStep::MakeReplicatedConcat),
-        (23, "MakeReplicatedConcatI64") => arguments.two(ExpressionStep::MakeReplicatedConcatI64),
-        (26, "MakeArrayAssignmentPattern") => arguments.one(
+        )),
+        "MakeStringLiteral" => Some(arguments.one(ExpressionStep::MakeStringLiteral)),
+        "MakeUnsizedOneLiteral" => Some(arguments.none(ExpressionStep::MakeUnsizedOneLiteral)),
+        "MakeUnsizedZeroLiteral" => Some(arguments.none(ExpressionStep::MakeUnsizedZeroLiteral)),
+        "MakeUnsizedXLiteral" => Some(arguments.none(ExpressionStep::MakeUnsizedXLiteral)),
+        "MakeName" => Some(arguments.one(ExpressionStep::MakeName)),
+        "MakeIndexableExpression" => Some(arguments.one(ExpressionStep::MakeIndexableExpression)),
+        "MakeSlice" => Some(arguments.three(ExpressionStep::MakeSlice)),
+        "MakeIndex" => Some(arguments.two(ExpressionStep::MakeIndex)),
+        "MakeSliceExpr" => Some(arguments.three(ExpressionStep::MakeSliceExpr)),
+        "MakeIndexExpr" => Some(arguments.two(ExpressionStep::MakeIndexExpr)),
+        "MakeIndexedPartSelect" => Some(arguments.three(ExpressionStep::MakeIndexedPartSelect)),
+        "MakeFunctionCall" => Some(arguments.two(ExpressionStep::MakeFunctionCall)),
+        "MakeConcat" => Some(arguments.one(ExpressionStep::MakeConcat)),
+        "MakeReplicatedConcat" => Some(arguments.two(ExpressionStep::MakeReplicatedConcat)),
+        "MakeReplicatedConcatI64" => Some(arguments.two(ExpressionStep::MakeReplicatedConcatI64)),
+        "MakeArrayAssignmentPattern" => Some(arguments.one(
             ExpressionStep::MakeArrayAssignmentPattern,
-        ),
-        (11, "MakeTernary") => arguments.three(ExpressionStep::MakeTernary),
-        (13, "MakeWidthCast") => arguments.two(ExpressionStep::MakeWidthCast),
-        (12, "MakeTypeCast") => arguments.two(ExpressionStep::MakeTypeCast),
-        (11, "MakePosEdge") => arguments.one(ExpressionStep::MakePosEdge),
-        (11, "MakeNegEdge") => arguments.one(ExpressionStep::MakeNegEdge),
-        (12, "MakeMacroRef") => arguments.one(ExpressionStep::MakeMacroRef),
-        (20, "MakeMacroRefWithArgs") => arguments.two(ExpressionStep::MakeMacroRefWithArgs),
-        _ => return None,
-    })
+        )),
+        "MakeTernary" => Some(arguments.three(ExpressionStep::MakeTernary)),
+        "MakeWidthCast" => Some(arguments.two(ExpressionStep::MakeWidthCast)),
+        "MakeTypeCast" => Some(arguments.two(ExpressionStep::MakeTypeCast)),
+        "MakePosEdge" => Some(arguments.one(ExpressionStep::MakePosEdge)),
+        "MakeNegEdge" => Some(arguments.one(ExpressionStep::MakeNegEdge)),
+        "MakeMacroRef" => Some(arguments.one(ExpressionStep::MakeMacroRef)),
+        "MakeMacroRefWithArgs" => Some(arguments.two(ExpressionStep::MakeMacroRefWithArgs)),
+        _ => None,
+    }
 }

@@ -1,5 +1,8 @@
 //! Calls of generate loops and their members, by their names.
 
+ghost use Rattle.std.specs.Prelude.{◌≡◌, IfOk, IfSome};
+ghost use Rattle.vast_list.specs.CallNames.{loop_name};
+
 use crate::arguments::Arguments;
 use crate::problem::Misfit;
 use vast_script::LoopStep;
@@ -8,25 +11,27 @@ use vast_script::LoopStep;
 pub(crate) fn generate_loop_step(
     name: &str,
     arguments: &mut Arguments<'_>,
-) -> Option<Result<LoopStep, Misfit>> {
-    Some(match (name.len(), name) {
-        (15, "AddGenerateLoop") => arguments.five(LoopStep::AddGenerateLoop),
-        (23, "GenerateAddGenerateLoop") => arguments.five(LoopStep::GenerateAddGenerateLoop),
-        (14, "GenerateGenvar") => arguments.one(LoopStep::GenerateGenvar),
-        (21, "GenerateAddAlwaysComb") => arguments.one(LoopStep::GenerateAddAlwaysComb),
-        (19, "GenerateAddAlwaysFf") => arguments.two(LoopStep::GenerateAddAlwaysFf),
-        (19, "GenerateAddAlwaysAt") => arguments.two(LoopStep::GenerateAddAlwaysAt),
-        (21, "GenerateAddLocalparam") => arguments.three(LoopStep::GenerateAddLocalparam),
-        (26, "GenerateAddTypedLocalparam") => arguments.three(LoopStep::GenerateAddTypedLocalparam),
-        (31, "GenerateAddContinuousAssignment") => {
-            arguments.three(LoopStep::GenerateAddContinuousAssignment)
-        }
-        (22, "GenerateAddConditional") => arguments.two(LoopStep::GenerateAddConditional),
-        (20, "GenerateAddBlankLine") => arguments.one(LoopStep::GenerateAddBlankLine),
-        (18, "GenerateAddComment") => arguments.two(LoopStep::GenerateAddComment),
-        (24, "GenerateAddInstantiation") => arguments.two(LoopStep::GenerateAddInstantiation),
-        (26, "GenerateAddInlineStatement") => arguments.two(LoopStep::GenerateAddInlineStatement),
-        (25, "GenerateAddMacroStatement") => arguments.two(LoopStep::GenerateAddMacroStatement),
-        _ => return None,
-    })
+) -> Option<Result<LoopStep, Misfit>>
+    ensures { IfSome result (λ made. IfOk made (λ step. loop_name step ≡ name.now)) }
+{
+    match name {
+        "AddGenerateLoop" => Some(arguments.five(LoopStep::AddGenerateLoop)),
+        "GenerateAddGenerateLoop" => Some(arguments.five(LoopStep::GenerateAddGenerateLoop)),
+        "GenerateGenvar" => Some(arguments.one(LoopStep::GenerateGenvar)),
+        "GenerateAddAlwaysComb" => Some(arguments.one(LoopStep::GenerateAddAlwaysComb)),
+        "GenerateAddAlwaysFf" => Some(arguments.two(LoopStep::GenerateAddAlwaysFf)),
+        "GenerateAddAlwaysAt" => Some(arguments.two(LoopStep::GenerateAddAlwaysAt)),
+        "GenerateAddLocalparam" => Some(arguments.three(LoopStep::GenerateAddLocalparam)),
+        "GenerateAddTypedLocalparam" => Some(arguments.three(LoopStep::GenerateAddTypedLocalparam)),
+        "GenerateAddContinuousAssignment" => Some(arguments.three(
+            LoopStep::GenerateAddContinuousAssignment,
+        )),
+        "GenerateAddConditional" => Some(arguments.two(LoopStep::GenerateAddConditional)),
+        "GenerateAddBlankLine" => Some(arguments.one(LoopStep::GenerateAddBlankLine)),
+        "GenerateAddComment" => Some(arguments.two(LoopStep::GenerateAddComment)),
+        "GenerateAddInstantiation" => Some(arguments.two(LoopStep::GenerateAddInstantiation)),
+        "GenerateAddInlineStatement" => Some(arguments.two(LoopStep::GenerateAddInlineStatement)),
+        "GenerateAddMacroStatement" => Some(arguments.two(LoopStep::GenerateAddMacroStatement)),
+        _ => None,
+    }
 }

@@ -1,5 +1,8 @@
 //! Calls of the file's items, and of modules with their ports, declarations and parameters, by their names.
 
+ghost use Rattle.std.specs.Prelude.{◌≡◌, IfOk, IfSome};
+ghost use Rattle.vast_list.specs.CallNames.{module_name};
+
 use crate::arguments::Arguments;
 use crate::from_arguments::Count;
 use crate::problem::Misfit;
@@ -9,30 +12,32 @@ use vast_script::ModuleStep;
 pub(crate) fn module_step(
     name: &str,
     arguments: &mut Arguments<'_>,
-) -> Option<Result<ModuleStep, Misfit>> {
-    Some(match (name.len(), name) {
-        (10, "AddInclude") => arguments.one(ModuleStep::AddInclude),
-        (12, "AddBlankLine") => arguments.one(ModuleStep::AddBlankLine),
-        (14, "AddCommentText") => arguments.one(ModuleStep::AddCommentText),
-        (9, "AddModule") => arguments.one(ModuleStep::AddModule),
-        (8, "AddInput") => arguments.three(ModuleStep::AddInput),
-        (9, "AddOutput") => arguments.three(ModuleStep::AddOutput),
-        (8, "AddInout") => arguments.three(ModuleStep::AddInout),
-        (13, "AddLogicInput") => arguments.three(ModuleStep::AddLogicInput),
-        (14, "AddLogicOutput") => arguments.three(ModuleStep::AddLogicOutput),
-        (7, "AddWire") => arguments.three(ModuleStep::AddWire),
-        (6, "AddReg") => arguments.three(ModuleStep::AddReg),
-        (8, "AddLogic") => arguments.three(ModuleStep::AddLogic),
-        (16, "AddParameterPort") => arguments.three(ModuleStep::AddParameterPort),
-        (21, "AddTypedParameterPort") => arguments.four(ModuleStep::AddTypedParameterPort),
-        (12, "AddParameter") => arguments.three(ModuleStep::AddParameter),
-        (19, "AddParameterWithDef") => arguments.three(ModuleStep::AddParameterWithDef),
-        (13, "AddLocalparam") => arguments.three(ModuleStep::AddLocalparam),
-        (16, "AddIntLocalparam") => arguments.three(ModuleStep::AddIntLocalparam),
-        (18, "AddTypedLocalparam") => arguments.three(ModuleStep::AddTypedLocalparam),
-        (23, "HoistModuleDeclarations") => arguments.two(|module, Count(start)| {
+) -> Option<Result<ModuleStep, Misfit>>
+    ensures { IfSome result (λ made. IfOk made (λ step. module_name step ≡ name.now)) }
+{
+    match name {
+        "AddInclude" => Some(arguments.one(ModuleStep::AddInclude)),
+        "AddBlankLine" => Some(arguments.one(ModuleStep::AddBlankLine)),
+        "AddCommentText" => Some(arguments.one(ModuleStep::AddCommentText)),
+        "AddModule" => Some(arguments.one(ModuleStep::AddModule)),
+        "AddInput" => Some(arguments.three(ModuleStep::AddInput)),
+        "AddOutput" => Some(arguments.three(ModuleStep::AddOutput)),
+        "AddInout" => Some(arguments.three(ModuleStep::AddInout)),
+        "AddLogicInput" => Some(arguments.three(ModuleStep::AddLogicInput)),
+        "AddLogicOutput" => Some(arguments.three(ModuleStep::AddLogicOutput)),
+        "AddWire" => Some(arguments.three(ModuleStep::AddWire)),
+        "AddReg" => Some(arguments.three(ModuleStep::AddReg)),
+        "AddLogic" => Some(arguments.three(ModuleStep::AddLogic)),
+        "AddParameterPort" => Some(arguments.three(ModuleStep::AddParameterPort)),
+        "AddTypedParameterPort" => Some(arguments.four(ModuleStep::AddTypedParameterPort)),
+        "AddParameter" => Some(arguments.three(ModuleStep::AddParameter)),
+        "AddParameterWithDef" => Some(arguments.three(ModuleStep::AddParameterWithDef)),
+        "AddLocalparam" => Some(arguments.three(ModuleStep::AddLocalparam)),
+        "AddIntLocalparam" => Some(arguments.three(ModuleStep::AddIntLocalparam)),
+        "AddTypedLocalparam" => Some(arguments.three(ModuleStep::AddTypedLocalparam)),
+        "HoistModuleDeclarations" => Some(arguments.two(|module, Count(start)| {
             ModuleStep::HoistModuleDeclarations(module, start)
-        }),
-        _ => return None,
-    })
+        })),
+        _ => None,
+    }
 }

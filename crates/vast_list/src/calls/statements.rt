@@ -1,5 +1,8 @@
 //! Calls of functions, always blocks, conditionals and statements, by their names.
 
+ghost use Rattle.std.specs.Prelude.{◌≡◌, IfOk, IfSome};
+ghost use Rattle.vast_list.specs.CallNames.{statement_name};
+
 use crate::arguments::Arguments;
 use crate::problem::Misfit;
 use vast_script::StatementStep;
@@ -8,42 +11,44 @@ use vast_script::StatementStep;
 pub(crate) fn statement_step(
     name: &str,
     arguments: &mut Arguments<'_>,
-) -> Option<Result<StatementStep, Misfit>> {
-    Some(match (name.len(), name) {
-        (11, "AddFunction") => arguments.three(StatementStep::AddFunction),
-        (16, "FunctionAddInput") => arguments.three(StatementStep::FunctionAddInput),
-        (21, "FunctionAddLogicInput") => arguments.three(StatementStep::FunctionAddLogicInput),
-        (14, "FunctionAddReg") => arguments.three(StatementStep::FunctionAddReg),
-        (16, "FunctionAddLogic") => arguments.three(StatementStep::FunctionAddLogic),
-        (12, "FunctionBody") => arguments.one(StatementStep::FunctionBody),
-        (14, "FunctionResult") => arguments.one(StatementStep::FunctionResult),
-        (11, "AddAlwaysFf") => arguments.two(StatementStep::AddAlwaysFf),
-        (11, "AddAlwaysAt") => arguments.two(StatementStep::AddAlwaysAt),
-        (13, "AddAlwaysComb") => arguments.one(StatementStep::AddAlwaysComb),
-        (14, "StatementBlock") => arguments.one(StatementStep::StatementBlock),
-        (26, "BlockAddBlockingAssignment") => arguments.three(
+) -> Option<Result<StatementStep, Misfit>>
+    ensures { IfSome result (λ made. IfOk made (λ step. statement_name step ≡ name.now)) }
+{
+    match name {
+        "AddFunction" => Some(arguments.three(StatementStep::AddFunction)),
+        "FunctionAddInput" => Some(arguments.three(StatementStep::FunctionAddInput)),
+        "FunctionAddLogicInput" => Some(arguments.three(StatementStep::FunctionAddLogicInput)),
+        "FunctionAddReg" => Some(arguments.three(StatementStep::FunctionAddReg)),
+        "FunctionAddLogic" => Some(arguments.three(StatementStep::FunctionAddLogic)),
+        "FunctionBody" => Some(arguments.one(StatementStep::FunctionBody)),
+        "FunctionResult" => Some(arguments.one(StatementStep::FunctionResult)),
+        "AddAlwaysFf" => Some(arguments.two(StatementStep::AddAlwaysFf)),
+        "AddAlwaysAt" => Some(arguments.two(StatementStep::AddAlwaysAt)),
+        "AddAlwaysComb" => Some(arguments.one(StatementStep::AddAlwaysComb)),
+        "StatementBlock" => Some(arguments.one(StatementStep::StatementBlock)),
+        "BlockAddBlockingAssignment" => Some(arguments.three(
             StatementStep::BlockAddBlockingAssignment,
-        ),
-        (29, "BlockAddNonblockingAssignment") => {
-            arguments.three(StatementStep::BlockAddNonblockingAssignment)
-        }
-        (28, "BlockAddContinuousAssignment") => {
-            arguments.three(StatementStep::BlockAddContinuousAssignment)
-        }
-        (19, "BlockAddCommentText") => arguments.two(StatementStep::BlockAddCommentText),
-        (18, "BlockAddInlineText") => arguments.two(StatementStep::BlockAddInlineText),
-        (17, "BlockAddBlankLine") => arguments.one(StatementStep::BlockAddBlankLine),
-        (14, "AddConditional") => arguments.two(StatementStep::AddConditional),
-        (12, "BlockAddCond") => arguments.two(StatementStep::BlockAddCond),
-        (20, "ConditionalThenBlock") => arguments.one(StatementStep::ConditionalThenBlock),
-        (20, "ConditionalAddElseIf") => arguments.two(StatementStep::ConditionalAddElseIf),
-        (18, "ConditionalAddElse") => arguments.one(StatementStep::ConditionalAddElse),
-        (12, "BlockAddCase") => arguments.two(StatementStep::BlockAddCase),
-        (13, "BlockAddCasez") => arguments.two(StatementStep::BlockAddCasez),
-        (13, "BlockAddCasex") => arguments.two(StatementStep::BlockAddCasex),
-        (11, "CaseAddItem") => arguments.two(StatementStep::CaseAddItem),
-        (14, "CaseAddDefault") => arguments.one(StatementStep::CaseAddDefault),
-        (13, "CaseSetUnique") => arguments.two(StatementStep::CaseSetUnique),
-        _ => return None,
-    })
+        )),
+        "BlockAddNonblockingAssignment" => Some(arguments.three(
+            StatementStep::BlockAddNonblockingAssignment,
+        )),
+        "BlockAddContinuousAssignment" => Some(arguments.three(
+            StatementStep::BlockAddContinuousAssignment,
+        )),
+        "BlockAddCommentText" => Some(arguments.two(StatementStep::BlockAddCommentText)),
+        "BlockAddInlineText" => Some(arguments.two(StatementStep::BlockAddInlineText)),
+        "BlockAddBlankLine" => Some(arguments.one(StatementStep::BlockAddBlankLine)),
+        "AddConditional" => Some(arguments.two(StatementStep::AddConditional)),
+        "BlockAddCond" => Some(arguments.two(StatementStep::BlockAddCond)),
+        "ConditionalThenBlock" => Some(arguments.one(StatementStep::ConditionalThenBlock)),
+        "ConditionalAddElseIf" => Some(arguments.two(StatementStep::ConditionalAddElseIf)),
+        "ConditionalAddElse" => Some(arguments.one(StatementStep::ConditionalAddElse)),
+        "BlockAddCase" => Some(arguments.two(StatementStep::BlockAddCase)),
+        "BlockAddCasez" => Some(arguments.two(StatementStep::BlockAddCasez)),
+        "BlockAddCasex" => Some(arguments.two(StatementStep::BlockAddCasex)),
+        "CaseAddItem" => Some(arguments.two(StatementStep::CaseAddItem)),
+        "CaseAddDefault" => Some(arguments.one(StatementStep::CaseAddDefault)),
+        "CaseSetUnique" => Some(arguments.two(StatementStep::CaseSetUnique)),
+        _ => None,
+    }
 }

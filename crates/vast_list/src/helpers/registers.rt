@@ -5,7 +5,7 @@ ghost use Rattle.vast_core.specs.Bench.{OwnsExpr};
 ghost use Rattle.xlsynth_vast.specs.Registers.{OwnsRegister, OwnsReset, OwnsScope};
 ghost use Rattle.vast_script.specs.declared.answer.Answer.TheVariants.{Nothing};
 ghost use Rattle.vast_script.specs.Outcome.{WrapsRefusable};
-ghost use Rattle.vast_list.specs.Helpers.{AddsAny};
+ghost use Rattle.vast_list.specs.Helpers.{AddsNamed, NamesIf, NamesRegister, NamesRegisters, NamesReset, NamesScope};
 
 use crate::arguments::{Arguments, FromArguments};
 use crate::problem::Misfit;
@@ -60,6 +60,7 @@ impl FromArguments for RegisterNumbers {
 ///
 /// # Errors
 /// Where a number is no such answer, and where the helper refuses.
+#[tactic(auto, using(crate::proofs::Sessions::helping))]
 pub(crate) fn add_registers(
     file: &mut VastFile,
     answers: &[Answer],
@@ -68,7 +69,7 @@ pub(crate) fn add_registers(
     registers: &[RegisterNumbers],
     scope: usize,
 ) -> Result<Answer, StepFault>
-    ensures { AddsAny file.old file.new result }
+    ensures { AddsNamed file.old file.new answers.now result clk reset.now registers.now scope }
 {
     let clk: Expr = one(file, answers, clk)?;
     let reset = reset_of(file, answers, *reset)?;
@@ -90,7 +91,8 @@ fn reset_of(
     answers: &[Answer],
     reset: Option<ResetNumbers>,
 ) -> Result<Option<Reset>, StepFault>
-    ensures { IfOk result (λ reset. IfSome reset (OwnsReset file.now)) }
+    ensures owned { IfOk result (λ made. IfSome made (OwnsReset file.now)) }
+    ensures named { IfOk result (NamesReset file.now answers.now reset) }
 {
     match reset {
         None => Ok(None),
@@ -107,7 +109,9 @@ fn definitions(
     answers: &[Answer],
     registers: &[RegisterNumbers],
 ) -> Result<Vec<RegisterDefinition>, StepFault>
-    ensures { IfOk result (λ made. All (OwnsRegister file.now) made.items) }
+    ensures owned { IfOk result (λ made. All (OwnsRegister file.now) made.items) }
+    ensures named { IfOk result
+        (λ made. NamesRegisters file.now answers.now registers.now made.items) }
 {
     let mut made = Vec::new(file.allocator());
     for register in registers {
@@ -122,7 +126,8 @@ fn definition(
     answers: &[Answer],
     register: RegisterNumbers,
 ) -> Result<RegisterDefinition, StepFault>
-    ensures { IfOk result (λ made. OwnsRegister file.now made) }
+    ensures owned { IfOk result (λ made. OwnsRegister file.now made) }
+    ensures named { IfOk result (NamesRegister file.now answers.now register) }
 {
     let reg: Expr = one(file, answers, register.reg)?;
     let next: Expr = one(file, answers, register.next)?;
@@ -141,7 +146,8 @@ fn handle_if(
     answers: &[Answer],
     number: Option<usize>,
 ) -> Result<Option<Expr>, StepFault>
-    ensures { IfOk result (λ made. IfSome made (OwnsExpr file.now)) }
+    ensures owned { IfOk result (λ made. IfSome made (OwnsExpr file.now)) }
+    ensures named { IfOk result (NamesIf file.now answers.now number) }
 {
     match number {
         None => Ok(None),
@@ -153,7 +159,8 @@ fn handle_if(
 }
 
 fn scope_of(file: &VastFile, answers: &[Answer], number: usize) -> Result<RegisterScope, StepFault>
-    ensures { IfOk result (λ scope. OwnsScope file.now scope) }
+    ensures owned { IfOk result (OwnsScope file.now) }
+    ensures named { IfOk result (NamesScope file.now answers.now number) }
 {
     match answers.get(number) {
         Some(Answer::GenerateLoop(_)) => {

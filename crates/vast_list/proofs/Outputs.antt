@@ -1,0 +1,107 @@
+-- What is printed of a list. What begins with a header goes on beginning with it.
+use Rattle.std.proofs.Common.{◌≡◌, ℕ, zero, suc, ◌+◌, ◌-◌, ◌<◌, arith, length, get_or, Bool, List, [], ◌∷◌, ◌++◌, take, drop, All, Option, Some, None, Result, Ok, Err, Bor, Vec, true, false, refl, sym, ap, subst, ◌∙◌}
+use Rattle.std.proofs.lemmas.List.{append-nil, append_assoc, map-append, take-append-drop, take_all, take_more, length-drop}
+use Rattle.std.proofs.lemmas.List.Elements.{All-push}
+use Rattle.std.specs.Prelude.{is_some, IsTrue, OnOk}
+use Rattle.std.specs.declared.alloc.AllocError.{AllocError}
+use Rattle.std.specs.declared.alloc.Global.{Global}
+use Rattle.vast_literal.specs.declared.kind.VastFileType.{VastFileType}
+use Rattle.vast_list.specs.declared.answering.Answering.{Answering}
+use Rattle.vast_list.specs.declared.answering.Told.{Told}
+use Rattle.vast_list.specs.declared.session.Session.{Session}
+use Rattle.vast_list.specs.declared.tries.Tries.{Tries}
+use Rattle.vast_list.specs.Built.{LinesBuild, TakesLine}
+use Rattle.vast_list.proofs.Built.{lines-more}
+use Rattle.vast_list.specs.Lines.{BeginsWithDialect, Passed, dialect_word, line_kind, line_texts, without_return}
+use Rattle.vast_list.specs.Output.{header_line, BeginsWithHeader, IsAnswered, IsDesign, IsFinished, IsOutput, Prints, TakesOn, is_again, is_made}
+
+pub header_begins : (title line : List ℕ) → line ≡ header_line title → BeginsWithHeader title line
+header_begins title line e = ([], e ∙ sym (append-nil (header_line title)))
+
+pub header_kept : (title old more new : List ℕ) → BeginsWithHeader title old → new ≡ old ++ more → BeginsWithHeader title new
+header_kept title old more new (rest, e) n = (rest ++ more, n ∙ ap (λ (o : List ℕ). o ++ more) e ∙ append_assoc (header_line title) rest more)
+
+pub ruleset headers = (header_begins, header_kept)
+
+-- The lines of a list that stand behind the first that is no comment.
+pub begins :
+    (lines first rest : List (ℕ × Bor (List ℕ))) (n : ℕ) (line : ℕ × Bor (List ℕ)) (behind : List (ℕ × Bor (List ℕ))) (dialect : VastFileType) → first ≡ lines → rest ≡ lines →
+    All (λ (l : List ℕ). line_kind l ≡ Passed) (line_texts (take n first)) → take (length rest - n) (drop n rest) ≡ line ∷ behind → without_return line.1.now ≡ dialect_word dialect →
+    BeginsWithDialect (line_texts lines) dialect (line_texts behind)
+begins lines first rest n line behind dialect f r passed left word =
+    let all : take (length lines - n) (drop n lines) ≡ drop n lines = take_all (length lines - n) (drop n lines) (omega (arith, length-drop n lines)) in
+    let begun : drop n lines ≡ line ∷ behind = sym all ∙ subst (λ (ls : List (ℕ × Bor (List ℕ))). take (length ls - n) (drop n ls) ≡ line ∷ behind) r left in
+    (
+      line_texts (take n lines),
+      line.1.now,
+      subst (λ (ls : List (ℕ × Bor (List ℕ))). All (λ (l : List ℕ). line_kind l ≡ Passed) (line_texts (take n ls))) f passed,
+      word,
+      ap line_texts (sym (take-append-drop n lines) ∙ ap (λ (rest : List (ℕ × Bor (List ℕ))). take n lines ++ rest) begun) ∙ map-append (λ (l : ℕ × Bor (List ℕ)). l.1.now) (take n lines) (line ∷ behind),
+    )
+
+pub without_title : (title : Option (Bor (List ℕ))) (answering : Answering) (output : List ℕ) → title ≡ None → IsDesign answering output → IsFinished title answering output
+without_title title answering output e t = subst (λ (t : Option (Bor (List ℕ))). IsFinished t answering output) (sym e) t
+
+pub with_title : (title : Option (Bor (List ℕ))) (words : Bor (List ℕ)) (answering : Answering) (output : List ℕ) → title ≡ Some words → BeginsWithHeader words.now output → IsFinished title answering output
+with_title title words answering output e b = subst (λ (t : Option (Bor (List ℕ))). IsFinished t answering output) (sym e) b
+
+pub ruleset titles = (without_title, with_title)
+
+pub is_output :
+    (tries : Tries) (title : Option (Bor (List ℕ))) (lines behind : List (List ℕ)) (dialect : VastFileType) (answering : Answering) (output : List ℕ) → BeginsWithDialect lines dialect behind →
+    IsAnswered tries title dialect behind answering → IsFinished title answering output → IsOutput tries title lines output
+is_output tries (Some title) lines behind dialect answering output begun answered finished = finished
+is_output tries None lines behind dialect answering output begun answered finished =
+    (dialect, behind, begun, answering.session.file, answering.session.answers.items, answered refl finished.0, finished.1)
+
+pub ruleset outputs = (is_output)
+
+-- The lines up to one more.
+pub texts-more : (lines : List (ℕ × Bor (List ℕ))) (i : ℕ) (line : ℕ × Bor (List ℕ)) → i < length lines → line ≡ get_or lines i line → line_texts (take (i + 1) lines) ≡ line_texts (take i lines) ++ line.1.now ∷ []
+texts-more lines i line l at = rw (take_more lines i line l, ← at) (map-append (λ (x : ℕ × Bor (List ℕ)). x.1.now) (take i lines) (line ∷ []))
+
+pub passed-more :
+    (lines : List (ℕ × Bor (List ℕ))) (i : ℕ) (line : ℕ × Bor (List ℕ)) → i < length lines → line ≡ get_or lines i line → All (λ (l : List ℕ). line_kind l ≡ Passed) (line_texts (take i lines)) →
+    line_kind line.1.now ≡ Passed → All (λ (l : List ℕ). line_kind l ≡ Passed) (line_texts (take (i + 1) lines))
+passed-more lines i line l at h k = rw (texts-more lines i line l at) (All-push (λ (l : List ℕ). line_kind l ≡ Passed) (line_texts (take i lines)) line.1.now h k)
+
+pub lines-next :
+    (again : Bool) (dialect : VastFileType) (lines : List (ℕ × Bor (List ℕ))) (i : ℕ) (line : ℕ × Bor (List ℕ)) (old new : Session) → i < length lines → line ≡ get_or lines i line →
+    LinesBuild again dialect (line_texts (take i lines)) old.file old.answers.items → TakesLine again old new line.1.now → LinesBuild again dialect (line_texts (take (i + 1) lines)) new.file new.answers.items
+lines-next again dialect lines i line old new l at h takes = rw (texts-more lines i line l at) (lines-more again dialect (line_texts (take i lines)) line.1.now old new h takes)
+
+-- Of a list without a title that is not at fault, one line more is taken.
+pub answered-next :
+    (tries : Tries) (title : Option (Bor (List ℕ))) (dialect : VastFileType) (lines : List (ℕ × Bor (List ℕ))) (i : ℕ) (line : ℕ × Bor (List ℕ)) (old new : Answering) → i < length lines →
+    line ≡ get_or lines i line → is_some old.trial ≡ is_again tries → is_some old.report ≡ is_some title → IsAnswered tries title dialect (line_texts (take i lines)) old → TakesOn old new line.1.now →
+    IsAnswered tries title dialect (line_texts (take (i + 1) lines)) new
+answered-next tries title dialect lines i line old new l at trial report built on untitled made =
+    let silent : is_some old.report ≡ false = report ∙ untitled in
+    let takes = subst (λ (again : Bool). TakesLine again old.session new.session line.1.now) trial (on.taken silent made) in
+    lines-next (is_again tries) dialect lines i line old.session new.session l at (built untitled (on.verdict silent made)) takes
+
+-- A line is taken, and what it gives is printed.
+pub takes-on :
+    (old taken changed new : Answering) (line : List ℕ) (r : Result (Unit {0}) AllocError) → TakesLine (is_some old.trial) old.session taken.session line → is_some taken.trial ≡ is_some old.trial →
+    taken.report ≡ old.report → taken.told ≡ old.told → Prints taken changed → OnOk r (Prints changed new) → OnOk r (TakesOn old new line)
+takes-on old taken changed new line (Err fault) takes trial report told p q = tt
+takes-on old taken changed new line (Ok done) takes trial report told p q =
+    let same : new.session ≡ taken.session = q.session ∙ p.session in
+    record {
+      trial = q.trial ∙ p.trial ∙ trial;
+      report = q.report ∙ p.report ∙ ap (λ (x : Option (Vec ℕ Global)). is_some x) report;
+      verdict = λ _ made. subst (λ (t : Told). IsTrue (is_made t.verdict)) told (p.verdict (q.verdict made));
+      taken = λ _ made. subst (λ (s : Session). TakesLine (is_some old.trial) old.session s line) (sym same) takes;
+    }
+
+-- A list that is at fault owes nothing.
+pub at-fault :
+    (old new : Answering) (line : List ℕ) (r : Result (Unit {0}) AllocError) → is_some new.trial ≡ is_some old.trial → is_some new.report ≡ is_some old.report → is_made new.told.verdict ≡ false →
+    OnOk r (TakesOn old new line)
+at-fault old new line (Err error) trial report fault = tt
+at-fault old new line (Ok done) trial report fault = record { trial = trial; report = report; verdict = λ _ made. absurd (cc (sym fault ∙ made)); taken = λ _ made. absurd (cc (sym fault ∙ made)) }
+
+pub next-printed : (old now new : Answering) → Prints old now → Prints now new → Prints old new
+next-printed old now new p q = record { session = q.session ∙ p.session; trial = q.trial ∙ p.trial; report = q.report ∙ p.report; verdict = λ made. p.verdict (q.verdict made) }
+
+pub ruleset printing = (next-printed)
