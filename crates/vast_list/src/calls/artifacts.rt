@@ -14,26 +14,34 @@ pub(crate) fn artifact_step(
 ) -> Option<Result<ArtifactStep, Misfit>>
     ensures { IfSome result (λ made. IfOk made (λ step. artifact_name step ≡ name.now)) }
 {
-    match name {
-        "MakeDef" => Some(arguments.three(ArtifactStep::MakeDef)),
-        "MakeBlankLine" => Some(arguments.none(ArtifactStep::MakeBlankLine)),
-        "MakeComment" => Some(arguments.one(ArtifactStep::MakeComment)),
-        "MakeInlineVerilogStatement" => Some(arguments.one(
+    match (name.len(), name) {
+        (7, "MakeDef") => Some(arguments.three(ArtifactStep::MakeDef)),
+        (13, "MakeBlankLine") => Some(arguments.none(ArtifactStep::MakeBlankLine)),
+        (11, "MakeComment") => Some(arguments.one(ArtifactStep::MakeComment)),
+        (26, "MakeInlineVerilogStatement") => Some(arguments.one(
             ArtifactStep::MakeInlineVerilogStatement,
         )),
-        "MakeMacroStatement" => Some(arguments.two(ArtifactStep::MakeMacroStatement)),
-        "MakeContinuousAssignment" => Some(arguments.two(ArtifactStep::MakeContinuousAssignment)),
-        "MakeNonblockingAssignment" => Some(arguments.two(ArtifactStep::MakeNonblockingAssignment)),
-        "MakeBlockingAssignment" => Some(arguments.two(ArtifactStep::MakeBlockingAssignment)),
-        "MakeInstantiation" => Some(arguments.six(ArtifactStep::MakeInstantiation)),
-        "AddMemberInstantiation" => Some(arguments.two(ArtifactStep::AddMemberInstantiation)),
-        "AddMemberContinuousAssignment" => Some(arguments.two(
+        (18, "MakeMacroStatement") => Some(arguments.two(ArtifactStep::MakeMacroStatement)),
+        (24, "MakeContinuousAssignment") => Some(arguments.two(
+            ArtifactStep::MakeContinuousAssignment,
+        )),
+        (25, "MakeNonblockingAssignment") => Some(arguments.two(
+            ArtifactStep::MakeNonblockingAssignment,
+        )),
+        (22, "MakeBlockingAssignment") => Some(arguments.two(ArtifactStep::MakeBlockingAssignment)),
+        (17, "MakeInstantiation") => Some(arguments.six(ArtifactStep::MakeInstantiation)),
+        (22, "AddMemberInstantiation") => Some(arguments.two(ArtifactStep::AddMemberInstantiation)),
+        (29, "AddMemberContinuousAssignment") => Some(arguments.two(
             ArtifactStep::AddMemberContinuousAssignment,
         )),
-        "AddMemberBlankLine" => Some(arguments.two(ArtifactStep::AddMemberBlankLine)),
-        "AddMemberComment" => Some(arguments.two(ArtifactStep::AddMemberComment)),
-        "AddMemberInlineStatement" => Some(arguments.two(ArtifactStep::AddMemberInlineStatement)),
-        "AddMemberMacroStatement" => Some(arguments.two(ArtifactStep::AddMemberMacroStatement)),
+        (18, "AddMemberBlankLine") => Some(arguments.two(ArtifactStep::AddMemberBlankLine)),
+        (16, "AddMemberComment") => Some(arguments.two(ArtifactStep::AddMemberComment)),
+        (24, "AddMemberInlineStatement") => Some(arguments.two(
+            ArtifactStep::AddMemberInlineStatement,
+        )),
+        (23, "AddMemberMacroStatement") => Some(arguments.two(
+            ArtifactStep::AddMemberMacroStatement,
+        )),
         _ => None,
     }
 }

@@ -14,37 +14,47 @@ pub(crate) fn expression_step(
 ) -> Option<Result<ExpressionStep, Misfit>>
     ensures { IfSome result (λ made. IfOk made (λ step. expression_name step ≡ name.now)) }
 {
-    match name {
-        "MakeLiteral" => Some(arguments.two(ExpressionStep::MakeLiteral)),
-        "MakeBinaryPattern" => Some(arguments.one(ExpressionStep::MakeBinaryPattern)),
-        "MakeUnsizedDecimalLiteral" => Some(arguments.one(
+    match (name.len(), name) {
+        (11, "MakeLiteral") => Some(arguments.two(ExpressionStep::MakeLiteral)),
+        (17, "MakeBinaryPattern") => Some(arguments.one(ExpressionStep::MakeBinaryPattern)),
+        (25, "MakeUnsizedDecimalLiteral") => Some(arguments.one(
             ExpressionStep::MakeUnsizedDecimalLiteral,
         )),
-        "MakeStringLiteral" => Some(arguments.one(ExpressionStep::MakeStringLiteral)),
-        "MakeUnsizedOneLiteral" => Some(arguments.none(ExpressionStep::MakeUnsizedOneLiteral)),
-        "MakeUnsizedZeroLiteral" => Some(arguments.none(ExpressionStep::MakeUnsizedZeroLiteral)),
-        "MakeUnsizedXLiteral" => Some(arguments.none(ExpressionStep::MakeUnsizedXLiteral)),
-        "MakeName" => Some(arguments.one(ExpressionStep::MakeName)),
-        "MakeIndexableExpression" => Some(arguments.one(ExpressionStep::MakeIndexableExpression)),
-        "MakeSlice" => Some(arguments.three(ExpressionStep::MakeSlice)),
-        "MakeIndex" => Some(arguments.two(ExpressionStep::MakeIndex)),
-        "MakeSliceExpr" => Some(arguments.three(ExpressionStep::MakeSliceExpr)),
-        "MakeIndexExpr" => Some(arguments.two(ExpressionStep::MakeIndexExpr)),
-        "MakeIndexedPartSelect" => Some(arguments.three(ExpressionStep::MakeIndexedPartSelect)),
-        "MakeFunctionCall" => Some(arguments.two(ExpressionStep::MakeFunctionCall)),
-        "MakeConcat" => Some(arguments.one(ExpressionStep::MakeConcat)),
-        "MakeReplicatedConcat" => Some(arguments.two(ExpressionStep::MakeReplicatedConcat)),
-        "MakeReplicatedConcatI64" => Some(arguments.two(ExpressionStep::MakeReplicatedConcatI64)),
-        "MakeArrayAssignmentPattern" => Some(arguments.one(
+        (17, "MakeStringLiteral") => Some(arguments.one(ExpressionStep::MakeStringLiteral)),
+        (21, "MakeUnsizedOneLiteral") => Some(arguments.none(
+            ExpressionStep::MakeUnsizedOneLiteral,
+        )),
+        (22, "MakeUnsizedZeroLiteral") => Some(arguments.none(
+            ExpressionStep::MakeUnsizedZeroLiteral,
+        )),
+        (19, "MakeUnsizedXLiteral") => Some(arguments.none(ExpressionStep::MakeUnsizedXLiteral)),
+        (8, "MakeName") => Some(arguments.one(ExpressionStep::MakeName)),
+        (23, "MakeIndexableExpression") => Some(arguments.one(
+            ExpressionStep::MakeIndexableExpression,
+        )),
+        (9, "MakeSlice") => Some(arguments.three(ExpressionStep::MakeSlice)),
+        (9, "MakeIndex") => Some(arguments.two(ExpressionStep::MakeIndex)),
+        (13, "MakeSliceExpr") => Some(arguments.three(ExpressionStep::MakeSliceExpr)),
+        (13, "MakeIndexExpr") => Some(arguments.two(ExpressionStep::MakeIndexExpr)),
+        (21, "MakeIndexedPartSelect") => Some(arguments.three(
+            ExpressionStep::MakeIndexedPartSelect,
+        )),
+        (16, "MakeFunctionCall") => Some(arguments.two(ExpressionStep::MakeFunctionCall)),
+        (10, "MakeConcat") => Some(arguments.one(ExpressionStep::MakeConcat)),
+        (20, "MakeReplicatedConcat") => Some(arguments.two(ExpressionStep::MakeReplicatedConcat)),
+        (23, "MakeReplicatedConcatI64") => Some(arguments.two(
+            ExpressionStep::MakeReplicatedConcatI64,
+        )),
+        (26, "MakeArrayAssignmentPattern") => Some(arguments.one(
             ExpressionStep::MakeArrayAssignmentPattern,
         )),
-        "MakeTernary" => Some(arguments.three(ExpressionStep::MakeTernary)),
-        "MakeWidthCast" => Some(arguments.two(ExpressionStep::MakeWidthCast)),
-        "MakeTypeCast" => Some(arguments.two(ExpressionStep::MakeTypeCast)),
-        "MakePosEdge" => Some(arguments.one(ExpressionStep::MakePosEdge)),
-        "MakeNegEdge" => Some(arguments.one(ExpressionStep::MakeNegEdge)),
-        "MakeMacroRef" => Some(arguments.one(ExpressionStep::MakeMacroRef)),
-        "MakeMacroRefWithArgs" => Some(arguments.two(ExpressionStep::MakeMacroRefWithArgs)),
+        (11, "MakeTernary") => Some(arguments.three(ExpressionStep::MakeTernary)),
+        (13, "MakeWidthCast") => Some(arguments.two(ExpressionStep::MakeWidthCast)),
+        (12, "MakeTypeCast") => Some(arguments.two(ExpressionStep::MakeTypeCast)),
+        (11, "MakePosEdge") => Some(arguments.one(ExpressionStep::MakePosEdge)),
+        (11, "MakeNegEdge") => Some(arguments.one(ExpressionStep::MakeNegEdge)),
+        (12, "MakeMacroRef") => Some(arguments.one(ExpressionStep::MakeMacroRef)),
+        (20, "MakeMacroRefWithArgs") => Some(arguments.two(ExpressionStep::MakeMacroRefWithArgs)),
         _ => None,
     }
 }

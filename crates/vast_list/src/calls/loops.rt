@@ -14,24 +14,30 @@ pub(crate) fn generate_loop_step(
 ) -> Option<Result<LoopStep, Misfit>>
     ensures { IfSome result (λ made. IfOk made (λ step. loop_name step ≡ name.now)) }
 {
-    match name {
-        "AddGenerateLoop" => Some(arguments.five(LoopStep::AddGenerateLoop)),
-        "GenerateAddGenerateLoop" => Some(arguments.five(LoopStep::GenerateAddGenerateLoop)),
-        "GenerateGenvar" => Some(arguments.one(LoopStep::GenerateGenvar)),
-        "GenerateAddAlwaysComb" => Some(arguments.one(LoopStep::GenerateAddAlwaysComb)),
-        "GenerateAddAlwaysFf" => Some(arguments.two(LoopStep::GenerateAddAlwaysFf)),
-        "GenerateAddAlwaysAt" => Some(arguments.two(LoopStep::GenerateAddAlwaysAt)),
-        "GenerateAddLocalparam" => Some(arguments.three(LoopStep::GenerateAddLocalparam)),
-        "GenerateAddTypedLocalparam" => Some(arguments.three(LoopStep::GenerateAddTypedLocalparam)),
-        "GenerateAddContinuousAssignment" => Some(arguments.three(
+    match (name.len(), name) {
+        (15, "AddGenerateLoop") => Some(arguments.five(LoopStep::AddGenerateLoop)),
+        (23, "GenerateAddGenerateLoop") => Some(arguments.five(LoopStep::GenerateAddGenerateLoop)),
+        (14, "GenerateGenvar") => Some(arguments.one(LoopStep::GenerateGenvar)),
+        (21, "GenerateAddAlwaysComb") => Some(arguments.one(LoopStep::GenerateAddAlwaysComb)),
+        (19, "GenerateAddAlwaysFf") => Some(arguments.two(LoopStep::GenerateAddAlwaysFf)),
+        (19, "GenerateAddAlwaysAt") => Some(arguments.two(LoopStep::GenerateAddAlwaysAt)),
+        (21, "GenerateAddLocalparam") => Some(arguments.three(LoopStep::GenerateAddLocalparam)),
+        (26, "GenerateAddTypedLocalparam") => Some(arguments.three(
+            LoopStep::GenerateAddTypedLocalparam,
+        )),
+        (31, "GenerateAddContinuousAssignment") => Some(arguments.three(
             LoopStep::GenerateAddContinuousAssignment,
         )),
-        "GenerateAddConditional" => Some(arguments.two(LoopStep::GenerateAddConditional)),
-        "GenerateAddBlankLine" => Some(arguments.one(LoopStep::GenerateAddBlankLine)),
-        "GenerateAddComment" => Some(arguments.two(LoopStep::GenerateAddComment)),
-        "GenerateAddInstantiation" => Some(arguments.two(LoopStep::GenerateAddInstantiation)),
-        "GenerateAddInlineStatement" => Some(arguments.two(LoopStep::GenerateAddInlineStatement)),
-        "GenerateAddMacroStatement" => Some(arguments.two(LoopStep::GenerateAddMacroStatement)),
+        (22, "GenerateAddConditional") => Some(arguments.two(LoopStep::GenerateAddConditional)),
+        (20, "GenerateAddBlankLine") => Some(arguments.one(LoopStep::GenerateAddBlankLine)),
+        (18, "GenerateAddComment") => Some(arguments.two(LoopStep::GenerateAddComment)),
+        (24, "GenerateAddInstantiation") => Some(arguments.two(LoopStep::GenerateAddInstantiation)),
+        (26, "GenerateAddInlineStatement") => Some(arguments.two(
+            LoopStep::GenerateAddInlineStatement,
+        )),
+        (25, "GenerateAddMacroStatement") => Some(arguments.two(
+            LoopStep::GenerateAddMacroStatement,
+        )),
         _ => None,
     }
 }

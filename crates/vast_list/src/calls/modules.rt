@@ -15,27 +15,27 @@ pub(crate) fn module_step(
 ) -> Option<Result<ModuleStep, Misfit>>
     ensures { IfSome result (λ made. IfOk made (λ step. module_name step ≡ name.now)) }
 {
-    match name {
-        "AddInclude" => Some(arguments.one(ModuleStep::AddInclude)),
-        "AddBlankLine" => Some(arguments.one(ModuleStep::AddBlankLine)),
-        "AddCommentText" => Some(arguments.one(ModuleStep::AddCommentText)),
-        "AddModule" => Some(arguments.one(ModuleStep::AddModule)),
-        "AddInput" => Some(arguments.three(ModuleStep::AddInput)),
-        "AddOutput" => Some(arguments.three(ModuleStep::AddOutput)),
-        "AddInout" => Some(arguments.three(ModuleStep::AddInout)),
-        "AddLogicInput" => Some(arguments.three(ModuleStep::AddLogicInput)),
-        "AddLogicOutput" => Some(arguments.three(ModuleStep::AddLogicOutput)),
-        "AddWire" => Some(arguments.three(ModuleStep::AddWire)),
-        "AddReg" => Some(arguments.three(ModuleStep::AddReg)),
-        "AddLogic" => Some(arguments.three(ModuleStep::AddLogic)),
-        "AddParameterPort" => Some(arguments.three(ModuleStep::AddParameterPort)),
-        "AddTypedParameterPort" => Some(arguments.four(ModuleStep::AddTypedParameterPort)),
-        "AddParameter" => Some(arguments.three(ModuleStep::AddParameter)),
-        "AddParameterWithDef" => Some(arguments.three(ModuleStep::AddParameterWithDef)),
-        "AddLocalparam" => Some(arguments.three(ModuleStep::AddLocalparam)),
-        "AddIntLocalparam" => Some(arguments.three(ModuleStep::AddIntLocalparam)),
-        "AddTypedLocalparam" => Some(arguments.three(ModuleStep::AddTypedLocalparam)),
-        "HoistModuleDeclarations" => Some(arguments.two(|module, Count(start)| {
+    match (name.len(), name) {
+        (10, "AddInclude") => Some(arguments.one(ModuleStep::AddInclude)),
+        (12, "AddBlankLine") => Some(arguments.one(ModuleStep::AddBlankLine)),
+        (14, "AddCommentText") => Some(arguments.one(ModuleStep::AddCommentText)),
+        (9, "AddModule") => Some(arguments.one(ModuleStep::AddModule)),
+        (8, "AddInput") => Some(arguments.three(ModuleStep::AddInput)),
+        (9, "AddOutput") => Some(arguments.three(ModuleStep::AddOutput)),
+        (8, "AddInout") => Some(arguments.three(ModuleStep::AddInout)),
+        (13, "AddLogicInput") => Some(arguments.three(ModuleStep::AddLogicInput)),
+        (14, "AddLogicOutput") => Some(arguments.three(ModuleStep::AddLogicOutput)),
+        (7, "AddWire") => Some(arguments.three(ModuleStep::AddWire)),
+        (6, "AddReg") => Some(arguments.three(ModuleStep::AddReg)),
+        (8, "AddLogic") => Some(arguments.three(ModuleStep::AddLogic)),
+        (16, "AddParameterPort") => Some(arguments.three(ModuleStep::AddParameterPort)),
+        (21, "AddTypedParameterPort") => Some(arguments.four(ModuleStep::AddTypedParameterPort)),
+        (12, "AddParameter") => Some(arguments.three(ModuleStep::AddParameter)),
+        (19, "AddParameterWithDef") => Some(arguments.three(ModuleStep::AddParameterWithDef)),
+        (13, "AddLocalparam") => Some(arguments.three(ModuleStep::AddLocalparam)),
+        (16, "AddIntLocalparam") => Some(arguments.three(ModuleStep::AddIntLocalparam)),
+        (18, "AddTypedLocalparam") => Some(arguments.three(ModuleStep::AddTypedLocalparam)),
+        (23, "HoistModuleDeclarations") => Some(arguments.two(|module, Count(start)| {
             ModuleStep::HoistModuleDeclarations(module, start)
         })),
         _ => None,

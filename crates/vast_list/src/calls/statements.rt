@@ -14,41 +14,43 @@ pub(crate) fn statement_step(
 ) -> Option<Result<StatementStep, Misfit>>
     ensures { IfSome result (λ made. IfOk made (λ step. statement_name step ≡ name.now)) }
 {
-    match name {
-        "AddFunction" => Some(arguments.three(StatementStep::AddFunction)),
-        "FunctionAddInput" => Some(arguments.three(StatementStep::FunctionAddInput)),
-        "FunctionAddLogicInput" => Some(arguments.three(StatementStep::FunctionAddLogicInput)),
-        "FunctionAddReg" => Some(arguments.three(StatementStep::FunctionAddReg)),
-        "FunctionAddLogic" => Some(arguments.three(StatementStep::FunctionAddLogic)),
-        "FunctionBody" => Some(arguments.one(StatementStep::FunctionBody)),
-        "FunctionResult" => Some(arguments.one(StatementStep::FunctionResult)),
-        "AddAlwaysFf" => Some(arguments.two(StatementStep::AddAlwaysFf)),
-        "AddAlwaysAt" => Some(arguments.two(StatementStep::AddAlwaysAt)),
-        "AddAlwaysComb" => Some(arguments.one(StatementStep::AddAlwaysComb)),
-        "StatementBlock" => Some(arguments.one(StatementStep::StatementBlock)),
-        "BlockAddBlockingAssignment" => Some(arguments.three(
+    match (name.len(), name) {
+        (11, "AddFunction") => Some(arguments.three(StatementStep::AddFunction)),
+        (16, "FunctionAddInput") => Some(arguments.three(StatementStep::FunctionAddInput)),
+        (21, "FunctionAddLogicInput") => Some(arguments.three(
+            StatementStep::FunctionAddLogicInput,
+        )),
+        (14, "FunctionAddReg") => Some(arguments.three(StatementStep::FunctionAddReg)),
+        (16, "FunctionAddLogic") => Some(arguments.three(StatementStep::FunctionAddLogic)),
+        (12, "FunctionBody") => Some(arguments.one(StatementStep::FunctionBody)),
+        (14, "FunctionResult") => Some(arguments.one(StatementStep::FunctionResult)),
+        (11, "AddAlwaysFf") => Some(arguments.two(StatementStep::AddAlwaysFf)),
+        (11, "AddAlwaysAt") => Some(arguments.two(StatementStep::AddAlwaysAt)),
+        (13, "AddAlwaysComb") => Some(arguments.one(StatementStep::AddAlwaysComb)),
+        (14, "StatementBlock") => Some(arguments.one(StatementStep::StatementBlock)),
+        (26, "BlockAddBlockingAssignment") => Some(arguments.three(
             StatementStep::BlockAddBlockingAssignment,
         )),
-        "BlockAddNonblockingAssignment" => Some(arguments.three(
+        (29, "BlockAddNonblockingAssignment") => Some(arguments.three(
             StatementStep::BlockAddNonblockingAssignment,
         )),
-        "BlockAddContinuousAssignment" => Some(arguments.three(
+        (28, "BlockAddContinuousAssignment") => Some(arguments.three(
             StatementStep::BlockAddContinuousAssignment,
         )),
-        "BlockAddCommentText" => Some(arguments.two(StatementStep::BlockAddCommentText)),
-        "BlockAddInlineText" => Some(arguments.two(StatementStep::BlockAddInlineText)),
-        "BlockAddBlankLine" => Some(arguments.one(StatementStep::BlockAddBlankLine)),
-        "AddConditional" => Some(arguments.two(StatementStep::AddConditional)),
-        "BlockAddCond" => Some(arguments.two(StatementStep::BlockAddCond)),
-        "ConditionalThenBlock" => Some(arguments.one(StatementStep::ConditionalThenBlock)),
-        "ConditionalAddElseIf" => Some(arguments.two(StatementStep::ConditionalAddElseIf)),
-        "ConditionalAddElse" => Some(arguments.one(StatementStep::ConditionalAddElse)),
-        "BlockAddCase" => Some(arguments.two(StatementStep::BlockAddCase)),
-        "BlockAddCasez" => Some(arguments.two(StatementStep::BlockAddCasez)),
-        "BlockAddCasex" => Some(arguments.two(StatementStep::BlockAddCasex)),
-        "CaseAddItem" => Some(arguments.two(StatementStep::CaseAddItem)),
-        "CaseAddDefault" => Some(arguments.one(StatementStep::CaseAddDefault)),
-        "CaseSetUnique" => Some(arguments.two(StatementStep::CaseSetUnique)),
+        (19, "BlockAddCommentText") => Some(arguments.two(StatementStep::BlockAddCommentText)),
+        (18, "BlockAddInlineText") => Some(arguments.two(StatementStep::BlockAddInlineText)),
+        (17, "BlockAddBlankLine") => Some(arguments.one(StatementStep::BlockAddBlankLine)),
+        (14, "AddConditional") => Some(arguments.two(StatementStep::AddConditional)),
+        (12, "BlockAddCond") => Some(arguments.two(StatementStep::BlockAddCond)),
+        (20, "ConditionalThenBlock") => Some(arguments.one(StatementStep::ConditionalThenBlock)),
+        (20, "ConditionalAddElseIf") => Some(arguments.two(StatementStep::ConditionalAddElseIf)),
+        (18, "ConditionalAddElse") => Some(arguments.one(StatementStep::ConditionalAddElse)),
+        (12, "BlockAddCase") => Some(arguments.two(StatementStep::BlockAddCase)),
+        (13, "BlockAddCasez") => Some(arguments.two(StatementStep::BlockAddCasez)),
+        (13, "BlockAddCasex") => Some(arguments.two(StatementStep::BlockAddCasex)),
+        (11, "CaseAddItem") => Some(arguments.two(StatementStep::CaseAddItem)),
+        (14, "CaseAddDefault") => Some(arguments.one(StatementStep::CaseAddDefault)),
+        (13, "CaseSetUnique") => Some(arguments.two(StatementStep::CaseSetUnique)),
         _ => None,
     }
 }

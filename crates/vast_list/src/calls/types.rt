@@ -14,16 +14,16 @@ pub(crate) fn data_type_step(
 ) -> Option<Result<TypeStep, Misfit>>
     ensures { IfSome result (λ made. IfOk made (λ step. type_name step ≡ name.now)) }
 {
-    Some(match name {
-        "MakeScalarType" => arguments.none(TypeStep::MakeScalarType),
-        "MakeIntegerType" => arguments.one(TypeStep::MakeIntegerType),
-        "MakeIntType" => arguments.one(TypeStep::MakeIntType),
-        "MakeExternType" => arguments.one(TypeStep::MakeExternType),
-        "MakeExternPackageType" => arguments.two(TypeStep::MakeExternPackageType),
-        "MakeBitVectorType" => arguments.two(TypeStep::MakeBitVectorType),
-        "MakeBitVectorTypeExpr" => arguments.two(TypeStep::MakeBitVectorTypeExpr),
-        "MakePackedArrayType" => arguments.two(TypeStep::MakePackedArrayType),
-        "MakeUnpackedArrayType" => arguments.two(TypeStep::MakeUnpackedArrayType),
+    Some(match (name.len(), name) {
+        (14, "MakeScalarType") => arguments.none(TypeStep::MakeScalarType),
+        (15, "MakeIntegerType") => arguments.one(TypeStep::MakeIntegerType),
+        (11, "MakeIntType") => arguments.one(TypeStep::MakeIntType),
+        (14, "MakeExternType") => arguments.one(TypeStep::MakeExternType),
+        (21, "MakeExternPackageType") => arguments.two(TypeStep::MakeExternPackageType),
+        (17, "MakeBitVectorType") => arguments.two(TypeStep::MakeBitVectorType),
+        (21, "MakeBitVectorTypeExpr") => arguments.two(TypeStep::MakeBitVectorTypeExpr),
+        (19, "MakePackedArrayType") => arguments.two(TypeStep::MakePackedArrayType),
+        (21, "MakeUnpackedArrayType") => arguments.two(TypeStep::MakeUnpackedArrayType),
         _ => return None,
     })
 }
