@@ -30,8 +30,7 @@ pub begins :
     BeginsWithDialect (line_texts lines) dialect (line_texts behind)
 begins lines first rest n line behind dialect f r passed left word =
     let all : take (length lines - n) (drop n lines) ≡ drop n lines = take_all (length lines - n) (drop n lines) (omega (arith, length-drop n lines)) in
-    let begun : drop n lines ≡ line ∷ behind = sym all ∙ subst (λ (ls : List (ℕ × Bor (List ℕ))). take (length ls - n) (drop n ls) ≡ line ∷ behind) r left in
-    (
+    let begun : drop n lines ≡ line ∷ behind = sym all ∙ subst (λ (ls : List (ℕ × Bor (List ℕ))). take (length ls - n) (drop n ls) ≡ line ∷ behind) r left in (
       line_texts (take n lines),
       line.1.now,
       subst (λ (ls : List (ℕ × Bor (List ℕ))). All (λ (l : List ℕ). line_kind l ≡ Passed) (line_texts (take n ls))) f passed,

@@ -22,5 +22,5 @@ answers-on old new session line (Ok done) takes same told = record {
 pub returns-in-Ok : goal.returns-in-Ok
 returns-in-Ok c =
     let takes : TakesLine false c.args.self.now.session c.line.new.self c.args.line.now =
-        takes_once false c.args.self.now.session c.line.new.self c.args.line.now (Ok c.in-Ok.given) c.in-Ok.ensures.takes c.in-Ok.ensures.given in
+    takes_once false c.args.self.now.session c.line.new.self c.args.line.now (Ok c.in-Ok.given) c.in-Ok.ensures.takes c.in-Ok.ensures.given in
     answers-on c.args.self.now c.keep.new.self c.line.new.self c.args.line.now c.keep.result takes c.keep.ensures.session c.keep.ensures.told
