@@ -1,19 +1,16 @@
 -- What is printed of a list. What begins with a header goes on beginning with it.
-use Rattle.std.proofs.Common.{◌≡◌, ℕ, zero, suc, ◌+◌, ◌-◌, ◌<◌, arith, length, get_or, Bool, List, [], ◌∷◌, ◌++◌, take, drop, All, Option, Some, None, Result, Ok, Err, Bor, Vec, true, false, refl, sym, ap, subst, ◌∙◌}
+use Rattle.std.proofs.Common.{◌≡◌, ℕ, ◌+◌, ◌-◌, ◌<◌, arith, length, get_or, Bool, List, [], ◌∷◌, ◌++◌, take, drop, All, Option, Some, None, Bor, false, refl, sym, ap, subst, ◌∙◌}
 use Rattle.std.proofs.lemmas.List.{append-nil, append_assoc, map-append, take-append-drop, take_all, take_more, length-drop}
 use Rattle.std.proofs.lemmas.List.Elements.{All-push}
-use Rattle.std.specs.Prelude.{is_some, IsTrue, OnOk}
-use Rattle.std.specs.declared.alloc.AllocError.{AllocError}
-use Rattle.std.specs.declared.alloc.Global.{Global}
+use Rattle.std.specs.Prelude.{is_some}
 use Rattle.vast_literal.specs.declared.kind.VastFileType.{VastFileType}
 use Rattle.vast_list.specs.declared.answering.Answering.{Answering}
-use Rattle.vast_list.specs.declared.answering.Told.{Told}
 use Rattle.vast_list.specs.declared.session.Session.{Session}
 use Rattle.vast_list.specs.declared.tries.Tries.{Tries}
 use Rattle.vast_list.specs.Built.{LinesBuild, TakesLine}
 use Rattle.vast_list.proofs.Built.{lines-more}
 use Rattle.vast_list.specs.Lines.{BeginsWithDialect, Passed, dialect_word, line_kind, line_texts, without_return}
-use Rattle.vast_list.specs.Output.{header_line, BeginsWithHeader, IsAnswered, IsDesign, IsFinished, IsOutput, Prints, TakesOn, is_again, is_made}
+use Rattle.vast_list.specs.Output.{header_line, BeginsWithHeader, IsAnswered, IsDesign, IsFinished, IsOutput, Prints, TakesOn, is_again}
 
 pub header_begins : (title line : List ℕ) → line ≡ header_line title → BeginsWithHeader title line
 header_begins title line e = ([], e ∙ sym (append-nil (header_line title)))
@@ -78,27 +75,6 @@ answered-next tries title dialect lines i line old new l at trial report built o
     let silent : is_some old.report ≡ false = report ∙ untitled in
     let takes = subst (λ (again : Bool). TakesLine again old.session new.session line.1.now) trial (on.taken silent made) in
     lines-next (is_again tries) dialect lines i line old.session new.session l at (built untitled (on.verdict silent made)) takes
-
--- A line is taken, and what it gives is printed.
-pub takes-on :
-    (old taken changed new : Answering) (line : List ℕ) (r : Result (Unit {0}) AllocError) → TakesLine (is_some old.trial) old.session taken.session line → is_some taken.trial ≡ is_some old.trial →
-    taken.report ≡ old.report → taken.told ≡ old.told → Prints taken changed → OnOk r (Prints changed new) → OnOk r (TakesOn old new line)
-takes-on old taken changed new line (Err fault) takes trial report told p q = tt
-takes-on old taken changed new line (Ok done) takes trial report told p q =
-    let same : new.session ≡ taken.session = q.session ∙ p.session in
-    record {
-      trial = q.trial ∙ p.trial ∙ trial;
-      report = q.report ∙ p.report ∙ ap (λ (x : Option (Vec ℕ Global)). is_some x) report;
-      verdict = λ _ made. subst (λ (t : Told). IsTrue (is_made t.verdict)) told (p.verdict (q.verdict made));
-      taken = λ _ made. subst (λ (s : Session). TakesLine (is_some old.trial) old.session s line) (sym same) takes;
-    }
-
--- A list that is at fault owes nothing.
-pub at-fault :
-    (old new : Answering) (line : List ℕ) (r : Result (Unit {0}) AllocError) → is_some new.trial ≡ is_some old.trial → is_some new.report ≡ is_some old.report → is_made new.told.verdict ≡ false →
-    OnOk r (TakesOn old new line)
-at-fault old new line (Err error) trial report fault = tt
-at-fault old new line (Ok done) trial report fault = record { trial = trial; report = report; verdict = λ _ made. absurd (cc (sym fault ∙ made)); taken = λ _ made. absurd (cc (sym fault ∙ made)) }
 
 pub next-printed : (old now new : Answering) → Prints old now → Prints now new → Prints old new
 next-printed old now new p q = record { session = q.session ∙ p.session; trial = q.trial ∙ p.trial; report = q.report ∙ p.report; verdict = λ made. p.verdict (q.verdict made) }
