@@ -30,13 +30,7 @@ pub(crate) fn place_of(bytes: &[u8], at: usize) -> Place
 fn breaks(bytes: &[u8]) -> usize
     ensures { result ≡ count_by is_break bytes.now }
 {
-    let mut count = 0;
-    for index in 0..bytes.len() {
-        if bytes[index] == b'\n' {
-            count += 1;
-        }
-    }
-    count
+    bytes.iter().filter(|byte| **byte == b'\n').count()
 }
 
 /// What stands behind the last line break.
@@ -54,13 +48,7 @@ fn last_line(bytes: &[u8]) -> &[u8]
 fn characters(bytes: &[u8]) -> usize
     ensures { result ≡ count_by is_char_start bytes.now }
 {
-    let mut count = 0;
-    for index in 0..bytes.len() {
-        if is_char_start(bytes[index]) {
-            count += 1;
-        }
-    }
-    count
+    bytes.iter().filter(|byte| is_char_start(**byte)).count()
 }
 
 /// Whether the byte is the first of a character.

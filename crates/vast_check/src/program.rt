@@ -1,6 +1,6 @@
 //! What the program tells of files.
 
-ghost use Rattle.std.specs.Prelude.{◌≡◌};
+ghost use Rattle.std.specs.Prelude.{◌≡◌, ◌⊎◌, IfOk, MatchResult, string_bytes};
 ghost use Rattle.std.specs.Io.KnownBytes.{Appends};
 ghost use Rattle.vast_check.specs.Check.{IsDerived, derived_line, TellsDerived, TellsUnderived};
 
@@ -95,7 +95,13 @@ fn write_line<W: Write, E: Write>(
     outcome: Outcome,
     out: &mut W,
     err: &mut E,
-) -> Outcome {
+) -> Outcome
+    ensures derived { result ≡ Outcome.Derived → outcome ≡ Outcome.Derived }
+    ensures underived { result ≡ Outcome.Underived → outcome ≡ Outcome.Underived }
+    ensures written { result ≡ Outcome.Derived → MatchResult line
+        (λ t. Appends (W.contents out.old) (W.contents out.new) (string_bytes t)) (λ _. ⊥) }
+    ensures silent { result ≡ Outcome.Derived → E.contents err.new ≡ E.contents err.old }
+{
     match line {
         Ok(line) => match out.write_all(line.as_bytes()) {
             Ok(()) => outcome,
@@ -105,7 +111,9 @@ fn write_line<W: Write, E: Write>(
     }
 }
 
-fn derived_line(alloc: Global, name: &str) -> Result<String, AllocError> {
+fn derived_line(alloc: Global, name: &str) -> Result<String, AllocError>
+    ensures { IfOk result (λ line. string_bytes line ≡ derived_line name.now) }
+{
     let mut line = String::from_str(alloc, name)?;
     line.push_str(": derived\n")?;
     Ok(line)
@@ -173,7 +181,9 @@ fn push_expected(line: &mut String, expected: &Expected) -> Result<(), AllocErro
 }
 
 /// Tells in a line why a file was not answered.
-pub(crate) fn tell<E: Write>(trouble: Trouble<'_>, err: &mut E) -> Outcome {
+pub(crate) fn tell<E: Write>(trouble: Trouble<'_>, err: &mut E) -> Outcome
+    ensures { (result ≡ Outcome.Unread) ⊎ (result ≡ Outcome.Failed) }
+{
     let _ = writeln!(err, "vast_check: {trouble}");
     match trouble {
         Trouble::Write | Trouble::Memory => Outcome::Failed,

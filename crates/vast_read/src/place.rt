@@ -1,6 +1,6 @@
 //! Where a text is no longer one that the grammar derives.
 
-ghost use Rattle.std.specs.Prelude.{◌≡◌, ℕ, List, ◌++◌, IfOk, IfSome, MatchOption, MatchResult, IsCharBoundary};
+ghost use Rattle.std.specs.Prelude.{◌≡◌, ℕ, List, ◌++◌, IfErr, IfOk, IfSome, MatchOption, MatchResult, IsCharBoundary};
 ghost use Rattle.vast_literal.specs.FileGrammar.{IsFile, DerivesFile};
 ghost use Rattle.vast_literal.specs.NormalFile as normal;
 ghost use Rattle.vast_literal.specs.Scan.{Gap};
@@ -21,6 +21,7 @@ use std::alloc::{AllocError, Global};
 ///
 /// # Errors
 /// Want of memory, where a growth was refused.
+#[tactic(auto, using(crate::proofs::TextDecides::places))]
 pub fn underived_at(alloc: Global, text: &str) -> Result<Option<usize>, AllocError>
     ensures derived { IfOk result (λ o. MatchOption o
         ((t : normal.NormalFile) × DerivesFile text.now t)
@@ -43,10 +44,8 @@ fn file_or_place<'t, B: BuildFiles<'t>>(
     ensures spelled { IfOk result (λ r. MatchResult r
         (λ t. IsFile (lex Gap text.now) (B.files.file t))
         (λ _. (t : normal.NormalFile) → IsFile (lex Gap text.now) t → ⊥)) }
-    ensures between { IfOk result (λ r. MatchResult r
-        (λ _. 0 ≡ 0) (IsBetweenTokens text.now)) }
-    ensures boundary { IfOk result (λ r. MatchResult r
-        (λ _. 0 ≡ 0) (IsCharBoundary text.now)) }
+    ensures between { IfOk result (λ r. IfErr r (IsBetweenTokens text.now)) }
+    ensures boundary { IfOk result (λ r. IfErr r (IsCharBoundary text.now)) }
 {
     let mut reader = Reader::new(alloc, text);
     match reader.file::<B>() {
