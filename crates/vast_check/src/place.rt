@@ -1,9 +1,9 @@
 //! Places of a text as compilers tell them.
 
 ghost use Rattle.std.specs.Prelude.{◌≡◌, ◌≤◌, ◌+◌, length, take};
-ghost use Rattle.std.specs.List.{count_by};
+ghost use Rattle.std.specs.List.{count_by, suffix_len};
 ghost use Rattle.std.specs.Fmt.{is_char_start};
-ghost use Rattle.vast_check.specs.Places.{is_break, last_line, line_at, column_at};
+ghost use Rattle.vast_check.specs.Places.{is_break, is_no_break, last_line, line_at, column_at};
 
 /// A line and a column, both from one.
 #[derive(Clone, Copy)]
@@ -37,11 +37,18 @@ fn breaks(bytes: &[u8]) -> usize
 fn last_line(bytes: &[u8]) -> &[u8]
     ensures { result.now ≡ last_line bytes.now }
 {
+    &bytes[line_start(bytes)..]
+}
+
+/// Where the last line begins.
+fn line_start(bytes: &[u8]) -> usize
+    ensures { result + suffix_len is_no_break bytes.now ≡ length bytes.now }
+{
     let mut start = bytes.len();
     while start > 0 && bytes[start - 1] != b'\n' {
         start -= 1;
     }
-    &bytes[start..]
+    start
 }
 
 /// How many characters begin there.
