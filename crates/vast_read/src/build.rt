@@ -1,11 +1,11 @@
 //! What is made of an expression: its tree, or nothing.
 
 ghost use Rattle.std.specs.Prelude.{◌≡◌, IfOk, IfErr};
-ghost use Rattle.vast_literal.specs.NormalExpr.{Name as NormalName, Literal as NormalLiteral, Text as NormalText, Unary as NormalUnary, Binary as NormalBinary, Ternary as NormalTernary, Index as NormalIndex, Slice as NormalSlice, PartSelect as NormalPartSelect, Call as NormalCall, MacroAlone, MacroCall, Cast as NormalCast, PackageCast as NormalPackageCast, WordCast as NormalWordCast, Replicated as NormalReplicated, Concat as NormalConcat, Pattern as NormalPattern, NoNormals, MoreNormals};
+ghost use Rattle.vast_literal.specs.NormalExpr.{NoNormals, MoreNormals};
 ghost use Rattle.vast_read.specs.declared.fault.Fault.TheVariants.{Memory};
+ghost use Rattle.vast_read.specs.Forms.{form_tree};
 ghost use Rattle.vast_read.specs.Reading.{Reading};
 ghost use Rattle.vast_read.specs.Steps.{join};
-ghost use Rattle.vast_read.specs.TokenView.{sign_view, key_view};
 
 mod declarations;
 mod files;
@@ -24,6 +24,49 @@ pub(crate) use statements::BuildStatements;
 use std::alloc::Global;
 pub(crate) use trees::Trees;
 pub(crate) use unbuilt::Unbuilt;
+
+/// An expression, with what was made of its parts.
+///
+/// An `E` is what was made of an expression, a `P` of a list of them, and a `W` of a word.
+#[derive(Drop)]
+pub(crate) enum Form<'t, E, P, W> {
+    /// A name.
+    Name(&'t str),
+    /// A literal.
+    Literal(&'t str),
+    /// A string.
+    Text(&'t str),
+    /// The use of a macro with no list.
+    MacroAlone(&'t str),
+    /// A sign and its operand.
+    Unary(Sign, E),
+    /// A sign between two operands.
+    Binary(Sign, E, E),
+    /// A condition and the two sides of a choice.
+    Ternary(E, E, E),
+    /// A subject and its index.
+    Index(E, E),
+    /// A subject and the bounds of its slice.
+    Slice(E, E, E),
+    /// A subject, the start and the width of its part select.
+    PartSelect(E, E, &'t str),
+    /// A call.
+    Call(W, P),
+    /// The use of a macro with arguments.
+    MacroCall(W, P),
+    /// A cast by an expression, a name or a number, and its operand.
+    Cast(E, E),
+    /// A cast by a package's type, and its operand.
+    PackageCast(W, W, E),
+    /// A cast by a keyword, and its operand.
+    WordCast(Key, E),
+    /// A list with its count before it.
+    Replicated(E, P),
+    /// A concatenation.
+    Concat(P),
+    /// An array pattern.
+    Pattern(P),
+}
 
 /// What a reader of expressions makes of what it reads, from texts that live for `'t`.
 ///
@@ -54,124 +97,11 @@ pub(crate) trait Build<'t> {
             ≡ join (sees.trees parts.old) (MoreNormals (sees.tree part) NoNormals)) }
         ensures err { IfErr result (λ e. e ≡ Memory) };
 
-    /// A name.
-    fn name(alloc: Global, text: &'t str) -> Result<Self::Expr, Fault>
-        ensures ok { IfOk result (λ x. sees.tree x ≡ NormalName text.now) }
-        ensures err { IfErr result (λ e. e ≡ Memory) };
-
-    /// A literal.
-    fn literal(alloc: Global, text: &'t str) -> Result<Self::Expr, Fault>
-        ensures ok { IfOk result (λ x. sees.tree x ≡ NormalLiteral text.now) }
-        ensures err { IfErr result (λ e. e ≡ Memory) };
-
-    /// A string.
-    fn string(alloc: Global, text: &'t str) -> Result<Self::Expr, Fault>
-        ensures ok { IfOk result (λ x. sees.tree x ≡ NormalText text.now) }
-        ensures err { IfErr result (λ e. e ≡ Memory) };
-
-    /// The use of a macro with no list.
-    fn macro_alone(alloc: Global, name: &'t str) -> Result<Self::Expr, Fault>
-        ensures ok { IfOk result (λ x. sees.tree x ≡ MacroAlone name.now) }
-        ensures err { IfErr result (λ e. e ≡ Memory) };
-
-    /// A sign and its operand.
-    fn unary(alloc: Global, sign: Sign, operand: Self::Expr) -> Result<Self::Expr, Fault>
-        ensures ok { IfOk result (λ x. sees.tree x
-            ≡ NormalUnary (sign_view sign) (sees.tree operand)) }
-        ensures err { IfErr result (λ e. e ≡ Memory) };
-
-    /// A sign between two operands.
-    fn binary(
+    /// An expression.
+    fn expression(
         alloc: Global,
-        sign: Sign,
-        left: Self::Expr,
-        right: Self::Expr,
+        form: Form<'t, Self::Expr, Self::Parts, Self::Word>,
     ) -> Result<Self::Expr, Fault>
-        ensures ok { IfOk result (λ x. sees.tree x
-            ≡ NormalBinary (sign_view sign) (sees.tree left) (sees.tree right)) }
+        ensures ok { IfOk result (λ x. sees.tree x ≡ form_tree sees form.entry) }
         ensures err { IfErr result (λ e. e ≡ Memory) };
-
-    /// A choice.
-    fn ternary(
-        alloc: Global,
-        condition: Self::Expr,
-        consequent: Self::Expr,
-        alternate: Self::Expr,
-    ) -> Result<Self::Expr, Fault>
-        ensures ok { IfOk result (λ x. sees.tree x
-            ≡ NormalTernary (sees.tree condition) (sees.tree consequent) (sees.tree alternate)) }
-        ensures err { IfErr result (λ e. e ≡ Memory) };
-
-    /// An index.
-    fn index(alloc: Global, subject: Self::Expr, index: Self::Expr) -> Result<Self::Expr, Fault>
-        ensures ok { IfOk result (λ x. sees.tree x
-            ≡ NormalIndex (sees.tree subject) (sees.tree index)) }
-        ensures err { IfErr result (λ e. e ≡ Memory) };
-
-    /// A slice.
-    fn slice(
-        alloc: Global,
-        subject: Self::Expr,
-        high: Self::Expr,
-        low: Self::Expr,
-    ) -> Result<Self::Expr, Fault>
-        ensures ok { IfOk result (λ x. sees.tree x
-            ≡ NormalSlice (sees.tree subject) (sees.tree high) (sees.tree low)) }
-        ensures err { IfErr result (λ e. e ≡ Memory) };
-
-    /// A part select.
-    fn part_select(
-        alloc: Global,
-        subject: Self::Expr,
-        start: Self::Expr,
-        width: &'t str,
-    ) -> Result<Self::Expr, Fault>
-        ensures ok { IfOk result (λ x. sees.tree x
-            ≡ NormalPartSelect (sees.tree subject) (sees.tree start) width.now) }
-        ensures err { IfErr result (λ e. e ≡ Memory) };
-
-    /// A call.
-    fn call(name: Self::Word, parts: Self::Parts) -> Self::Expr
-        ensures { sees.tree result ≡ NormalCall (sees.text name) (sees.trees parts) };
-
-    /// The use of a macro with arguments.
-    fn macro_call(name: Self::Word, parts: Self::Parts) -> Self::Expr
-        ensures { sees.tree result ≡ MacroCall (sees.text name) (sees.trees parts) };
-
-    /// A cast by an expression, a name or a number.
-    fn cast(alloc: Global, head: Self::Expr, operand: Self::Expr) -> Result<Self::Expr, Fault>
-        ensures ok { IfOk result (λ x. sees.tree x
-            ≡ NormalCast (sees.tree head) (sees.tree operand)) }
-        ensures err { IfErr result (λ e. e ≡ Memory) };
-
-    /// A cast by a package's type.
-    fn package_cast(
-        alloc: Global,
-        scope: Self::Word,
-        name: Self::Word,
-        operand: Self::Expr,
-    ) -> Result<Self::Expr, Fault>
-        ensures ok { IfOk result (λ x. sees.tree x
-            ≡ NormalPackageCast (sees.text scope) (sees.text name) (sees.tree operand)) }
-        ensures err { IfErr result (λ e. e ≡ Memory) };
-
-    /// A cast by a keyword.
-    fn word_cast(alloc: Global, key: Key, operand: Self::Expr) -> Result<Self::Expr, Fault>
-        ensures ok { IfOk result (λ x. sees.tree x
-            ≡ NormalWordCast (key_view key) (sees.tree operand)) }
-        ensures err { IfErr result (λ e. e ≡ Memory) };
-
-    /// A list with its count before it.
-    fn replicated(alloc: Global, count: Self::Expr, parts: Self::Parts) -> Result<Self::Expr, Fault>
-        ensures ok { IfOk result (λ x. sees.tree x
-            ≡ NormalReplicated (sees.tree count) (sees.trees parts)) }
-        ensures err { IfErr result (λ e. e ≡ Memory) };
-
-    /// A concatenation.
-    fn concat(parts: Self::Parts) -> Self::Expr
-        ensures { sees.tree result ≡ NormalConcat (sees.trees parts) };
-
-    /// An array pattern.
-    fn pattern(parts: Self::Parts) -> Self::Expr
-        ensures { sees.tree result ≡ NormalPattern (sees.trees parts) };
 }

@@ -1,14 +1,19 @@
 //! Trees.
 
+ghost use Rattle.std.specs.Prelude.{◌≡◌, IfOk, IfErr};
+ghost use Rattle.vast_read.specs.declared.fault.Fault.TheVariants.{Memory};
+ghost use Rattle.vast_read.specs.Forms.{form_tree};
+ghost use Rattle.vast_read.specs.Readings.{trees};
+ghost use Rattle.vast_read.specs.View.{view};
+
 mod declarations;
 mod files;
 mod members;
 mod statements;
 
-use crate::build::Build;
+use crate::build::{Build, Form};
 use crate::children::Children;
 use crate::fault::Fault;
-use crate::token::{Key, Sign};
 use crate::tree::NormalExpr;
 use crate::word::Word;
 use std::alloc::Global;
@@ -42,104 +47,38 @@ impl<'t> Build<'t> for Trees {
         Ok(())
     }
 
-    fn name(alloc: Global, text: &'t str) -> Result<NormalExpr, Fault> {
-        NormalExpr::name(alloc, text)
-    }
-
-    fn literal(alloc: Global, text: &'t str) -> Result<NormalExpr, Fault> {
-        NormalExpr::literal(alloc, text)
-    }
-
-    fn string(alloc: Global, text: &'t str) -> Result<NormalExpr, Fault> {
-        NormalExpr::string(alloc, text)
-    }
-
-    fn macro_alone(alloc: Global, name: &'t str) -> Result<NormalExpr, Fault> {
-        NormalExpr::macro_alone(alloc, name)
-    }
-
-    fn unary(alloc: Global, sign: Sign, operand: NormalExpr) -> Result<NormalExpr, Fault> {
-        NormalExpr::unary(alloc, sign, operand)
-    }
-
-    fn binary(
+    fn expression(
         alloc: Global,
-        sign: Sign,
-        left: NormalExpr,
-        right: NormalExpr,
-    ) -> Result<NormalExpr, Fault> {
-        NormalExpr::binary(alloc, sign, left, right)
-    }
-
-    fn ternary(
-        alloc: Global,
-        condition: NormalExpr,
-        consequent: NormalExpr,
-        alternate: NormalExpr,
-    ) -> Result<NormalExpr, Fault> {
-        NormalExpr::ternary(alloc, condition, consequent, alternate)
-    }
-
-    fn index(alloc: Global, subject: NormalExpr, index: NormalExpr) -> Result<NormalExpr, Fault> {
-        NormalExpr::index(alloc, subject, index)
-    }
-
-    fn slice(
-        alloc: Global,
-        subject: NormalExpr,
-        high: NormalExpr,
-        low: NormalExpr,
-    ) -> Result<NormalExpr, Fault> {
-        NormalExpr::slice(alloc, subject, high, low)
-    }
-
-    fn part_select(
-        alloc: Global,
-        subject: NormalExpr,
-        start: NormalExpr,
-        width: &'t str,
-    ) -> Result<NormalExpr, Fault> {
-        NormalExpr::part_select(alloc, subject, start, width)
-    }
-
-    fn call(name: Word, parts: Children<NormalExpr>) -> NormalExpr {
-        NormalExpr::Call(name, parts)
-    }
-
-    fn macro_call(name: Word, parts: Children<NormalExpr>) -> NormalExpr {
-        NormalExpr::Macro(name, Some(parts))
-    }
-
-    fn cast(alloc: Global, head: NormalExpr, operand: NormalExpr) -> Result<NormalExpr, Fault> {
-        NormalExpr::cast(alloc, head, operand)
-    }
-
-    fn package_cast(
-        alloc: Global,
-        scope: Word,
-        name: Word,
-        operand: NormalExpr,
-    ) -> Result<NormalExpr, Fault> {
-        NormalExpr::package_cast(alloc, scope, name, operand)
-    }
-
-    fn word_cast(alloc: Global, key: Key, operand: NormalExpr) -> Result<NormalExpr, Fault> {
-        NormalExpr::word_cast(alloc, key, operand)
-    }
-
-    fn replicated(
-        alloc: Global,
-        count: NormalExpr,
-        parts: Children<NormalExpr>,
-    ) -> Result<NormalExpr, Fault> {
-        NormalExpr::replicated(alloc, count, parts)
-    }
-
-    fn concat(parts: Children<NormalExpr>) -> NormalExpr {
-        NormalExpr::Concat(parts)
-    }
-
-    fn pattern(parts: Children<NormalExpr>) -> NormalExpr {
-        NormalExpr::Pattern(parts)
+        form: Form<'t, NormalExpr, Children<NormalExpr>, Word>,
+    ) -> Result<NormalExpr, Fault>
+        ensures ok { IfOk result (λ x. view x ≡ form_tree trees form.entry) }
+        ensures err { IfErr result (λ e. e ≡ Memory) }
+    {
+        match form {
+            Form::Name(text) => Ok(NormalExpr::Name(Word::new(alloc, text)?)),
+            Form::Literal(text) => Ok(NormalExpr::Literal(Word::new(alloc, text)?)),
+            Form::Text(text) => Ok(NormalExpr::Text(Word::new(alloc, text)?)),
+            Form::MacroAlone(name) => Ok(NormalExpr::Macro(Word::new(alloc, name)?, None)),
+            Form::Unary(sign, operand) => NormalExpr::unary(alloc, sign, operand),
+            Form::Binary(sign, left, right) => NormalExpr::binary(alloc, sign, left, right),
+            Form::Ternary(condition, consequent, alternate) => {
+                NormalExpr::ternary(alloc, condition, consequent, alternate)
+            }
+            Form::Index(subject, index) => NormalExpr::index(alloc, subject, index),
+            Form::Slice(subject, high, low) => NormalExpr::slice(alloc, subject, high, low),
+            Form::PartSelect(subject, start, width) => {
+                NormalExpr::part_select(alloc, subject, start, width)
+            }
+            Form::Call(name, parts) => Ok(NormalExpr::Call(name, parts)),
+            Form::MacroCall(name, parts) => Ok(NormalExpr::Macro(name, Some(parts))),
+            Form::Cast(head, operand) => NormalExpr::cast(alloc, head, operand),
+            Form::PackageCast(scope, name, operand) => {
+                NormalExpr::package_cast(alloc, scope, name, operand)
+            }
+            Form::WordCast(key, operand) => NormalExpr::word_cast(alloc, key, operand),
+            Form::Replicated(count, parts) => NormalExpr::replicated(alloc, count, parts),
+            Form::Concat(parts) => Ok(NormalExpr::Concat(parts)),
+            Form::Pattern(parts) => Ok(NormalExpr::Pattern(parts)),
+        }
     }
 }

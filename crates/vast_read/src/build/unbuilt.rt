@@ -1,14 +1,18 @@
 //! Nothing, where no tree is wanted.
 
+ghost use Rattle.std.specs.Prelude.{◌≡◌, IfOk, IfErr};
+ghost use Rattle.vast_read.specs.declared.fault.Fault.TheVariants.{Memory};
+ghost use Rattle.vast_read.specs.Forms.{form_tree};
+ghost use Rattle.vast_read.specs.Readings.{tree_of, trees_of};
+
 mod declarations;
 mod files;
 mod members;
 mod statements;
 
-use crate::build::Build;
+use crate::build::{Build, Form};
 use crate::fault::Fault;
 use crate::machine::Waiting;
-use crate::token::{Key, Sign};
 use crate::tree::NormalExpr;
 use std::alloc::Global;
 use std::mem::size_of;
@@ -26,24 +30,8 @@ pub(crate) struct Unbuilt;
 /// What clauses see of an expression of which nothing is made, or of a list of them.
 #[derive(Drop)]
 pub(crate) enum Shadow<'t> {
-    Name(&'t str),
-    Literal(&'t str),
-    Text(&'t str),
-    MacroAlone(&'t str),
-    Unary(Sign, Snapshot<Shadow<'t>>),
-    Binary(Sign, Snapshot<Shadow<'t>>, Snapshot<Shadow<'t>>),
-    Ternary(Snapshot<Shadow<'t>>, Snapshot<Shadow<'t>>, Snapshot<Shadow<'t>>),
-    Index(Snapshot<Shadow<'t>>, Snapshot<Shadow<'t>>),
-    Slice(Snapshot<Shadow<'t>>, Snapshot<Shadow<'t>>, Snapshot<Shadow<'t>>),
-    PartSelect(Snapshot<Shadow<'t>>, Snapshot<Shadow<'t>>, &'t str),
-    Call(Snapshot<&'t str>, Snapshot<Shadow<'t>>),
-    MacroCall(Snapshot<&'t str>, Snapshot<Shadow<'t>>),
-    Cast(Snapshot<Shadow<'t>>, Snapshot<Shadow<'t>>),
-    PackageCast(Snapshot<&'t str>, Snapshot<&'t str>, Snapshot<Shadow<'t>>),
-    WordCast(Key, Snapshot<Shadow<'t>>),
-    Replicated(Snapshot<Shadow<'t>>, Snapshot<Shadow<'t>>),
-    Concat(Snapshot<Shadow<'t>>),
-    Pattern(Snapshot<Shadow<'t>>),
+    /// An expression.
+    Formed(Snapshot<ShadowForm<'t>>),
     /// A tree that was made and let go.
     Tree(Snapshot<NormalExpr>),
     /// The empty list.
@@ -52,14 +40,15 @@ pub(crate) enum Shadow<'t> {
     More(Snapshot<Shadow<'t>>, Snapshot<Shadow<'t>>),
 }
 
+/// An expression whose parts have shadows.
+type ShadowForm<'t> = Form<'t, Snapshot<Shadow<'t>>, Snapshot<Shadow<'t>>, Snapshot<&'t str>>;
+
 impl<'t> Build<'t> for Unbuilt {
     type Expr = Snapshot<Shadow<'t>>;
 
     type Parts = Snapshot<Shadow<'t>>;
 
     type Word = Snapshot<&'t str>;
-
-    ghost use Rattle.vast_read.specs.Readings.{tree_of, trees_of};
 
     ghost sees = { record {
       tree = λ x. tree_of x.value;
@@ -81,120 +70,14 @@ impl<'t> Build<'t> for Unbuilt {
         Ok(())
     }
 
-    fn name(_alloc: Global, text: &'t str) -> Result<Snapshot<Shadow<'t>>, Fault> {
-        Ok(Snapshot::of(&Shadow::Name(text)))
-    }
-
-    fn literal(_alloc: Global, text: &'t str) -> Result<Snapshot<Shadow<'t>>, Fault> {
-        Ok(Snapshot::of(&Shadow::Literal(text)))
-    }
-
-    fn string(_alloc: Global, text: &'t str) -> Result<Snapshot<Shadow<'t>>, Fault> {
-        Ok(Snapshot::of(&Shadow::Text(text)))
-    }
-
-    fn macro_alone(_alloc: Global, name: &'t str) -> Result<Snapshot<Shadow<'t>>, Fault> {
-        Ok(Snapshot::of(&Shadow::MacroAlone(name)))
-    }
-
-    fn unary(
-        _alloc: Global,
-        sign: Sign,
-        operand: Snapshot<Shadow<'t>>,
-    ) -> Result<Snapshot<Shadow<'t>>, Fault> {
-        Ok(Snapshot::of(&Shadow::Unary(sign, operand)))
-    }
-
-    fn binary(
-        _alloc: Global,
-        sign: Sign,
-        left: Snapshot<Shadow<'t>>,
-        right: Snapshot<Shadow<'t>>,
-    ) -> Result<Snapshot<Shadow<'t>>, Fault> {
-        Ok(Snapshot::of(&Shadow::Binary(sign, left, right)))
-    }
-
-    fn ternary(
-        _alloc: Global,
-        condition: Snapshot<Shadow<'t>>,
-        consequent: Snapshot<Shadow<'t>>,
-        alternate: Snapshot<Shadow<'t>>,
-    ) -> Result<Snapshot<Shadow<'t>>, Fault> {
-        Ok(Snapshot::of(&Shadow::Ternary(condition, consequent, alternate)))
-    }
-
-    fn index(
-        _alloc: Global,
-        subject: Snapshot<Shadow<'t>>,
-        index: Snapshot<Shadow<'t>>,
-    ) -> Result<Snapshot<Shadow<'t>>, Fault> {
-        Ok(Snapshot::of(&Shadow::Index(subject, index)))
-    }
-
-    fn slice(
-        _alloc: Global,
-        subject: Snapshot<Shadow<'t>>,
-        high: Snapshot<Shadow<'t>>,
-        low: Snapshot<Shadow<'t>>,
-    ) -> Result<Snapshot<Shadow<'t>>, Fault> {
-        Ok(Snapshot::of(&Shadow::Slice(subject, high, low)))
-    }
-
-    fn part_select(
-        _alloc: Global,
-        subject: Snapshot<Shadow<'t>>,
-        start: Snapshot<Shadow<'t>>,
-        width: &'t str,
-    ) -> Result<Snapshot<Shadow<'t>>, Fault> {
-        Ok(Snapshot::of(&Shadow::PartSelect(subject, start, width)))
-    }
-
-    fn call(name: Snapshot<&'t str>, parts: Snapshot<Shadow<'t>>) -> Snapshot<Shadow<'t>> {
-        Snapshot::of(&Shadow::Call(name, parts))
-    }
-
-    fn macro_call(name: Snapshot<&'t str>, parts: Snapshot<Shadow<'t>>) -> Snapshot<Shadow<'t>> {
-        Snapshot::of(&Shadow::MacroCall(name, parts))
-    }
-
-    fn cast(
-        _alloc: Global,
-        head: Snapshot<Shadow<'t>>,
-        operand: Snapshot<Shadow<'t>>,
-    ) -> Result<Snapshot<Shadow<'t>>, Fault> {
-        Ok(Snapshot::of(&Shadow::Cast(head, operand)))
-    }
-
-    fn package_cast(
-        _alloc: Global,
-        scope: Snapshot<&'t str>,
-        name: Snapshot<&'t str>,
-        operand: Snapshot<Shadow<'t>>,
-    ) -> Result<Snapshot<Shadow<'t>>, Fault> {
-        Ok(Snapshot::of(&Shadow::PackageCast(scope, name, operand)))
-    }
-
-    fn word_cast(
-        _alloc: Global,
-        key: Key,
-        operand: Snapshot<Shadow<'t>>,
-    ) -> Result<Snapshot<Shadow<'t>>, Fault> {
-        Ok(Snapshot::of(&Shadow::WordCast(key, operand)))
-    }
-
-    fn replicated(
-        _alloc: Global,
-        count: Snapshot<Shadow<'t>>,
-        parts: Snapshot<Shadow<'t>>,
-    ) -> Result<Snapshot<Shadow<'t>>, Fault> {
-        Ok(Snapshot::of(&Shadow::Replicated(count, parts)))
-    }
-
-    fn concat(parts: Snapshot<Shadow<'t>>) -> Snapshot<Shadow<'t>> {
-        Snapshot::of(&Shadow::Concat(parts))
-    }
-
-    fn pattern(parts: Snapshot<Shadow<'t>>) -> Snapshot<Shadow<'t>> {
-        Snapshot::of(&Shadow::Pattern(parts))
+    fn expression(_alloc: Global, form: ShadowForm<'t>) -> Result<Snapshot<Shadow<'t>>, Fault>
+        ensures ok { IfOk result (λ x. tree_of x.value ≡ form_tree (record {
+          tree = λ x. tree_of x.value;
+          trees = λ x. trees_of x.value;
+          text = λ w. w.value.now;
+        }) form.entry) }
+        ensures err { IfErr result (λ e. e ≡ Memory) }
+    {
+        Ok(Snapshot::of(&Shadow::Formed(Snapshot::of(&form))))
     }
 }

@@ -5,7 +5,7 @@ ghost use Rattle.vast_read.specs.Steps.{part_at};
 ghost use Rattle.vast_read.specs.Answers.{ReadsAs};
 ghost use Rattle.vast_read.specs.Machine.{finished, load, resumed, then_primary, Keeps, Leaves};
 
-use crate::build::Build;
+use crate::build::{Build, Form};
 use crate::fault::Fault;
 use crate::machine::{Head, State, Waiting, Waits};
 use crate::reader::Reader;
@@ -26,13 +26,16 @@ impl<'t> Reader<'t> {
         ensures fewer { length self.new ≤ length self.old }
     {
         match waiting {
-            Waiting::Prefix(sign) => State::operand(B::unary(self.alloc, sign, whole)),
+            Waiting::Prefix(sign) => State::operand(B::expression(
+                self.alloc,
+                Form::Unary(sign, whole),
+            )),
             Waiting::Infix(left, sign) => {
-                State::operand(B::binary(self.alloc, sign, left, whole))
+                State::operand(B::expression(self.alloc, Form::Binary(sign, left, whole)))
             }
             Waiting::Then(condition) => self.close_first::<B>(stack, condition, whole),
             Waiting::Else(condition, consequent) => {
-                State::whole(B::ternary(self.alloc, condition, consequent, whole))
+                State::whole(B::expression(self.alloc, Form::Ternary(condition, consequent, whole)))
             }
             Waiting::Paren => self.close_paren::<B>(stack, whole),
             Waiting::Index(subject) => self.close_index::<B>(stack, subject, whole),
@@ -82,7 +85,7 @@ impl<'t> Reader<'t> {
         ensures fewer { length self.new ≤ length self.old }
     {
         self.expect(Mark::CloseBracket)?;
-        B::slice(self.alloc, subject, high, low)
+        B::expression(self.alloc, Form::Slice(subject, high, low))
     }
 
     /// Ends a cast.
@@ -97,7 +100,7 @@ impl<'t> Reader<'t> {
         ensures fewer { length self.new ≤ length self.old }
     {
         self.expect(Mark::CloseParen)?;
-        B::cast(self.alloc, head, operand)
+        B::expression(self.alloc, Form::Cast(head, operand))
     }
 
     /// Ends a cast by a package's type.
@@ -113,7 +116,7 @@ impl<'t> Reader<'t> {
         ensures fewer { length self.new ≤ length self.old }
     {
         self.expect(Mark::CloseParen)?;
-        B::package_cast(self.alloc, scope, name, operand)
+        B::expression(self.alloc, Form::PackageCast(scope, name, operand))
     }
 
     /// Ends a cast by a keyword.
@@ -128,7 +131,7 @@ impl<'t> Reader<'t> {
         ensures fewer { length self.new ≤ length self.old }
     {
         self.expect(Mark::CloseParen)?;
-        B::word_cast(self.alloc, key, operand)
+        B::expression(self.alloc, Form::WordCast(key, operand))
     }
 
     /// Goes on behind an expression in parentheses.
@@ -167,7 +170,7 @@ impl<'t> Reader<'t> {
         ensures fewer { length self.new ≤ length self.old }
     {
         if self.eat(Mark::CloseBracket) {
-            let read = B::index(self.alloc, subject, index)?;
+            let read = B::expression(self.alloc, Form::Index(subject, index))?;
             Ok(State::Primary(read))
         } else if self.eat(Mark::Colon) {
             stack.push(Waiting::Slice(subject, index))?;
@@ -241,6 +244,6 @@ impl<'t> Reader<'t> {
         self.expect(Mark::PlusColon)?;
         let width = self.number()?;
         self.expect(Mark::CloseBracket)?;
-        B::part_select(self.alloc, subject, start, width)
+        B::expression(self.alloc, Form::PartSelect(subject, start, width))
     }
 }
