@@ -70,7 +70,7 @@ impl<'t> Build<'t> for Trees {
                 NormalExpr::part_select(alloc, subject, start, width)
             }
             Form::Call(name, parts) => Ok(NormalExpr::Call(name, parts)),
-            Form::MacroCall(name, parts) => Ok(NormalExpr::Macro(name, Some(parts))),
+            Form::MacroCall(name, parts) => Ok(NormalExpr::macro_call(name, parts)),
             Form::Cast(head, operand) => NormalExpr::cast(alloc, head, operand),
             Form::PackageCast(scope, name, operand) => {
                 NormalExpr::package_cast(alloc, scope, name, operand)
