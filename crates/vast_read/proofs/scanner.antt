@@ -1,6 +1,6 @@
 mod Cuts
 mod Lexemes
-mod Places
+pub mod Places
 mod Words
 mod Literals
 mod BasedLiterals

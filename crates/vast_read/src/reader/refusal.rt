@@ -6,6 +6,7 @@ ghost use Rattle.vast_literal.specs.Settled.{settled};
 ghost use Rattle.vast_read.specs.Answers.{ReadsAs};
 ghost use Rattle.vast_read.specs.Machine.{load, then_primary, work, Keeps};
 ghost use Rattle.vast_read.specs.Places.{IsBetweenTokens};
+ghost use Rattle.vast_read.specs.Position.{position_view};
 ghost use Rattle.vast_read.specs.TokenView.{mark_view};
 
 use crate::build::Build;
@@ -72,6 +73,7 @@ impl<'t> Reader<'t> {
         ensures reads { ReadsAs (λ r. B.sees.tree r.0) result self.new
             (enclosed_at settled (mark_view close) self.old) }
         ensures fewer { length self.new ≤ length self.old }
+        ensures before { IfOk result (λ r. length (position_view r.1) ≤ length self.old) }
     {
         let inner = self.expression::<B>()?;
         let before = self.rest;
