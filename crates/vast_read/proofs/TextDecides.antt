@@ -56,4 +56,6 @@ pub text_decides :
 text_decides text see (Some x) answer e d n = rw e (see x, text_derives text (see x) d)
 text_decides text see None answer e d n = rw e (text_without_file text (n refl))
 
+pub ruleset places = (text_derives, text_without_file)
+
 pub ruleset files = (file_spelled, file_none, file_more)

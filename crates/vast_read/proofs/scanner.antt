@@ -1,5 +1,6 @@
 mod Cuts
 mod Lexemes
+pub mod Places
 mod Words
 mod Literals
 mod BasedLiterals

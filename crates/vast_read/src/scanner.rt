@@ -18,11 +18,13 @@ mod class;
 mod front;
 mod keyword;
 mod literal;
+mod place;
 mod position;
 mod run;
 mod sign;
 mod word;
 
+pub(crate) use place::{behind_first, place_before};
 pub(crate) use position::Position;
 
 /// The first token of a text, and what is behind it; where no token fits, one that stands for what is left. It takes no

@@ -145,11 +145,14 @@ impl<'t> Reader<'t> {
         ensures fewer { length self.new ≤ length self.old }
         ensures less { IfOk result (λ _. length self.new < length self.old) }
     {
-        match self.next() {
+        match self.peek() {
             None => Err(Fault::Underived),
             Some(token) => match token.macro_word() {
                 None => Err(Fault::Underived),
-                Some(name) => Ok(name),
+                Some(name) => {
+                    self.skip();
+                    Ok(name)
+                }
             },
         }
     }
@@ -173,12 +176,13 @@ impl<'t> Reader<'t> {
         ensures reads { ReadsAs B.files.item result self.new (include_on name.now self.old) }
         ensures fewer { length self.new ≤ length self.old }
     {
-        match self.next() {
+        match self.peek() {
             None => Err(Fault::Underived),
             Some(token) => match token.quoted() {
                 None => Err(Fault::Underived),
                 Some(text) => {
                     if name == "include" {
+                        self.skip();
                         self.include_of::<B>(text)
                     } else {
                         Err(Fault::Underived)
@@ -195,8 +199,18 @@ impl<'t> Reader<'t> {
         ensures fewer { length self.new ≤ length self.old }
         ensures less { IfOk result (λ _. length self.new < length self.old) }
     {
+        let before = self.rest;
         let name = self.macro_name()?;
-        self.include_path::<B>(name)
+        match self.include_path::<B>(name) {
+            Ok(item) => Ok(item),
+            Err(fault) => {
+                // The reader stays before a token that doesn't fit.
+                if name != "include" {
+                    self.rest = before;
+                }
+                Err(fault)
+            }
+        }
     }
 
     /// Reads an item of a file.

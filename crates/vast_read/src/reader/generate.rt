@@ -21,10 +21,12 @@ impl<'t> Reader<'t> {
             (λ _. same_word word.now self.old ≡ None) }
         ensures fewer { length self.new ≤ length self.old }
     {
+        let before = self.rest;
         let found = self.word()?;
         if word == found {
             Ok(())
         } else {
+            self.rest = before;
             Err(Fault::Underived)
         }
     }
@@ -36,10 +38,12 @@ impl<'t> Reader<'t> {
             (λ _. number_one self.old ≡ Some self.new) (λ _. number_one self.old ≡ None) }
         ensures fewer { length self.new ≤ length self.old }
     {
+        let before = self.rest;
         let found = self.number()?;
         if found == "1" {
             Ok(())
         } else {
+            self.rest = before;
             Err(Fault::Underived)
         }
     }
@@ -67,10 +71,13 @@ impl<'t> Reader<'t> {
         ensures reads { ReadsAs B.sees.tree result self.new (loop_bound variable.now self.old) }
         ensures fewer { length self.new ≤ length self.old }
     {
-        let condition = self.enclosed::<Trees>(Mark::Semicolon)?;
+        let (condition, before) = self.enclosed_before::<Trees>(Mark::Semicolon)?;
         match condition.bound(variable) {
             Some(end) => Ok(B::of_tree(end)),
-            None => Err(Fault::Underived),
+            None => {
+                self.rest = before;
+                Err(Fault::Underived)
+            }
         }
     }
 

@@ -275,10 +275,16 @@ impl<'t> Reader<'t> {
         ensures fewer { length self.new ≤ length self.old }
         ensures less { IfOk result (λ _. length self.new < length self.old) }
     {
-        match self.next() {
+        match self.peek() {
             None => Err(Fault::Underived),
-            Some(Token::Word(name)) => self.instance::<B>(name),
-            Some(Token::MacroWord(name)) => self.macro_member::<B>(name),
+            Some(Token::Word(name)) => {
+                self.skip();
+                self.instance::<B>(name)
+            }
+            Some(Token::MacroWord(name)) => {
+                self.skip();
+                self.macro_member::<B>(name)
+            }
             Some(Token::Reserved(_)) => Err(Fault::Underived),
             Some(Token::Keyword(_)) => Err(Fault::Underived),
             Some(Token::SystemWord(_)) => Err(Fault::Underived),

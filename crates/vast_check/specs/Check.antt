@@ -1,0 +1,40 @@
+-- What is read and found, and what is written of it.
+use Rattle.std.specs.Prelude.{◌≡◌, ℕ, ◌≤◌, ◌+◌, ◌^◌, List, ◌++◌, length, codes, Option, IsUtf8}
+use Rattle.std.specs.Io.KnownBytes.{Appends, Consumes, IsAtEnd}
+use Rattle.vast_literal.specs.NormalFile.{NormalFile}
+use Rattle.vast_literal.specs.FileGrammar.{DerivesFile}
+use Rattle.vast_check.specs.declared.answer.Answer.{Answer}
+use Rattle.vast_check.specs.declared.answer.Answer.TheVariants.{Derived}
+
+-- the reader gives these bytes, which are not too many, and then its end
+abbrev pub GivesAll : Option (List ℕ) → Option (List ℕ) → List ℕ → Type 0
+GivesAll before after bytes = Consumes before after bytes × IsAtEnd after × (length bytes ≤ 2 ^ 24)
+
+-- the reader gives some bytes, and no more than one too many
+abbrev pub GivesSome : Option (List ℕ) → Option (List ℕ) → Type 0
+GivesSome before after = (bytes : List ℕ) × Consumes before after bytes × (length bytes ≤ 2 ^ 24 + 1)
+
+-- the reader gives one byte too many
+abbrev pub GivesTooMany : Option (List ℕ) → Option (List ℕ) → Type 0
+GivesTooMany before after = (bytes : List ℕ) × Consumes before after bytes × (length bytes ≡ 2 ^ 24 + 1)
+
+-- the bytes are the UTF-8 of a text that the grammar derives
+abbrev pub IsDerived : List ℕ → Type 0
+IsDerived bytes = IsUtf8 bytes × ((t : NormalFile) × DerivesFile bytes t)
+
+-- the line that tells so of the source of this name
+abbrev pub derived_line : (name : List ℕ) → List ℕ
+derived_line name = name ++ codes ": derived\n"
+
+-- All that the reader gives is derived, and that is written, and nothing else.
+abbrev pub TellsDerived : (name : List ℕ) → (before after old new : Option (List ℕ)) → Type 0
+TellsDerived name before after old new = (bytes : List ℕ) × GivesAll before after bytes × IsDerived bytes × Appends old new (derived_line name)
+
+-- All that the reader gives isn't derived.
+abbrev pub TellsUnderived : (before after : Option (List ℕ)) → Type 0
+TellsUnderived before after = (bytes : List ℕ) × GivesAll before after bytes × (IsDerived bytes → ⊥)
+
+-- It is said that bytes are derived exactly where they are.
+abbrev pub Answers : List ℕ → Answer → Type 0
+Answers bytes Derived = IsDerived bytes
+Answers bytes _ = IsDerived bytes → ⊥

@@ -1,0 +1,65 @@
+//! Tells of files whether the grammar derives them, and where it doesn't: `vast_check fifo.sv`; `--help` tells the rest.
+#![tactic(auto)]
+
+mod answer;
+mod expected;
+mod files;
+mod help;
+mod input;
+mod outcome;
+mod place;
+mod program;
+mod words;
+
+use files::answer_files;
+use help::{HELP, VERSION};
+use outcome::Outcome;
+use program::{Trouble, tell};
+use std::alloc::{AllocError, Global};
+use std::env;
+use std::io::{ErrorKind, Write};
+use std::process::ExitCode;
+use words::{Request, requested};
+
+/// The words after the program's name.
+fn arguments(rt: &HostRuntime) -> std::io::Result<Vec<String>> {
+    let mut words = Vec::new(rt.alloc());
+    for word in env::args(rt)?.skip(1) {
+        words.push(word)?;
+    }
+    Ok(words)
+}
+
+fn slices(alloc: Global, words: &[String]) -> Result<Vec<&str>, AllocError> {
+    words.iter().map(|word| word.as_str()).collect(alloc)
+}
+
+fn main(rt: HostRuntime) -> ExitCode {
+    let outcome = match arguments(&rt) {
+        Ok(words) => match slices(rt.alloc(), &words) {
+            Ok(words) => answer_words(&rt, &words),
+            Err(_) => tell(Trouble::Memory, &mut rt.stderr()),
+        },
+        Err(error) if error.kind() == ErrorKind::OutOfMemory => {
+            tell(Trouble::Memory, &mut rt.stderr())
+        }
+        Err(_) => tell(Trouble::Words, &mut rt.stderr()),
+    };
+    ExitCode::from(outcome.status())
+}
+
+fn answer_words(rt: &HostRuntime, words: &[&str]) -> Outcome {
+    match requested(rt.alloc(), words) {
+        Ok(Request::Help) => print(rt, HELP),
+        Ok(Request::Version) => print(rt, VERSION),
+        Ok(Request::Files(files)) => answer_files(rt, &files),
+        Err(fault) => tell(Trouble::Word(fault), &mut rt.stderr()),
+    }
+}
+
+fn print(rt: &HostRuntime, text: &str) -> Outcome {
+    match rt.stdout().write_all(text.as_bytes()) {
+        Ok(()) => Outcome::Derived,
+        Err(_) => tell(Trouble::Write, &mut rt.stderr()),
+    }
+}

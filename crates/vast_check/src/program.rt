@@ -1,0 +1,192 @@
+//! What the program tells of files.
+
+ghost use Rattle.std.specs.Prelude.{◌≡◌, ◌⊎◌, IfOk, MatchResult, string_bytes};
+ghost use Rattle.std.specs.Io.KnownBytes.{Appends};
+ghost use Rattle.vast_check.specs.Check.{IsDerived, derived_line, TellsDerived, TellsUnderived};
+
+use crate::answer::{Answer, answer_of};
+use crate::expected::Expected;
+use crate::input::{InputFault, read_input};
+use crate::outcome::Outcome;
+use crate::words::WordFault;
+use std::alloc::{AllocError, Global};
+use std::fmt::Write as _;
+use std::io::{Error, ErrorKind, Read, Write};
+
+/// So many characters of a token are told.
+const MOST_SHOWN: usize = 24;
+
+/// Why a file was not answered.
+#[derive(Debug, Drop, thiserror::Error)]
+pub(crate) enum Trouble<'a> {
+    #[error("a word is not UTF-8")]
+    Words,
+    #[error("{0}; --help tells the words")]
+    Word(WordFault<'a>),
+    #[error("{0}: {1}")]
+    Unopened(&'a str, Error),
+    #[error("{0}: {1}")]
+    Unread(&'a str, ErrorKind),
+    #[error("{0}: no end")]
+    Endless(&'a str),
+    #[error("{0}: more than 16777216 bytes")]
+    TooLong(&'a str),
+    #[error("write fault")]
+    Write,
+    #[error("out of memory")]
+    Memory,
+}
+
+/// Reads `input` to its end, and tells on `out` whether the grammar derives a file from it, or where it doesn't.
+///
+/// The line begins with the name of the input. A failed read, more than 16,777,216 bytes, a failed write and want of
+/// memory are told on `err`; nothing is told on `out` then, but for a write that fails.
+pub(crate) fn answer_input<R: Read, W: Write, E: Write>(
+    alloc: Global,
+    name: &str,
+    input: &mut R,
+    out: &mut W,
+    err: &mut E,
+) -> Outcome
+    ensures derived { result ≡ Outcome.Derived →
+        TellsDerived name.now (R.remaining input.old) (R.remaining input.new)
+        (W.contents out.old) (W.contents out.new) }
+    ensures underived { result ≡ Outcome.Underived →
+        TellsUnderived (R.remaining input.old) (R.remaining input.new) }
+    ensures silent { result ≡ Outcome.Derived → E.contents err.new ≡ E.contents err.old }
+{
+    match read_input(alloc, input) {
+        Ok(bytes) => answer_bytes(alloc, name, &bytes, out, err),
+        Err(InputFault::Memory) => tell(Trouble::Memory, err),
+        Err(InputFault::Length) => tell(Trouble::TooLong(name), err),
+        Err(InputFault::Read(kind)) => tell(Trouble::Unread(name, kind), err),
+        Err(InputFault::Reads) => tell(Trouble::Endless(name), err),
+    }
+}
+
+/// Tells on `out` whether the grammar derives a file from these bytes, or where it doesn't.
+fn answer_bytes<W: Write, E: Write>(
+    alloc: Global,
+    name: &str,
+    bytes: &[u8],
+    out: &mut W,
+    err: &mut E,
+) -> Outcome
+    ensures derived { result ≡ Outcome.Derived → IsDerived bytes.now ×
+        Appends (W.contents out.old) (W.contents out.new) (derived_line name.now) }
+    ensures underived { result ≡ Outcome.Underived → IsDerived bytes.now → ⊥ }
+    ensures silent { result ≡ Outcome.Derived → E.contents err.new ≡ E.contents err.old }
+{
+    match answer_of(alloc, bytes) {
+        Ok(Answer::Derived) => write_line(derived_line(alloc, name), Outcome::Derived, out, err),
+        Ok(found) => write_line(
+            underived_line(alloc, name, &found),
+            Outcome::Underived,
+            out,
+            err,
+        ),
+        Err(_) => tell(Trouble::Memory, err),
+    }
+}
+
+/// Writes the line, where it was made.
+fn write_line<W: Write, E: Write>(
+    line: Result<String, AllocError>,
+    outcome: Outcome,
+    out: &mut W,
+    err: &mut E,
+) -> Outcome
+    ensures derived { result ≡ Outcome.Derived → outcome ≡ Outcome.Derived }
+    ensures underived { result ≡ Outcome.Underived → outcome ≡ Outcome.Underived }
+    ensures written { result ≡ Outcome.Derived → MatchResult line
+        (λ t. Appends (W.contents out.old) (W.contents out.new) (string_bytes t)) (λ _. ⊥) }
+    ensures silent { result ≡ Outcome.Derived → E.contents err.new ≡ E.contents err.old }
+{
+    match line {
+        Ok(line) => match out.write_all(line.as_bytes()) {
+            Ok(()) => outcome,
+            Err(_) => tell(Trouble::Write, err),
+        },
+        Err(_) => tell(Trouble::Memory, err),
+    }
+}
+
+fn derived_line(alloc: Global, name: &str) -> Result<String, AllocError>
+    ensures { IfOk result (λ line. string_bytes line ≡ derived_line name.now) }
+{
+    let mut line = String::from_str(alloc, name)?;
+    line.push_str(": derived\n")?;
+    Ok(line)
+}
+
+/// The line that tells where the file is no longer one of the grammar.
+fn underived_line(alloc: Global, name: &str, found: &Answer<'_>) -> Result<String, AllocError> {
+    let mut line = String::from_str(alloc, name)?;
+    match found {
+        Answer::Derived => line.push_str(": derived")?,
+        Answer::NoText(place) => { write!(line, ":{}:{}: not UTF-8", place.line, place.column)? }
+        Answer::Underived {
+            place,
+            token,
+            expected,
+        } => {
+            write!(line, ":{}:{}: ", place.line, place.column)?;
+            push_token(&mut line, token)?;
+            push_expected(&mut line, expected)?;
+        }
+    }
+    line.push('\n')?;
+    Ok(line)
+}
+
+/// Tells a token, or its beginning: a string up to the end of its line, another token up to white space.
+fn push_token(line: &mut String, token: &str) -> Result<(), AllocError> {
+    if token.is_empty() {
+        return line.push_str("end of file");
+    }
+    let is_string = token.starts_with('"');
+    for (index, shown) in token.chars().enumerate() {
+        if index == MOST_SHOWN {
+            return line.push_str("..");
+        }
+        if shown.is_control() || (shown == ' ' && !is_string) {
+            return line.push_str(if index == 0 { "control character" } else { "" });
+        }
+        line.push(shown)?;
+    }
+    Ok(())
+}
+
+/// Tells what could stand in its place.
+fn push_expected(line: &mut String, expected: &Expected) -> Result<(), AllocError> {
+    let count = expected.words.len();
+    if count == 0 {
+        return line.push_str(": unexpected");
+    }
+    for (index, word) in expected.words.iter().enumerate() {
+        line.push_str(if index == 0 {
+            ": expected "
+        } else if index + 1 == count && expected.is_all {
+            " or "
+        } else {
+            ", "
+        })?;
+        line.push_str(word)?;
+    }
+    if expected.is_all {
+        Ok(())
+    } else {
+        line.push_str(", ..")
+    }
+}
+
+/// Tells in a line why a file was not answered.
+pub(crate) fn tell<E: Write>(trouble: Trouble<'_>, err: &mut E) -> Outcome
+    ensures { (result ≡ Outcome.Unread) ⊎ (result ≡ Outcome.Failed) }
+{
+    let _ = writeln!(err, "vast_check: {trouble}");
+    match trouble {
+        Trouble::Write | Trouble::Memory => Outcome::Failed,
+        _ => Outcome::Unread,
+    }
+}

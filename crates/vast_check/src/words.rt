@@ -1,0 +1,90 @@
+//! The words behind the program's name.
+
+use std::alloc::{AllocFailed, Global};
+use thiserror::Error;
+
+/// What the words ask for.
+#[derive(Drop)]
+pub(crate) enum Request<'a> {
+    /// How the program is called.
+    Help,
+    /// Which program it is.
+    Version,
+    /// Whether the grammar derives these files; standard input where there are none.
+    Files(Vec<&'a str>),
+}
+
+/// Why the words ask for nothing.
+#[derive(Debug, Drop, Error)]
+pub(crate) enum WordFault<'a> {
+    #[error("unknown word {0}")]
+    Unknown(&'a str),
+    #[error("{0} takes no file")]
+    WithFile(&'static str),
+    #[error("out of memory")]
+    Memory,
+}
+
+impl From<AllocFailed<&str>> for WordFault<'_> {
+    fn from(_failed: AllocFailed<&str>) -> Self {
+        WordFault::Memory
+    }
+}
+
+/// The words so far.
+#[derive(Drop)]
+struct Seen<'a> {
+    help: bool,
+    version: bool,
+    /// Whether `--` was there, behind which each word is a file.
+    only_files: bool,
+    files: Vec<&'a str>,
+}
+
+/// What the words ask for, in any order: `--help` whatever else there is, else one thing.
+///
+/// # Errors
+/// An unknown word, a file where none is taken, and want of memory.
+pub(crate) fn requested<'a>(
+    alloc: Global,
+    words: &[&'a str],
+) -> Result<Request<'a>, WordFault<'a>> {
+    let mut seen = Seen {
+        help: false,
+        version: false,
+        only_files: false,
+        files: Vec::new(alloc),
+    };
+    for word in words {
+        seen.take(word)?;
+    }
+    seen.request()
+}
+
+impl<'a> Seen<'a> {
+    fn take(&mut self, word: &'a str) -> Result<(), WordFault<'a>> {
+        if self.only_files || word == "-" || !word.starts_with('-') {
+            self.files.push(word)?;
+            return Ok(());
+        }
+        match word {
+            "--" => self.only_files = true,
+            "--help" | "-h" => self.help = true,
+            "--version" | "-V" => self.version = true,
+            _ => return Err(WordFault::Unknown(word)),
+        }
+        Ok(())
+    }
+
+    fn request(self) -> Result<Request<'a>, WordFault<'a>> {
+        if self.help {
+            Ok(Request::Help)
+        } else if !self.version {
+            Ok(Request::Files(self.files))
+        } else if self.files.is_empty() {
+            Ok(Request::Version)
+        } else {
+            Err(WordFault::WithFile("--version"))
+        }
+    }
+}

@@ -1,0 +1,72 @@
+//! Where a text is no longer one that the grammar derives.
+
+ghost use Rattle.std.specs.Prelude.{◌≡◌, ℕ, List, ◌++◌, IfErr, IfOk, IfSome, MatchOption, MatchResult, IsCharBoundary};
+ghost use Rattle.vast_literal.specs.FileGrammar.{IsFile, DerivesFile};
+ghost use Rattle.vast_literal.specs.NormalFile as normal;
+ghost use Rattle.vast_literal.specs.Scan.{Gap};
+ghost use Rattle.vast_read.specs.Lexed.{lex};
+ghost use Rattle.vast_read.specs.Places.{IsBetweenTokens};
+
+use crate::build::{BuildFiles, Unbuilt};
+use crate::fault::Fault;
+use crate::reader::Reader;
+use crate::scanner::behind_first;
+use std::alloc::{AllocError, Global};
+
+/// The place of the token at which no rule of the grammar goes on, where it derives no file from this text.
+///
+/// It is the place of a byte: where that token begins, or the text's length, where it ends too soon. Reading from the
+/// left, that token is the first one that the reader doesn't take. That a reader written apart stops at the same token
+/// is tested, not proved. It takes time and memory as [`is_derived`](crate::is_derived) does.
+///
+/// # Errors
+/// Want of memory, where a growth was refused.
+#[tactic(auto, using(crate::proofs::TextDecides::places))]
+pub fn underived_at(alloc: Global, text: &str) -> Result<Option<usize>, AllocError>
+    ensures derived { IfOk result (λ o. MatchOption o
+        ((t : normal.NormalFile) × DerivesFile text.now t)
+        (λ _. (t : normal.NormalFile) → DerivesFile text.now t → ⊥)) }
+    ensures between { IfOk result (λ o. IfSome o (IsBetweenTokens text.now)) }
+    ensures boundary { IfOk result (λ o. IfSome o (IsCharBoundary text.now)) }
+{
+    match file_or_place::<Unbuilt>(alloc, text)? {
+        Ok(_) => Ok(None),
+        Err(place) => Ok(Some(place)),
+    }
+}
+
+/// The file that the tokens of this text spell, or the place of the token before which the reader stays.
+#[tactic(auto, using(crate::proofs::TextDecides::files))]
+fn file_or_place<'t, B: BuildFiles<'t>>(
+    alloc: Global,
+    text: &'t str,
+) -> Result<Result<B::File, usize>, AllocError>
+    ensures spelled { IfOk result (λ r. MatchResult r
+        (λ t. IsFile (lex Gap text.now) (B.files.file t))
+        (λ _. (t : normal.NormalFile) → IsFile (lex Gap text.now) t → ⊥)) }
+    ensures between { IfOk result (λ r. IfErr r (IsBetweenTokens text.now)) }
+    ensures boundary { IfOk result (λ r. IfErr r (IsCharBoundary text.now)) }
+{
+    let mut reader = Reader::new(alloc, text);
+    match reader.file::<B>() {
+        Ok(tree) => {
+            if reader.is_done() {
+                Ok(Ok(tree))
+            } else {
+                Ok(Err(reader.place_in(text)))
+            }
+        }
+        Err(Fault::Underived) => Ok(Err(reader.place_in(text))),
+        Err(Fault::Memory) => Err(AllocError),
+    }
+}
+
+/// The first token of a text, as it is written, with what stands before it; all of it, where no token fits.
+pub fn first_token(text: &str) -> &str
+    ensures { (rest : List ℕ) × (text.now ≡ result.now ++ rest) }
+{
+    match text.strip_suffix(behind_first(text)) {
+        Some(token) => token,
+        None => text,
+    }
+}
