@@ -6,4 +6,5 @@ mod first_program;
 mod handles;
 mod ids;
 mod literals;
+mod plain;
 mod replay;
