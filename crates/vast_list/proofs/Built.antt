@@ -14,7 +14,7 @@ use Rattle.vast_script.specs.Script.{Going, Run, call_of, gone_on, one_more}
 use Rattle.std.specs.Prelude.{IfOk, OnOk, filter}
 use Rattle.vast_list.specs.declared.fault.Fault.{Fault}
 use Rattle.vast_list.specs.declared.line.Call.{Call}
-use Rattle.vast_list.specs.declared.line.Call.TheVariants.{Step as StepCall, Helper as HelperCall}
+use Rattle.vast_list.specs.declared.line.Call.TheVariants.{Step as StepCall}
 use Rattle.vast_list.specs.declared.session.Given.{Given}
 use Rattle.vast_list.specs.declared.session.Given.TheVariants.{Nothing, Step as StepGiven, Helper as HelperGiven, Answer as Answered}
 use Rattle.vast_list.specs.declared.session.Session.{Session}

@@ -1,5 +1,5 @@
 -- How a line of JSON ends.
-use Rattle.std.proofs.Common.{◌≡◌, ℕ, ◌+◌, ◌<◌, length, get_or, take, Bor, Bool, true, false, List, ◌++◌, Option, Some, None, String, string_bytes, refl, sym, ap, ◌∙◌, subst, append_assoc}
+use Rattle.std.proofs.Common.{◌≡◌, ℕ, ◌+◌, ◌<◌, length, get_or, take, Bor, true, false, List, ◌++◌, Option, Some, None, String, string_bytes, refl, ap, ◌∙◌}
 use Rattle.std.specs.Prelude.{IsTrue, MatchOption, codes}
 use Rattle.std.specs.declared.alloc.Global.{Global}
 use Rattle.vast_core.specs.FileTree.{tree}

@@ -22,7 +22,7 @@ use Rattle.vast_list.specs.declared.line.Call.TheVariants.{Step as StepCall, Hel
 use Rattle.vast_list.specs.declared.session.Session.{Session}
 use Rattle.vast_list.specs.Helpers.{Helps, IsKept}
 use Rattle.vast_list.specs.CallNames.{call_name}
-use Rattle.vast_list.specs.Session.{Calls, HasMade, IsLeft, IsMade, IsSame, IsTextOf, IsToldAs}
+use Rattle.vast_list.specs.Session.{Calls, HasMade, IsLeft, IsMade, IsTextOf, IsToldAs}
 
 pub nodes-unused : (old new : Bench) → HasMoreNodes old new → HasUnused old new
 nodes-unused old new h =

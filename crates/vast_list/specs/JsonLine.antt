@@ -1,5 +1,5 @@
 -- What a list gives as a line of JSON: how the line ends.
-use Rattle.std.specs.Prelude.{◌≡◌, ℕ, true, false, List, ◌++◌, codes, IsTrue, Option, Some, None, String, string_bytes}
+use Rattle.std.specs.Prelude.{◌≡◌, ℕ, false, List, ◌++◌, codes, IsTrue, Option, Some, None, String, string_bytes}
 use Rattle.std.specs.declared.alloc.Global.{Global}
 use Rattle.vast_core.specs.FileTree.{tree}
 use Rattle.vast_literal.specs.declared.kind.VastFileType.{VastFileType}

@@ -1,4 +1,4 @@
-use Rattle.std.proofs.Common.{◌+◌, ℕ, ap, arith}
+use Rattle.std.proofs.Common.{◌+◌, ℕ, ap}
 use Rattle.std.proofs.lemmas.List.{get_or_default}
 use Rattle.vast_list.proofs.Outputs.{passed-more}
 use Rattle.vast_list.proofs.output.empty_lines.Goals as goal
