@@ -242,9 +242,13 @@ fn are_left_sides(known: Known<'_>, parts: &[usize]) -> bool {
         .all(|part| known.form(*part).left_rule().is_none())
 }
 
-/// What a call, a cast, an edge or a macro is.
+/// What a name, a call, a cast, an edge or a macro is.
 fn other(known: Known<'_>, step: &ExpressionStep, told: &mut Told) -> Result<Form, AllocError> {
     match step {
+        ExpressionStep::MakeName(name) => {
+            told.show_any(name_rule(known.dialect, name))?;
+            Ok(Form::Signal(None))
+        }
         ExpressionStep::MakeFunctionCall(name, arguments) => {
             operands(known, arguments, told)?;
             let is_keyword = name_rule(known.dialect, name) == Some(Rule::Keyword);
