@@ -4,7 +4,7 @@ use crate::facts::{Fact, Known};
 use crate::forms::{Base, Form, TypeForm};
 use crate::rule::Rule;
 use crate::warning::Told;
-use crate::words::{is_directive, name_rule};
+use crate::words::{is_directive, is_keyword};
 use std::alloc::AllocError;
 use vast_script::{ExpressionStep, OperatorStep};
 use xlsynth_vast::LiteralFormat;
@@ -246,13 +246,12 @@ fn are_left_sides(known: Known<'_>, parts: &[usize]) -> bool {
 fn other(known: Known<'_>, step: &ExpressionStep, told: &mut Told) -> Result<Form, AllocError> {
     match step {
         ExpressionStep::MakeName(name) => {
-            told.show_any(name_rule(known.dialect, name))?;
+            told.show_if(is_keyword(known.dialect, name), Rule::Keyword)?;
             Ok(Form::Signal(None))
         }
         ExpressionStep::MakeFunctionCall(name, arguments) => {
             operands(known, arguments, told)?;
-            let is_keyword = name_rule(known.dialect, name) == Some(Rule::Keyword);
-            told.show_if(is_keyword, Rule::Keyword)?;
+            told.show_if(is_keyword(known.dialect, name), Rule::Keyword)?;
             let is_bare = name.starts_with('$') && arguments.is_empty();
             told.show_if(is_bare, Rule::SystemCallWithoutArguments)?;
             Ok(Form::Computed)

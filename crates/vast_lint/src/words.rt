@@ -57,7 +57,7 @@ pub(crate) fn is_directive(name: &str) -> bool {
 }
 
 /// Whether the word is a keyword of the dialect.
-fn is_keyword(dialect: VastFileType, word: &str) -> bool {
+pub(crate) fn is_keyword(dialect: VastFileType, word: &str) -> bool {
     match dialect {
         VastFileType::SystemVerilog => is_system_verilog_keyword(word),
         VastFileType::Verilog => VERILOG_KEYWORDS.iter().any(|keyword| *keyword == word),
