@@ -28,6 +28,7 @@ mod table;
 mod talk;
 mod texts;
 mod tries;
+mod warnings;
 
 pub use fault::{Fault, LineFault};
 pub use json::push_json_text;
@@ -43,3 +44,4 @@ pub use table::json::calls_json;
 pub use table::text::calls_text;
 pub use talk::Talk;
 pub use tries::Tries;
+pub use warnings::{LineWarning, json_with_warnings, list_warnings};
