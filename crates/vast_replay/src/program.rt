@@ -13,8 +13,8 @@ use std::alloc::{AllocError, Global};
 use std::fmt::Write as _;
 use std::io::{ErrorKind, Read, Write};
 use vast_list::{
-    LineWarning, ListLines, ListOutput, Tries, Verdict, json_with_map, json_with_warnings,
-    list_json, list_origins, list_output, list_warnings, tried,
+    LineWarning, ListLines, ListOutput, Plainness, Tries, Verdict, json_with_map,
+    json_with_warnings, list_json, list_origins, list_output, list_plainness, list_warnings, tried,
 };
 
 /// What ends a run.
@@ -127,6 +127,7 @@ fn answer_list<W: Write, E: Write>(
     match manner.form {
         Form::Text | Form::Faults => answer_text(alloc, manner, list, out, err),
         Form::Json => answer_json(alloc, manner, list, out, err),
+        Form::Plain => answer_plain(alloc, manner, list, out, err),
     }
 }
 
@@ -164,6 +165,45 @@ fn answer_text<W: Write, E: Write>(
         let _ = err.write_all(told.as_bytes());
     }
     outcome.and(tell_warnings(alloc, manner, list, err))
+}
+
+/// Answers to `out` whether the list's file is plain, where nothing of the list is at fault.
+fn answer_plain<W: Write, E: Write>(
+    alloc: Global,
+    manner: Manner<'_>,
+    list: &ListLines<'_>,
+    out: &mut W,
+    err: &mut E,
+) -> Outcome
+    ensures { result ≡ Outcome.Made → E.contents err.new ≡ E.contents err.old }
+{
+    let outcome = answer_text(alloc, manner, list, out, err);
+    if !matches!(outcome, Outcome::Made | Outcome::Warned) {
+        return outcome;
+    }
+    let Ok((line, is_plain)) = tried!(manner.tries, plain_line(alloc, manner.source, list)) else {
+        return fail(Failure::Memory, err);
+    };
+    match out.write_all(line.as_bytes()) {
+        Ok(()) if is_plain => outcome,
+        Ok(()) => Outcome::Refused,
+        Err(_) => fail(Failure::Write, err),
+    }
+}
+
+/// The line that says whether the list's file is plain, and whether it is.
+fn plain_line(
+    alloc: Global,
+    source: &str,
+    list: &ListLines<'_>,
+) -> Result<(String, bool), AllocError> {
+    match list_plainness(alloc, list)? {
+        Some(found) => {
+            let line = format!(in alloc; "{source}:{found}\n")?;
+            Ok((line, matches!(&found, Plainness::Plain)))
+        }
+        None => Ok((String::new(alloc), false)),
+    }
 }
 
 /// Tells the list's warnings, where they are asked for, in one write.

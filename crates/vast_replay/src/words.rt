@@ -40,6 +40,8 @@ pub(crate) enum Form {
     Faults,
     /// A line of JSON.
     Json,
+    /// Whether the file is plain.
+    Plain,
 }
 
 /// Whether forms that are no SystemVerilog, or that a tool refuses, are told.
@@ -82,6 +84,7 @@ enum Mode {
     Session,
     Check,
     Json,
+    Plain,
 }
 
 impl Mode {
@@ -93,6 +96,7 @@ impl Mode {
             Mode::Session => "--session",
             Mode::Check => "--check",
             Mode::Json => "--json",
+            Mode::Plain => "--plain",
         }
     }
 }
@@ -150,6 +154,7 @@ impl<'a> Seen<'a> {
             "--session" => self.choose(Mode::Session)?,
             "--check" => self.choose(Mode::Check)?,
             "--json" => self.choose(Mode::Json)?,
+            "--plain" => self.choose(Mode::Plain)?,
             _ => return Err(WordFault::Unknown(word)),
         }
         Ok(())
@@ -175,6 +180,7 @@ impl<'a> Seen<'a> {
             Some(mode) if self.again => Err(WordFault::Together("--again", mode.word())),
             Some(mode) if self.map => Err(WordFault::Together("--map", mode.word())),
             Some(Mode::Check) => Ok(self.lists(Form::Faults)),
+            Some(Mode::Plain) => Ok(self.lists(Form::Plain)),
             Some(mode) if self.lint != Linting::Off => {
                 Err(WordFault::Together("--lint", mode.word()))
             }
@@ -236,7 +242,7 @@ mod tests {
     #[test]
     fn words_ask_for_one_thing(rt: HostRuntime) {
         let alloc = rt.alloc();
-        let rows: [(&[&str], &str); 32] = [
+        let rows: [(&[&str], &str); 34] = [
             (&[], "Text false 0"),
             (&["a.list", "-"], "Text false 2"),
             (&["--again"], "Text true 0"),
@@ -283,6 +289,11 @@ mod tests {
             (
                 &["--lint", "--session"],
                 "--lint and --session exclude each other",
+            ),
+            (&["--plain", "--lint", "a.list"], "Plain false 1 lint"),
+            (
+                &["--plain", "--json"],
+                "--plain and --json exclude each other",
             ),
             (&["--session", "a.list"], "--session takes no file"),
             (&["--calls", "-"], "--calls takes no file"),
