@@ -121,7 +121,6 @@ pub(crate) fn row_of(rule: Rule) -> Row {
         Rule::VerilogCast => ("a cast is no Verilog", Tools::All),
         Rule::VerilogAlways => ("`always_comb` and `always_ff` are no Verilog", Tools::All),
         Rule::VerilogLogic => ("`logic` is no Verilog", Tools::VerilatorAndYosys),
-        Rule::VerilogUnique => ("`unique` is no Verilog", Tools::All),
         Rule::VerilogPattern => ("an assignment pattern is no Verilog", Tools::All),
         Rule::VerilogType => ("a type's name in a declaration is no Verilog", Tools::All),
     };

@@ -91,7 +91,6 @@ pub enum Rule {
     VerilogCast,
     VerilogAlways,
     VerilogLogic,
-    VerilogUnique,
     VerilogPattern,
     VerilogType,
 }

@@ -145,7 +145,6 @@ fn of_case(known: Known<'_>, step: &StatementStep, told: &mut Told) -> Result<Fa
         }
         StatementStep::CaseSetUnique(owner, is_unique) => {
             let is_generate = known.is_generate(*owner);
-            told.tell_if(*is_unique && known.is_verilog(), Rule::VerilogUnique)?;
             told.tell_if(*is_unique && is_generate, Rule::UniqueInGenerate)?;
             Ok(Fact::Other)
         }
