@@ -1,16 +1,10 @@
--- What is left at the end of a list is told, and no more; and what a name goes on with.
-use Rattle.std.proofs.Common.{◌≡◌, ℕ, ◌<◌, ◌+◌, List, [], ◌∷◌, ◌++◌, Bool, ◌&&◌, length, drop, get_or, refl, sym, ap, ◌∙◌}
-use Rattle.std.specs.List.{list_all}
+-- What is left at the end of a list is told, and no more.
+use Rattle.std.proofs.Common.{◌≡◌, ℕ, ◌<◌, ◌+◌, List, [], ◌∷◌, ◌++◌, length, drop, get_or, sym, ap, ◌∙◌}
 use Rattle.std.proofs.Math.Seq.{drop-length}
 use Rattle.std.proofs.lemmas.List.{append-nil, append_assoc, drop_more}
-use Rattle.vast_literal.specs.LiteralToken.{every}
 use Rattle.vast_literal.specs.declared.kind.VastFileType.{VastFileType}
 use Rattle.vast_lint.specs.declared.facts.Fact.{Fact}
 use Rattle.vast_lint.specs.Lint.{left_one, unmended}
-
-pub every_is : (p : ℕ → Bool) (cs : List ℕ) → every p cs ≡ list_all p cs
-every_is p [] = refl
-every_is p (c ∷ cs) = ap (λ b. p c && b) (every_is p cs)
 
 next : (dialect : VastFileType) (facts : List Fact) (n : ℕ) (fact : Fact) → n < length facts → fact ≡ get_or facts n fact → unmended dialect n (drop n facts) ≡ left_one dialect n fact ++ unmended dialect (n + 1) (drop (n + 1) facts)
 next dialect facts n fact low is = ap (unmended dialect n) (drop_more facts n fact low ∙ ap (λ (f : Fact). f ∷ drop (n + 1) facts) (sym is))

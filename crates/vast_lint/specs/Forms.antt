@@ -1,5 +1,7 @@
--- Where an expression may stand.
-use Rattle.std.specs.Prelude.{Bool, true, false}
+-- Where an expression may stand, and what a name is.
+use Rattle.std.specs.Prelude.{ℕ, List, [], ◌∷◌, Bool, true, false, ◌&&◌}
+use Rattle.std.specs.List.{list_all}
+use Rattle.vast_literal.specs.Scan.{is_letter, is_word_byte}
 use Rattle.vast_lint.specs.declared.forms.Form.{Form}
 use Rattle.vast_lint.specs.declared.forms.Form.TheVariants.{Signal, Bit, Part, Constant, Concat, Pattern, Other}
 
@@ -20,3 +22,8 @@ is_left_side (Concat parts) = parts
 is_left_side Pattern = true
 is_left_side Other = true
 is_left_side _ = false
+
+-- A simple identifier (IEEE 1800-2017, 5.6): a letter of ASCII or `_`, then letters, digits, `_` and `$`.
+abbrev pub is_simple : List ℕ → Bool
+is_simple [] = false
+is_simple (c ∷ cs) = is_letter c && list_all is_word_byte cs

@@ -1,9 +1,9 @@
 //! Names, directives and comments that a tool takes for more than they are.
 
 ghost use Rattle.std.specs.Prelude.{◌≡◌};
-ghost use Rattle.vast_literal.specs.LiteralToken.{every};
-ghost use Rattle.vast_literal.specs.Plain.{is_identifier};
+ghost use Rattle.std.specs.List.{list_all};
 ghost use Rattle.vast_literal.specs.Scan.{is_letter, is_word_byte};
+ghost use Rattle.vast_lint.specs.Forms.{is_simple};
 
 use crate::rule::Rule;
 use xlsynth_vast::{VastFileType, is_system_verilog_keyword};
@@ -77,22 +77,26 @@ fn continues_name(byte: u8) -> bool
 }
 
 /// Whether a name may go on with each of these bytes.
-#[tactic(auto, using(crate::proofs::Warnings::every_is))]
 fn continue_name(bytes: &[u8]) -> bool
-    ensures { result ≡ every is_word_byte bytes.now }
+    ensures { result ≡ list_all is_word_byte bytes.now }
 {
     bytes.iter().all(|byte| continues_name(*byte))
 }
 
-/// Whether the text is a simple identifier (IEEE 1800-2017, 5.6), be it a keyword or not: a letter of ASCII or `_`, and
+/// Whether the bytes are a simple identifier (IEEE 1800-2017, 5.6), be it a keyword or not: a letter of ASCII or `_`, and
 /// then letters, digits, `_` and `$`.
-fn is_identifier(text: &str) -> bool
-    ensures { result ≡ is_identifier text.now }
+fn is_simple(bytes: &[u8]) -> bool
+    ensures { result ≡ is_simple bytes.now }
 {
-    match text.as_bytes() {
-        [first, rest @ ..] => begins_name(*first) && continue_name(rest),
-        [] => false,
+    match bytes.split_first() {
+        Some((first, rest)) => begins_name(*first) && continue_name(rest),
+        None => false,
     }
+}
+
+/// Whether the text is a simple identifier.
+fn is_identifier(text: &str) -> bool {
+    is_simple(text.as_bytes())
 }
 
 /// Whether the text is an escaped identifier (IEEE 1800-2017, 5.6.1): `\`, printable characters, and a space.
