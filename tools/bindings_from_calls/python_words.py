@@ -31,6 +31,7 @@ MEANINGS = {
     "type_width_as_int64": "The width, in bits, that the type within the arrays declares",
     "type_flat_bit_count_as_int64": "The bits of the type within the arrays times all dimensions",
     "conditional_has_else": "Whether it has its `else`",
+    "file_is_plain": "Whether each printed name is an identifier, no edge stands in an expression, and no text is inline",
     "is_system_verilog_keyword": "Whether the word is a keyword of Verilog or SystemVerilog",
     "name_is_free": "Whether no port, wire, reg, logic or function of the module has the name",
     "type_can_be_cast": "Whether it is no array",

@@ -48,6 +48,7 @@ class Items(FileTest):
         self.assertEqual(file.logic_ref_name(signal), "e")
         self.assertIs(file.name_is_free(module, "a"), False)
         self.assertIs(file.name_is_free(module, "z"), True)
+        self.assertIs(file.file_is_plain(), True)
         self.assertIs(file.is_system_verilog_keyword("logic"), True)
         self.assertIs(file.is_system_verilog_keyword("Logic"), False)
 

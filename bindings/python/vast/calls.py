@@ -1036,6 +1036,12 @@ class Calls(Core):
         """
         return self._ask(f"?EmitExpression {self._value(e)}")
 
+    def file_is_plain(self) -> bool:
+        """Whether each printed name is an identifier, no edge stands in an expression, and no
+        text is inline.
+        """
+        return read_truth(self._ask("?FileIsPlain"))
+
     def is_system_verilog_keyword(self, identifier: str) -> bool:
         """Whether the word is a keyword of Verilog or SystemVerilog."""
         return read_truth(self._ask(f"?IsSystemVerilogKeyword {quoted(identifier)}"))

@@ -15,6 +15,14 @@ impl VastFile {
         self.asked("?EmitExpression", self.own(expression.0))
     }
 
+    /// Whether each printed name is an identifier, no edge stands in an expression, and no text is inline; an include's path
+    /// and left sides are then such that the text reads back as the file.
+    pub fn is_plain(&self) -> bool {
+        let mut state = self.locked();
+        state.line.begin("?FileIsPlain");
+        state.ask().unwrap_or_else(|fault| give_up(fault, "")) == "true"
+    }
+
     /// The module's name.
     pub fn module_name(&self, module: VastModule) -> String {
         self.asked("?ModuleName", self.own(module.0))

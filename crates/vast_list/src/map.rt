@@ -51,7 +51,7 @@ pub fn list_origins(alloc: Global, list: &ListLines<'_>) -> Result<Option<Origin
 }
 
 /// Whether the line's call can change the file's text: what a `Make` call answers stands nowhere yet.
-fn may_write(line: &[u8]) -> bool {
+pub(crate) fn may_write(line: &[u8]) -> bool {
     match text_of(line) {
         Ok(text) => !split_line(text).1.starts_with("Make"),
         Err(_) => false,

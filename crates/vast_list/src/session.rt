@@ -230,6 +230,27 @@ impl Session {
         self.lines.get(place).copied()
     }
 
+    /// The call that the line makes; `None` where it makes none, or is not in the form.
+    ///
+    /// # Errors
+    /// Want of memory.
+    pub(crate) fn call_of(&self, line: &[u8]) -> Result<Option<Call>, AllocError> {
+        let Ok(text) = text_of(line) else {
+            return Ok(None);
+        };
+        if is_empty(text) {
+            return Ok(None);
+        }
+        match self.read(0, text) {
+            Ok(line) => match line.action {
+                Action::Call(call) => Ok(Some(call)),
+                Action::Ask(_) => Ok(None),
+            },
+            Err(Fault::Memory) => Err(AllocError),
+            Err(Fault::Line(_)) => Ok(None),
+        }
+    }
+
     fn known(&self) -> Known<'_> {
         Known {
             alloc: self.file.allocator(),

@@ -2,7 +2,7 @@
 
 use crate::outcome::Outcome;
 use crate::program::{Failure, Manner, answer_lists, fail, run, tell};
-use crate::words::Form;
+use crate::words::{Form, Linting};
 use std::fs;
 use std::io::{ErrorKind, IsTerminal, Write};
 use vast_list::{Tries, tried};
@@ -15,6 +15,7 @@ pub(crate) fn answer_files(
     form: Form,
     again: bool,
     map: bool,
+    lint: Linting,
     files: &[&str],
 ) -> Outcome {
     let tries = if again { Tries::Again } else { Tries::Once };
@@ -22,6 +23,7 @@ pub(crate) fn answer_files(
     let manner = Manner {
         form,
         map,
+        lint,
         tries,
         source,
     };
@@ -61,6 +63,7 @@ fn answer_file(rt: &HostRuntime, manner: Manner<'_>, file: &str) -> Outcome {
             let manner = Manner {
                 form: manner.form,
                 map: manner.map,
+                lint: manner.lint,
                 tries: manner.tries,
                 source: file,
             };

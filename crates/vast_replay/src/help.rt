@@ -2,8 +2,9 @@
 
 /// How the program is called.
 pub(crate) const HELP: &str = "\
-vast_replay [--json] [--map] [--again] [FILE ..]
-vast_replay --check [FILE ..]
+vast_replay [--json] [--map] [--lint] [--strict] [--again] [FILE ..]
+vast_replay --check [--lint] [--strict] [FILE ..]
+vast_replay --plain [FILE ..]
 vast_replay --session
 vast_replay --calls [--json]
 
@@ -14,6 +15,11 @@ standard input.
   --json     prints a line of JSON for each list
   --map      prints each line of a text behind the number of the line of the list that it comes from, and a tab; with
              --json as a member, `map`
+  --lint     tells on standard error, as faults are told, what the calls print that is no SystemVerilog or Verilog, or
+             that Icarus, Verilator or Yosys refuses; with --json as a member, `warnings`
+  --strict   --lint, and status 1 where anything was told
+  --plain    prints whether each list's file is plain, `counter.list: plain`; else the first call that makes it so,
+             `counter.list:12: AddWire: not plain`, and status 1
   --session  answers each line of standard input at once, by a line of JSON
   --calls    prints the table of all calls, with --json as JSON
   --again    tries once more what was refused memory, for tests that refuse it

@@ -90,9 +90,10 @@ fn answer_words(rt: &HostRuntime, words: &[&str]) -> Outcome {
                 form,
                 again,
                 map,
+                lint,
                 files,
             },
-        ) => answer_files(rt, form, again, map, &files),
+        ) => answer_files(rt, form, again, map, lint, &files),
         Err(WordFault::Memory) => fail(Failure::Memory, &mut err),
         Err(fault) => {
             let told = format!(in alloc; "vast_replay: {fault}; --help tells the words\n");

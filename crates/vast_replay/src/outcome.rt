@@ -1,12 +1,14 @@
 //! How a run ends.
 
-ghost use Rattle.std.specs.Prelude.{◌≡◌, ◌≤◌};
+ghost use Rattle.std.specs.Prelude.{◌≡◌, ◌≤◌, ◌⊎◌};
 
 /// What became of lists.
 #[derive(Clone, Copy, Debug, PartialEq, Eq)]
 pub enum Outcome {
     /// All of them were made.
     Made,
+    /// All of them were made, and forms were told that are no SystemVerilog or that a tool refuses.
+    Warned,
     /// A list was refused, and its output says so.
     Told,
     /// A list was refused, and nothing is printed of it.
@@ -28,6 +30,7 @@ impl Outcome {
             (Outcome::NotInForm, _) | (_, Outcome::NotInForm) => Outcome::NotInForm,
             (Outcome::Refused, _) | (_, Outcome::Refused) => Outcome::Refused,
             (Outcome::Told, _) | (_, Outcome::Told) => Outcome::Told,
+            (Outcome::Warned, _) | (_, Outcome::Warned) => Outcome::Warned,
             (Outcome::Made, Outcome::Made) => Outcome::Made,
         }
     }
@@ -35,10 +38,10 @@ impl Outcome {
     /// The program's status.
     pub fn status(self) -> u8
         ensures most { result ≤ 3 }
-        ensures made { result ≡ 0 → self ≡ Outcome.Made }
+        ensures made { result ≡ 0 → (self ≡ Outcome.Made) ⊎ (self ≡ Outcome.Warned) }
     {
         match self {
-            Outcome::Made => 0,
+            Outcome::Made | Outcome::Warned => 0,
             Outcome::Refused | Outcome::Failed => 1,
             Outcome::NotInForm => 2,
             Outcome::Told => 3,

@@ -8,13 +8,13 @@ mod tests;
 
 use crate::input::split_lists;
 use crate::outcome::Outcome;
-use crate::words::Form;
+use crate::words::{Form, Linting};
 use std::alloc::{AllocError, Global};
 use std::fmt::Write as _;
 use std::io::{ErrorKind, Read, Write};
 use vast_list::{
-    ListLines, ListOutput, Tries, Verdict, json_with_map, list_json, list_origins, list_output,
-    tried,
+    LineWarning, ListLines, ListOutput, Plainness, Tries, Verdict, json_with_map,
+    json_with_warnings, list_json, list_origins, list_output, list_plainness, list_warnings, tried,
 };
 
 /// What ends a run.
@@ -46,6 +46,8 @@ pub struct Manner<'a> {
     pub form: Form,
     /// Whether each line of a text is printed behind the line of the list that it comes from.
     pub map: bool,
+    /// Whether forms that are no SystemVerilog, or that a tool refuses, are told.
+    pub lint: Linting,
     /// How often what was refused memory is tried.
     pub tries: Tries,
     /// What stands before each fault: where the lists are from.
@@ -125,6 +127,7 @@ fn answer_list<W: Write, E: Write>(
     match manner.form {
         Form::Text | Form::Faults => answer_text(alloc, manner, list, out, err),
         Form::Json => answer_json(alloc, manner, list, out, err),
+        Form::Plain => answer_plain(alloc, manner, list, out, err),
     }
 }
 
@@ -161,7 +164,90 @@ fn answer_text<W: Write, E: Write>(
     if outcome != Outcome::Made {
         let _ = err.write_all(told.as_bytes());
     }
+    outcome.and(tell_warnings(alloc, manner, list, err))
+}
+
+/// Answers to `out` whether the list's file is plain, where nothing of the list is at fault.
+fn answer_plain<W: Write, E: Write>(
+    alloc: Global,
+    manner: Manner<'_>,
+    list: &ListLines<'_>,
+    out: &mut W,
+    err: &mut E,
+) -> Outcome
+    ensures { result ≡ Outcome.Made → E.contents err.new ≡ E.contents err.old }
+{
+    let outcome = answer_text(alloc, manner, list, out, err);
+    if !matches!(outcome, Outcome::Made | Outcome::Warned) {
+        return outcome;
+    }
+    let Ok((line, is_plain)) = tried!(manner.tries, plain_line(alloc, manner.source, list)) else {
+        return fail(Failure::Memory, err);
+    };
+    match out.write_all(line.as_bytes()) {
+        Ok(()) if is_plain => outcome,
+        Ok(()) => Outcome::Refused,
+        Err(_) => fail(Failure::Write, err),
+    }
+}
+
+/// The line that says whether the list's file is plain, and whether it is.
+fn plain_line(
+    alloc: Global,
+    source: &str,
+    list: &ListLines<'_>,
+) -> Result<(String, bool), AllocError> {
+    match list_plainness(alloc, list)? {
+        Some(found) => {
+            let line = format!(in alloc; "{source}:{found}\n")?;
+            Ok((line, matches!(&found, Plainness::Plain)))
+        }
+        None => Ok((String::new(alloc), false)),
+    }
+}
+
+/// Tells the list's warnings, where they are asked for, in one write.
+fn tell_warnings<E: Write>(
+    alloc: Global,
+    manner: Manner<'_>,
+    list: &ListLines<'_>,
+    err: &mut E,
+) -> Outcome
+    ensures { result ≡ Outcome.Made → E.contents err.new ≡ E.contents err.old }
+{
+    if manner.lint == Linting::Off {
+        return Outcome::Made;
+    }
+    let Ok(warnings) = tried!(manner.tries, list_warnings(alloc, list)) else {
+        return fail(Failure::Memory, err);
+    };
+    let Ok(told) = tried!(manner.tries, warned(alloc, manner.source, &warnings)) else {
+        return fail(Failure::Memory, err);
+    };
+    let outcome = warned_outcome(manner.lint, warnings.is_empty());
+    if outcome != Outcome::Made {
+        let _ = err.write_all(told.as_bytes());
+    }
     outcome
+}
+
+/// What becomes of lists where forms are told, or none.
+fn warned_outcome(lint: Linting, is_clean: bool) -> Outcome {
+    match lint {
+        _ if is_clean => Outcome::Made,
+        Linting::Off => Outcome::Made,
+        Linting::Told => Outcome::Warned,
+        Linting::Strict => Outcome::Refused,
+    }
+}
+
+/// The warnings, each in a line behind its source.
+fn warned(alloc: Global, source: &str, warnings: &[LineWarning]) -> Result<String, AllocError> {
+    let mut told = String::new(alloc);
+    for warning in warnings {
+        writeln!(told, "{source}:{warning}")?;
+    }
+    Ok(told)
 }
 
 /// The list's output; with a map each line of the file's text stands behind the line of the list that it comes from.
@@ -195,8 +281,11 @@ fn answer_json<W: Write, E: Write>(
     let Ok((line, verdict)) = tried!(manner.tries, json(alloc, manner, list)) else {
         return fail(Failure::Memory, err);
     };
+    let Ok((line, linted)) = tried!(manner.tries, json_linted(alloc, manner, list, &line)) else {
+        return fail(Failure::Memory, err);
+    };
     match out.write_all(line.as_bytes()) {
-        Ok(()) => outcome_of(verdict, list.title.is_some()),
+        Ok(()) => outcome_of(verdict, list.title.is_some()).and(linted),
         Err(_) => fail(Failure::Write, err),
     }
 }
@@ -213,6 +302,21 @@ fn json(
     } else {
         Ok((line, verdict))
     }
+}
+
+/// The line with the list's warnings, where they are asked for.
+fn json_linted(
+    alloc: Global,
+    manner: Manner<'_>,
+    list: &ListLines<'_>,
+    line: &str,
+) -> Result<(String, Outcome), AllocError> {
+    if manner.lint == Linting::Off {
+        return Ok((String::from_str(alloc, line)?, Outcome::Made));
+    }
+    let warnings = list_warnings(alloc, list)?;
+    let line = json_with_warnings(alloc, line, &warnings)?;
+    Ok((line, warned_outcome(manner.lint, warnings.is_empty())))
 }
 
 fn outcome_of(verdict: Verdict, has_title: bool) -> Outcome {

@@ -24,6 +24,8 @@ pub(crate) enum Request<'a> {
         again: bool,
         /// Whether each line of a text is printed behind the line of the list that it comes from.
         map: bool,
+        /// Which forms are told beside the faults.
+        lint: Linting,
         /// The files' names, where `-` is standard input.
         files: Vec<&'a str>,
     },
@@ -38,6 +40,19 @@ pub(crate) enum Form {
     Faults,
     /// A line of JSON.
     Json,
+    /// Whether the file is plain.
+    Plain,
+}
+
+/// Whether forms that are no SystemVerilog, or that a tool refuses, are told.
+#[derive(Clone, Copy, Debug, PartialEq, Eq)]
+pub enum Linting {
+    /// None is.
+    Off,
+    /// Each is, and the status is what it is without.
+    Told,
+    /// Each is, and the status is that of a refused list where one was.
+    Strict,
 }
 
 /// Why the words ask for nothing.
@@ -59,7 +74,7 @@ impl From<AllocFailed<&str>> for WordFault<'_> {
     }
 }
 
-/// What is asked for but for files, `--again` and `--map`.
+/// What is asked for but for files, `--again`, `--map` and `--lint`.
 #[derive(Clone, Copy, PartialEq, Eq)]
 enum Mode {
     Help,
@@ -69,6 +84,7 @@ enum Mode {
     Session,
     Check,
     Json,
+    Plain,
 }
 
 impl Mode {
@@ -80,6 +96,7 @@ impl Mode {
             Mode::Session => "--session",
             Mode::Check => "--check",
             Mode::Json => "--json",
+            Mode::Plain => "--plain",
         }
     }
 }
@@ -90,6 +107,7 @@ struct Seen<'a> {
     mode: Option<Mode>,
     again: bool,
     map: bool,
+    lint: Linting,
     /// Whether `--` was there, behind which each word is a file.
     only_files: bool,
     files: Vec<&'a str>,
@@ -107,6 +125,7 @@ pub(crate) fn requested<'a>(
         mode: None,
         again: false,
         map: false,
+        lint: Linting::Off,
         only_files: false,
         files: Vec::new(alloc),
     };
@@ -126,12 +145,16 @@ impl<'a> Seen<'a> {
             "--" => self.only_files = true,
             "--again" => self.again = true,
             "--map" => self.map = true,
+            "--lint" if self.lint == Linting::Off => self.lint = Linting::Told,
+            "--lint" => {}
+            "--strict" => self.lint = Linting::Strict,
             "--help" | "-h" => self.choose(Mode::Help)?,
             "--version" | "-V" => self.choose(Mode::Version)?,
             "--calls" => self.choose(Mode::Calls)?,
             "--session" => self.choose(Mode::Session)?,
             "--check" => self.choose(Mode::Check)?,
             "--json" => self.choose(Mode::Json)?,
+            "--plain" => self.choose(Mode::Plain)?,
             _ => return Err(WordFault::Unknown(word)),
         }
         Ok(())
@@ -157,6 +180,10 @@ impl<'a> Seen<'a> {
             Some(mode) if self.again => Err(WordFault::Together("--again", mode.word())),
             Some(mode) if self.map => Err(WordFault::Together("--map", mode.word())),
             Some(Mode::Check) => Ok(self.lists(Form::Faults)),
+            Some(Mode::Plain) => Ok(self.lists(Form::Plain)),
+            Some(mode) if self.lint != Linting::Off => {
+                Err(WordFault::Together("--lint", mode.word()))
+            }
             Some(mode) if !self.files.is_empty() => Err(WordFault::WithFile(mode.word())),
             Some(Mode::Version) => Ok(Request::Version),
             Some(Mode::Calls) => Ok(Request::Calls),
@@ -170,6 +197,7 @@ impl<'a> Seen<'a> {
             form,
             again: self.again,
             map: self.map,
+            lint: self.lint,
             files: self.files,
         }
     }
@@ -177,7 +205,7 @@ impl<'a> Seen<'a> {
 
 #[cfg(test)]
 mod tests {
-    use super::{Form, Request, WordFault, requested};
+    use super::{Form, Linting, Request, WordFault, requested};
     use std::alloc::Global;
 
     /// What was asked for, in short.
@@ -193,11 +221,17 @@ mod tests {
                     form,
                     again,
                     map,
+                    lint,
                     files,
                 },
             ) => {
+                let lint = match lint {
+                    Linting::Off => "",
+                    Linting::Told => " lint",
+                    Linting::Strict => " strict",
+                };
                 let map = if map { " map" } else { "" };
-                format!(in alloc; "{form:?} {again} {}{map}", files.len())
+                format!(in alloc; "{form:?} {again} {}{map}{lint}", files.len())
             }
             Err(WordFault::Memory) => String::from_str(alloc, "no memory"),
             Err(fault) => format!(in alloc; "{fault}"),
@@ -208,7 +242,7 @@ mod tests {
     #[test]
     fn words_ask_for_one_thing(rt: HostRuntime) {
         let alloc = rt.alloc();
-        let rows: [(&[&str], &str); 28] = [
+        let rows: [(&[&str], &str); 34] = [
             (&[], "Text false 0"),
             (&["a.list", "-"], "Text false 2"),
             (&["--again"], "Text true 0"),
@@ -248,6 +282,18 @@ mod tests {
             (
                 &["--map", "--calls"],
                 "--map and --calls exclude each other",
+            ),
+            (&["--lint", "a.list"], "Text false 1 lint"),
+            (&["--strict", "--lint", "--check"], "Faults false 0 strict"),
+            (&["--lint", "--map", "--json"], "Json false 0 map lint"),
+            (
+                &["--lint", "--session"],
+                "--lint and --session exclude each other",
+            ),
+            (&["--plain", "--lint", "a.list"], "Plain false 1 lint"),
+            (
+                &["--plain", "--json"],
+                "--plain and --json exclude each other",
             ),
             (&["--session", "a.list"], "--session takes no file"),
             (&["--calls", "-"], "--calls takes no file"),

@@ -10,6 +10,9 @@ use xlsynth_vast::{is_system_verilog_keyword, Expr, ModulePort, VastFile, VastMo
 
 /// What the question is answered.
 pub fn ask(file: &VastFile, answers: &Answers, line: &Line) -> Result<String, Fault> {
+    if line.call == "?FileIsPlain" {
+        return Ok(file.is_plain().to_string());
+    }
     let first = &line.arguments[0];
     Ok(match line.call.as_str() {
         "?EmitExpression" => file.emit_expression(&answers.handle(first)?),

@@ -12,6 +12,7 @@ pub(crate) enum ValueQuestion {
     ConditionalHasElse(usize),
     Emit,
     EmitExpression(usize),
+    FileIsPlain,
     IsSystemVerilogKeyword(String),
     TypeCanBeCast(usize),
     TypeCanBePacked(usize),
@@ -31,6 +32,7 @@ pub(crate) fn value_question(
         "?ConditionalHasElse" => arguments.one(ValueQuestion::ConditionalHasElse),
         "?Emit" => arguments.none(ValueQuestion::Emit),
         "?EmitExpression" => arguments.one(ValueQuestion::EmitExpression),
+        "?FileIsPlain" => arguments.none(ValueQuestion::FileIsPlain),
         "?IsSystemVerilogKeyword" => arguments.one(ValueQuestion::IsSystemVerilogKeyword),
         "?TypeCanBeCast" => arguments.one(ValueQuestion::TypeCanBeCast),
         "?TypeCanBePacked" => arguments.one(ValueQuestion::TypeCanBePacked),
@@ -62,6 +64,7 @@ pub(crate) fn answer_value(
             let expression: Expr = one(file, answers, *expression)?;
             Ok(Value::Text(file.emit_expression(&expression)?))
         }
+        ValueQuestion::FileIsPlain => Ok(Value::Truth(file.is_plain()?)),
         ValueQuestion::IsSystemVerilogKeyword(word) => {
             Ok(Value::Truth(is_system_verilog_keyword(word)))
         }

@@ -4,7 +4,7 @@ use super::by_name::{CONDITIONAL, DATA_TYPE, E, IDENTIFIER, LOGIC_REF, NAME, OWN
 use super::{CallRow, kinds};
 
 /// Questions, which change nothing.
-pub(super) static CALLS: [CallRow; 18] = [
+pub(super) static CALLS: [CallRow; 19] = [
     CallRow {
         name: "?ConditionalHasElse",
         parameters: &[CONDITIONAL],
@@ -19,6 +19,11 @@ pub(super) static CALLS: [CallRow; 18] = [
         name: "?EmitExpression",
         parameters: &[E],
         answer: kinds::TEXT,
+    },
+    CallRow {
+        name: "?FileIsPlain",
+        parameters: &[],
+        answer: kinds::TRUTH,
     },
     CallRow {
         name: "?IsSystemVerilogKeyword",

@@ -3,7 +3,7 @@
 use super::{Manner, run};
 use crate::outcome::Outcome;
 use crate::session::answer_lines;
-use crate::words::Form;
+use crate::words::{Form, Linting};
 use std::alloc::Global;
 use std::io;
 use std::io::{Read, Write};
@@ -54,6 +54,7 @@ fn outcome_of(alloc: Global, form: Form, tries: Tries, list: &[u8]) -> Ran {
     let manner = Manner {
         form,
         map: false,
+        lint: Linting::Off,
         tries,
         source,
     };
@@ -166,6 +167,7 @@ fn failing_streams_are_told(rt: HostRuntime) {
     let manner = Manner {
         form,
         map: false,
+        lint: Linting::Off,
         tries,
         source,
     };
@@ -189,6 +191,7 @@ fn mapped(alloc: Global, form: Form, list: &str) -> Vec<u8> {
     let manner = Manner {
         form,
         map: true,
+        lint: Linting::Off,
         tries: Tries::Once,
         source: "a.list",
     };
