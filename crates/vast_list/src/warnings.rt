@@ -127,11 +127,15 @@ fn shown_text(session: &Session, shown: Option<usize>) -> Result<Option<String>,
     let Some(place) = shown else {
         return Ok(None);
     };
-    let Ok(made) = one(session.file(), session.answers(), place) else {
+    let file = session.file();
+    let Ok(made) = one(file, session.answers(), place) else {
         return Ok(None);
     };
     let made: Expr = made;
-    match session.file().emit_expression(&made) {
+    if !file.owns(&made) {
+        return Ok(None);
+    }
+    match file.emit_expression(&made) {
         Ok(text) => Ok(Some(text)),
         Err(VastFault::Refused(_)) => Ok(None),
         Err(VastFault::Memory(error)) => Err(error),
