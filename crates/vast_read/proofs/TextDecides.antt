@@ -1,7 +1,8 @@
 -- What is decided of a text: whether the grammar derives a file from it, and which.
 use Rattle.std.proofs.Common.{◌≡◌, ℕ, Bool, List, [], Option, Some, None, Result, Ok, Err, IfOk, IfSome, option_map, refl, sym, ap, subst, arith, ◌∙◌}
 use Rattle.std.specs.Bool.{MatchBool}
-use Rattle.std.specs.Option.{is_some}
+use Rattle.std.specs.Option.{is_some, MatchOption}
+use Rattle.std.specs.Result.{MatchResult}
 use Rattle.vast_literal.specs.Tokens.{Token}
 use Rattle.vast_literal.specs.Scan.{Gap}
 use Rattle.vast_read.specs.Lexed.{lex}
@@ -55,6 +56,21 @@ pub text_decides :
     (o ≡ None → (t : NormalFile) → IsFile (lex Gap text) t → ⊥) → MatchBool answer ((t : NormalFile) × DerivesFile text t) ((t : NormalFile) → DerivesFile text t → ⊥)
 text_decides text see (Some x) answer e d n = rw e (see x, text_derives text (see x) d)
 text_decides text see None answer e d n = rw e (text_without_file text (n refl))
+
+-- Where no file is derived, by what was read.
+
+abbrev pub Spells : {F : Type 0} → List ℕ → (F → NormalFile) → Result F ℕ → Type 0
+Spells text see read = MatchResult read (λ x. IsFile (lex Gap text) (see x)) (λ _. (t : NormalFile) → IsFile (lex Gap text) t → ⊥)
+
+abbrev pub Decides : {E : Type 0} → List ℕ → Result (Option ℕ) E → Type 0
+Decides text answer = IfOk answer (λ o. MatchOption o ((t : NormalFile) × DerivesFile text t) (λ _. (t : NormalFile) → DerivesFile text t → ⊥))
+
+module _ {F E : Type 0} (text : List ℕ) (see : F → NormalFile) where
+  pub no_place : (read : Result F ℕ) (x : F) (answer : Result (Option ℕ) E) → read ≡ Ok x → answer ≡ Ok None → Spells text see read → Decides text answer
+  no_place read x answer e a d = rw a (see x, text_derives text (see x) (subst (Spells text see) e d))
+
+  pub one_place : (read : Result F ℕ) (place : ℕ) (answer : Result (Option ℕ) E) → read ≡ Err place → answer ≡ Ok (Some place) → Spells text see read → Decides text answer
+  one_place read place answer e a n = rw a (text_without_file text (subst (Spells text see) e n))
 
 pub ruleset places = (text_derives, text_without_file)
 
