@@ -121,9 +121,10 @@ def read_table(source, page):
     calls = []
     for each in given["calls"]:
         method = each["method"]
-        if method not in said:
-            raise SystemExit(f"docs/CALLS.md: no row for {method}")
-        meaning, conditions, is_refused = said[method]
+        name = NAMES.get(method, method)
+        if name not in said:
+            raise SystemExit(f"docs/CALLS.md: no row for {name}")
+        meaning, conditions, is_refused = said[name]
         calls.append(
             Call(
                 each["call"],
@@ -140,6 +141,8 @@ def read_table(source, page):
     return Table(tuple(kinds), tuple(calls))
 
 
+# Calls whose name in Rust is another.
+NAMES = {"file_is_plain": "is_plain"}
 NEVER = "; never refused by name"
 ROW = re.compile(r"^\| `(?:helpers::)?(\w+)\(.*?\)(?: -> ([^`]+))?` \|[^|]*\| (.*?) \| (.*?) ?\|$")
 

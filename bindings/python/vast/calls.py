@@ -1037,8 +1037,8 @@ class Calls(Core):
         return self._ask(f"?EmitExpression {self._value(e)}")
 
     def file_is_plain(self) -> bool:
-        """Whether each printed name is an identifier, no edge stands in an expression, and no
-        text is inline.
+        """Whether each printed name is an identifier, no edge stands in an expression, and no text
+        is inline.
         """
         return read_truth(self._ask("?FileIsPlain"))
 
