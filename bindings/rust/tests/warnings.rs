@@ -58,7 +58,10 @@ fn what_the_end_tells_is_mended() {
 
 #[test]
 fn verilog_has_rules_of_its_own() {
-    for (dialect, told) in [(VastFileType::Verilog, 40), (VastFileType::SystemVerilog, 0)] {
+    for (dialect, told) in [
+        (VastFileType::Verilog, 40),
+        (VastFileType::SystemVerilog, 0),
+    ] {
         let mut file = VastFile::with_lint(dialect);
         let module = file.add_module("m");
         let bit = file.make_scalar_type();

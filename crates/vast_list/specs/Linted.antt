@@ -1,5 +1,5 @@
 -- A lint beside a session whose lines are answered one by one.
-use Rattle.std.specs.Prelude.{◌≡◌, ℕ, length, Option, Some, None, Result, Ok, Err, Bool, true, false, ⊤, ⊥}
+use Rattle.std.specs.Prelude.{◌≡◌, ℕ, length, Option, Some, None, Result, Ok, Err, Bool, true, false, ⊤}
 use Rattle.vast_lint.specs.Lint.{counted}
 use Rattle.vast_list.specs.declared.fault.Fault.{Fault}
 use Rattle.vast_list.specs.declared.fault.Fault.TheVariants.{Line, Memory}
