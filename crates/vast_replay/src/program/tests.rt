@@ -192,7 +192,8 @@ AddModule "m"
 
 #[test]
 fn a_session_with_a_lint_tells_what_calls_print(rt: HostRuntime) {
-    let refused = r#"{"line":3,"call":"AddWire","step":1,"cause":"kind","words":"data_type is to be a type, and `0` is a module"}
+    let refused =
+        r#"{"line":3,"call":"AddWire","step":1,"cause":"kind","words":"data_type is to be a type, and `0` is a module"}
 "#;
     let wanted = r#"{"line":4,"call":"MakeScalarType","step":1}
 {"line":5,"call":"AddWire","step":2,"warnings":[{"line":5,"call":"AddWire","why":"a name that is a keyword is no SystemVerilog","tools":"Icarus, Verilator refuse it"}]}
@@ -213,7 +214,8 @@ fn a_session_with_a_lint_tells_what_calls_print(rt: HostRuntime) {
 {"line":20,"call":"AddModule","step":0}
 "#;
     let out = talked(rt.alloc(), true, LINTED);
-    let first = "{\"line\":1,\"dialect\":\"systemverilog\"}\n{\"line\":2,\"call\":\"AddModule\",\"step\":0}\n";
+    let first =
+        "{\"line\":1,\"dialect\":\"systemverilog\"}\n{\"line\":2,\"call\":\"AddModule\",\"step\":0}\n";
     assert!(rt; out.strip_prefix(first.as_bytes()).is_some());
     let out = out.strip_prefix(first.as_bytes()).unwrap_or(b"");
     assert!(rt; out.strip_prefix(refused.as_bytes()) == Some(wanted.as_bytes()));
@@ -222,7 +224,8 @@ fn a_session_with_a_lint_tells_what_calls_print(rt: HostRuntime) {
 #[test]
 fn warnings_are_asked_for_where_there_is_a_lint(rt: HostRuntime) {
     let alloc = rt.alloc();
-    let told = r#"{"line":2,"column":1,"call":"?Warnings","cause":"form","words":"answered in a session with --lint alone, without a name or an argument"}
+    let told =
+        r#"{"line":2,"column":1,"call":"?Warnings","cause":"form","words":"answered in a session with --lint alone, without a name or an argument"}
 "#;
     let out = talked(alloc, false, "verilog\n?Warnings\n");
     assert!(rt; out.ends_with(told.as_bytes()));
