@@ -24,6 +24,7 @@ mod run;
 mod sign;
 mod word;
 
+pub(crate) use keyword::word_token;
 pub(crate) use place::{behind_first, place_before};
 pub(crate) use position::Position;
 
