@@ -54,7 +54,7 @@ struct Aligned<'t> {
 /// # Errors
 /// Want of memory.
 pub(crate) fn difference<'t>(alloc: Global, texts: Pair<'t>) -> Result<Pair<'t>, AllocError> {
-    let Aligned { starts, other } = aligned(alloc, texts)?;
+    let Aligned { starts, other } = side_by_side(alloc, texts)?;
     let statement = first_regrouped(alloc, texts, &starts)?;
     match starts.get(statement) {
         Some(start) if statement.saturating_add(1) < starts.len() => Ok(behind_alike(*start)),
@@ -62,7 +62,7 @@ pub(crate) fn difference<'t>(alloc: Global, texts: Pair<'t>) -> Result<Pair<'t>,
     }
 }
 
-fn aligned<'t>(alloc: Global, texts: Pair<'t>) -> Result<Aligned<'t>, AllocError> {
+fn side_by_side<'t>(alloc: Global, texts: Pair<'t>) -> Result<Aligned<'t>, AllocError> {
     let mut rest = texts.ungrouped();
     let mut starts = Vec::new(alloc);
     starts.push(rest)?;
@@ -83,7 +83,11 @@ fn aligned<'t>(alloc: Global, texts: Pair<'t>) -> Result<Aligned<'t>, AllocError
 }
 
 /// The number of the first statement that is grouped otherwise; that of the last one, where none before it is.
-fn first_regrouped(alloc: Global, texts: Pair<'_>, starts: &[Pair<'_>]) -> Result<usize, AllocError> {
+fn first_regrouped(
+    alloc: Global,
+    texts: Pair<'_>,
+    starts: &[Pair<'_>],
+) -> Result<usize, AllocError> {
     let mut alike = 0;
     let mut end = starts.len();
     let mut tried = end.saturating_sub(1);
@@ -132,18 +136,27 @@ fn behind_alike(texts: Pair<'_>) -> Pair<'_> {
 }
 
 /// Appends the line of the text in which this rest of it begins, without the spaces around it, as far as it fits.
-pub(crate) fn push_line_at(line: &mut String, text: &str, rest: &str) -> Result<(), AllocError> {
+pub(crate) fn push_line_at(
+    alloc: Global,
+    line: &mut String,
+    text: &str,
+    rest: &str,
+) -> Result<(), AllocError> {
     let length = text.len().saturating_sub(rest.len());
     let before = text.get(..length).unwrap_or("");
     let begun = before.rsplit_once('\n').map_or(before, |(_, begun)| begun);
     let ended = rest.split_once('\n').map_or(rest, |(ended, _)| ended);
-    let mut shown = String::from_str(line.allocator(), begun.trim_start())?;
+    let mut shown = String::from_str(alloc, begun.trim_start())?;
     shown.push_str(ended)?;
     for (count, character) in shown.trim_end().chars().enumerate() {
         if count == MOST_SHOWN {
             return line.push_str("..");
         }
-        line.push(if character.is_control() { ' ' } else { character })?;
+        line.push(if character.is_control() {
+            ' '
+        } else {
+            character
+        })?;
     }
     Ok(())
 }

@@ -19,8 +19,8 @@ small part of SystemVerilog and knows no scopes: a good file of another tool may
   --help     prints this, --version the version
   --         before files whose names begin with `-`
 
-Status 0: each file is derived, or the two are the same. 1: a file isn't, or they aren't. 2: a word is unknown, a file can't be read or has more than 16777216
-bytes, a write failed, or memory was refused.
+Status 0: each file is derived, or the two are the same. 1: a file isn't, or they aren't. 2: a word is unknown, a file
+can't be read or has more than 16777216 bytes, a write failed, or memory was refused.
 ";
 
 /// Which program it is.

@@ -99,12 +99,7 @@ fn answer_bytes<W: Write, E: Write>(
 {
     match answer_of(alloc, bytes) {
         Ok(Answer::Derived) => write_line(derived_line(alloc, name), Outcome::Yes, out, err),
-        Ok(found) => write_line(
-            underived_line(alloc, name, &found),
-            Outcome::No,
-            out,
-            err,
-        ),
+        Ok(found) => write_line(underived_line(alloc, name, &found), Outcome::No, out, err),
         Err(_) => tell(Trouble::Memory, err),
     }
 }
@@ -140,7 +135,11 @@ fn derived_line(alloc: Global, name: &str) -> Result<String, AllocError>
 }
 
 /// The line that tells where the file is no longer one of the grammar.
-pub(crate) fn underived_line(alloc: Global, name: &str, found: &Answer<'_>) -> Result<String, AllocError> {
+pub(crate) fn underived_line(
+    alloc: Global,
+    name: &str,
+    found: &Answer<'_>,
+) -> Result<String, AllocError> {
     let mut line = String::from_str(alloc, name)?;
     match found {
         Answer::Derived => line.push_str(": derived")?,

@@ -40,12 +40,12 @@ pub(crate) fn compare<W: Write, E: Write>(
     out: &mut W,
     err: &mut E,
 ) -> Outcome
-    ensures same { result ≡ Outcome.Yes → AreSame old.bytes.now new.bytes.now ×
+    ensures same { result ≡ Outcome.Yes → AreSame old.entry.bytes.now new.entry.bytes.now ×
         Appends (W.contents out.old) (W.contents out.new) (codes "same\n") }
-    ensures other { result ≡ Outcome.No → AreSame old.bytes.now new.bytes.now → ⊥ }
+    ensures other { result ≡ Outcome.No → AreSame old.entry.bytes.now new.entry.bytes.now → ⊥ }
     ensures silent { result ≡ Outcome.Yes → E.contents err.new ≡ E.contents err.old }
 {
-    match found(alloc, old.bytes, new.bytes) {
+    match found_of(alloc, old.bytes, new.bytes) {
         Ok(Found::Same) => write_line(same_line(alloc), Outcome::Yes, out, err),
         Ok(Found::Different(texts)) => write_line(
             difference_line(alloc, old.name, new.name, texts),
@@ -62,7 +62,7 @@ pub(crate) fn compare<W: Write, E: Write>(
 }
 
 /// What is found of two files.
-fn found<'t>(alloc: Global, old: &'t [u8], new: &'t [u8]) -> Result<Found<'t>, AllocError>
+fn found_of<'t>(alloc: Global, old: &'t [u8], new: &'t [u8]) -> Result<Found<'t>, AllocError>
     ensures { IfOk result (Compares old.now new.now) }
 {
     match (str::from_utf8(old), str::from_utf8(new)) {
@@ -72,7 +72,7 @@ fn found<'t>(alloc: Global, old: &'t [u8], new: &'t [u8]) -> Result<Found<'t>, A
 }
 
 fn found_texts(alloc: Global, texts: Pair<'_>) -> Result<Found<'_>, AllocError>
-    ensures { IfOk result (Compares texts.old.now texts.new.now) }
+    ensures { IfOk result (Compares texts.entry.old.now texts.entry.new.now) }
 {
     match are_same(alloc, texts.old, texts.new)? {
         Comparison::Same => Ok(Found::Same),
@@ -103,9 +103,9 @@ fn difference_line(
     line.push(':')?;
     push_number(&mut line, texts.new, rest.new)?;
     line.push_str(": ")?;
-    push_line_at(&mut line, texts.old, rest.old)?;
+    push_line_at(alloc, &mut line, texts.old, rest.old)?;
     line.push_str(" -> ")?;
-    push_line_at(&mut line, texts.new, rest.new)?;
+    push_line_at(alloc, &mut line, texts.new, rest.new)?;
     line.push('\n')?;
     Ok(line)
 }
