@@ -57,7 +57,7 @@ module _ {E P W : Type 0} (r : Reading E P W) where
 
   pub listing_waits : (h : Head E W) (p : P) (stack : List (Waiting E P W)) (ts : List Token) → after (closing h) ts ≡ None → r.trees p ≡ NoNormals →
       then_primary r stack (listing_at r h ts) ≡ meaning r state.Due (wait.List h p ∷ stack) ts
-  listing_waits h p stack ts e f = waits (wait.List h p) stack ts (listing_at r h ts) refl (resumed_list h p stack) (listing_waits_go h p ts e f)
+  listing_waits h p stack ts e f = waits r (wait.List h p) stack ts (listing_at r h ts) refl (resumed_list r h p stack) (listing_waits_go h p ts e f)
 
   parts_more : (xs ys : P) (x : E) (ts us : List Token) → after Comma ts ≡ Some us → r.trees ys ≡ join (r.trees xs) (MoreNormals (r.tree x) NoNormals) →
       parts_then (r.trees xs) (r.tree x) ts ≡ (settled.expression_at us >>= λ y. parts_then (r.trees ys) y.0 y.1)
@@ -71,7 +71,7 @@ module _ {E P W : Type 0} (r : Reading E P W) where
 
   pub part_waits : (h : Head E W) (xs ys : P) (x : E) (stack : List (Waiting E P W)) (ts us : List Token) → after Comma ts ≡ Some us → r.trees ys ≡ join (r.trees xs) (MoreNormals (r.tree x) NoNormals) →
       then_primary r stack (finished r (wait.List h xs) (r.tree x) ts) ≡ meaning r state.Due (wait.List h ys ∷ stack) us
-  part_waits h xs ys x stack ts us e g = waits (wait.List h ys) stack us _ refl (resumed_list h ys stack) (parts_go_on h xs ys x ts us e g)
+  part_waits h xs ys x stack ts us e g = waits r (wait.List h ys) stack us _ refl (resumed_list r h ys stack) (parts_go_on h xs ys x ts us e g)
 
   pub part_ends : (h : Head E W) (xs ys : P) (x : E) (ts : List Token) → after Comma ts ≡ None → r.trees ys ≡ join (r.trees xs) (MoreNormals (r.tree x) NoNormals) →
       finished r (wait.List h xs) (r.tree x) ts ≡ (after (closing h) ts >>= λ us. built_at r h (r.trees ys) us)
@@ -86,7 +86,7 @@ module _ {E P W : Type 0} (r : Reading E P W) where
   brace_waits_go ts e = rw e (either_none _ _)
 
   pub brace_waits : (stack : List (Waiting E P W)) (ts : List Token) → after CloseBrace ts ≡ None → then_primary r stack (brace_on settled ts (after CloseBrace ts)) ≡ meaning r state.Due (wait.Brace ∷ stack) ts
-  brace_waits stack ts e = waits wait.Brace stack ts _ refl (resumed_brace stack) (brace_reads ts ∙ (brace_waits_go ts e))
+  brace_waits stack ts e = waits r wait.Brace stack ts _ refl (resumed_brace r stack) (brace_reads ts ∙ (brace_waits_go ts e))
 
   brace_goes_on_go : (x : E) (ts : List Token) → finished r wait.Brace (r.tree x) ts ≡ either (after OpenBrace ts) (λ us. replicated_at (r.tree x) us) (concat_at (r.tree x) ts)
   unfolding finished

@@ -1,12 +1,15 @@
 //! Members of modules and of generate loops.
 
-ghost use Rattle.std.specs.Prelude.{◌≡◌, ◌<◌, ◌≤◌, ◌+◌, ⊤, IfOk, IfErr, MatchOption, Some, None};
-ghost use Rattle.vast_literal.specs.NormalFile.{EdgeEvent, NameEvent};
+ghost use Rattle.std.specs.Prelude.{◌≡◌, ◌<◌, ◌≤◌, ◌+◌, ⊤, IfOk, IfErr, MatchOption, [], Some, None, option_map};
+ghost use Rattle.vast_literal.specs.NormalFile.{EdgeEvent, NameEvent, DeclarationPart, AssignPart, ParameterPart, MacroPart, InstancePart, AlwaysPart, ConditionalPart, FunctionPart, LoopPart};
 ghost use Rattle.vast_read.specs.declared.fault.Fault.TheVariants.{Memory};
+ghost use Rattle.vast_read.specs.DeclarationView.{declaration_view, declarations_view};
 ghost use Rattle.vast_read.specs.MemberRelease.{member_left, member_alone, members_beside, members_alone, waiting_alone};
-ghost use Rattle.vast_read.specs.MemberView.{event_view, connection_view, given};
+ghost use Rattle.vast_read.specs.MemberView.{event_view, events_view, connection_view, connections_view, given, member_view, members_view};
+ghost use Rattle.vast_read.specs.StatementParts.{arms_in};
+ghost use Rattle.vast_read.specs.StatementView.{statement_view, block_view};
 ghost use Rattle.vast_read.specs.TokenView.{key_view};
-ghost use Rattle.vast_read.specs.View.{view};
+ghost use Rattle.vast_read.specs.View.{view, listed};
 
 use crate::children::Children;
 use crate::fault::Fault;
@@ -209,5 +212,145 @@ impl NormalMember {
                 }
             },
         }
+    }
+
+    /// A declaration.
+    pub(crate) fn declaration(
+        alloc: Global,
+        declared: NormalDeclaration,
+    ) -> Result<NormalMember, Fault>
+        ensures ok { IfOk result (λ m. member_view m
+            ≡ DeclarationPart (declaration_view declared)) }
+        ensures err { IfErr result (λ e. e ≡ Memory) }
+    {
+        let declared = Box::new(alloc, declared)?;
+        Ok(NormalMember::Declaration(declared))
+    }
+
+    /// A continuous assignment.
+    pub(crate) fn assign(
+        alloc: Global,
+        left: NormalExpr,
+        right: NormalExpr,
+    ) -> Result<NormalMember, Fault>
+        ensures ok { IfOk result (λ m. member_view m ≡ AssignPart (view left) (view right)) }
+        ensures err { IfErr result (λ e. e ≡ Memory) }
+    {
+        let left = Box::new(alloc, left)?;
+        let right = Box::new(alloc, right)?;
+        Ok(NormalMember::Assign(left, right))
+    }
+
+    /// A parameter.
+    pub(crate) fn parameter(
+        alloc: Global,
+        key: Key,
+        declared: NormalDeclaration,
+        value: NormalExpr,
+    ) -> Result<NormalMember, Fault>
+        ensures ok { IfOk result (λ m. member_view m
+            ≡ ParameterPart (key_view key) (declaration_view declared) (view value)) }
+        ensures err { IfErr result (λ e. e ≡ Memory) }
+    {
+        let word = Word::new(alloc, key.text())?;
+        let declared = Box::new(alloc, declared)?;
+        let value = Box::new(alloc, value)?;
+        Ok(NormalMember::Parameter(word, declared, value))
+    }
+
+    /// The use of a macro.
+    pub(crate) fn macro_use(
+        alloc: Global,
+        name: &str,
+        arguments: Option<Children<NormalExpr>>,
+        has_semicolon: bool,
+    ) -> Result<NormalMember, Fault>
+        ensures ok { IfOk result (λ m. member_view m
+            ≡ MacroPart name.now (option_map listed arguments) has_semicolon) }
+        ensures err { IfErr result (λ e. e ≡ Memory) }
+    {
+        let name = Word::new(alloc, name)?;
+        Ok(NormalMember::Macro(name, arguments, has_semicolon))
+    }
+
+    /// An instantiation.
+    pub(crate) fn instance(
+        alloc: Global,
+        definition: &str,
+        parameters: Children<Connection>,
+        name: &str,
+        connections: Children<Connection>,
+    ) -> Result<NormalMember, Fault>
+        ensures ok { IfOk result (λ m. member_view m
+            ≡ InstancePart definition.now (connections_view parameters)
+            name.now (connections_view connections)) }
+        ensures err { IfErr result (λ e. e ≡ Memory) }
+    {
+        let definition = Word::new(alloc, definition)?;
+        let name = Word::new(alloc, name)?;
+        Ok(NormalMember::Instance(definition, parameters, name, connections))
+    }
+
+    /// An always block.
+    pub(crate) fn always(
+        alloc: Global,
+        key: Key,
+        events: Children<Event>,
+        body: Children<NormalStatement>,
+    ) -> Result<NormalMember, Fault>
+        ensures ok { IfOk result (λ m. member_view m
+            ≡ AlwaysPart (key_view key) (events_view events) (block_view body)) }
+        ensures err { IfErr result (λ e. e ≡ Memory) }
+    {
+        let word = Word::new(alloc, key.text())?;
+        Ok(NormalMember::Always(word, events, body))
+    }
+
+    /// A conditional generate construct.
+    pub(crate) fn conditional(alloc: Global, choice: NormalStatement) -> Result<NormalMember, Fault>
+        ensures ok { IfOk result (λ m. member_view m
+            ≡ ConditionalPart (arms_in (statement_view choice))) }
+        ensures err { IfErr result (λ e. e ≡ Memory) }
+    {
+        let choice = Box::new(alloc, choice)?;
+        Ok(NormalMember::Conditional(choice))
+    }
+
+    /// A function.
+    pub(crate) fn function(
+        alloc: Global,
+        output: NormalDeclaration,
+        inputs: Children<NormalDeclaration>,
+        locals: Children<NormalDeclaration>,
+        body: Children<NormalStatement>,
+    ) -> Result<NormalMember, Fault>
+        ensures ok { IfOk result (λ m. member_view m
+            ≡ FunctionPart (declaration_view output) (declarations_view inputs)
+            (declarations_view locals) (block_view body)) }
+        ensures err { IfErr result (λ e. e ≡ Memory) }
+    {
+        let output = Box::new(alloc, output)?;
+        Ok(NormalMember::Function(output, inputs, locals, body))
+    }
+
+    /// A loop generate construct.
+    pub(crate) fn generate_loop(
+        alloc: Global,
+        variable: &str,
+        start: NormalExpr,
+        end: NormalExpr,
+        label: Option<&str>,
+        members: Children<NormalMember>,
+    ) -> Result<NormalMember, Fault>
+        ensures ok { IfOk result (λ m. member_view m
+            ≡ LoopPart variable.now (view start) (view end)
+            (option_map (λ t. t.now) label.entry) (members_view members)) }
+        ensures err { IfErr result (λ e. e ≡ Memory) }
+    {
+        let variable = Word::new(alloc, variable)?;
+        let label = Word::maybe(alloc, label)?;
+        let start = Box::new(alloc, start)?;
+        let end = Box::new(alloc, end)?;
+        Ok(NormalMember::Loop(variable, start, end, label, members))
     }
 }

@@ -13,7 +13,6 @@ use crate::children::Children;
 use crate::fault::Fault;
 use crate::token::Key;
 use crate::tree::{Connection, Event, NormalExpr, NormalMember};
-use crate::word::Word;
 use std::alloc::Global;
 
 impl<'t> BuildMembers<'t> for Trees {
@@ -83,42 +82,27 @@ impl<'t> BuildMembers<'t> for Trees {
         ensures err { IfErr result (λ e. e ≡ Memory) }
     {
         match form {
-            MemberForm::Declared(declared) => {
-                Ok(NormalMember::Declaration(Box::new(alloc, declared)?))
+            MemberForm::Declared(declared) => NormalMember::declaration(alloc, declared),
+            MemberForm::Continuous(left, right) => NormalMember::assign(alloc, left, right),
+            MemberForm::Constant(key, declared, value) => {
+                NormalMember::parameter(alloc, key, declared, value)
             }
-            MemberForm::Continuous(left, right) => Ok(NormalMember::Assign(
-                Box::new(alloc, left)?,
-                Box::new(alloc, right)?,
-            )),
-            MemberForm::Constant(key, declared, value) => Ok(NormalMember::Parameter(
-                Word::new(alloc, key.text())?,
-                Box::new(alloc, declared)?,
-                Box::new(alloc, value)?,
-            )),
             MemberForm::Macro(name, arguments, has_semicolon) => {
-                Ok(NormalMember::Macro(Word::new(alloc, name)?, arguments, has_semicolon))
+                NormalMember::macro_use(alloc, name, arguments, has_semicolon)
             }
             MemberForm::Instance(definition, parameters, name, connections) => {
-                let definition = Word::new(alloc, definition)?;
-                let name = Word::new(alloc, name)?;
-                Ok(NormalMember::Instance(definition, parameters, name, connections))
+                NormalMember::instance(alloc, definition, parameters, name, connections)
             }
             MemberForm::Always(key, events, body) => {
-                Ok(NormalMember::Always(Word::new(alloc, key.text())?, events, body))
+                NormalMember::always(alloc, key, events, body)
             }
-            MemberForm::Conditional(choice) => {
-                Ok(NormalMember::Conditional(Box::new(alloc, choice)?))
-            }
+            MemberForm::Conditional(choice) => NormalMember::conditional(alloc, choice),
             MemberForm::Function(output, inputs, locals, body) => {
-                Ok(NormalMember::Function(Box::new(alloc, output)?, inputs, locals, body))
+                NormalMember::function(alloc, output, inputs, locals, body)
             }
-            MemberForm::Loop(variable, start, end, label, members) => Ok(NormalMember::Loop(
-                Word::new(alloc, variable)?,
-                Box::new(alloc, start)?,
-                Box::new(alloc, end)?,
-                Word::maybe(alloc, label)?,
-                members,
-            )),
+            MemberForm::Loop(variable, start, end, label, members) => {
+                NormalMember::generate_loop(alloc, variable, start, end, label, members)
+            }
         }
     }
 
