@@ -9,7 +9,7 @@ use Rattle.vast_read.specs.Steps.{system_at}
 use Rattle.vast_read.specs.declared.machine.Head.TheVariants as head
 use Rattle.vast_read.specs.Machine.{listing_at}
 use Rattle.vast_read.proofs.Steps.{then_some, then_none, either_some, word_reads, macro_reads, system_reads}
-use Rattle.vast_read.proofs.Waits.{calls_list, macros_list}
+use Rattle.vast_read.proofs.ListWaits.{calls_list, macros_list}
 
 pub system_lacks : (w : List ℕ) (ts : List Token) → after OpenParen ts ≡ None → system_at w ts ≡ None
 system_lacks w ts e = system_reads w ts ∙ rw e (then_none _)

@@ -113,18 +113,6 @@ pub loop_label_reads : (ts : List Token) → loop_label ts ≡ either (after Col
 unfolding loop_label
 loop_label_reads ts = refl
 
-pub loop_block_reads : (i : List ℕ) (x e : NormalExpr) (ts : List Token) → loop_block i x e ts ≡ (after_key BeginKey ts >>= λ us. loop_label us >>= λ l. settled_members EndKey l.1 >>= λ m. Some (LoopPart i x e l.0 m.0, m.1))
-unfolding loop_block
-loop_block_reads i x e ts = refl
-
-pub loop_end_reads : (i : List ℕ) (x : NormalExpr) (ts : List Token) → loop_end i x ts ≡ (loop_bound i ts >>= λ e. loop_step i e.1 >>= λ us. loop_block i x e.0 us)
-unfolding loop_end
-loop_end_reads i x ts = refl
-
-pub loop_reads : (ts : List Token) → settled_loop ts ≡ (loop_start ts >>= λ s. loop_end s.0.0 s.0.1 s.1)
-unfolding settled_loop
-loop_reads ts = refl
-
 -- functions
 
 pub input_reads : (ts : List Token) → settled_input ts ≡ (after_key InputKey ts >>= λ us. settled_declaration us)

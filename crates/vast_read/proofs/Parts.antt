@@ -9,7 +9,8 @@ use Rattle.vast_read.specs.declared.machine.Head.{Head}
 use Rattle.vast_read.specs.declared.machine.Waiting.TheVariants as wait
 use Rattle.vast_read.specs.Machine.{closing, finished, parts_then, built_at}
 use Rattle.vast_read.proofs.Steps.{then_some, then_none, rest_ends}
-use Rattle.vast_read.proofs.Waits.{primary_stands, then_nothing, then_stands, part_waits, part_ends}
+use Rattle.vast_read.proofs.Waits.{primary_stands, then_nothing, then_stands}
+use Rattle.vast_read.proofs.ListWaits.{part_waits, part_ends}
 
 module _ {E P W : Type 0} (r : Reading E P W) where
   pub part_lacks : (h : Head E W) (xs : P) (x : NormalExpr) (ts : List Token) → after Comma ts ≡ None → after (closing h) ts ≡ None → finished r (wait.List h xs) x ts ≡ None

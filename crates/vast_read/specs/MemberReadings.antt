@@ -1,14 +1,14 @@
 -- What is made of members as what it stands for: trees, or nothing but shadows.
-use Rattle.std.specs.Prelude.{List, [], Option, Some, None, option_map, true, false}
+use Rattle.std.specs.Prelude.{List, [], Some, None, false}
 use Rattle.vast_literal.specs.NormalFile as normal
 use Rattle.vast_literal.specs.NormalFile.{EdgeEvent, NameEvent, NormalMembers, NoParts, MoreParts}
 use Rattle.vast_read.specs.DeclarationReadings.{declaration_of, declarations_of}
 use Rattle.vast_read.specs.Listed.{items_of}
+use Rattle.vast_read.specs.MemberForms.{form_member}
 use Rattle.vast_read.specs.MemberReading.{MemberReading}
 use Rattle.vast_read.specs.MemberSteps.{join_members}
 use Rattle.vast_read.specs.MemberView.{event_view, events_view, connection_view, connections_view, given, member_view, members_view}
 use Rattle.vast_read.specs.Readings.{tree_of, trees_of}
-use Rattle.vast_read.specs.StatementParts.{arms_in}
 use Rattle.vast_read.specs.StatementReadings.{seen as seen_statement}
 use Rattle.vast_read.specs.TokenView.{key_view}
 use Rattle.vast_read.specs.declared.build.listed.Listed.{Listed}
@@ -50,16 +50,7 @@ abbrev many : NormalMembers → Seen
 many ms = (normal.MacroPart [] None false, ms)
 
 abbrev pub step : MemberShadow-F Seen → Seen
-step (MemberShadow-F.Declared d) = one (normal.DeclarationPart (declaration_of d.value))
-step (MemberShadow-F.Continuous l r) = one (normal.AssignPart (tree_of l.value) (tree_of r.value))
-step (MemberShadow-F.Constant k d x) = one (normal.ParameterPart (key_view k) (declaration_of d.value) (tree_of x.value))
-step (MemberShadow-F.Macro w b) = one (normal.MacroPart w.now None b)
-step (MemberShadow-F.MacroOf w xs b) = one (normal.MacroPart w.now (Some (trees_of xs.value)) b)
-step (MemberShadow-F.Instance m ps i cs) = one (normal.InstancePart m.now (connections_of ps.value) i.now (connections_of cs.value))
-step (MemberShadow-F.Always k es b) = one (normal.AlwaysPart (key_view k) (events_of es.value) (seen_statement b.value).block)
-step (MemberShadow-F.Conditional s) = one (normal.ConditionalPart (arms_in (seen_statement s.value).statement))
-step (MemberShadow-F.Function d is ls b) = one (normal.FunctionPart (declaration_of d.value) (declarations_of is.value) (declarations_of ls.value) (seen_statement b.value).block)
-step (MemberShadow-F.Loop i x e l ms) = one (normal.LoopPart i.now (tree_of x.value) (tree_of e.value) (option_map (λ w. w.now) l) ms.value.1)
+step (MemberShadow-F.Formed f) = one (form_member (λ x. tree_of x.value) (λ x. trees_of x.value) (λ d. declaration_of d.value) (λ d. declarations_of d.value) (λ s. (seen_statement s.value).statement) (λ s. (seen_statement s.value).block) (λ e. events_of e.value) (λ c. connections_of c.value) (λ m. m.value.1) f.value)
 step MemberShadow-F.Nothing = many NoParts
 step (MemberShadow-F.More ms m) = many (join_members ms.value.1 (MoreParts m.value.0 NoParts))
 

@@ -1,13 +1,12 @@
 -- The statements that stand for what is made of them: trees themselves, or nothing but shadows.
-use Rattle.std.specs.Prelude.{List, [], ◌∷◌, ◌++◌, Option, Some, None, option_map, map}
+use Rattle.std.specs.Prelude.{List, [], ◌∷◌, ◌++◌, Option, option_map, map}
 use Rattle.vast_literal.specs.NormalExpr.{Name}
-use Rattle.vast_literal.specs.NormalFile.{NormalStatement, AssignStatement, ChoiceStatement, CaseStatement, NormalStatements, Done, Then, Labels, NoLabels, Label}
-use Rattle.vast_literal.specs.FileGrammar.{assignment}
+use Rattle.vast_literal.specs.NormalFile.{NormalStatement, AssignStatement, NormalStatements, Done, Then, Labels, NoLabels, Label}
 use Rattle.vast_read.specs.Readings.{tree_of}
-use Rattle.vast_read.specs.StatementParts.{ChoicePart, arms_of, join_block, join_labels}
+use Rattle.vast_read.specs.StatementForms.{form_statement}
+use Rattle.vast_read.specs.StatementParts.{ChoicePart, join_block, join_labels}
 use Rattle.vast_read.specs.StatementReading.{StatementReading}
 use Rattle.vast_read.specs.StatementView.{statement_view, arm_view, block_view, labels_view}
-use Rattle.vast_read.specs.TokenView.{key_view}
 use Rattle.vast_read.specs.View.{view}
 use Rattle.vast_read.specs.declared.tree.expression.NormalExpr.{NormalExpr as Tree}
 use Rattle.vast_read.specs.declared.tree.statement.NormalStatement.{NormalStatement as StatementTree}
@@ -48,11 +47,7 @@ abbrev in_cases : Labels → Seen
 in_cases ls = record { statement = nothing.statement; block = Done; arms = []; cases = ls }
 
 abbrev pub step : StatementShadow-F Seen → Seen
-step (StatementShadow-F.Assignment b l r) = one (assignment b (tree_of l.value) (tree_of r.value))
-step (StatementShadow-F.Assign l r) = one (AssignStatement (tree_of l.value) (tree_of r.value))
-step (StatementShadow-F.Choice ps) = one (ChoiceStatement (arms_of ps.value.arms None))
-step (StatementShadow-F.ChoiceElse ps b) = one (ChoiceStatement (arms_of ps.value.arms (Some b.value.block)))
-step (StatementShadow-F.Case u k x ls) = one (CaseStatement u (key_view k) (tree_of x.value) ls.value.cases)
+step (StatementShadow-F.Formed f) = one (form_statement (λ x. tree_of x.value) (λ s. s.value.block) (λ s. s.value.arms) (λ s. s.value.cases) f.value)
 step StatementShadow-F.Nothing = nothing
 step (StatementShadow-F.Then ss s) = in_block (join_block ss.value.block (Then s.value.statement Done))
 step (StatementShadow-F.Arm ps x b) = in_arms (ps.value.arms ++ (tree_of x.value, b.value.block) ∷ [])

@@ -1,20 +1,61 @@
 //! What is made of a member: its tree, or nothing.
 
-ghost use Rattle.std.specs.Prelude.{◌≡◌, [], ◌∷◌, ◌++◌, IfOk, IfErr, Some, None, option_map};
-ghost use Rattle.vast_literal.specs.NormalFile.{EdgeEvent, NameEvent, DeclarationPart, AssignPart, ParameterPart, MacroPart, InstancePart, AlwaysPart, ConditionalPart, FunctionPart, LoopPart, NoParts, MoreParts};
+ghost use Rattle.std.specs.Prelude.{◌≡◌, [], ◌∷◌, ◌++◌, IfOk, IfErr, Some, None};
+ghost use Rattle.vast_literal.specs.NormalFile.{EdgeEvent, NameEvent, NoParts, MoreParts};
 ghost use Rattle.vast_read.specs.declared.fault.Fault.TheVariants.{Memory};
+ghost use Rattle.vast_read.specs.MemberForms.{form_member};
 ghost use Rattle.vast_read.specs.MemberReading.{MemberReading};
 ghost use Rattle.vast_read.specs.MemberSteps.{join_members};
 ghost use Rattle.vast_read.specs.MemberView.{given};
-ghost use Rattle.vast_read.specs.StatementParts.{arms_in};
 ghost use Rattle.vast_read.specs.TokenView.{key_view};
 ghost use Rattle.vast_read.specs.View.{view};
 
-use crate::build::{BuildDeclarations, BuildStatements};
+use crate::build::{Build, BuildDeclarations, BuildStatements};
 use crate::fault::Fault;
 use crate::token::Key;
 use crate::tree::NormalExpr;
 use std::alloc::Global;
+
+/// A member, with what was made of its parts.
+///
+/// An `E` is what was made of an expression, a `P` of a list of them, a `D` of a declaration, a `Ds`
+/// of a list of those, an `S` of a statement, a `K` of a block, a `Vs` of events, a `Cs` of
+/// connections, and an `Ms` of members.
+#[derive(Drop)]
+pub(crate) enum MemberForm<'t, E, P, D, Ds, S, K, Vs, Cs, Ms> {
+    /// A declaration.
+    Declared(D),
+    /// A continuous assignment.
+    Continuous(E, E),
+    /// A parameter: its word, its declaration and its value.
+    Constant(Key, D, E),
+    /// The use of a macro: its name, its arguments where it has a list, and whether a semicolon ends it.
+    Macro(&'t str, Option<P>, bool),
+    /// An instantiation: its definition, its parameters, its name and its connections.
+    Instance(&'t str, Cs, &'t str, Cs),
+    /// An always block.
+    Always(Key, Vs, K),
+    /// A conditional generate construct.
+    Conditional(S),
+    /// A function: its output, its inputs, its locals and its body.
+    Function(D, Ds, Ds, K),
+    /// A loop generate construct: its variable, its start, its end, its label and its members.
+    Loop(&'t str, E, E, Option<&'t str>, Ms),
+}
+
+/// The form of a member, where this is made of its parts.
+pub(crate) type MemberFormOf<'t, B> = MemberForm<
+    't,
+    <B as Build<'t>>::Expr,
+    <B as Build<'t>>::Parts,
+    <B as BuildDeclarations<'t>>::Declaration,
+    <B as BuildDeclarations<'t>>::Declarations,
+    <B as BuildStatements<'t>>::Statement,
+    <B as BuildStatements<'t>>::Block,
+    <B as BuildMembers<'t>>::Events,
+    <B as BuildMembers<'t>>::Connections,
+    <B as BuildMembers<'t>>::Members,
+>;
 
 /// What a reader of members makes of what it reads.
 ///
@@ -90,102 +131,11 @@ pub(crate) trait BuildMembers<'t>: BuildDeclarations<'t> + BuildStatements<'t> {
             ≡ holds.connections connections.old ++ (holds.connection connection ∷ [])) }
         ensures err { IfErr result (λ e. e ≡ Memory) };
 
-    /// A declaration as a member.
-    fn declared(alloc: Global, declared: Self::Declaration) -> Result<Self::Member, Fault>
-        ensures ok { IfOk result (λ m. holds.member m
-            ≡ DeclarationPart (Self.declares.declaration declared)) }
-        ensures err { IfErr result (λ e. e ≡ Memory) };
-
-    /// A continuous assignment.
-    fn continuous(alloc: Global, left: Self::Expr, right: Self::Expr) -> Result<Self::Member, Fault>
-        ensures ok { IfOk result (λ m. holds.member m
-            ≡ AssignPart (Self.sees.tree left) (Self.sees.tree right)) }
-        ensures err { IfErr result (λ e. e ≡ Memory) };
-
-    /// A parameter as a member.
-    fn constant(
-        alloc: Global,
-        key: Key,
-        declared: Self::Declaration,
-        value: Self::Expr,
-    ) -> Result<Self::Member, Fault>
-        ensures ok { IfOk result (λ m. holds.member m
-            ≡ ParameterPart (key_view key) (Self.declares.declaration declared)
-            (Self.sees.tree value)) }
-        ensures err { IfErr result (λ e. e ≡ Memory) };
-
-    /// The use of a macro with no list.
-    fn macro_use(alloc: Global, name: &'t str, has_semicolon: bool) -> Result<Self::Member, Fault>
-        ensures ok { IfOk result (λ m. holds.member m
-            ≡ MacroPart name.now None has_semicolon) }
-        ensures err { IfErr result (λ e. e ≡ Memory) };
-
-    /// The use of a macro with arguments.
-    fn macro_of(
-        alloc: Global,
-        name: &'t str,
-        arguments: Self::Parts,
-        has_semicolon: bool,
-    ) -> Result<Self::Member, Fault>
-        ensures ok { IfOk result (λ m. holds.member m
-            ≡ MacroPart name.now (Some (Self.sees.trees arguments)) has_semicolon) }
-        ensures err { IfErr result (λ e. e ≡ Memory) };
-
-    /// An instantiation.
-    fn instance(
-        alloc: Global,
-        definition: &'t str,
-        parameters: Self::Connections,
-        name: &'t str,
-        connections: Self::Connections,
-    ) -> Result<Self::Member, Fault>
-        ensures ok { IfOk result (λ m. holds.member m
-            ≡ InstancePart definition.now (holds.connections parameters)
-            name.now (holds.connections connections)) }
-        ensures err { IfErr result (λ e. e ≡ Memory) };
-
-    /// An always block.
-    fn always(
-        alloc: Global,
-        key: Key,
-        events: Self::Events,
-        body: Self::Block,
-    ) -> Result<Self::Member, Fault>
-        ensures ok { IfOk result (λ m. holds.member m
-            ≡ AlwaysPart (key_view key) (holds.events events) (Self.acts.block body)) }
-        ensures err { IfErr result (λ e. e ≡ Memory) };
-
-    /// A conditional generate construct.
-    fn conditional(alloc: Global, choice: Self::Statement) -> Result<Self::Member, Fault>
-        ensures ok { IfOk result (λ m. holds.member m
-            ≡ ConditionalPart (arms_in (Self.acts.statement choice))) }
-        ensures err { IfErr result (λ e. e ≡ Memory) };
-
-    /// A function.
-    fn function(
-        alloc: Global,
-        output: Self::Declaration,
-        inputs: Self::Declarations,
-        locals: Self::Declarations,
-        body: Self::Block,
-    ) -> Result<Self::Member, Fault>
-        ensures ok { IfOk result (λ m. holds.member m
-            ≡ FunctionPart (Self.declares.declaration output) (Self.declares.declarations inputs)
-            (Self.declares.declarations locals) (Self.acts.block body)) }
-        ensures err { IfErr result (λ e. e ≡ Memory) };
-
-    /// A loop generate construct.
-    fn generate_loop(
-        alloc: Global,
-        variable: &'t str,
-        start: Self::Expr,
-        end: Self::Expr,
-        label: Option<&'t str>,
-        members: Self::Members,
-    ) -> Result<Self::Member, Fault>
-        ensures ok { IfOk result (λ m. holds.member m
-            ≡ LoopPart variable.now (Self.sees.tree start) (Self.sees.tree end)
-            (option_map (λ t. t.now) label.entry) (holds.members members)) }
+    /// A member.
+    fn member(alloc: Global, form: MemberFormOf<'t, Self>) -> Result<Self::Member, Fault>
+        ensures ok { IfOk result (λ m. holds.member m ≡ form_member Self.sees.tree Self.sees.trees
+            Self.declares.declaration Self.declares.declarations Self.acts.statement
+            Self.acts.block holds.events holds.connections holds.members form.entry) }
         ensures err { IfErr result (λ e. e ≡ Memory) };
 
     /// No members.

@@ -1,17 +1,40 @@
 //! What is made of statements: their trees, or nothing.
 
-ghost use Rattle.std.specs.Prelude.{◌≡◌, [], ◌∷◌, ◌++◌, IfOk, IfErr, Some, None};
-ghost use Rattle.vast_literal.specs.NormalFile.{AssignStatement, ChoiceStatement, CaseStatement, Done, Then, NoLabels, Label as LabelledArm};
-ghost use Rattle.vast_literal.specs.FileGrammar.{assignment};
+ghost use Rattle.std.specs.Prelude.{◌≡◌, [], ◌∷◌, ◌++◌, IfOk, IfErr, option_map};
+ghost use Rattle.vast_literal.specs.NormalFile.{Done, Then, NoLabels, Label as LabelledArm};
 ghost use Rattle.vast_read.specs.declared.fault.Fault.TheVariants.{Memory};
-ghost use Rattle.vast_read.specs.StatementParts.{arms_of, join_block, join_labels};
+ghost use Rattle.vast_read.specs.StatementForms.{form_statement};
+ghost use Rattle.vast_read.specs.StatementParts.{join_block, join_labels};
 ghost use Rattle.vast_read.specs.StatementReading.{StatementReading};
-ghost use Rattle.vast_read.specs.TokenView.{key_view};
 
 use crate::build::Build;
 use crate::fault::Fault;
 use crate::token::Key;
 use std::alloc::Global;
+
+/// A statement, with what was made of its parts.
+///
+/// An `E` is what was made of an expression, a `K` of a block, an `A` of the arms of a conditional,
+/// and a `C` of those of a case.
+#[derive(Drop)]
+pub(crate) enum StatementForm<E, K, A, C> {
+    /// An assignment: whether it is a blocking one, and its two sides.
+    Assignment(bool, E, E),
+    /// A procedural continuous assignment.
+    Assign(E, E),
+    /// A conditional, with the block of its last `else` where it has one.
+    Choice(A, Option<K>),
+    /// A case: whether it is unique, its word, its selector and its arms.
+    Case(bool, Key, E, C),
+}
+
+/// The form of a statement, where this is made of its parts.
+pub(crate) type StatementFormOf<'t, B> = StatementForm<
+    <B as Build<'t>>::Expr,
+    <B as BuildStatements<'t>>::Block,
+    <B as BuildStatements<'t>>::Arms,
+    <B as BuildStatements<'t>>::Cases,
+>;
 
 /// What a reader of statements makes of what it reads.
 ///
@@ -30,23 +53,6 @@ pub(crate) trait BuildStatements<'t>: Build<'t> {
     type Cases: Drop;
 
     ghost acts: { StatementReading Self.Statement Self.Block Self.Arms Self.Label Self.Cases };
-
-    /// A blocking or a nonblocking assignment.
-    fn assignment(
-        alloc: Global,
-        is_blocking: bool,
-        left: Self::Expr,
-        right: Self::Expr,
-    ) -> Result<Self::Statement, Fault>
-        ensures ok { IfOk result (λ s. acts.statement s
-            ≡ assignment is_blocking (Self.sees.tree left) (Self.sees.tree right)) }
-        ensures err { IfErr result (λ e. e ≡ Memory) };
-
-    /// A procedural continuous assignment.
-    fn assign(alloc: Global, left: Self::Expr, right: Self::Expr) -> Result<Self::Statement, Fault>
-        ensures ok { IfOk result (λ s. acts.statement s
-            ≡ AssignStatement (Self.sees.tree left) (Self.sees.tree right)) }
-        ensures err { IfErr result (λ e. e ≡ Memory) };
 
     /// An empty block.
     fn block(alloc: Global) -> Self::Block
@@ -73,23 +79,9 @@ pub(crate) trait BuildStatements<'t>: Build<'t> {
             ≡ acts.arms arms.old ++ (Self.sees.tree condition, acts.block block) ∷ []) }
         ensures err { IfErr result (λ e. e ≡ Memory) };
 
-    /// A conditional with no last `else`.
-    fn choice(arms: Self::Arms) -> Self::Statement
-        ensures { acts.statement result ≡ ChoiceStatement (arms_of (acts.arms arms) None) };
-
-    /// A conditional with the block of its last `else`.
-    fn choice_else(arms: Self::Arms, last: Self::Block) -> Self::Statement
-        ensures { acts.statement result
-            ≡ ChoiceStatement (arms_of (acts.arms arms) (Some (acts.block last))) };
-
-    /// The label of an arm of a case.
-    fn label(alloc: Global, label: Self::Expr) -> Result<Self::Label, Fault>
-        ensures ok { IfOk result (λ l. acts.label l ≡ Some (Self.sees.tree label)) }
-        ensures err { IfErr result (λ e. e ≡ Memory) };
-
-    /// The label of the arm for all else.
-    fn default() -> Self::Label
-        ensures { acts.label result ≡ None };
+    /// The label of an arm of a case; none is that of the arm for all else.
+    fn label(label: Option<Self::Expr>) -> Self::Label
+        ensures { acts.label result ≡ option_map Self.sees.tree label };
 
     /// No arms of a case.
     fn cases(alloc: Global) -> Self::Cases
@@ -106,16 +98,9 @@ pub(crate) trait BuildStatements<'t>: Build<'t> {
             (LabelledArm (acts.label label) (acts.block block) NoLabels)) }
         ensures err { IfErr result (λ e. e ≡ Memory) };
 
-    /// A case.
-    fn case(
-        alloc: Global,
-        is_unique: bool,
-        key: Key,
-        selector: Self::Expr,
-        cases: Self::Cases,
-    ) -> Result<Self::Statement, Fault>
+    /// A statement.
+    fn statement(alloc: Global, form: StatementFormOf<'t, Self>) -> Result<Self::Statement, Fault>
         ensures ok { IfOk result (λ s. acts.statement s
-            ≡ CaseStatement is_unique (key_view key) (Self.sees.tree selector)
-            (acts.cases cases)) }
+            ≡ form_statement Self.sees.tree acts.block acts.arms acts.cases form) }
         ensures err { IfErr result (λ e. e ≡ Memory) };
 }

@@ -5,7 +5,7 @@ ghost use Rattle.vast_literal.specs.SettledMembers.{settled_input, settled_input
 ghost use Rattle.vast_read.specs.Answers.{ReadsAs};
 ghost use Rattle.vast_read.specs.MemberSteps.{joined_inputs};
 
-use crate::build::{BuildDeclarations, BuildMembers, BuildStatements};
+use crate::build::{BuildDeclarations, BuildMembers, BuildStatements, MemberForm};
 use crate::fault::Fault;
 use crate::reader::Reader;
 use crate::token::{Key, KeyClass, Mark};
@@ -113,7 +113,10 @@ impl<'t> Reader<'t> {
         let locals = self.locals::<B>()?;
         let body = self.function_block::<B>()?;
         self.expect_key(Key::EndFunction)?;
-        B::function(self.alloc, output, inputs, locals, body)
+        B::member(
+            self.alloc,
+            MemberForm::Function(output, inputs, locals, body),
+        )
     }
 
     /// Reads a function, behind its keyword.

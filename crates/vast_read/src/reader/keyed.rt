@@ -6,7 +6,7 @@ ghost use Rattle.vast_read.specs.Answers.{ReadsAs};
 ghost use Rattle.vast_read.specs.MemberSteps.{unkeyed_part, other_part};
 ghost use Rattle.vast_read.specs.TokenView.{key_view};
 
-use crate::build::{BuildDeclarations, BuildMembers};
+use crate::build::{BuildDeclarations, BuildMembers, MemberForm};
 use crate::fault::Fault;
 use crate::reader::Reader;
 use crate::token::{Key, KeyClass, Mark};
@@ -21,7 +21,7 @@ impl<'t> Reader<'t> {
         let left = self.selected::<B>()?;
         self.expect(Mark::Assign)?;
         let right = self.enclosed::<B>(Mark::Semicolon)?;
-        B::continuous(self.alloc, left, right)
+        B::member(self.alloc, MemberForm::Continuous(left, right))
     }
 
     /// Reads a combinational always block, behind its keyword.
@@ -32,7 +32,7 @@ impl<'t> Reader<'t> {
     {
         let body = self.block::<B>()?;
         let none = B::events(self.alloc);
-        B::always(self.alloc, Key::AlwaysComb, none, body)
+        B::member(self.alloc, MemberForm::Always(Key::AlwaysComb, none, body))
     }
 
     /// Reads a conditional generate construct, behind its keyword.
@@ -42,7 +42,7 @@ impl<'t> Reader<'t> {
         ensures fewer { length self.new ≤ length self.old }
     {
         let choice = self.conditional::<B>()?;
-        B::conditional(self.alloc, choice)
+        B::member(self.alloc, MemberForm::Conditional(choice))
     }
 
     /// Reads a parameter, behind its word.
@@ -58,7 +58,7 @@ impl<'t> Reader<'t> {
         let declared = self.declaration::<B>()?;
         self.expect(Mark::Assign)?;
         let value = self.enclosed::<B>(Mark::Semicolon)?;
-        B::constant(self.alloc, key, declared, value)
+        B::member(self.alloc, MemberForm::Constant(key, declared, value))
     }
 
     /// Reads an always block that waits for events, behind its keyword.
@@ -71,7 +71,7 @@ impl<'t> Reader<'t> {
         self.expect(Mark::OpenParen)?;
         let events = self.events::<B>()?;
         let body = self.block::<B>()?;
-        B::always(self.alloc, key, events, body)
+        B::member(self.alloc, MemberForm::Always(key, events, body))
     }
 
     /// Reads a declaration and its semicolon.
@@ -94,7 +94,7 @@ impl<'t> Reader<'t> {
         ensures less { IfOk result (λ _. length self.new < length self.old) }
     {
         let declared = self.local::<B>()?;
-        B::declared(self.alloc, declared)
+        B::member(self.alloc, MemberForm::Declared(declared))
     }
 
     /// Reads a declaration, or a member that no keyword begins.

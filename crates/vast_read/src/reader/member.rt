@@ -8,7 +8,7 @@ ghost use Rattle.vast_read.specs.KeyClasses.{class_test};
 ghost use Rattle.vast_read.specs.MemberSteps.{joined_events, joined_connections, unkeyed_part, other_part};
 ghost use Rattle.vast_read.specs.TokenView.{key_view};
 
-use crate::build::BuildMembers;
+use crate::build::{BuildMembers, MemberForm};
 use crate::fault::Fault;
 use crate::reader::Reader;
 use crate::token::{Key, KeyClass, Mark, Token};
@@ -194,7 +194,8 @@ impl<'t> Reader<'t> {
         self.expect(Mark::OpenParen)?;
         let connections = self.connections::<B>()?;
         self.expect(Mark::Semicolon)?;
-        B::instance(self.alloc, definition, parameters, name, connections)
+        let form = MemberForm::Instance(definition, parameters, name, connections);
+        B::member(self.alloc, form)
     }
 
     /// Reads an instance, behind the name of its module.
@@ -227,9 +228,9 @@ impl<'t> Reader<'t> {
         ensures fewer { length self.new ≤ length self.old }
     {
         if self.eat(Mark::Semicolon) {
-            B::macro_use(self.alloc, name, true)
+            B::member(self.alloc, MemberForm::Macro(name, None, true))
         } else {
-            B::macro_use(self.alloc, name, false)
+            B::member(self.alloc, MemberForm::Macro(name, None, false))
         }
     }
 
@@ -245,9 +246,9 @@ impl<'t> Reader<'t> {
         ensures fewer { length self.new ≤ length self.old }
     {
         if self.eat(Mark::Semicolon) {
-            B::macro_of(self.alloc, name, arguments, true)
+            B::member(self.alloc, MemberForm::Macro(name, Some(arguments), true))
         } else {
-            B::macro_of(self.alloc, name, arguments, false)
+            B::member(self.alloc, MemberForm::Macro(name, Some(arguments), false))
         }
     }
 

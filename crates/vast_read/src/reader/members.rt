@@ -7,9 +7,9 @@ ghost use Rattle.vast_read.specs.MemberSteps.{unlooped_part};
 ghost use Rattle.vast_read.specs.OpenLoops.{closed, resumed, Keeps};
 ghost use Rattle.vast_read.specs.TokenView.{key_view};
 
-use crate::build::BuildMembers;
+use crate::build::{BuildMembers, MemberForm};
 use crate::fault::Fault;
-use crate::looped::{Grown, OpenLoop, OpenLoops};
+use crate::looped::{Grown, LoopHead, OpenLoop, OpenLoops};
 use crate::reader::Reader;
 use crate::stack::Stack;
 use crate::token::Key;
@@ -80,14 +80,14 @@ impl<'t> Reader<'t> {
             None => Ok(Grown::Done(members)),
             Some(OpenLoop { head, before }) => {
                 let mut before = before;
-                let member = B::generate_loop(
-                    self.alloc,
-                    head.variable,
-                    head.start,
-                    head.end,
-                    head.label,
-                    members,
-                )?;
+                let LoopHead {
+                    variable,
+                    start,
+                    end,
+                    label,
+                } = head;
+                let form = MemberForm::Loop(variable, start, end, label, members);
+                let member = B::member(self.alloc, form)?;
                 B::push_member(&mut before, member)?;
                 Ok(Grown::On(before))
             }

@@ -8,7 +8,7 @@ ghost use Rattle.vast_read.specs.OpenBlocks.{arm_then, block_then, body_then, cl
 ghost use Rattle.vast_read.specs.StatementSteps.{case_or_simple, cases_of, choice_behind, unique_case};
 ghost use Rattle.vast_read.specs.TokenView.{key_view};
 
-use crate::build::BuildStatements;
+use crate::build::{BuildStatements, StatementForm};
 use crate::fault::Fault;
 use crate::open::{
     Case, CaseOf, OpenBlock, OpenBlockOf, OpenBlocks, Owner, OwnerOf, Progress, ProgressOf,
@@ -110,7 +110,10 @@ impl<'t> Reader<'t> {
         let OpenBlock { owner, block } = block;
         match owner {
             Owner::Arm(arms, condition) => self.close_arm::<B>(arms, condition, block),
-            Owner::Last(arms) => Ok(Progress::Whole(B::choice_else(arms, block))),
+            Owner::Last(arms) => {
+                let form = StatementForm::Choice(arms, Some(block));
+                Ok(Progress::Whole(B::statement(self.alloc, form)?))
+            }
             Owner::Case(case, label) => self.close_label::<B>(case, label, block),
         }
     }
@@ -136,7 +139,8 @@ impl<'t> Reader<'t> {
             self.expect_key(Key::Begin)?;
             Ok(Progress::Inside(Owner::Last(arms)))
         } else {
-            Ok(Progress::Whole(B::choice(arms)))
+            let form = StatementForm::Choice(arms, None);
+            Ok(Progress::Whole(B::statement(self.alloc, form)?))
         }
     }
 
@@ -283,8 +287,8 @@ impl<'t> Reader<'t> {
             selector,
             arms,
         } = case;
-        let statement = B::case(self.alloc, is_unique, key, selector, arms)?;
-        Ok(Progress::Whole(statement))
+        let form = StatementForm::Case(is_unique, key, selector, arms);
+        Ok(Progress::Whole(B::statement(self.alloc, form)?))
     }
 
     /// Goes on behind the label of an arm: with a block, or one assignment where it may stand bare.

@@ -8,7 +8,7 @@ ghost use Rattle.vast_read.specs.Answers.{ReadsAs};
 ghost use Rattle.vast_read.specs.StatementSteps.{assign_at, choice_statement, cases_of, block, else_if, label_at, bare_body};
 ghost use Rattle.vast_read.specs.TokenView.{key_view};
 
-use crate::build::BuildStatements;
+use crate::build::{BuildStatements, StatementForm};
 use crate::fault::Fault;
 use crate::reader::Reader;
 use crate::token::{Key, Mark};
@@ -24,7 +24,10 @@ impl<'t> Reader<'t> {
         let left = self.selected::<B>()?;
         let is_blocking = self.arrow()?;
         let right = self.enclosed::<B>(Mark::Semicolon)?;
-        B::assignment(self.alloc, is_blocking, left, right)
+        B::statement(
+            self.alloc,
+            StatementForm::Assignment(is_blocking, left, right),
+        )
     }
 
     /// Reads a procedural continuous assignment, behind its keyword.
@@ -36,7 +39,7 @@ impl<'t> Reader<'t> {
         let left = self.selected::<B>()?;
         self.expect(Mark::Assign)?;
         let right = self.enclosed::<B>(Mark::Semicolon)?;
-        B::assign(self.alloc, left, right)
+        B::statement(self.alloc, StatementForm::Assign(left, right))
     }
 
     /// Reads a block of one assignment.
@@ -61,11 +64,11 @@ impl<'t> Reader<'t> {
     {
         if self.eat_key(Key::Default) {
             self.expect(Mark::Colon)?;
-            Ok(B::default())
+            Ok(B::label(None))
         } else {
             let label = self.expression::<B>()?;
             self.expect(Mark::Colon)?;
-            B::label(self.alloc, label)
+            Ok(B::label(Some(label)))
         }
     }
 

@@ -1,17 +1,13 @@
 //! Statements of procedural blocks.
 
 ghost use Rattle.std.specs.Prelude.{◌≡◌, ◌<◌, ◌≤◌, ◌+◌, ⊤, IfOk, IfErr, MatchOption, map, option_map};
-ghost use Rattle.vast_literal.specs.NormalFile.{AssignStatement, ChoiceStatement, CaseStatement};
-ghost use Rattle.vast_literal.specs.FileGrammar.{assignment};
 ghost use Rattle.vast_read.specs.declared.fault.Fault.TheVariants.{Memory};
 ghost use Rattle.vast_read.specs.StatementRelease.{of_block, statement_rounds, arm_rounds, label_rounds, statement_left, statement_alone, statement_beside, block_alone, block_beside, choice_alone};
-ghost use Rattle.vast_read.specs.StatementView.{statement_view, arm_view, label_view, block_view, arms_view, labels_view};
-ghost use Rattle.vast_read.specs.TokenView.{key_view};
+ghost use Rattle.vast_read.specs.StatementView.{arm_view, label_view, block_view};
 ghost use Rattle.vast_read.specs.View.{view};
 
 use crate::children::Children;
 use crate::fault::Fault;
-use crate::token::Key;
 use crate::tree::expression::NormalExpr;
 use crate::word::Word;
 use std::alloc::Global;
@@ -128,69 +124,6 @@ impl NormalStatement {
                 }
             }
         }
-    }
-
-    /// A blocking or a nonblocking assignment.
-    #[tactic(auto, unfolding(vast_literal::specs::FileGrammar::assignment))]
-    pub(crate) fn assignment(
-        alloc: Global,
-        is_blocking: bool,
-        left: NormalExpr,
-        right: NormalExpr,
-    ) -> Result<NormalStatement, Fault>
-        ensures ok { IfOk result (λ s. statement_view s
-            ≡ assignment is_blocking (view left) (view right)) }
-        ensures err { IfErr result (λ e. e ≡ Memory) }
-    {
-        let left = Box::new(alloc, left)?;
-        let right = Box::new(alloc, right)?;
-        if is_blocking {
-            Ok(NormalStatement::Blocking(left, right))
-        } else {
-            Ok(NormalStatement::Nonblocking(left, right))
-        }
-    }
-
-    /// A procedural continuous assignment.
-    pub(crate) fn assign(
-        alloc: Global,
-        left: NormalExpr,
-        right: NormalExpr,
-    ) -> Result<NormalStatement, Fault>
-        ensures ok { IfOk result (λ s. statement_view s
-            ≡ AssignStatement (view left) (view right)) }
-        ensures err { IfErr result (λ e. e ≡ Memory) }
-    {
-        let left = Box::new(alloc, left)?;
-        let right = Box::new(alloc, right)?;
-        Ok(NormalStatement::Assign(left, right))
-    }
-
-    /// A conditional.
-    pub(crate) fn choice(
-        arms: Children<Arm>,
-        last: Option<Children<NormalStatement>>,
-    ) -> NormalStatement
-        ensures { statement_view result ≡ ChoiceStatement (arms_view arms last) }
-    {
-        NormalStatement::Choice(arms, last)
-    }
-
-    /// A case.
-    pub(crate) fn case(
-        alloc: Global,
-        is_unique: bool,
-        key: Key,
-        selector: NormalExpr,
-        arms: Children<CaseArm>,
-    ) -> Result<NormalStatement, Fault>
-        ensures ok { IfOk result (λ s. statement_view s
-            ≡ CaseStatement is_unique (key_view key) (view selector) (labels_view arms)) }
-        ensures err { IfErr result (λ e. e ≡ Memory) }
-    {
-        let word = Word::new(alloc, key.text())?;
-        let selector = Box::new(alloc, selector)?;
-        Ok(NormalStatement::Case(is_unique, word, selector, arms))
     }
 }
 

@@ -1,12 +1,18 @@
 //! Trees of members.
 
-use crate::build::{BuildMembers, Trees};
+ghost use Rattle.std.specs.Prelude.{◌≡◌, IfOk, IfErr};
+ghost use Rattle.vast_read.specs.declared.fault.Fault.TheVariants.{Memory};
+ghost use Rattle.vast_read.specs.DeclarationView.{declaration_view, declarations_view};
+ghost use Rattle.vast_read.specs.MemberForms.{form_member};
+ghost use Rattle.vast_read.specs.MemberView.{connections_view, events_view, member_view, members_view};
+ghost use Rattle.vast_read.specs.StatementView.{block_view, statement_view};
+ghost use Rattle.vast_read.specs.View.{view, listed};
+
+use crate::build::{BuildMembers, MemberForm, MemberFormOf, Trees};
 use crate::children::Children;
 use crate::fault::Fault;
 use crate::token::Key;
-use crate::tree::{
-    Connection, Event, NormalDeclaration, NormalExpr, NormalMember, NormalStatement,
-};
+use crate::tree::{Connection, Event, NormalExpr, NormalMember};
 use std::alloc::Global;
 
 impl<'t> BuildMembers<'t> for Trees {
@@ -69,82 +75,35 @@ impl<'t> BuildMembers<'t> for Trees {
         Ok(())
     }
 
-    fn declared(alloc: Global, declared: NormalDeclaration) -> Result<NormalMember, Fault> {
-        NormalMember::declaration(alloc, declared)
-    }
-
-    fn continuous(
-        alloc: Global,
-        left: NormalExpr,
-        right: NormalExpr,
-    ) -> Result<NormalMember, Fault> {
-        NormalMember::assign(alloc, left, right)
-    }
-
-    fn constant(
-        alloc: Global,
-        key: Key,
-        declared: NormalDeclaration,
-        value: NormalExpr,
-    ) -> Result<NormalMember, Fault> {
-        NormalMember::parameter(alloc, key, declared, value)
-    }
-
-    fn macro_use(alloc: Global, name: &'t str, has_semicolon: bool) -> Result<NormalMember, Fault> {
-        NormalMember::macro_use(alloc, name, None, has_semicolon)
-    }
-
-    fn macro_of(
-        alloc: Global,
-        name: &'t str,
-        arguments: Children<NormalExpr>,
-        has_semicolon: bool,
-    ) -> Result<NormalMember, Fault> {
-        NormalMember::macro_use(alloc, name, Some(arguments), has_semicolon)
-    }
-
-    fn instance(
-        alloc: Global,
-        definition: &'t str,
-        parameters: Children<Connection>,
-        name: &'t str,
-        connections: Children<Connection>,
-    ) -> Result<NormalMember, Fault> {
-        NormalMember::instance(alloc, definition, parameters, name, connections)
-    }
-
-    fn always(
-        alloc: Global,
-        key: Key,
-        events: Children<Event>,
-        body: Children<NormalStatement>,
-    ) -> Result<NormalMember, Fault> {
-        NormalMember::always(alloc, key, events, body)
-    }
-
-    fn conditional(alloc: Global, choice: NormalStatement) -> Result<NormalMember, Fault> {
-        NormalMember::conditional(alloc, choice)
-    }
-
-    fn function(
-        alloc: Global,
-        output: NormalDeclaration,
-        inputs: Children<NormalDeclaration>,
-        locals: Children<NormalDeclaration>,
-        body: Children<NormalStatement>,
-    ) -> Result<NormalMember, Fault> {
-        NormalMember::function(alloc, output, inputs, locals, body)
-    }
-
-    fn generate_loop(
-        alloc: Global,
-        variable: &'t str,
-        start: NormalExpr,
-        end: NormalExpr,
-        label: Option<&'t str>,
-        members: Children<NormalMember>,
-    ) -> Result<NormalMember, Fault> {
-        NormalMember::generate_loop(alloc, variable, start, end, label, members)
+    fn member(alloc: Global, form: MemberFormOf<'t, Trees>) -> Result<NormalMember, Fault>
+        ensures ok { IfOk result (λ m. member_view m ≡ form_member view listed
+            declaration_view declarations_view statement_view block_view events_view
+            connections_view members_view form.entry) }
+        ensures err { IfErr result (λ e. e ≡ Memory) }
+    {
+        match form {
+            MemberForm::Declared(declared) => NormalMember::declaration(alloc, declared),
+            MemberForm::Continuous(left, right) => NormalMember::assign(alloc, left, right),
+            MemberForm::Constant(key, declared, value) => {
+                NormalMember::parameter(alloc, key, declared, value)
+            }
+            MemberForm::Macro(name, arguments, has_semicolon) => {
+                NormalMember::macro_use(alloc, name, arguments, has_semicolon)
+            }
+            MemberForm::Instance(definition, parameters, name, connections) => {
+                NormalMember::instance(alloc, definition, parameters, name, connections)
+            }
+            MemberForm::Always(key, events, body) => {
+                NormalMember::always(alloc, key, events, body)
+            }
+            MemberForm::Conditional(choice) => NormalMember::conditional(alloc, choice),
+            MemberForm::Function(output, inputs, locals, body) => {
+                NormalMember::function(alloc, output, inputs, locals, body)
+            }
+            MemberForm::Loop(variable, start, end, label, members) => {
+                NormalMember::generate_loop(alloc, variable, start, end, label, members)
+            }
+        }
     }
 
     fn members(alloc: Global) -> Children<NormalMember> {

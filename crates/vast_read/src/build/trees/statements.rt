@@ -1,10 +1,16 @@
 //! Trees of statements.
 
-use crate::build::{BuildStatements, Trees};
+ghost use Rattle.std.specs.Prelude.{◌≡◌, IfOk, IfErr, map, option_map};
+ghost use Rattle.vast_read.specs.declared.fault.Fault.TheVariants.{Memory};
+ghost use Rattle.vast_read.specs.StatementForms.{form_statement};
+ghost use Rattle.vast_read.specs.StatementView.{statement_view, arm_view, block_view, labels_view};
+ghost use Rattle.vast_read.specs.View.{view};
+
+use crate::build::{BuildStatements, StatementForm, StatementFormOf, Trees};
 use crate::children::Children;
 use crate::fault::Fault;
-use crate::token::Key;
 use crate::tree::{Arm, CaseArm, NormalExpr, NormalStatement};
+use crate::word::Word;
 use std::alloc::Global;
 
 impl<'t> BuildStatements<'t> for Trees {
@@ -21,23 +27,6 @@ impl<'t> BuildStatements<'t> for Trees {
     ghost use Rattle.vast_read.specs.StatementReadings.{statement_trees};
 
     ghost acts = { statement_trees };
-
-    fn assignment(
-        alloc: Global,
-        is_blocking: bool,
-        left: NormalExpr,
-        right: NormalExpr,
-    ) -> Result<NormalStatement, Fault> {
-        NormalStatement::assignment(alloc, is_blocking, left, right)
-    }
-
-    fn assign(
-        alloc: Global,
-        left: NormalExpr,
-        right: NormalExpr,
-    ) -> Result<NormalStatement, Fault> {
-        NormalStatement::assign(alloc, left, right)
-    }
 
     fn block(alloc: Global) -> Children<NormalStatement> {
         Children::new(alloc)
@@ -68,20 +57,10 @@ impl<'t> BuildStatements<'t> for Trees {
         Ok(())
     }
 
-    fn choice(arms: Children<Arm>) -> NormalStatement {
-        NormalStatement::choice(arms, None)
-    }
-
-    fn choice_else(arms: Children<Arm>, last: Children<NormalStatement>) -> NormalStatement {
-        NormalStatement::choice(arms, Some(last))
-    }
-
-    fn label(_alloc: Global, label: NormalExpr) -> Result<Option<NormalExpr>, Fault> {
-        Ok(Some(label))
-    }
-
-    fn default() -> Option<NormalExpr> {
-        None
+    fn label(label: Option<NormalExpr>) -> Option<NormalExpr>
+        ensures { option_map view result ≡ option_map view label }
+    {
+        label
     }
 
     fn cases(alloc: Global) -> Children<CaseArm> {
@@ -100,13 +79,32 @@ impl<'t> BuildStatements<'t> for Trees {
         Ok(())
     }
 
-    fn case(
-        alloc: Global,
-        is_unique: bool,
-        key: Key,
-        selector: NormalExpr,
-        cases: Children<CaseArm>,
-    ) -> Result<NormalStatement, Fault> {
-        NormalStatement::case(alloc, is_unique, key, selector, cases)
+    #[tactic(auto, unfolding(vast_literal::specs::FileGrammar::assignment))]
+    fn statement(alloc: Global, form: StatementFormOf<'t, Trees>) -> Result<NormalStatement, Fault>
+        ensures ok { IfOk result (λ s. statement_view s
+            ≡ form_statement view block_view (map arm_view) labels_view form) }
+        ensures err { IfErr result (λ e. e ≡ Memory) }
+    {
+        match form {
+            StatementForm::Assignment(true, left, right) => Ok(NormalStatement::Blocking(
+                Box::new(alloc, left)?,
+                Box::new(alloc, right)?,
+            )),
+            StatementForm::Assignment(false, left, right) => Ok(NormalStatement::Nonblocking(
+                Box::new(alloc, left)?,
+                Box::new(alloc, right)?,
+            )),
+            StatementForm::Assign(left, right) => Ok(NormalStatement::Assign(
+                Box::new(alloc, left)?,
+                Box::new(alloc, right)?,
+            )),
+            StatementForm::Choice(arms, last) => Ok(NormalStatement::Choice(arms, last)),
+            StatementForm::Case(is_unique, key, selector, cases) => Ok(NormalStatement::Case(
+                is_unique,
+                Word::new(alloc, key.text())?,
+                Box::new(alloc, selector)?,
+                cases,
+            )),
+        }
     }
 }

@@ -1,10 +1,16 @@
 //! Nothing, where no member is wanted.
 
-use crate::build::BuildMembers;
+ghost use Rattle.std.specs.Prelude.{◌≡◌, IfOk, IfErr};
+ghost use Rattle.vast_read.specs.declared.fault.Fault.TheVariants.{Memory};
+ghost use Rattle.vast_read.specs.DeclarationReadings.{declaration_of, declarations_of};
+ghost use Rattle.vast_read.specs.MemberForms.{form_member};
+ghost use Rattle.vast_read.specs.MemberReadings.{event_of, events_of, connection_of, connections_of, member_of, members_of};
+ghost use Rattle.vast_read.specs.Readings.{tree_of, trees_of};
+ghost use Rattle.vast_read.specs.StatementReadings.{seen};
+
 use crate::build::listed::Listed;
-use crate::build::unbuilt::declarations::DeclarationShadow;
-use crate::build::unbuilt::statements::StatementShadow;
 use crate::build::unbuilt::{Shadow, Unbuilt};
+use crate::build::{BuildMembers, MemberFormOf};
 use crate::fault::Fault;
 use crate::token::Key;
 use crate::tree::NormalExpr;
@@ -29,32 +35,8 @@ pub(crate) enum ConnectionShadow<'t> {
 /// What clauses see of a member of which nothing is made, or of a list of them.
 #[derive(Drop)]
 pub(crate) enum MemberShadow<'t> {
-    Declared(Snapshot<DeclarationShadow<'t>>),
-    Continuous(Snapshot<Shadow<'t>>, Snapshot<Shadow<'t>>),
-    Constant(Key, Snapshot<DeclarationShadow<'t>>, Snapshot<Shadow<'t>>),
-    Macro(&'t str, bool),
-    MacroOf(&'t str, Snapshot<Shadow<'t>>, bool),
-    Instance(
-        &'t str,
-        Snapshot<Listed<ConnectionShadow<'t>>>,
-        &'t str,
-        Snapshot<Listed<ConnectionShadow<'t>>>,
-    ),
-    Always(Key, Snapshot<Listed<EventShadow<'t>>>, Snapshot<StatementShadow<'t>>),
-    Conditional(Snapshot<StatementShadow<'t>>),
-    Function(
-        Snapshot<DeclarationShadow<'t>>,
-        Snapshot<Listed<DeclarationShadow<'t>>>,
-        Snapshot<Listed<DeclarationShadow<'t>>>,
-        Snapshot<StatementShadow<'t>>,
-    ),
-    Loop(
-        &'t str,
-        Snapshot<Shadow<'t>>,
-        Snapshot<Shadow<'t>>,
-        Option<&'t str>,
-        Snapshot<MemberShadow<'t>>,
-    ),
+    /// A member.
+    Formed(Snapshot<MemberFormOf<'t, Unbuilt>>),
     /// The empty list.
     Nothing,
     /// A list and one more behind it.
@@ -73,8 +55,6 @@ impl<'t> BuildMembers<'t> for Unbuilt {
     type Member = Snapshot<MemberShadow<'t>>;
 
     type Members = Snapshot<MemberShadow<'t>>;
-
-    ghost use Rattle.vast_read.specs.MemberReadings.{event_of, events_of, connection_of, connections_of, member_of, members_of};
 
     ghost holds = { record {
       event = λ e. event_of e.value;
@@ -139,92 +119,18 @@ impl<'t> BuildMembers<'t> for Unbuilt {
         Ok(())
     }
 
-    fn declared(
+    fn member(
         _alloc: Global,
-        declared: Snapshot<DeclarationShadow<'t>>,
-    ) -> Result<Snapshot<MemberShadow<'t>>, Fault> {
-        Ok(Snapshot::of(&MemberShadow::Declared(declared)))
-    }
-
-    fn continuous(
-        _alloc: Global,
-        left: Snapshot<Shadow<'t>>,
-        right: Snapshot<Shadow<'t>>,
-    ) -> Result<Snapshot<MemberShadow<'t>>, Fault> {
-        Ok(Snapshot::of(&MemberShadow::Continuous(left, right)))
-    }
-
-    fn constant(
-        _alloc: Global,
-        key: Key,
-        declared: Snapshot<DeclarationShadow<'t>>,
-        value: Snapshot<Shadow<'t>>,
-    ) -> Result<Snapshot<MemberShadow<'t>>, Fault> {
-        Ok(Snapshot::of(&MemberShadow::Constant(key, declared, value)))
-    }
-
-    fn macro_use(
-        _alloc: Global,
-        name: &'t str,
-        has_semicolon: bool,
-    ) -> Result<Snapshot<MemberShadow<'t>>, Fault> {
-        Ok(Snapshot::of(&MemberShadow::Macro(name, has_semicolon)))
-    }
-
-    fn macro_of(
-        _alloc: Global,
-        name: &'t str,
-        arguments: Snapshot<Shadow<'t>>,
-        has_semicolon: bool,
-    ) -> Result<Snapshot<MemberShadow<'t>>, Fault> {
-        Ok(Snapshot::of(&MemberShadow::MacroOf(name, arguments, has_semicolon)))
-    }
-
-    fn instance(
-        _alloc: Global,
-        definition: &'t str,
-        parameters: Snapshot<Listed<ConnectionShadow<'t>>>,
-        name: &'t str,
-        connections: Snapshot<Listed<ConnectionShadow<'t>>>,
-    ) -> Result<Snapshot<MemberShadow<'t>>, Fault> {
-        Ok(Snapshot::of(&MemberShadow::Instance(definition, parameters, name, connections)))
-    }
-
-    fn always(
-        _alloc: Global,
-        key: Key,
-        events: Snapshot<Listed<EventShadow<'t>>>,
-        body: Snapshot<StatementShadow<'t>>,
-    ) -> Result<Snapshot<MemberShadow<'t>>, Fault> {
-        Ok(Snapshot::of(&MemberShadow::Always(key, events, body)))
-    }
-
-    fn conditional(
-        _alloc: Global,
-        choice: Snapshot<StatementShadow<'t>>,
-    ) -> Result<Snapshot<MemberShadow<'t>>, Fault> {
-        Ok(Snapshot::of(&MemberShadow::Conditional(choice)))
-    }
-
-    fn function(
-        _alloc: Global,
-        output: Snapshot<DeclarationShadow<'t>>,
-        inputs: Snapshot<Listed<DeclarationShadow<'t>>>,
-        locals: Snapshot<Listed<DeclarationShadow<'t>>>,
-        body: Snapshot<StatementShadow<'t>>,
-    ) -> Result<Snapshot<MemberShadow<'t>>, Fault> {
-        Ok(Snapshot::of(&MemberShadow::Function(output, inputs, locals, body)))
-    }
-
-    fn generate_loop(
-        _alloc: Global,
-        variable: &'t str,
-        start: Snapshot<Shadow<'t>>,
-        end: Snapshot<Shadow<'t>>,
-        label: Option<&'t str>,
-        members: Snapshot<MemberShadow<'t>>,
-    ) -> Result<Snapshot<MemberShadow<'t>>, Fault> {
-        Ok(Snapshot::of(&MemberShadow::Loop(variable, start, end, label, members)))
+        form: MemberFormOf<'t, Unbuilt>,
+    ) -> Result<Snapshot<MemberShadow<'t>>, Fault>
+        ensures ok { IfOk result (λ m. member_of m.value ≡ form_member
+            (λ x. tree_of x.value) (λ x. trees_of x.value) (λ d. declaration_of d.value)
+            (λ d. declarations_of d.value) (λ s. (seen s.value).statement)
+            (λ s. (seen s.value).block) (λ e. events_of e.value)
+            (λ c. connections_of c.value) (λ m. members_of m.value) form.entry) }
+        ensures err { IfErr result (λ e. e ≡ Memory) }
+    {
+        Ok(Snapshot::of(&MemberShadow::Formed(Snapshot::of(&form))))
     }
 
     fn members(_alloc: Global) -> Snapshot<MemberShadow<'t>> {

@@ -1,9 +1,14 @@
 //! Nothing, where no trees of statements are wanted.
 
+ghost use Rattle.std.specs.Prelude.{◌≡◌, IfOk, IfErr, option_map};
+ghost use Rattle.vast_read.specs.declared.fault.Fault.TheVariants.{Memory};
+ghost use Rattle.vast_read.specs.Readings.{tree_of};
+ghost use Rattle.vast_read.specs.StatementForms.{form_statement};
+ghost use Rattle.vast_read.specs.StatementReadings.{seen};
+
 use crate::build::unbuilt::Shadow;
-use crate::build::{BuildStatements, Unbuilt};
+use crate::build::{BuildStatements, StatementFormOf, Unbuilt};
 use crate::fault::Fault;
-use crate::token::Key;
 use std::alloc::Global;
 use std::mem;
 use std::snapshot::Snapshot;
@@ -11,11 +16,8 @@ use std::snapshot::Snapshot;
 /// What clauses see of a statement of which nothing is made, of a block, or of arms.
 #[derive(Drop)]
 pub(crate) enum StatementShadow<'t> {
-    Assignment(bool, Snapshot<Shadow<'t>>, Snapshot<Shadow<'t>>),
-    Assign(Snapshot<Shadow<'t>>, Snapshot<Shadow<'t>>),
-    Choice(Snapshot<StatementShadow<'t>>),
-    ChoiceElse(Snapshot<StatementShadow<'t>>, Snapshot<StatementShadow<'t>>),
-    Case(bool, Key, Snapshot<Shadow<'t>>, Snapshot<StatementShadow<'t>>),
+    /// A statement.
+    Formed(Snapshot<StatementFormOf<'t, Unbuilt>>),
     /// An empty block, or no arms.
     Nothing,
     /// A block and one more statement behind it.
@@ -41,10 +43,6 @@ impl<'t> BuildStatements<'t> for Unbuilt {
 
     type Cases = Snapshot<StatementShadow<'t>>;
 
-    ghost use Rattle.std.specs.Prelude.{option_map};
-    ghost use Rattle.vast_read.specs.Readings.{tree_of};
-    ghost use Rattle.vast_read.specs.StatementReadings.{seen};
-
     ghost acts = { record {
       statement = λ s. (seen s.value).statement;
       block = λ s. (seen s.value).block;
@@ -52,23 +50,6 @@ impl<'t> BuildStatements<'t> for Unbuilt {
       label = λ l. option_map (λ x. tree_of x.value) l.value;
       cases = λ s. (seen s.value).cases;
     } };
-
-    fn assignment(
-        _alloc: Global,
-        is_blocking: bool,
-        left: Snapshot<Shadow<'t>>,
-        right: Snapshot<Shadow<'t>>,
-    ) -> Result<Snapshot<StatementShadow<'t>>, Fault> {
-        Ok(Snapshot::of(&StatementShadow::Assignment(is_blocking, left, right)))
-    }
-
-    fn assign(
-        _alloc: Global,
-        left: Snapshot<Shadow<'t>>,
-        right: Snapshot<Shadow<'t>>,
-    ) -> Result<Snapshot<StatementShadow<'t>>, Fault> {
-        Ok(Snapshot::of(&StatementShadow::Assign(left, right)))
-    }
 
     fn block(_alloc: Global) -> Snapshot<StatementShadow<'t>> {
         Snapshot::of(&StatementShadow::Nothing)
@@ -98,26 +79,11 @@ impl<'t> BuildStatements<'t> for Unbuilt {
         Ok(())
     }
 
-    fn choice(arms: Snapshot<StatementShadow<'t>>) -> Snapshot<StatementShadow<'t>> {
-        Snapshot::of(&StatementShadow::Choice(arms))
-    }
-
-    fn choice_else(
-        arms: Snapshot<StatementShadow<'t>>,
-        last: Snapshot<StatementShadow<'t>>,
-    ) -> Snapshot<StatementShadow<'t>> {
-        Snapshot::of(&StatementShadow::ChoiceElse(arms, last))
-    }
-
-    fn label(
-        _alloc: Global,
-        label: Snapshot<Shadow<'t>>,
-    ) -> Result<Snapshot<Option<Snapshot<Shadow<'t>>>>, Fault> {
-        Ok(Snapshot::of(&Some(label)))
-    }
-
-    fn default() -> Snapshot<Option<Snapshot<Shadow<'t>>>> {
-        Snapshot::of(&None)
+    fn label(label: Option<Snapshot<Shadow<'t>>>) -> Snapshot<Option<Snapshot<Shadow<'t>>>>
+        ensures { option_map (λ x. tree_of x.value) result.value
+            ≡ option_map (λ x. tree_of x.value) label.entry }
+    {
+        Snapshot::of(&label)
     }
 
     fn cases(_alloc: Global) -> Snapshot<StatementShadow<'t>> {
@@ -135,13 +101,15 @@ impl<'t> BuildStatements<'t> for Unbuilt {
         Ok(())
     }
 
-    fn case(
+    fn statement(
         _alloc: Global,
-        is_unique: bool,
-        key: Key,
-        selector: Snapshot<Shadow<'t>>,
-        cases: Snapshot<StatementShadow<'t>>,
-    ) -> Result<Snapshot<StatementShadow<'t>>, Fault> {
-        Ok(Snapshot::of(&StatementShadow::Case(is_unique, key, selector, cases)))
+        form: StatementFormOf<'t, Unbuilt>,
+    ) -> Result<Snapshot<StatementShadow<'t>>, Fault>
+        ensures ok { IfOk result (λ s. (seen s.value).statement
+            ≡ form_statement (λ x. tree_of x.value) (λ s. (seen s.value).block)
+            (λ s. (seen s.value).arms) (λ s. (seen s.value).cases) form.entry) }
+        ensures err { IfErr result (λ e. e ≡ Memory) }
+    {
+        Ok(Snapshot::of(&StatementShadow::Formed(Snapshot::of(&form))))
     }
 }
