@@ -5,6 +5,8 @@ use Rattle.vast_literal.specs.NormalFile.{NormalFile}
 use Rattle.vast_literal.specs.FileGrammar.{DerivesFile}
 use Rattle.vast_check.specs.declared.answer.Answer.{Answer}
 use Rattle.vast_check.specs.declared.answer.Answer.TheVariants.{Derived}
+use Rattle.vast_check.specs.declared.same.Found.{Found}
+use Rattle.vast_check.specs.declared.same.Found.TheVariants.{Same}
 
 -- the reader gives these bytes, which are not too many, and then its end
 abbrev pub GivesAll : Option (List ℕ) → Option (List ℕ) → List ℕ → Type 0
@@ -38,3 +40,12 @@ TellsUnderived before after = (bytes : List ℕ) × GivesAll before after bytes 
 abbrev pub Answers : List ℕ → Answer → Type 0
 Answers bytes Derived = IsDerived bytes
 Answers bytes _ = IsDerived bytes → ⊥
+
+-- Both are the UTF-8 of texts, and the grammar derives one file from both.
+abbrev pub AreSame : (old new : List ℕ) → Type 0
+AreSame old new = IsUtf8 old × IsUtf8 new × ((t : NormalFile) × DerivesFile old t × DerivesFile new t)
+
+-- It is said that two are the same exactly where they are.
+abbrev pub Compares : (old new : List ℕ) → Found → Type 0
+Compares old new Same = AreSame old new
+Compares old new _ = AreSame old new → ⊥

@@ -1,7 +1,9 @@
-//! Tells of files whether the grammar derives them, and where it doesn't: `vast_check fifo.sv`; `--help` tells the rest.
+//! Tells of files whether the grammar derives them, and where it doesn't: `vast_check fifo.sv`; and of two whether they are
+//! the same: `vast_check --same old.sv new.sv`. `--help` tells the rest.
 #![tactic(auto)]
 
 mod answer;
+mod difference;
 mod expected;
 mod files;
 mod help;
@@ -9,9 +11,11 @@ mod input;
 mod outcome;
 mod place;
 mod program;
+mod same;
+mod tokens;
 mod words;
 
-use files::answer_files;
+use files::{answer_files, compare_files};
 use help::{HELP, VERSION};
 use outcome::Outcome;
 use program::{Trouble, tell};
@@ -53,13 +57,14 @@ fn answer_words(rt: &HostRuntime, words: &[&str]) -> Outcome {
         Ok(Request::Help) => print(rt, HELP),
         Ok(Request::Version) => print(rt, VERSION),
         Ok(Request::Files(files)) => answer_files(rt, &files),
+        Ok(Request::Same { old, new }) => compare_files(rt, old, new),
         Err(fault) => tell(Trouble::Word(fault), &mut rt.stderr()),
     }
 }
 
 fn print(rt: &HostRuntime, text: &str) -> Outcome {
     match rt.stdout().write_all(text.as_bytes()) {
-        Ok(()) => Outcome::Derived,
+        Ok(()) => Outcome::Yes,
         Err(_) => tell(Trouble::Write, &mut rt.stderr()),
     }
 }

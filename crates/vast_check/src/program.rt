@@ -1,8 +1,8 @@
 //! What the program tells of files.
 
-ghost use Rattle.std.specs.Prelude.{◌≡◌, ◌⊎◌, IfOk, MatchResult, string_bytes};
+ghost use Rattle.std.specs.Prelude.{◌≡◌, ◌⊎◌, IfErr, IfOk, MatchResult, OnOk, string_bytes};
 ghost use Rattle.std.specs.Io.KnownBytes.{Appends};
-ghost use Rattle.vast_check.specs.Check.{IsDerived, derived_line, TellsDerived, TellsUnderived};
+ghost use Rattle.vast_check.specs.Check.{GivesAll, IsDerived, derived_line, TellsDerived, TellsUnderived};
 
 use crate::answer::{Answer, answer_of};
 use crate::expected::Expected;
@@ -48,20 +48,40 @@ pub(crate) fn answer_input<R: Read, W: Write, E: Write>(
     out: &mut W,
     err: &mut E,
 ) -> Outcome
-    ensures derived { result ≡ Outcome.Derived →
+    ensures derived { result ≡ Outcome.Yes →
         TellsDerived name.now (R.remaining input.old) (R.remaining input.new)
         (W.contents out.old) (W.contents out.new) }
-    ensures underived { result ≡ Outcome.Underived →
+    ensures underived { result ≡ Outcome.No →
         TellsUnderived (R.remaining input.old) (R.remaining input.new) }
-    ensures silent { result ≡ Outcome.Derived → E.contents err.new ≡ E.contents err.old }
+    ensures silent { result ≡ Outcome.Yes → E.contents err.new ≡ E.contents err.old }
 {
-    match read_input(alloc, input) {
+    match read_whole(alloc, name, input, err) {
         Ok(bytes) => answer_bytes(alloc, name, &bytes, out, err),
-        Err(InputFault::Memory) => tell(Trouble::Memory, err),
-        Err(InputFault::Length) => tell(Trouble::TooLong(name), err),
-        Err(InputFault::Read(kind)) => tell(Trouble::Unread(name, kind), err),
-        Err(InputFault::Reads) => tell(Trouble::Endless(name), err),
+        Err(outcome) => outcome,
     }
+}
+
+/// All that `input` gives to its end, no more than 16,777,216 bytes; why not is told on `err`.
+pub(crate) fn read_whole<R: Read, E: Write>(
+    alloc: Global,
+    name: &str,
+    input: &mut R,
+    err: &mut E,
+) -> Result<Vec<u8>, Outcome>
+    ensures all { IfOk result (λ bytes.
+        GivesAll (R.remaining input.old) (R.remaining input.new) bytes.items) }
+    ensures untold { IfErr result (λ outcome.
+        (outcome ≡ Outcome.Unread) ⊎ (outcome ≡ Outcome.Failed)) }
+    ensures silent { OnOk result (E.contents err.new ≡ E.contents err.old) }
+{
+    let trouble = match read_input(alloc, input) {
+        Ok(bytes) => return Ok(bytes),
+        Err(InputFault::Memory) => Trouble::Memory,
+        Err(InputFault::Length) => Trouble::TooLong(name),
+        Err(InputFault::Read(kind)) => Trouble::Unread(name, kind),
+        Err(InputFault::Reads) => Trouble::Endless(name),
+    };
+    Err(tell(trouble, err))
 }
 
 /// Tells on `out` whether the grammar derives a file from these bytes, or where it doesn't.
@@ -72,35 +92,30 @@ fn answer_bytes<W: Write, E: Write>(
     out: &mut W,
     err: &mut E,
 ) -> Outcome
-    ensures derived { result ≡ Outcome.Derived → IsDerived bytes.now ×
+    ensures derived { result ≡ Outcome.Yes → IsDerived bytes.now ×
         Appends (W.contents out.old) (W.contents out.new) (derived_line name.now) }
-    ensures underived { result ≡ Outcome.Underived → IsDerived bytes.now → ⊥ }
-    ensures silent { result ≡ Outcome.Derived → E.contents err.new ≡ E.contents err.old }
+    ensures underived { result ≡ Outcome.No → IsDerived bytes.now → ⊥ }
+    ensures silent { result ≡ Outcome.Yes → E.contents err.new ≡ E.contents err.old }
 {
     match answer_of(alloc, bytes) {
-        Ok(Answer::Derived) => write_line(derived_line(alloc, name), Outcome::Derived, out, err),
-        Ok(found) => write_line(
-            underived_line(alloc, name, &found),
-            Outcome::Underived,
-            out,
-            err,
-        ),
+        Ok(Answer::Derived) => write_line(derived_line(alloc, name), Outcome::Yes, out, err),
+        Ok(found) => write_line(underived_line(alloc, name, &found), Outcome::No, out, err),
         Err(_) => tell(Trouble::Memory, err),
     }
 }
 
 /// Writes the line, where it was made.
-fn write_line<W: Write, E: Write>(
+pub(crate) fn write_line<W: Write, E: Write>(
     line: Result<String, AllocError>,
     outcome: Outcome,
     out: &mut W,
     err: &mut E,
 ) -> Outcome
-    ensures derived { result ≡ Outcome.Derived → outcome ≡ Outcome.Derived }
-    ensures underived { result ≡ Outcome.Underived → outcome ≡ Outcome.Underived }
-    ensures written { result ≡ Outcome.Derived → MatchResult line
+    ensures derived { result ≡ Outcome.Yes → outcome ≡ Outcome.Yes }
+    ensures underived { result ≡ Outcome.No → outcome ≡ Outcome.No }
+    ensures written { result ≡ Outcome.Yes → MatchResult line
         (λ t. Appends (W.contents out.old) (W.contents out.new) (string_bytes t)) (λ _. ⊥) }
-    ensures silent { result ≡ Outcome.Derived → E.contents err.new ≡ E.contents err.old }
+    ensures silent { result ≡ Outcome.Yes → E.contents err.new ≡ E.contents err.old }
 {
     match line {
         Ok(line) => match out.write_all(line.as_bytes()) {
@@ -120,7 +135,11 @@ fn derived_line(alloc: Global, name: &str) -> Result<String, AllocError>
 }
 
 /// The line that tells where the file is no longer one of the grammar.
-fn underived_line(alloc: Global, name: &str, found: &Answer<'_>) -> Result<String, AllocError> {
+pub(crate) fn underived_line(
+    alloc: Global,
+    name: &str,
+    found: &Answer<'_>,
+) -> Result<String, AllocError> {
     let mut line = String::from_str(alloc, name)?;
     match found {
         Answer::Derived => line.push_str(": derived")?,

@@ -12,6 +12,8 @@ pub(crate) enum Request<'a> {
     Version,
     /// Whether the grammar derives these files; standard input where there are none.
     Files(Vec<&'a str>),
+    /// Whether the two files are the same.
+    Same { old: &'a str, new: &'a str },
 }
 
 /// Why the words ask for nothing.
@@ -21,6 +23,8 @@ pub(crate) enum WordFault<'a> {
     Unknown(&'a str),
     #[error("{0} takes no file")]
     WithFile(&'static str),
+    #[error("--same takes two files")]
+    NotTwo,
     #[error("out of memory")]
     Memory,
 }
@@ -36,6 +40,7 @@ impl From<AllocFailed<&str>> for WordFault<'_> {
 struct Seen<'a> {
     help: bool,
     version: bool,
+    same: bool,
     /// Whether `--` was there, behind which each word is a file.
     only_files: bool,
     files: Vec<&'a str>,
@@ -52,6 +57,7 @@ pub(crate) fn requested<'a>(
     let mut seen = Seen {
         help: false,
         version: false,
+        same: false,
         only_files: false,
         files: Vec::new(alloc),
     };
@@ -71,6 +77,7 @@ impl<'a> Seen<'a> {
             "--" => self.only_files = true,
             "--help" | "-h" => self.help = true,
             "--version" | "-V" => self.version = true,
+            "--same" => self.same = true,
             _ => return Err(WordFault::Unknown(word)),
         }
         Ok(())
@@ -79,12 +86,17 @@ impl<'a> Seen<'a> {
     fn request(self) -> Result<Request<'a>, WordFault<'a>> {
         if self.help {
             Ok(Request::Help)
-        } else if !self.version {
-            Ok(Request::Files(self.files))
-        } else if self.files.is_empty() {
+        } else if self.version && self.files.is_empty() && !self.same {
             Ok(Request::Version)
-        } else {
+        } else if self.version {
             Err(WordFault::WithFile("--version"))
+        } else if self.same {
+            match self.files.as_slice() {
+                [old, new] => Ok(Request::Same { old, new }),
+                _ => Err(WordFault::NotTwo),
+            }
+        } else {
+            Ok(Request::Files(self.files))
         }
     }
 }

@@ -5,12 +5,12 @@ ghost use Rattle.vast_literal.specs.FileGrammar.{IsFile, DerivesFile};
 ghost use Rattle.vast_literal.specs.NormalFile as normal;
 ghost use Rattle.vast_literal.specs.Scan.{Gap};
 ghost use Rattle.vast_read.specs.Lexed.{lex};
-ghost use Rattle.vast_read.specs.Places.{IsBetweenTokens};
+ghost use Rattle.vast_read.specs.Places.{Ends, IsBetweenTokens};
 
 use crate::build::{BuildFiles, Unbuilt};
 use crate::fault::Fault;
 use crate::reader::Reader;
-use crate::scanner::behind_first;
+use crate::scanner::{behind_first, from_first};
 use std::alloc::{AllocError, Global};
 
 /// The place of the token at which no rule of the grammar goes on, where it derives no file from this text.
@@ -69,4 +69,18 @@ pub fn first_token(text: &str) -> &str
         Some(token) => token,
         None => text,
     }
+}
+
+/// The text from its first token on; nothing, where it has none.
+pub fn from_first_token(text: &str) -> &str
+    ensures { Ends text.now result.now }
+{
+    from_first(text)
+}
+
+/// What is behind the first token of a text; nothing, where it has none, or no token fits.
+pub fn behind_first_token(text: &str) -> &str
+    ensures { Ends text.now result.now }
+{
+    behind_first(text)
 }

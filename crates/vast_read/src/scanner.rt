@@ -24,7 +24,8 @@ mod run;
 mod sign;
 mod word;
 
-pub(crate) use place::{behind_first, place_before};
+pub(crate) use keyword::word_token;
+pub(crate) use place::{behind_first, from_first, place_before};
 pub(crate) use position::Position;
 
 /// The first token of a text, and what is behind it; where no token fits, one that stands for what is left. It takes no

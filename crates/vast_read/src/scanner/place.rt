@@ -4,7 +4,7 @@ ghost use Rattle.std.specs.Prelude.{IsCharBoundary};
 ghost use Rattle.vast_read.specs.Places.{Ends, IsBetweenTokens};
 
 use crate::scanner::front::Front;
-use crate::scanner::{first_of, front_of};
+use crate::scanner::front_of;
 
 /// The place in a text of its first token that has at most so many bytes behind it; where it has none, the end.
 pub(crate) fn place_before(text: &str, behind: usize) -> usize
@@ -47,7 +47,24 @@ fn place_of(text: &str, rest: &str) -> usize
     }
 }
 
-/// What is behind the first token of a text; nothing, where no token fits.
-pub(crate) fn behind_first<'t>(text: &'t str) -> &'t str {
-    first_of(text).behind
+/// The text from its first token on; nothing, where it has none.
+pub(crate) fn from_first<'t>(text: &'t str) -> &'t str
+    ensures { Ends text.now result.now }
+{
+    from_token(text, usize::MAX)
+}
+
+/// What is behind the first token of a text; nothing, where it has none, or no token fits.
+pub(crate) fn behind_first<'t>(text: &'t str) -> &'t str
+    ensures { Ends text.now result.now }
+{
+    let rest = from_first(text);
+    if rest.is_empty() {
+        return rest;
+    }
+    match front_of(rest) {
+        Front::Token(_, behind) => behind,
+        Front::Gap(behind) => behind,
+        Front::Unspelled => "",
+    }
 }
