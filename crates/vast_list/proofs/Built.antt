@@ -19,7 +19,7 @@ use Rattle.vast_list.specs.declared.session.Given.{Given}
 use Rattle.vast_list.specs.declared.session.Given.TheVariants.{Nothing, Step as StepGiven, Helper as HelperGiven, Answer as Answered}
 use Rattle.vast_list.specs.declared.session.Session.{Session}
 use Rattle.vast_list.specs.CallNames.{call_name}
-use Rattle.vast_list.specs.Lines.{is_call, is_call_line, call_words, line_word}
+use Rattle.vast_list.specs.Lines.{is_call, is_call_line, call_words, line_arguments, line_word}
 use Rattle.vast_list.specs.Session.{Calls, Gives, HasMade, IsGivenBy, Takes}
 use Rattle.vast_list.specs.Built.{Between, Builds, LinesBuild, ReadsCalls, TakesLine}
 
@@ -75,22 +75,22 @@ pass-more again dialect lines line b c d xs ys zs h k e file answers none =
     rw (file, answers, e) (h.0, reads-pass lines line h.0 none h.1, builds-on again _ b c [] xs h.0 h.2 k)
 
 made-more :
-    (again : Bool) (dialect : VastFileType) (lines : List (List ℕ)) (line : List ℕ) (b : Bench) (xs : List Answer) (between new : Session) (name : List ℕ) → LinesBuild again dialect lines b xs →
-    Between again b between.file → between.answers.items ≡ xs → HasMade between new name → is_call_line line ≡ true → name ≡ line_word line → LinesBuild again dialect (lines ++ line ∷ []) new.file new.answers.items
-made-more again dialect lines line b xs between new name h k e made one is =
+    (again : Bool) (dialect : VastFileType) (lines : List (List ℕ)) (line : List ℕ) (b : Bench) (xs : List Answer) (between new : Session) (name arguments : List ℕ) → LinesBuild again dialect lines b xs →
+    Between again b between.file → between.answers.items ≡ xs → HasMade between new name arguments → is_call_line line ≡ true → name ≡ line_word line → LinesBuild again dialect (lines ++ line ∷ []) new.file new.answers.items
+made-more again dialect lines line b xs between new name arguments h k e made one is =
     let answer = made.2.0 in
     let calls = subst (λ (zs : List Answer). Calls between.file new.file zs (Ok answer) made.0) e made.2.1 in
     rw (made.2.2, e) (h.0 ++ made.0 ∷ [], reads-call lines line h.0 made.0 one (made.1 ∙ is) h.1, builds-more again _ b between.file new.file [] xs h.0 made.0 answer h.2 k calls)
 
 gives-more :
     (again : Bool) (dialect : VastFileType) (lines : List (List ℕ)) (line : List ℕ) (b : Bench) (xs : List Answer) (between new : Session) (given : Given) → LinesBuild again dialect lines b xs →
-    Between again b between.file → between.answers.items ≡ xs → Gives between new given → IsGivenBy line given → LinesBuild again dialect (lines ++ line ∷ []) new.file new.answers.items
+    Between again b between.file → between.answers.items ≡ xs → Gives between new line given → IsGivenBy line given → LinesBuild again dialect (lines ++ line ∷ []) new.file new.answers.items
 gives-more again dialect lines line b xs between new Nothing h k e gives is =
     pass-more again dialect lines line b between.file new.file xs between.answers.items new.answers.items h k e gives.0 gives.1 (ap is_call is)
 gives-more again dialect lines line b xs between new (Answered name value) h k e gives is =
     pass-more again dialect lines line b between.file new.file xs between.answers.items new.answers.items h k e gives.0 gives.1 (ap is_call is.0)
-gives-more again dialect lines line b xs between new (StepGiven number name) h k e gives is = made-more again dialect lines line b xs between new name.now h k e gives (ap is_call is.0) is.1
-gives-more again dialect lines line b xs between new (HelperGiven number name) h k e gives is = made-more again dialect lines line b xs between new name.now h k e gives (ap is_call is.0) is.1
+gives-more again dialect lines line b xs between new (StepGiven number name) h k e gives is = made-more again dialect lines line b xs between new name.now (line_arguments line) h k e gives (ap is_call is.0) is.1
+gives-more again dialect lines line b xs between new (HelperGiven number name) h k e gives is = made-more again dialect lines line b xs between new name.now (line_arguments line) h k e gives (ap is_call is.0) is.1
 
 -- One line more is taken.
 pub lines-more :
@@ -103,12 +103,12 @@ lines-more again dialect lines line old new h takes =
 pub no-lines : (again : Bool) (dialect : VastFileType) (file : Bench) (answers : List Answer) → file ≡ start dialect 1 → answers ≡ [] → LinesBuild again dialect [] file answers
 no-lines again dialect file answers e a = rw (e, a) ([], refl, (between-same again _, refl))
 
-pub takes_once : (again : Bool) (old new : Session) (line : List ℕ) (r : Result Given Fault) → Takes old new r → IfOk r (IsGivenBy line) → OnOk r (TakesLine again old new line)
+pub takes_once : (again : Bool) (old new : Session) (line : List ℕ) (r : Result Given Fault) → Takes old new line r → IfOk r (IsGivenBy line) → OnOk r (TakesLine again old new line)
 takes_once again old new line (Ok given) takes kind = record { between = old; file = between-same again old.file; answers = refl; given = given; gives = takes; is = kind }
 takes_once again old new line (Err fault) takes kind = tt
 
 pub takes_again :
-    (old between new : Session) (line : List ℕ) (r : Result Given Fault) → HasUnused old.file between.file → between.answers.items ≡ old.answers.items → Takes between new r →
+    (old between new : Session) (line : List ℕ) (r : Result Given Fault) → HasUnused old.file between.file → between.answers.items ≡ old.answers.items → Takes between new line r →
     IfOk r (IsGivenBy line) → OnOk r (TakesLine true old new line)
 takes_again old between new line (Ok given) unused answers takes kind = record { between = between; file = unused; answers = answers; given = given; gives = takes; is = kind }
 takes_again old between new line (Err fault) unused answers takes kind = tt

@@ -1,5 +1,8 @@
 pub mod Outputs
 mod JsonLaws
+pub mod Words
+pub mod Quoted
+pub mod LineParts
 pub mod Sessions
 pub mod Built
 pub mod JsonLines

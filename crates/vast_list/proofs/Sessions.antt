@@ -20,9 +20,15 @@ use Rattle.vast_list.specs.declared.helpers.Helper.TheVariants.{AddRegisters, Bi
 use Rattle.vast_list.specs.declared.line.Call.{Call}
 use Rattle.vast_list.specs.declared.line.Call.TheVariants.{Step as StepCall, Helper as HelperCall}
 use Rattle.vast_list.specs.declared.session.Session.{Session}
+use Rattle.vast_list.specs.declared.arguments.Known.{Known}
+use Rattle.vast_list.specs.declared.line.Line.{Line as ReadLine}
+use Rattle.vast_list.specs.declared.names.Named.{Named}
+use Rattle.std.specs.BTreeMap.{BTreeMap}
+use Rattle.vast_list.specs.Lines.{behind_call, line_arguments, without_return}
 use Rattle.vast_list.specs.Helpers.{Helps, IsKept}
 use Rattle.vast_list.specs.CallNames.{call_name}
-use Rattle.vast_list.specs.Session.{Calls, HasMade, IsLeft, IsMade, IsTextOf, IsToldAs}
+use Rattle.vast_list.specs.Session.{Calls, HasMade, IsLeft, IsMade, IsRead, IsTextOf, IsToldAs, IsWrittenIn}
+use Rattle.vast_list.specs.Written.{meaning}
 
 pub nodes-unused : (old new : Bench) → HasMoreNodes old new → HasUnused old new
 nodes-unused old new h =
@@ -82,8 +88,18 @@ left_same old new Memory e a = (ap tree e, a)
 
 pub ruleset faults = (left_call, left_same, unused_call, same-unused)
 
-pub has_made : (old new : Session) (call : Call) (name : List ℕ) → IsMade old new call → call_name call ≡ name → HasMade old new name
-has_made old new call name h n = (call, n, h)
+pub has_made :
+    (old new : Session) (call : Call) (name text line : List ℕ) → IsMade old new call → call_name call ≡ name → IsWrittenIn old call (behind_call text) → text ≡ without_return line →
+    HasMade old new name (line_arguments line)
+has_made old new call name text line h n w e = (call, n, h, subst (λ (t : List ℕ). IsWrittenIn old call (behind_call t)) e w)
+
+-- A line is read over what the session knows.
+pub read_known :
+    (known : Known) (session : Session) (text : List ℕ) (line : ReadLine) → known.names.now ≡ session.names → known.skipped.now ≡ session.skipped.items →
+    IsRead (meaning known.names.now) known.skipped.now text line → IsRead (meaning session.names) session.skipped.items text line
+read_known known session text line n s h =
+    subst (λ (skipped : List ℕ). IsRead (meaning session.names) skipped text line) s
+    (subst (λ (names : BTreeMap (String Global) Named). IsRead (meaning names) known.skipped.now text line) n h)
 
 pub ruleset lines = (left_same, has_made, same-unused)
 

@@ -42,7 +42,7 @@ pub record TakesLine (again : Bool) (old new : Session) (line : List ℕ) : Type
   pub file : Between again old.file between.file
   pub answers : between.answers.items ≡ old.answers.items
   pub given : Given
-  pub gives : Gives between new given
+  pub gives : Gives between new line given
   pub is : IsGivenBy line given
 
 -- The text is the printed layout of the tree that the list's lines build.

@@ -3,6 +3,8 @@ pub mod Output
 pub mod Json
 pub mod Helpers
 pub mod CallNames
+pub mod CallArguments
+pub mod Written
 pub mod Session
 pub mod Built
 pub mod JsonLine

@@ -58,6 +58,14 @@ is_named text = is_equals_front (behind_word text)
 abbrev pub call_word : List ℕ → List ℕ
 call_word text = if is_named text then first_word (drop 2 (behind_word text)) else first_word text
 
+-- What stands behind the call's name, its space included.
+
+abbrev pub behind_first : List ℕ → List ℕ
+behind_first text = drop (length (first_word text)) text
+
+abbrev pub behind_call : List ℕ → List ℕ
+behind_call text = if is_named text then behind_first (drop 2 (behind_word text)) else behind_first text
+
 -- Questions begin with `?`, helpers with `!`.
 abbrev pub word_kind : List ℕ → LineKind
 word_kind word = if slice_index word 0 == 63 then Asked else (if slice_index word 0 == 33 then Helped else Stepped)
@@ -71,6 +79,10 @@ line_kind line = text_kind (without_return line)
 -- The call's name in the line, its sign included.
 abbrev pub line_word : List ℕ → List ℕ
 line_word line = call_word (without_return line)
+
+-- What stands behind it: the arguments, with a space before each.
+abbrev pub line_arguments : List ℕ → List ℕ
+line_arguments line = behind_call (without_return line)
 
 -- A step or a helper's call.
 abbrev pub is_call : LineKind → Bool

@@ -1,5 +1,5 @@
 -- What a line of a list does to a session: to its file and the answers so far.
-use Rattle.std.specs.Prelude.{◌≡◌, ℕ, List, [], ◌∷◌, ◌++◌, None, Result, Ok, Err, ⊤}
+use Rattle.std.specs.Prelude.{◌≡◌, ℕ, List, [], ◌∷◌, ◌++◌, Option, None, Result, Ok, Err, ⊤}
 use Rattle.vast_core.specs.Bench.{Bench}
 use Rattle.vast_core.specs.FileTree.{tree}
 use Rattle.vast_literal.specs.Tree.{FileTree}
@@ -20,9 +20,12 @@ use Rattle.vast_list.specs.declared.line.Line.{Line as ReadLine}
 use Rattle.vast_list.specs.declared.session.Given.{Given}
 use Rattle.vast_list.specs.declared.session.Given.TheVariants.{Nothing, Step, Helper, Answer as Answered}
 use Rattle.vast_list.specs.declared.session.Session.{Session}
+use Rattle.vast_list.specs.declared.names.Named.{Named}
+use Rattle.vast_list.specs.CallArguments.{call_pieces}
 use Rattle.vast_list.specs.CallNames.{call_name}
 use Rattle.vast_list.specs.Helpers.{Helps}
-use Rattle.vast_list.specs.Lines.{LineKind, Passed, Asked, Helped, Stepped, call_word, line_kind, line_word, word_kind}
+use Rattle.vast_list.specs.Lines.{LineKind, Passed, Asked, Helped, Stepped, behind_call, call_word, line_arguments, line_kind, line_word, word_kind}
+use Rattle.vast_list.specs.Written.{AreWritten, meaning}
 
 -- What becomes of a call that is counted: of a step what becomes of it in a replay, of a helper what its equation says.
 abbrev pub Calls : (old new : Bench) → List Answer → Result Answer StepFault → Call → Type 0
@@ -43,14 +46,19 @@ abbrev pub call_kind : Call → LineKind
 call_kind (StepCall step) = Stepped
 call_kind (HelperCall helper) = Helped
 
--- What a line does whose call has this name.
-abbrev pub IsActionOf : (name : List ℕ) → Action → Type 0
-IsActionOf name (Ask question) = word_kind name ≡ Asked
-IsActionOf name (CallAction call) = (word_kind name ≡ call_kind call) × (call_name call ≡ name)
+-- What a line does whose call has this name and, over the names so far, these arguments.
+abbrev pub IsActionOf : (named : List ℕ → Option Named) → (skipped name arguments : List ℕ) → Action → Type 0
+IsActionOf named skipped name arguments (Ask question) = word_kind name ≡ Asked
+IsActionOf named skipped name arguments (CallAction call) =
+    (word_kind name ≡ call_kind call) × (call_name call ≡ name) × AreWritten named skipped (call_pieces call) arguments
 
--- A call of this name was made.
-abbrev pub HasMade : (old new : Session) → (name : List ℕ) → Type 0
-HasMade old new name = (call : Call) × (call_name call ≡ name) × IsMade old new call
+-- The arguments of the call are written so, over the session's names and the numbers that were passed over.
+abbrev pub IsWrittenIn : Session → Call → (arguments : List ℕ) → Type 0
+IsWrittenIn session call arguments = AreWritten (meaning session.names) session.skipped.items (call_pieces call) arguments
+
+-- A call of this name was made, with these arguments.
+abbrev pub HasMade : (old new : Session) → (name arguments : List ℕ) → Type 0
+HasMade old new name arguments = (call : Call) × (call_name call ≡ name) × IsMade old new call × IsWrittenIn old call arguments
 
 abbrev pub IsSame : (old new : Session) → Type 0
 IsSame old new = (new.file ≡ old.file) × (new.answers.items ≡ old.answers.items)
@@ -65,16 +73,16 @@ abbrev pub Makes : (old new : Session) → Call → Result (Unit {0}) Fault → 
 Makes old new call (Ok done) = IsMade old new call
 Makes old new call (Err fault) = IsLeft old new fault
 
--- A step or a helper is a call that was made; a question, a comment and a blank line change nothing.
-abbrev pub Gives : (old new : Session) → Given → Type 0
-Gives old new Nothing = IsSame old new
-Gives old new (Step number name) = HasMade old new name.now
-Gives old new (Helper number name) = HasMade old new name.now
-Gives old new (Answered name value) = IsSame old new
+-- A step or a helper is a call that was made, with the line's arguments; a question, a comment and a blank line change nothing.
+abbrev pub Gives : (old new : Session) → (line : List ℕ) → Given → Type 0
+Gives old new line Nothing = IsSame old new
+Gives old new line (Step number name) = HasMade old new name.now (line_arguments line)
+Gives old new line (Helper number name) = HasMade old new name.now (line_arguments line)
+Gives old new line (Answered name value) = IsSame old new
 
--- The text's call has the name that stands in it.
-abbrev pub IsRead : (text : List ℕ) → ReadLine → Type 0
-IsRead text line = (line.call.now ≡ call_word text) × IsActionOf line.call.now line.action
+-- The text's call has the name that stands in it, and the arguments behind that.
+abbrev pub IsRead : (named : List ℕ → Option Named) → (skipped text : List ℕ) → ReadLine → Type 0
+IsRead named skipped text line = (line.call.now ≡ call_word text) × IsActionOf named skipped line.call.now (behind_call text) line.action
 
 -- The line is of the kind that gives this, under its call's name.
 abbrev pub IsGivenBy : (line : List ℕ) → Given → Type 0
@@ -83,9 +91,9 @@ IsGivenBy line (Step number name) = (line_kind line ≡ Stepped) × (name.now �
 IsGivenBy line (Helper number name) = (line_kind line ≡ Helped) × (name.now ≡ line_word line)
 IsGivenBy line (Answered name value) = (line_kind line ≡ Asked) × (name.now ≡ line_word line)
 
-abbrev pub Takes : (old new : Session) → Result Given Fault → Type 0
-Takes old new (Ok given) = Gives old new given
-Takes old new (Err fault) = IsLeft old new fault
+abbrev pub Takes : (old new : Session) → (line : List ℕ) → Result Given Fault → Type 0
+Takes old new line (Ok given) = Gives old new line given
+Takes old new line (Err fault) = IsLeft old new fault
 
 -- The text is the printed layout of the tree, which nothing refuses.
 abbrev pub IsTextOf : FileTree → (text : List ℕ) → Type 0

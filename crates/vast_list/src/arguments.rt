@@ -1,6 +1,8 @@
 //! The arguments of a line, from the first to the last.
 
-ghost use Rattle.std.specs.Prelude.{◌≡◌, IfOk};
+ghost use Rattle.std.specs.Prelude.{◌≡◌, List, [], ◌++◌, IfOk, OnOk, IsTrue, None, codes, false, string_bytes};
+ghost use Rattle.vast_list.specs.CallArguments.{Piece};
+ghost use Rattle.vast_list.specs.Written.{AreLeft, Goes, GoesText, IsPlaceOf, Reads, left, meaning};
 
 use crate::names::{Named, Names};
 use crate::problem::{Misfit, Problem};
@@ -25,18 +27,24 @@ pub(crate) struct Arguments<'a> {
 
 /// What stands as one or more arguments.
 pub(crate) trait FromArguments: Sized + Drop {
+    /// How it is written.
+    ghost pieces: { Self → List Piece };
+
     /// Takes it from the front.
     ///
     /// # Errors
     /// Where something else stands there, and want of memory.
-    fn take(arguments: &mut Arguments<'_>) -> Result<Self, Misfit>;
+    fn take(arguments: &mut Arguments<'_>) -> Result<Self, Misfit>
+        ensures { IfOk result (λ value. Reads arguments.old arguments.new (pieces value)) };
 }
 
 /// The place among the answers of a step that was passed over: no answer has it.
 pub(crate) const SKIPPED: usize = usize::MAX;
 
 /// The place among the answers of the step of this number.
-pub(crate) fn place_of(skipped: &[usize], number: usize) -> usize {
+pub(crate) fn place_of(skipped: &[usize], number: usize) -> usize
+    ensures { IsPlaceOf skipped.now number result }
+{
     match skipped.binary_search(&number) {
         Ok(_) => SKIPPED,
         Err(before) => number.saturating_sub(before).min(SKIPPED - 1),
@@ -45,7 +53,10 @@ pub(crate) fn place_of(skipped: &[usize], number: usize) -> usize {
 
 impl<'a> Arguments<'a> {
     /// The arguments of this text; none where there is no text.
-    pub(crate) fn new(known: Known<'a>, rest: Option<&'a str>) -> Self {
+    pub(crate) fn new(known: Known<'a>, rest: Option<&'a str>) -> Self
+        ensures known { result.known ≡ known.entry }
+        ensures rest { result.rest ≡ rest.entry }
+    {
         Arguments { known, rest }
     }
 
@@ -66,23 +77,32 @@ impl<'a> Arguments<'a> {
     }
 
     /// The next word, and how many bytes stand from its first on.
-    pub(crate) fn word_at(&mut self) -> Result<(usize, &'a str), Misfit> {
+    pub(crate) fn word_at(&mut self) -> Result<(usize, &'a str), Misfit>
+        ensures { IfOk result (λ read. Goes self.old self.new read.1.now) }
+    {
         let left = self.bytes_left();
         Ok((left, self.word()?))
     }
 
     /// What a name stands for.
-    pub(crate) fn named(&self, name: &str) -> Option<Named> {
+    pub(crate) fn named(&self, name: &str) -> Option<Named>
+        ensures { result ≡ meaning self.now.known.names.now name.now }
+    {
         self.known.names.get(name).copied()
     }
 
     /// The place among the answers of the step of this number.
-    pub(crate) fn place(&self, number: usize) -> usize {
+    pub(crate) fn place(&self, number: usize) -> usize
+        ensures { IsPlaceOf self.now.known.skipped.now number result }
+    {
         place_of(self.known.skipped, number)
     }
 
     /// The next word, which goes to the next space.
-    pub(crate) fn word(&mut self) -> Result<&'a str, Misfit> {
+    #[tactic(auto, using(crate::proofs::Words::words))]
+    pub(crate) fn word(&mut self) -> Result<&'a str, Misfit>
+        ensures { IfOk result (λ word. Goes self.old self.new word.now) }
+    {
         let Some(rest) = self.rest else {
             return Err(self.misfit(Problem::Missing));
         };
@@ -110,7 +130,11 @@ impl<'a> Arguments<'a> {
     }
 
     /// Takes the word if it is next, and answers whether it was.
-    pub(crate) fn skip(&mut self, sign: &str) -> bool {
+    #[tactic(auto, using(crate::proofs::Words::words))]
+    pub(crate) fn skip(&mut self, sign: &str) -> bool
+        ensures taken { IsTrue result → Goes self.old self.new sign.now }
+        ensures not { result ≡ false → self.new ≡ self.old }
+    {
         let Some(behind) = self.rest.and_then(|rest| rest.strip_prefix(sign)) else {
             return false;
         };
@@ -128,7 +152,10 @@ impl<'a> Arguments<'a> {
     }
 
     /// The next text, without its quotes and escapes.
-    pub(crate) fn text(&mut self) -> Result<String, Misfit> {
+    #[tactic(auto, using(crate::proofs::Words::goes_text))]
+    pub(crate) fn text(&mut self) -> Result<String, Misfit>
+        ensures { IfOk result (λ text. GoesText self.old self.new (string_bytes text)) }
+    {
         let Some(rest) = self.rest else {
             return Err(self.misfit(Problem::Missing));
         };
@@ -146,7 +173,9 @@ impl<'a> Arguments<'a> {
     }
 
     /// Goes into a list or a group.
-    pub(crate) fn open(&mut self) -> Result<(), Misfit> {
+    pub(crate) fn open(&mut self) -> Result<(), Misfit>
+        ensures { OnOk result (Goes self.old self.new (codes "[")) }
+    {
         if self.skip("[") {
             Ok(())
         } else {
@@ -155,7 +184,9 @@ impl<'a> Arguments<'a> {
     }
 
     /// Leaves a group.
-    pub(crate) fn close(&mut self) -> Result<(), Misfit> {
+    pub(crate) fn close(&mut self) -> Result<(), Misfit>
+        ensures { OnOk result (Goes self.old self.new (codes "]")) }
+    {
         if self.skip("]") {
             Ok(())
         } else {
@@ -172,7 +203,9 @@ impl<'a> Arguments<'a> {
     }
 
     /// Nothing is left.
-    fn end(&self) -> Result<(), Misfit> {
+    fn end(&self) -> Result<(), Misfit>
+        ensures { OnOk result (self.now.rest ≡ None) }
+    {
         match self.rest {
             None => Ok(()),
             Some("") => Err(self.misfit(Problem::Space)),
@@ -181,19 +214,22 @@ impl<'a> Arguments<'a> {
     }
 
     /// What was made of no arguments.
+    #[tactic(auto, using(crate::proofs::Words::none_left))]
     pub(crate) fn none<R: Drop>(&self, made: R) -> Result<R, Misfit>
-        ensures { IfOk result (λ r. r ≡ made) }
+        ensures { IfOk result (λ r. (r ≡ made) × AreLeft self.now []) }
     {
         self.end()?;
         Ok(made)
     }
 
     /// What is made of one argument.
+    #[tactic(auto, using(crate::proofs::Words::ends))]
     pub(crate) fn one<A: FromArguments, R, M>(&mut self, make: M) -> Result<R, Misfit>
     where
         M: FnOnce(A) -> R + Drop,
         requires { M.IsAlwaysCallable make }
-        ensures { IfOk result (λ made. (first : A) × M.post make first made) }
+        ensures { IfOk result (λ made. (first : A)
+            × M.post make first made × AreLeft self.old (A.pieces first)) }
     {
         let first = A::take(self)?;
         self.end()?;
@@ -201,6 +237,7 @@ impl<'a> Arguments<'a> {
     }
 
     /// What is made of two arguments.
+    #[tactic(auto, using(crate::proofs::Words::two_end))]
     pub(crate) fn two<A: FromArguments, B: FromArguments, R, M>(
         &mut self,
         make: M,
@@ -210,7 +247,8 @@ impl<'a> Arguments<'a> {
         requires { M.IsAlwaysCallable make }
         ensures { IfOk result (λ made.
             (first : A) × (second : B)
-            × M.post make first second made) }
+            × M.post make first second made
+            × AreLeft self.old (A.pieces first ++ B.pieces second)) }
     {
         let first = A::take(self)?;
         let second = B::take(self)?;
@@ -219,6 +257,7 @@ impl<'a> Arguments<'a> {
     }
 
     /// What is made of three arguments.
+    #[tactic(auto, using(crate::proofs::Words::three_end))]
     pub(crate) fn three<A: FromArguments, B: FromArguments, C: FromArguments, R, M>(
         &mut self,
         make: M,
@@ -228,7 +267,8 @@ impl<'a> Arguments<'a> {
         requires { M.IsAlwaysCallable make }
         ensures { IfOk result (λ made.
             (first : A) × (second : B) × (third : C)
-            × M.post make first second third made) }
+            × M.post make first second third made
+            × AreLeft self.old (A.pieces first ++ (B.pieces second ++ C.pieces third))) }
     {
         let first = A::take(self)?;
         let second = B::take(self)?;
@@ -238,6 +278,7 @@ impl<'a> Arguments<'a> {
     }
 
     /// What is made of four arguments.
+    #[tactic(auto, using(crate::proofs::Words::four_end))]
     pub(crate) fn four<
         A: FromArguments,
         B: FromArguments,
@@ -251,7 +292,9 @@ impl<'a> Arguments<'a> {
         requires { M.IsAlwaysCallable make }
         ensures { IfOk result (λ made.
             (first : A) × (second : B) × (third : C) × (fourth : D)
-            × M.post make first second third fourth made) }
+            × M.post make first second third fourth made
+            × AreLeft self.old (A.pieces first ++ (B.pieces second
+            ++ (C.pieces third ++ D.pieces fourth)))) }
     {
         let first = A::take(self)?;
         let second = B::take(self)?;
@@ -262,6 +305,7 @@ impl<'a> Arguments<'a> {
     }
 
     /// What is made of five arguments.
+    #[tactic(auto, using(crate::proofs::Words::five_end))]
     pub(crate) fn five<
         A: FromArguments,
         B: FromArguments,
@@ -276,7 +320,9 @@ impl<'a> Arguments<'a> {
         requires { M.IsAlwaysCallable make }
         ensures { IfOk result (λ made.
             (first : A) × (second : B) × (third : C) × (fourth : D) × (fifth : E)
-            × M.post make first second third fourth fifth made) }
+            × M.post make first second third fourth fifth made
+            × AreLeft self.old (A.pieces first ++ (B.pieces second
+            ++ (C.pieces third ++ (D.pieces fourth ++ E.pieces fifth))))) }
     {
         let first = A::take(self)?;
         let second = B::take(self)?;
@@ -288,6 +334,7 @@ impl<'a> Arguments<'a> {
     }
 
     /// What is made of six arguments.
+    #[tactic(auto, using(crate::proofs::Words::six_end))]
     pub(crate) fn six<
         A: FromArguments,
         B: FromArguments,
@@ -303,7 +350,10 @@ impl<'a> Arguments<'a> {
         requires { M.IsAlwaysCallable make }
         ensures { IfOk result (λ made.
             (first : A) × (second : B) × (third : C) × (fourth : D) × (fifth : E) × (sixth : F)
-            × M.post make first second third fourth fifth sixth made) }
+            × M.post make first second third fourth fifth sixth made
+            × AreLeft self.old (A.pieces first ++ (B.pieces second
+            ++ (C.pieces third ++ (D.pieces fourth
+            ++ (E.pieces fifth ++ F.pieces sixth)))))) }
     {
         let first = A::take(self)?;
         let second = B::take(self)?;
@@ -317,7 +367,10 @@ impl<'a> Arguments<'a> {
 }
 
 /// What stands behind a text and the space after it.
-fn behind_text(rest: &str) -> Result<Option<&str>, Misfit> {
+#[tactic(auto, using(crate::proofs::Words::behind_space))]
+fn behind_text(rest: &str) -> Result<Option<&str>, Misfit>
+    ensures { IfOk result (λ behind. left behind ≡ rest.now) }
+{
     if rest.is_empty() {
         return Ok(None);
     }

@@ -1,7 +1,9 @@
 //! Calls by their names.
 
 ghost use Rattle.std.specs.Prelude.{◌≡◌, IfOk};
+ghost use Rattle.vast_list.specs.CallArguments.{step_pieces};
 ghost use Rattle.vast_list.specs.CallNames.{step_name};
+ghost use Rattle.vast_list.specs.Written.{AreLeft};
 
 mod artifacts;
 mod expressions;
@@ -26,8 +28,10 @@ use vast_script::Step;
 ///
 /// # Errors
 /// Where no call has the name or the arguments are not those of the call, and want of memory.
+#[tactic(auto, using(crate::proofs::Words::left_same))]
 pub(crate) fn make_step(name: &str, arguments: &mut Arguments<'_>) -> Result<Step, Misfit>
-    ensures { IfOk result (λ step. step_name step ≡ name.now) }
+    ensures named { IfOk result (λ step. step_name step ≡ name.now) }
+    ensures written { IfOk result (λ step. AreLeft arguments.old (step_pieces step)) }
 {
     if let Some(made) = operator_step(name, arguments) {
         return Ok(Step::Operators(made?));

@@ -1,5 +1,9 @@
 //! What may stand as an argument.
 
+ghost use Rattle.std.specs.Prelude.{◌≡◌, ◌≢◌, Ok, IfOk, IsTrue, slice_index};
+ghost use Rattle.vast_list.specs.CallArguments.{count, format, kind, listed, number, optional, place, text, truth};
+ghost use Rattle.vast_list.specs.Written.{IsAnswered, IsCountWord, IsHandleWord, IsIntegerWord};
+
 use crate::arguments::{Arguments, FromArguments, SKIPPED};
 use crate::names::{Named, is_name};
 use crate::problem::{Misfit, Problem};
@@ -10,13 +14,21 @@ use xlsynth_vast::{DataKind, LiteralFormat};
 #[derive(Clone, Copy)]
 pub(crate) struct Count(pub(crate) usize);
 
-fn is_digits(word: &str) -> bool {
+fn is_digits(word: &str) -> bool
+    ensures { IsTrue result → slice_index word.now 0 ≢ 43 }
+{
     !word.is_empty() && word.bytes().all(|byte| byte.is_ascii_digit())
 }
 
 /// An optional minus and digits.
-fn is_signed(word: &str) -> bool {
-    is_digits(word.strip_prefix('-').unwrap_or(word))
+#[tactic(auto, using(crate::proofs::Words::numerals))]
+fn is_signed(word: &str) -> bool
+    ensures { IsTrue result → slice_index word.now 0 ≢ 43 }
+{
+    match word.strip_prefix('-') {
+        Some(digits) => is_digits(digits),
+        None => is_digits(word),
+    }
 }
 
 /// Why this is no number: an empty word is a space too many.
@@ -33,6 +45,7 @@ fn no_number(word: &str, other: Problem) -> Problem {
 fn parsed<N: FromStr>(word: &str) -> Result<N, Problem>
 where
     N::Err: Drop,
+    ensures { IfOk result (λ number. N.from_str_gives word.now (Ok number)) }
 {
     match word.parse::<N>() {
         Ok(number) => Ok(number),
@@ -41,7 +54,9 @@ where
 }
 
 /// The number that the answer of the question of this name is.
-fn answered(arguments: &Arguments<'_>, name: &str) -> Result<i64, Problem> {
+fn answered(arguments: &Arguments<'_>, name: &str) -> Result<i64, Problem>
+    ensures { IfOk result (IsAnswered arguments.now name.now) }
+{
     match arguments.named(name) {
         Some(Named::Number(number)) => Ok(number),
         Some(Named::Other) => Err(Problem::AnswerNoNumber),
@@ -52,7 +67,10 @@ fn answered(arguments: &Arguments<'_>, name: &str) -> Result<i64, Problem> {
 }
 
 /// A number that may have a sign, or the answer of a question that has a name.
-fn signed(arguments: &Arguments<'_>, word: &str) -> Result<i64, Problem> {
+#[tactic(auto, using(crate::proofs::Words::numerals))]
+fn signed(arguments: &Arguments<'_>, word: &str) -> Result<i64, Problem>
+    ensures { IfOk result (IsIntegerWord arguments.now word.now) }
+{
     match word.strip_prefix('?') {
         Some(name) => answered(arguments, name),
         None if is_signed(word) => parsed(word),
@@ -60,8 +78,21 @@ fn signed(arguments: &Arguments<'_>, word: &str) -> Result<i64, Problem> {
     }
 }
 
+/// The same within 32 bits.
+fn narrow(arguments: &Arguments<'_>, word: &str) -> Result<i32, Problem>
+    ensures { IfOk result (IsIntegerWord arguments.now word.now) }
+{
+    match i32::try_from(signed(arguments, word)?) {
+        Ok(number) => Ok(number),
+        Err(_) => Err(Problem::OutOfRange),
+    }
+}
+
 /// A number without a sign, or the answer of a question that has a name.
-fn unsigned(arguments: &Arguments<'_>, word: &str) -> Result<usize, Problem> {
+#[tactic(auto, using(crate::proofs::Words::numerals))]
+fn unsigned(arguments: &Arguments<'_>, word: &str) -> Result<usize, Problem>
+    ensures { IfOk result (IsCountWord arguments.now word.now) }
+{
     match word.strip_prefix('?') {
         Some(name) => match usize::try_from(answered(arguments, name)?) {
             Ok(number) => Ok(number),
@@ -73,7 +104,10 @@ fn unsigned(arguments: &Arguments<'_>, word: &str) -> Result<usize, Problem> {
 }
 
 /// The place among the answers that a name or the number of a step stands for.
-pub(crate) fn handle(arguments: &Arguments<'_>, word: &str) -> Result<usize, Problem> {
+#[tactic(auto, using(crate::proofs::Words::numerals))]
+pub(crate) fn handle(arguments: &Arguments<'_>, word: &str) -> Result<usize, Problem>
+    ensures { IfOk result (IsHandleWord arguments.now word.now) }
+{
     if is_digits(word) {
         return Ok(arguments.place(parsed(word)?));
     }
@@ -91,6 +125,9 @@ pub(crate) fn handle(arguments: &Arguments<'_>, word: &str) -> Result<usize, Pro
 
 /// The number of a step, or the name of one.
 impl FromArguments for usize {
+    ghost pieces = { place };
+
+    #[tactic(auto, using(crate::proofs::Words::pieces))]
     fn take(arguments: &mut Arguments<'_>) -> Result<usize, Misfit> {
         let (left, word) = arguments.word_at()?;
         handle(arguments, word).map_err(|problem| Misfit { left, problem })
@@ -98,6 +135,9 @@ impl FromArguments for usize {
 }
 
 impl FromArguments for Count {
+    ghost pieces = { λ n. count n.0 };
+
+    #[tactic(auto, using(crate::proofs::Words::pieces))]
     fn take(arguments: &mut Arguments<'_>) -> Result<Count, Misfit> {
         let (left, word) = arguments.word_at()?;
         match unsigned(arguments, word) {
@@ -108,6 +148,9 @@ impl FromArguments for Count {
 }
 
 impl FromArguments for i64 {
+    ghost pieces = { number };
+
+    #[tactic(auto, using(crate::proofs::Words::pieces))]
     fn take(arguments: &mut Arguments<'_>) -> Result<i64, Misfit> {
         let (left, word) = arguments.word_at()?;
         signed(arguments, word).map_err(|problem| Misfit { left, problem })
@@ -115,17 +158,19 @@ impl FromArguments for i64 {
 }
 
 impl FromArguments for i32 {
+    ghost pieces = { number };
+
+    #[tactic(auto, using(crate::proofs::Words::pieces))]
     fn take(arguments: &mut Arguments<'_>) -> Result<i32, Misfit> {
         let (left, word) = arguments.word_at()?;
-        let number = signed(arguments, word).map_err(|problem| Misfit { left, problem })?;
-        i32::try_from(number).map_err(|_| Misfit {
-            left,
-            problem: Problem::OutOfRange,
-        })
+        narrow(arguments, word).map_err(|problem| Misfit { left, problem })
     }
 }
 
 impl FromArguments for bool {
+    ghost pieces = { truth };
+
+    #[tactic(auto, using(crate::proofs::Words::pieces))]
     fn take(arguments: &mut Arguments<'_>) -> Result<bool, Misfit> {
         let (left, word) = arguments.word_at()?;
         match word {
@@ -140,12 +185,18 @@ impl FromArguments for bool {
 }
 
 impl FromArguments for String {
+    ghost pieces = { text };
+
+    #[tactic(auto, using(crate::proofs::Words::pieces))]
     fn take(arguments: &mut Arguments<'_>) -> Result<String, Misfit> {
         arguments.text()
     }
 }
 
 impl<T: FromArguments> FromArguments for Vec<T> {
+    ghost pieces = { λ items. listed T.pieces items.items };
+
+    #[tactic(auto, using(crate::proofs::Words::lists))]
     fn take(arguments: &mut Arguments<'_>) -> Result<Vec<T>, Misfit> {
         arguments.open()?;
         let mut items = Vec::new(arguments.allocator());
@@ -164,6 +215,9 @@ impl<T: FromArguments> FromArguments for Vec<T> {
 }
 
 impl<T: FromArguments> FromArguments for Option<T> {
+    ghost pieces = { optional T.pieces };
+
+    #[tactic(auto, using(crate::proofs::Words::pieces))]
     fn take(arguments: &mut Arguments<'_>) -> Result<Option<T>, Misfit> {
         if arguments.skip("-") {
             return Ok(None);
@@ -176,6 +230,9 @@ impl<T: FromArguments> FromArguments for Option<T> {
 }
 
 impl FromArguments for LiteralFormat {
+    ghost pieces = { format };
+
+    #[tactic(auto, using(crate::proofs::Words::pieces))]
     fn take(arguments: &mut Arguments<'_>) -> Result<LiteralFormat, Misfit> {
         let (left, word) = arguments.word_at()?;
         match word {
@@ -195,6 +252,9 @@ impl FromArguments for LiteralFormat {
 }
 
 impl FromArguments for DataKind {
+    ghost pieces = { kind };
+
+    #[tactic(auto, using(crate::proofs::Words::pieces))]
     fn take(arguments: &mut Arguments<'_>) -> Result<DataKind, Misfit> {
         let (left, word) = arguments.word_at()?;
         match word {

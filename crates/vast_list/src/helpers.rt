@@ -4,8 +4,10 @@ ghost use Rattle.std.specs.Prelude.{◌≡◌, IfOk};
 ghost use Rattle.vast_script.specs.Arguments.{many, one};
 ghost use Rattle.vast_script.specs.Kinds.{an_expr, an_indexable};
 ghost use Rattle.vast_script.specs.Outcome.{WrapsRefusable};
+ghost use Rattle.vast_list.specs.CallArguments.{helper_pieces};
 ghost use Rattle.vast_list.specs.CallNames.{helper_name};
 ghost use Rattle.vast_list.specs.Helpers.{Helps, Makes, all_hold, any_holds, elements_joined, joined};
+ghost use Rattle.vast_list.specs.Written.{AreLeft};
 
 mod registers;
 
@@ -30,7 +32,8 @@ pub(crate) enum Helper {
 /// # Errors
 /// Where no helper has the name or the arguments are not those of the helper, and want of memory.
 pub(crate) fn make_helper(name: &str, arguments: &mut Arguments<'_>) -> Result<Helper, Misfit>
-    ensures { IfOk result (λ helper. helper_name helper ≡ name.now) }
+    ensures named { IfOk result (λ helper. helper_name helper ≡ name.now) }
+    ensures written { IfOk result (λ helper. AreLeft arguments.old (helper_pieces helper)) }
 {
     match name {
         "!AddRegisters" => arguments.four(Helper::AddRegisters),

@@ -1,8 +1,9 @@
 //! The lines of a list.
 
 ghost use Rattle.std.specs.Prelude.{◌≡◌, [], IfOk, IfSome, IfNone, IsTrue, MatchOption, drop, false, true};
-ghost use Rattle.vast_list.specs.Lines.{Passed, behind_word, call_word, dialect_word, first_word, is_equals_front, is_passed, line_kind, rest_text, without_return, word_kind};
+ghost use Rattle.vast_list.specs.Lines.{Passed, behind_call, behind_first, behind_word, call_word, dialect_word, first_word, is_equals_front, is_passed, line_kind, rest_text, without_return, word_kind};
 ghost use Rattle.vast_list.specs.Session.{IsActionOf, IsRead};
+ghost use Rattle.vast_list.specs.Written.{left, meaning};
 
 use crate::arguments::{Arguments, Known};
 use crate::calls::make_step;
@@ -77,7 +78,8 @@ pub(crate) fn is_empty(text: &str) -> bool
 
 /// The name of a line's answer, its call and what stands behind that.
 pub(crate) fn split_line(text: &str) -> (Option<&str>, &str, Option<&str>)
-    ensures { result.1.now ≡ call_word text.now }
+    ensures call { result.1.now ≡ call_word text.now }
+    ensures behind { left result.2 ≡ behind_call text.now }
 {
     let (word, rest) = split_word(text);
     match named_call(rest) {
@@ -94,7 +96,8 @@ pub(crate) fn split_line(text: &str) -> (Option<&str>, &str, Option<&str>)
 /// # Errors
 /// Where the line is not in the form, and want of memory.
 pub(crate) fn read_line<'a>(known: Known<'_>, text: &'a str) -> Result<Line<'a>, Misread<'a>>
-    ensures { IfOk result (λ line. IsRead text.now line) }
+    ensures { IfOk result
+        (λ line. IsRead (meaning known.entry.names.now) known.entry.skipped.now text.now line) }
 {
     check_begin(text).map_err(|misfit| Misread { call: "", misfit })?;
     let (name, call, rest) = split_line(text);
@@ -134,9 +137,11 @@ fn check_begin(text: &str) -> Result<(), Misfit> {
 }
 
 /// The first word, and what stands behind the space after it.
+#[tactic(auto, using(crate::proofs::LineParts::firsts))]
 fn split_word(text: &str) -> (&str, Option<&str>)
     ensures word { result.0.now ≡ first_word text.now }
     ensures behind { rest_text result.1 ≡ behind_word text.now }
+    ensures left { left result.1 ≡ behind_first text.now }
 {
     match text.split_once(' ') {
         Some((word, rest)) => (word, Some(rest)),
@@ -167,8 +172,11 @@ fn check_name(known: Known<'_>, text: &str, name: &str) -> Result<(), Misfit> {
     Ok(())
 }
 
+#[tactic(auto, using(crate::proofs::Words::left_in))]
 fn read_action(known: Known<'_>, call: &str, rest: Option<&str>) -> Result<Action, Misfit>
-    ensures { IfOk result (IsActionOf call.now) }
+    ensures { IfOk result
+        (IsActionOf (meaning known.entry.names.now) known.entry.skipped.now call.now
+        (left rest.entry)) }
 {
     let mut arguments = Arguments::new(known, rest);
     if call.starts_with('?') {

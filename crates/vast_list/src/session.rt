@@ -6,6 +6,7 @@ ghost use Rattle.vast_core.specs.FileTree.{tree};
 ghost use Rattle.xlsynth_vast.specs.Registers.{HasUnused};
 ghost use Rattle.vast_list.specs.Lines.{without_return};
 ghost use Rattle.vast_list.specs.Session.{Calls, IsGivenBy, IsRead, IsSame, IsTextOf, IsToldAs, Makes, Takes};
+ghost use Rattle.vast_list.specs.Written.{meaning};
 
 use crate::arguments::{Known, place_of};
 use crate::explain::{explained, uses_skipped};
@@ -107,7 +108,7 @@ impl Session {
     /// The line's fault. The file, the answers and the names are then as before, and the line is not counted.
     #[tactic(auto, using(crate::proofs::Sessions::lines))]
     pub fn line<'a>(&mut self, number: usize, line: &'a [u8]) -> Result<Given<'a>, Fault>
-        ensures takes { Takes self.old self.new result }
+        ensures takes { Takes self.old self.new line.now result }
         ensures given { IfOk result (IsGivenBy line.now) }
         ensures unseen { IfErr result (λ fault. HasUnused self.old.file self.new.file) }
     {
@@ -251,7 +252,10 @@ impl Session {
         }
     }
 
-    fn known(&self) -> Known<'_> {
+    fn known(&self) -> Known<'_>
+        ensures names { result.names.now ≡ self.now.names }
+        ensures skipped { result.skipped.now ≡ self.now.skipped.items }
+    {
         Known {
             alloc: self.file.allocator(),
             names: &self.names,
@@ -268,8 +272,10 @@ impl Session {
         }
     }
 
+    #[tactic(auto, using(crate::proofs::Sessions::read_known))]
     fn read<'a>(&self, number: usize, text: &'a str) -> Result<Line<'a>, Fault>
-        ensures { IfOk result (λ line. IsRead text.now line) }
+        ensures { IfOk result
+            (λ line. IsRead (meaning self.now.names) self.now.skipped.items text.now line) }
     {
         match read_line(self.known(), text) {
             Ok(line) => Ok(line),

@@ -1,7 +1,9 @@
 //! Calls of parts that are made beforehand, and that add them to modules, by their names.
 
-ghost use Rattle.std.specs.Prelude.{◌≡◌, IfOk, IfSome};
+ghost use Rattle.std.specs.Prelude.{◌≡◌, IfNone, IfOk, IfSome};
+ghost use Rattle.vast_list.specs.CallArguments.{artifact_pieces};
 ghost use Rattle.vast_list.specs.CallNames.{artifact_name};
+ghost use Rattle.vast_list.specs.Written.{AreLeft};
 
 use crate::arguments::Arguments;
 use crate::problem::Misfit;
@@ -12,7 +14,10 @@ pub(crate) fn artifact_step(
     name: &str,
     arguments: &mut Arguments<'_>,
 ) -> Option<Result<ArtifactStep, Misfit>>
-    ensures { IfSome result (λ made. IfOk made (λ step. artifact_name step ≡ name.now)) }
+    ensures named { IfSome result (λ made. IfOk made (λ step. artifact_name step ≡ name.now)) }
+    ensures written { IfSome result
+        (λ made. IfOk made (λ step. AreLeft arguments.old (artifact_pieces step))) }
+    ensures none { IfNone result (arguments.new ≡ arguments.old) }
 {
     match (name.len(), name) {
         (7, "MakeDef") => Some(arguments.three(ArtifactStep::MakeDef)),

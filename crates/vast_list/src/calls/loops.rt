@@ -1,7 +1,9 @@
 //! Calls of generate loops and their members, by their names.
 
-ghost use Rattle.std.specs.Prelude.{◌≡◌, IfOk, IfSome};
+ghost use Rattle.std.specs.Prelude.{◌≡◌, IfNone, IfOk, IfSome};
+ghost use Rattle.vast_list.specs.CallArguments.{loop_pieces};
 ghost use Rattle.vast_list.specs.CallNames.{loop_name};
+ghost use Rattle.vast_list.specs.Written.{AreLeft};
 
 use crate::arguments::Arguments;
 use crate::problem::Misfit;
@@ -12,7 +14,10 @@ pub(crate) fn generate_loop_step(
     name: &str,
     arguments: &mut Arguments<'_>,
 ) -> Option<Result<LoopStep, Misfit>>
-    ensures { IfSome result (λ made. IfOk made (λ step. loop_name step ≡ name.now)) }
+    ensures named { IfSome result (λ made. IfOk made (λ step. loop_name step ≡ name.now)) }
+    ensures written { IfSome result
+        (λ made. IfOk made (λ step. AreLeft arguments.old (loop_pieces step))) }
+    ensures none { IfNone result (arguments.new ≡ arguments.old) }
 {
     match (name.len(), name) {
         (15, "AddGenerateLoop") => Some(arguments.five(LoopStep::AddGenerateLoop)),

@@ -1,7 +1,9 @@
 //! Calls of the file's items, and of modules with their ports, declarations and parameters, by their names.
 
-ghost use Rattle.std.specs.Prelude.{◌≡◌, IfOk, IfSome};
+ghost use Rattle.std.specs.Prelude.{◌≡◌, IfNone, IfOk, IfSome};
+ghost use Rattle.vast_list.specs.CallArguments.{module_pieces};
 ghost use Rattle.vast_list.specs.CallNames.{module_name};
+ghost use Rattle.vast_list.specs.Written.{AreLeft};
 
 use crate::arguments::Arguments;
 use crate::from_arguments::Count;
@@ -13,7 +15,10 @@ pub(crate) fn module_step(
     name: &str,
     arguments: &mut Arguments<'_>,
 ) -> Option<Result<ModuleStep, Misfit>>
-    ensures { IfSome result (λ made. IfOk made (λ step. module_name step ≡ name.now)) }
+    ensures named { IfSome result (λ made. IfOk made (λ step. module_name step ≡ name.now)) }
+    ensures written { IfSome result
+        (λ made. IfOk made (λ step. AreLeft arguments.old (module_pieces step))) }
+    ensures none { IfNone result (arguments.new ≡ arguments.old) }
 {
     match (name.len(), name) {
         (10, "AddInclude") => Some(arguments.one(ModuleStep::AddInclude)),

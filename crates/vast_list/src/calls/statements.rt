@@ -1,7 +1,9 @@
 //! Calls of functions, always blocks, conditionals and statements, by their names.
 
-ghost use Rattle.std.specs.Prelude.{◌≡◌, IfOk, IfSome};
+ghost use Rattle.std.specs.Prelude.{◌≡◌, IfNone, IfOk, IfSome};
+ghost use Rattle.vast_list.specs.CallArguments.{statement_pieces};
 ghost use Rattle.vast_list.specs.CallNames.{statement_name};
+ghost use Rattle.vast_list.specs.Written.{AreLeft};
 
 use crate::arguments::Arguments;
 use crate::problem::Misfit;
@@ -12,7 +14,10 @@ pub(crate) fn statement_step(
     name: &str,
     arguments: &mut Arguments<'_>,
 ) -> Option<Result<StatementStep, Misfit>>
-    ensures { IfSome result (λ made. IfOk made (λ step. statement_name step ≡ name.now)) }
+    ensures named { IfSome result (λ made. IfOk made (λ step. statement_name step ≡ name.now)) }
+    ensures written { IfSome result
+        (λ made. IfOk made (λ step. AreLeft arguments.old (statement_pieces step))) }
+    ensures none { IfNone result (arguments.new ≡ arguments.old) }
 {
     match (name.len(), name) {
         (11, "AddFunction") => Some(arguments.three(StatementStep::AddFunction)),

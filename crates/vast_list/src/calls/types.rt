@@ -1,7 +1,9 @@
 //! Calls that make a type, by their names.
 
-ghost use Rattle.std.specs.Prelude.{◌≡◌, IfOk, IfSome};
+ghost use Rattle.std.specs.Prelude.{◌≡◌, IfNone, IfOk, IfSome};
+ghost use Rattle.vast_list.specs.CallArguments.{type_pieces};
 ghost use Rattle.vast_list.specs.CallNames.{type_name};
+ghost use Rattle.vast_list.specs.Written.{AreLeft};
 
 use crate::arguments::Arguments;
 use crate::problem::Misfit;
@@ -12,7 +14,10 @@ pub(crate) fn data_type_step(
     name: &str,
     arguments: &mut Arguments<'_>,
 ) -> Option<Result<TypeStep, Misfit>>
-    ensures { IfSome result (λ made. IfOk made (λ step. type_name step ≡ name.now)) }
+    ensures named { IfSome result (λ made. IfOk made (λ step. type_name step ≡ name.now)) }
+    ensures written { IfSome result
+        (λ made. IfOk made (λ step. AreLeft arguments.old (type_pieces step))) }
+    ensures none { IfNone result (arguments.new ≡ arguments.old) }
 {
     Some(match (name.len(), name) {
         (14, "MakeScalarType") => arguments.none(TypeStep::MakeScalarType),

@@ -5,6 +5,7 @@ ghost use Rattle.vast_core.specs.Bench.{OwnsExpr};
 ghost use Rattle.xlsynth_vast.specs.Registers.{OwnsRegister, OwnsReset, OwnsScope};
 ghost use Rattle.vast_script.specs.declared.answer.Answer.TheVariants.{Nothing};
 ghost use Rattle.vast_script.specs.Outcome.{WrapsRefusable};
+ghost use Rattle.vast_list.specs.CallArguments.{register_pieces, reset_pieces};
 ghost use Rattle.vast_list.specs.Helpers.{AddsNamed, NamesIf, NamesRegister, NamesRegisters, NamesReset, NamesScope};
 
 use crate::arguments::{Arguments, FromArguments};
@@ -30,6 +31,8 @@ pub(crate) struct RegisterNumbers {
 }
 
 impl FromArguments for ResetNumbers {
+    ghost pieces = { reset_pieces };
+
     fn take(arguments: &mut Arguments<'_>) -> Result<ResetNumbers, Misfit> {
         arguments.open()?;
         let signal = usize::take(arguments)?;
@@ -40,6 +43,8 @@ impl FromArguments for ResetNumbers {
 }
 
 impl FromArguments for RegisterNumbers {
+    ghost pieces = { register_pieces };
+
     fn take(arguments: &mut Arguments<'_>) -> Result<RegisterNumbers, Misfit> {
         arguments.open()?;
         let reg = usize::take(arguments)?;

@@ -1,0 +1,232 @@
+-- Words that are taken from the front of a line's rest, and the pieces that they write.
+use Rattle.std.proofs.Common.{◌≡◌, ℕ, ◌+◌, ◌<◌, List, [], ◌∷◌, ◌++◌, Bool, true, false, cond, Option, Some, None, Result, Ok, Err, take, drop, refl, sym, ap, subst, ◌∙◌, append_assoc, append-nil, lit<, length, arith, eqb, eqb-true, inl, inr, ℤ, pos, neg_ℤ}
+use Rattle.std.proofs.lemmas.Bool.{lt-ltb, ne_eqb}
+use Rattle.std.proofs.lemmas.List.{take-append-drop}
+use Rattle.std.proofs.lemmas.List.Concat.{flat_map-append}
+use Rattle.std.specs.Borrow.{Bor}
+use Rattle.std.specs.List.{flat_map}
+use Rattle.std.specs.Prelude.{String, IfOk, IsErrAnd, MatchResult, encode_utf8, ◌≢◌, slice_index, codes}
+use Rattle.std.specs.Str.Parse.{IsNumeral, digits_value, without_leading_sign, signed_digits_value, starts_with_minus, without_leading_plus}
+use Rattle.std.specs.Str.Pattern.{FindsChar, FindsTextPrefix, FindsCharPrefix, SplitsAroundMatch, StripsPrefix}
+use Rattle.std.specs.declared.alloc.Global.{Global}
+use Rattle.vast_list.specs.declared.arguments.Arguments.{Arguments}
+use Rattle.vast_list.specs.declared.arguments.Known.{Known}
+use Rattle.vast_list.specs.declared.names.Named.{Named}
+use Rattle.vast_list.specs.declared.problem.Misfit.{Misfit}
+use Rattle.vast_list.specs.declared.problem.Problem.{Problem}
+use Rattle.vast_list.specs.CallArguments.{Number, Piece, Word, Text, bracketed, number}
+use Rattle.vast_list.specs.Written.{AreLeft, AreWritten, Goes, GoesText, IsInteger, IsIntegerWord, IsNatural, IsTextFront, IsWritten, Reads, WritesIn, left, meaning}
+use lib.Utf8.{encode}
+
+pub encoded_low : (c : ℕ) → c < 128 → encode_utf8 c ≡ c ∷ []
+unfolding encode
+encoded_low c h = rw (lt-ltb c 128 h) refl
+
+-- What stands round a character that splits a text.
+pub around : (c : ℕ) (s front back : List ℕ) → c < 128 → SplitsAroundMatch (FindsChar c) s front back → s ≡ front ++ c ∷ back
+around c s front back h p =
+    sym (take-append-drop p.0 s)
+    ∙ ap (λ (xs : List ℕ). take p.0 s ++ xs) p.2.1.split
+    ∙ rw (encoded_low c h, ← p.3, ← p.4) refl
+
+pub around_space : (s front back : List ℕ) → SplitsAroundMatch (FindsChar 32) s front back → 32 ∷ s ≡ 32 ∷ (front ++ 32 ∷ back)
+around_space s front back p = ap (λ (xs : List ℕ). 32 ∷ xs) (around 32 s front back (lit< tt) p)
+
+-- What stands behind a text that was stripped.
+pub behind_text : (n s x : List ℕ) → StripsPrefix (FindsTextPrefix n) s x → s ≡ n ++ x
+behind_text n s x p = rw p.2 (p.1.1)
+
+-- And behind a character.
+pub behind_char : (c : ℕ) (s x : List ℕ) → c < 128 → StripsPrefix (FindsCharPrefix c) s x → s ≡ c ∷ x
+behind_char c s x h p = p.1.split ∙ rw (encoded_low c h, ← p.2) refl
+
+pub behind_space : (s x : List ℕ) → StripsPrefix (FindsCharPrefix 32) s x → s ≡ 32 ∷ x
+behind_space s x p = behind_char 32 s x (lit< tt) p
+
+pub behind_quote : (s x : List ℕ) → StripsPrefix (FindsCharPrefix 34) s x → s ≡ 34 ∷ x
+behind_quote s x p = behind_char 34 s x (lit< tt) p
+
+pub behind_minus : (s x : List ℕ) → StripsPrefix (FindsCharPrefix 45) s x → s ≡ 45 ∷ x
+behind_minus s x p = behind_char 45 s x (lit< tt) p
+
+pub behind_question : (s x : List ℕ) → StripsPrefix (FindsCharPrefix 63) s x → s ≡ 63 ∷ x
+behind_question s x p = behind_char 63 s x (lit< tt) p
+
+-- A sign, where nothing else is left and where a space stands behind it.
+
+pub sign_alone : (s sign x : List ℕ) → StripsPrefix (FindsTextPrefix sign) s x → length x ≡ 0 → 32 ∷ s ≡ 32 ∷ (sign ++ [])
+sign_alone s sign [] p e = ap (λ (xs : List ℕ). 32 ∷ xs) (behind_text sign s [] p)
+sign_alone s sign (b ∷ x) p e = absurd (omega arith)
+
+pub sign_behind : (s sign x y : List ℕ) → StripsPrefix (FindsTextPrefix sign) s x → StripsPrefix (FindsCharPrefix 32) x y → 32 ∷ s ≡ 32 ∷ (sign ++ 32 ∷ y)
+sign_behind s sign x y p q = ap (λ (xs : List ℕ). 32 ∷ xs) (behind_text sign s x p ∙ ap (λ (xs : List ℕ). sign ++ xs) (behind_space x y q))
+
+pub last_word : (s : List ℕ) → 32 ∷ s ≡ 32 ∷ (s ++ [])
+last_word s = ap (λ (xs : List ℕ). 32 ∷ xs) (sym (append-nil s))
+
+pub ruleset words = (around_space, sign_alone, sign_behind, last_word)
+
+-- Pieces behind one another.
+
+module _ (named : List ℕ → Option Named) (skipped : List ℕ) where
+  append_written : (ps qs : List Piece) (a b : List ℕ) → AreWritten named skipped ps a → AreWritten named skipped qs b → AreWritten named skipped (ps ++ qs) (a ++ b)
+  append_written [] qs a b h k = rw h k
+  append_written (p ∷ ps) qs a b h k =
+      (h.0, h.1 ++ b, h.2, append_written ps qs h.1 b h.3 k, ap (λ (xs : List ℕ). xs ++ b) h.4 ∙ ap (λ (xs : List ℕ). 32 ∷ xs) (append_assoc h.0 h.1 b))
+
+  one_written : (p : Piece) (word : List ℕ) → IsWritten named skipped p word → AreWritten named skipped (p ∷ []) (32 ∷ (word ++ []))
+  one_written p word h = (word, [], h, refl, refl)
+
+pub reads_then : (a b c : Arguments) (ps qs : List Piece) → Reads a b ps → Reads b c qs → Reads a c (ps ++ qs)
+reads_then a b c ps qs h k = record {
+  known = k.known ∙ h.known;
+  front = h.front ++ k.front;
+  written = append_written (meaning a.known.names.now) a.known.skipped.now ps qs h.front k.front h.written
+      (subst (λ (known : Known). AreWritten (meaning known.names.now) known.skipped.now qs k.front) h.known k.written);
+  left_is = h.left_is ∙ ap (λ (xs : List ℕ). h.front ++ xs) k.left_is ∙ sym (append_assoc h.front k.front (left c.rest));
+}
+
+pub reads_piece : (a b : Arguments) (piece : Piece) (word : List ℕ) → Goes a b word → WritesIn b piece word → Reads a b (piece ∷ [])
+reads_piece a b piece word h k = record {
+  known = h.0;
+  front = 32 ∷ (word ++ []);
+  written = one_written (meaning a.known.names.now) a.known.skipped.now piece word
+      (subst (λ (known : Known). IsWritten (meaning known.names.now) known.skipped.now piece word) h.0 k);
+  left_is = h.1 ∙ ap (λ (xs : List ℕ). 32 ∷ (xs ++ left b.rest)) (sym (append-nil word));
+}
+
+pub reads_word : (a b : Arguments) (word : List ℕ) → Goes a b word → Reads a b (Word word ∷ [])
+reads_word a b word h = reads_piece a b (Word word) word h refl
+
+pub reads_this : (a b : Arguments) (word this : List ℕ) → Goes a b word → word ≡ this → Reads a b (Word this ∷ [])
+reads_this a b word this h e = reads_piece a b (Word this) word h e
+
+pub reads_text : (a b : Arguments) (content : List ℕ) → GoesText a b content → Reads a b (Text content ∷ [])
+reads_text a b content h = reads_piece a b (Text content) h.0 h.2 h.1
+
+pub reads_some : (a b c : Arguments) (ps : List Piece) → Goes a b (codes "+") → Reads b c ps → Reads a c (Word (codes "+") ∷ ps)
+reads_some a b c ps h k = reads_then a b c (Word (codes "+") ∷ []) ps (reads_word a b (codes "+") h) k
+
+pub reads_bracketed : (a b c d : Arguments) (ps : List Piece) → Goes a b (codes "[") → Reads b c ps → Goes c d (codes "]") → Reads a d (bracketed ps)
+reads_bracketed a b c d ps h k m =
+    reads_then a b d (Word (codes "[") ∷ []) (ps ++ Word (codes "]") ∷ []) (reads_word a b (codes "[") h)
+    (reads_then b c d ps (Word (codes "]") ∷ []) k (reads_word c d (codes "]") m))
+
+-- Nothing more is left.
+
+pub ends : (a b : Arguments) (ps : List Piece) → Reads a b ps → b.rest ≡ None → AreLeft a ps
+ends a b ps h e =
+    subst (λ (xs : List ℕ). AreWritten (meaning a.known.names.now) a.known.skipped.now ps xs)
+    (sym (h.left_is ∙ ap (λ (r : Option (Bor (List ℕ))). h.front ++ left r) e ∙ append-nil h.front)) h.written
+
+pub two_end : (a b c : Arguments) (ps qs : List Piece) → Reads a b ps → Reads b c qs → c.rest ≡ None → AreLeft a (ps ++ qs)
+two_end a b c ps qs h i e = ends a c (ps ++ qs) (reads_then a b c ps qs h i) e
+
+pub three_end : (a b c d : Arguments) (ps qs rs : List Piece) → Reads a b ps → Reads b c qs → Reads c d rs → d.rest ≡ None → AreLeft a (ps ++ (qs ++ rs))
+three_end a b c d ps qs rs h i j e = two_end a b d ps (qs ++ rs) h (reads_then b c d qs rs i j) e
+
+pub four_end :
+    (a b c d f : Arguments) (ps qs rs ss : List Piece) → Reads a b ps → Reads b c qs → Reads c d rs → Reads d f ss → f.rest ≡ None → AreLeft a (ps ++ (qs ++ (rs ++ ss)))
+four_end a b c d f ps qs rs ss h i j k e = three_end a b c f ps qs (rs ++ ss) h i (reads_then c d f rs ss j k) e
+
+pub five_end :
+    (a b c d f g : Arguments) (ps qs rs ss ts : List Piece) → Reads a b ps → Reads b c qs → Reads c d rs → Reads d f ss → Reads f g ts → g.rest ≡ None →
+    AreLeft a (ps ++ (qs ++ (rs ++ (ss ++ ts))))
+five_end a b c d f g ps qs rs ss ts h i j k l e = four_end a b c d g ps qs rs (ss ++ ts) h i j (reads_then d f g ss ts k l) e
+
+pub six_end :
+    (a b c d f g i : Arguments) (ps qs rs ss ts us : List Piece) → Reads a b ps → Reads b c qs → Reads c d rs → Reads d f ss → Reads f g ts → Reads g i us → i.rest ≡ None →
+    AreLeft a (ps ++ (qs ++ (rs ++ (ss ++ (ts ++ us)))))
+six_end a b c d f g i ps qs rs ss ts us h j k l m n e = five_end a b c d f i ps qs rs ss (ts ++ us) h j k l (reads_then f g i ts us m n) e
+
+pub none_left : (a : Arguments) → a.rest ≡ None → AreLeft a []
+none_left a e = ap left e
+
+-- An integer that was read, whatever becomes of a problem.
+pub integer_read :
+    (a b : Arguments) (word : List ℕ) (r : Result ℤ Problem) (s : Result ℤ Misfit) (F : Problem → Misfit → Type 0) → Goes a b word → IfOk r (IsIntegerWord b word) →
+    MatchResult r (λ z. s ≡ Ok z) (λ e. IsErrAnd s (F e)) → IfOk s (λ z. Reads a b (number z))
+integer_read a b word (Ok z) s F h k m = subst (λ (q : Result ℤ Misfit). IfOk q (λ x. Reads a b (number x))) (sym m) (reads_piece a b (Number z) word h k)
+integer_read a b word (Err e) (Err d) F h k m = tt
+integer_read a b word (Err e) (Ok z) F h k m = absurd m
+
+pub ruleset pieces = (reads_piece, reads_this, reads_word, reads_text, reads_some)
+
+-- Numerals.
+
+pub natural : (bs : List ℕ) (n : ℕ) → slice_index bs 0 ≢ 43 → IsNumeral 10 (without_leading_plus bs) → n ≡ digits_value 10 (without_leading_plus bs) → IsNatural bs n
+natural bs n s h e =
+    let same : without_leading_plus bs ≡ bs = ap (λ (b : Bool). drop (cond b 1 0) bs) (ne_eqb (slice_index bs 0) 43 s) in
+    (subst (λ (ds : List ℕ). IsNumeral 10 ds) same h, e ∙ ap (λ (ds : List ℕ). digits_value 10 ds) same)
+
+signed_by : (bs : List ℕ) (z : ℤ) (b : Bool) → starts_with_minus bs ≡ b → slice_index bs 0 ≢ 43 → IsNumeral 10 (cond b (drop 1 bs) (without_leading_plus bs)) →
+    z ≡ cond b (neg_ℤ (pos (digits_value 10 (cond b (drop 1 bs) (without_leading_plus bs))))) (pos (digits_value 10 (cond b (drop 1 bs) (without_leading_plus bs)))) → IsInteger bs z
+signed_by bs z false m s h e = inl (digits_value 10 (without_leading_plus bs), natural bs _ s h refl, e)
+signed_by [] z true m s h e = absurd (omega (arith, h.0))
+signed_by (c ∷ cs) z true m s h e = inr (cs, digits_value 10 cs, ap (λ (b : ℕ). b ∷ cs) (eqb-true c 45 m), (h, refl), e)
+
+pub integer : (bs : List ℕ) (z : ℤ) → slice_index bs 0 ≢ 43 → IsNumeral 10 (without_leading_sign bs) → z ≡ signed_digits_value 10 bs → IsInteger bs z
+integer bs z s h e = signed_by bs z (starts_with_minus bs) refl s h e
+
+pub minus_no_plus : (s x : List ℕ) → StripsPrefix (FindsCharPrefix 45) s x → slice_index s 0 ≢ 43
+minus_no_plus s x p e = absurd (omega (arith, ap (λ (xs : List ℕ). slice_index xs 0) (behind_minus s x p), e))
+
+pub ruleset numerals = (natural, integer, minus_no_plus, behind_question)
+
+-- A text behind its opening quote.
+pub goes_text :
+    (a b : Arguments) (s quoted behind content : List ℕ) → b.known ≡ a.known → left a.rest ≡ 32 ∷ s → StripsPrefix (FindsCharPrefix 34) s quoted → IsTextFront quoted content behind → left b.rest ≡ behind →
+    GoesText a b content
+goes_text a b s quoted behind content k l p t r = (
+  34 ∷ (t.0 ++ 34 ∷ []),
+  (t.0, t.1, refl),
+  (
+    k,
+    l ∙ ap (λ (xs : List ℕ). 32 ∷ xs)
+        (behind_quote s quoted p ∙ ap (λ (xs : List ℕ). 34 ∷ xs)
+        (t.2 ∙ ap (λ (xs : List ℕ). t.0 ++ 34 ∷ xs) (sym r) ∙ sym (append_assoc t.0 (34 ∷ []) (left b.rest)))),
+  ),
+)
+
+-- A group of two and of four arguments between brackets.
+
+pub reads_two :
+    (a b c d f : Arguments) (ps qs : List Piece) → Goes a b (codes "[") → Reads b c ps → Reads c d qs → Goes d f (codes "]") → Reads a f (bracketed (ps ++ qs))
+reads_two a b c d f ps qs h i j m = reads_bracketed a b d f (ps ++ qs) h (reads_then b c d ps qs i j) m
+
+pub reads_four :
+    (a b c d f g i : Arguments) (ps qs rs ss : List Piece) → Goes a b (codes "[") → Reads b c ps → Reads c d qs → Reads d f rs → Reads f g ss → Goes g i (codes "]") →
+    Reads a i (bracketed (ps ++ (qs ++ (rs ++ ss))))
+reads_four a b c d f g i ps qs rs ss h j k l m n =
+    reads_bracketed a b g i (ps ++ (qs ++ (rs ++ ss))) h (reads_then b c g ps (qs ++ (rs ++ ss)) j (reads_then c d g qs (rs ++ ss) k (reads_then d f g rs ss l m))) n
+
+-- A list so far: its opening bracket and the pieces of its items.
+
+pub list_begun : {A : Type 0} (pieces : A → List Piece) (a b : Arguments) (xs : List A) → Goes a b (codes "[") → xs ≡ [] → Reads a b (Word (codes "[") ∷ flat_map pieces xs)
+list_begun pieces a b xs h e = subst (λ ys. Reads a b (Word (codes "[") ∷ flat_map pieces ys)) (sym e) (reads_word a b (codes "[") h)
+
+pub list_more :
+    {A : Type 0} (pieces : A → List Piece) (a b same c : Arguments) (xs ys : List A) (x : A) → Reads a b (Word (codes "[") ∷ flat_map pieces xs) → same ≡ b → Reads same c (pieces x) → ys ≡ xs ++ x ∷ [] →
+    Reads a c (Word (codes "[") ∷ flat_map pieces ys)
+list_more pieces a b same c xs ys x h s k e =
+    let more = reads_then a b c (Word (codes "[") ∷ flat_map pieces xs) (pieces x) h (subst (λ (d : Arguments). Reads d c (pieces x)) s k) in
+    let all : flat_map pieces xs ++ pieces x ≡ flat_map pieces ys =
+    ap (λ (ps : List Piece). flat_map pieces xs ++ ps) (sym (append-nil (pieces x))) ∙ sym (flat_map-append pieces xs (x ∷ [])) ∙ ap (λ zs. flat_map pieces zs) (sym e) in
+    subst (λ (ps : List Piece). Reads a c (Word (codes "[") ∷ ps)) all more
+
+pub list_ended : (a b c : Arguments) (ps : List Piece) → Reads a b (Word (codes "[") ∷ ps) → Goes b c (codes "]") → Reads a c (bracketed ps)
+list_ended a b c ps h k = reads_then a b c (Word (codes "[") ∷ ps) (Word (codes "]") ∷ []) h (reads_word b c (codes "]") k)
+
+pub ruleset lists = (list_begun, list_more, list_ended)
+
+-- The same in other words.
+
+pub left_same : (a b : Arguments) (ps : List Piece) → AreLeft b ps → b ≡ a → AreLeft a ps
+left_same a b ps h e = subst (λ (c : Arguments). AreLeft c ps) e h
+
+pub left_in :
+    (a : Arguments) (known : Known) (rest : Option (Bor (List ℕ))) (ps : List Piece) → AreLeft a ps → a.known ≡ known → a.rest ≡ rest →
+    AreWritten (meaning known.names.now) known.skipped.now ps (left rest)
+left_in a known rest ps h k r =
+    subst (λ (q : Option (Bor (List ℕ))). AreWritten (meaning known.names.now) known.skipped.now ps (left q)) r
+    (subst (λ (n : Known). AreWritten (meaning n.names.now) n.skipped.now ps (left a.rest)) k h)

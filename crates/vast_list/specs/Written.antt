@@ -1,0 +1,160 @@
+-- How the arguments of a call are written in a line: a space before each of their pieces. A text is a list of bytes.
+use Rattle.std.specs.Prelude.{◌≡◌, ℕ, ◌+◌, ◌*◌, ◌-◌, ◌≤◌, ◌<◌, ◌⊎◌, ◌≢◌, ℤ, pos, neg_ℤ, List, [], ◌∷◌, ◌++◌, length, min, Option, Some, None, String, string_bytes, encode_utf8}
+use Rattle.std.specs.BTreeMap.{BTreeMap, get_by}
+use Rattle.std.specs.Borrow.{Bor}
+use Rattle.std.specs.Char.{IsScalar}
+use Rattle.std.specs.Cmp.Lexicographic.{slice_cmp}
+use Rattle.std.specs.List.{All, flat_map}
+use Rattle.std.specs.Ordering.{nat_cmp}
+use Rattle.std.specs.Str.Parse.{IsNumeral, digits_value}
+use Rattle.std.specs.declared.alloc.Global.{Global}
+use Rattle.vast_list.specs.declared.arguments.Arguments.{Arguments}
+use Rattle.vast_list.specs.declared.names.Named.{Named}
+use Rattle.vast_list.specs.declared.names.Named.TheVariants.{Handle, Skipped, Number as NumberNamed}
+use Rattle.vast_list.specs.Json.{letter_meaning}
+use Rattle.vast_list.specs.CallArguments.{Piece, Place, Number, Count, Text, Word}
+
+-- What is left of a line behind a word, with the space before it.
+abbrev pub left : Option (Bor (List ℕ)) → List ℕ
+left None = []
+left (Some rest) = 32 ∷ rest.now
+
+-- A decimal numeral, and one that may have a minus.
+
+abbrev pub IsNatural : List ℕ → ℕ → Type 0
+IsNatural word n = IsNumeral 10 word × (n ≡ digits_value 10 word)
+
+abbrev pub IsInteger : List ℕ → ℤ → Type 0
+IsInteger word z =
+    ((n : ℕ) × IsNatural word n × (z ≡ pos n)) ⊎ ((digits : List ℕ) × (n : ℕ) × (word ≡ 45 ∷ digits) × IsNatural digits n × (z ≡ neg_ℤ (pos n)))
+
+-- Four digits in base sixteen, and their number.
+abbrev pub IsCode : List ℕ → ℕ → Type 0
+IsCode digits n = (length digits ≡ 4) × IsNumeral 16 digits × (n ≡ digits_value 16 digits)
+
+abbrev pub IsHigh : ℕ → Type 0
+IsHigh n = (55296 ≤ n) × (n < 56320)
+
+abbrev pub IsLow : ℕ → Type 0
+IsLow n = (56320 ≤ n) × (n < 57344)
+
+-- The character of a surrogate pair.
+abbrev pub paired : (high low : ℕ) → ℕ
+paired high low = 65536 + (high - 55296) * 1024 + (low - 56320)
+
+-- The parts of a text between its quotes: any byte but a quote and a backslash stands for itself; behind a backslash a letter
+-- has a meaning, and behind `\u` the code of a character, or the first of two that are a surrogate pair.
+
+abbrev pub IsPlain : (written meant : List ℕ) → Type 0
+IsPlain written meant = (byte : ℕ) × (byte ≢ 34) × (byte ≢ 92) × (written ≡ byte ∷ []) × (meant ≡ byte ∷ [])
+
+abbrev pub IsLetter : (written meant : List ℕ) → Type 0
+IsLetter written meant = (letter : ℕ) × (byte : ℕ) × (letter_meaning letter ≡ Some byte) × (written ≡ 92 ∷ letter ∷ []) × (meant ≡ byte ∷ [])
+
+abbrev pub IsCharacter : (written meant : List ℕ) → Type 0
+IsCharacter written meant = (digits : List ℕ) × (code : ℕ) × IsCode digits code × IsScalar code × (written ≡ 92 ∷ 117 ∷ digits) × (meant ≡ encode_utf8 code)
+
+abbrev pub IsPair : (written meant : List ℕ) → Type 0
+IsPair written meant =
+    (first : List ℕ) × (high : ℕ) × (second : List ℕ) × (low : ℕ) × IsCode first high × IsHigh high × IsCode second low × IsLow low
+    × (written ≡ (92 ∷ 117 ∷ first) ++ (92 ∷ 117 ∷ second)) × (meant ≡ encode_utf8 (paired high low))
+
+abbrev pub IsPart : (written meant : List ℕ) → Type 0
+IsPart written meant = IsPlain written meant ⊎ (IsLetter written meant ⊎ (IsCharacter written meant ⊎ IsPair written meant))
+
+-- What stands between the quotes of a text that has this content.
+pub record IsContent (between content : List ℕ) : Type 0 where
+  pub parts : List (List ℕ × List ℕ)
+  pub all : All (λ (part : List ℕ × List ℕ). IsPart part.0 part.1) parts
+  pub written : between ≡ flat_map (λ (part : List ℕ × List ℕ). part.0) parts
+  pub means : content ≡ flat_map (λ (part : List ℕ × List ℕ). part.1) parts
+
+abbrev pub IsQuoted : (word content : List ℕ) → Type 0
+IsQuoted word content = (written : List ℕ) × IsContent written content × (word ≡ 34 ∷ (written ++ 34 ∷ []))
+
+-- The answer of the step of this number has this place, where no line was passed over.
+abbrev pub IsPlaceOf : (skipped : List ℕ) → (number place : ℕ) → Type 0
+IsPlaceOf skipped number place = skipped ≡ [] → place ≡ min number 18446744073709551614
+
+-- What a name stands for.
+abbrev pub meaning : BTreeMap (String Global) Named → List ℕ → Option Named
+meaning names name = get_by (λ (key : String Global). slice_cmp nat_cmp name (string_bytes key)) names
+
+-- By what the names so far stand for, and the numbers of the lines that were passed over.
+module _ (named : List ℕ → Option Named) (skipped : List ℕ) where
+  -- The number of a step, or the name of its answer.
+  abbrev pub IsHandle : List ℕ → ℕ → Type 0
+  IsHandle word place =
+      ((number : ℕ) × IsNatural word number × IsPlaceOf skipped number place)
+      ⊎ ((named word ≡ Some (Handle place)) ⊎ ((named word ≡ Some Skipped) × (place ≡ 18446744073709551615)))
+
+  -- `?` and the name of a question that this number answers.
+  abbrev pub IsAnswer : List ℕ → ℤ → Type 0
+  IsAnswer word z = (name : List ℕ) × (word ≡ 63 ∷ name) × (named name ≡ Some (NumberNamed z))
+
+  abbrev pub IsWritten : Piece → List ℕ → Type 0
+  IsWritten (Place place) word = IsHandle word place
+  IsWritten (Number z) word = IsInteger word z ⊎ IsAnswer word z
+  IsWritten (Count n) word = IsNatural word n ⊎ IsAnswer word (pos n)
+  IsWritten (Text content) word = IsQuoted word content
+  IsWritten (Word w) word = word ≡ w
+
+  abbrev pub AreWritten : List Piece → List ℕ → Type 0
+  AreWritten [] text = text ≡ []
+  AreWritten (piece ∷ pieces) text = (word : List ℕ) × (more : List ℕ) × IsWritten piece word × AreWritten pieces more × (text ≡ 32 ∷ (word ++ more))
+
+-- What is left of the line writes the pieces.
+abbrev pub AreLeft : Arguments → List Piece → Type 0
+AreLeft arguments pieces = AreWritten (meaning arguments.known.names.now) arguments.known.skipped.now pieces (left arguments.rest)
+
+-- What was left is what writes the pieces, followed by what is left now.
+pub record Reads (old new : Arguments) (pieces : List Piece) : Type 0 where
+  pub known : new.known ≡ old.known
+  pub front : List ℕ
+  pub written : AreWritten (meaning old.known.names.now) old.known.skipped.now pieces front
+  pub left_is : left old.rest ≡ front ++ left new.rest
+
+-- The word stood next.
+abbrev pub Goes : (old new : Arguments) → (word : List ℕ) → Type 0
+Goes old new word = (new.known ≡ old.known) × (left old.rest ≡ 32 ∷ (word ++ left new.rest))
+
+-- A text of this content stood next.
+abbrev pub GoesText : (old new : Arguments) → (content : List ℕ) → Type 0
+GoesText old new content = (word : List ℕ) × IsQuoted word content × Goes old new word
+
+-- What a word of the line stands for.
+
+abbrev pub IsAnswered : Arguments → (name : List ℕ) → ℤ → Type 0
+IsAnswered arguments name z = meaning arguments.known.names.now name ≡ Some (NumberNamed z)
+
+abbrev pub WritesIn : Arguments → Piece → List ℕ → Type 0
+WritesIn arguments piece word = IsWritten (meaning arguments.known.names.now) arguments.known.skipped.now piece word
+
+abbrev pub IsIntegerWord : Arguments → List ℕ → ℤ → Type 0
+IsIntegerWord arguments word z = WritesIn arguments (Number z) word
+
+abbrev pub IsCountWord : Arguments → List ℕ → ℕ → Type 0
+IsCountWord arguments word n = WritesIn arguments (Count n) word
+
+abbrev pub IsHandleWord : Arguments → List ℕ → ℕ → Type 0
+IsHandleWord arguments word n = WritesIn arguments (Place n) word
+
+-- At the front of what stands behind a text's opening quote a text of this content ends, and this stands behind it.
+abbrev pub IsTextFront : (quoted content behind : List ℕ) → Type 0
+IsTextFront quoted content behind = (between : List ℕ) × IsContent between content × (quoted ≡ between ++ 34 ∷ behind)
+
+-- At the front stands what means this character.
+abbrev pub IsContentFront : (text : List ℕ) → (c : ℕ) → (behind : List ℕ) → Type 0
+IsContentFront text c behind = (written : List ℕ) × IsContent written (encode_utf8 c) × (text ≡ written ++ behind)
+
+-- At the front stands a part that means this character, and then four digits of this number.
+
+abbrev pub IsPartFront : (text : List ℕ) → (c : ℕ) → (behind : List ℕ) → Type 0
+IsPartFront text c behind = (written : List ℕ) × IsPart written (encode_utf8 c) × (text ≡ written ++ behind)
+
+abbrev pub IsCodeFront : (text : List ℕ) → (code : ℕ) → (behind : List ℕ) → Type 0
+IsCodeFront text code behind = (digits : List ℕ) × IsCode digits code × (text ≡ digits ++ behind)
+
+-- The letter means this character behind a backslash.
+abbrev pub IsMeaning : (letter c : ℕ) → Type 0
+IsMeaning letter c = (letter < 128) × (c < 128) × (letter_meaning letter ≡ Some c)
