@@ -95,6 +95,37 @@ static int faults(void)
     return 0;
 }
 
+/* Whether these lines are told so, and no byte behind that is written. */
+static int is_told(int32_t dialect, const char *text, const char *wanted)
+{
+    uint8_t room[512];
+    memset(room, '#', sizeof room);
+    size_t all = 7, length = strlen(wanted);
+    int32_t status = vast_warnings(dialect, (const uint8_t *)text, strlen(text), room, sizeof room, &all);
+    return status == VAST_OK && all == length && memcmp(room, wanted, length) == 0 && room[length] == '#';
+}
+
+/* What lines print that is no Verilog, and lines like them that are; the end, faults, and a buffer that is too short. */
+static int warnings(void)
+{
+    const char *module = "m = AddModule \"m\"\nbit = MakeScalarType\nAddLogic m \"a\" bit\n";
+    CHECK(is_told(VAST_VERILOG, module, "3: AddLogic: `logic` is no Verilog (Verilator, Yosys refuse it)\n"));
+    CHECK(is_told(VAST_SYSTEMVERILOG, module, "") && is_told(VAST_VERILOG, "", ""));
+    const char *repeated = "one = MakeLiteral \"bits[1]:1\" Hex\nr = MakeReplicatedConcatI64 0 [ one ]\n";
+    const char *told = "2: MakeReplicatedConcatI64: prints \"{0{1'h1}}\": no times is no SystemVerilog outside of a"
+                       " concatenation (Icarus, Verilator refuse it)\n";
+    CHECK(is_told(VAST_SYSTEMVERILOG, repeated, told));
+    CHECK(is_told(VAST_VERILOG, "MakeNot 0\nm = AddModule \"m\"\nAddModule \"m\"", "3: AddModule: a second module of the name"
+                                " is no SystemVerilog (Icarus refuses it)\n"));
+    uint8_t room[4] = "....";
+    size_t all = 7;
+    CHECK(vast_warnings(2, (const uint8_t *)module, strlen(module), room, 3, &all) == VAST_NO_DIALECT);
+    CHECK(all == 0 && memcmp(room, "....", 4) == 0);
+    CHECK(vast_warnings(VAST_VERILOG, (const uint8_t *)module, strlen(module), room, 3, &all) == VAST_OK);
+    CHECK(all == 64 && memcmp(room, "3: .", 4) == 0);
+    return 0;
+}
+
 /* A text that is refused, whose line is told; the text of before stays. */
 static int refused_text(void)
 {
@@ -112,5 +143,5 @@ static int refused_text(void)
 
 int main(void)
 {
-    return not_open() || made() || faults() || refused_text();
+    return not_open() || made() || faults() || refused_text() || warnings();
 }

@@ -1,5 +1,5 @@
-/* Each request for memory is refused in turn, of all that the counter's session asks for: the call whose request it is
- * answers VAST_MEMORY and leaves the session as it was, and made again it gives what it gives undisturbed.
+/* Each request for memory is refused in turn, of all that the counter's session and its warnings ask for: the call whose
+ * request it is answers VAST_MEMORY and leaves the session as it was, and made again it gives what it gives undisturbed.
  * Linked with -Wl,--wrap=malloc -Wl,--wrap=realloc. The last line counts; the status is 1 where an answer was another. */
 #include "vast.h"
 
@@ -56,6 +56,24 @@ static int is_counter(vast_session *session)
     return length == wanted_length && length < sizeof room && memcmp(room, wanted, length) == 0;
 }
 
+/* Three lines with a warning, which is told as it is undisturbed: how often it answered VAST_MEMORY, or -1. */
+static int warnings(void)
+{
+    const char *module = "m = AddModule \"m\"\nbit = MakeScalarType\nAddLogic m \"a\" bit\n";
+    const char *told = "3: AddLogic: `logic` is no Verilog (Verilator, Yosys refuse it)\n";
+    uint8_t room[4096] = "#";
+    size_t all = 7, length = strlen(module);
+    int refused = 0;
+    int32_t status = vast_warnings(VAST_VERILOG, (const uint8_t *)module, length, room, sizeof room, &all);
+    if (status == VAST_MEMORY) {
+        refused++;
+        if (all != 0 || room[0] != '#')
+            return -1;
+        status = vast_warnings(VAST_VERILOG, (const uint8_t *)module, length, room, sizeof room, &all);
+    }
+    return status == VAST_OK && all == strlen(told) && memcmp(room, told, all) == 0 ? refused : -1;
+}
+
 /* How many calls answered VAST_MEMORY where request k is refused, or -1 for a wrong answer. */
 static int session_with(long k)
 {
@@ -86,11 +104,12 @@ static int session_with(long k)
         if (vast_print(&s) != VAST_OK)
             return -1;
     }
+    int told = warnings();
     left = -1;
-    if (!is_counter(&s))
+    if (told < 0 || !is_counter(&s))
         return -1;
     vast_close(&s);
-    return s == NULL ? refused : -1;
+    return s == NULL ? refused + told : -1;
 }
 
 int main(void)

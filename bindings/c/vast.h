@@ -106,6 +106,23 @@ size_t vast_text(vast_session *session, int32_t text, uint8_t *out, size_t capac
 /* A number of the session. 0 where it is not open, or `number` is the number of none. */
 size_t vast_number(vast_session *session, int32_t number);
 
+/* What the calls of the lines print that is no SystemVerilog or Verilog, or that Icarus, Verilator or Yosys refuses: the
+ * warnings of a list of these lines, as `vast_replay --lint` tells them, each a line of UTF-8 with a line feed behind it,
+ *
+ *     12: MakeIndex: prints "(a + b)[1]": a select of a computed value is no SystemVerilog (Icarus, Verilator, Yosys refuse it)
+ *
+ * those of the lines in order, and behind them those that only the end tells, as a case without arms. The number is that
+ * of the line among these, from 1. Copies the start of that text to `out`, as much as the `capacity` bytes there hold;
+ * `*all` becomes the length of the whole text in bytes, 0 where there is nothing to tell.
+ *
+ * No session is asked, and none is changed: the lines are made anew, on a file of their own which is let go again, so it
+ * takes as long as making them does. Who wants the warnings of a session keeps the lines that were made (of those that
+ * were given to a `vast_lines` the first `*taken`), and gives all of them; an empty line may stand for a question. A line
+ * at fault and those that use it are passed over, and handles are counted as if it had answered one. Lines and buffer
+ * stay the caller's, and nothing is to be freed.
+ * VAST_OK; VAST_NO_DIALECT, VAST_MEMORY: nothing is copied, and `*all` is 0. */
+int32_t vast_warnings(int32_t dialect, const uint8_t *lines, size_t length, uint8_t *out, size_t capacity, size_t *all);
+
 /* Frees the session and all that it holds, and sets the pointer to NULL. Does nothing where it is NULL. */
 void vast_close(vast_session *session);
 

@@ -27,9 +27,9 @@ MADE: Dict[Tuple[str, str], Set[str]] = {(name, dialect): set() for name in SESS
 class Noted:
     """A session that notes the calls that were made."""
 
-    def __init__(self, name, dialect):
+    def __init__(self, name, dialect, lint=False):
         self.name = name
-        self.session = SESSIONS[name](dialect)
+        self.session = SESSIONS[name](dialect, lint=lint)
         self.made = MADE[name, dialect]
 
     def lines(self, lines):
@@ -50,12 +50,16 @@ class Noted:
         self.made.add("?Emit")
         return text
 
+    def warnings(self):
+        """The warnings."""
+        return self.session.warnings()
+
     def close(self):
         """Closes it."""
         self.session.close()
 
 
-def over_each(*dialects):
+def over_each(*dialects, lint=False, places=False):
     """A test of a file, over each session in these dialects, or in both."""
 
     def over(test):
@@ -64,7 +68,7 @@ def over_each(*dialects):
             for name in SESSIONS:
                 for dialect in dialects or BOTH:
                     with self.subTest(session=name, dialect=dialect):
-                        with File(dialect, session=Noted(name, dialect)) as file:
+                        with File(dialect, session=Noted(name, dialect, lint), places=places) as file:
                             test(self, file)
 
         return run

@@ -9,6 +9,7 @@ from .errors import Condition, VastFault
 from .handle import Handle
 from .kinds import DataType, Expression, Operand, Selectable, TypeLike
 from .session import Session
+from .warning import Warned
 from .writing import int32, int64
 
 # Lines that wait at most.
@@ -128,6 +129,21 @@ class Core:
         except VastFault as fault:
             self._placed(fault)
             raise
+
+    def warnings(self) -> List[Warned]:
+        """What the calls so far print that is no SystemVerilog or Verilog, or that Icarus, Verilator or Yosys refuses.
+
+        Those of the calls in order, and behind them those that only the end tells, as a case without arms. A file with
+        `lint=True` tells them; of one without it is a `ValueError`. The rules are those of `vast_replay --lint`.
+        """
+        self.flush()
+        return [self._warned(warned) for warned in self._session.warnings()]
+
+    def _warned(self, warned: Warned) -> Warned:
+        """The warning with its place."""
+        if self._places is None or warned.line >= len(self._places):
+            return warned
+        return warned._replace(place="{}:{}".format(*self._places[warned.line]))
 
     def _own(self, given: Handle, kind: Union[Type[Handle], Tuple[Type[Handle], ...]]) -> int:
         """The number of a handle of this kind."""

@@ -44,6 +44,9 @@ class File(Calls):
     With `places=True` each fault names the line of Python that made the call, and over the library a refusal of `emit` the
     line whose call made what is refused; calls then take about twice as long.
 
+    With `lint=True` `warnings` tells what the calls so far print that tools refuse. Over the library the file's lines are
+    kept for that, and made anew each time that it is asked; over a process calls take longer.
+
     A file is used by one thread at a time.
     """
 
@@ -53,9 +56,10 @@ class File(Calls):
         strict: bool = True,
         places: bool = False,
         session: Optional[Session] = None,
+        lint: bool = False,
     ) -> None:
         self.file_type = FileType(dialect)
-        super().__init__(session or open_session(self.file_type.value), strict, places)
+        super().__init__(session or open_session(self.file_type.value, lint), strict, places)
 
     @classmethod
     def listed(cls, dialect: Union[FileType, str] = FileType.SYSTEM_VERILOG) -> File:

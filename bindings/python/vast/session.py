@@ -9,9 +9,10 @@ import subprocess
 import weakref
 from bisect import bisect_left
 from ctypes import CDLL, POINTER, byref, c_char_p, c_int32, c_size_t, c_void_p, create_string_buffer
-from typing import IO, Any, Iterator, List, Optional, Protocol, Tuple, cast
+from typing import IO, Any, Dict, Iterator, List, Optional, Protocol, Tuple, cast
 
 from .errors import Condition, NoLibrary, NotInForm, Refused
+from .warning import Warned, listed_warning, read_warnings
 
 _HERE = os.path.dirname(os.path.abspath(__file__))
 _ROOT = os.path.dirname(os.path.dirname(os.path.dirname(_HERE)))
@@ -33,8 +34,16 @@ class Session(Protocol):
     def text(self) -> str:
         """The text of the file. Raises its refusal."""
 
+    def warnings(self) -> List[Warned]:
+        """What its calls print that tools refuse, of a session with `lint`; of one without, a `ValueError`."""
+
     def close(self) -> None:
         """Lets go of the file."""
+
+
+def no_lint() -> ValueError:
+    """Why a session without `lint` tells no warnings."""
+    return ValueError("warnings are told of a file that is made with lint=True")
 
 
 class LibrarySession:
@@ -46,21 +55,26 @@ class LibrarySession:
     LINE = 1
     SHORT = 256  # bytes: texts up to this length are copied by one call
 
-    def __init__(self, library: CDLL, dialect: str) -> None:
+    def __init__(self, library: CDLL, dialect: str, lint: bool = False) -> None:
         self._library = library
+        self._dialect = self.DIALECTS[dialect]
+        # The lines that were made, of a session with a lint; questions stand there as empty lines.
+        self._made: Optional[List[str]] = [] if lint else None
         self._at = c_void_p()
         self._session = byref(self._at)
         self._taken = c_size_t()
         self._taken_at = byref(self._taken)
         # Found once, since each call of a file goes through it.
         self._make = library.vast_lines
-        self._check(library.vast_open(self._session, self.DIALECTS[dialect]))
+        self._check(library.vast_open(self._session, self._dialect))
         self._end = weakref.finalize(self, library.vast_close, self._session)
 
     def lines(self, lines: List[str]) -> Tuple[int, Optional[Exception]]:
         """See `Session`."""
         sent = "\n".join(lines).encode()
         status = self._make(self._session, sent, len(sent), self._taken_at)
+        if self._made is not None:
+            self._made += lines[: self._taken.value]
         return self._taken.value, None if status == 0 else self._fault(status)
 
     def ask(self, line: str) -> Plain:
@@ -68,12 +82,35 @@ class LibrarySession:
         _, fault = self.lines([line])
         if fault is not None:
             raise fault
+        if self._made is not None:
+            self._made[-1] = ""
         return Plain(self._text(self.ANSWER))
 
     def text(self) -> str:
         """See `Session`."""
         self._check(self._library.vast_print(self._session))
         return self._text(self.FILE)
+
+    def warnings(self) -> List[Warned]:
+        """See `Session`. The lines are made anew, each time."""
+        if self._made is None:
+            raise no_lint()
+        if not self._end.alive:
+            raise ValueError("the file is closed")
+        sent = "\n".join(self._made).encode()
+        length, room = self._warned(sent, self.SHORT)
+        if length > self.SHORT:
+            length, room = self._warned(sent, length)
+        return read_warnings(room[:length].decode())
+
+    def _warned(self, sent: bytes, size: int) -> Tuple[int, bytes]:
+        """The length of the warnings of these lines, and so many bytes of them."""
+        room = create_string_buffer(size)
+        length = c_size_t()
+        self._check(
+            self._library.vast_warnings(self._dialect, sent, len(sent), room, size, byref(length))
+        )
+        return length.value, room.raw
 
     def close(self) -> None:
         """See `Session`."""
@@ -115,6 +152,7 @@ def load_library(path: str) -> CDLL:
     library.vast_text.argtypes = [session, c_int32, c_char_p, c_size_t]
     library.vast_number.argtypes = [session, c_int32]
     library.vast_number.restype = c_size_t
+    library.vast_warnings.argtypes = [c_int32, c_char_p, c_size_t, c_char_p, c_size_t, POINTER(c_size_t)]
     library.vast_close.argtypes = [session]
     library.vast_close.restype = None
     library.vast_text.restype = c_size_t
@@ -134,10 +172,9 @@ class ProcessSession:
         "form": NotInForm,
     }
 
-    def __init__(self, program: str, dialect: str) -> None:
-        self._process = subprocess.Popen(
-            [program, "--session"], stdin=subprocess.PIPE, stdout=subprocess.PIPE
-        )
+    def __init__(self, program: str, dialect: str, lint: bool = False) -> None:
+        words = [program, "--session", "--lint"] if lint else [program, "--session"]
+        self._process = subprocess.Popen(words, stdin=subprocess.PIPE, stdout=subprocess.PIPE)
         self._input = cast(IO[bytes], self._process.stdin)
         self._output = cast(IO[bytes], self._process.stdout)
         self._end = weakref.finalize(self, end_process, self._process)
@@ -146,6 +183,8 @@ class ProcessSession:
         self._owed = 0
         # The numbers, from 1, of lines that made nothing: the dialect's, those at fault, and questions for the text.
         self._empty: List[int] = []
+        # What the lines so far print, of a session with a lint.
+        self._told: Optional[List[Warned]] = [] if lint else None
         self._reply(dialect)
         self._empty.append(1)
 
@@ -174,6 +213,22 @@ class ProcessSession:
         text = self.ask("?Emit")
         self._empty.append(self._sent)
         return text
+
+    def warnings(self) -> List[Warned]:
+        """See `Session`."""
+        if self._told is None:
+            raise no_lint()
+        left = self.ask("?Warnings")
+        self._empty.append(self._sent)
+        return self._told + self._warned(left)
+
+    def _warned(self, given: List[Dict[str, Any]]) -> List[Warned]:
+        """The warnings of a reply."""
+        return [listed_warning(each, self._made_before(each["line"])) for each in given]
+
+    def _made_before(self, line: int) -> int:
+        """How many lines were made before that of this number, counted from 1."""
+        return line - 1 - bisect_left(self._empty, line)
 
     def close(self) -> None:
         """See `Session`."""
@@ -215,6 +270,9 @@ class ProcessSession:
             raise BrokenPipeError(f"vast_replay --session ended, status {self._process.wait()}")
         self._owed -= 1
         self._sent += 1
+        # Quotes within texts stand behind a backslash, here too.
+        if self._told is not None and b',"warnings":[' in reply:
+            self._told += self._warned(json.loads(reply)["warnings"])
         return reply
 
     def _fault_of(self, reply: bytes) -> Optional[Exception]:
@@ -225,9 +283,8 @@ class ProcessSession:
         self._empty.append(self._sent)
         if given["cause"] == "memory":
             return MemoryError("out of memory")
-        line = given["line"]
         return self.FAULTS[given["cause"]](
-            given["words"], given.get("call"), line - 1 - bisect_left(self._empty, line)
+            given["words"], given.get("call"), self._made_before(given["line"])
         )
 
 
@@ -258,6 +315,10 @@ class ListSession:
         """The list."""
         return "\n".join(self._kept) + "\n"
 
+    def warnings(self) -> List[Warned]:
+        """A list tells them when it is made, by `vast_replay --lint`."""
+        raise NoLibrary("a file that is only written as a list tells no warnings: vast_replay --lint does")
+
     def close(self) -> None:
         """See `Session`."""
 
@@ -277,14 +338,14 @@ def found_program() -> Optional[str]:
     return shutil.which("vast_replay") or shutil.which(f"{_ROOT}/crates/vast_replay/out/vast_replay")
 
 
-def open_session(dialect: str) -> Session:
+def open_session(dialect: str, lint: bool = False) -> Session:
     """A session of the library where it is there, else of the program."""
     library = found_library()
     if library is not None:
-        return LibrarySession(library, dialect)
+        return LibrarySession(library, dialect, lint)
     program = found_program()
     if program is not None:
-        return ProcessSession(program, dialect)
+        return ProcessSession(program, dialect, lint)
     raise NoLibrary(
         "neither libvast.so nor vast_replay is there: bindings/python/README.md says how they are built,"
         " and VAST_LIBRARY and VAST_REPLAY name their paths"

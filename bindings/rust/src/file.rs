@@ -5,7 +5,8 @@ use crate::handles::{Expr, Id, IndexableExpr};
 use crate::kinds::{ModulePortDirection, VastFileType};
 use crate::known::{Known, Port, Width};
 use crate::line::Line;
-use crate::session::{Fault, Session};
+use crate::session::{warned, Fault, Session};
+use crate::warning::VastWarning;
 use std::fmt;
 use std::sync::atomic::{AtomicU64, Ordering};
 use std::sync::{Mutex, MutexGuard, PoisonError};
@@ -27,6 +28,8 @@ pub(crate) struct State {
     session: Session,
     /// How many steps are made, which is the number of the next.
     steps: usize,
+    /// The lines that made those, of a file with a lint.
+    made: Option<String>,
     pub(crate) line: Line,
     pub(crate) known: Known,
 }
@@ -57,9 +60,37 @@ impl VastFile {
             state: Mutex::new(State {
                 session,
                 steps: 0,
+                made: None,
                 line: Line::default(),
                 known: Known::default(),
             }),
+        }
+    }
+
+    /// An empty file of the dialect, which tells [`warnings`](VastFile::warnings); the lines of its calls are kept for that.
+    ///
+    /// # Panics
+    /// Where memory is refused.
+    pub fn with_lint(file_type: VastFileType) -> VastFile {
+        let mut file = VastFile::new(file_type);
+        file.state().made = Some(String::new());
+        file
+    }
+
+    /// What the calls so far print that is no SystemVerilog or Verilog, or that Icarus, Verilator or Yosys refuses: those
+    /// of the calls in order, and behind them those that only the end tells, as a case without arms. The calls are made
+    /// anew, on a file of their own, so it takes as long as they did.
+    ///
+    /// # Panics
+    /// Where the file is not made by [`with_lint`](VastFile::with_lint), and where memory is refused.
+    pub fn warnings(&self) -> Vec<VastWarning> {
+        let state = self.locked();
+        let Some(made) = &state.made else {
+            panic!("warnings are told of a file that `with_lint` makes");
+        };
+        match warned(self.file_type, made) {
+            Some(told) => told.lines().filter_map(VastWarning::read).collect(),
+            None => give_up(Fault::Memory, ""),
         }
     }
 
@@ -229,6 +260,10 @@ impl State {
     #[inline]
     pub(crate) fn make(&mut self) -> Result<usize, Fault> {
         self.session.lines(self.line.as_str())?;
+        if let Some(made) = &mut self.made {
+            made.push_str(self.line.as_str());
+            made.push('\n');
+        }
         let step = self.steps;
         self.steps += 1;
         Ok(step)

@@ -33,6 +33,7 @@ mod known;
 mod line;
 mod methods;
 mod session;
+mod warning;
 
 pub use error::VastError;
 pub use file::{is_system_verilog_keyword, VastFile};
@@ -43,3 +44,4 @@ pub use handles::{
     VastModule, VastStatement, VastStatementBlock,
 };
 pub use kinds::{AlwaysKind, DataKind, LiteralFormat, ModulePortDirection, VastFileType};
+pub use warning::VastWarning;

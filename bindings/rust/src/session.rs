@@ -17,6 +17,14 @@ extern "C" {
     ) -> i32;
     fn vast_print(session: *mut *mut c_void) -> i32;
     fn vast_text(session: *mut *mut c_void, text: i32, out: *mut u8, capacity: usize) -> usize;
+    fn vast_warnings(
+        dialect: i32,
+        lines: *const u8,
+        length: usize,
+        out: *mut u8,
+        capacity: usize,
+        all: *mut usize,
+    ) -> i32;
     fn vast_close(session: *mut *mut c_void);
 }
 
@@ -61,15 +69,11 @@ unsafe impl Send for Session {}
 impl Session {
     /// An empty file of the dialect.
     pub(crate) fn open(dialect: VastFileType) -> Result<Session, Fault> {
-        let dialect = match dialect {
-            VastFileType::Verilog => VERILOG,
-            VastFileType::SystemVerilog => SYSTEM_VERILOG,
-        };
         let mut session = Session {
             state: ptr::null_mut(),
         };
         // SAFETY: the pointer is null before its first use.
-        let status = unsafe { vast_open(&mut session.state, dialect) };
+        let status = unsafe { vast_open(&mut session.state, number_of(dialect)) };
         session.checked(status)?;
         Ok(session)
     }
@@ -122,6 +126,43 @@ impl Session {
         // SAFETY: `out` has room for as many bytes as are told.
         unsafe { vast_text(&mut self.state, which, bytes.as_mut_ptr(), bytes.len()) }
     }
+}
+
+fn number_of(dialect: VastFileType) -> i32 {
+    match dialect {
+        VastFileType::Verilog => VERILOG,
+        VastFileType::SystemVerilog => SYSTEM_VERILOG,
+    }
+}
+
+/// What a list of these lines prints that tools refuse, a line for each form; `None` where memory is refused.
+pub(crate) fn warned(dialect: VastFileType, lines: &str) -> Option<String> {
+    let mut bytes = vec![0; SHORT];
+    let length = copy_warned(dialect, lines, &mut bytes)?;
+    if length > bytes.len() {
+        bytes.resize(length, 0);
+        copy_warned(dialect, lines, &mut bytes)?;
+    }
+    bytes.truncate(length);
+    Some(String::from_utf8_lossy(&bytes).into_owned())
+}
+
+/// Copies the start of that text, and answers the length of all of it.
+fn copy_warned(dialect: VastFileType, lines: &str, bytes: &mut [u8]) -> Option<usize> {
+    let mut all = 0;
+    // SAFETY: the lines and `out` are as many bytes as are told, which live until the call returns, and `all` can be
+    // written.
+    let status = unsafe {
+        vast_warnings(
+            number_of(dialect),
+            lines.as_ptr(),
+            lines.len(),
+            bytes.as_mut_ptr(),
+            bytes.len(),
+            &mut all,
+        )
+    };
+    (status == OK).then_some(all)
 }
 
 impl Drop for Session {

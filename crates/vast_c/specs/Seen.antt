@@ -60,6 +60,10 @@ Made _ taken Same _ = ⊥
 abbrev pub Copied : (text : List ℕ) → (before after : List ℕ) → (told : ℕ) → Type 0
 Copied text before after told = (told ≡ length text) × (after ≡ take (length before) text ++ drop (length text) before)
 
+-- That some text was copied.
+abbrev pub CopiedSome : (before after : List ℕ) → (told : ℕ) → Type 0
+CopiedSome before after told = (text : List ℕ) × Copied text before after told
+
 -- the session
 abbrev pub session_in : Option Kept → Option Session
 session_in None = None

@@ -8,17 +8,19 @@ ghost use Rattle.vast_list.specs.Session.{IsSame};
 ghost use Rattle.vast_literal.specs.declared.kind.VastFileType.TheVariants.{Verilog, SystemVerilog};
 ghost use Rattle.vast_c.specs.declared.kept.Cause.TheVariants.{Condition, Form, Memory, Refused};
 ghost use Rattle.vast_c.specs.Lines.{lines_of};
-ghost use Rattle.vast_c.specs.Seen.{Copied, IsFresh, IsSameTree, IsToldOf, Made, Printed};
+ghost use Rattle.vast_c.specs.Seen.{Copied, CopiedSome, IsFresh, IsSameTree, IsToldOf, Made, Printed};
 ghost use Rattle.vast_c.specs.Seen.{answer_in, call_in, column_in, count_in, file_in, line_in, message_in};
 ghost use Rattle.vast_c.specs.Seen.{session_in, told_in, words_in};
 
 mod handle;
 mod kept;
 mod lines;
+mod warned;
 
 use handle::Handle;
 use kept::{Cause, Kept};
 use std::alloc::Global;
+use warned::warned_text;
 use xlsynth_vast::VastFileType;
 
 /// What a call answers.
@@ -79,16 +81,26 @@ pub extern "C" fn vast_open(alloc: Global, handle: &mut Handle, dialect: i32) ->
     ensures dialect { result ≡ NO_DIALECT ↔ (dialect ≢ VERILOG) × (dialect ≢ SYSTEMVERILOG) }
     ensures unchanged { result ≢ OK → handle.new.kept ≡ handle.old.kept }
 {
-    let dialect = match dialect {
-        VERILOG => VastFileType::Verilog,
-        SYSTEMVERILOG => VastFileType::SystemVerilog,
-        _ => return NO_DIALECT,
+    let Some(dialect) = dialect_of(dialect) else {
+        return NO_DIALECT;
     };
     let Ok(kept) = Box::new(alloc, Kept::new(alloc, dialect)) else {
         return MEMORY;
     };
     handle.put(kept);
     OK
+}
+
+fn dialect_of(dialect: i32) -> Option<VastFileType>
+    ensures verilog { dialect ≡ VERILOG → result ≡ Some Verilog }
+    ensures other { dialect ≡ SYSTEMVERILOG → result ≡ Some SystemVerilog }
+    ensures none { result ≡ None ↔ (dialect ≢ VERILOG) × (dialect ≢ SYSTEMVERILOG) }
+{
+    match dialect {
+        VERILOG => Some(VastFileType::Verilog),
+        SYSTEMVERILOG => Some(VastFileType::SystemVerilog),
+        _ => None,
+    }
 }
 
 /// Makes the calls of the lines, up to the first at fault.
@@ -226,6 +238,34 @@ fn number_of(kept: &Kept, number: i32) -> usize
         (LINE, Some(told)) => told.fault.line,
         (COLUMN, Some(told)) => told.fault.column.unwrap_or(0),
         _ => 0,
+    }
+}
+
+/// Copies the start of what a list of these lines prints that is no SystemVerilog or Verilog, or that a tool refuses, as
+/// much as fits. `all` becomes the length of the whole text.
+#[unsafe(no_mangle)]
+pub extern "C" fn vast_warnings(
+    alloc: Global,
+    dialect: i32,
+    lines: &[u8],
+    out: &mut [u8],
+    all: &mut usize,
+) -> i32
+    ensures dialect { result ≡ NO_DIALECT ↔ (dialect ≢ VERILOG) × (dialect ≢ SYSTEMVERILOG) }
+    ensures copied { result ≡ OK → CopiedSome out.old out.new all.new }
+    ensures unchanged { result ≢ OK → out.new ≡ out.old }
+    ensures none { result ≢ OK → all.new ≡ 0 }
+{
+    *all = 0;
+    let Some(dialect) = dialect_of(dialect) else {
+        return NO_DIALECT;
+    };
+    match warned_text(alloc, dialect, lines) {
+        Ok(text) => {
+            *all = copy_start(text.as_bytes(), out);
+            OK
+        }
+        Err(_) => MEMORY,
     }
 }
 

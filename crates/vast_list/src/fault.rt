@@ -163,6 +163,12 @@ fn word_at(text: &str, at: usize) -> &str {
 }
 
 fn unknown_call(alloc: Global, call: &str) -> Result<String, AllocError> {
+    if call == "?Warnings" {
+        return String::from_str(
+            alloc,
+            "answered in a session with --lint alone, without a name or an argument",
+        );
+    }
     match nearest_call(alloc, call)? {
         Some(nearest) => format!(in alloc; "unknown call; `{nearest}` is the nearest"),
         None => String::from_str(alloc, "unknown call"),

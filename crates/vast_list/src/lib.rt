@@ -16,6 +16,7 @@ mod json_line;
 mod laws;
 mod line;
 mod lines;
+mod linted;
 mod map;
 mod names;
 mod nearest;

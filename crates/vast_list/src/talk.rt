@@ -1,30 +1,64 @@
 //! Lines that are answered one by one, by JSON.
 
+ghost use Rattle.std.specs.Prelude.{◌≡◌, MatchOption, OnOk, false, true};
+ghost use Rattle.vast_list.specs.Linted.{HasCounted, IsLevel, IsTalking, is_memory};
+
 use crate::fault::Fault;
 use crate::json::push_json_text;
 use crate::line::{dialect_of, is_empty_line};
 use crate::lines::HEADER;
+use crate::linted::SessionLint;
 use crate::reply::{push_fault, push_given};
-use crate::session::Session;
+use crate::session::{Given, Session};
+use crate::warnings::{LineWarning, push_member, push_warnings};
 use std::alloc::{AllocError, Global};
 use std::fmt::Write;
 use xlsynth_vast::VastFileType;
+
+/// What a session with a lint is asked for what its end would tell.
+const ASKED: &[u8] = b"?Warnings";
 
 /// A session, or none before the line that names its dialect.
 #[derive(Drop)]
 pub struct Talk {
     alloc: Global,
+    /// Whether what calls print is told.
+    has_lint: bool,
     session: Option<Session>,
+    /// Beside the session, where that is told.
+    lint: Option<SessionLint>,
     /// The number of the last line.
     number: usize,
 }
 
 impl Talk {
     /// Before the first line. It takes no memory.
-    pub fn new(alloc: Global) -> Talk {
+    pub fn new(alloc: Global) -> Talk
+        ensures lint { result.has_lint ≡ false }
+        ensures talking { IsTalking result }
+    {
         Talk {
             alloc,
+            has_lint: false,
             session: None,
+            lint: None,
+            number: 0,
+        }
+    }
+
+    /// The same with a lint: the reply to a call that prints what is no SystemVerilog or Verilog, or what a tool refuses,
+    /// has the last member `"warnings":[{"line":12,"call":"MakeIndex",..}]`, in the form of
+    /// [`json_with_warnings`](crate::json_with_warnings). The line `?Warnings` is answered by what would be told at the
+    /// end of the list, if it ended there: `{"line":13,"call":"?Warnings","answer":[..]}`. It takes no memory.
+    pub fn with_lint(alloc: Global) -> Talk
+        ensures lint { result.has_lint ≡ true }
+        ensures talking { IsTalking result }
+    {
+        Talk {
+            alloc,
+            has_lint: true,
+            session: None,
+            lint: None,
             number: 0,
         }
     }
@@ -36,39 +70,163 @@ impl Talk {
     ///
     /// # Errors
     /// Want of memory.
-    pub fn reply(&mut self, line: &[u8]) -> Result<String, AllocError> {
+    pub fn reply(&mut self, line: &[u8]) -> Result<String, AllocError>
+        ensures talking { IsTalking self.old → OnOk result (IsTalking self.new) }
+        ensures lint { self.new.has_lint ≡ self.old.has_lint }
+    {
         self.number = self.number.saturating_add(1);
         let mut text = String::new(self.alloc);
-        match self.take(line, &mut text) {
-            Ok(()) => {}
-            Err(Fault::Memory) => return Err(AllocError),
-            Err(Fault::Line(fault)) => push_fault(&mut text, &fault)?,
-        }
+        let taken = self.take(line, &mut text);
+        push_taken(&mut text, taken)?;
         text.push('\n')?;
         Ok(text)
     }
 
-    fn take(&mut self, line: &[u8], text: &mut String) -> Result<(), Fault> {
+    fn take(&mut self, line: &[u8], text: &mut String) -> Result<(), Fault>
+        ensures talking { IsTalking self.old → is_memory result ≡ false → IsTalking self.new }
+        ensures lint { self.new.has_lint ≡ self.old.has_lint }
+    {
         if let Some(title) = line.strip_prefix(HEADER) {
-            self.session = None;
-            let title = String::from_utf8_lossy(self.alloc, title)?;
-            push_one(text, self.number, "title", &title)?;
-            return Ok(());
+            return self.begin(title, text);
         }
         match &mut self.session {
-            Some(session) => {
-                let given = session.line(self.number, line)?;
-                push_given(text, session, self.number, &given)?;
-            }
-            None if is_empty_line(line) => write!(text, "{{\"line\":{}}}", self.number)?,
-            None => {
-                let dialect = dialect_of(self.alloc, self.number, line)?;
-                self.session = Some(Session::new(self.alloc, dialect));
-                push_one(text, self.number, "dialect", dialect_word(dialect))?;
-            }
+            Some(session) => match &mut self.lint {
+                None => push_line(text, session, self.number, line),
+                Some(lint) => push_linted(text, session, lint, self.number, line),
+            },
+            None => self.open(line, text),
         }
+    }
+
+    /// Begins anew, behind a header.
+    fn begin(&mut self, title: &[u8], text: &mut String) -> Result<(), Fault>
+        ensures talking { IsTalking self.new }
+        ensures lint { self.new.has_lint ≡ self.old.has_lint }
+    {
+        self.session = None;
+        self.lint = None;
+        let title = String::from_utf8_lossy(self.alloc, title)?;
+        push_one(text, self.number, "title", &title)?;
         Ok(())
     }
+
+    /// Takes a line before there is a session.
+    fn open(&mut self, line: &[u8], text: &mut String) -> Result<(), Fault>
+        ensures talking { IsTalking self.old → is_memory result ≡ false → IsTalking self.new }
+        ensures lint { self.new.has_lint ≡ self.old.has_lint }
+    {
+        if is_empty_line(line) {
+            write!(text, "{{\"line\":{}}}", self.number)?;
+            return Ok(());
+        }
+        let dialect = dialect_of(self.alloc, self.number, line)?;
+        self.session = Some(Session::new(self.alloc, dialect));
+        self.lint = lint_of(self.alloc, self.has_lint, dialect);
+        push_one(text, self.number, "dialect", dialect_word(dialect))?;
+        Ok(())
+    }
+}
+
+/// Appends the fault, if the line has one.
+fn push_taken(text: &mut String, taken: Result<(), Fault>) -> Result<(), AllocError>
+    ensures { OnOk result (is_memory taken ≡ false) }
+{
+    match taken {
+        Ok(()) => Ok(()),
+        Err(Fault::Memory) => Err(AllocError),
+        Err(Fault::Line(fault)) => push_fault(text, &fault),
+    }
+}
+
+/// The lint beside a new session, where there is to be one.
+fn lint_of(alloc: Global, has_lint: bool, dialect: VastFileType) -> Option<SessionLint>
+    ensures { MatchOption result (has_lint ≡ false)
+        (λ lint. (has_lint ≡ true) × HasCounted lint 0) }
+{
+    if has_lint {
+        Some(SessionLint::new(alloc, dialect))
+    } else {
+        None
+    }
+}
+
+/// Takes the line, and appends what it gave.
+fn push_line(
+    text: &mut String,
+    session: &mut Session,
+    number: usize,
+    line: &[u8],
+) -> Result<(), Fault> {
+    let given = session.line(number, line)?;
+    push_given(text, session, number, &given)?;
+    Ok(())
+}
+
+/// The same, and behind it what the line's call prints; or what the end of the list would tell, where the line asks.
+fn push_linted(
+    text: &mut String,
+    session: &mut Session,
+    lint: &mut SessionLint,
+    number: usize,
+    line: &[u8],
+) -> Result<(), Fault>
+    ensures { IsLevel lint.old session.old → is_memory result ≡ false
+        → IsLevel lint.new session.new }
+{
+    let mut warnings = Vec::new(session.file().allocator());
+    if line.strip_suffix(b"\r").unwrap_or(line) == ASKED {
+        lint.end(session, &mut warnings)?;
+        push_end(text, number, &warnings)?;
+        return Ok(());
+    }
+    let given = take_linted(session, lint, number, line, &mut warnings)?;
+    push_given(text, session, number, &given)?;
+    push_told(text, &warnings)?;
+    Ok(())
+}
+
+/// Takes the line, and appends to the warnings what its call prints.
+fn take_linted<'l>(
+    session: &mut Session,
+    lint: &mut SessionLint,
+    number: usize,
+    line: &'l [u8],
+    warnings: &mut Vec<LineWarning>,
+) -> Result<Given<'l>, Fault>
+    ensures { IsLevel lint.old session.old → is_memory result ≡ false
+        → IsLevel lint.new session.new }
+{
+    let call = session.call_of(line)?;
+    let given = session.line(number, line)?;
+    match &given {
+        Given::Nothing | Given::Answer { call: _, value: _ } => Ok(given),
+        Given::Step { number: _, call: _ } | Given::Helper { number: _, call: _ } => {
+            match lint.answered(session, line, call.as_ref(), warnings) {
+                Ok(()) => Ok(given),
+                Err(_) => Err(Fault::Memory),
+            }
+        }
+    }
+}
+
+/// Appends the answer of `?Warnings`.
+fn push_end(text: &mut String, number: usize, warnings: &[LineWarning]) -> Result<(), AllocError> {
+    write!(
+        text,
+        "{{\"line\":{number},\"call\":\"?Warnings\",\"answer\":"
+    )?;
+    push_warnings(text, warnings)?;
+    text.push('}')
+}
+
+/// Puts the warnings, if there are any, into the object that the text ends with.
+fn push_told(text: &mut String, warnings: &[LineWarning]) -> Result<(), AllocError> {
+    if warnings.is_empty() {
+        return Ok(());
+    }
+    text.pop();
+    push_member(text, warnings)?;
+    text.push('}')
 }
 
 /// Appends the line's number and one text under a name.

@@ -3,17 +3,14 @@
 use crate::answering::{Answering, Told};
 use crate::fault::{Fault, write_on_a_line};
 use crate::json::push_json_text;
-use crate::line::{Call, split_line, text_of};
 use crate::lines::ListLines;
+use crate::linted::SessionLint;
 use crate::output::dialect_line;
 use crate::session::Session;
 use std::alloc::{AllocError, Global};
 use std::fmt;
 use std::fmt::Write;
-use vast_lint::{Lint, Rule, Warning};
-use vast_literal::VastFault;
-use vast_script::one;
-use xlsynth_vast::Expr;
+use vast_lint::Rule;
 
 /// A form that a line's call prints, which is no SystemVerilog or Verilog, or which a tool refuses.
 #[derive(Drop)]
@@ -52,7 +49,7 @@ pub fn list_warnings(alloc: Global, list: &ListLines<'_>) -> Result<Vec<LineWarn
         Err(Fault::Memory) => return Err(AllocError),
         Err(Fault::Line(_)) => return Ok(warnings),
     };
-    let mut lint = Lint::new(alloc, dialect);
+    let mut lint = SessionLint::new(alloc, dialect);
     let mut answering = Answering {
         session: Session::new(alloc, dialect),
         trial: None,
@@ -61,85 +58,27 @@ pub fn list_warnings(alloc: Global, list: &ListLines<'_>) -> Result<Vec<LineWarn
         told: Told::new(alloc),
     };
     for (number, line) in lines {
-        let told = told_of(&mut lint, &mut answering, *number, line)?;
-        push_warnings(alloc, &answering.session, lines, &told, &mut warnings)?;
+        take_linted(&mut lint, &mut answering, *number, line, &mut warnings)?;
     }
-    push_warnings(
-        alloc,
-        &answering.session,
-        lines,
-        &lint.end()?,
-        &mut warnings,
-    )?;
+    lint.end(&answering.session, &mut warnings)?;
     Ok(warnings)
 }
 
-/// Takes the line, and tells what its step prints, if it is one that was made.
-fn told_of(
-    lint: &mut Lint,
+/// Takes the line, and appends what its call prints, if it is one that was made.
+fn take_linted(
+    lint: &mut SessionLint,
     answering: &mut Answering<'_>,
     number: usize,
     line: &[u8],
-) -> Result<Vec<Warning>, AllocError> {
+    warnings: &mut Vec<LineWarning>,
+) -> Result<(), AllocError> {
     let before = answering.session.answers().len();
     let call = answering.session.call_of(line)?;
     answering.take(number, line)?;
     if answering.session.answers().len() > before {
-        if let Some(Call::Step(step)) = call {
-            return lint.step(&step);
-        }
-        lint.pass()?;
-    }
-    Ok(Vec::new(answering.session.file().allocator()))
-}
-
-/// Appends the warnings, with their lines' calls and the texts that show them.
-fn push_warnings(
-    alloc: Global,
-    session: &Session,
-    lines: &[(usize, &[u8])],
-    told: &[Warning],
-    warnings: &mut Vec<LineWarning>,
-) -> Result<(), AllocError> {
-    for warning in told {
-        let line = session.line_of(warning.number).unwrap_or(0);
-        warnings.push(LineWarning {
-            line,
-            call: String::from_str(alloc, call_at(lines, line))?,
-            text: shown_text(session, warning.shown)?,
-            rule: warning.rule,
-        })?;
+        lint.answered(&answering.session, line, call.as_ref(), warnings)?;
     }
     Ok(())
-}
-
-/// The name of the call in the line of this number.
-fn call_at<'a>(lines: &[(usize, &'a [u8])], number: usize) -> &'a str {
-    let place = lines.partition_point(|line| line.0 < number);
-    match lines.get(place) {
-        Some((_, line)) => text_of(line).map_or("", |text| split_line(text).1),
-        None => "",
-    }
-}
-
-/// The text of the expression of this number; `None` where its text is refused.
-fn shown_text(session: &Session, shown: Option<usize>) -> Result<Option<String>, AllocError> {
-    let Some(place) = shown else {
-        return Ok(None);
-    };
-    let file = session.file();
-    let Ok(made) = one(file, session.answers(), place) else {
-        return Ok(None);
-    };
-    let made: Expr = made;
-    if !file.owns(&made) {
-        return Ok(None);
-    }
-    match file.emit_expression(&made) {
-        Ok(text) => Ok(Some(text)),
-        Err(VastFault::Refused(_)) => Ok(None),
-        Err(VastFault::Memory(error)) => Err(error),
-    }
 }
 
 /// The list's line of JSON with the warnings as its last member: `"warnings":[{"line":12,"call":"MakeIndex",
@@ -153,17 +92,29 @@ pub fn json_with_warnings(
     warnings: &[LineWarning],
 ) -> Result<String, AllocError> {
     let mut text = String::from_str(alloc, line.strip_suffix("}\n").unwrap_or(line))?;
-    text.push_str(",\"warnings\":[")?;
+    push_member(&mut text, warnings)?;
+    text.push_str("}\n")?;
+    Ok(text)
+}
+
+/// Appends the warnings as an object's last member.
+pub(crate) fn push_member(text: &mut String, warnings: &[LineWarning]) -> Result<(), AllocError> {
+    text.push_str(",\"warnings\":")?;
+    push_warnings(text, warnings)
+}
+
+/// Appends the warnings as a list of JSON.
+pub(crate) fn push_warnings(text: &mut String, warnings: &[LineWarning]) -> Result<(), AllocError> {
+    text.push('[')?;
     let mut is_first = true;
     for warning in warnings {
         if !is_first {
             text.push(',')?;
         }
         is_first = false;
-        push_warning(&mut text, warning)?;
+        push_warning(text, warning)?;
     }
-    text.push_str("]}\n")?;
-    Ok(text)
+    text.push(']')
 }
 
 fn push_warning(text: &mut String, warning: &LineWarning) -> Result<(), AllocError> {

@@ -5,7 +5,7 @@ pub(crate) const HELP: &str = "\
 vast_replay [--json] [--map] [--lint] [--strict] [--again] [FILE ..]
 vast_replay --check [--lint] [--strict] [FILE ..]
 vast_replay --plain [FILE ..]
-vast_replay --session
+vast_replay --session [--lint]
 vast_replay --calls [--json]
 
 Makes Verilog files of lists of calls, and prints them. Without FILE, or where FILE is `-`, the lists are read from
@@ -16,7 +16,8 @@ standard input.
   --map      prints each line of a text behind the number of the line of the list that it comes from, and a tab; with
              --json as a member, `map`
   --lint     tells on standard error, as faults are told, what the calls print that is no SystemVerilog or Verilog, or
-             that Icarus, Verilator or Yosys refuses; with --json as a member, `warnings`
+             that Icarus, Verilator or Yosys refuses; with --json as a member, `warnings`, and so with --session, where
+             `?Warnings` asks for what the list's end would tell
   --strict   --lint, and status 1 where anything was told
   --plain    prints whether each list's file is plain, `counter.list: plain`; else the first call that makes it so,
              `counter.list:12: AddWire: not plain`, and status 1

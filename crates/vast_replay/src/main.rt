@@ -84,7 +84,7 @@ fn answer_words(rt: &HostRuntime, words: &[&str]) -> Outcome {
         Ok(Request::Version) => print(rt, VERSION),
         Ok(Request::Calls) => print_made(rt, calls_text(alloc)),
         Ok(Request::CallsJson) => print_made(rt, calls_json(alloc)),
-        Ok(Request::Session) => talk(rt),
+        Ok(Request::Session { lint }) => talk(rt, lint),
         Ok(
             Request::Lists {
                 form,
@@ -116,10 +116,10 @@ fn print_made(rt: &HostRuntime, text: Result<String, AllocError>) -> Outcome {
     }
 }
 
-fn talk(rt: &HostRuntime) -> Outcome {
+fn talk(rt: &HostRuntime, lint: bool) -> Outcome {
     let mut err = rt.stderr();
     match BufReader::new(rt.alloc(), rt.stdin()) {
-        Ok(mut input) => answer_lines(rt.alloc(), &mut input, &mut rt.stdout(), &mut err),
+        Ok(mut input) => answer_lines(rt.alloc(), lint, &mut input, &mut rt.stdout(), &mut err),
         Err(_) => fail(Failure::Memory, &mut err),
     }
 }

@@ -113,6 +113,10 @@ fn lines_that_are_not_in_the_form(rt: HostRuntime) -> Result<(), AllocError> {
             "2:5: add_module: unknown call; `AddModule` is the nearest\n",
         ),
         (
+            "m = AddModule \"m\"\n?Warnings\n",
+            "3:1: ?Warnings: answered in a session with --lint alone, without a name or an argument\n",
+        ),
+        (
             "m = AddModule \"m\"\nbit = MakeScalarType\na = AddInput m \"a\" bit\nb = AddInput m \"b\"\n",
             "5:19: AddInput: an argument is missing: AddInput owner name data_type\n",
         ),

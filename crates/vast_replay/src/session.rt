@@ -9,19 +9,21 @@ use std::io;
 use std::io::{BufRead, ErrorKind, Write};
 use vast_list::Talk;
 
-/// Answers each line of `input` by a line of JSON on `out`, written through at once, to the end of the input.
+/// Answers each line of `input` by a line of JSON on `out`, written through at once, to the end of the input; with `lint`
+/// each tells too what its call prints that is no SystemVerilog or Verilog, or that a tool refuses.
 ///
 /// A failed read (`read fault`), a failed write (`write fault`) and want of memory (`out of memory`) are told on `err` and
 /// end the run.
 pub fn answer_lines<R: BufRead, W: Write, E: Write>(
     alloc: Global,
+    lint: bool,
     input: &mut R,
     out: &mut W,
     err: &mut E,
 ) -> Outcome
     ensures { result ≡ Outcome.Made → E.contents err.new ≡ E.contents err.old }
 {
-    let mut talk = Talk::new(alloc);
+    let mut talk = talk_of(alloc, lint);
     for _ in 0..u64::MAX {
         let line = match read_line(alloc, input) {
             Ok(None) => return Outcome::Made,
@@ -39,6 +41,14 @@ pub fn answer_lines<R: BufRead, W: Write, E: Write>(
         }
     }
     fail(Failure::Lines, err)
+}
+
+fn talk_of(alloc: Global, lint: bool) -> Talk {
+    if lint {
+        Talk::with_lint(alloc)
+    } else {
+        Talk::new(alloc)
+    }
 }
 
 /// The next line without its line feed; `None` at the end.

@@ -15,7 +15,10 @@ pub(crate) enum Request<'a> {
     /// The table of calls as JSON.
     CallsJson,
     /// To answer each line of standard input at once.
-    Session,
+    Session {
+        /// Whether what its call prints is told too.
+        lint: bool,
+    },
     /// Lists of files; of standard input where there are none.
     Lists {
         /// What is printed of each list.
@@ -181,14 +184,19 @@ impl<'a> Seen<'a> {
             Some(mode) if self.map => Err(WordFault::Together("--map", mode.word())),
             Some(Mode::Check) => Ok(self.lists(Form::Faults)),
             Some(Mode::Plain) => Ok(self.lists(Form::Plain)),
+            Some(mode) if self.lint == Linting::Strict => {
+                Err(WordFault::Together("--strict", mode.word()))
+            }
+            Some(mode) if !self.files.is_empty() => Err(WordFault::WithFile(mode.word())),
+            Some(Mode::Session) => Ok(Request::Session {
+                lint: self.lint == Linting::Told,
+            }),
             Some(mode) if self.lint != Linting::Off => {
                 Err(WordFault::Together("--lint", mode.word()))
             }
-            Some(mode) if !self.files.is_empty() => Err(WordFault::WithFile(mode.word())),
             Some(Mode::Version) => Ok(Request::Version),
             Some(Mode::Calls) => Ok(Request::Calls),
             Some(Mode::CallsJson) => Ok(Request::CallsJson),
-            Some(Mode::Session) => Ok(Request::Session),
         }
     }
 
@@ -215,7 +223,8 @@ mod tests {
             Ok(Request::Version) => String::from_str(alloc, "version"),
             Ok(Request::Calls) => String::from_str(alloc, "calls"),
             Ok(Request::CallsJson) => String::from_str(alloc, "calls as JSON"),
-            Ok(Request::Session) => String::from_str(alloc, "session"),
+            Ok(Request::Session { lint: false }) => String::from_str(alloc, "session"),
+            Ok(Request::Session { lint: true }) => String::from_str(alloc, "session lint"),
             Ok(
                 Request::Lists {
                     form,
@@ -242,7 +251,7 @@ mod tests {
     #[test]
     fn words_ask_for_one_thing(rt: HostRuntime) {
         let alloc = rt.alloc();
-        let rows: [(&[&str], &str); 34] = [
+        let rows: [(&[&str], &str); 37] = [
             (&[], "Text false 0"),
             (&["a.list", "-"], "Text false 2"),
             (&["--again"], "Text true 0"),
@@ -286,9 +295,15 @@ mod tests {
             (&["--lint", "a.list"], "Text false 1 lint"),
             (&["--strict", "--lint", "--check"], "Faults false 0 strict"),
             (&["--lint", "--map", "--json"], "Json false 0 map lint"),
+            (&["--lint", "--session"], "session lint"),
+            (&["--session", "--lint", "--lint"], "session lint"),
             (
-                &["--lint", "--session"],
-                "--lint and --session exclude each other",
+                &["--strict", "--session"],
+                "--strict and --session exclude each other",
+            ),
+            (
+                &["--calls", "--lint"],
+                "--lint and --calls exclude each other",
             ),
             (&["--plain", "--lint", "a.list"], "Plain false 1 lint"),
             (

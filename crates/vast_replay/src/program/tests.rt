@@ -148,15 +148,95 @@ fn a_session_answers_each_line(rt: HostRuntime) {
         {\"line\":3,\"call\":\"AddModule\",\"step\":0}\n\
         {\"line\":4,\"call\":\"?ModuleName\",\"answer\":\"m\"}\n\
         {\"line\":5,\"title\":\"two\"}\n{\"line\":6,\"column\":1,\"cause\":\"form\",";
-    let outcome = answer_lines(alloc, &mut lines, &mut out, &mut err);
+    let outcome = answer_lines(alloc, false, &mut lines, &mut out, &mut err);
     assert_eq!(rt; outcome, Outcome::Made);
     assert!(rt; out.starts_with(wanted.as_bytes()));
     assert!(rt; out.ends_with(b"}\n"));
     assert!(rt; err.is_empty());
     let mut lines: &[u8] = b"verilog\n";
-    let outcome = answer_lines(alloc, &mut lines, &mut Closed, &mut err);
+    let outcome = answer_lines(alloc, false, &mut lines, &mut Closed, &mut err);
     assert_eq!(rt; outcome, Outcome::Failed);
     assert!(rt; err.as_slice() == "write fault\n".as_bytes());
+}
+
+/// What is answered to these lines.
+fn talked(alloc: Global, lint: bool, lines: &str) -> Vec<u8> {
+    let mut out: Vec<u8> = Vec::new(alloc);
+    let mut err: Vec<u8> = Vec::new(alloc);
+    let mut lines = lines.as_bytes();
+    let _ = answer_lines(alloc, lint, &mut lines, &mut out, &mut err);
+    out
+}
+
+const LINTED: &str = r#"systemverilog
+m = AddModule "m"
+a = AddWire m "wire" 0
+bit = MakeScalarType
+a = AddWire m "wire" bit
+b = AddWire m "b" bit
+x = AddAlwaysComb m
+s = StatementBlock x
+c = BlockAddCase s b
+?Warnings
+any = !LogicalOrReduce [ b b ] false
+sum = MakeAdd b b
+k = MakeIndexableExpression sum
+i = MakeIndex k 0
+CaseAddDefault c
+?Warnings
+== two
+verilog
+?Warnings
+AddModule "m"
+"#;
+
+#[test]
+fn a_session_with_a_lint_tells_what_calls_print(rt: HostRuntime) {
+    let refused =
+        r#"{"line":3,"call":"AddWire","step":1,"cause":"kind","words":"data_type is to be a type, and `0` is a module"}
+"#;
+    let wanted = r#"{"line":4,"call":"MakeScalarType","step":1}
+{"line":5,"call":"AddWire","step":2,"warnings":[{"line":5,"call":"AddWire","why":"a name that is a keyword is no SystemVerilog","tools":"Icarus, Verilator refuse it"}]}
+{"line":6,"call":"AddWire","step":3}
+{"line":7,"call":"AddAlwaysComb","step":4}
+{"line":8,"call":"StatementBlock","step":5}
+{"line":9,"call":"BlockAddCase","step":6}
+{"line":10,"call":"?Warnings","answer":[{"line":9,"call":"BlockAddCase","why":"a case without arms is no SystemVerilog","tools":"Icarus refuses it"}]}
+{"line":11,"call":"!LogicalOrReduce","step":7,"answer":"b || b"}
+{"line":12,"call":"MakeAdd","step":8}
+{"line":13,"call":"MakeIndexableExpression","step":9}
+{"line":14,"call":"MakeIndex","step":10,"warnings":[{"line":14,"call":"MakeIndex","text":"(b + b)[0]","why":"a select of a computed value is no SystemVerilog","tools":"Icarus, Verilator, Yosys refuse it"}]}
+{"line":15,"call":"CaseAddDefault","step":11}
+{"line":16,"call":"?Warnings","answer":[]}
+{"line":17,"title":"two"}
+{"line":18,"dialect":"verilog"}
+{"line":19,"call":"?Warnings","answer":[]}
+{"line":20,"call":"AddModule","step":0}
+"#;
+    let out = talked(rt.alloc(), true, LINTED);
+    let first =
+        "{\"line\":1,\"dialect\":\"systemverilog\"}\n{\"line\":2,\"call\":\"AddModule\",\"step\":0}\n";
+    assert!(rt; out.strip_prefix(first.as_bytes()).is_some());
+    let out = out.strip_prefix(first.as_bytes()).unwrap_or(b"");
+    assert!(rt; out.strip_prefix(refused.as_bytes()) == Some(wanted.as_bytes()));
+}
+
+#[test]
+fn warnings_are_asked_for_where_there_is_a_lint(rt: HostRuntime) {
+    let alloc = rt.alloc();
+    let told =
+        r#"{"line":2,"column":1,"call":"?Warnings","cause":"form","words":"answered in a session with --lint alone, without a name or an argument"}
+"#;
+    let out = talked(alloc, false, "verilog\n?Warnings\n");
+    assert!(rt; out.ends_with(told.as_bytes()));
+    let out = talked(alloc, true, "verilog\n?Warnings 1\n");
+    assert!(rt; out.ends_with(told.as_bytes()));
+    let out = talked(alloc, true, "verilog\nn = ?Warnings\n");
+    assert!(rt; out.ends_with(b"without a name or an argument\"}\n"));
+    let out = talked(alloc, true, "verilog\r\n?Warnings\r\n");
+    assert!(rt; out.ends_with(b"{\"line\":2,\"call\":\"?Warnings\",\"answer\":[]}\n"));
+    let out = talked(alloc, true, "?Warnings\n");
+    assert!(rt; out.starts_with(b"{\"line\":1,\"column\":1,\"cause\":\"form\","));
 }
 
 #[test]

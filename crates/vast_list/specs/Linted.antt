@@ -1,0 +1,32 @@
+-- A lint beside a session whose lines are answered one by one.
+use Rattle.std.specs.Prelude.{◌≡◌, ℕ, length, Option, Some, None, Result, Ok, Err, Bool, true, false, ⊤}
+use Rattle.vast_lint.specs.Lint.{counted}
+use Rattle.vast_list.specs.declared.fault.Fault.{Fault}
+use Rattle.vast_list.specs.declared.fault.Fault.TheVariants.{Line, Memory}
+use Rattle.vast_list.specs.declared.linted.SessionLint.{SessionLint}
+use Rattle.vast_list.specs.declared.session.Session.{Session}
+use Rattle.vast_list.specs.declared.talk.Talk.{Talk}
+
+-- The lint has counted so many answers, and has a name of a call for each.
+abbrev pub HasCounted : SessionLint → ℕ → Type 0
+HasCounted lint number = (counted lint.lint ≡ number) × (length lint.calls.items ≡ number)
+
+-- The lint has counted each answer of the session, so it tells each warning of the answer that shows it.
+abbrev pub IsLevel : SessionLint → Session → Type 0
+IsLevel lint session = HasCounted lint (length session.answers.items)
+
+-- Beside a session there is a lint exactly where one is asked for, and it is level with the session.
+abbrev pub AreBeside : Option Session → Option SessionLint → (has_lint : Bool) → Type 0
+AreBeside None None has_lint = ⊤
+AreBeside None (Some lint) has_lint = ⊥
+AreBeside (Some session) None has_lint = has_lint ≡ false
+AreBeside (Some session) (Some lint) has_lint = (has_lint ≡ true) × IsLevel lint session
+
+abbrev pub IsTalking : Talk → Type 0
+IsTalking talk = AreBeside talk.session talk.lint talk.has_lint
+
+-- Memory was refused.
+abbrev pub is_memory : {X : Type 0} → Result X Fault → Bool
+is_memory (Ok given) = false
+is_memory (Err (Line fault)) = false
+is_memory (Err Memory) = true

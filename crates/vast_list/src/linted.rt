@@ -1,0 +1,121 @@
+//! The lint beside a session.
+
+ghost use Rattle.std.specs.Prelude.{◌≡◌, ◌+◌, OnOk, length};
+ghost use Rattle.vast_lint.specs.Lint.{counted};
+ghost use Rattle.vast_list.specs.Linted.{HasCounted};
+
+use crate::line::{Call, split_line, text_of};
+use crate::session::Session;
+use crate::table::row_of;
+use crate::warnings::LineWarning;
+use std::alloc::{AllocError, Global};
+use vast_lint::{Lint, Warning};
+use vast_literal::VastFault;
+use vast_script::one;
+use xlsynth_vast::{Expr, VastFileType};
+
+/// What is kept of the calls of a session, to tell what they print that is no SystemVerilog or Verilog, or that a tool
+/// refuses.
+#[derive(Drop)]
+pub(crate) struct SessionLint {
+    lint: Lint,
+    /// The name of each answer's call.
+    calls: Vec<&'static str>,
+}
+
+impl SessionLint {
+    /// Beside a new session of the dialect. It takes no memory.
+    pub(crate) fn new(alloc: Global, dialect: VastFileType) -> SessionLint
+        ensures { HasCounted result 0 }
+    {
+        SessionLint {
+            lint: Lint::new(alloc, dialect),
+            calls: Vec::new(alloc),
+        }
+    }
+
+    /// The session's last answer is that of this line's call. Appends what the call prints.
+    ///
+    /// # Errors
+    /// Want of memory; the lint is then behind the session.
+    pub(crate) fn answered(
+        &mut self,
+        session: &Session,
+        line: &[u8],
+        call: Option<&Call>,
+        warnings: &mut Vec<LineWarning>,
+    ) -> Result<(), AllocError>
+        ensures lint { OnOk result (counted self.new.lint ≡ counted self.old.lint + 1) }
+        ensures calls { OnOk result
+            (length self.new.calls.items ≡ length self.old.calls.items + 1) }
+    {
+        self.calls.push(name_in(line))?;
+        match call {
+            Some(Call::Step(step)) => {
+                let told = self.lint.step(step)?;
+                self.tell(session, &told, warnings)
+            }
+            _ => self.lint.pass(),
+        }
+    }
+
+    /// Appends what would be told of the list at its end, if it ended here: what no later call has mended.
+    ///
+    /// # Errors
+    /// Want of memory.
+    pub(crate) fn end(
+        &self,
+        session: &Session,
+        warnings: &mut Vec<LineWarning>,
+    ) -> Result<(), AllocError> {
+        self.tell(session, &self.lint.end()?, warnings)
+    }
+
+    /// Appends the warnings, with their lines and calls and the texts that show them.
+    fn tell(
+        &self,
+        session: &Session,
+        told: &[Warning],
+        warnings: &mut Vec<LineWarning>,
+    ) -> Result<(), AllocError> {
+        let alloc = session.file().allocator();
+        for warning in told {
+            let call = self.calls.get(warning.number).copied().unwrap_or("");
+            warnings.push(LineWarning {
+                line: session.line_of(warning.number).unwrap_or(0),
+                call: String::from_str(alloc, call)?,
+                text: shown_text(session, warning.shown)?,
+                rule: warning.rule,
+            })?;
+        }
+        Ok(())
+    }
+}
+
+/// The name of the line's call.
+fn name_in(line: &[u8]) -> &'static str {
+    let Ok(text) = text_of(line) else {
+        return "";
+    };
+    row_of(split_line(text).1).map_or("", |row| row.name)
+}
+
+/// The text of the expression of this number; `None` where its text is refused.
+fn shown_text(session: &Session, shown: Option<usize>) -> Result<Option<String>, AllocError> {
+    let Some(place) = shown else {
+        return Ok(None);
+    };
+    let file = session.file();
+    let Ok(made) = one(file, session.answers(), place) else {
+        return Ok(None);
+    };
+    let made: Expr = made;
+    if !file.owns(&made) {
+        return Ok(None);
+    }
+    match file.emit_expression(&made) {
+        Ok(text) => Ok(Some(text)),
+        Err(VastFault::Refused(_)) => Ok(None),
+        Err(VastFault::Memory(error)) => Err(error),
+    }
+}
