@@ -14,13 +14,13 @@ use Rattle.vast_c.specs.declared.kept.Cause.TheVariants.{Refused, Condition, For
 use Rattle.vast_c.specs.declared.kept.Kept.{Kept}
 use Rattle.std.specs.Prelude.{Option, None, Some}
 
-behind : (a : Session) (given : List Given) (b : Session) (last : Given) (c : Session) → Gave a given b → Gives b c last → Gave a (given ++ last ∷ []) c
-behind a [] b last c same gives = (c, subst (λ (s : Session). Gives s c last) same gives, refl)
-behind a (first ∷ given) b last c gave gives = (gave.0, gave.1, behind gave.0 given b last c gave.2 gives)
+behind : (a : Session) (given : List Given) (b : Session) (line : List ℕ) (last : Given) (c : Session) → Gave a given b → Gives b c line last → Gave a (given ++ last ∷ []) c
+behind a [] b line last c same gives = (c, line, subst (λ (s : Session). Gives s c line last) same gives, refl)
+behind a (first ∷ given) b line last c gave gives = (gave.0, gave.1, gave.2, behind gave.0 given b line last c gave.3 gives)
 
 -- one line more gave what it gave
 pub gave_more : (a : Session) (taken : ℕ) (b c : Session) → GaveSome a taken b → GaveOne b c → GaveSome a (taken + 1) c
-gave_more a taken b c gave last = (gave.0 ++ last.0 ∷ [], omega (arith, length_push gave.0 last.0, gave.1), behind a gave.0 b last.0 c gave.2 last.1)
+gave_more a taken b c gave last = (gave.0 ++ last.1 ∷ [], omega (arith, length_push gave.0 last.1, gave.1), behind a gave.0 b last.0 last.1 c gave.2 last.2)
 
 -- the item behind the first n
 pub record Next {X : Type 0} (all : List X) (n : ℕ) (x : X) (xs : List X) : Type 0 where

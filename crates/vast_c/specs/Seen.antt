@@ -34,11 +34,11 @@ LeftIfAny before after (Some cause) = LeftBy before after cause
 -- Lines gave these, one after another.
 abbrev pub Gave : (before : Session) → List Given → (after : Session) → Type 0
 Gave before [] after = after ≡ before
-Gave before (given ∷ more) after = (between : Session) × Gives before between given × Gave between more after
+Gave before (given ∷ more) after = (between : Session) × (line : List ℕ) × Gives before between line given × Gave between more after
 
 -- One line gave something.
 abbrev pub GaveOne : (before after : Session) → Type 0
-GaveOne before after = (given : Given) × Gives before after given
+GaveOne before after = (line : List ℕ) × (given : Given) × Gives before after line given
 
 -- Lines of this number gave what they gave.
 abbrev pub GaveSome : (before : Session) → ℕ → (after : Session) → Type 0
