@@ -8,6 +8,7 @@ use Rattle.vast_core.specs.Nests.{FunctionRecord, declared_names as names_in_fun
 use Rattle.vast_core.specs.Bench.{Bench}
 use Rattle.vast_core.specs.DeclaredNames.{names_declared}
 use Rattle.vast_core.specs.Sound.{AreDistinct}
+use Rattle.vast_core.specs.FileTree.{families, family}
 use Rattle.vast_core.specs.Hoisting.{with_hoisted}
 
 -- Hoisting twice from one start is hoisting once.
@@ -31,3 +32,7 @@ pub record FunctionDeclaresDistinctly (f : FunctionRecord) : Type 0 where
 
 abbrev pub FunctionNamesAreDistinct : Bench → VastFunction → Type 0
 FunctionNamesAreDistinct b f = IfSome (slice_get b.functions (function_index f)) FunctionDeclaresDistinctly
+
+-- A container's tree is made of the trees of what it holds.
+abbrev pub ContainersUnfold : Bench → Type 0
+ContainersUnfold b = (i : ℕ) → families b i ≡ family b (families b) (slice_get b.nests i)

@@ -2,7 +2,7 @@
 
 ghost use Rattle.vast_core.specs.Bench.{OwnsFunction, OwnsModule};
 ghost use Rattle.vast_core.specs.Parents.{HasOneParent};
-ghost use Rattle.xlsynth_vast.specs.Laws.{HoistingAgain, ModuleNamesAreDistinct, FunctionNamesAreDistinct};
+ghost use Rattle.xlsynth_vast.specs.Laws.{ContainersUnfold, HoistingAgain, ModuleNamesAreDistinct, FunctionNamesAreDistinct};
 ghost use Rattle.xlsynth_vast.specs.Registers.{RegistersTakeTheirValues};
 
 use crate::file::VastFile;
@@ -45,3 +45,11 @@ pub fn function_names_are_distinct(file: &VastFile, function: VastFunction)
 pub fn registers_take_their_values()
     ensures { RegistersTakeTheirValues }
 {}
+
+/// In every file a container's tree is made of the trees of what it holds, however deep containers are nested: none is cut
+/// off.
+pub fn containers_unfold(file: &VastFile)
+    ensures { ContainersUnfold file.now }
+{
+    file.ast.file_is_sound();
+}
