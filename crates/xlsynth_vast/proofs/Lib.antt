@@ -18,3 +18,4 @@ pub mod RegisterValues
 pub mod Unseen
 pub mod UnseenNodes
 pub mod Callers
+mod Presence

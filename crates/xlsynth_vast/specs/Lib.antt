@@ -18,3 +18,4 @@ pub mod AddedRegisters
 pub mod RegisterSteps
 pub mod Conditions
 pub mod TreeCode
+pub mod Presence

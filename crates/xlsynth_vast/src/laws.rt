@@ -3,6 +3,7 @@
 ghost use Rattle.vast_core.specs.Bench.{OwnsFunction, OwnsModule};
 ghost use Rattle.vast_core.specs.Parents.{HasOneParent};
 ghost use Rattle.xlsynth_vast.specs.Laws.{ContainersUnfold, HoistingAgain, ModuleNamesAreDistinct, FunctionNamesAreDistinct};
+ghost use Rattle.xlsynth_vast.specs.Presence.{NothingIsMissing};
 ghost use Rattle.xlsynth_vast.specs.Registers.{RegistersTakeTheirValues};
 
 use crate::file::VastFile;
@@ -50,6 +51,14 @@ pub fn registers_take_their_values()
 /// off.
 pub fn containers_unfold(file: &VastFile)
     ensures { ContainersUnfold file.now }
+{
+    file.ast.file_is_sound();
+}
+
+/// In every file what its lists name is there: only a blank line is a blank line in the tree, a block's tree has the
+/// statements that the file has for it, and each port of a module is one of the file's.
+pub fn nothing_is_missing(file: &VastFile)
+    ensures { NothingIsMissing file.now }
 {
     file.ast.file_is_sound();
 }

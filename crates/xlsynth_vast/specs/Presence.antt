@@ -1,0 +1,55 @@
+-- Nothing that a file's lists name is missing from its tree: where a tree has a part for what is missing, none has it.
+use Rattle.std.specs.Prelude.{◌≡◌, ⊤, List, Some, IfSome, slice_get}
+use Rattle.vast_literal.specs.Tree.{BlankMember, BlankTree, BlankItem}
+use Rattle.vast_core.specs.declared.handle.ModulePort.{ModulePort}
+use Rattle.vast_core.specs.declared.handle.VastStatementBlock.{VastStatementBlock}
+use Rattle.vast_core.specs.declared.node.ElseIf.{ElseIf}
+use Rattle.vast_core.specs.declared.node.CaseArm.{CaseArm}
+use Rattle.vast_core.specs.Handles.{block_index, definition_index, port_index}
+use Rattle.vast_core.specs.Records.{PortRecord, DefinitionRecord, DefinedForm, MemberEntry, ParameterEntry, BlankEntry, ModuleRecord, FileEntry, FileBlankEntry}
+use Rattle.vast_core.specs.Nests.{StatementEntry, BlankStatement, ConditionalRecord, NestRecord, BlockRecord, ConditionalNestRecord, CaseNestRecord, LoopNestRecord, FunctionRecord, AlwaysRecord}
+use Rattle.vast_core.specs.Bench.{Bench}
+use Rattle.vast_core.specs.FileTree.{families, statement_in, statements_tree, block_tree, member_tree, item_tree}
+use Rattle.vast_core.specs.Sound.{Each}
+
+-- Only a blank line is a blank line in the tree.
+
+abbrev pub ItemIsThere : Bench → FileEntry → Type 0
+ItemIsThere b entry = item_tree b entry ≡ BlankItem → entry ≡ FileBlankEntry
+
+-- A parameter that is made by a definition has one of the file's.
+abbrev pub DefinitionIsThere : Bench → MemberEntry → Type 0
+DefinitionIsThere b (ParameterEntry local (DefinedForm d) value) = (found : DefinitionRecord) × (slice_get b.definitions (definition_index d) ≡ Some found)
+DefinitionIsThere b _ = ⊤
+
+abbrev pub MemberIsThere : Bench → MemberEntry → Type 0
+MemberIsThere b entry = (member_tree b entry ≡ BlankMember → entry ≡ BlankEntry) × DefinitionIsThere b entry
+
+abbrev pub StatementIsThere : Bench → StatementEntry → Type 0
+StatementIsThere b entry = statement_in b (families b) entry ≡ BlankTree → entry ≡ BlankStatement
+
+-- A block has the statements that the file has for it.
+abbrev pub BlockIsThere : Bench → VastStatementBlock → Type 0
+BlockIsThere b block = (statements : List StatementEntry) × (slice_get b.nests (block_index block) ≡ Some (BlockRecord statements)) × (block_tree b block ≡ statements_tree b statements)
+
+abbrev pub PortIsThere : Bench → ModulePort → Type 0
+PortIsThere b port = (found : PortRecord) × (slice_get b.ports (port_index port) ≡ Some found)
+
+abbrev pub ModuleIsThere : Bench → ModuleRecord → Type 0
+ModuleIsThere b m = Each (PortIsThere b) m.ports × Each (MemberIsThere b) m.members
+
+abbrev pub ConditionalIsThere : Bench → ConditionalRecord → Type 0
+ConditionalIsThere b c = BlockIsThere b c.consequent × Each (λ (arm : ElseIf). BlockIsThere b arm.block) c.else_ifs × IfSome c.otherwise (BlockIsThere b)
+
+abbrev pub ContainerIsThere : Bench → NestRecord → Type 0
+ContainerIsThere b (BlockRecord statements) = Each (StatementIsThere b) statements
+ContainerIsThere b (ConditionalNestRecord c) = ConditionalIsThere b c
+ContainerIsThere b (CaseNestRecord c) = Each (λ (arm : CaseArm). BlockIsThere b arm.block) c.arms
+ContainerIsThere b (LoopNestRecord l) = Each (MemberIsThere b) l.members
+
+pub record NothingIsMissing (b : Bench) : Type 0 where
+  pub items : Each (ItemIsThere b) b.items
+  pub modules : Each (ModuleIsThere b) b.modules
+  pub containers : Each (ContainerIsThere b) b.nests
+  pub functions : Each (λ (f : FunctionRecord). BlockIsThere b f.body) b.functions
+  pub always_blocks : Each (λ (a : AlwaysRecord). BlockIsThere b a.block) b.always_blocks
