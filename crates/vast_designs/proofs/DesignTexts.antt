@@ -1,6 +1,7 @@
 -- The printed text of each design.
 use Rattle.std.proofs.Common.{◌≡◌, ℕ, List, refl, ap, ◌∙◌, map, Result, Ok, Err, IfOk, IsOkAnd, String, Global, string_bytes}
 use Rattle.std.specs.Fmt.{digits}
+use Rattle.vast_literal.specs.Keyword.{is_keyword}
 use Rattle.vast_literal.specs.Pattern.{is_pattern, pattern}
 use Rattle.vast_literal.specs.declared.error.VastFault.{VastFault}
 use Rattle.vast_literal.specs.declared.kind.VastFileType.TheVariants.{SystemVerilog}
@@ -23,7 +24,7 @@ use Rattle.vast_script.specs.declared.step.Step.{Step}
 use Rattle.vast_script.specs.Arguments.{found, one, two, three, many}
 use Rattle.vast_script.specs.Script.{call_of, run, Going, called}
 use Rattle.vast_script.proofs.Calls.{left-called}
-use Rattle.vast_designs.specs.DesignCalls.{calls_text, passthrough_calls, cases_calls}
+use Rattle.vast_designs.specs.DesignCalls.{IsPlainDesign, calls_text, passthrough_calls, cases_calls}
 use Rattle.vast_designs.specs.DesignTexts.{passthrough_text, cases_text}
 
 -- A design's calls print its text.
@@ -35,6 +36,16 @@ passthrough_printed = refl
 pub cases_printed : calls_text cases_calls ≡ cases_text
 unfolding calls_text cases_calls cases_text found one two three many is_free is_pattern pattern already_declared declared_in_function tree families expr_in type_in print print_lines layout items_page item_page module_page header_page opening_page ports_page port_text entries_page body_page members_page member_page function_page local_page locals_page input_text inputs_text more_inputs_text function_body_page begin_end statement_page statements_page block_page arms_page list_text more_text expr_text declaration_text name_text type_text based_text packed_text unpacked_text highest_index_text with_dimensions spaced inner inner_lines lead lead_lines no_lines line above beside beside_lines written written_lines commented commented_lines plain_text ◌⊕◌ digits
 cases_printed = refl
+
+-- A design's calls build a plain file.
+
+pub passthrough_plain : IsPlainDesign passthrough_calls
+unfolding passthrough_calls found one two is_free is_keyword tree families expr_in type_in
+passthrough_plain = refl
+
+pub cases_plain : IsPlainDesign cases_calls
+unfolding cases_calls found one two three many is_free is_keyword is_pattern pattern already_declared declared_in_function tree families expr_in type_in
+cases_plain = refl
 
 -- A file that a run of the steps has built prints what their calls print.
 pub design-printed :

@@ -1,9 +1,10 @@
 -- The designs that are lists of calls, and what a list of calls prints.
-use Rattle.std.specs.Prelude.{ℕ, pos, true, false, List, [], ◌∷◌, codes}
+use Rattle.std.specs.Prelude.{◌≡◌, ℕ, pos, true, false, List, [], ◌∷◌, codes}
 use Rattle.vast_literal.specs.declared.kind.VastFileType.TheVariants.{SystemVerilog}
 use Rattle.vast_literal.specs.declared.kind.ModulePortDirection.TheVariants.{Input, Output}
 use Rattle.vast_literal.specs.declared.kind.DataKind.TheVariants.{Wire, Reg}
 use Rattle.vast_literal.specs.declared.kind.CaseKind.TheVariants.{CaseZ}
+use Rattle.vast_literal.specs.PlainFile.{is_plain_file}
 use Rattle.vast_core.specs.Nests.{CommentStatement}
 use Rattle.vast_core.specs.Growth.{decimal_literal}
 use Rattle.vast_core.specs.Bench.{start}
@@ -21,6 +22,10 @@ use Rattle.vast_script.specs.Statements.{add_function, function_add_variable, fu
 -- The text of the file that the calls build: the first that a program makes, in SystemVerilog.
 unfoldable pub calls_text : List Call → List ℕ
 calls_text calls = print (layout (tree (called (start SystemVerilog 1) calls)))
+
+-- That file is plain.
+abbrev pub IsPlainDesign : List Call → Type 0
+IsPlainDesign calls = is_plain_file (tree (called (start SystemVerilog 1) calls)) ≡ true
 
 unfoldable pub passthrough_calls : List Call
 passthrough_calls =

@@ -9,6 +9,7 @@ ghost use Rattle.vast_designs.specs.DesignCalls.{calls_text};
 
 mod clocked;
 mod encoder;
+pub mod laws;
 mod wires;
 
 pub use clocked::registers;
