@@ -31,7 +31,7 @@ use Rattle.xlsynth_vast.specs.declared.helpers.registers.RegisterScope.TheVarian
 use Rattle.xlsynth_vast.specs.declared.helpers.registers.Share.TheVariants.{Unreset}
 use Rattle.xlsynth_vast.specs.Expressions.{with_pos_edge}
 use Rattle.xlsynth_vast.specs.Registers.{unreset_value, assigned_all, by_reset, registers_member, OwnsScope, OwnsReset, OwnsRegister, HasUnused, unless_unresettable, maybe_reset_tree, register_trees}
-use Rattle.xlsynth_vast.specs.AddedRegisters.{with_all_assigned, with_register_block, with_clocked_at, with_registers, MayAddRegisters}
+use Rattle.xlsynth_vast.specs.AddedRegisters.{with_all_assigned, with_register_block, with_clocked_at, with_registers, AddsOneAlways, MayAddRegisters}
 use Rattle.xlsynth_vast.specs.RegisterSteps.{IsOlderScope}
 use Rattle.xlsynth_vast.proofs.RegisterParts.{Wider, wider-wider, wider_owned, wider_tree, registers-owned, registers-kept, get-unchanged, unused-none, unused-block, unused-wider, Changes, changes-then, changes-root}
 use Rattle.xlsynth_vast.proofs.RegisterBlocks.{Stands, all-assigned-changes, all-assigned-stands}
@@ -151,13 +151,19 @@ member-read scope clk reset registers b owned own h all =
 
 -- What the call answers.
 
+adds-one : (old new : Bench) (clk : Expr) (reset : Option Reset) (registers : List RegisterDefinition) (scope : RegisterScope) → new ≡ with_registers clk reset registers scope old → AddsOneAlways old new scope
+unfolding with_registers
+adds-one old new clk reset registers scope e =
+    let c : Bench = with_register_block reset registers old in
+    record { between = with_pos_edge clk c; unused = edge-unused old c clk (block-unused reset registers old); event = next_expr c; block = next_block old; after = e }
+
 pub registers-added :
     (old new : Bench) (clk : Expr) (reset : Option Reset) (registers : List RegisterDefinition) (scope : RegisterScope) → OwnsScope old scope → OwnsExpr old clk → IfSome reset (OwnsReset old) →
     All (OwnsRegister old) registers → 0 < length registers → unless_unresettable (maybe_reset_tree old reset) (register_trees old registers) ≡ Ok tt → new ≡ with_registers clk reset registers scope old →
     MayAddRegisters old new (Ok tt) clk reset registers scope
 registers-added old new clk reset [] scope owned own h all some rule e = absurd (omega (arith, some))
 registers-added old new clk reset (r ∷ rs) scope owned own h all some rule e =
-    record { allowed = rule; after = e; tree = rw e (member-read scope clk reset (r ∷ rs) old owned own h all) }
+    record { allowed = rule; after = e; frame = adds-one old new clk reset (r ∷ rs) scope e; tree = rw e (member-read scope clk reset (r ∷ rs) old owned own h all) }
 
 pub check-refused :
     (b : Bench) (fault : VastFault) (clk : Expr) (reset : Option Reset) (registers : List RegisterDefinition) (scope : RegisterScope) →

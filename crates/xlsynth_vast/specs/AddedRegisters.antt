@@ -127,10 +127,19 @@ with_clocked_at clk scope block b = with_clocked scope (next_expr b) block (with
 unfoldable pub with_registers : (clk : Expr) → Option Reset → List RegisterDefinition → RegisterScope → Bench → Bench
 with_registers clk reset registers scope b = with_clocked_at clk scope (next_block b) (with_register_block reset registers b)
 
+-- All else is as before: the file has an always block more, last in its scope, and what no list names.
+pub record AddsOneAlways (old new : Bench) (scope : RegisterScope) : Type 0 where
+  pub between : Bench
+  pub unused : HasUnused old between
+  pub event : Expr
+  pub block : VastStatementBlock
+  pub after : new ≡ with_clocked scope event block between
+
 -- The file has one always block more, whose tree is this.
 pub record AddsRegisters (old new : Bench) (clk : Expr) (reset : Option Reset) (registers : List RegisterDefinition) (scope : RegisterScope) : Type 0 where
   pub allowed : unless_unresettable (maybe_reset_tree old reset) (register_trees old registers) ≡ Ok tt
   pub after : new ≡ with_registers clk reset registers scope old
+  pub frame : AddsOneAlways old new scope
   pub tree : member_tree new (AlwaysEntry (next_always old)) ≡ registers_member (tree_of old clk) (maybe_reset_tree old reset) (register_trees old registers)
 
 -- No registers change nothing. Others add their member, or are refused as the rule says, and nothing changed, or want memory.
