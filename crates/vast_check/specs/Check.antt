@@ -1,24 +1,13 @@
 -- What is read and found, and what is written of it.
 use Rattle.std.specs.Prelude.{◌≡◌, ℕ, ◌≤◌, ◌+◌, ◌^◌, List, ◌++◌, length, codes, Option, IsUtf8}
 use Rattle.std.specs.Io.KnownBytes.{Appends, Consumes, IsAtEnd}
+use Rattle.vast_input.specs.Input.{GivesAll}
 use Rattle.vast_literal.specs.NormalFile.{NormalFile}
 use Rattle.vast_literal.specs.FileGrammar.{DerivesFile}
 use Rattle.vast_check.specs.declared.answer.Answer.{Answer}
 use Rattle.vast_check.specs.declared.answer.Answer.TheVariants.{Derived}
 use Rattle.vast_check.specs.declared.same.Found.{Found}
 use Rattle.vast_check.specs.declared.same.Found.TheVariants.{Same}
-
--- the reader gives these bytes, which are not too many, and then its end
-abbrev pub GivesAll : Option (List ℕ) → Option (List ℕ) → List ℕ → Type 0
-GivesAll before after bytes = Consumes before after bytes × IsAtEnd after × (length bytes ≤ 2 ^ 24)
-
--- the reader gives some bytes, and no more than one too many
-abbrev pub GivesSome : Option (List ℕ) → Option (List ℕ) → Type 0
-GivesSome before after = (bytes : List ℕ) × Consumes before after bytes × (length bytes ≤ 2 ^ 24 + 1)
-
--- the reader gives one byte too many
-abbrev pub GivesTooMany : Option (List ℕ) → Option (List ℕ) → Type 0
-GivesTooMany before after = (bytes : List ℕ) × Consumes before after bytes × (length bytes ≡ 2 ^ 24 + 1)
 
 -- the bytes are the UTF-8 of a text that the grammar derives
 abbrev pub IsDerived : List ℕ → Type 0

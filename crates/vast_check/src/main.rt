@@ -7,7 +7,6 @@ mod difference;
 mod expected;
 mod files;
 mod help;
-mod input;
 mod outcome;
 mod place;
 mod program;

@@ -2,16 +2,17 @@
 
 ghost use Rattle.std.specs.Prelude.{◌≡◌, ◌⊎◌, IfErr, IfOk, MatchResult, OnOk, string_bytes};
 ghost use Rattle.std.specs.Io.KnownBytes.{Appends};
-ghost use Rattle.vast_check.specs.Check.{GivesAll, IsDerived, derived_line, TellsDerived, TellsUnderived};
+ghost use Rattle.vast_input.specs.Input.{GivesAll};
+ghost use Rattle.vast_check.specs.Check.{IsDerived, derived_line, TellsDerived, TellsUnderived};
 
 use crate::answer::{Answer, answer_of};
 use crate::expected::Expected;
-use crate::input::{InputFault, read_input};
 use crate::outcome::Outcome;
 use crate::words::WordFault;
 use std::alloc::{AllocError, Global};
 use std::fmt::Write as _;
 use std::io::{Error, ErrorKind, Read, Write};
+use vast_input::{InputFault, read_input};
 
 /// So many characters of a token are told.
 const MOST_SHOWN: usize = 24;

@@ -5,7 +5,8 @@ use Rattle.std.specs.Io.KnownBytes.{Appends}
 use Rattle.std.specs.declared.alloc.AllocError.{AllocError}
 use Rattle.vast_literal.specs.NormalFile.{NormalFile}
 use Rattle.vast_literal.specs.FileGrammar.{DerivesFile}
-use Rattle.vast_demo.specs.Check.{IsDerived, IsDerivedText, IsAnswer, GivesSome, answer_line, AppendsPart, AppendsFront, CheckEnds, derived, not_derived, unwritten, unread, refused}
+use Rattle.vast_input.specs.Input.{GivesSome}
+use Rattle.vast_demo.specs.Check.{IsDerived, IsDerivedText, IsAnswer, answer_line, AppendsPart, AppendsFront, CheckEnds, derived, not_derived, unwritten, unread, refused}
 
 untrue : IsTrue false → ⊥
 untrue e = cc e
@@ -22,10 +23,6 @@ pub decided_answer :
     IfOk r (λ answer. IsTrue answer ↔ IsDerivedText text)
 decided_answer text (Ok answer) d = decided text answer d
 decided_answer text (Err e) d = tt
-
--- the bytes are the text's
-pub text_answer : (text bytes : List ℕ) (answer : Bool) → text ≡ bytes → IsUtf8 bytes → IsTrue answer ↔ IsDerivedText text → IsTrue answer ↔ IsDerived bytes
-text_answer text bytes answer same utf8 found = (λ h. (utf8, subst IsDerivedText same (found.0 h)), λ h. found.1 (subst IsDerivedText (sym same) h.1))
 
 pub ends_derived :
     (before after old new err : Option (List ℕ)) (answer : Bool) → IsAnswer before after answer → answer ≡ true → Appends old new (answer_line true) →

@@ -1,20 +1,9 @@
 -- What `check` reads, finds and writes.
 use Rattle.std.specs.Prelude.{◌≡◌, ◌↔◌, ℕ, ◌<◌, ◌≤◌, ◌+◌, ◌^◌, Bool, true, false, IsTrue, List, ◌++◌, length, codes, Option, IsUtf8}
 use Rattle.std.specs.Io.KnownBytes.{Consumes, Appends, IsAtEnd}
+use Rattle.vast_input.specs.Input.{GivesAll, GivesSome}
 use Rattle.vast_literal.specs.NormalFile.{NormalFile}
 use Rattle.vast_literal.specs.FileGrammar.{DerivesFile}
-
--- the reader gives these bytes, which are not too many, and then its end
-abbrev pub GivesAll : Option (List ℕ) → Option (List ℕ) → List ℕ → Type 0
-GivesAll before after bytes = Consumes before after bytes × IsAtEnd after × (length bytes ≤ 2 ^ 24)
-
--- the reader gives some bytes, and no more than one too many
-abbrev pub GivesSome : Option (List ℕ) → Option (List ℕ) → Type 0
-GivesSome before after = (bytes : List ℕ) × Consumes before after bytes × (length bytes ≤ 2 ^ 24 + 1)
-
--- the reader gives one byte too many
-abbrev pub GivesTooMany : Option (List ℕ) → Option (List ℕ) → Type 0
-GivesTooMany before after = (bytes : List ℕ) × Consumes before after bytes × (length bytes ≡ 2 ^ 24 + 1)
 
 -- the grammar derives the text
 abbrev pub IsDerivedText : List ℕ → Type 0

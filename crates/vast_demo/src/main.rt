@@ -2,7 +2,6 @@
 #![tactic(auto)]
 
 mod check;
-mod input;
 mod output;
 mod program;
 #[cfg(test)]

@@ -6,12 +6,12 @@ ghost use Rattle.vast_demo.specs.Check.{AppendsFront, CheckEnds};
 ghost use Rattle.vast_demo.specs.Words.{text_of, design_text, is_check};
 
 use crate::check::check;
-use crate::input::InputFault;
 use crate::output::{WriteFault, write_line};
 use std::alloc::Global;
 use std::fmt::Display;
 use std::io::{Read, Write};
 use vast_designs::{cases, passthrough, registers};
+use vast_input::InputFault;
 
 /// Prints the design that the one word names to `out`, or checks `input`, and answers the status.
 ///

@@ -1,8 +1,9 @@
-//! Reading a whole input.
+//! Reading a whole input, of no more bytes than a checked text may have.
+#![tactic(auto)]
 
 ghost use Rattle.std.specs.Prelude.{◌≡◌, IfOk, IsErrOf, OnErr};
-ghost use Rattle.vast_demo.specs.Check.{GivesAll, GivesSome, GivesTooMany};
-ghost use Rattle.vast_demo.specs.declared.input.InputFault.TheVariants.{Memory};
+ghost use Rattle.vast_input.specs.Input.{GivesAll, GivesSome, GivesTooMany};
+ghost use Rattle.vast_input.specs.declared.InputFault.TheVariants.{Memory};
 
 use std::alloc::{AllocError, Global};
 use std::io::{ErrorKind, Read};
@@ -16,7 +17,7 @@ const BUFFER_BYTES: usize = 1 << 16;
 
 /// Why an input was not read whole.
 #[derive(Drop)]
-pub(crate) enum InputFault {
+pub enum InputFault {
     /// A read failed with this kind of error.
     Read(ErrorKind),
     /// There are more than 16,777,216 bytes.
@@ -41,7 +42,7 @@ impl From<AllocError> for InputFault {
 /// # Errors
 /// A failed read, more than 16,777,216 bytes, no end after the last read, want of memory. No more than 16,777,217 bytes
 /// are read then.
-pub(crate) fn read_input<R: Read>(alloc: Global, input: &mut R) -> Result<Vec<u8>, InputFault>
+pub fn read_input<R: Read>(alloc: Global, input: &mut R) -> Result<Vec<u8>, InputFault>
     ensures all { IfOk result (λ bytes.
         GivesAll (R.remaining input.old) (R.remaining input.new) bytes.items) }
     ensures some { OnErr result (GivesSome (R.remaining input.old) (R.remaining input.new)) }
