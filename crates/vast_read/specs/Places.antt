@@ -1,8 +1,9 @@
 -- Places of a text between its tokens.
-use Rattle.std.specs.Prelude.{◌≡◌, ℕ, List, ◌++◌, drop}
+use Rattle.std.specs.Prelude.{◌≡◌, ◌⊎◌, ℕ, List, [], ◌∷◌, ◌++◌, drop, true}
 use Rattle.vast_literal.specs.Tokens.{Token}
-use Rattle.vast_literal.specs.Scan.{Gap}
+use Rattle.vast_literal.specs.Scan.{Gap, is_space}
 use Rattle.vast_read.specs.Lexed.{lex}
+use Rattle.vast_read.specs.Scanner.{byte_at}
 
 -- The tokens of a text are some and those of its rest.
 abbrev pub Ends : (text rest : List ℕ) → Type 0
@@ -11,3 +12,11 @@ Ends text rest = (before : List Token) × (lex Gap text ≡ before ++ lex Gap re
 -- The tokens of a text are some and those from this place on: no token goes over it.
 abbrev pub IsBetweenTokens : (text : List ℕ) → (place : ℕ) → Type 0
 IsBetweenTokens text place = Ends text (drop place text)
+
+-- The tokens of a text are its first and those of the rest; where it has none, nothing is left.
+abbrev pub IsBehindFirst : (text rest : List ℕ) → Type 0
+IsBehindFirst text rest = ((token : Token) × (lex Gap text ≡ token ∷ lex Gap rest)) ⊎ ((lex Gap text ≡ []) × (rest ≡ []))
+
+-- No white space stands at the front.
+abbrev pub BeginsWithoutSpace : List ℕ → Type 0
+BeginsWithoutSpace text = is_space (byte_at text 0) ≡ true → text ≡ []

@@ -1,5 +1,5 @@
 -- What stands at the front of a text, as the scan of the text says it.
-use Rattle.std.specs.Prelude.{◌≡◌, ◌<◌, ◌≤◌, ◌+◌, ◌-◌, ℕ, List, [], ◌∷◌, length, take, drop, get_or, Bool, not, ◌||◌, ◌&&◌, cond, eqb, Option, Some, None}
+use Rattle.std.specs.Prelude.{◌≡◌, ◌<◌, ◌≤◌, ◌+◌, ◌-◌, ⊤, ℕ, List, [], ◌∷◌, length, take, drop, get_or, Bool, not, ◌||◌, ◌&&◌, cond, eqb, Option, Some, None}
 use Rattle.std.specs.Str.{IsUtf8, IsCharBoundary}
 use Rattle.vast_literal.specs.Tokens as to
 use Rattle.vast_literal.specs.Scan.{is_letter, is_word_byte, is_digit, is_based_digit, is_radix, is_space, Gap, AfterTick, InComment, Pending, Step, keep, give, fail}
@@ -30,6 +30,12 @@ abbrev pub Fronts : Front → List ℕ → Type 0
 Fronts (front.Token t rest) text = (lex Gap text ≡ (token_view t ∷ lex Gap rest.now)) × (length rest.now < length text)
 Fronts (front.Gap rest) text = (lex Gap text ≡ lex Gap rest.now) × (length rest.now < length text)
 Fronts front.Unspelled text = lex Gap text ≡ (unspelled ∷ [])
+
+-- It is white space or a comment.
+abbrev pub IsGap : Front → Type 0
+IsGap (front.Token t rest) = ⊥
+IsGap (front.Gap rest) = ⊤
+IsGap front.Unspelled = ⊥
 
 -- Whether a byte begins a sign or nothing.
 abbrev pub starts_sign : ℕ → Bool

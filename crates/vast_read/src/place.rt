@@ -1,16 +1,16 @@
 //! Where a text is no longer one that the grammar derives.
 
-ghost use Rattle.std.specs.Prelude.{◌≡◌, ℕ, List, ◌++◌, IfErr, IfOk, IfSome, MatchOption, MatchResult, IsCharBoundary};
+ghost use Rattle.std.specs.Prelude.{◌≡◌, ◌⊎◌, ℕ, List, [], ◌++◌, IfErr, IfOk, IfSome, MatchOption, MatchResult, IsCharBoundary};
 ghost use Rattle.vast_literal.specs.FileGrammar.{IsFile, DerivesFile};
 ghost use Rattle.vast_literal.specs.NormalFile as normal;
 ghost use Rattle.vast_literal.specs.Scan.{Gap};
 ghost use Rattle.vast_read.specs.Lexed.{lex};
-ghost use Rattle.vast_read.specs.Places.{Ends, IsBetweenTokens};
+ghost use Rattle.vast_read.specs.Places.{BeginsWithoutSpace, IsBehindFirst, IsBetweenTokens};
 
 use crate::build::{BuildFiles, Unbuilt};
 use crate::fault::Fault;
 use crate::reader::Reader;
-use crate::scanner::{behind_first, from_first};
+use crate::scanner::first_and_behind;
 use std::alloc::{AllocError, Global};
 
 /// The place of the token at which no rule of the grammar goes on, where it derives no file from this text.
@@ -63,9 +63,10 @@ fn file_or_place<'t, B: BuildFiles<'t>>(
 
 /// The first token of a text, as it is written, with what stands before it; all of it, where no token fits.
 pub fn first_token(text: &str) -> &str
-    ensures { (rest : List ℕ) × (text.now ≡ result.now ++ rest) }
+    ensures { (rest : List ℕ) × (text.now ≡ result.now ++ rest) × (IsBehindFirst text.now rest ⊎ (rest ≡ [])) }
 {
-    match text.strip_suffix(behind_first(text)) {
+    let (_, behind) = first_and_behind(text);
+    match text.strip_suffix(behind) {
         Some(token) => token,
         None => text,
     }
@@ -73,14 +74,15 @@ pub fn first_token(text: &str) -> &str
 
 /// The text from its first token on; nothing, where it has none.
 pub fn from_first_token(text: &str) -> &str
-    ensures { Ends text.now result.now }
+    ensures tokens { lex Gap result.now ≡ lex Gap text.now }
+    ensures front { BeginsWithoutSpace result.now }
 {
-    from_first(text)
+    first_and_behind(text).0
 }
 
 /// What is behind the first token of a text; nothing, where it has none, or no token fits.
 pub fn behind_first_token(text: &str) -> &str
-    ensures { Ends text.now result.now }
+    ensures { IsBehindFirst text.now result.now }
 {
-    behind_first(text)
+    first_and_behind(text).1
 }

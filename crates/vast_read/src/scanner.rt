@@ -1,10 +1,10 @@
 //! The scan of a text, token by token.
 
-ghost use Rattle.std.specs.Prelude.{◌≡◌, ◌<◌, length};
-ghost use Rattle.vast_literal.specs.Scan.{Gap};
+ghost use Rattle.std.specs.Prelude.{◌≡◌, ◌<◌, length, true};
+ghost use Rattle.vast_literal.specs.Scan.{Gap, is_space};
 ghost use Rattle.vast_read.specs.Lexed.{lex};
 ghost use Rattle.vast_read.specs.Position.{position_view};
-ghost use Rattle.vast_read.specs.Scanner.{Fronts};
+ghost use Rattle.vast_read.specs.Scanner.{Fronts, IsGap, byte_at};
 
 use crate::scanner::class::{Class, is_digit, is_letter, is_space};
 use crate::scanner::front::Front;
@@ -25,7 +25,7 @@ mod sign;
 mod word;
 
 pub(crate) use keyword::word_token;
-pub(crate) use place::{behind_first, from_first, place_before};
+pub(crate) use place::{first_and_behind, place_before};
 pub(crate) use position::Position;
 
 /// The first token of a text, and what is behind it; where no token fits, one that stands for what is left. It takes no
@@ -56,16 +56,17 @@ pub(crate) fn first_of<'t>(text: &'t str) -> Position<'t>
 /// What stands at the front of a text.
 fn front_of<'t>(text: &'t str) -> Front<'t>
     requires { 0 < length text.now }
-    ensures { Fronts result text.now }
+    ensures front { Fronts result text.now }
+    ensures space { is_space (byte_at text.now 0) ≡ true → IsGap result }
 {
     let first = byte_at(text, 0);
-    if is_letter(first) {
+    if is_space(first) {
+        let (_, rest) = text.split_at(run_end(text, 1, Class::Space));
+        Front::Gap(rest)
+    } else if is_letter(first) {
         word(text)
     } else if is_digit(first) {
         number(text)
-    } else if is_space(first) {
-        let (_, rest) = text.split_at(run_end(text, 1, Class::Space));
-        Front::Gap(rest)
     } else if first == b'$' {
         system_word(text)
     } else if first == b'`' {

@@ -1,7 +1,9 @@
 //! Places of a text by what is behind them.
 
-ghost use Rattle.std.specs.Prelude.{IsCharBoundary};
-ghost use Rattle.vast_read.specs.Places.{Ends, IsBetweenTokens};
+ghost use Rattle.std.specs.Prelude.{◌≡◌, IsCharBoundary};
+ghost use Rattle.vast_literal.specs.Scan.{Gap};
+ghost use Rattle.vast_read.specs.Lexed.{lex};
+ghost use Rattle.vast_read.specs.Places.{BeginsWithoutSpace, Ends, IsBehindFirst, IsBetweenTokens};
 
 use crate::scanner::front::Front;
 use crate::scanner::front_of;
@@ -47,24 +49,19 @@ fn place_of(text: &str, rest: &str) -> usize
     }
 }
 
-/// The text from its first token on; nothing, where it has none.
-pub(crate) fn from_first<'t>(text: &'t str) -> &'t str
-    ensures { Ends text.now result.now }
+/// The text from its first token on, and what is behind that token; nothing, where there is none.
+pub(crate) fn first_and_behind<'t>(text: &'t str) -> (&'t str, &'t str)
+    ensures tokens { lex Gap result.0.now ≡ lex Gap text.now }
+    ensures front { BeginsWithoutSpace result.0.now }
+    ensures behind { IsBehindFirst text.now result.1.now }
 {
-    from_token(text, usize::MAX)
-}
-
-/// What is behind the first token of a text; nothing, where it has none, or no token fits.
-pub(crate) fn behind_first<'t>(text: &'t str) -> &'t str
-    ensures { Ends text.now result.now }
-{
-    let rest = from_first(text);
-    if rest.is_empty() {
-        return rest;
+    let mut rest = text;
+    while !rest.is_empty() {
+        match front_of(rest) {
+            Front::Gap(behind) => rest = behind,
+            Front::Token(_, behind) => return (rest, behind),
+            Front::Unspelled => return (rest, ""),
+        }
     }
-    match front_of(rest) {
-        Front::Token(_, behind) => behind,
-        Front::Gap(behind) => behind,
-        Front::Unspelled => "",
-    }
+    (rest, rest)
 }

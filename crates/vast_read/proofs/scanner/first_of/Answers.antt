@@ -6,7 +6,7 @@ use Rattle.vast_read.proofs.scanner.first_of.Goals as goal
 
 pub returns-in-Unspelled : goal.returns-in-Unspelled
 unfolding lex
-returns-in-Unspelled c = sym (c.loop-rest.invariant.0 ∙ c.in-Unspelled.ensures)
+returns-in-Unspelled c = sym (c.loop-rest.invariant.0 ∙ c.in-Unspelled.ensures.front)
 
 pub returns : goal.returns
 returns c =

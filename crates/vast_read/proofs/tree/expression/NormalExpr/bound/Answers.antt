@@ -18,7 +18,8 @@ returns-then-is_bounded c =
     let k : is_bounded c.args.name.now c.in-Binary.sign (view c.in-Binary.left.value) ≡ true = cc (h, d) in
     let a = bound_given c.args.name.now c.in-Binary.sign (view c.in-Binary.left.value) (view c.in-Binary.right.value) k in
     let i = c.into_inner.ensures in
-    rw (c.in-Binary.is, b, i) a
+    let right : c.into_inner.result ≡ c.in-Binary.right.value = cc (i, c.in-Binary.right-is) in
+    rw (right, c.in-Binary.is, b) a
 
 pub returns-in-Binary : goal.returns-in-Binary
 returns-in-Binary c =

@@ -1,0 +1,8 @@
+-- The text of a word, wherever it lies.
+use Rattle.std.specs.Prelude.{ℕ, List, string_bytes}
+use Rattle.vast_read.specs.declared.word.Kept.{Kept}
+use Rattle.vast_read.specs.declared.word.Kept.TheVariants.{Short, Long}
+
+abbrev pub kept_text : Kept → List ℕ
+kept_text (Short text) = text
+kept_text (Long text) = string_bytes text.value
