@@ -13,6 +13,7 @@ use Rattle.vast_list.specs.Lines.{BeginsWithDialect, line_texts}
 use Rattle.vast_list.specs.Output.{is_made}
 use Rattle.vast_list.proofs.Outputs.{lines-next}
 use Rattle.vast_list.specs.Session.{IsTextOf}
+use Rattle.vast_list.specs.Written.{meaning}
 
 -- the pieces of the end, one behind the other
 pub ends_with : (old named told line value : List ℕ) → named ≡ old ++ codes ",\"text\":" → told ≡ named ++ value → line ≡ told ++ codes "}\n" → EndsWithText value line
@@ -32,7 +33,7 @@ pub is_json :
     (verdict : Verdict) (lines behind : List (List ℕ)) (dialect : VastFileType) (answers : Answers) (line : List ℕ) → BeginsWithDialect lines dialect behind → AreAnswers dialect behind answers →
     EndsWithSession verdict answers.session line → (IsTrue (is_made verdict) → IsTrue (is_made answers.told.verdict)) → IsListJson verdict lines line
 is_json Made lines behind dialect answers line begun are ends made =
-    (ends.0, (dialect, behind, begun, answers.session.file, answers.session.answers.items, are (made refl), ends.1), ends.2)
+    (ends.0, (dialect, behind, begun, answers.session.file, answers.session.answers.items, meaning answers.session.names, (are (made refl)).0, ends.1), ends.2)
 is_json Refused lines behind dialect answers line begun are ends made = ends
 is_json NotInForm lines behind dialect answers line begun are ends made = ends
 

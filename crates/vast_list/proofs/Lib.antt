@@ -3,6 +3,7 @@ mod JsonLaws
 pub mod Words
 pub mod Quoted
 pub mod LineParts
+pub mod Entered
 pub mod Sessions
 pub mod Built
 pub mod JsonLines

@@ -7,10 +7,11 @@ use Rattle.vast_literal.specs.declared.kind.VastFileType.{VastFileType}
 use Rattle.vast_list.specs.declared.answering.Answering.{Answering}
 use Rattle.vast_list.specs.declared.session.Session.{Session}
 use Rattle.vast_list.specs.declared.tries.Tries.{Tries}
-use Rattle.vast_list.specs.Built.{LinesBuild, TakesLine}
+use Rattle.vast_list.specs.Built.{HasBuilt, TakesLine}
 use Rattle.vast_list.proofs.Built.{lines-more}
 use Rattle.vast_list.specs.Lines.{BeginsWithDialect, Passed, dialect_word, line_kind, line_texts, without_return}
 use Rattle.vast_list.specs.Output.{header_line, BeginsWithHeader, IsAnswered, IsDesign, IsFinished, IsOutput, Prints, TakesOn, is_again}
+use Rattle.vast_list.specs.Written.{meaning}
 
 pub header_begins : (title line : List ℕ) → line ≡ header_line title → BeginsWithHeader title line
 header_begins title line e = ([], e ∙ sym (append-nil (header_line title)))
@@ -48,7 +49,7 @@ pub is_output :
     IsAnswered tries title dialect behind answering → IsFinished title answering output → IsOutput tries title lines output
 is_output tries (Some title) lines behind dialect answering output begun answered finished = finished
 is_output tries None lines behind dialect answering output begun answered finished =
-    (dialect, behind, begun, answering.session.file, answering.session.answers.items, answered refl finished.0, finished.1)
+    (dialect, behind, begun, answering.session.file, answering.session.answers.items, meaning answering.session.names, (answered refl finished.0).0, finished.1)
 
 pub ruleset outputs = (is_output)
 
@@ -63,7 +64,7 @@ passed-more lines i line l at h k = rw (texts-more lines i line l at) (All-push 
 
 pub lines-next :
     (again : Bool) (dialect : VastFileType) (lines : List (ℕ × Bor (List ℕ))) (i : ℕ) (line : ℕ × Bor (List ℕ)) (old new : Session) → i < length lines → line ≡ get_or lines i line →
-    LinesBuild again dialect (line_texts (take i lines)) old.file old.answers.items → TakesLine again old new line.1.now → LinesBuild again dialect (line_texts (take (i + 1) lines)) new.file new.answers.items
+    HasBuilt again dialect (line_texts (take i lines)) old → TakesLine again old new line.1.now → HasBuilt again dialect (line_texts (take (i + 1) lines)) new
 lines-next again dialect lines i line old new l at h takes = rw (texts-more lines i line l at) (lines-more again dialect (line_texts (take i lines)) line.1.now old new h takes)
 
 -- Of a list without a title that is not at fault, one line more is taken.

@@ -24,10 +24,12 @@ use Rattle.vast_list.specs.declared.arguments.Known.{Known}
 use Rattle.vast_list.specs.declared.line.Line.{Line as ReadLine}
 use Rattle.vast_list.specs.declared.names.Named.{Named}
 use Rattle.std.specs.BTreeMap.{BTreeMap}
-use Rattle.vast_list.specs.Lines.{behind_call, line_arguments, without_return}
+use Rattle.std.specs.Prelude.{Option, option_copied}
+use Rattle.vast_list.specs.Lines.{behind_call, line_arguments, line_name, text_name, without_return}
+use Rattle.vast_list.specs.Names.{IsFree}
 use Rattle.vast_list.specs.Helpers.{Helps, IsKept}
 use Rattle.vast_list.specs.CallNames.{call_name}
-use Rattle.vast_list.specs.Session.{Calls, HasMade, IsLeft, IsMade, IsRead, IsTextOf, IsToldAs, IsWrittenIn}
+use Rattle.vast_list.specs.Session.{Calls, Enters, HasMade, IsFileLeft, IsLeft, IsMade, IsRead, IsTextOf, IsToldAs, IsWrittenIn}
 use Rattle.vast_list.specs.Written.{meaning}
 
 pub nodes-unused : (old new : Bench) → HasMoreNodes old new → HasUnused old new
@@ -58,7 +60,7 @@ kept_call : (old new : Bench) (answers : List Answer) (fault : StepFault) (call 
 kept_call old new answers fault (StepCall step) h = kept_same old new fault h.1
 kept_call old new answers fault (HelperCall helper) h = kept_helper old new answers fault helper h
 
-left_kept : (old new : Session) (fault : StepFault) (told : Fault) → IsKept old.file new.file fault → new.answers.items ≡ old.answers.items → IsToldAs fault told → IsLeft old new told
+left_kept : (old new : Session) (fault : StepFault) (told : Fault) → IsKept old.file new.file fault → new.answers.items ≡ old.answers.items → IsToldAs fault told → IsFileLeft old new told
 left_kept old new NoAnswer (Line f) k a t = (k, a)
 left_kept old new NoAnswer Memory k a t = (ap tree k, a)
 left_kept old new WrongKind (Line f) k a t = (k, a)
@@ -67,7 +69,7 @@ left_kept old new Condition (Line f) k a t = (k, a)
 left_kept old new Condition Memory k a t = (ap tree k, a)
 left_kept old new (Refused r) (Line f) k a t = (k, a)
 left_kept old new (Refused r) Memory k a t = (ap tree k, a)
-left_kept old new OutOfMemory told k a t = subst (λ (f : Fault). IsLeft old new f) (sym t) (k.0, a)
+left_kept old new OutOfMemory told k a t = subst (λ (f : Fault). IsFileLeft old new f) (sym t) (k.0, a)
 
 unused_kept : (old new : Bench) (fault : StepFault) → IsKept old new fault → HasUnused old new
 unused_kept old new NoAnswer k = same-unused old new k
@@ -79,14 +81,14 @@ unused_kept old new OutOfMemory k = k.1
 pub unused_call : (old new : Bench) (answers : List Answer) (call : Call) (fault : StepFault) → Calls old new answers (Err fault) call → HasUnused old new
 unused_call old new answers call fault h = unused_kept old new fault (kept_call old new answers fault call h)
 
-pub left_call : (old new : Session) (call : Call) (fault : StepFault) (told : Fault) → Calls old.file new.file old.answers.items (Err fault) call → new.answers.items ≡ old.answers.items → IsToldAs fault told → IsLeft old new told
+pub left_call : (old new : Session) (call : Call) (fault : StepFault) (told : Fault) → Calls old.file new.file old.answers.items (Err fault) call → new.answers.items ≡ old.answers.items → IsToldAs fault told → IsFileLeft old new told
 left_call old new call fault told h a t = left_kept old new fault told (kept_call old.file new.file old.answers.items fault call h) a t
 
-pub left_same : (old new : Session) (fault : Fault) → new.file ≡ old.file → new.answers.items ≡ old.answers.items → IsLeft old new fault
-left_same old new (Line f) e a = (e, a)
-left_same old new Memory e a = (ap tree e, a)
+pub file_same : (old new : Session) (fault : Fault) → new.file ≡ old.file → new.answers.items ≡ old.answers.items → IsFileLeft old new fault
+file_same old new (Line f) e a = (e, a)
+file_same old new Memory e a = (ap tree e, a)
 
-pub ruleset faults = (left_call, left_same, unused_call, same-unused)
+pub ruleset faults = (left_call, file_same, unused_call, same-unused)
 
 pub has_made :
     (old new : Session) (call : Call) (name text line : List ℕ) → IsMade old new call → call_name call ≡ name → IsWrittenIn old call (behind_call text) → text ≡ without_return line →
@@ -100,6 +102,23 @@ pub read_known :
 read_known known session text line n s h =
     subst (λ (skipped : List ℕ). IsRead (meaning session.names) skipped text line) s
     (subst (λ (names : BTreeMap (String Global) Named). IsRead (meaning names) known.skipped.now text line) n h)
+
+pub left_same :
+    (old new : Session) (fault : Fault) → new.file ≡ old.file → new.answers.items ≡ old.answers.items → meaning new.names ≡ meaning old.names → new.skipped.items ≡ old.skipped.items → IsLeft old new fault
+left_same old new fault e a n s = (file_same old new fault e a, (n, s))
+
+-- The name that was read is the line's, and stands for nothing so far.
+name_read : (named : List ℕ → Option Named) (skipped text line : List ℕ) (read : ReadLine) → IsRead named skipped text read → text ≡ without_return line → option_copied read.name ≡ line_name line
+name_read named skipped text line read r e = r.2 ∙ ap text_name e
+
+pub free_read : (named : List ℕ → Option Named) (skipped text : List ℕ) (read : ReadLine) → IsRead named skipped text read → IsFree named (option_copied read.name)
+free_read named skipped text read r = subst (λ (name : Option (List ℕ)). IsFree named name) (sym r.2) r.3
+
+-- The line's name was entered.
+pub enters_read :
+    (old new : Session) (text line : List ℕ) (read : ReadLine) (meant : Named) → IsRead (meaning old.names) old.skipped.items text read → text ≡ without_return line →
+    Enters old new (option_copied read.name) meant → Enters old new (line_name line) meant
+enters_read old new text line read meant r e h = subst (λ (name : Option (List ℕ)). Enters old new name meant) (name_read (meaning old.names) old.skipped.items text line read r e) h
 
 pub ruleset lines = (left_same, has_made, same-unused)
 

@@ -7,7 +7,7 @@ use Rattle.vast_list.specs.declared.json_line.Answers.{Answers}
 use Rattle.vast_list.specs.declared.output.Verdict.{Verdict}
 use Rattle.vast_list.specs.declared.output.Verdict.TheVariants.{Made, Refused, NotInForm}
 use Rattle.vast_list.specs.declared.session.Session.{Session}
-use Rattle.vast_list.specs.Built.{IsListText, LinesBuild, TakesLine}
+use Rattle.vast_list.specs.Built.{HasBuilt, IsListText, TakesLine}
 use Rattle.vast_list.specs.Json.{json_text}
 use Rattle.vast_list.specs.Output.{is_made}
 use Rattle.vast_list.specs.Session.{IsTextOf}
@@ -40,4 +40,4 @@ pub record AnswersOn (old new : Answers) (line : List ℕ) : Type 0 where
 
 -- All lines were taken; without a fault, the file is what they build.
 abbrev pub AreAnswers : VastFileType → (lines : List (List ℕ)) → Answers → Type 0
-AreAnswers dialect lines answers = IsTrue (is_made answers.told.verdict) → LinesBuild false dialect lines answers.session.file answers.session.answers.items
+AreAnswers dialect lines answers = IsTrue (is_made answers.told.verdict) → HasBuilt false dialect lines answers.session

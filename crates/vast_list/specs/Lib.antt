@@ -5,6 +5,7 @@ pub mod Helpers
 pub mod CallNames
 pub mod CallArguments
 pub mod Written
+pub mod Names
 pub mod Session
 pub mod Built
 pub mod JsonLine

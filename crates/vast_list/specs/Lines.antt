@@ -58,6 +58,10 @@ is_named text = is_equals_front (behind_word text)
 abbrev pub call_word : List ℕ → List ℕ
 call_word text = if is_named text then first_word (drop 2 (behind_word text)) else first_word text
 
+-- The name of the line's answer, if it has one.
+abbrev pub text_name : List ℕ → Option (List ℕ)
+text_name text = if is_named text then Some (first_word text) else None
+
 -- What stands behind the call's name, its space included.
 
 abbrev pub behind_first : List ℕ → List ℕ
@@ -80,7 +84,11 @@ line_kind line = text_kind (without_return line)
 abbrev pub line_word : List ℕ → List ℕ
 line_word line = call_word (without_return line)
 
--- What stands behind it: the arguments, with a space before each.
+-- The name of its answer, if it has one.
+abbrev pub line_name : List ℕ → Option (List ℕ)
+line_name line = text_name (without_return line)
+
+-- What stands behind the call's name: the arguments, with a space before each.
 abbrev pub line_arguments : List ℕ → List ℕ
 line_arguments line = behind_call (without_return line)
 

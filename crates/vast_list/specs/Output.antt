@@ -8,7 +8,7 @@ use Rattle.vast_list.specs.declared.output.Verdict.{Verdict}
 use Rattle.vast_list.specs.declared.output.Verdict.TheVariants.{Made, Refused, NotInForm}
 use Rattle.vast_list.specs.declared.tries.Tries.{Tries}
 use Rattle.vast_list.specs.declared.tries.Tries.TheVariants.{Once, Again}
-use Rattle.vast_list.specs.Built.{IsListText, LinesBuild, TakesLine}
+use Rattle.vast_list.specs.Built.{HasBuilt, IsListText, TakesLine}
 use Rattle.vast_list.specs.Session.{IsTextOf}
 
 -- the line before a list
@@ -62,4 +62,4 @@ IsFinished None answering output = IsDesign answering output
 -- All lines were taken, those behind the dialect's; without a title and a fault, the file is what they build.
 abbrev pub IsAnswered : Tries → Option (Bor (List ℕ)) → VastFileType → (lines : List (List ℕ)) → Answering → Type 0
 IsAnswered tries title dialect lines answering =
-    is_some title ≡ false → IsTrue (is_made answering.told.verdict) → LinesBuild (is_again tries) dialect lines answering.session.file answering.session.answers.items
+    is_some title ≡ false → IsTrue (is_made answering.told.verdict) → HasBuilt (is_again tries) dialect lines answering.session

@@ -1,5 +1,5 @@
 -- What a line of a list does to a session: to its file and the answers so far.
-use Rattle.std.specs.Prelude.{◌≡◌, ℕ, List, [], ◌∷◌, ◌++◌, Option, None, Result, Ok, Err, ⊤}
+use Rattle.std.specs.Prelude.{◌≡◌, ◌⊎◌, ℕ, List, [], ◌∷◌, ◌++◌, length, Option, None, option_copied, Result, Ok, Err, ⊤}
 use Rattle.vast_core.specs.Bench.{Bench}
 use Rattle.vast_core.specs.FileTree.{tree}
 use Rattle.vast_literal.specs.Tree.{FileTree}
@@ -21,10 +21,12 @@ use Rattle.vast_list.specs.declared.session.Given.{Given}
 use Rattle.vast_list.specs.declared.session.Given.TheVariants.{Nothing, Step, Helper, Answer as Answered}
 use Rattle.vast_list.specs.declared.session.Session.{Session}
 use Rattle.vast_list.specs.declared.names.Named.{Named}
+use Rattle.vast_list.specs.declared.names.Named.TheVariants.{Handle, Skipped}
 use Rattle.vast_list.specs.CallArguments.{call_pieces}
 use Rattle.vast_list.specs.CallNames.{call_name}
 use Rattle.vast_list.specs.Helpers.{Helps}
-use Rattle.vast_list.specs.Lines.{LineKind, Passed, Asked, Helped, Stepped, behind_call, call_word, line_arguments, line_kind, line_word, word_kind}
+use Rattle.vast_list.specs.Lines.{LineKind, Passed, Asked, Helped, Stepped, behind_call, call_word, line_arguments, line_kind, line_name, line_word, text_name, word_kind}
+use Rattle.vast_list.specs.Names.{IsEntered, IsFree, value_named}
 use Rattle.vast_list.specs.Written.{AreWritten, meaning}
 
 -- What becomes of a call that is counted: of a step what becomes of it in a replay, of a helper what its equation says.
@@ -60,29 +62,57 @@ IsWrittenIn session call arguments = AreWritten (meaning session.names) session.
 abbrev pub HasMade : (old new : Session) → (name arguments : List ℕ) → Type 0
 HasMade old new name arguments = (call : Call) × (call_name call ≡ name) × IsMade old new call × IsWrittenIn old call arguments
 
+-- The file and the answers are as before.
+abbrev pub IsSameFile : (old new : Session) → Type 0
+IsSameFile old new = (new.file ≡ old.file) × (new.answers.items ≡ old.answers.items)
+
+-- Names stand for what they did, and the same numbers are those that were passed over.
+abbrev pub IsSameKnown : (old new : Session) → Type 0
+IsSameKnown old new = (meaning new.names ≡ meaning old.names) × (new.skipped.items ≡ old.skipped.items)
+
 abbrev pub IsSame : (old new : Session) → Type 0
-IsSame old new = (new.file ≡ old.file) × (new.answers.items ≡ old.answers.items)
+IsSame old new = IsSameFile old new × IsSameKnown old new
+
+-- The name, if there is one, stood for nothing and stands for this from now on, and nothing more was passed over.
+abbrev pub Enters : (old new : Session) → (name : Option (List ℕ)) → Named → Type 0
+Enters old new name meant = IsEntered (meaning old.names) (meaning new.names) name meant × (new.skipped.items ≡ old.skipped.items)
 
 -- After a fault the file and the answers are as before; where memory was refused, a helper may have left nodes that nothing
 -- uses.
+abbrev pub IsFileLeft : (old new : Session) → Fault → Type 0
+IsFileLeft old new (Line fault) = IsSameFile old new
+IsFileLeft old new Memory = (tree new.file ≡ tree old.file) × (new.answers.items ≡ old.answers.items)
+
+-- And names stand for what they did.
 abbrev pub IsLeft : (old new : Session) → Fault → Type 0
-IsLeft old new (Line fault) = IsSame old new
-IsLeft old new Memory = (tree new.file ≡ tree old.file) × (new.answers.items ≡ old.answers.items)
+IsLeft old new fault = IsFileLeft old new fault × IsSameKnown old new
 
 abbrev pub Makes : (old new : Session) → Call → Result (Unit {0}) Fault → Type 0
 Makes old new call (Ok done) = IsMade old new call
-Makes old new call (Err fault) = IsLeft old new fault
+Makes old new call (Err fault) = IsFileLeft old new fault
 
--- A step or a helper is a call that was made, with the line's arguments; a question, a comment and a blank line change nothing.
+-- A call's name stands from now on for the place of its answer.
+abbrev pub MakesName : (old new : Session) → (name : Option (List ℕ)) → Result (Unit {0}) Fault → Type 0
+MakesName old new name (Ok done) = Enters old new name (Handle (length old.answers.items))
+MakesName old new name (Err fault) = IsSameKnown old new
+
+-- A call was made with the line's arguments, and the line's name stands for the place of its answer from now on.
+abbrev pub GivesCall : (old new : Session) → (name line : List ℕ) → Type 0
+GivesCall old new name line = HasMade old new name (line_arguments line) × Enters old new (line_name line) (Handle (length old.answers.items))
+
+-- A step or a helper is a call that was made; a question changes but what its name stands for, which is its answer from now
+-- on; a comment and a blank line change nothing.
 abbrev pub Gives : (old new : Session) → (line : List ℕ) → Given → Type 0
 Gives old new line Nothing = IsSame old new
-Gives old new line (Step number name) = HasMade old new name.now (line_arguments line)
-Gives old new line (Helper number name) = HasMade old new name.now (line_arguments line)
-Gives old new line (Answered name value) = IsSame old new
+Gives old new line (Step number name) = GivesCall old new name.now line
+Gives old new line (Helper number name) = GivesCall old new name.now line
+Gives old new line (Answered name value) = IsSameFile old new × Enters old new (line_name line) (value_named value)
 
--- The text's call has the name that stands in it, and the arguments behind that.
+-- The text's call has the name that stands in it, and the arguments behind that; the name of its answer stands for nothing
+-- so far.
 abbrev pub IsRead : (named : List ℕ → Option Named) → (skipped text : List ℕ) → ReadLine → Type 0
-IsRead named skipped text line = (line.call.now ≡ call_word text) × IsActionOf named skipped line.call.now (behind_call text) line.action
+IsRead named skipped text line =
+    (line.call.now ≡ call_word text) × IsActionOf named skipped line.call.now (behind_call text) line.action × (option_copied line.name ≡ text_name text) × IsFree named (text_name text)
 
 -- The line is of the kind that gives this, under its call's name.
 abbrev pub IsGivenBy : (line : List ℕ) → Given → Type 0
@@ -94,6 +124,12 @@ IsGivenBy line (Answered name value) = (line_kind line ≡ Asked) × (name.now �
 abbrev pub Takes : (old new : Session) → (line : List ℕ) → Result Given Fault → Type 0
 Takes old new line (Ok given) = Gives old new line given
 Takes old new line (Err fault) = IsLeft old new fault
+
+-- A line that is passed over changes neither the file nor the answers; names stand for what they did, but that the line's
+-- name, which stood for nothing, may stand for what was passed over.
+abbrev pub Skips : (old new : Session) → (line : List ℕ) → Type 0
+Skips old new line =
+    IsSameFile old new × ((meaning new.names ≡ meaning old.names) ⊎ IsEntered (meaning old.names) (meaning new.names) (line_name line) Skipped)
 
 -- The text is the printed layout of the tree, which nothing refuses.
 abbrev pub IsTextOf : FileTree → (text : List ℕ) → Type 0

@@ -36,7 +36,7 @@ mod warnings;
 pub use fault::{Fault, LineFault};
 pub use json::push_json_text;
 pub use json_line::list_json;
-pub use laws::steps_build_as_replayed;
+pub use laws::{calls_are_named, steps_build_as_replayed};
 pub use line::dialect_of;
 pub use lines::{HEADER, ListLines};
 pub use map::{json_with_map, list_origins};

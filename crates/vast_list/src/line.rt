@@ -1,7 +1,8 @@
 //! The lines of a list.
 
-ghost use Rattle.std.specs.Prelude.{◌≡◌, [], IfOk, IfSome, IfNone, IsTrue, MatchOption, drop, false, true};
-ghost use Rattle.vast_list.specs.Lines.{Passed, behind_call, behind_first, behind_word, call_word, dialect_word, first_word, is_equals_front, is_passed, line_kind, rest_text, without_return, word_kind};
+ghost use Rattle.std.specs.Prelude.{◌≡◌, [], IfOk, IfSome, IfNone, IsTrue, MatchOption, OnOk, drop, false, option_copied, true};
+ghost use Rattle.vast_list.specs.Lines.{Passed, behind_call, behind_first, behind_word, call_word, dialect_word, first_word, is_equals_front, is_passed, line_kind, rest_text, text_name, without_return, word_kind};
+ghost use Rattle.vast_list.specs.Names.{IsFree};
 ghost use Rattle.vast_list.specs.Session.{IsActionOf, IsRead};
 ghost use Rattle.vast_list.specs.Written.{left, meaning};
 
@@ -78,6 +79,7 @@ pub(crate) fn is_empty(text: &str) -> bool
 
 /// The name of a line's answer, its call and what stands behind that.
 pub(crate) fn split_line(text: &str) -> (Option<&str>, &str, Option<&str>)
+    ensures name { option_copied result.0 ≡ text_name text.now }
     ensures call { result.1.now ≡ call_word text.now }
     ensures behind { left result.2 ≡ behind_call text.now }
 {
@@ -101,9 +103,7 @@ pub(crate) fn read_line<'a>(known: Known<'_>, text: &'a str) -> Result<Line<'a>,
 {
     check_begin(text).map_err(|misfit| Misread { call: "", misfit })?;
     let (name, call, rest) = split_line(text);
-    if let Some(name) = name {
-        check_name(known, text, name).map_err(|misfit| Misread { call: "", misfit })?;
-    }
+    check_name(known, text, name).map_err(|misfit| Misread { call: "", misfit })?;
     match read_action(known, call, rest) {
         Ok(action) => Ok(Line { name, call, action }),
         Err(misfit) => {
@@ -158,8 +158,13 @@ fn named_call<'a>(rest: Option<&'a str>) -> Option<&'a str>
     rest?.strip_prefix("= ")
 }
 
-/// The word may be the name of this line's answer.
-fn check_name(known: Known<'_>, text: &str, name: &str) -> Result<(), Misfit> {
+/// The word, if there is one, may be the name of this line's answer.
+fn check_name(known: Known<'_>, text: &str, name: Option<&str>) -> Result<(), Misfit>
+    ensures { OnOk result (IsFree (meaning known.entry.names.now) (option_copied name.entry)) }
+{
+    let Some(name) = name else {
+        return Ok(());
+    };
     let left = text.len();
     if !is_name(name) {
         let problem = Problem::NotAName;

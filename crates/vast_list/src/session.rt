@@ -1,11 +1,12 @@
 //! A file with the answers so far, whose calls are lines.
 
-ghost use Rattle.std.specs.Prelude.{◌≡◌, [], IfErr, IfOk, string_bytes};
+ghost use Rattle.std.specs.Prelude.{◌≡◌, ℕ, List, [], IfErr, IfOk, None, OnErr, OnOk, length, option_copied, string_bytes};
 ghost use Rattle.vast_core.specs.Bench.{start};
 ghost use Rattle.vast_core.specs.FileTree.{tree};
 ghost use Rattle.xlsynth_vast.specs.Registers.{HasUnused};
 ghost use Rattle.vast_list.specs.Lines.{without_return};
-ghost use Rattle.vast_list.specs.Session.{Calls, IsGivenBy, IsRead, IsSame, IsTextOf, IsToldAs, Makes, Takes};
+ghost use Rattle.vast_list.specs.Names.{IsFree, entered, forgotten, value_named};
+ghost use Rattle.vast_list.specs.Session.{Calls, IsGivenBy, IsRead, IsTextOf, IsToldAs, Makes, MakesName, Skips, Takes};
 ghost use Rattle.vast_list.specs.Written.{meaning};
 
 use crate::arguments::{Known, place_of};
@@ -62,7 +63,11 @@ fn enter(
     names: &mut Names,
     name: Option<&str>,
     stands_for: Named,
-) -> Result<(), AllocError> {
+) -> Result<(), AllocError>
+    ensures entered { OnOk result
+        (meaning names.new ≡ entered (meaning names.old) (option_copied name.entry) stands_for) }
+    ensures left { OnErr result (meaning names.new ≡ meaning names.old) }
+{
     if let Some(name) = name {
         let name = String::from_str(alloc, name)?;
         names.insert(name, stands_for)?;
@@ -71,14 +76,18 @@ fn enter(
 }
 
 /// The name stands for nothing.
-fn forget(names: &mut Names, name: Option<&str>) {
+fn forget(names: &mut Names, name: Option<&str>)
+    ensures { meaning names.new ≡ forgotten (meaning names.old) (option_copied name.entry) }
+{
     if let Some(name) = name {
         let _ = names.remove(name);
     }
 }
 
 /// What the name of a question's answer stands for.
-fn named(value: &Value) -> Named {
+fn named(value: &Value) -> Named
+    ensures { result ≡ value_named value.now }
+{
     match value {
         Value::Number(number) => Named::Number(*number),
         Value::Count(count) => i64::try_from(*count).map_or(Named::Other, Named::Number),
@@ -91,6 +100,8 @@ impl Session {
     pub fn new(alloc: Global, dialect: VastFileType) -> Session
         ensures file { result.file ≡ start dialect 1 }
         ensures answers { result.answers.items ≡ [] }
+        ensures names { meaning result.names ≡ (λ (name : List ℕ). None) }
+        ensures skipped { result.skipped.items ≡ [] }
     {
         let mut ids = FileIds::new();
         Session {
@@ -154,7 +165,7 @@ impl Session {
     /// # Errors
     /// Want of memory; nothing is then passed over.
     pub fn skip(&mut self, line: &[u8]) -> Result<(), AllocError>
-        ensures { IsSame self.old self.new }
+        ensures { Skips self.old self.new line.now }
     {
         let Ok(text) = text_of(line) else {
             return Ok(());
@@ -294,6 +305,8 @@ impl Session {
         made: &Call,
     ) -> Result<(), Fault>
         ensures made { Makes self.old self.new made.now result }
+        ensures name { IsFree (meaning self.old.names) (option_copied name.entry) →
+            MakesName self.old self.new (option_copied name.entry) result }
         ensures unseen { IfErr result (λ fault. HasUnused self.old.file self.new.file) }
     {
         self.answers.reserve(1)?;

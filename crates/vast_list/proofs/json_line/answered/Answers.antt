@@ -5,7 +5,7 @@ use Rattle.vast_list.proofs.JsonLines.{answers-next}
 use Rattle.vast_list.proofs.json_line.answered.Goals as goal
 
 pub loop-number-init : goal.loop-number-init
-loop-number-init c = λ _. no-lines false c.args.dialect c.new.result.file c.new.result.answers.items c.new.ensures.file c.new.ensures.answers
+loop-number-init c = λ _. no-lines false c.args.dialect c.new.result c.new.ensures.file c.new.ensures.answers c.new.ensures.names c.new.ensures.skipped
 
 pub loop-number-preserved : goal.loop-number-preserved
 loop-number-preserved c =

@@ -9,7 +9,7 @@ pub loop-number-init : goal.loop-number-init
 loop-number-init c = record {
   trial = c.in_ok-trial.ensures;
   report = search rules;
-  built = λ _ _. no-lines (is_again c.args.tries) c.args.dialect c.new.result.file c.new.result.answers.items c.new.ensures.file c.new.ensures.answers;
+  built = λ _ _. no-lines (is_again c.args.tries) c.args.dialect c.new.result c.new.ensures.file c.new.ensures.answers c.new.ensures.names c.new.ensures.skipped;
 }
 
 pub loop-number-preserved : goal.loop-number-preserved

@@ -1,0 +1,15 @@
+use Rattle.std.proofs.Common.{ℕ, List, Option, refl, ap, ◌∙◌}
+use Rattle.std.specs.Prelude.{option_copied}
+use Rattle.vast_list.specs.declared.names.Named.{Named}
+use Rattle.vast_list.specs.Names.{forgotten}
+use Rattle.vast_list.specs.Written.{meaning}
+use Rattle.vast_list.proofs.Entered.{forgotten-entered}
+use Rattle.vast_list.proofs.session.Session.make.Goals as goal
+
+pub returns-in-Err-clause-name : goal.returns-in-Err-clause-name
+returns-in-Err-clause-name c = λ free.
+    let name = option_copied c.args.name in
+    let named = meaning c.args.self.now.names in (
+      c.forget.ensures ∙ ap (λ (n : List ℕ → Option Named). forgotten n name) c.in_ok-enter.ensures.entered ∙ forgotten-entered named name _ free,
+      refl {A = List ℕ},
+    )

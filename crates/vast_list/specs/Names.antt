@@ -1,0 +1,36 @@
+-- What the names of a list stand for, from line to line.
+use Rattle.std.specs.Prelude.{◌≡◌, ℕ, ◌^◌, ltb, List, Option, Some, None, pos, if◌then◌else◌, ⊤}
+use Rattle.std.specs.Map.{update}
+use Rattle.std.specs.Str.{bytes_eq}
+use Rattle.vast_list.specs.declared.names.Named.{Named}
+use Rattle.vast_list.specs.declared.names.Named.TheVariants.{Number as NumberNamed, Other}
+use Rattle.vast_list.specs.declared.questions.answered.Value.{Value}
+use Rattle.vast_list.specs.declared.questions.answered.Value.TheVariants.{Text, Nothing, Truth, Number, Count, Ports}
+
+-- The name, if there is one, stands for this from now on; every other name stands for what it did.
+abbrev pub entered : (named : List ℕ → Option Named) → (name : Option (List ℕ)) → Named → List ℕ → Option Named
+entered named None meant = named
+entered named (Some name) meant = update bytes_eq named name (Some meant)
+
+-- The name, if there is one, stands for nothing from now on.
+abbrev pub forgotten : (named : List ℕ → Option Named) → (name : Option (List ℕ)) → List ℕ → Option Named
+forgotten named None = named
+forgotten named (Some name) = update bytes_eq named name None
+
+-- The name, if there is one, stands for nothing so far.
+abbrev pub IsFree : (named : List ℕ → Option Named) → (name : Option (List ℕ)) → Type 0
+IsFree named None = ⊤
+IsFree named (Some name) = named name ≡ None
+
+-- The name, if there is one, stood for nothing and stands for this from then on.
+abbrev pub IsEntered : (old new : List ℕ → Option Named) → (name : Option (List ℕ)) → Named → Type 0
+IsEntered old new name meant = IsFree old name × (new ≡ entered old name meant)
+
+-- What the name of a question's answer stands for: a number of 64 bits with a sign, or what is none.
+abbrev pub value_named : Value → Named
+value_named (Text text) = Other
+value_named Nothing = Other
+value_named (Truth truth) = Other
+value_named (Number z) = NumberNamed z
+value_named (Count n) = if ltb n (2 ^ 63) then NumberNamed (pos n) else Other
+value_named (Ports ports) = Other
