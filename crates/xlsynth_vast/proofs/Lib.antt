@@ -17,4 +17,6 @@ pub mod RegisterSteps
 pub mod RegisterValues
 pub mod Unseen
 pub mod UnseenNodes
+pub mod Kept
+pub mod KeptWords
 pub mod Callers

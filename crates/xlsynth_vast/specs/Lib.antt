@@ -17,4 +17,5 @@ pub mod Registers
 pub mod AddedRegisters
 pub mod RegisterSteps
 pub mod Conditions
+pub mod Keeps
 pub mod TreeCode
