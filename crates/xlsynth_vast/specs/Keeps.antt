@@ -1,4 +1,4 @@
--- What stays as a file grows: a later call undoes none of it.
+-- What stays as a file grows: no call undoes any of it, whether it makes something or is refused.
 use Rattle.std.specs.Prelude.{◌≡◌}
 use Rattle.vast_core.specs.declared.handle.Expr.{Expr}
 use Rattle.vast_core.specs.declared.handle.VastDataType.{VastDataType}
@@ -29,7 +29,8 @@ use Rattle.vast_core.specs.Bench.{Bench, tree_of, type_of, OwnsExpr, OwnsType, O
 use Rattle.vast_print.specs.Text.{expr_text}
 
 -- The file is of the same dialect and has the same id; it owns what it owned; its expressions and types are what they
--- were, and each of its expressions is printed as the same text, or refused the same.
+-- were, and each of its expressions is printed as the same text, or refused the same. So a usable width stays one, and a
+-- type that can be packed, or cast to, too. A name that was free may be taken since, and a conditional have its `else`.
 pub record Keeps (b c : Bench) : Type 0 where
   pub file_type : c.file_type ≡ b.file_type
   pub id : c.nodes.id ≡ b.nodes.id
