@@ -6,7 +6,7 @@ ghost use Rattle.std.specs.Prelude.{IfOk};
 ghost use Rattle.vast_core.specs.Bench.{OwnsBlock, OwnsExpr, OwnsModule, OwnsType};
 ghost use Rattle.xlsynth_vast.specs.Keeps.{Keeps};
 
-use crate::asked::{Net, declare, drive, make_bit};
+use crate::asked::{Net, declare, drive, make_bit, make_literal};
 use crate::fault::ExampleFault;
 use xlsynth_vast::{Expr, LiteralFormat, VastDataType, VastFile, VastModule, VastStatementBlock};
 
@@ -36,7 +36,8 @@ pub(crate) fn add_counter(file: &mut VastFile) -> Result<(), ExampleFault> {
     let signals = add_signals(file)?;
     drive(signals.owner, signals.count, signals.value, file)?;
     let body = add_clocked(signals.owner, signals.clock, file)?;
-    let zero = make_byte("bits[8]:0", file)?;
+    let format = LiteralFormat::UnsignedDecimal;
+    let zero = make_literal("bits[8]:0", &format, file)?;
     let next = make_next(signals.value, file)?;
     add_register(body, signals.reset, signals.value, zero, next, file)
 }
@@ -154,15 +155,6 @@ fn assign(
     Ok(())
 }
 
-/// A literal of eight bits.
-fn make_byte(text: &str, file: &mut VastFile) -> Result<Expr, ExampleFault>
-    ensures answer { IfOk result (λ e. OwnsExpr file.new e) }
-    ensures exprs { (e : Expr) → OwnsExpr file.old e → OwnsExpr file.new e }
-    ensures blocks { (b : VastStatementBlock) → OwnsBlock file.old b → OwnsBlock file.new b }
-{
-    Ok(file.make_literal(text, &LiteralFormat::UnsignedDecimal)?)
-}
-
 /// One more than the value.
 fn make_next(value: Expr, file: &mut VastFile) -> Result<Expr, ExampleFault>
     requires value { OwnsExpr file.old value }
@@ -170,6 +162,6 @@ fn make_next(value: Expr, file: &mut VastFile) -> Result<Expr, ExampleFault>
     ensures exprs { (e : Expr) → OwnsExpr file.old e → OwnsExpr file.new e }
     ensures blocks { (b : VastStatementBlock) → OwnsBlock file.old b → OwnsBlock file.new b }
 {
-    let one = make_byte("bits[8]:1", file)?;
+    let one = make_literal("bits[8]:1", &LiteralFormat::UnsignedDecimal, file)?;
     Ok(file.make_add(&value, &one)?)
 }

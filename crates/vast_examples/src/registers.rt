@@ -2,10 +2,9 @@
 
 ghost use Rattle.std.specs.Prelude.{IfOk};
 ghost use Rattle.vast_core.specs.Bench.{OwnsExpr, OwnsModule, OwnsType};
-ghost use Rattle.xlsynth_vast.specs.Keeps.{Keeps};
 ghost use Rattle.xlsynth_vast.specs.Registers.{OwnsRegister};
 
-use crate::asked::{Net, declare, make_bit};
+use crate::asked::{Net, declare, declare_logic, make_bit, make_literal};
 use crate::fault::ExampleFault;
 use xlsynth_vast::helpers::{RegisterDefinition, RegisterScope, Reset, add_registers};
 use xlsynth_vast::{Expr, LiteralFormat, VastDataType, VastFile, VastModule};
@@ -75,38 +74,13 @@ fn add_register(
 {
     let enable = declare(Net::Input, map.owner, enable, &map.bit, file)?;
     let reg = declare_logic(map.owner, name, map.byte, file)?;
-    let reset_value = make_byte(value, file)?;
+    let reset_value = make_literal(value, &LiteralFormat::Hex, file)?;
     Ok(RegisterDefinition {
         reg,
         next: map.input,
         reset_value: Some(reset_value),
         enable: Some(enable),
     })
-}
-
-fn declare_logic(
-    owner: VastModule,
-    name: &str,
-    data_type: VastDataType,
-    file: &mut VastFile,
-) -> Result<Expr, ExampleFault>
-    requires owner { OwnsModule file.old owner }
-    requires data_type { OwnsType file.old data_type }
-    ensures answer { IfOk result (λ e. OwnsExpr file.new e) }
-    ensures exprs { (e : Expr) → OwnsExpr file.old e → OwnsExpr file.new e }
-    ensures types { (t : VastDataType) → OwnsType file.old t → OwnsType file.new t }
-    ensures modules { (m : VastModule) → OwnsModule file.old m → OwnsModule file.new m }
-{
-    Ok(file.add_logic(owner, name, &data_type)?.to_expr())
-}
-
-fn make_byte(text: &str, file: &mut VastFile) -> Result<Expr, ExampleFault>
-    ensures answer { IfOk result (λ e. OwnsExpr file.new e) }
-    ensures exprs { (e : Expr) → OwnsExpr file.old e → OwnsExpr file.new e }
-    ensures types { (t : VastDataType) → OwnsType file.old t → OwnsType file.new t }
-    ensures modules { (m : VastModule) → OwnsModule file.old m → OwnsModule file.new m }
-{
-    Ok(file.make_literal(text, &LiteralFormat::Hex)?)
 }
 
 fn add_both(
