@@ -16,6 +16,9 @@ pub enum ExampleFault {
     /// A name that was passed in is taken.
     #[error("a name that is taken")]
     Taken,
+    /// A width that was passed in is a literal below 1.
+    #[error("a width below 1")]
+    Width,
     /// A call was refused, or memory was.
     #[error(transparent)]
     Refused(#[from] VastFault),

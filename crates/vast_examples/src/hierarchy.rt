@@ -1,22 +1,26 @@
 //! A module of a parameter, instantiated twice, once with an open port, and a generate loop between the two.
 
+ghost use Rattle.std.specs.Prelude.{IfOk, IfSome};
+ghost use Rattle.vast_core.specs.Bench.{OwnsExpr, OwnsLoop, OwnsModule, OwnsType};
+ghost use Rattle.xlsynth_vast.specs.Keeps.{Keeps};
+
+use crate::asked::{Net, declare, drive, make_bit};
 use crate::fault::ExampleFault;
-use crate::signals::{Signal, declare, drive};
-use xlsynth_vast::{Expr, GenerateLoop, VastFile, VastModule};
+use xlsynth_vast::{Expr, GenerateLoop, VastDataType, VastFile, VastModule};
 
 /// The module that is instantiated, and its parameter.
 #[derive(Drop)]
 struct Lane {
-    module: VastModule,
+    owner: VastModule,
     width: Expr,
 }
 
 /// The signals of the module at the top.
 #[derive(Drop)]
 struct Top {
-    module: VastModule,
-    data: Expr,
-    result: Expr,
+    owner: VastModule,
+    input: Expr,
+    output: Expr,
     odd: Expr,
     middle: Expr,
     crossed: Expr,
@@ -27,57 +31,78 @@ struct Top {
 /// # Errors
 /// `Taken` where a name is taken; want of memory.
 pub(crate) fn add_hierarchy(file: &mut VastFile) -> Result<(), ExampleFault> {
-    let lane = add_lane(file)?;
-    let data = add_lane_ports(lane.module, lane.width, file)?;
-    add_odd(lane.module, data, file)?;
+    add_lane(file)?;
     allow_in_lint(file)?;
     let top = add_top(file)?;
-    add_instance(&top, "first", top.data, top.middle, None, file)?;
-    let bits = add_loop(top.module, file)?;
+    add_instance(top.owner, "first", top.input, top.middle, None, file)?;
+    let bits = add_loop(top.owner, file)?;
     let target = bit_of(top.crossed, bits, file)?;
     let source = bit_of(top.middle, bits, file)?;
     join(bits, target, source, file)?;
     let odd = Some(&top.odd);
-    add_instance(&top, "second", top.crossed, top.result, odd, file)
+    add_instance(top.owner, "second", top.crossed, top.output, odd, file)
 }
 
-/// The module that is instantiated: as wide as its parameter says.
-fn add_lane(file: &mut VastFile) -> Result<Lane, ExampleFault> {
-    let module = file.add_module("lane")?;
+/// The module that is instantiated.
+fn add_lane(file: &mut VastFile) -> Result<(), ExampleFault> {
+    let lane = add_lane_module(file)?;
+    let word = make_word(lane.width, file)?;
+    let data = declare(Net::Input, lane.owner, "data", &word, file)?;
+    let inverted = declare(Net::Output, lane.owner, "result", &word, file)?;
+    let inverse = invert(data, file)?;
+    drive(lane.owner, inverted, inverse, file)?;
+    add_odd(lane.owner, data, file)
+}
+
+/// The module with its parameter.
+fn add_lane_module(file: &mut VastFile) -> Result<Lane, ExampleFault>
+    ensures owner { IfOk result (λ l. OwnsModule file.new l.owner) }
+    ensures width { IfOk result (λ l. OwnsExpr file.new l.width) }
+{
+    let owner = file.add_module("lane")?;
     let eight = file.make_unsized_decimal_literal(8)?;
-    let width = file.add_parameter_port(module, "WIDTH", &eight)?.to_expr();
-    Ok(Lane { module, width })
+    let width = file.add_parameter_port(owner, "WIDTH", &eight)?.to_expr();
+    Ok(Lane { owner, width })
 }
 
-/// The data and its inverse; answers the data.
-fn add_lane_ports(
-    module: VastModule,
-    width: Expr,
-    file: &mut VastFile,
-) -> Result<Expr, ExampleFault> {
-    if !file.owns(&width) || !file.width_is_usable(&width) {
-        return Err(ExampleFault::Foreign);
+/// A vector as wide as this says.
+fn make_word(width: Expr, file: &mut VastFile) -> Result<VastDataType, ExampleFault>
+    requires width { OwnsExpr file.old width }
+    ensures answer { IfOk result (λ t. OwnsType file.new t) }
+    ensures kept { Keeps file.old file.new }
+{
+    if !file.width_is_usable(&width) {
+        return Err(ExampleFault::Width);
     }
-    let word = file.make_bit_vector_type_expr(&width, false)?;
-    let data = declare(Signal::Input, module, "data", &word, file)?;
-    let result = declare(Signal::Output, module, "result", &word, file)?;
-    if !file.owns(&data) {
-        return Err(ExampleFault::Foreign);
-    }
-    let inverse = file.make_bitwise_not(&data)?;
-    drive(module, result, inverse, file)?;
-    Ok(data)
+    Ok(file.make_bit_vector_type_expr(&width, false)?)
 }
 
-/// An output that is the parity of the data.
-fn add_odd(module: VastModule, data: Expr, file: &mut VastFile) -> Result<(), ExampleFault> {
-    if !file.owns(&data) {
-        return Err(ExampleFault::Foreign);
-    }
-    let parity = file.make_xor_reduce(&data)?;
-    let bit = file.make_scalar_type()?;
-    let odd = declare(Signal::Output, module, "odd", &bit, file)?;
-    drive(module, odd, parity, file)
+fn invert(value: Expr, file: &mut VastFile) -> Result<Expr, ExampleFault>
+    requires value { OwnsExpr file.old value }
+    ensures answer { IfOk result (λ e. OwnsExpr file.new e) }
+    ensures kept { Keeps file.old file.new }
+{
+    Ok(file.make_bitwise_not(&value)?)
+}
+
+fn parity_of(value: Expr, file: &mut VastFile) -> Result<Expr, ExampleFault>
+    requires value { OwnsExpr file.old value }
+    ensures answer { IfOk result (λ e. OwnsExpr file.new e) }
+    ensures kept { Keeps file.old file.new }
+{
+    Ok(file.make_xor_reduce(&value)?)
+}
+
+/// An output that is the parity of the value.
+fn add_odd(owner: VastModule, value: Expr, file: &mut VastFile) -> Result<(), ExampleFault>
+    requires owner { OwnsModule file.old owner }
+    requires value { OwnsExpr file.old value }
+    ensures kept { Keeps file.old file.new }
+{
+    let parity = parity_of(value, file)?;
+    let bit = make_bit(file)?;
+    let odd = declare(Net::Output, owner, "odd", &bit, file)?;
+    drive(owner, odd, parity, file)
 }
 
 /// Comments that Verilator reads: what follows is meant to be a second module of its file, and to have an open port.
@@ -87,19 +112,26 @@ fn allow_in_lint(file: &mut VastFile) -> Result<(), ExampleFault> {
     Ok(())
 }
 
-fn add_top(file: &mut VastFile) -> Result<Top, ExampleFault> {
-    let module = file.add_module("top")?;
+fn add_top(file: &mut VastFile) -> Result<Top, ExampleFault>
+    ensures owner { IfOk result (λ t. OwnsModule file.new t.owner) }
+    ensures input { IfOk result (λ t. OwnsExpr file.new t.input) }
+    ensures output { IfOk result (λ t. OwnsExpr file.new t.output) }
+    ensures odd { IfOk result (λ t. OwnsExpr file.new t.odd) }
+    ensures middle { IfOk result (λ t. OwnsExpr file.new t.middle) }
+    ensures crossed { IfOk result (λ t. OwnsExpr file.new t.crossed) }
+{
+    let owner = file.add_module("top")?;
     let bit = file.make_scalar_type()?;
     let byte = file.make_bit_vector_type(8, false)?;
-    let data = declare(Signal::Input, module, "data", &byte, file)?;
-    let result = declare(Signal::Output, module, "result", &byte, file)?;
-    let odd = declare(Signal::Output, module, "odd", &bit, file)?;
-    let middle = declare(Signal::Wire, module, "middle", &byte, file)?;
-    let crossed = declare(Signal::Wire, module, "crossed", &byte, file)?;
+    let input = declare(Net::Input, owner, "data", &byte, file)?;
+    let output = declare(Net::Output, owner, "result", &byte, file)?;
+    let odd = declare(Net::Output, owner, "odd", &bit, file)?;
+    let middle = declare(Net::Wire, owner, "middle", &byte, file)?;
+    let crossed = declare(Net::Wire, owner, "crossed", &byte, file)?;
     Ok(Top {
-        module,
-        data,
-        result,
+        owner,
+        input,
+        output,
         odd,
         middle,
         crossed,
@@ -108,21 +140,19 @@ fn add_top(file: &mut VastFile) -> Result<Top, ExampleFault> {
 
 /// An instance of `lane` with its parameter; without a signal for it the port `odd` is open.
 fn add_instance(
-    top: &Top,
+    owner: VastModule,
     name: &str,
-    data: Expr,
-    answer: Expr,
+    input: Expr,
+    output: Expr,
     odd: Option<&Expr>,
     file: &mut VastFile,
-) -> Result<(), ExampleFault> {
-    if !file.owns(&top.module) || !file.owns(&data) || !file.owns(&answer) {
-        return Err(ExampleFault::Foreign);
-    }
-    if let Some(odd) = odd {
-        if !file.owns(odd) {
-            return Err(ExampleFault::Foreign);
-        }
-    }
+) -> Result<(), ExampleFault>
+    requires owner { OwnsModule file.old owner }
+    requires input { OwnsExpr file.old input }
+    requires output { OwnsExpr file.old output }
+    requires odd { IfSome odd (λ e. OwnsExpr file.old e.now) }
+    ensures kept { Keeps file.old file.new }
+{
     let eight = file.make_unsized_decimal_literal(8)?;
     let instance = file.make_instantiation(
         "lane",
@@ -130,27 +160,30 @@ fn add_instance(
         &["WIDTH"],
         &[&eight],
         &["data", "result", "odd"],
-        &[Some(&data), Some(&answer), odd],
+        &[Some(&input), Some(&output), odd],
     )?;
-    file.add_member_instantiation(top.module, instance)?;
+    file.add_member_instantiation(owner, instance)?;
     Ok(())
 }
 
 /// A generate loop over the bits of a byte.
-fn add_loop(module: VastModule, file: &mut VastFile) -> Result<GenerateLoop, ExampleFault> {
-    if !file.owns(&module) {
-        return Err(ExampleFault::Foreign);
-    }
+fn add_loop(owner: VastModule, file: &mut VastFile) -> Result<GenerateLoop, ExampleFault>
+    requires owner { OwnsModule file.old owner }
+    ensures answer { IfOk result (λ l. OwnsLoop file.new l) }
+    ensures kept { Keeps file.old file.new }
+{
     let zero = file.make_unsized_decimal_literal(0)?;
     let eight = file.make_unsized_decimal_literal(8)?;
-    Ok(file.add_generate_loop(module, "i", &zero, &eight, Some("bits"))?)
+    Ok(file.add_generate_loop(owner, "i", &zero, &eight, Some("bits"))?)
 }
 
 /// The bit of the signal that the loop is at.
-fn bit_of(signal: Expr, bits: GenerateLoop, file: &mut VastFile) -> Result<Expr, ExampleFault> {
-    if !file.owns(&signal) || !file.owns(&bits) {
-        return Err(ExampleFault::Foreign);
-    }
+fn bit_of(signal: Expr, bits: GenerateLoop, file: &mut VastFile) -> Result<Expr, ExampleFault>
+    requires signal { OwnsExpr file.old signal }
+    requires bits { OwnsLoop file.old bits }
+    ensures answer { IfOk result (λ e. OwnsExpr file.new e) }
+    ensures kept { Keeps file.old file.new }
+{
     let place = file.generate_genvar(bits).to_expr();
     let signal = file.make_indexable_expression(&signal);
     Ok(file.make_index_expr(&signal, &place)?.to_expr())
@@ -162,10 +195,12 @@ fn join(
     target: Expr,
     source: Expr,
     file: &mut VastFile,
-) -> Result<(), ExampleFault> {
-    if !file.owns(&bits) || !file.owns(&target) || !file.owns(&source) {
-        return Err(ExampleFault::Foreign);
-    }
+) -> Result<(), ExampleFault>
+    requires bits { OwnsLoop file.old bits }
+    requires target { OwnsExpr file.old target }
+    requires source { OwnsExpr file.old source }
+    ensures kept { Keeps file.old file.new }
+{
     file.generate_add_continuous_assignment(bits, &target, &source)?;
     Ok(())
 }

@@ -6,6 +6,7 @@
 ghost use Rattle.std.specs.Prelude.{IfOk, string_bytes};
 ghost use Rattle.vast_print.specs.Layout.{IsFileText};
 
+mod asked;
 mod clocked;
 mod counter;
 mod fault;

@@ -1,22 +1,23 @@
 //! A map of two registers that are written by enables, with a reset that is active where its signal is low.
 
-ghost use Rattle.std.specs.Prelude.{IsTrue};
+ghost use Rattle.std.specs.Prelude.{IfOk};
+ghost use Rattle.vast_core.specs.Bench.{OwnsExpr, OwnsModule, OwnsType};
 ghost use Rattle.xlsynth_vast.specs.Registers.{OwnsRegister};
 
+use crate::asked::{Net, declare, declare_logic, make_bit, make_literal};
 use crate::fault::ExampleFault;
-use crate::signals::{Signal, declare};
 use xlsynth_vast::helpers::{RegisterDefinition, RegisterScope, Reset, add_registers};
 use xlsynth_vast::{Expr, LiteralFormat, VastDataType, VastFile, VastModule};
 
 /// The module, and what all its registers share.
 #[derive(Drop)]
 struct Map {
-    module: VastModule,
+    owner: VastModule,
     bit: VastDataType,
     byte: VastDataType,
     clock: Expr,
     reset: Expr,
-    data: Expr,
+    input: Expr,
 }
 
 /// Adds the register map.
@@ -30,20 +31,27 @@ pub(crate) fn add_register_map(file: &mut VastFile) -> Result<(), ExampleFault> 
     add_both(&map, control, mask, file)
 }
 
-fn add_map(file: &mut VastFile) -> Result<Map, ExampleFault> {
-    let module = file.add_module("register_map")?;
-    let bit = file.make_scalar_type()?;
+fn add_map(file: &mut VastFile) -> Result<Map, ExampleFault>
+    ensures owner { IfOk result (λ m. OwnsModule file.new m.owner) }
+    ensures bit { IfOk result (λ m. OwnsType file.new m.bit) }
+    ensures byte { IfOk result (λ m. OwnsType file.new m.byte) }
+    ensures clock { IfOk result (λ m. OwnsExpr file.new m.clock) }
+    ensures reset { IfOk result (λ m. OwnsExpr file.new m.reset) }
+    ensures input { IfOk result (λ m. OwnsExpr file.new m.input) }
+{
+    let owner = file.add_module("register_map")?;
     let byte = file.make_bit_vector_type(8, false)?;
-    let clock = file.add_input(module, "clk", &bit)?.to_expr();
-    let reset = file.add_input(module, "rst_n", &bit)?.to_expr();
-    let data = file.add_input(module, "data", &byte)?.to_expr();
+    let bit = make_bit(file)?;
+    let clock = declare(Net::Input, owner, "clk", &bit, file)?;
+    let reset = declare(Net::Input, owner, "rst_n", &bit, file)?;
+    let input = declare(Net::Input, owner, "data", &byte, file)?;
     Ok(Map {
-        module,
+        owner,
         bit,
         byte,
         clock,
         reset,
-        data,
+        input,
     })
 }
 
@@ -54,31 +62,25 @@ fn add_register(
     enable: &str,
     value: &str,
     file: &mut VastFile,
-) -> Result<RegisterDefinition, ExampleFault> {
-    let enable = declare(Signal::Input, map.module, enable, &map.bit, file)?;
-    let reg = declare(Signal::Logic, map.module, name, &map.byte, file)?;
-    let reset_value = file.make_literal(value, &LiteralFormat::Hex)?;
+) -> Result<RegisterDefinition, ExampleFault>
+    requires owner { OwnsModule file.old map.now.owner }
+    requires bit { OwnsType file.old map.now.bit }
+    requires byte { OwnsType file.old map.now.byte }
+    requires input { OwnsExpr file.old map.now.input }
+    ensures register { IfOk result (λ r. OwnsRegister file.new r) }
+    ensures exprs { (e : Expr) → OwnsExpr file.old e → OwnsExpr file.new e }
+    ensures types { (t : VastDataType) → OwnsType file.old t → OwnsType file.new t }
+    ensures modules { (m : VastModule) → OwnsModule file.old m → OwnsModule file.new m }
+{
+    let enable = declare(Net::Input, map.owner, enable, &map.bit, file)?;
+    let reg = declare_logic(map.owner, name, map.byte, file)?;
+    let reset_value = make_literal(value, &LiteralFormat::Hex, file)?;
     Ok(RegisterDefinition {
         reg,
-        next: map.data,
+        next: map.input,
         reset_value: Some(reset_value),
         enable: Some(enable),
     })
-}
-
-fn owns_register(register: &RegisterDefinition, file: &VastFile) -> bool
-    ensures { IsTrue result → OwnsRegister file.now register.now }
-{
-    let RegisterDefinition {
-        reg,
-        next,
-        reset_value: Some(reset_value),
-        enable: Some(enable),
-    } = register
-    else {
-        return false;
-    };
-    file.owns(reg) && file.owns(next) && file.owns(reset_value) && file.owns(enable)
 }
 
 fn add_both(
@@ -86,18 +88,18 @@ fn add_both(
     control: RegisterDefinition,
     mask: RegisterDefinition,
     file: &mut VastFile,
-) -> Result<(), ExampleFault> {
-    if !file.owns(&map.module) || !file.owns(&map.clock) || !file.owns(&map.reset) {
-        return Err(ExampleFault::Foreign);
-    }
-    if !owns_register(&control, file) || !owns_register(&mask, file) {
-        return Err(ExampleFault::Foreign);
-    }
+) -> Result<(), ExampleFault>
+    requires owner { OwnsModule file.old map.now.owner }
+    requires clock { OwnsExpr file.old map.now.clock }
+    requires reset { OwnsExpr file.old map.now.reset }
+    requires control { OwnsRegister file.old control }
+    requires mask { OwnsRegister file.old mask }
+{
     let reset = Reset {
         signal: map.reset,
         active_low: true,
     };
-    let scope = RegisterScope::Module(map.module);
+    let scope = RegisterScope::Module(map.owner);
     add_registers(&map.clock, Some(reset), &[control, mask], scope, file)?;
     Ok(())
 }

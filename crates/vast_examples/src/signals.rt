@@ -3,12 +3,11 @@
 use crate::fault::ExampleFault;
 use xlsynth_vast::{Expr, VastDataType, VastFile, VastModule};
 
-/// What is declared: a port, a wire, or a variable.
+/// What is declared: a port or a variable.
 #[derive(Clone, Copy, Drop)]
 pub(crate) enum Signal {
     Input,
     Output,
-    Wire,
     Logic,
 }
 
@@ -32,7 +31,6 @@ pub(crate) fn declare(
     let reference = match signal {
         Signal::Input => file.add_input(module, name, data_type)?,
         Signal::Output => file.add_output(module, name, data_type)?,
-        Signal::Wire => file.add_wire(module, name, data_type)?,
         Signal::Logic => file.add_logic(module, name, data_type)?,
     };
     Ok(reference.to_expr())

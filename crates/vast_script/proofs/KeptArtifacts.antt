@@ -11,7 +11,7 @@ use Rattle.vast_script.specs.Outcome.{Made, provided}
 use Rattle.vast_script.specs.Kinds.{an_expr, a_type, a_module, a_macro_ref, an_instantiation, a_continuous, a_blank_line, a_comment, an_inline, a_macro_statement}
 use Rattle.vast_script.specs.Arguments.{one, two, many_and_open}
 use Rattle.vast_script.proofs.KeptOutcomes.{CallKeeps, given-keeps, provided-keeps}
-use Rattle.vast_script.proofs.KeptWords.{artifact-kept, assignment-kept, definition-kept, instance-kept, member-kept}
+use Rattle.xlsynth_vast.proofs.KeptWords.{artifact-kept, assignment-kept, definition-kept, instance-kept, member-kept}
 use Rattle.vast_script.specs.Artifacts.{instance, make_def, make_blank_line, make_comment, make_inline_verilog_statement, make_macro_statement, make_continuous_assignment, make_assignment, make_instantiation, add_member_instantiation, add_member_continuous_assignment, add_member_blank_line, add_member_comment, add_member_inline_statement, add_member_macro_statement, artifact_call}
 
 make_def-keeps : (name : List ℕ) (kind : DataKind) (type : ℕ) → CallKeeps (make_def name kind type)

@@ -16,9 +16,9 @@ use Rattle.vast_script.specs.Outcome.{Made, provided}
 use Rattle.vast_script.specs.Kinds.{an_expr, an_indexable, a_type}
 use Rattle.vast_script.specs.Arguments.{one, two, three, many, one_and_many}
 use Rattle.vast_script.specs.Conditions.{is_named}
-use Rattle.vast_script.proofs.Kept.{keeps-root, keeps-same}
+use Rattle.xlsynth_vast.proofs.Kept.{keeps-root, keeps-same}
 use Rattle.vast_script.proofs.KeptOutcomes.{CallKeeps, given-keeps, provided-keeps, allowed-keeps}
-use Rattle.vast_script.proofs.KeptWords.{fixed_index-kept, fixed_replication-kept, fixed_slice-kept}
+use Rattle.xlsynth_vast.proofs.KeptWords.{fixed_index-kept, fixed_replication-kept, fixed_slice-kept}
 use Rattle.vast_script.specs.Expressions.{make_literal, make_binary_pattern, make_leaf, make_indexable_expression, make_slice, make_index, make_slice_expr, make_index_expr, make_indexed_part_select, make_function_call, make_concat, make_replicated_concat, make_replicated_concat_i64, make_array_assignment_pattern, make_macro_ref, make_macro_ref_with_args, make_ternary, make_width_cast, make_type_cast, make_pos_edge, make_neg_edge, expression_call}
 
 make_literal-keeps : (text : List ℕ) (format : LiteralFormat) → CallKeeps (make_literal text format)

@@ -17,9 +17,9 @@ use Rattle.vast_script.specs.declared.step.LoopStep.TheVariants.{AddGenerateLoop
 use Rattle.vast_script.specs.Outcome.{Made, allowed, holding}
 use Rattle.vast_script.specs.Kinds.{a_module, a_loop, an_expr, a_definition, a_comment, an_instantiation, an_inline, a_macro_statement}
 use Rattle.vast_script.specs.Arguments.{one, two, three, one_and_many}
-use Rattle.vast_script.proofs.Kept.{keeps-then, keeps-same}
+use Rattle.xlsynth_vast.proofs.Kept.{keeps-then, keeps-same}
 use Rattle.vast_script.proofs.KeptOutcomes.{CallKeeps, given-keeps, allowed-keeps, holding-keeps}
-use Rattle.vast_script.proofs.KeptWords.{assignment-kept, conditional-kept, defined_loop_parameter-kept, loop-kept, loop_always-kept, loop_member-kept, member-kept, plain_loop_parameter-kept}
+use Rattle.xlsynth_vast.proofs.KeptWords.{assignment-kept, conditional-kept, defined_loop_parameter-kept, loop-kept, loop_always-kept, loop_member-kept, member-kept, plain_loop_parameter-kept}
 use Rattle.vast_script.specs.Loops.{add_generate_loop, generate_add_generate_loop, generate_genvar, generate_add_always_comb, generate_add_always, generate_add_localparam, generate_add_typed_localparam, generate_add_continuous_assignment, generate_add_conditional, generate_add_blank_line, generate_add_comment, generate_add_instantiation, generate_add_inline_statement, generate_add_macro_statement, loop_call}
 
 add_generate_loop-keeps : (owner : ℕ) (name : List ℕ) (start : ℕ) (end : ℕ) (label : Option (List ℕ)) → CallKeeps (add_generate_loop owner name start end label)

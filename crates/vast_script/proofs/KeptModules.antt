@@ -18,7 +18,7 @@ use Rattle.vast_script.specs.Outcome.{Made, provided, allowed}
 use Rattle.vast_script.specs.Kinds.{a_module, a_type, an_expr, a_definition, a_blank_line}
 use Rattle.vast_script.specs.Arguments.{one, two, three}
 use Rattle.vast_script.proofs.KeptOutcomes.{CallKeeps, given-keeps, provided-keeps, allowed-keeps}
-use Rattle.vast_script.proofs.KeptWords.{declaration-kept, defined_parameter-kept, hoisted-kept, int_parameter-kept, item-kept, module-kept, parameter_port-kept, plain_parameter-kept, port-kept}
+use Rattle.xlsynth_vast.proofs.KeptWords.{declaration-kept, defined_parameter-kept, hoisted-kept, int_parameter-kept, item-kept, module-kept, parameter_port-kept, plain_parameter-kept, port-kept}
 use Rattle.vast_script.specs.Modules.{add_item, add_blank_line, add_module, add_port, add_wire, add_variable, add_parameter_port, add_typed_parameter_port, add_parameter, add_parameter_with_def, add_localparam, add_int_localparam, add_typed_localparam, hoist_module_declarations, module_call}
 
 add_item-keeps : (entry : FileEntry) → CallKeeps (add_item entry)

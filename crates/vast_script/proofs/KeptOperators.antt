@@ -12,7 +12,7 @@ use Rattle.vast_script.specs.declared.step.OperatorStep.TheVariants.{MakeNot, Ma
 use Rattle.vast_script.specs.Outcome.{Made}
 use Rattle.vast_script.specs.Kinds.{an_expr}
 use Rattle.vast_script.specs.Arguments.{one, two}
-use Rattle.vast_script.proofs.Kept.{keeps-root}
+use Rattle.xlsynth_vast.proofs.Kept.{keeps-root}
 use Rattle.vast_script.proofs.KeptOutcomes.{CallKeeps, given-keeps}
 use Rattle.vast_script.specs.Operators.{unary, binary, operator_call}
 

@@ -3,7 +3,7 @@ use Rattle.std.proofs.Common.{ℕ, Bool, true, false, List, Option, Some, None, 
 use Rattle.vast_core.specs.Bench.{Bench}
 use Rattle.vast_script.specs.declared.answer.Answer.{Answer}
 use Rattle.vast_script.specs.Outcome.{Call, Cause, Outcome, Made, AtFault, given, provided, allowed, holding}
-use Rattle.vast_script.specs.Laws.{Keeps}
+use Rattle.xlsynth_vast.specs.Keeps.{Keeps}
 
 abbrev pub OutcomeKeeps : Bench → Outcome → Type 0
 OutcomeKeeps b (Made answer after) = Keeps b after

@@ -26,9 +26,9 @@ use Rattle.vast_script.specs.declared.step.StatementStep.TheVariants.{AddFunctio
 use Rattle.vast_script.specs.Outcome.{Made, provided, allowed, holding}
 use Rattle.vast_script.specs.Kinds.{a_module, a_function, a_type, an_expr, an_always, a_block, a_conditional, a_case}
 use Rattle.vast_script.specs.Arguments.{one, two, three, one_and_many}
-use Rattle.vast_script.proofs.Kept.{keeps-then, keeps-same}
+use Rattle.xlsynth_vast.proofs.Kept.{keeps-then, keeps-same}
 use Rattle.vast_script.proofs.KeptOutcomes.{CallKeeps, given-keeps, provided-keeps, allowed-keeps, holding-keeps}
-use Rattle.vast_script.proofs.KeptWords.{always_member-kept, assignment-kept, case-kept, case_arm-kept, case_unique-kept, conditional-kept, else-kept, else_if-kept, function_member-kept, member-kept, statement-kept, variable-kept}
+use Rattle.xlsynth_vast.proofs.KeptWords.{always_member-kept, assignment-kept, case-kept, case_arm-kept, case_unique-kept, conditional-kept, else-kept, else_if-kept, function_member-kept, member-kept, statement-kept, variable-kept}
 use Rattle.vast_script.specs.Statements.{add_function, function_add_variable, function_body, function_result, add_always, add_always_comb, statement_block, block_add_assignment, block_add_continuous_assignment, block_add, add_conditional, block_add_cond, conditional_then_block, conditional_add_else_if, conditional_add_else, block_add_case, case_add_item, case_add_default, case_set_unique, statement_call}
 
 add_function-keeps : (owner : ℕ) (name : List ℕ) (type : ℕ) → CallKeeps (add_function owner name type)

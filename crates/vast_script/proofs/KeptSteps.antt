@@ -7,8 +7,9 @@ use Rattle.vast_script.specs.declared.step.Step.{Step}
 use Rattle.vast_script.specs.declared.step.Step.TheVariants.{Operators, Expressions, Types, Modules, Loops, Statements, Artifacts}
 use Rattle.vast_script.specs.Outcome.{Outcome, Made, AtFault}
 use Rattle.vast_script.specs.Script.{call_of, Run, Going, Stopped, gone_on, one_more, left_by}
-use Rattle.vast_script.specs.Laws.{Keeps, StepsKeepTheFile}
-use Rattle.vast_script.proofs.Kept.{keeps-same, keeps-then}
+use Rattle.xlsynth_vast.specs.Keeps.{Keeps}
+use Rattle.vast_script.specs.Laws.{StepsKeepTheFile}
+use Rattle.xlsynth_vast.proofs.Kept.{keeps-same, keeps-then}
 use Rattle.vast_script.proofs.KeptOutcomes.{OutcomeKeeps, CallKeeps}
 use Rattle.vast_script.proofs.KeptOperators.{operator-keeps}
 use Rattle.vast_script.proofs.KeptExpressions.{expression-keeps}

@@ -14,9 +14,9 @@ use Rattle.vast_script.specs.Outcome.{Made, provided}
 use Rattle.vast_script.specs.Kinds.{a_type, an_expr}
 use Rattle.vast_script.specs.Arguments.{one}
 use Rattle.vast_script.specs.Conditions.{are_dimensions}
-use Rattle.vast_script.proofs.Kept.{keeps-root}
+use Rattle.xlsynth_vast.proofs.Kept.{keeps-root}
 use Rattle.vast_script.proofs.KeptOutcomes.{CallKeeps, given-keeps, provided-keeps}
-use Rattle.vast_script.proofs.KeptWords.{bit_vector-kept}
+use Rattle.xlsynth_vast.proofs.KeptWords.{bit_vector-kept}
 use Rattle.vast_script.specs.Types.{make_type, make_bit_vector_type, make_bit_vector_type_expr, make_packed_array_type, make_unpacked_array_type, type_call}
 
 make_type-keeps : (tree : TypeTree) → CallKeeps (make_type tree)

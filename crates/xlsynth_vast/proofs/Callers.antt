@@ -6,12 +6,14 @@ use Rattle.std.proofs.Common.{◌≡◌, ℕ, zero, suc, ◌<◌, Bool, IsTrue, 
 use Rattle.std.specs.declared.alloc.Global.{Global}
 use Rattle.vast_literal.specs.Tree.{FileTree}
 use Rattle.vast_literal.specs.declared.error.VastFault.{VastFault}
+use Rattle.vast_core.specs.declared.handle.Expr.{Expr}
+use Rattle.vast_core.specs.declared.handle.VastDataType.{VastDataType}
 use Rattle.vast_core.specs.declared.handle.ModulePort.{ModulePort}
 use Rattle.vast_core.specs.declared.handle.VastStatementBlock.{VastStatementBlock}
 use Rattle.vast_core.specs.declared.node.Assignment.{Assignment}
 use Rattle.vast_core.specs.declared.node.ElseIf.{ElseIf}
 use Rattle.vast_core.specs.declared.node.CaseArm.{CaseArm}
-use Rattle.vast_core.specs.Nodes.{Root, is_expr_root, is_type_root, is_root_of, is_name, is_index, is_slice, is_macro}
+use Rattle.vast_core.specs.Nodes.{Root, expr_in, type_in, expr_of_root, type_of_root, is_expr_root, is_type_root, is_root_of, is_name, is_index, is_slice, is_macro}
 use Rattle.vast_core.specs.Records.{ModuleRecord, MemberEntry, PortRecord, ParameterPortRecord, DefinitionRecord, ArtifactRecord, InstanceRecord, changed_at, with_name, with_port, with_parameter_port, with_member, with_named_member}
 use Rattle.vast_core.specs.Nests.{StatementEntry, NestRecord, BlockRecord, ConditionalNestRecord, CaseNestRecord, LoopNestRecord, FunctionRecord, AlwaysRecord, nest_kind, is_block_kind, is_conditional_kind, is_case_kind, is_loop_kind}
 use Rattle.vast_core.specs.Bench.{is_continuous, is_blank_line, is_comment, is_inline, is_macro_statement, names_of}
@@ -66,6 +68,23 @@ pub macro_is_expr : (xs : List Root) (i : ℕ) → IsTrue (is_root_of is_macro (
 macro_is_expr xs i h = some_expr is_macro (slice_get xs i) h
 
 pub ruleset roots = (expr_stays, type_stays, name_stays, index_stays, slice_stays, macro_stays, last_root, name_is_expr, index_is_expr, slice_is_expr, macro_is_expr)
+
+-- The tree of an expression, and of a type, where the file has nodes more.
+
+root-stays : (test : Option Root → Bool) → (IsTrue (test None) → ⊥) → (xs ys : List Root) (i : ℕ) → IsTrue (test (slice_get xs i)) → slice_get (xs ++ ys) i ≡ slice_get xs i
+root-stays test n [] ys i h = absurd (n h)
+root-stays test n (x ∷ xs) ys zero h = refl
+root-stays test n (x ∷ xs) ys (suc i) h = root-stays test n xs ys i h
+
+pub tree_stays : (id : ℕ) (xs ys : List Root) (e : Expr) → IsTrue (is_expr_root (slice_get xs e.id.index)) → expr_in (record { id = id; roots = xs ++ ys }) e ≡ expr_in (record { id = id; roots = xs }) e
+unfolding expr_in
+tree_stays id xs ys e h = ap expr_of_root (root-stays is_expr_root never xs ys e.id.index h)
+
+pub type_tree_stays : (id : ℕ) (xs ys : List Root) (t : VastDataType) → IsTrue (is_type_root (slice_get xs t.id.index)) → type_in (record { id = id; roots = xs ++ ys }) t ≡ type_in (record { id = id; roots = xs }) t
+unfolding type_in
+type_tree_stays id xs ys t h = ap type_of_root (root-stays is_type_root never xs ys t.id.index h)
+
+pub ruleset trees = (tree_stays, type_tree_stays)
 
 -- Nodes of an arena of their own.
 
@@ -246,7 +265,7 @@ last_module xs m = slice_get-seam xs m
 pub ruleset names = (names_after_member, names_after_parameter, names_after_port, names_after_declaration, last_module)
 
 -- All of it.
-pub ruleset callers = (roots, records, containers, names)
+pub ruleset callers = (roots, trees, records, containers, names)
 
 -- What `emit` answers is a file's text. A function whose contract says so of its own answer names this law.
 pub emitted_text : (file : FileTree) (text : String Global) (answer : Result (String Global) VastFault) → Emits (layout file) answer → answer ≡ Ok text → IsFileText (string_bytes text)

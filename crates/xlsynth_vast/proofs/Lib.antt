@@ -17,5 +17,7 @@ pub mod RegisterSteps
 pub mod RegisterValues
 pub mod Unseen
 pub mod UnseenNodes
+pub mod Kept
+pub mod KeptWords
 pub mod Callers
 mod Presence

@@ -17,5 +17,6 @@ pub mod Registers
 pub mod AddedRegisters
 pub mod RegisterSteps
 pub mod Conditions
+pub mod Keeps
 pub mod TreeCode
 pub mod Presence

@@ -12,7 +12,7 @@ use Rattle.vast_core.proofs.Growing.{Grows-fresh, Grows-listing}
 use Rattle.vast_core.proofs.Hoists.{Grows-changed}
 use Rattle.vast_core.proofs.NestReaders.{Grows-unique}
 use Rattle.vast_print.specs.Text.{expr_text}
-use Rattle.vast_script.specs.Laws.{Keeps}
+use Rattle.xlsynth_vast.specs.Keeps.{Keeps}
 
 -- What grows keeps what it has.
 

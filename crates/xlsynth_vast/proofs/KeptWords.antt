@@ -29,8 +29,8 @@ use Rattle.vast_core.specs.Loops.{next_always, with_always, with_loop, new_loop,
 use Rattle.xlsynth_vast.specs.Equations.{is_one, with_bit_vector}
 use Rattle.xlsynth_vast.specs.AlwaysBlocks.{with_always_member, with_loop_always}
 use Rattle.xlsynth_vast.specs.Functions.{with_function_member}
-use Rattle.vast_script.specs.Laws.{Keeps}
-use Rattle.vast_script.proofs.Kept.{keeps-root, keeps-then, keeps-cond, keeps-fresh, keeps-listing, keeps-changed, keeps-unique}
+use Rattle.xlsynth_vast.specs.Keeps.{Keeps}
+use Rattle.xlsynth_vast.proofs.Kept.{keeps-root, keeps-then, keeps-cond, keeps-fresh, keeps-listing, keeps-changed, keeps-unique}
 
 -- Expressions and types.
 
