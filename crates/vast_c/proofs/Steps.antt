@@ -5,6 +5,7 @@ use Rattle.std.proofs.lemmas.List.{length-drop, length_push, nil_from_length}
 use Rattle.std.proofs.Math.Seq.{drop-cons, take-suc}
 use Rattle.vast_core.specs.FileTree.{tree}
 use Rattle.vast_list.specs.Session.{Gives, IsSame}
+use Rattle.vast_list.specs.Written.{meaning}
 use Rattle.vast_list.specs.declared.session.Given.{Given}
 use Rattle.vast_list.specs.declared.session.Session.{Session}
 use Rattle.vast_c.specs.Lines.{lines_of}
@@ -45,17 +46,21 @@ no_lines bytes none = ap lines_of (nil_from_length bytes (eqb-true (length bytes
 
 -- what is the same has the same tree
 pub same_tree : (a b : Session) → IsSame a b → IsSameTree a b
-same_tree a b same = (ap tree same.0, same.1)
+same_tree a b same = (ap tree same.0.0, same.0.1)
+
+same_all : (a b : Session) → b ≡ a → IsSame a b
+same_all a b same =
+    ((ap (λ (s : Session). s.file) same, ap (λ (s : Session). s.answers.items) same), (ap (λ (s : Session). meaning s.names) same, ap (λ (s : Session). s.skipped.items) same))
 
 left_tree : (a b : Session) (cause : Option Cause) → LeftIfAny a b cause → IsSameTree a b
-left_tree a b None same = same_tree a b (ap (λ (s : Session). s.file) same, ap (λ (s : Session). s.answers.items) same)
+left_tree a b None same = same_tree a b (same_all a b same)
 left_tree a b (Some Refused) left = same_tree a b left
 left_tree a b (Some Condition) left = same_tree a b left
 left_tree a b (Some Form) left = same_tree a b left
 left_tree a b (Some Memory) left = left
 
 left_same : (a b : Session) (cause : Option Cause) → (cause ≡ Some Memory → ⊥) → LeftIfAny a b cause → IsSame a b
-left_same a b None other same = (ap (λ (s : Session). s.file) same, ap (λ (s : Session). s.answers.items) same)
+left_same a b None other same = same_all a b same
 left_same a b (Some Refused) other left = left
 left_same a b (Some Condition) other left = left
 left_same a b (Some Form) other left = left

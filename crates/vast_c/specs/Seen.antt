@@ -5,7 +5,7 @@ use Rattle.std.specs.declared.alloc.Global.{Global}
 use Rattle.vast_core.specs.Bench.{start}
 use Rattle.vast_core.specs.FileTree.{tree}
 use Rattle.vast_literal.specs.declared.kind.VastFileType.{VastFileType}
-use Rattle.vast_list.specs.Session.{Gives, IsLeft, IsSame, IsTextOf}
+use Rattle.vast_list.specs.Session.{Gives, IsFileLeft, IsSame, IsTextOf}
 use Rattle.vast_list.specs.declared.fault.Fault.TheVariants.{Memory as FaultMemory}
 use Rattle.vast_list.specs.declared.session.Given.{Given}
 use Rattle.vast_list.specs.declared.session.Session.{Session}
@@ -18,7 +18,7 @@ use Rattle.vast_c.specs.declared.kept.Told.{Told}
 
 -- The file's tree and the answers are as before.
 abbrev pub IsSameTree : (before after : Session) → Type 0
-IsSameTree before after = IsLeft before after FaultMemory
+IsSameTree before after = IsFileLeft before after FaultMemory
 
 -- A line that gives nothing leaves the session as it was; where memory was refused, its tree and its answers.
 abbrev pub LeftBy : (before after : Session) → Cause → Type 0

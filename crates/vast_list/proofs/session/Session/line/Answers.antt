@@ -1,9 +1,8 @@
-use Rattle.std.proofs.Common.{◌≡◌, ℕ, List, Option, Ok, subst}
+use Rattle.std.proofs.Common.{◌≡◌, ℕ, List, Ok, subst}
 use Rattle.std.specs.Prelude.{option_copied}
 use Rattle.vast_list.specs.declared.line.Action.{Action}
 use Rattle.vast_list.specs.declared.line.Call.{Call}
 use Rattle.vast_list.specs.declared.line.Action.TheVariants.{Call as CallAction}
-use Rattle.vast_list.specs.declared.names.Named.{Named}
 use Rattle.vast_list.specs.Lines.{behind_call, without_return}
 use Rattle.vast_list.specs.Names.{IsFree}
 use Rattle.vast_list.specs.Session.{GivesCall, IsActionOf, IsMade, IsRead, MakesName}
