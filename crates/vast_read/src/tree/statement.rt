@@ -179,19 +179,6 @@ impl Arm {
         } = self;
         block
     }
-
-    /// An arm.
-    pub(crate) fn new(
-        alloc: Global,
-        condition: NormalExpr,
-        block: Children<NormalStatement>,
-    ) -> Result<Arm, Fault>
-        ensures ok { IfOk result (λ a. arm_view a ≡ (view condition, block_view block)) }
-        ensures err { IfErr result (λ e. e ≡ Memory) }
-    {
-        let condition = Box::new(alloc, condition)?;
-        Ok(Arm { condition, block })
-    }
 }
 
 impl CaseArm {
@@ -201,26 +188,5 @@ impl CaseArm {
     {
         let CaseArm { label: _, block } = self;
         block
-    }
-
-    /// An arm, of a label or the default.
-    pub(crate) fn new(
-        alloc: Global,
-        label: Option<NormalExpr>,
-        block: Children<NormalStatement>,
-    ) -> Result<CaseArm, Fault>
-        ensures ok { IfOk result (λ a. label_view a ≡ (option_map view label, block_view block)) }
-        ensures err { IfErr result (λ e. e ≡ Memory) }
-    {
-        match label {
-            None => Ok(CaseArm { label: None, block }),
-            Some(label) => {
-                let label = Box::new(alloc, label)?;
-                Ok(CaseArm {
-                    label: Some(label),
-                    block,
-                })
-            }
-        }
     }
 }
