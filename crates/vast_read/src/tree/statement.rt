@@ -189,4 +189,17 @@ impl CaseArm {
         let CaseArm { label: _, block } = self;
         block
     }
+
+    /// An arm, of a label or the default.
+    pub(crate) fn new(label: Option<Box<NormalExpr>>, block: Children<NormalStatement>) -> CaseArm
+        ensures { label_view result ≡ (option_map (λ x. view x.value) label, block_view block) }
+    {
+        match label {
+            None => CaseArm { label: None, block },
+            Some(label) => CaseArm {
+                label: Some(label),
+                block,
+            },
+        }
+    }
 }

@@ -73,7 +73,7 @@ impl<'t> BuildStatements<'t> for Trees {
         label: Option<Box<NormalExpr>>,
         block: Children<NormalStatement>,
     ) -> Result<(), Fault> {
-        cases.push(CaseArm { label, block })?;
+        cases.push(CaseArm::new(label, block))?;
         Ok(())
     }
 
