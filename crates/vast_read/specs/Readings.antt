@@ -1,5 +1,7 @@
 -- The trees that stand for what is made of expressions: trees themselves, or nothing but shadows.
 use Rattle.std.specs.Prelude.{ℕ, List, []}
+use Rattle.std.specs.declared.alloc.Global.{Global}
+use Rattle.std.specs.declared.boxed.Box.{Box}
 use Rattle.vast_literal.specs.NormalExpr.{NormalExpr, NormalExprs, NoNormals, MoreNormals}
 use Rattle.vast_literal.specs.NormalExpr as normal
 use Rattle.vast_read.specs.Forms.{form_tree}
@@ -10,8 +12,8 @@ use Rattle.vast_read.specs.declared.tree.expression.NormalExpr.{NormalExpr as Tr
 use Rattle.vast_read.specs.declared.build.unbuilt.Shadow.{Shadow, fold-Shadow}
 use Rattle.vast_read.specs.declared.build.unbuilt.Shadow.TheOpen.{Shadow-F}
 
-abbrev pub trees : Reading Tree (List Tree) (List ℕ)
-trees = record { tree = view; trees = listed; text = λ w. w }
+abbrev pub trees : Reading (Box Tree Global) (List Tree) (List ℕ)
+trees = record { tree = λ x. view x.value; trees = listed; text = λ w. w }
 
 -- An expression, or a list of them: each shadow stands for one of the two.
 abbrev pub Seen : Type 0

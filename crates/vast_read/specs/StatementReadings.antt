@@ -1,5 +1,7 @@
 -- The statements that stand for what is made of them: trees themselves, or nothing but shadows.
 use Rattle.std.specs.Prelude.{List, [], ◌∷◌, ◌++◌, Option, option_map, map}
+use Rattle.std.specs.declared.alloc.Global.{Global}
+use Rattle.std.specs.declared.boxed.Box.{Box}
 use Rattle.vast_literal.specs.NormalExpr.{Name}
 use Rattle.vast_literal.specs.NormalFile.{NormalStatement, AssignStatement, NormalStatements, Done, Then, Labels, NoLabels, Label}
 use Rattle.vast_read.specs.Readings.{tree_of}
@@ -15,12 +17,12 @@ use Rattle.vast_read.specs.declared.tree.statement.CaseArm.{CaseArm}
 use Rattle.vast_read.specs.declared.build.unbuilt.statements.StatementShadow.{StatementShadow, fold-StatementShadow}
 use Rattle.vast_read.specs.declared.build.unbuilt.statements.StatementShadow.TheOpen.{StatementShadow-F}
 
-abbrev pub statement_trees : StatementReading StatementTree (List StatementTree) (List Arm) (Option Tree) (List CaseArm)
+abbrev pub statement_trees : StatementReading StatementTree (List StatementTree) (List Arm) (Option (Box Tree Global)) (List CaseArm)
 statement_trees = record {
   statement = statement_view;
   block = block_view;
   arms = map arm_view;
-  label = option_map view;
+  label = option_map (λ x. view x.value);
   cases = labels_view;
 }
 

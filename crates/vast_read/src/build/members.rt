@@ -79,8 +79,8 @@ pub(crate) trait BuildMembers<'t>: BuildDeclarations<'t> + BuildStatements<'t> {
         Self.Event Self.Events Self.Connection Self.Connections Self.Member Self.Members };
 
     /// An expression whose tree was made.
-    fn of_tree(tree: NormalExpr) -> Self::Expr
-        ensures { Self.sees.tree result ≡ view tree };
+    fn of_tree(tree: Box<NormalExpr>) -> Self::Expr
+        ensures { Self.sees.tree result ≡ view tree.value };
 
     /// An edge of an expression.
     fn edge(alloc: Global, edge: Key, expression: Self::Expr) -> Result<Self::Event, Fault>

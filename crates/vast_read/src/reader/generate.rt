@@ -72,7 +72,7 @@ impl<'t> Reader<'t> {
         ensures fewer { length self.new ≤ length self.old }
     {
         let (condition, before) = self.enclosed_before::<Trees>(Mark::Semicolon)?;
-        match condition.bound(variable) {
+        match Box::into_inner(condition).bound(variable) {
             Some(end) => Ok(B::of_tree(end)),
             None => {
                 self.rest = before;

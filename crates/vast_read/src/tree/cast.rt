@@ -1,7 +1,7 @@
 //! Casts.
 
 ghost use Rattle.std.specs.Prelude.{◌≡◌, IfOk, IfErr};
-ghost use Rattle.vast_literal.specs.NormalExpr.{Cast as NormalCast, PackageCast as NormalPackageCast, WordCast as NormalWordCast};
+ghost use Rattle.vast_literal.specs.NormalExpr.{WordCast as NormalWordCast};
 ghost use Rattle.vast_read.specs.declared.fault.Fault.TheVariants.{Memory};
 ghost use Rattle.vast_read.specs.TokenView.{key_view};
 ghost use Rattle.vast_read.specs.View.{view};
@@ -13,46 +13,16 @@ use crate::word::Word;
 use std::alloc::Global;
 
 impl NormalExpr {
-    /// A cast by an expression.
-    pub(crate) fn cast(
-        alloc: Global,
-        head: NormalExpr,
-        operand: NormalExpr,
-    ) -> Result<NormalExpr, Fault>
-        ensures ok { IfOk result (λ x. view x ≡ NormalCast (view head) (view operand)) }
-        ensures err { IfErr result (λ e. e ≡ Memory) }
-    {
-        let head = Box::new(alloc, head)?;
-        let operand = Box::new(alloc, operand)?;
-        Ok(NormalExpr::Cast(head, operand))
-    }
-
-    /// A cast by a package's type.
-    pub(crate) fn package_cast(
-        alloc: Global,
-        scope: Word,
-        name: Word,
-        operand: NormalExpr,
-    ) -> Result<NormalExpr, Fault>
-        ensures ok { IfOk result (λ x. view x
-            ≡ NormalPackageCast scope name (view operand)) }
-        ensures err { IfErr result (λ e. e ≡ Memory) }
-    {
-        let operand = Box::new(alloc, operand)?;
-        Ok(NormalExpr::PackageCast(scope, name, operand))
-    }
-
     /// A cast by a keyword.
     pub(crate) fn word_cast(
         alloc: Global,
         key: Key,
-        operand: NormalExpr,
+        operand: Box<NormalExpr>,
     ) -> Result<NormalExpr, Fault>
-        ensures ok { IfOk result (λ x. view x ≡ NormalWordCast (key_view key) (view operand)) }
+        ensures ok { IfOk result (λ x. view x ≡ NormalWordCast (key_view key) (view operand.value)) }
         ensures err { IfErr result (λ e. e ≡ Memory) }
     {
         let word = Word::new(alloc, key.text())?;
-        let operand = Box::new(alloc, operand)?;
         Ok(NormalExpr::WordCast(word, operand))
     }
 }

@@ -1,10 +1,8 @@
 //! Declarations.
 
 ghost use Rattle.std.specs.Prelude.{◌≡◌, IfOk, IfErr, option_map};
-ghost use Rattle.vast_literal.specs.NormalFile.{One, Range};
 ghost use Rattle.vast_read.specs.declared.fault.Fault.TheVariants.{Memory};
-ghost use Rattle.vast_read.specs.DeclarationView.{group_view, groups_view, declaration_view, head_view, with_head};
-ghost use Rattle.vast_read.specs.View.{view};
+ghost use Rattle.vast_read.specs.DeclarationView.{groups_view, declaration_view, head_view, with_head};
 
 use crate::children::Children;
 use crate::fault::Fault;
@@ -48,37 +46,6 @@ pub(crate) struct Head<'t> {
     pub(crate) scope: Option<&'t str>,
     pub(crate) type_name: Option<&'t str>,
     pub(crate) sign: Option<Key>,
-}
-
-impl Group {
-    /// One expression.
-    pub(crate) fn one(alloc: Global, first: NormalExpr) -> Result<Group, Fault>
-        ensures ok { IfOk result (λ g. group_view g ≡ One (view first)) }
-        ensures err { IfErr result (λ e. e ≡ Memory) }
-    {
-        let first = Box::new(alloc, first)?;
-        Ok(Group {
-            first,
-            second: None,
-        })
-    }
-
-    /// A range.
-    pub(crate) fn range(
-        alloc: Global,
-        first: NormalExpr,
-        second: NormalExpr,
-    ) -> Result<Group, Fault>
-        ensures ok { IfOk result (λ g. group_view g ≡ Range (view first) (view second)) }
-        ensures err { IfErr result (λ e. e ≡ Memory) }
-    {
-        let first = Box::new(alloc, first)?;
-        let second = Box::new(alloc, second)?;
-        Ok(Group {
-            first,
-            second: Some(second),
-        })
-    }
 }
 
 impl NormalDeclaration {

@@ -70,14 +70,13 @@ impl Parameter {
     pub(crate) fn new(
         alloc: Global,
         declared: NormalDeclaration,
-        value: NormalExpr,
+        value: Box<NormalExpr>,
     ) -> Result<Parameter, Fault>
         ensures ok { IfOk result (λ p. parameter_view p
-            ≡ parameter_of (declaration_view declared) (view value)) }
+            ≡ parameter_of (declaration_view declared) (view value.value)) }
         ensures err { IfErr result (λ e. e ≡ Memory) }
     {
         let declaration = Box::new(alloc, declared)?;
-        let value = Box::new(alloc, value)?;
         Ok(Parameter { declaration, value })
     }
 }

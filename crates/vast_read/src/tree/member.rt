@@ -1,7 +1,7 @@
 //! Members of modules and of generate loops.
 
 ghost use Rattle.std.specs.Prelude.{◌≡◌, ◌<◌, ◌≤◌, ◌+◌, ⊤, IfOk, IfErr, MatchOption, [], Some, None, option_map};
-ghost use Rattle.vast_literal.specs.NormalFile.{EdgeEvent, NameEvent, DeclarationPart, AssignPart, ParameterPart, MacroPart, InstancePart, AlwaysPart, ConditionalPart, FunctionPart, LoopPart};
+ghost use Rattle.vast_literal.specs.NormalFile.{EdgeEvent, NameEvent, DeclarationPart, ParameterPart, MacroPart, InstancePart, AlwaysPart, ConditionalPart, FunctionPart, LoopPart};
 ghost use Rattle.vast_read.specs.declared.fault.Fault.TheVariants.{Memory};
 ghost use Rattle.vast_read.specs.DeclarationView.{declaration_view, declarations_view};
 ghost use Rattle.vast_read.specs.MemberRelease.{member_left, member_alone, members_beside, members_alone, waiting_alone};
@@ -72,12 +72,16 @@ pub enum NormalMember {
 
 impl Event {
     /// An edge of an expression.
-    pub(crate) fn at_edge(alloc: Global, edge: Key, expression: NormalExpr) -> Result<Event, Fault>
-        ensures ok { IfOk result (λ e. event_view e ≡ EdgeEvent (key_view edge) (view expression)) }
+    pub(crate) fn at_edge(
+        alloc: Global,
+        edge: Key,
+        expression: Box<NormalExpr>,
+    ) -> Result<Event, Fault>
+        ensures ok { IfOk result (λ e. event_view e
+            ≡ EdgeEvent (key_view edge) (view expression.value)) }
         ensures err { IfErr result (λ e. e ≡ Memory) }
     {
         let edge = Word::new(alloc, edge.text())?;
-        let expression = Box::new(alloc, expression)?;
         Ok(Event {
             edge: Some(edge),
             expression,
@@ -89,7 +93,7 @@ impl Event {
         ensures ok { IfOk result (λ e. event_view e ≡ NameEvent name.now) }
         ensures err { IfErr result (λ e. e ≡ Memory) }
     {
-        let name = NormalExpr::name(alloc, name)?;
+        let name = NormalExpr::Name(Word::new(alloc, name)?);
         let expression = Box::new(alloc, name)?;
         Ok(Event {
             edge: None,
@@ -100,12 +104,16 @@ impl Event {
 
 impl Connection {
     /// What is given by a name.
-    pub(crate) fn new(alloc: Global, name: &str, value: NormalExpr) -> Result<Connection, Fault>
-        ensures ok { IfOk result (λ c. connection_view c ≡ given name.now (Some (view value))) }
+    pub(crate) fn new(
+        alloc: Global,
+        name: &str,
+        value: Box<NormalExpr>,
+    ) -> Result<Connection, Fault>
+        ensures ok { IfOk result (λ c. connection_view c
+            ≡ given name.now (Some (view value.value))) }
         ensures err { IfErr result (λ e. e ≡ Memory) }
     {
         let name = Word::new(alloc, name)?;
-        let value = Box::new(alloc, value)?;
         Ok(Connection {
             name,
             value: Some(value),
@@ -227,34 +235,19 @@ impl NormalMember {
         Ok(NormalMember::Declaration(declared))
     }
 
-    /// A continuous assignment.
-    pub(crate) fn assign(
-        alloc: Global,
-        left: NormalExpr,
-        right: NormalExpr,
-    ) -> Result<NormalMember, Fault>
-        ensures ok { IfOk result (λ m. member_view m ≡ AssignPart (view left) (view right)) }
-        ensures err { IfErr result (λ e. e ≡ Memory) }
-    {
-        let left = Box::new(alloc, left)?;
-        let right = Box::new(alloc, right)?;
-        Ok(NormalMember::Assign(left, right))
-    }
-
     /// A parameter.
     pub(crate) fn parameter(
         alloc: Global,
         key: Key,
         declared: NormalDeclaration,
-        value: NormalExpr,
+        value: Box<NormalExpr>,
     ) -> Result<NormalMember, Fault>
         ensures ok { IfOk result (λ m. member_view m
-            ≡ ParameterPart (key_view key) (declaration_view declared) (view value)) }
+            ≡ ParameterPart (key_view key) (declaration_view declared) (view value.value)) }
         ensures err { IfErr result (λ e. e ≡ Memory) }
     {
         let word = Word::new(alloc, key.text())?;
         let declared = Box::new(alloc, declared)?;
-        let value = Box::new(alloc, value)?;
         Ok(NormalMember::Parameter(word, declared, value))
     }
 
@@ -337,20 +330,18 @@ impl NormalMember {
     pub(crate) fn generate_loop(
         alloc: Global,
         variable: &str,
-        start: NormalExpr,
-        end: NormalExpr,
+        start: Box<NormalExpr>,
+        end: Box<NormalExpr>,
         label: Option<&str>,
         members: Children<NormalMember>,
     ) -> Result<NormalMember, Fault>
         ensures ok { IfOk result (λ m. member_view m
-            ≡ LoopPart variable.now (view start) (view end)
+            ≡ LoopPart variable.now (view start.value) (view end.value)
             (option_map (λ t. t.now) label.entry) (members_view members)) }
         ensures err { IfErr result (λ e. e ≡ Memory) }
     {
         let variable = Word::new(alloc, variable)?;
         let label = Word::maybe(alloc, label)?;
-        let start = Box::new(alloc, start)?;
-        let end = Box::new(alloc, end)?;
         Ok(NormalMember::Loop(variable, start, end, label, members))
     }
 }

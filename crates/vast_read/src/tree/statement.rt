@@ -179,19 +179,6 @@ impl Arm {
         } = self;
         block
     }
-
-    /// An arm.
-    pub(crate) fn new(
-        alloc: Global,
-        condition: NormalExpr,
-        block: Children<NormalStatement>,
-    ) -> Result<Arm, Fault>
-        ensures ok { IfOk result (λ a. arm_view a ≡ (view condition, block_view block)) }
-        ensures err { IfErr result (λ e. e ≡ Memory) }
-    {
-        let condition = Box::new(alloc, condition)?;
-        Ok(Arm { condition, block })
-    }
 }
 
 impl CaseArm {
@@ -204,23 +191,15 @@ impl CaseArm {
     }
 
     /// An arm, of a label or the default.
-    pub(crate) fn new(
-        alloc: Global,
-        label: Option<NormalExpr>,
-        block: Children<NormalStatement>,
-    ) -> Result<CaseArm, Fault>
-        ensures ok { IfOk result (λ a. label_view a ≡ (option_map view label, block_view block)) }
-        ensures err { IfErr result (λ e. e ≡ Memory) }
+    pub(crate) fn new(label: Option<Box<NormalExpr>>, block: Children<NormalStatement>) -> CaseArm
+        ensures { label_view result ≡ (option_map (λ x. view x.value) label, block_view block) }
     {
         match label {
-            None => Ok(CaseArm { label: None, block }),
-            Some(label) => {
-                let label = Box::new(alloc, label)?;
-                Ok(CaseArm {
-                    label: Some(label),
-                    block,
-                })
-            }
+            None => CaseArm { label: None, block },
+            Some(label) => CaseArm {
+                label: Some(label),
+                block,
+            },
         }
     }
 }

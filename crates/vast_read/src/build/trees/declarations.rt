@@ -21,12 +21,22 @@ impl<'t> BuildDeclarations<'t> for Trees {
 
     ghost declares = { trees };
 
-    fn one(alloc: Global, first: NormalExpr) -> Result<Group, Fault> {
-        Group::one(alloc, first)
+    fn one(_alloc: Global, first: Box<NormalExpr>) -> Result<Group, Fault> {
+        Ok(Group {
+            first,
+            second: None,
+        })
     }
 
-    fn range(alloc: Global, first: NormalExpr, second: NormalExpr) -> Result<Group, Fault> {
-        Group::range(alloc, first, second)
+    fn range(
+        _alloc: Global,
+        first: Box<NormalExpr>,
+        second: Box<NormalExpr>,
+    ) -> Result<Group, Fault> {
+        Ok(Group {
+            first,
+            second: Some(second),
+        })
     }
 
     fn groups(alloc: Global) -> Children<Group> {

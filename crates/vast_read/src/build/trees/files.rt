@@ -31,7 +31,7 @@ impl<'t> BuildFiles<'t> for Trees {
     fn parameter(
         alloc: Global,
         declared: NormalDeclaration,
-        value: NormalExpr,
+        value: Box<NormalExpr>,
     ) -> Result<Parameter, Fault> {
         Parameter::new(alloc, declared, value)
     }

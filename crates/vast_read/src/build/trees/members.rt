@@ -32,11 +32,11 @@ impl<'t> BuildMembers<'t> for Trees {
 
     ghost holds = { member_trees };
 
-    fn of_tree(tree: NormalExpr) -> NormalExpr {
+    fn of_tree(tree: Box<NormalExpr>) -> Box<NormalExpr> {
         tree
     }
 
-    fn edge(alloc: Global, edge: Key, expression: NormalExpr) -> Result<Event, Fault> {
+    fn edge(alloc: Global, edge: Key, expression: Box<NormalExpr>) -> Result<Event, Fault> {
         Event::at_edge(alloc, edge, expression)
     }
 
@@ -58,7 +58,11 @@ impl<'t> BuildMembers<'t> for Trees {
         Connection::open(alloc, name)
     }
 
-    fn connection(alloc: Global, name: &'t str, value: NormalExpr) -> Result<Connection, Fault> {
+    fn connection(
+        alloc: Global,
+        name: &'t str,
+        value: Box<NormalExpr>,
+    ) -> Result<Connection, Fault> {
         Connection::new(alloc, name, value)
     }
 
@@ -76,14 +80,14 @@ impl<'t> BuildMembers<'t> for Trees {
     }
 
     fn member(alloc: Global, form: MemberFormOf<'t, Trees>) -> Result<NormalMember, Fault>
-        ensures ok { IfOk result (λ m. member_view m ≡ form_member view listed
+        ensures ok { IfOk result (λ m. member_view m ≡ form_member (λ x. view x.value) listed
             declaration_view declarations_view statement_view block_view events_view
             connections_view members_view form.entry) }
         ensures err { IfErr result (λ e. e ≡ Memory) }
     {
         match form {
             MemberForm::Declared(declared) => NormalMember::declaration(alloc, declared),
-            MemberForm::Continuous(left, right) => NormalMember::assign(alloc, left, right),
+            MemberForm::Continuous(left, right) => Ok(NormalMember::Assign(left, right)),
             MemberForm::Constant(key, declared, value) => {
                 NormalMember::parameter(alloc, key, declared, value)
             }

@@ -20,7 +20,7 @@ impl<'t> BuildStatements<'t> for Trees {
 
     type Arms = Children<Arm>;
 
-    type Label = Option<NormalExpr>;
+    type Label = Option<Box<NormalExpr>>;
 
     type Cases = Children<CaseArm>;
 
@@ -47,18 +47,17 @@ impl<'t> BuildStatements<'t> for Trees {
 
     #[tactic(auto, using(crate::proofs::StatementLists::arms))]
     fn arm(
-        alloc: Global,
+        _alloc: Global,
         arms: &mut Children<Arm>,
-        condition: NormalExpr,
+        condition: Box<NormalExpr>,
         block: Children<NormalStatement>,
     ) -> Result<(), Fault> {
-        let arm = Arm::new(alloc, condition, block)?;
-        arms.push(arm)?;
+        arms.push(Arm { condition, block })?;
         Ok(())
     }
 
-    fn label(label: Option<NormalExpr>) -> Option<NormalExpr>
-        ensures { option_map view result ≡ option_map view label }
+    fn label(label: Option<Box<NormalExpr>>) -> Option<Box<NormalExpr>>
+        ensures { option_map (λ x. view x.value) result ≡ option_map (λ x. view x.value) label }
     {
         label
     }
@@ -69,40 +68,34 @@ impl<'t> BuildStatements<'t> for Trees {
 
     #[tactic(auto, using(crate::proofs::StatementLists::cases))]
     fn case_arm(
-        alloc: Global,
+        _alloc: Global,
         cases: &mut Children<CaseArm>,
-        label: Option<NormalExpr>,
+        label: Option<Box<NormalExpr>>,
         block: Children<NormalStatement>,
     ) -> Result<(), Fault> {
-        let arm = CaseArm::new(alloc, label, block)?;
-        cases.push(arm)?;
+        cases.push(CaseArm::new(label, block))?;
         Ok(())
     }
 
     #[tactic(auto, unfolding(vast_literal::specs::FileGrammar::assignment))]
     fn statement(alloc: Global, form: StatementFormOf<'t, Trees>) -> Result<NormalStatement, Fault>
         ensures ok { IfOk result (λ s. statement_view s
-            ≡ form_statement view block_view (map arm_view) labels_view form) }
+            ≡ form_statement (λ x. view x.value) block_view (map arm_view) labels_view form) }
         ensures err { IfErr result (λ e. e ≡ Memory) }
     {
         match form {
-            StatementForm::Assignment(true, left, right) => Ok(NormalStatement::Blocking(
-                Box::new(alloc, left)?,
-                Box::new(alloc, right)?,
-            )),
-            StatementForm::Assignment(false, left, right) => Ok(NormalStatement::Nonblocking(
-                Box::new(alloc, left)?,
-                Box::new(alloc, right)?,
-            )),
-            StatementForm::Assign(left, right) => Ok(NormalStatement::Assign(
-                Box::new(alloc, left)?,
-                Box::new(alloc, right)?,
-            )),
+            StatementForm::Assignment(true, left, right) => {
+                Ok(NormalStatement::Blocking(left, right))
+            },
+            StatementForm::Assignment(false, left, right) => {
+                Ok(NormalStatement::Nonblocking(left, right))
+            },
+            StatementForm::Assign(left, right) => Ok(NormalStatement::Assign(left, right)),
             StatementForm::Choice(arms, last) => Ok(NormalStatement::Choice(arms, last)),
             StatementForm::Case(is_unique, key, selector, cases) => Ok(NormalStatement::Case(
                 is_unique,
                 Word::new(alloc, key.text())?,
-                Box::new(alloc, selector)?,
+                selector,
                 cases,
             )),
         }

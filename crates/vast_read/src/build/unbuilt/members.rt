@@ -65,8 +65,8 @@ impl<'t> BuildMembers<'t> for Unbuilt {
       members = λ m. members_of m.value;
     } };
 
-    fn of_tree(tree: NormalExpr) -> Snapshot<Shadow<'t>> {
-        Snapshot::of(&Shadow::Tree(Snapshot::of(&tree)))
+    fn of_tree(tree: Box<NormalExpr>) -> Snapshot<Shadow<'t>> {
+        Snapshot::of(&Shadow::Tree(Snapshot::of(&*tree)))
     }
 
     fn edge(
