@@ -19,5 +19,6 @@ pub mod Unseen
 pub mod UnseenNodes
 pub mod Kept
 pub mod KeptWords
+mod KeptRegisters
 pub mod Callers
 mod Presence
