@@ -1,11 +1,11 @@
 //! Parts that ask for what they need in place of testing it, and promise what stays the file's.
 
 ghost use Rattle.std.specs.Prelude.{IfOk};
-ghost use Rattle.vast_core.specs.Bench.{OwnsBlock, OwnsExpr, OwnsModule, OwnsType};
+ghost use Rattle.vast_core.specs.Bench.{OwnsExpr, OwnsModule, OwnsType};
 ghost use Rattle.xlsynth_vast.specs.Keeps.{Keeps};
 
 use crate::fault::ExampleFault;
-use xlsynth_vast::{Expr, LiteralFormat, VastDataType, VastFile, VastModule, VastStatementBlock};
+use xlsynth_vast::{Expr, LiteralFormat, VastDataType, VastFile, VastModule};
 
 /// What is declared: a port or a wire.
 #[derive(Clone, Copy, Drop)]
@@ -72,8 +72,7 @@ pub(crate) fn make_bit(file: &mut VastFile) -> Result<VastDataType, ExampleFault
     Ok(file.make_scalar_type()?)
 }
 
-/// Declares a variable of this name. Behind a call that may be refused by name the prover finds what stays one kind of
-/// handles at a time, so here and below the kinds are promised that the examples use.
+/// Declares a variable of this name.
 ///
 /// # Errors
 /// `Refused` where the name is taken; want of memory.
@@ -86,9 +85,7 @@ pub(crate) fn declare_logic(
     requires owner { OwnsModule file.old owner }
     requires data_type { OwnsType file.old data_type }
     ensures answer { IfOk result (λ e. OwnsExpr file.new e) }
-    ensures exprs { (e : Expr) → OwnsExpr file.old e → OwnsExpr file.new e }
-    ensures types { (t : VastDataType) → OwnsType file.old t → OwnsType file.new t }
-    ensures modules { (m : VastModule) → OwnsModule file.old m → OwnsModule file.new m }
+    ensures kept { Keeps file.old file.new }
 {
     Ok(file.add_logic(owner, name, &data_type)?.to_expr())
 }
@@ -103,10 +100,7 @@ pub(crate) fn make_literal(
     file: &mut VastFile,
 ) -> Result<Expr, ExampleFault>
     ensures answer { IfOk result (λ e. OwnsExpr file.new e) }
-    ensures exprs { (e : Expr) → OwnsExpr file.old e → OwnsExpr file.new e }
-    ensures types { (t : VastDataType) → OwnsType file.old t → OwnsType file.new t }
-    ensures modules { (m : VastModule) → OwnsModule file.old m → OwnsModule file.new m }
-    ensures blocks { (b : VastStatementBlock) → OwnsBlock file.old b → OwnsBlock file.new b }
+    ensures kept { Keeps file.old file.new }
 {
     Ok(file.make_literal(text, format)?)
 }

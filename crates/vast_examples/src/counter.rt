@@ -1,6 +1,4 @@
 //! A counter of eight bits with a reset: ports, a register, a conditional in an `always_ff`, an assignment.
-//!
-//! Where a call may be refused, as that of a literal, its part promises what is used behind it, kind by kind.
 
 ghost use Rattle.std.specs.Prelude.{IfOk};
 ghost use Rattle.vast_core.specs.Bench.{OwnsBlock, OwnsExpr, OwnsModule, OwnsType};
@@ -83,7 +81,7 @@ fn add_clocked(
     requires owner { OwnsModule file.old owner }
     requires clock { OwnsExpr file.old clock }
     ensures answer { IfOk result (λ body. OwnsBlock file.new body) }
-    ensures exprs { (e : Expr) → OwnsExpr file.old e → OwnsExpr file.new e }
+    ensures kept { Keeps file.old file.new }
 {
     let edge = file.make_pos_edge(&clock)?;
     let always = file.add_always_ff(owner, &[&edge])?;
@@ -159,8 +157,7 @@ fn assign(
 fn make_next(value: Expr, file: &mut VastFile) -> Result<Expr, ExampleFault>
     requires value { OwnsExpr file.old value }
     ensures answer { IfOk result (λ e. OwnsExpr file.new e) }
-    ensures exprs { (e : Expr) → OwnsExpr file.old e → OwnsExpr file.new e }
-    ensures blocks { (b : VastStatementBlock) → OwnsBlock file.old b → OwnsBlock file.new b }
+    ensures kept { Keeps file.old file.new }
 {
     let one = make_literal("bits[8]:1", &LiteralFormat::UnsignedDecimal, file)?;
     Ok(file.make_add(&value, &one)?)

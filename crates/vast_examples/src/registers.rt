@@ -2,6 +2,7 @@
 
 ghost use Rattle.std.specs.Prelude.{IfOk};
 ghost use Rattle.vast_core.specs.Bench.{OwnsExpr, OwnsModule, OwnsType};
+ghost use Rattle.xlsynth_vast.specs.Keeps.{Keeps};
 ghost use Rattle.xlsynth_vast.specs.Registers.{OwnsRegister};
 
 use crate::asked::{Net, declare, declare_logic, make_bit, make_literal};
@@ -68,9 +69,7 @@ fn add_register(
     requires byte { OwnsType file.old map.now.byte }
     requires input { OwnsExpr file.old map.now.input }
     ensures register { IfOk result (λ r. OwnsRegister file.new r) }
-    ensures exprs { (e : Expr) → OwnsExpr file.old e → OwnsExpr file.new e }
-    ensures types { (t : VastDataType) → OwnsType file.old t → OwnsType file.new t }
-    ensures modules { (m : VastModule) → OwnsModule file.old m → OwnsModule file.new m }
+    ensures kept { Keeps file.old file.new }
 {
     let enable = declare(Net::Input, map.owner, enable, &map.bit, file)?;
     let reg = declare_logic(map.owner, name, map.byte, file)?;

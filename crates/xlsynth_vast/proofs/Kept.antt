@@ -1,9 +1,12 @@
 -- What a file keeps as it grows.
-use Rattle.std.proofs.Common.{◌≡◌, ℕ, Bool, true, false, cond, refl, ap, ◌∙◌, arith}
+use Rattle.std.proofs.Common.{◌≡◌, ℕ, Bool, true, false, cond, Result, Ok, Err, refl, sym, ap, ◌∙◌, subst, arith}
+use Rattle.std.specs.declared.alloc.AllocError.{AllocError}
+use Rattle.vast_core.specs.Raw.{Raw}
+use Rattle.vast_core.specs.View.{bench}
 use Rattle.vast_core.specs.Nodes.{Root}
 use Rattle.vast_core.specs.Records.{ModuleRecord, changed_at}
 use Rattle.vast_core.specs.Bench.{Bench}
-use Rattle.vast_core.specs.Growth.{with_root}
+use Rattle.vast_core.specs.Growth.{Grows as GrowsTo, with_root}
 use Rattle.vast_core.specs.Containers.{Listing, with_listing, Fresh, with_fresh, with_unique}
 use Rattle.vast_core.proofs.NodeLaws.{Extends-root}
 use Rattle.vast_core.proofs.Sound.{Grows, logic_ref_stays, port_stays, continuous_stays}
@@ -154,3 +157,14 @@ keeps-unique b i unique =
 pub keeps-cond : (b c d : Bench) (t : Bool) → Keeps b c → Keeps b d → Keeps b (cond t c d)
 keeps-cond b c d true h k = h
 keeps-cond b c d false h k = k
+
+-- A call of the arenas keeps what the file had where what it leaves keeps it; where memory was refused nothing changed.
+
+kept-from : (a b c d : Bench) → c ≡ d → b ≡ a → Keeps b d → Keeps a c
+kept-from a b c d end start k = subst (λ x. Keeps x c) start (subst (λ x. Keeps b x) (sym end) k)
+
+pub kept_by :
+    {A : Type 0} (old new : Raw) (file : Bench) (result : Result A AllocError) (answer : Bench → A) (after : Bench → Bench) →
+    GrowsTo old new result answer after → bench old ≡ file → Keeps (bench old) (after (bench old)) → Keeps file (bench new)
+kept_by old new file (Ok x) answer after h start k = kept-from file (bench old) (bench new) (after (bench old)) h.1 start k
+kept_by old new file (Err fault) answer after h start k = kept-from file (bench old) (bench new) (bench old) h start (keeps-same (bench old))

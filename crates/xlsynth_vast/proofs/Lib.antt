@@ -19,5 +19,7 @@ pub mod Unseen
 pub mod UnseenNodes
 pub mod Kept
 pub mod KeptWords
+mod KeptCalls
+mod KeptRegisters
 pub mod Callers
 mod Presence

@@ -8,6 +8,7 @@ ghost use Rattle.vast_core.specs.Bench.{OwnsModule, OwnsLoop, OwnsExpr, OwnsBloc
 ghost use Rattle.vast_core.specs.Sound.{EventSound};
 ghost use Rattle.vast_core.specs.Loops.{next_always};
 ghost use Rattle.xlsynth_vast.specs.Refusals.{MayBuild, no_refusal};
+ghost use Rattle.xlsynth_vast.specs.Keeps.{Keeps};
 ghost use Rattle.xlsynth_vast.specs.AlwaysBlocks.{wrong_event, unless_wrong_event, with_always_member, with_loop_always};
 ghost use Rattle.xlsynth_vast.specs.Inspections.{block_at};
 
@@ -60,10 +61,11 @@ impl VastFile {
     ) -> Result<VastAlwaysBase, VastFault>
         requires owner { OwnsModule self.old owner }
         requires events { All (λ e. OwnsExpr self.old e.now) sensitivity_list.now }
-        ensures { MayBuild self.old self.new result
+        ensures built { MayBuild self.old self.new result
             (λ b. unless_wrong_event (codes "always_ff") b (map (λ e. e.now) sensitivity_list.now))
             next_always
             (λ _. with_always_member owner AlwaysFF (map (λ e. e.now) sensitivity_list.now)) }
+        ensures kept { Keeps self.old self.new }
     {
         let events = self.events("always_ff", sensitivity_list)?;
         Ok(self.ast.push_always_ff(Scope::Module(owner), events)?)
@@ -80,10 +82,11 @@ impl VastFile {
     ) -> Result<VastAlwaysBase, VastFault>
         requires owner { OwnsModule self.old owner }
         requires events { All (λ e. OwnsExpr self.old e.now) sensitivity_list.now }
-        ensures { MayBuild self.old self.new result
+        ensures built { MayBuild self.old self.new result
             (λ b. unless_wrong_event (codes "always @") b (map (λ e. e.now) sensitivity_list.now))
             next_always
             (λ _. with_always_member owner AlwaysAt (map (λ e. e.now) sensitivity_list.now)) }
+        ensures kept { Keeps self.old self.new }
     {
         let events = self.events("always @", sensitivity_list)?;
         Ok(self.ast.push_always_at(Scope::Module(owner), events)?)
@@ -95,8 +98,9 @@ impl VastFile {
     /// `Memory` where a growth was refused; the file is unchanged. It is never `Refused`.
     pub fn add_always_comb(&mut self, owner: VastModule) -> Result<VastAlwaysBase, VastFault>
         requires { OwnsModule self.old owner }
-        ensures { MayBuild self.old self.new result no_refusal next_always
+        ensures built { MayBuild self.old self.new result no_refusal next_always
             (λ _. with_always_member owner AlwaysComb []) }
+        ensures kept { Keeps self.old self.new }
     {
         Ok(self.ast.push_always_comb(Scope::Module(owner))?)
     }
@@ -121,10 +125,11 @@ impl VastFile {
     ) -> Result<VastAlwaysBase, VastFault>
         requires generate { OwnsLoop self.old generate }
         requires events { All (λ e. OwnsExpr self.old e.now) sensitivity_list.now }
-        ensures { MayBuild self.old self.new result
+        ensures built { MayBuild self.old self.new result
             (λ b. unless_wrong_event (codes "always_ff") b (map (λ e. e.now) sensitivity_list.now))
             next_always
             (λ _. with_loop_always generate AlwaysFF (map (λ e. e.now) sensitivity_list.now)) }
+        ensures kept { Keeps self.old self.new }
     {
         let events = self.events("always_ff", sensitivity_list)?;
         Ok(self.ast.push_always_ff(Scope::Loop(generate), events)?)
@@ -141,10 +146,11 @@ impl VastFile {
     ) -> Result<VastAlwaysBase, VastFault>
         requires generate { OwnsLoop self.old generate }
         requires events { All (λ e. OwnsExpr self.old e.now) sensitivity_list.now }
-        ensures { MayBuild self.old self.new result
+        ensures built { MayBuild self.old self.new result
             (λ b. unless_wrong_event (codes "always @") b (map (λ e. e.now) sensitivity_list.now))
             next_always
             (λ _. with_loop_always generate AlwaysAt (map (λ e. e.now) sensitivity_list.now)) }
+        ensures kept { Keeps self.old self.new }
     {
         let events = self.events("always @", sensitivity_list)?;
         Ok(self.ast.push_always_at(Scope::Loop(generate), events)?)
@@ -159,8 +165,9 @@ impl VastFile {
         generate: GenerateLoop,
     ) -> Result<VastAlwaysBase, VastFault>
         requires { OwnsLoop self.old generate }
-        ensures { MayBuild self.old self.new result no_refusal next_always
+        ensures built { MayBuild self.old self.new result no_refusal next_always
             (λ _. with_loop_always generate AlwaysComb []) }
+        ensures kept { Keeps self.old self.new }
     {
         Ok(self.ast.push_always_comb(Scope::Loop(generate))?)
     }

@@ -7,6 +7,7 @@ ghost use Rattle.vast_literal.specs.Fault.{OnlyRefusedBy};
 ghost use Rattle.vast_core.specs.Bench.{OwnsModule, OwnsType, NameIsFree};
 ghost use Rattle.vast_core.specs.Growth.{Builds, next_logic_ref, with_declaration};
 ghost use Rattle.xlsynth_vast.specs.Refusals.{MayBuild};
+ghost use Rattle.xlsynth_vast.specs.Keeps.{Keeps};
 ghost use Rattle.xlsynth_vast.specs.Declarations.{names_in, listed_names, already_declared, unless_taken};
 
 use crate::file::VastFile;
@@ -98,9 +99,10 @@ impl VastFile {
     ) -> Result<LogicRef, VastFault>
         requires owner { OwnsModule self.old owner }
         requires data_type { OwnsType self.old data_type.now }
-        ensures { MayBuild self.old self.new result
+        ensures built { MayBuild self.old self.new result
             (λ b. unless_taken (codes "reg") name.now (names_in b owner)) next_logic_ref
             (λ _. with_declaration owner DataKind.Reg name.now data_type.now) }
+        ensures kept { Keeps self.old self.new }
     {
         self.refuse_taken(owner, "reg", name)?;
         Ok(
@@ -121,9 +123,10 @@ impl VastFile {
     ) -> Result<LogicRef, VastFault>
         requires owner { OwnsModule self.old owner }
         requires data_type { OwnsType self.old data_type.now }
-        ensures { MayBuild self.old self.new result
+        ensures built { MayBuild self.old self.new result
             (λ b. unless_taken (codes "logic") name.now (names_in b owner)) next_logic_ref
             (λ _. with_declaration owner DataKind.Logic name.now data_type.now) }
+        ensures kept { Keeps self.old self.new }
     {
         self.refuse_taken(owner, "logic", name)?;
         Ok(

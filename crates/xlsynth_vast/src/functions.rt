@@ -10,6 +10,7 @@ ghost use Rattle.vast_core.specs.Growth.{next_logic_ref};
 ghost use Rattle.vast_core.specs.Functions.{with_variable};
 ghost use Rattle.vast_core.specs.Loops.{next_function};
 ghost use Rattle.xlsynth_vast.specs.Refusals.{MayBuild};
+ghost use Rattle.xlsynth_vast.specs.Keeps.{Keeps};
 ghost use Rattle.xlsynth_vast.specs.Declarations.{names_in};
 ghost use Rattle.xlsynth_vast.specs.Functions.{is_unpacked, unless_unpacked, may_be_function, with_function_member, declared_in_function, unless_taken_in_function};
 ghost use Rattle.xlsynth_vast.specs.Inspections.{body_at, result_at};
@@ -90,9 +91,10 @@ impl VastFile {
     ) -> Result<VastFunction, VastFault>
         requires owner { OwnsModule self.old owner }
         requires result_type { OwnsType self.old result_type.now }
-        ensures { MayBuild self.old self.new result
+        ensures built { MayBuild self.old self.new result
             (λ b. may_be_function (type_of b result_type.now) name.now (names_in b owner))
             next_function (λ _. with_function_member owner name.now result_type.now) }
+        ensures kept { Keeps self.old self.new }
     {
         self.refuse_unpacked(*result_type)?;
         self.refuse_taken(owner, "function", name)?;
@@ -134,10 +136,11 @@ impl VastFile {
     ) -> Result<LogicRef, VastFault>
         requires function { OwnsFunction self.old function }
         requires data_type { OwnsType self.old data_type.now }
-        ensures { MayBuild self.old self.new result
+        ensures built { MayBuild self.old self.new result
             (λ b. unless_taken_in_function (codes "input") name.now b function) next_logic_ref
             (λ _. with_variable function false
             (record { kind = DataKind.Reg; name = name.now; data_type = data_type.now })) }
+        ensures kept { Keeps self.old self.new }
     {
         self.refuse_taken_in_function(function, "input", name)?;
         Ok(
@@ -158,10 +161,11 @@ impl VastFile {
     ) -> Result<LogicRef, VastFault>
         requires function { OwnsFunction self.old function }
         requires data_type { OwnsType self.old data_type.now }
-        ensures { MayBuild self.old self.new result
+        ensures built { MayBuild self.old self.new result
             (λ b. unless_taken_in_function (codes "input") name.now b function) next_logic_ref
             (λ _. with_variable function false
             (record { kind = DataKind.Logic; name = name.now; data_type = data_type.now })) }
+        ensures kept { Keeps self.old self.new }
     {
         self.refuse_taken_in_function(function, "input", name)?;
         Ok(
@@ -182,10 +186,11 @@ impl VastFile {
     ) -> Result<LogicRef, VastFault>
         requires function { OwnsFunction self.old function }
         requires data_type { OwnsType self.old data_type.now }
-        ensures { MayBuild self.old self.new result
+        ensures built { MayBuild self.old self.new result
             (λ b. unless_taken_in_function (codes "reg") name.now b function) next_logic_ref
             (λ _. with_variable function true
             (record { kind = DataKind.Reg; name = name.now; data_type = data_type.now })) }
+        ensures kept { Keeps self.old self.new }
     {
         self.refuse_taken_in_function(function, "reg", name)?;
         Ok(
@@ -206,10 +211,11 @@ impl VastFile {
     ) -> Result<LogicRef, VastFault>
         requires function { OwnsFunction self.old function }
         requires data_type { OwnsType self.old data_type.now }
-        ensures { MayBuild self.old self.new result
+        ensures built { MayBuild self.old self.new result
             (λ b. unless_taken_in_function (codes "logic") name.now b function) next_logic_ref
             (λ _. with_variable function true
             (record { kind = DataKind.Logic; name = name.now; data_type = data_type.now })) }
+        ensures kept { Keeps self.old self.new }
     {
         self.refuse_taken_in_function(function, "logic", name)?;
         Ok(

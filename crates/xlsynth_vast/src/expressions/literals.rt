@@ -5,6 +5,7 @@ ghost use Rattle.vast_literal.specs.Tree.{LiteralTree};
 ghost use Rattle.vast_literal.specs.Pattern.{pattern};
 ghost use Rattle.vast_core.specs.Growth.{Builds, next_expr, with_expr, decimal_literal};
 ghost use Rattle.xlsynth_vast.specs.Refusals.{MayBuild};
+ghost use Rattle.xlsynth_vast.specs.Keeps.{Keeps};
 ghost use Rattle.xlsynth_vast.specs.Literals.{known_value, literal_in, pattern_literal, string_literal};
 
 use crate::file::VastFile;
@@ -27,8 +28,9 @@ impl VastFile {
     /// `Refused` where the text is no literal, and then where the format doesn't take its number: the unsized formats
     /// have limits. `Memory` where a growth was refused. The file is unchanged.
     pub fn make_literal(&mut self, text: &str, format: &LiteralFormat) -> Result<Expr, VastFault>
-        ensures { MayBuild self.old self.new result (λ _. literal_in format.now text.now) next_expr
+        ensures built { MayBuild self.old self.new result (λ _. literal_in format.now text.now) next_expr
             with_expr }
+        ensures kept { Keeps self.old self.new }
     {
         let alloc = self.ast.allocator();
         let literal = Literal::parse(alloc, text)?;
@@ -44,8 +46,9 @@ impl VastFile {
     /// `Refused` where there are no digits, more than 1,048,576, or others. `Memory` where a growth was refused. The
     /// file is unchanged.
     pub fn make_binary_pattern(&mut self, bits_msb: &str) -> Result<Expr, VastFault>
-        ensures { MayBuild self.old self.new result (λ _. pattern bits_msb.now) next_expr
+        ensures built { MayBuild self.old self.new result (λ _. pattern bits_msb.now) next_expr
             (λ text. with_expr (pattern_literal text)) }
+        ensures kept { Keeps self.old self.new }
     {
         let text = pattern_text(self.ast.allocator(), bits_msb)?;
         Ok(self.ast.push_expr(ExprNode::Literal(text, None))?)

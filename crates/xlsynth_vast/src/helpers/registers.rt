@@ -8,6 +8,7 @@ ghost use Rattle.vast_core.specs.Growth.{Builds, Leaves};
 ghost use Rattle.vast_core.specs.Containers.{next_block, with_spare_block};
 ghost use Rattle.vast_core.specs.FileTree.{tree};
 ghost use Rattle.xlsynth_vast.specs.Reductions.{ChecksBy};
+ghost use Rattle.xlsynth_vast.specs.Keeps.{Keeps};
 ghost use Rattle.xlsynth_vast.specs.Registers.{register_trees, maybe_reset_tree, unless_unresettable, OwnsRegister, OwnsReset, OwnsScope, TakeTheirValues};
 ghost use Rattle.xlsynth_vast.specs.AddedRegisters.{is_resettable, running_expr, with_running, value_expr, with_value, with_assigned, with_all_assigned, active_expr, with_active, with_reset, with_clocked, MayAddRegisters};
 ghost use Rattle.xlsynth_vast.specs.RegisterSteps.{MayFill, MayMakeBlock, IsOlderScope};
@@ -282,6 +283,7 @@ pub fn add_registers(
     ensures values { OnOk result
         (TakeTheirValues (maybe_reset_tree file.old reset)
         (register_trees file.old registers.now)) }
+    ensures kept { Keeps file.old file.new }
     ensures unseen { OnErr result (tree file.new ≡ tree file.old) }
     ensures none { registers.now ≡ [] → result ≡ Ok tt }
 {

@@ -5,4 +5,4 @@ pub returns : goal.returns
 returns c =
     values-made c.args.file.now c.make_literal.new.self c.make_literal-2.new.self
     c.in_ok-first.first c.in_ok-second.second
-    c.requires c.in_ok-first.ensures c.in_ok-second.ensures
+    c.requires c.in_ok-first.ensures.built c.in_ok-second.ensures.built

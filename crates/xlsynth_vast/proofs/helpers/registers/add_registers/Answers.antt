@@ -1,9 +1,10 @@
 -- proofs/helpers/registers/add_registers/Answers.antt
-use Rattle.std.proofs.Common.{rules, ◌≡◌, ◌<◌, length, Err}
+use Rattle.std.proofs.Common.{rules, ◌≡◌, ◌<◌, length, Ok, Err}
 use Rattle.vast_literal.specs.declared.error.VastFault.TheVariants.{Memory}
 use Rattle.xlsynth_vast.proofs.RegisterMembers.{block-unused, block-clock, block-spare, edge-unused, scope-owned, scope-older, registers-added, check-refused}
 use Rattle.xlsynth_vast.proofs.RegisterSteps.{edged-event, is-added}
 use Rattle.xlsynth_vast.proofs.RegisterValues.{registers-take-their-values, none-take}
+use Rattle.xlsynth_vast.proofs.KeptRegisters.{keeps-unused, registers-kept}
 use Rattle.xlsynth_vast.proofs.Unseen.{unseen-refused}
 use Rattle.xlsynth_vast.proofs.helpers.registers.add_registers.Goals as goal
 
@@ -44,6 +45,19 @@ pub returns-in_err-attach-clause-built : goal.returns-in_err-attach-clause-built
 returns-in_err-attach-clause-built c =
     let e : c.from_residual-in_err-attach.result ≡ Err (Memory c.in_err-attach.field-0.0) = search rules in
     rw (e, c.in_err-attach.ensures, c.in_ok-event.ensures.1, c.in_ok-block.ensures.1) (edge-unused c.args.file.now _ c.args.clk.now (block-unused c.args.reset c.args.registers.now c.args.file.now))
+
+pub returns-clause-kept : goal.returns-clause-kept
+returns-clause-kept c = registers-kept _ _ (Ok tt) c.args.clk.now c.args.reset c.args.registers.now c.args.scope (returns-clause-built c)
+
+pub returns-in_err-block-clause-kept : goal.returns-in_err-block-clause-kept
+returns-in_err-block-clause-kept c = keeps-unused _ _ c.in_err-block.ensures
+
+pub returns-in_err-event-clause-kept : goal.returns-in_err-event-clause-kept
+returns-in_err-event-clause-kept c = keeps-unused _ _ (rw (c.in_err-event.ensures, c.in_ok-block.ensures.1) (block-unused c.args.reset c.args.registers.now c.args.file.now))
+
+pub returns-in_err-attach-clause-kept : goal.returns-in_err-attach-clause-kept
+returns-in_err-attach-clause-kept c =
+    keeps-unused _ _ (rw (c.in_err-attach.ensures, c.in_ok-event.ensures.1, c.in_ok-block.ensures.1) (edge-unused c.args.file.now _ c.args.clk.now (block-unused c.args.reset c.args.registers.now c.args.file.now)))
 
 pub returns-in_err-block-clause-unseen : goal.returns-in_err-block-clause-unseen
 returns-in_err-block-clause-unseen c = unseen-refused _ _ c.from_residual-in_err-block.result c.records_are_sound.ensures c.in_err-block.ensures
