@@ -1116,7 +1116,7 @@ class Calls(Core):
         scope: RegisterScope,
     ) -> None:
         """One `always_ff`, last in its scope, by which each register takes its value; a reset value
-        without a reset is refused; no registers change nothing.
+        without a reset is refused; all else is as before; no registers change nothing.
 
         Raises `Refused` where a register has a value at reset and there is no reset.
         """
