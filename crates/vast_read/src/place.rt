@@ -63,7 +63,8 @@ fn file_or_place<'t, B: BuildFiles<'t>>(
 
 /// The first token of a text, as it is written, with what stands before it; all of it, where no token fits.
 pub fn first_token(text: &str) -> &str
-    ensures { (rest : List ℕ) × (text.now ≡ result.now ++ rest) × (IsBehindFirst text.now rest ⊎ (rest ≡ [])) }
+    ensures { (rest : List ℕ) × (text.now ≡ result.now ++ rest)
+        × (IsBehindFirst text.now rest ⊎ (rest ≡ [])) }
 {
     let (_, behind) = first_and_behind(text);
     match text.strip_suffix(behind) {
