@@ -1,0 +1,4 @@
+pub mod Hash
+pub mod Texts
+pub mod Index
+pub mod Table

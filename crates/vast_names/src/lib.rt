@@ -1,0 +1,12 @@
+//! A table of names, in one buffer.
+//!
+//! Whoever chooses the names can't make it slow: a chain of names in one slot has a bound, behind which names lie in a
+//! tree.
+#![tactic(auto)]
+
+mod hash;
+mod index;
+mod table;
+mod texts;
+
+pub use table::NameTable;
