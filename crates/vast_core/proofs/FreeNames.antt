@@ -1,40 +1,12 @@
 -- A name more in a set, and a name more among those that a function declares.
-use Rattle.std.proofs.Common.{◌≡◌, ◌≢◌, ◌↔◌, ℕ, Bool, true, false, List, [], ◌∷◌, ◌++◌, All, refl, sym, ◌∙◌, arith, append_assoc}
-use Rattle.std.specs.declared.cmp.Ordering.{Ordering}
-use Rattle.std.specs.declared.cmp.Ordering.TheVariants.{Less, Equal, Greater}
-use Rattle.std.specs.Ordering.{nat_cmp}
-use Rattle.std.specs.Cmp.Lexicographic.{slice_cmp}
+use Rattle.std.proofs.Common.{◌≡◌, ◌≢◌, ◌↔◌, ℕ, Bool, true, false, List, [], ◌∷◌, ◌++◌, All, sym, append_assoc}
 use Rattle.std.proofs.lemmas.List.{map-append, append-nil}
-use Rattle.std.proofs.lemmas.Map.Views.{All-insert_key}
 use Rattle.vast_core.specs.Records.{IsFree, with_name}
 use Rattle.vast_core.specs.Nests.{VariableRecord, FunctionRecord, variable_names, declared_names}
 use Rattle.vast_core.specs.Functions.{with_listed_variable}
 use Rattle.vast_core.specs.Sound.{AreDistinct}
 use Rattle.vast_core.proofs.Lists.{All-cons, All-head, All-tail}
-use Rattle.vast_core.proofs.Names.{test-equal}
-
--- A set with a name more.
-
-without-case :
-    (name new x : List ℕ) (xs : List (List ℕ)) (o : Ordering) → slice_cmp nat_cmp new x ≡ o → (IsFree name (with_name new xs) → (new ≢ name) × IsFree name xs) → IsFree name (with_name new (x ∷ xs)) →
-    (new ≢ name) × IsFree name (x ∷ xs)
-without-case name new x xs Less e h =
-    let P : List ℕ → Type 0 = λ taken. taken ≢ name in
-    rw e (λ k. (All-head P new (x ∷ xs) k, All-tail P new (x ∷ xs) k))
-without-case name new x xs Equal e h =
-    let P : List ℕ → Type 0 = λ taken. taken ≢ name in
-    let same : x ≡ new = test-equal new x (rw e refl) in
-    rw e (λ k. ((λ is. All-head P x xs k (same ∙ is)), k))
-without-case name new x xs Greater e h =
-    let P : List ℕ → Type 0 = λ taken. taken ≢ name in
-    rw e (λ k. ((h (All-tail P x (with_name new xs) k)).0, All-cons P x xs (All-head P x (with_name new xs) k) (h (All-tail P x (with_name new xs) k)).1))
-
-free-without : (name new : List ℕ) (names : List (List ℕ)) → IsFree name (with_name new names) → (new ≢ name) × IsFree name names
-free-without name new [] h = (All-head (λ taken. taken ≢ name) new [] h, λ k d below. absurd (omega arith))
-free-without name new (x ∷ xs) h = without-case name new x xs (slice_cmp nat_cmp new x) refl (free-without name new xs) h
-
-free-with_name : (name new : List ℕ) (names : List (List ℕ)) → IsFree name (with_name new names) ↔ (new ≢ name) × IsFree name names
-free-with_name name new names = (free-without name new names, λ h. All-insert_key (slice_cmp nat_cmp) new (λ taken. taken ≢ name) names h.1 h.0)
+use Rattle.vast_core.proofs.Names.{free-with_name}
 
 -- A list with an element more.
 

@@ -1,73 +1,73 @@
 -- Laws of name sets.
-use Rattle.std.proofs.Common.{◌≡◌, ◌≢◌, ◌↔◌, ℕ, Bool, true, false, not, IsTrue, List, [], ◌∷◌, map, refl, sym, ap, ◌∙◌, arith, string_bytes, String}
-use Rattle.std.proofs.lemmas.Bool.{true≢false, or_parts, or_from, false_from_ne_true}
-use Rattle.std.specs.declared.alloc.Global.{Global}
+use Rattle.std.proofs.Common.{◌≡◌, ◌≢◌, ◌↔◌, ℕ, Bool, true, false, not, IsTrue, List, [], ◌∷◌, ◌++◌, Contains, refl, sym, ◌∙◌, arith}
+use Rattle.std.proofs.lemmas.List.{get_or_default}
+use Rattle.std.proofs.lemmas.List.Elements.{All-contains}
+use Rattle.std.proofs.lemmas.List.Sums.{fold_push}
+use Rattle.std.proofs.lemmas.Map.Views.{All-insert_key}
+use Rattle.std.proofs.lemmas.Map.Text.{is_eq-slice_cmp}
+use Rattle.std.proofs.lemmas.Slice.Eq.{bytes_eq-Decides}
 use Rattle.std.specs.declared.cmp.Ordering.{Ordering}
 use Rattle.std.specs.declared.cmp.Ordering.TheVariants.{Less, Equal, Greater}
 use Rattle.std.specs.Ordering.{nat_cmp, is_eq}
 use Rattle.std.specs.Cmp.Lexicographic.{slice_cmp}
-use Rattle.std.specs.BTreeSet.{insert_key}
-use Rattle.std.specs.BTreeMap.{is_at}
-use Rattle.std.specs.List.{list_any}
-use Rattle.std.specs.String.{string_cmp}
-use Rattle.std.proofs.lemmas.Map.Text.{is_eq-slice_cmp}
-use Rattle.std.proofs.lemmas.Slice.Eq.{bytes_eq-Decides}
-use Rattle.vast_core.specs.Records.{IsFree, with_name}
+use Rattle.std.specs.List.{fold}
+use Rattle.vast_core.specs.Records.{IsFree, with_name, in_byte_order}
 use Rattle.vast_core.proofs.Lists.{All-cons, All-head, All-tail}
-
--- The texts of a set's strings, with one string more.
-insert-case :
-    (x name : String Global) (xs : List (String Global)) (o : Ordering) →
-    slice_cmp nat_cmp (string_bytes name) (string_bytes x) ≡ o →
-    map string_bytes (insert_key string_cmp xs name) ≡ with_name (string_bytes name) (map string_bytes xs) →
-    map string_bytes (insert_key string_cmp (x ∷ xs) name) ≡ with_name (string_bytes name) (map string_bytes (x ∷ xs))
-insert-case x name xs Less e h = rw e refl
-insert-case x name xs Equal e h = rw e refl
-insert-case x name xs Greater e h = rw e (ap (λ r. string_bytes x ∷ r) h)
-
-pub map-insert_key :
-    (names : List (String Global)) (name : String Global) →
-    map string_bytes (insert_key string_cmp names name) ≡ with_name (string_bytes name) (map string_bytes names)
-map-insert_key [] name = refl
-map-insert_key (x ∷ xs) name = insert-case x name xs (slice_cmp nat_cmp (string_bytes name) (string_bytes x)) refl (map-insert_key xs name)
-
--- A name is free exactly where no string of the set has its bytes.
-
--- Whether a string of the set has these bytes.
-abbrev pub is_taken : List ℕ → List (String Global) → Bool
-is_taken bytes names = list_any (is_at (λ k. slice_cmp nat_cmp bytes (string_bytes k))) names
 
 pub test-equal : (a b : List ℕ) → is_eq (slice_cmp nat_cmp a b) ≡ true → b ≡ a
 test-equal a b h = sym ((bytes_eq-Decides a b).0 (sym (is_eq-slice_cmp a b) ∙ h))
 
-test-same : (a b : List ℕ) → b ≡ a → is_eq (slice_cmp nat_cmp a b) ≡ true
-test-same a b h = is_eq-slice_cmp a b ∙ (bytes_eq-Decides a b).1 (sym h)
+-- A set with a name more.
 
-free-from : (bytes : List ℕ) (names : List (String Global)) → is_taken bytes names ≡ false → IsFree bytes (map string_bytes names)
-free-from bytes [] h = λ k d below. absurd (omega arith)
-free-from bytes (x ∷ xs) h =
-    let (first, rest) = or_parts (is_eq (slice_cmp nat_cmp bytes (string_bytes x))) (is_taken bytes xs) h in
-    let other : (string_bytes x ≡ bytes) → ⊥ = λ e. true≢false (sym (test-same bytes (string_bytes x) e) ∙ first)
-    in All-cons (λ taken. taken ≢ bytes) (string_bytes x) (map string_bytes xs) other (free-from bytes xs rest)
+without-case :
+    (name new x : List ℕ) (xs : List (List ℕ)) (o : Ordering) → slice_cmp nat_cmp new x ≡ o → (IsFree name (with_name new xs) → (new ≢ name) × IsFree name xs) → IsFree name (with_name new (x ∷ xs)) →
+    (new ≢ name) × IsFree name (x ∷ xs)
+without-case name new x xs Less e h =
+    let P : List ℕ → Type 0 = λ taken. taken ≢ name in
+    rw e (λ k. (All-head P new (x ∷ xs) k, All-tail P new (x ∷ xs) k))
+without-case name new x xs Equal e h =
+    let P : List ℕ → Type 0 = λ taken. taken ≢ name in
+    let same : x ≡ new = test-equal new x (rw e refl) in
+    rw e (λ k. ((λ is. All-head P x xs k (same ∙ is)), k))
+without-case name new x xs Greater e h =
+    let P : List ℕ → Type 0 = λ taken. taken ≢ name in
+    rw e (λ k. ((h (All-tail P x (with_name new xs) k)).0, All-cons P x xs (All-head P x (with_name new xs) k) (h (All-tail P x (with_name new xs) k)).1))
 
-free-to : (bytes : List ℕ) (names : List (String Global)) → IsFree bytes (map string_bytes names) → is_taken bytes names ≡ false
-free-to bytes [] h = refl
-free-to bytes (x ∷ xs) h =
-    let P : List ℕ → Type 0 = λ taken. taken ≢ bytes in
-    or_from (is_eq (slice_cmp nat_cmp bytes (string_bytes x))) (is_taken bytes xs)
-    (false_from_ne_true (is_eq (slice_cmp nat_cmp bytes (string_bytes x))) (λ e. All-head P (string_bytes x) (map string_bytes xs) h (test-equal bytes (string_bytes x) e)))
-    (free-to bytes xs (All-tail P (string_bytes x) (map string_bytes xs) h))
+free-without : (name new : List ℕ) (names : List (List ℕ)) → IsFree name (with_name new names) → (new ≢ name) × IsFree name names
+free-without name new [] h = (All-head (λ taken. taken ≢ name) new [] h, λ k d below. absurd (omega arith))
+free-without name new (x ∷ xs) h = without-case name new x xs (slice_cmp nat_cmp new x) refl (free-without name new xs) h
 
-false-of-not : (b : Bool) → IsTrue (not b) → b ≡ false
-false-of-not true h = cc
-false-of-not false h = refl
+pub free-with_name : (name new : List ℕ) (names : List (List ℕ)) → IsFree name (with_name new names) ↔ (new ≢ name) × IsFree name names
+free-with_name name new names = (free-without name new names, λ h. All-insert_key (slice_cmp nat_cmp) new (λ taken. taken ≢ name) names h.1 h.0)
 
-not-of-false : (b : Bool) → b ≡ false → IsTrue (not b)
-not-of-false true h = cc
-not-of-false false h = refl
+-- The names that were entered, in byte order.
 
-pub free-test : (bytes : List ℕ) (names : List (String Global)) (b : Bool) → b ≡ is_taken bytes names → IsTrue (not b) ↔ IsFree bytes (map string_bytes names)
-free-test bytes names b e = (
-  λ h. free-from bytes names (sym e ∙ false-of-not b h),
-  λ h. not-of-false b (e ∙ free-to bytes names h),
-)
+pub entered-one : (names : List (List ℕ)) (name : List ℕ) → in_byte_order (names ++ name ∷ []) ≡ with_name name (in_byte_order names)
+entered-one names name = fold_push (λ sorted name. with_name name sorted) [] names name
+
+free-entered : (name : List ℕ) (sorted names : List (List ℕ)) → IsFree name (fold (λ sorted name. with_name name sorted) sorted names) → IsFree name sorted × IsFree name names
+free-entered name sorted [] h = (h, λ k d below. absurd (omega arith))
+free-entered name sorted (x ∷ xs) h =
+    let rest = free-entered name (with_name x sorted) xs h in
+    let first = (free-with_name name x sorted).0 rest.0 in
+    (first.1, All-cons (λ taken. taken ≢ name) x xs first.0 rest.1)
+
+entered-free : (name : List ℕ) (sorted names : List (List ℕ)) → IsFree name sorted → IsFree name names → IsFree name (fold (λ sorted name. with_name name sorted) sorted names)
+entered-free name sorted [] s h = s
+entered-free name sorted (x ∷ xs) s h =
+    let P : List ℕ → Type 0 = λ taken. taken ≢ name in
+    entered-free name (with_name x sorted) xs ((free-with_name name x sorted).1 (All-head P x xs h, s)) (All-tail P x xs h)
+
+-- A name is free exactly where it was not entered.
+
+no-free : (name : List ℕ) (names : List (List ℕ)) → Contains names name → IsFree name (in_byte_order names) → ⊥
+no-free name names h free = All-contains (λ taken. taken ≢ name) names name (free-entered name [] names free).1 h refl
+
+is-free : (name : List ℕ) (names : List (List ℕ)) → (Contains names name → ⊥) → IsFree name (in_byte_order names)
+is-free name names h =
+    entered-free name [] names (λ k d below. absurd (omega arith))
+    (λ k d below e. h (k, below, get_or_default names k name d below ∙ e))
+
+pub free-test : (name : List ℕ) (names : List (List ℕ)) (b : Bool) → (IsTrue b ↔ Contains names name) → IsTrue (not b) ↔ IsFree name (in_byte_order names)
+free-test name names true h = (λ k. cc, λ k. absurd (no-free name names (h.0 refl) k))
+free-test name names false h = (λ k. is-free name names (λ c. let no = h.1 c in cc), λ k. refl)

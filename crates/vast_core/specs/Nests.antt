@@ -23,7 +23,7 @@ use Rattle.vast_core.specs.declared.node.Nest.TheVariants.{Block as BlockNode, C
 use Rattle.vast_core.specs.declared.node.FunctionVariable.{FunctionVariable}
 use Rattle.vast_core.specs.declared.node.Function.{Function}
 use Rattle.vast_core.specs.declared.node.AlwaysBlock.{AlwaysBlock}
-use Rattle.vast_core.specs.Records.{MemberEntry, member_entry}
+use Rattle.vast_core.specs.Records.{MemberEntry, member_entry, in_byte_order}
 
 -- A statement of a block. An assignment or a container stays where it is, and its statement names it.
 pub data StatementEntry : Type 0 where
@@ -127,7 +127,7 @@ abbrev pub variable_record : FunctionVariable → VariableRecord
 variable_record v = record { kind = v.kind; name = string_bytes v.name; data_type = v.data_type }
 
 abbrev pub function_record : Function → FunctionRecord
-function_record f = record { name = string_bytes f.name; result_type = f.result_type; result_name = f.result; inputs = map variable_record f.inputs.items; locals = map variable_record f.locals.items; body = f.body; names = map string_bytes f.names.keys }
+function_record f = record { name = string_bytes f.name; result_type = f.result_type; result_name = f.result; inputs = map variable_record f.inputs.items; locals = map variable_record f.locals.items; body = f.body; names = in_byte_order f.names }
 
 abbrev pub always_record : AlwaysBlock → AlwaysRecord
 always_record a = record { kind = a.kind; events = a.events.items; block = a.block }

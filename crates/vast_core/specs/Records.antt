@@ -1,6 +1,6 @@
 -- The records of ports, modules, definitions, artifacts, instantiations and file items: nodes with the bytes of their
 -- texts.
-use Rattle.std.specs.Prelude.{◌≢◌, ℕ, Bool, Option, zero, suc, List, [], ◌∷◌, ◌++◌, map, All, string_bytes}
+use Rattle.std.specs.Prelude.{◌≢◌, ℕ, Bool, Option, zero, suc, List, [], ◌∷◌, ◌++◌, map, fold, All, string_bytes}
 use Rattle.std.specs.Ordering.{nat_cmp}
 use Rattle.std.specs.Cmp.Lexicographic.{slice_cmp}
 use Rattle.std.specs.BTreeSet.{insert_key}
@@ -108,6 +108,14 @@ pub record InstanceRecord : Type 0 where
   pub parameters : List ConnectionRecord
   pub connections : List ConnectionRecord
 
+-- The set with a name more, at its place in byte order.
+abbrev pub with_name : List ℕ → List (List ℕ) → List (List ℕ)
+with_name name names = insert_key (slice_cmp nat_cmp) names name
+
+-- The names in byte order, each once.
+abbrev pub in_byte_order : List (List ℕ) → List (List ℕ)
+in_byte_order names = fold (λ sorted name. with_name name sorted) [] names
+
 -- The records of nodes.
 
 abbrev pub port_record : Port → PortRecord
@@ -136,7 +144,7 @@ member_entry (ConditionalOf c) = ConditionalEntry c
 member_entry (LoopOf l) = LoopEntry l
 
 abbrev pub module_record : Module → ModuleRecord
-module_record m = record { name = string_bytes m.name; parameters = map parameter_port_record m.parameters.items; ports = m.ports.items; members = map member_entry m.members.items; names = map string_bytes m.names.keys }
+module_record m = record { name = string_bytes m.name; parameters = map parameter_port_record m.parameters.items; ports = m.ports.items; members = map member_entry m.members.items; names = in_byte_order m.names }
 
 abbrev pub file_entry : FileItem → FileEntry
 file_entry (ModuleItemOf m) = ModuleEntry m
@@ -162,10 +170,6 @@ instance_record i = record { module_name = string_bytes i.module_name; instance_
 -- No name of the set is this one.
 abbrev pub IsFree : List ℕ → List (List ℕ) → Type 0
 IsFree name names = All (λ taken. taken ≢ name) names
-
--- The set with a name more, at its place in byte order.
-abbrev pub with_name : List ℕ → List (List ℕ) → List (List ℕ)
-with_name name names = insert_key (slice_cmp nat_cmp) names name
 
 abbrev pub new_module : List ℕ → ModuleRecord
 new_module name = record { name = name; parameters = []; ports = []; members = []; names = [] }

@@ -5,10 +5,10 @@ use crate::handle::{
     InlineVerilogStatement, Instantiation, LogicRef, MacroRef, MacroStatement, ModulePort,
     VastAlwaysBase, VastDataType, VastFunction, VastModule, VastStatement, VastStatementBlock,
 };
-use std::collections::BTreeSet;
 use vast_literal::{
     AlwaysKind, BinaryOperator, CaseKind, DataKind, ModulePortDirection, UnaryOperator,
 };
+use vast_names::NameTable;
 
 /// A node of the arena that expressions and types share: an expression, or a data type. Types hold widths and names hold
 /// types, so that "children are older" is one order. It is one flat enum, and the names of a package's type are boxed,
@@ -143,7 +143,7 @@ pub struct Module {
     pub parameters: Vec<ParameterPort>,
     pub ports: Vec<ModulePort>,
     pub members: Vec<Member>,
-    pub names: BTreeSet<String>,
+    pub names: NameTable,
 }
 
 /// An item of a file.
@@ -173,7 +173,7 @@ pub struct Function {
     pub inputs: Vec<FunctionVariable>,
     pub locals: Vec<FunctionVariable>,
     pub body: VastStatementBlock,
-    pub names: BTreeSet<String>,
+    pub names: NameTable,
 }
 
 /// A definition, from which parameters take kind, type and name.

@@ -16,7 +16,7 @@ use crate::ast::growth::Place;
 use crate::handle::{LogicRef, VastDataType, VastFunction, VastModule, VastStatementBlock};
 use crate::node::{ExprNode, Function, Member};
 use std::alloc::AllocError;
-use std::collections::BTreeSet;
+use vast_names::NameTable;
 
 impl Ast {
     /// Adds a function without inputs and locals as the module's last member, with an empty body. The module's name
@@ -41,9 +41,8 @@ impl Ast {
         let taken = String::from_str(self.alloc, name)?;
         let variable = String::from_str(self.alloc, name)?;
         let own_name = String::from_str(self.alloc, name)?;
-        let result_name = String::from_str(self.alloc, name)?;
-        let mut names = BTreeSet::new(self.alloc);
-        names.insert(result_name)?;
+        let mut names = NameTable::new(self.alloc);
+        names.enter(name)?;
         let function = VastFunction {
             id: self.next_function(),
         };

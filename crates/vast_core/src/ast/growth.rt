@@ -16,7 +16,7 @@ use crate::node::{
     CaseArm, ElseIf, FileItem, Function, FunctionVariable, Member, Module, Nest, ParameterPort,
     Statement,
 };
-use std::alloc::{AllocError, Global};
+use std::alloc::AllocError;
 
 /// A new entry of a container.
 #[derive(Drop)]
@@ -140,7 +140,7 @@ impl Module {
         ensures err { OnErr result (module_record self.new ≡ module_record self.old) }
     {
         self.ports.reserve(1)?;
-        self.names.insert(name)?;
+        self.names.enter(&name)?;
         self.ports.push(port).unwrap();
         Ok(())
     }
@@ -163,7 +163,7 @@ impl Module {
         ensures err { OnErr result (module_record self.new ≡ module_record self.old) }
     {
         self.members.reserve(1)?;
-        self.names.insert(name)?;
+        self.names.enter(&name)?;
         self.members.push(member).unwrap();
         Ok(())
     }
@@ -259,7 +259,6 @@ fn enter_function(
     owner: VastFunction,
     local: bool,
     variable: FunctionVariable,
-    alloc: Global,
 ) -> Result<(), AllocError>
     requires { owner.id.index < length functions.old.items }
     ensures ok { OnOk result
@@ -271,9 +270,8 @@ fn enter_function(
     ensures room { vec_capacity functions.new - vec_len functions.new
         ≡ vec_capacity functions.old - vec_len functions.old }
 {
-    let name = String::from_str(alloc, &variable.name)?;
     let target = &mut functions[owner.id.index];
-    target.enter_variable(local, variable, name)
+    target.enter_variable(local, variable)
 }
 
 /// Adds the entry where it goes, or changes nothing.
@@ -285,7 +283,6 @@ fn enter(
     items: &mut Vec<FileItem>,
     spare: &mut Option<VastStatementBlock>,
     place: Place,
-    alloc: Global,
 ) -> Result<(), AllocError>
     requires { ListingThere (length modules.old.items) (length nests.old.items)
         (length functions.old.items) (listing_of place) }
@@ -327,7 +324,7 @@ fn enter(
         Place::Ports(owner, port, name) => enter_port(modules, owner, port, name),
         Place::Module(owner, member, name) => enter_module(modules, owner, member, name),
         Place::Function(owner, local, variable) => {
-            enter_function(functions, owner, local, variable, alloc)
+            enter_function(functions, owner, local, variable)
         }
         Place::Nest(index, entry) => enter_nest(nests, index, entry),
         Place::Spare(block) => {
@@ -362,7 +359,6 @@ impl Ast {
             &mut self.items,
             &mut spare,
             place,
-            self.alloc,
         )?;
         self.spare = spare;
         settle_terms(&mut self.terms, arrivals.terms);

@@ -15,7 +15,7 @@ use crate::ast::growth::Place;
 use crate::handle::VastModule;
 use crate::node::{FileItem, Module};
 use std::alloc::AllocError;
-use std::collections::BTreeSet;
+use vast_names::NameTable;
 
 impl Module {
     /// Whether no port, wire, variable or function of the module has this name.
@@ -47,7 +47,7 @@ impl Ast {
                     parameters: Vec::new(self.alloc),
                     ports: Vec::new(self.alloc),
                     members: Vec::new(self.alloc),
-                    names: BTreeSet::new(self.alloc),
+                    names: NameTable::new(self.alloc),
                 }),
                 block: false,
             },

@@ -1,6 +1,6 @@
 //! Inputs and locals of functions.
 
-ghost use Rattle.std.specs.Prelude.{◌≡◌, ◌↔◌, IsTrue, OnOk, OnErr, false, true, string_bytes};
+ghost use Rattle.std.specs.Prelude.{◌≡◌, ◌↔◌, IsTrue, OnOk, OnErr, false, true};
 ghost use Rattle.vast_core.specs.Records.{IsFree};
 ghost use Rattle.vast_core.specs.Nests.{function_record, variable_record};
 ghost use Rattle.vast_core.specs.Bench.{OwnsFunction, OwnsType, IsFreeInFunction};
@@ -25,8 +25,7 @@ impl Function {
         !self.names.contains(name)
     }
 
-    fn enter_input(&mut self, variable: FunctionVariable, name: String) -> Result<(), AllocError>
-        requires { string_bytes name ≡ string_bytes variable.name }
+    fn enter_input(&mut self, variable: FunctionVariable) -> Result<(), AllocError>
         ensures ok { OnOk result
             (function_record self.new
             ≡ with_listed_variable false (variable_record variable)
@@ -34,20 +33,19 @@ impl Function {
         ensures err { OnErr result (function_record self.new ≡ function_record self.old) }
     {
         self.inputs.reserve(1)?;
-        self.names.insert(name)?;
+        self.names.enter(&variable.name)?;
         self.inputs.push(variable).unwrap();
         Ok(())
     }
 
-    fn enter_local(&mut self, variable: FunctionVariable, name: String) -> Result<(), AllocError>
-        requires { string_bytes name ≡ string_bytes variable.name }
+    fn enter_local(&mut self, variable: FunctionVariable) -> Result<(), AllocError>
         ensures ok { OnOk result
             (function_record self.new
             ≡ with_listed_variable true (variable_record variable) (function_record self.old)) }
         ensures err { OnErr result (function_record self.new ≡ function_record self.old) }
     {
         self.locals.reserve(1)?;
-        self.names.insert(name)?;
+        self.names.enter(&variable.name)?;
         self.locals.push(variable).unwrap();
         Ok(())
     }
@@ -57,9 +55,7 @@ impl Function {
         &mut self,
         local: bool,
         variable: FunctionVariable,
-        name: String,
     ) -> Result<(), AllocError>
-        requires { string_bytes name ≡ string_bytes variable.name }
         ensures ok { OnOk result
             (function_record self.new
             ≡ with_listed_variable local (variable_record variable)
@@ -67,9 +63,9 @@ impl Function {
         ensures err { OnErr result (function_record self.new ≡ function_record self.old) }
     {
         if local {
-            self.enter_local(variable, name)
+            self.enter_local(variable)
         } else {
-            self.enter_input(variable, name)
+            self.enter_input(variable)
         }
     }
 }

@@ -1,5 +1,6 @@
 -- proofs/ast/Ast/push_function/Answers.antt
-use Rattle.std.proofs.Common.{◌≡◌, [], ◌∷◌, rules, map, refl, ap, ◌∙◌, string_bytes}
+use Rattle.std.proofs.Common.{◌≡◌, [], ◌∷◌, rules, map, refl, ◌∙◌, string_bytes}
+use Rattle.vast_core.specs.Records.{in_byte_order}
 use Rattle.vast_core.specs.Nests.{variable_record}
 use Rattle.vast_core.specs.View.{bench}
 use Rattle.vast_core.proofs.EntersMembers.{function-enters-as, function-grown}
@@ -7,13 +8,11 @@ use Rattle.vast_core.proofs.ast.Ast.push_function.Goals as goal
 
 pub grow-requires : goal.grow-requires
 grow-requires c =
-    let own : string_bytes c.in_ok-result_name.result_name ≡ string_bytes c.in_ok-own_name.own_name = search rules in
-    let alone : map string_bytes c.insert.new.self.keys ≡ string_bytes c.in_ok-result_name.result_name ∷ [] = rw (c.in_ok-insert.ensures.keys, c.new-names.ensures.empty) refl in
-    let names : map string_bytes c.insert.new.self.keys ≡ string_bytes c.in_ok-own_name.own_name ∷ [] = alone ∙ ap (λ name. name ∷ []) own in
     let named : string_bytes c.in_ok-own_name.own_name ≡ c.args.name.now = search rules in
+    let names : in_byte_order c.enter.new.self ≡ string_bytes c.in_ok-own_name.own_name ∷ [] = rw (c.in_ok-enter.ensures.ok, c.new-names.ensures, named) refl in
     let taken : string_bytes c.in_ok-taken.taken ≡ string_bytes c.in_ok-own_name.own_name = search rules in
     (function-enters-as (bench c.args.self.now) c.args.owner (record { id = c.next_function.result }) c.in_ok-variable.variable (string_bytes c.in_ok-taken.taken) (string_bytes c.in_ok-own_name.own_name) c.args.result_type
-    (record { id = c.next_term.result }) (map variable_record c.new.result.items) (map variable_record c.new-2.result.items) (record { id = c.next_nest.result }) (map string_bytes c.insert.new.self.keys)
+    (record { id = c.next_term.result }) (map variable_record c.new.result.items) (map variable_record c.new-2.result.items) (record { id = c.next_nest.result }) (in_byte_order c.enter.new.self)
     (rw c.next_function.ensures refl) (rw c.next_term.ensures refl) (rw c.new.ensures.items refl) (rw c.new-2.ensures.items refl) (rw c.next_nest.ensures.id refl) names taken c.requires.owner c.requires.result_type (rw named c.requires.free))
 
 pub returns : goal.returns
@@ -21,11 +20,10 @@ returns c =
     let variable : string_bytes c.in_ok-variable.variable ≡ c.args.name.now = search rules in
     let own : string_bytes c.in_ok-own_name.own_name ≡ c.args.name.now = search rules in
     let taken : string_bytes c.in_ok-taken.taken ≡ c.args.name.now = search rules in
-    let first : string_bytes c.in_ok-result_name.result_name ≡ c.args.name.now = search rules in
-    let alone : map string_bytes c.insert.new.self.keys ≡ string_bytes c.in_ok-result_name.result_name ∷ [] = rw (c.in_ok-insert.ensures.keys, c.new-names.ensures.empty) refl in (
+    let names : in_byte_order c.enter.new.self ≡ c.args.name.now ∷ [] = rw (c.in_ok-enter.ensures.ok, c.new-names.ensures) refl in (
       rw c.next_function.ensures refl,
       c.in_ok-grow.ensures.1
           ∙ (function-grown (bench c.args.self.now) c.args.owner (record { id = c.next_function.result }) c.in_ok-variable.variable c.args.name.now (string_bytes c.in_ok-taken.taken) (string_bytes c.in_ok-own_name.own_name) c.args.result_type
-          (record { id = c.next_term.result }) (map variable_record c.new.result.items) (map variable_record c.new-2.result.items) (record { id = c.next_nest.result }) (map string_bytes c.insert.new.self.keys)
-          (rw c.next_function.ensures refl) (rw c.next_term.ensures refl) (rw c.new.ensures.items refl) (rw c.new-2.ensures.items refl) (rw c.next_nest.ensures.id refl) (alone ∙ ap (λ name. name ∷ []) first) taken own variable),
+          (record { id = c.next_term.result }) (map variable_record c.new.result.items) (map variable_record c.new-2.result.items) (record { id = c.next_nest.result }) (in_byte_order c.enter.new.self)
+          (rw c.next_function.ensures refl) (rw c.next_term.ensures refl) (rw c.new.ensures.items refl) (rw c.new-2.ensures.items refl) (rw c.next_nest.ensures.id refl) names taken own variable),
     )
