@@ -2,3 +2,4 @@ pub mod Hash
 pub mod Texts
 pub mod Index
 pub mod Table
+pub mod Map

@@ -6,7 +6,9 @@
 
 mod hash;
 mod index;
+mod map;
 mod table;
 mod texts;
 
+pub use map::NameMap;
 pub use table::NameTable;
