@@ -29,7 +29,7 @@ tail_step : (d : List ℕ) (c : ℕ) (v rest : List ℕ) (b : Bool) → eqb c 11
 tail_step d c v rest true e g h k = rw (eqb-true c 115 e) (signed_tail d v rest g h k)
 tail_step d c v rest false e g h k = radix_tail d (c ∷ v) rest g h k
 
-based_tail : (d v rest : List ℕ) → every is_digit d ≡ true → is_based_tail v ≡ true → stops rest ≡ true → scan Gap (d ++ (39 ∷ (v ++ rest))) ≡ cons_token (Based (d ++ (39 ∷ v))) (scan Gap rest)
+pub based_tail : (d v rest : List ℕ) → every is_digit d ≡ true → is_based_tail v ≡ true → stops rest ≡ true → scan Gap (d ++ (39 ∷ (v ++ rest))) ≡ cons_token (Based (d ++ (39 ∷ v))) (scan Gap rest)
 based_tail d [] rest g h k = cc
 based_tail d (c ∷ v) rest g h k = tail_step d c v rest (eqb c 115) refl g h k
 
