@@ -1,10 +1,9 @@
 -- The longest lexeme at the front of a text, where the scan has read a part of it.
-use Rattle.std.proofs.Common.{◌≡◌, ◌≤◌, ◌⊎◌, inl, inr, ℕ, zero-le, List, [], ◌∷◌, ◌++◌, length, Bool, true, false, cond, not, eqb-true, ◌&&◌, ◌||◌, eqb, Option, Some, None, refl, sym, ◌∙◌, ap, append_assoc, append-nil, arith}
+use Rattle.std.proofs.Common.{◌≡◌, ◌≤◌, ◌⊎◌, inl, inr, ℕ, zero-le, List, [], ◌∷◌, ◌++◌, length, Bool, true, false, Option, Some, None, refl, ◌∙◌, ap, append_assoc, append-nil, arith}
 use Rattle.vast_literal.specs.Tokens.{Token}
-use Rattle.vast_literal.specs.Scan.{State, Gap, Step, keep, give, follow, start, step, flush, scan, cons_token, add_tokens, join_tokens}
-use Rattle.vast_literal.specs.LiteralToken.{every, is_done}
+use Rattle.vast_literal.specs.Scan.{State, Gap, keep, give, follow, start, step, scan, cons_token, add_tokens, join_tokens}
+use Rattle.vast_literal.specs.LiteralToken.{is_done}
 use Rattle.vast_literal.specs.Lexemes.{IsLexeme}
-use Rattle.vast_literal.proofs.ScanLaws.{and_left, and_right, add_tokens-append}
 
 -- The scan stands in the state `s` before the text t, with the bytes w read; g tests what may follow them in one lexeme.
 -- The lexeme ends behind `more`, the longest that passes, and the scan goes on behind it.

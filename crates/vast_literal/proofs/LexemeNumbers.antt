@@ -1,15 +1,15 @@
 -- Numbers, and what an apostrophe begins.
-use Rattle.std.proofs.Common.{◌≡◌, ◌≤◌, ◌⊎◌, inl, inr, ℕ, List, [], ◌∷◌, ◌++◌, length, Bool, true, false, cond, not, eqb-true, ◌&&◌, ◌||◌, eqb, Option, Some, None, refl, sym, ◌∙◌, ap, append_assoc, append-nil, arith}
+use Rattle.std.proofs.Common.{◌≡◌, ◌≤◌, ◌⊎◌, inl, inr, ℕ, List, [], ◌∷◌, ◌++◌, length, Bool, true, false, eqb-true, ◌||◌, eqb, None, refl, sym, ◌∙◌, ap, append_assoc, append-nil, arith}
 use Rattle.std.proofs.lemmas.Bool.Decides.{nat_tests}
-use Rattle.vast_literal.specs.Tokens.{OpenParen, OpenBrace, Apostrophe, Token, Number, Based, Mark}
-use Rattle.vast_literal.specs.Scan.{is_digit, is_based_digit, is_radix, is_filler, State, Gap, InNumber, AfterTick, InSigned, InRadix, InBased, keep, give, follow, before_tick, start, step, flush, scan, add_tokens, join_tokens}
-use Rattle.vast_literal.specs.LiteralToken.{every, is_done, is_number, is_based_number, is_radix_tail, is_based_tail, is_based}
-use Rattle.vast_literal.specs.Lexemes.{IsBase, IsLexeme}
+use Rattle.vast_literal.specs.Tokens.{OpenParen, OpenBrace, Apostrophe, Number, Based, Mark}
+use Rattle.vast_literal.specs.Scan.{is_digit, is_based_digit, is_radix, is_filler, Gap, InNumber, AfterTick, InSigned, InRadix, InBased, before_tick, scan, add_tokens}
+use Rattle.vast_literal.specs.LiteralToken.{every, is_number, is_based_number, is_radix_tail, is_based_tail}
+use Rattle.vast_literal.specs.Lexemes.{IsBase}
 use Rattle.vast_literal.specs.Lexemes.IsBase.{unsigned, signed}
-use Rattle.vast_literal.specs.Lexemes.IsLexeme.{number, filled, cast, pattern}
-use Rattle.vast_literal.proofs.ScanLaws.{add_tokens-append, and_left, and_right, or_left, or_right, digit_letter}
-use Rattle.vast_literal.proofs.LexemeShapes.{is_opened, tick_goes, digit_goes}
-use Rattle.vast_literal.proofs.LexemeFronts.{Ahead, Lost, Ends, Stops, here, extend, whole, nowhere, lost, ends_on, scan_follow}
+use Rattle.vast_literal.specs.Lexemes.IsLexeme.{number}
+use Rattle.vast_literal.proofs.ScanLaws.{add_tokens-append, and_right, or_left, or_right}
+use Rattle.vast_literal.proofs.LexemeShapes.{digit_goes}
+use Rattle.vast_literal.proofs.LexemeFronts.{Ahead, Lost, Ends, here, extend, nowhere, lost, ends_on, scan_follow}
 use Rattle.vast_literal.proofs.LexemeRuns.{every_push, based_on}
 
 radix_signed : (c : ℕ) → is_radix c ≡ true → eqb c 115 ≡ false

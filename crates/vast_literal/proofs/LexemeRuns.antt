@@ -1,14 +1,13 @@
 -- The lexemes that go on as long as the bytes pass a test, and the strings.
-use Rattle.std.proofs.Common.{◌≡◌, ◌≤◌, ◌⊎◌, inl, inr, ℕ, List, [], ◌∷◌, ◌++◌, Bool, true, false, cond, not, eqb-true, ◌&&◌, ◌||◌, eqb, Option, Some, None, refl, sym, ◌∙◌, ap, append_assoc, append-nil}
+use Rattle.std.proofs.Common.{◌≡◌, inl, inr, ℕ, List, [], ◌∷◌, ◌++◌, Bool, true, false, cond, not, eqb-true, eqb, Some, refl, sym, ◌∙◌, ap, append_assoc}
 use Rattle.vast_literal.specs.Tokens.{Token, SystemWord, MacroWord, Based, Quoted, word_token}
 use Rattle.vast_literal.specs.Scan.{is_letter, is_word_byte, is_digit, is_based_digit, State, Gap, InWord, InSystemWord, InMacroWord, InBased, InString, InEscape, InComment, keep, follow, start, step, flush, scan, add_tokens}
-use Rattle.vast_literal.specs.LiteralToken.{every, is_done, is_based_number, is_string_rest}
-use Rattle.vast_literal.specs.Plain.{is_identifier}
-use Rattle.vast_literal.specs.Lexemes.{is_in_line, is_bare, AreCharacters, IsBase, IsLexeme}
+use Rattle.vast_literal.specs.LiteralToken.{every, is_string_rest}
+use Rattle.vast_literal.specs.Lexemes.{is_in_line, AreCharacters, IsBase, IsLexeme}
 use Rattle.vast_literal.specs.Lexemes.AreCharacters.{no_character, bare, escaped}
 use Rattle.vast_literal.specs.Lexemes.IsLexeme.{comment, word, system_word, macro_word, based, string}
 use Rattle.vast_literal.proofs.ScanLaws.{and_left, and_right}
-use Rattle.vast_literal.proofs.LexemeFronts.{Ahead, Lost, Ends, here, extend, whole, lost, ends_on, scan_follow}
+use Rattle.vast_literal.proofs.LexemeFronts.{Ahead, Ends, here, extend, whole, lost, ends_on, scan_follow}
 
 pub every_push : (p : ℕ → Bool) (d : List ℕ) (c : ℕ) → every p d ≡ true → p c ≡ true → every p (d ++ (c ∷ [])) ≡ true
 every_push p [] c h k = rw k

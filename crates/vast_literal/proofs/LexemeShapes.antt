@@ -1,16 +1,16 @@
 -- A test that each lexeme passes, by its first byte, in the order in which the scan tests it; and what the scan says of a lexeme alone.
-use Rattle.std.proofs.Common.{◌≡◌, ◌≢◌, ℕ, List, [], ◌∷◌, ◌++◌, Bool, true, false, cond, not, eqb-true, ◌&&◌, ◌||◌, eqb, Option, Some, None, refl, sym, ◌∙◌, ap, append_assoc, append-nil, arith}
+use Rattle.std.proofs.Common.{◌≡◌, ◌≢◌, ℕ, List, [], ◌∷◌, ◌++◌, Bool, true, false, cond, not, ◌&&◌, ◌||◌, eqb, Option, Some, None, refl, ◌∙◌, arith}
 use Rattle.std.proofs.lemmas.Bool.Decides.{nat_tests}
-use Rattle.vast_literal.specs.Tokens.{Op, LogicOr, Punct, OpenParen, Apostrophe, Token, SystemWord, MacroWord, Number, Based, Quoted, Operator, Mark, word_token}
-use Rattle.vast_literal.specs.Scan.{is_letter, is_digit, is_word_byte, is_radix, is_based_digit, is_filler, is_space, State, Gap, InString, InComment, Pending, Step, grown, find_sign, whole_signs, growing_signs, scan, add_tokens}
+use Rattle.vast_literal.specs.Tokens.{Op, LogicOr, Punct, Apostrophe, Token}
+use Rattle.vast_literal.specs.Scan.{is_letter, is_digit, is_word_byte, is_radix, is_filler, is_space, State, Gap, InString, InComment, Pending, Step, grown, find_sign, whole_signs, growing_signs}
 use Rattle.vast_literal.specs.Spelling.{op_text}
-use Rattle.vast_literal.specs.LiteralToken.{every, is_number, is_based_number, is_radix_tail, is_based_tail, is_based, is_done, is_string_rest}
+use Rattle.vast_literal.specs.LiteralToken.{every, is_number, is_based_number, is_based_tail, is_based, is_done, is_string_rest}
 use Rattle.vast_literal.specs.Plain.{is_identifier}
 use Rattle.vast_literal.specs.Lexemes.{mark_text, is_in_line, is_bare, AreCharacters, IsBase, IsLexeme}
 use Rattle.vast_literal.specs.Lexemes.AreCharacters.{no_character, bare, escaped}
 use Rattle.vast_literal.specs.Lexemes.IsBase.{unsigned, signed}
 use Rattle.vast_literal.specs.Lexemes.IsLexeme.{space, comment, word, system_word, macro_word, number, based, filled, string, operator, mark, cast, pattern}
-use Rattle.vast_literal.proofs.ScanLaws.{and_left, and_right, digit_letter, scan_word, scan_system, scan_macro, scan_number, scan_filler, scan_string}
+use Rattle.vast_literal.proofs.ScanLaws.{and_left, and_right, digit_letter}
 
 -- where a sign's growth leads to; a string with no quote where it doesn't grow, which nothing follows
 abbrev pub grown_state : Option Step → State

@@ -1,18 +1,15 @@
 -- Operators, marks, and what an apostrophe begins where no digits stand before it.
-use Rattle.std.proofs.Common.{◌≡◌, ◌≢◌, ◌≤◌, ◌⊎◌, inl, inr, ℕ, List, [], ◌∷◌, ◌++◌, length, Bool, true, false, cond, not, eqb-true, ◌&&◌, ◌||◌, eqb, Option, Some, None, refl, sym, ◌∙◌, ap, append_assoc, append-nil, arith}
-use Rattle.std.proofs.lemmas.Bool.Decides.{nat_tests}
-use Rattle.vast_literal.specs.Tokens.{Op, LogicOr, LogicAnd, BitOr, BitXor, BitAnd, NotEqual, CaseNotEqual, Equal, CaseEqual, GreaterEqual, Greater, LessEqual, Less, ShiftLeft, ShiftRightSigned, ShiftRight, Plus, Minus, Times, Divide, Modulo, Power, BitNot, LogicNot}
-use Rattle.vast_literal.specs.Tokens.{Punct, OpenParen, CloseParen, OpenBracket, CloseBracket, OpenBrace, CloseBrace, Comma, Colon, Semicolon, Dot, Hash, At, Question, DoubleColon, PlusColon, Assign, Apostrophe, Token, Based, Operator, Mark}
-use Rattle.vast_literal.specs.Scan.{is_digit, is_radix, is_filler, State, Gap, AfterTick, InComment, Pending, Step, keep, give, follow, start, grown, find_sign, whole_signs, growing_signs, step, flush, scan, add_tokens}
+use Rattle.std.proofs.Common.{◌≡◌, ℕ, List, [], ◌∷◌, ◌++◌, Bool, true, false, cond, eqb-true, eqb, Option, Some, None, refl, sym, ◌∙◌, ap}
+use Rattle.vast_literal.specs.Tokens.{LogicOr, LogicAnd, BitOr, BitXor, BitAnd, NotEqual, CaseNotEqual, Equal, CaseEqual, GreaterEqual, Greater, LessEqual, Less, ShiftLeft, ShiftRightSigned, ShiftRight, Plus, Minus, Times, Divide, Modulo, Power, BitNot, LogicNot}
+use Rattle.vast_literal.specs.Tokens.{Punct, OpenParen, CloseParen, OpenBracket, CloseBracket, OpenBrace, CloseBrace, Comma, Colon, Semicolon, Dot, Hash, At, Question, DoubleColon, PlusColon, Assign, Apostrophe, Token, Operator, Mark}
+use Rattle.vast_literal.specs.Scan.{InComment, Pending, Step, keep, give, grown, find_sign, whole_signs, growing_signs, scan}
 use Rattle.vast_literal.specs.Spelling.{op_text}
-use Rattle.vast_literal.specs.LiteralToken.{every, is_done, is_based_tail}
+use Rattle.vast_literal.specs.LiteralToken.{every}
 use Rattle.vast_literal.specs.Lexemes.{mark_text, is_in_line, IsLexeme}
-use Rattle.vast_literal.specs.Lexemes.IsLexeme.{filled, operator, mark, cast, pattern}
-use Rattle.vast_literal.proofs.ScanLaws.{or_left, or_right, and_left}
-use Rattle.vast_literal.proofs.LexemeShapes.{grown_state, sign_goes, is_opened, tick_goes}
-use Rattle.vast_literal.proofs.LexemeFronts.{Ahead, Lost, Ends, Stops, here, extend, whole, lost, ends_on, scan_follow}
+use Rattle.vast_literal.specs.Lexemes.IsLexeme.{operator, mark}
+use Rattle.vast_literal.proofs.LexemeShapes.{grown_state, sign_goes}
+use Rattle.vast_literal.proofs.LexemeFronts.{Ahead, here, extend, whole, scan_follow}
 use Rattle.vast_literal.proofs.LexemeRuns.{comment_on}
-use Rattle.vast_literal.proofs.LexemeNumbers.{base_by}
 
 -- A sign as it is written.
 abbrev pub sign_text : Token → List ℕ

@@ -1,18 +1,17 @@
 -- The longest lexeme at the front of a text, by its first byte.
-use Rattle.std.proofs.Common.{◌≡◌, ◌≢◌, ◌≤◌, ◌⊎◌, inl, inr, zero-le, ℕ, List, [], ◌∷◌, ◌++◌, length, Bool, true, false, cond, not, eqb-true, ◌&&◌, ◌||◌, eqb, Option, Some, None, refl, sym, ◌∙◌, ap, arith}
+use Rattle.std.proofs.Common.{◌≡◌, ◌≤◌, inl, inr, zero-le, ℕ, List, [], ◌∷◌, ◌++◌, length, Bool, true, false, eqb-true, ◌||◌, eqb, Option, Some, None, refl, sym, arith}
 use Rattle.std.proofs.lemmas.Bool.Decides.{nat_tests}
 use Rattle.vast_literal.specs.Tokens.{OpenParen, OpenBrace, Apostrophe, Token, Based, Mark}
-use Rattle.vast_literal.specs.Scan.{is_letter, is_digit, is_word_byte, is_radix, is_filler, is_space, State, Gap, InWord, InSystemWord, InMacroWord, InNumber, AfterTick, InString, Pending, Step, keep, give, fail, start, find_sign, whole_signs, growing_signs, step, flush, scan}
+use Rattle.vast_literal.specs.Scan.{is_letter, is_digit, is_word_byte, is_radix, is_filler, is_space, Gap, InWord, InSystemWord, InMacroWord, InNumber, AfterTick, InString, Pending, find_sign, whole_signs, growing_signs, scan}
 use Rattle.vast_literal.specs.LiteralToken.{every, is_done, is_string_rest, is_based_tail}
 use Rattle.vast_literal.specs.Plain.{is_identifier}
-use Rattle.vast_literal.specs.Lexemes.{IsLexeme}
 use Rattle.vast_literal.specs.Lexemes.IsLexeme.{space, filled, cast, pattern}
 use Rattle.vast_literal.proofs.ScanLaws.{or_left, or_right, and_right}
-use Rattle.vast_literal.proofs.LexemeShapes.{sign_goes, is_opened, tick_goes, digit_goes, one}
-use Rattle.vast_literal.proofs.LexemeFronts.{Ahead, Lost, Ends, extend, whole, lost, lost_on, ends_on}
+use Rattle.vast_literal.proofs.LexemeShapes.{sign_goes, tick_goes, digit_goes, one}
+use Rattle.vast_literal.proofs.LexemeFronts.{Ends, extend, whole, lost, ends_on}
 use Rattle.vast_literal.proofs.LexemeRuns.{word_on, system_on, macro_on, string_on}
 use Rattle.vast_literal.proofs.LexemeNumbers.{base_by, number_on}
-use Rattle.vast_literal.proofs.LexemeSigns.{sign_text, IsFound, sign_on, found_whole, found_growing}
+use Rattle.vast_literal.proofs.LexemeSigns.{sign_on, found_whole, found_growing}
 
 -- An apostrophe.
 

@@ -1,6 +1,6 @@
 -- The scan takes the longest lexeme: its tokens of a text are those of its lexemes, and no others.
-use Rattle.std.proofs.Common.{◌≡◌, ◌≢◌, ◌≤◌, ◌+◌, ◌⊎◌, inl, inr, ℕ, zero, suc, List, [], ◌∷◌, ◌++◌, length, Bool, true, false, not, eqb, Option, Some, None, refl, sym, ◌∙◌, ap, append-nil, length-append, arith}
-use Rattle.vast_literal.specs.Tokens.{Op, LogicOr, Punct, Apostrophe, Token, Based, Operator, Mark}
+use Rattle.std.proofs.Common.{◌≡◌, ◌≢◌, ◌≤◌, inl, inr, ℕ, zero, suc, List, [], ◌∷◌, ◌++◌, length, true, eqb, Option, Some, None, refl, sym, ◌∙◌, ap, append-nil, length-append, arith}
+use Rattle.vast_literal.specs.Tokens.{Op, LogicOr, Punct, Apostrophe, Token, Operator, Mark}
 use Rattle.vast_literal.specs.Scan.{Gap, InComment, cons_token, add_tokens, scan, tokens}
 use Rattle.vast_literal.specs.Spelling.{op_text}
 use Rattle.vast_literal.specs.LiteralToken.{every}
@@ -10,7 +10,7 @@ use Rattle.vast_literal.specs.Lexemes.Lexes.{no_text, lexeme}
 use Rattle.vast_literal.proofs.ScanLaws.{and_left, and_right, not_true, scan_word, scan_system, scan_macro, scan_number, scan_filler, scan_string}
 use Rattle.vast_literal.proofs.LiteralLaws.{based_tail}
 use Rattle.vast_literal.proofs.LexemeShapes.{one, lexeme_one, base_tail, characters_rest, space_letter, space_digit}
-use Rattle.vast_literal.proofs.LexemeFronts.{Ahead, Lost, Ends}
+use Rattle.vast_literal.proofs.LexemeFronts.{Ends}
 use Rattle.vast_literal.proofs.LexemeStarts.{front}
 
 -- A lexeme alone has its tokens.
