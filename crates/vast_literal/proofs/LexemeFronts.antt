@@ -101,6 +101,10 @@ pub ends_on : (g go : List ℕ → Bool) (w : List ℕ) (s n : State) (c : ℕ) 
 ends_on g go w s n c cs z e h (inl a) = inl (extend g go w s n c cs e h a)
 ends_on g go w s n c cs z e h (inr l) = inr (lost_on g go s n c cs z e h l)
 
+pub add_none : (ts : List Token) → add_tokens ts None ≡ None
+add_none [] = refl
+add_none (t ∷ ts) = ap (cons_token t) (add_none ts)
+
 join_cons : (t : Token) (o r : Option (List Token)) → join_tokens (cons_token t o) r ≡ cons_token t (join_tokens o r)
 join_cons t None r = refl
 join_cons t (Some us) r = refl

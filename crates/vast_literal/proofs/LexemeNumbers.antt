@@ -1,6 +1,5 @@
 -- Numbers, and what an apostrophe begins.
 use Rattle.std.proofs.Common.{◌≡◌, ◌≤◌, ◌⊎◌, inl, inr, ℕ, List, [], ◌∷◌, ◌++◌, length, Bool, true, false, eqb-true, ◌||◌, eqb, None, refl, sym, ◌∙◌, ap, append_assoc, append-nil, arith}
-use Rattle.std.proofs.lemmas.Bool.Decides.{nat_tests}
 use Rattle.vast_literal.specs.Tokens.{OpenParen, OpenBrace, Apostrophe, Number, Based, Mark}
 use Rattle.vast_literal.specs.Scan.{is_digit, is_based_digit, is_radix, is_filler, Gap, InNumber, AfterTick, InSigned, InRadix, InBased, before_tick, scan, add_tokens}
 use Rattle.vast_literal.specs.LiteralToken.{every, is_number, is_based_number, is_radix_tail, is_based_tail}
@@ -8,15 +7,11 @@ use Rattle.vast_literal.specs.Lexemes.{IsBase}
 use Rattle.vast_literal.specs.Lexemes.IsBase.{unsigned, signed}
 use Rattle.vast_literal.specs.Lexemes.IsLexeme.{number}
 use Rattle.vast_literal.proofs.ScanLaws.{add_tokens-append, and_right, or_left, or_right}
-use Rattle.vast_literal.proofs.LexemeShapes.{digit_goes}
-use Rattle.vast_literal.proofs.LexemeFronts.{Ahead, Lost, Ends, here, extend, nowhere, lost, ends_on, scan_follow}
-use Rattle.vast_literal.proofs.LexemeRuns.{every_push, based_on}
-
-radix_signed : (c : ℕ) → is_radix c ≡ true → eqb c 115 ≡ false
-radix_signed c h = grind (arith, nat_tests)
-
-digit_tick : (c : ℕ) → is_digit c ≡ true → eqb c 39 ≡ false
-digit_tick c h = grind (arith, nat_tests)
+use Rattle.vast_literal.proofs.LiteralLaws.{every_push}
+use Rattle.vast_literal.proofs.TokenTexts.{no_tick}
+use Rattle.vast_literal.proofs.LexemeShapes.{radix_signed, digit_goes}
+use Rattle.vast_literal.proofs.LexemeFronts.{Ahead, Lost, Ends, here, extend, nowhere, lost, ends_on, add_none, scan_follow}
+use Rattle.vast_literal.proofs.LexemeRuns.{based_on}
 
 -- digits behind a base
 radix_by : (size base : List ℕ) (c : ℕ) (cs : List ℕ) → every is_digit size ≡ true → IsBase base → (b : Bool) → is_based_digit c ≡ b →
@@ -56,12 +51,8 @@ pub record Parted (d t : List ℕ) : Type 0 where
 abbrev pub TickEnds : (d t : List ℕ) → Type 0
 TickEnds d t = Ahead is_based_tail (d ++ (39 ∷ [])) (AfterTick d) t ⊎ Parted d t
 
-none_after : (d : List ℕ) → add_tokens (before_tick d) None ≡ None
-none_after [] = refl
-none_after (c ∷ d) = refl
-
 none_before : (d t : List ℕ) → Lost is_based_tail (AfterTick d) t → scan (AfterTick []) t ≡ None → Parted d t
-none_before d t l e = record { nothing = l.nothing; scanned = l.scanned ∙ sym (ap (add_tokens (before_tick d)) e ∙ none_after d) }
+none_before d t l e = record { nothing = l.nothing; scanned = l.scanned ∙ sym (ap (add_tokens (before_tick d)) e ∙ add_none (before_tick d)) }
 
 -- where nothing follows, the scan finds nothing, whatever stands before
 radix_none : (b t : List ℕ) → ((v behind : List ℕ) → t ≡ v ++ behind → is_based_number v ≡ true → ⊥) → scan (InRadix b) t ≡ None
@@ -106,7 +97,7 @@ unfolding scan
 apart_by d c cs er es true p b ef ep eb = rw (er, es, ef) (add_tokens-append (before_tick d) (Based (39 ∷ c ∷ []) ∷ []) (scan Gap cs))
 apart_by d c cs er es false true b ef ep eb = rw (er, es, ef, ep) (add_tokens-append (before_tick d) (Mark Apostrophe ∷ Mark OpenParen ∷ []) (scan Gap cs))
 apart_by d c cs er es false false true ef ep eb = rw (er, es, ef, ep, eb) (add_tokens-append (before_tick d) (Mark Apostrophe ∷ Mark OpenBrace ∷ []) (scan Gap cs))
-apart_by d c cs er es false false false ef ep eb = rw (er, es, ef, ep, eb) (sym (none_after d))
+apart_by d c cs er es false false false ef ep eb = rw (er, es, ef, ep, eb) (sym (add_none (before_tick d)))
 
 tick_by : (d : List ℕ) (c : ℕ) (cs : List ℕ) → every is_digit d ≡ true → (o : Bool) → (is_radix c || eqb c 115) ≡ o → TickEnds d (c ∷ cs)
 tick_by d c cs g true e = based_or_parted (base_by d c cs g (is_radix c) refl e)
@@ -121,7 +112,7 @@ tick_by d c cs g false e =
 
 tick_ends : (d t : List ℕ) → every is_digit d ≡ true → TickEnds d t
 unfolding scan
-tick_ends d [] g = inr (record { nothing = nowhere is_based_tail [] refl tt; scanned = sym (none_after d) })
+tick_ends d [] g = inr (record { nothing = nowhere is_based_tail [] refl tt; scanned = sym (add_none (before_tick d)) })
 tick_ends d (c ∷ cs) g = tick_by d c cs g (is_radix c || eqb c 115) refl
 
 -- Numbers.
@@ -158,7 +149,7 @@ number_tick (x ∷ d) cs h (inr p) = record {
 number_by : (d : List ℕ) (c : ℕ) (cs : List ℕ) → is_number d ≡ true → (b t : Bool) → is_digit c ≡ b → eqb c 39 ≡ t →
     (is_number (d ++ (c ∷ [])) ≡ true → Ahead digit_goes (d ++ (c ∷ [])) (InNumber (d ++ (c ∷ []))) cs) → Ahead digit_goes d (InNumber d) (c ∷ cs)
 number_by d c cs h true t eb et f =
-    extend digit_goes digit_goes d (InNumber d) (InNumber (d ++ (c ∷ []))) c cs (rw eb) (λ v k. rw (eb, digit_tick c eb) at k) (f (number_push d c h eb))
+    extend digit_goes digit_goes d (InNumber d) (InNumber (d ++ (c ∷ []))) c cs (rw eb) (λ v k. rw (eb, no_tick c eb) at k) (f (number_push d c h eb))
 number_by d c cs h false true eb et f = rw (eqb-true c 39 et) (number_tick d cs h (tick_ends d cs (every_number d h)))
 number_by d c cs h false false eb et f =
     here digit_goes d (InNumber d) (c ∷ cs) (Number d ∷ []) (number h) (λ v. rw (eb, et)) (scan_follow (InNumber d) c cs (Number d ∷ []) (rw (eb, et)))

@@ -6,16 +6,13 @@ use Rattle.vast_literal.specs.LiteralToken.{every, is_string_rest}
 use Rattle.vast_literal.specs.Lexemes.{is_in_line, AreCharacters, IsBase, IsLexeme}
 use Rattle.vast_literal.specs.Lexemes.AreCharacters.{no_character, bare, escaped}
 use Rattle.vast_literal.specs.Lexemes.IsLexeme.{comment, word, system_word, macro_word, based, string}
-use Rattle.vast_literal.proofs.ScanLaws.{and_left, and_right}
+use Rattle.vast_literal.proofs.ScanLaws.{and_right}
+use Rattle.vast_literal.proofs.LiteralLaws.{every_push}
 use Rattle.vast_literal.proofs.LexemeFronts.{Ahead, Ends, here, extend, whole, lost, ends_on, scan_follow}
 
-pub every_push : (p : ℕ → Bool) (d : List ℕ) (c : ℕ) → every p d ≡ true → p c ≡ true → every p (d ++ (c ∷ [])) ≡ true
-every_push p [] c h k = rw k
-every_push p (x ∷ d) c h k = rw (and_left (p x) (every p d) h) (every_push p d c (and_right (p x) (every p d) h) k)
-
-add_none : (ts : List Token) → add_tokens ts (Some []) ≡ Some ts
-add_none [] = refl
-add_none (t ∷ ts) = rw (add_none ts)
+add_no_tokens : (ts : List Token) → add_tokens ts (Some []) ≡ Some ts
+add_no_tokens [] = refl
+add_no_tokens (t ∷ ts) = rw (add_no_tokens ts)
 
 -- a lexeme that goes on as long as `go` holds: v is what it has of such bytes
 module _ (go : ℕ → Bool) (state : List ℕ → State) (text : List ℕ → List ℕ) (brings : List ℕ → List Token)
@@ -32,7 +29,7 @@ module _ (go : ℕ → Bool) (state : List ℕ → State) (text : List ℕ → L
 
   pub run : (v : List ℕ) → every go v ≡ true → (t : List ℕ) → Ahead (every go) (text v) (state v) t
   unfolding scan
-  run v h [] = here (every go) (text v) (state v) [] (brings v) (fits v h) tt (rw (last v) (sym (add_none (brings v))))
+  run v h [] = here (every go) (text v) (state v) [] (brings v) (fits v h) tt (rw (last v) (sym (add_no_tokens (brings v))))
   run v h (c ∷ cs) = run_by v h c cs (go c) refl (λ k. run (v ++ (c ∷ [])) k cs)
 
 pub word_on : (b : ℕ) → is_letter b ≡ true → (t : List ℕ) → Ahead (every is_word_byte) (b ∷ []) (InWord (b ∷ [])) t

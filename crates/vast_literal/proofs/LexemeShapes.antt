@@ -11,6 +11,7 @@ use Rattle.vast_literal.specs.Lexemes.AreCharacters.{no_character, bare, escaped
 use Rattle.vast_literal.specs.Lexemes.IsBase.{unsigned, signed}
 use Rattle.vast_literal.specs.Lexemes.IsLexeme.{space, comment, word, system_word, macro_word, number, based, filled, string, operator, mark, cast, pattern}
 use Rattle.vast_literal.proofs.ScanLaws.{and_left, and_right, digit_letter}
+use Rattle.vast_literal.proofs.TokenTexts.{or_true, based_sized}
 
 -- where a sign's growth leads to; a string with no quote where it doesn't grow, which nothing follows
 abbrev pub grown_state : Option Step → State
@@ -66,29 +67,18 @@ space_letter c h = grind (arith, nat_tests)
 pub space_digit : (c : ℕ) → is_space c ≡ true → is_digit c ≡ false
 space_digit c h = grind (arith, nat_tests)
 
-radix_signed : (c : ℕ) → is_radix c ≡ true → eqb c 115 ≡ false
+pub radix_signed : (c : ℕ) → is_radix c ≡ true → eqb c 115 ≡ false
 radix_signed c h = grind (arith, nat_tests)
-
-digit_tick : (c : ℕ) → is_digit c ≡ true → eqb c 39 ≡ false
-digit_tick c h = grind (arith, nat_tests)
-
-or_true : (a : Bool) → (a || true) ≡ true
-or_true true = refl
-or_true false = refl
 
 pub base_tail : (base ds : List ℕ) → IsBase base → is_based_number ds ≡ true → is_based_tail (base ++ ds) ≡ true
 base_tail base ds (unsigned {r} g) h = rw (radix_signed r g, g) h
 base_tail base ds (signed g) h = rw g h
 
-sized : (size tail : List ℕ) → every is_digit size ≡ true → is_based_tail tail ≡ true → is_based (size ++ (39 ∷ tail)) ≡ true
-sized [] tail g h = h
-sized (c ∷ cs) tail g h = let d = and_left (is_digit c) (every is_digit cs) g in rw (digit_tick c d, d) (sized cs tail (and_right (is_digit c) (every is_digit cs) g) h)
-
 based_one : (size tail : List ℕ) → every is_digit size ≡ true → is_based_tail tail ≡ true → one (size ++ (39 ∷ tail)) ≡ true
 based_one [] tail g h = rw h (or_true (is_opened tail))
 based_one (c ∷ cs) tail g h =
     let d = and_left (is_digit c) (every is_digit cs) g in
-    rw (digit_letter c d, d, sized cs tail (and_right (is_digit c) (every is_digit cs) g) h) (or_true (every is_digit (cs ++ (39 ∷ tail))))
+    rw (digit_letter c d, d, based_sized cs tail (and_right (is_digit c) (every is_digit cs) g) h) (or_true (every is_digit (cs ++ (39 ∷ tail))))
 
 word_one : (w : List ℕ) → is_identifier w ≡ true → one w ≡ true
 word_one [] h = h

@@ -7,7 +7,7 @@ use Rattle.vast_literal.proofs.TokenReads.{stops, Reads}
 use Rattle.vast_literal.proofs.ScanLaws.{and_left, and_right, scan_number, scan_based, scan_filler, scan_signed}
 use Rattle.vast_literal.proofs.Pieces.{free_reads, minus_free}
 
-every_push : (p : ℕ → Bool) (d : List ℕ) (c : ℕ) → every p d ≡ true → p c ≡ true → every p (d ++ (c ∷ [])) ≡ true
+pub every_push : (p : ℕ → Bool) (d : List ℕ) (c : ℕ) → every p d ≡ true → p c ≡ true → every p (d ++ (c ∷ [])) ≡ true
 every_push p [] c h k = rw k
 every_push p (x ∷ d) c h k = rw (and_left (p x) (every p d) h) (every_push p d c (and_right (p x) (every p d) h) k)
 

@@ -10,7 +10,7 @@ use Rattle.vast_literal.specs.Lexemes.Lexes.{no_text, lexeme}
 use Rattle.vast_literal.proofs.ScanLaws.{and_left, and_right, not_true, scan_word, scan_system, scan_macro, scan_number, scan_filler, scan_string}
 use Rattle.vast_literal.proofs.LiteralLaws.{based_tail}
 use Rattle.vast_literal.proofs.LexemeShapes.{one, lexeme_one, base_tail, characters_rest, space_letter, space_digit}
-use Rattle.vast_literal.proofs.LexemeFronts.{Ends}
+use Rattle.vast_literal.proofs.LexemeFronts.{Ends, add_none}
 use Rattle.vast_literal.proofs.LexemeStarts.{front}
 
 -- A lexeme alone has its tokens.
@@ -50,10 +50,6 @@ lexeme_scan w ts cast = refl
 lexeme_scan w ts pattern = refl
 
 -- From the scan to the lexemes.
-
-add_none : (us : List Token) → add_tokens us None ≡ None
-add_none [] = refl
-add_none (u ∷ us) = ap (cons_token u) (add_none us)
 
 add_some : (us vs : List Token) → add_tokens us (Some vs) ≡ Some (us ++ vs)
 add_some [] vs = refl

@@ -1,4 +1,5 @@
--- The lexemes, one rule for each kind, and the tokens of a text by them: the longest lexeme at its front, then those of the rest.
+-- The lexemes that the grammar uses, one rule for each kind (IEEE Std 1800, lexical tokens, among which are white space and
+-- comments), and the tokens of a text by them: at each place the longest lexeme.
 use Rattle.std.specs.Prelude.{◌≡◌, ◌≢◌, ◌↔◌, ◌≤◌, ℕ, List, [], ◌∷◌, ◌++◌, length, Bool, not, ◌||◌, eqb, codes, Some, IsTrue}
 use Rattle.vast_literal.specs.Tokens.{Op, Punct, OpenParen, CloseParen, OpenBracket, CloseBracket, OpenBrace, CloseBrace, Comma, Colon, Semicolon, Dot, Hash, At, Question, DoubleColon, PlusColon, Assign, Apostrophe}
 use Rattle.vast_literal.specs.Tokens.{Token, SystemWord, MacroWord, Number, Based, Quoted, Operator, Mark, word_token}
@@ -39,47 +40,47 @@ is_bare c = not (eqb c 34 || (eqb c 92 || eqb c 10))
 pub data AreCharacters : List ℕ → Type 0 where
   no_character : AreCharacters []
   bare : {c : ℕ} {cs : List ℕ} → IsTrue (is_bare c) → AreCharacters cs → AreCharacters (c ∷ cs)
-  escaped : {c : ℕ} {cs : List ℕ} → IsTrue (is_in_line c) → AreCharacters cs → AreCharacters (92 ∷ c ∷ cs)
+  escaped : {c : ℕ} {cs : List ℕ} → IsTrue (is_in_line c) → AreCharacters cs → AreCharacters (codes "\\" ++ (c ∷ cs))
 
 -- The base of a based literal: a radix, perhaps with `s` before it.
 pub data IsBase : List ℕ → Type 0 where
   unsigned : {r : ℕ} → IsTrue (is_radix r) → IsBase (r ∷ [])
-  signed : {r : ℕ} → IsTrue (is_radix r) → IsBase (115 ∷ r ∷ [])
+  signed : {r : ℕ} → IsTrue (is_radix r) → IsBase (codes "s" ++ (r ∷ []))
 
--- A lexeme and its tokens.
+-- A lexeme and its tokens; white space and comments have none.
 pub data IsLexeme : List ℕ → List Token → Type 0 where
   space : {c : ℕ} → IsTrue (is_space c) → IsLexeme (c ∷ []) []
-  -- `//` and what stands behind it in its line
-  comment : {line : List ℕ} → IsTrue (every is_in_line line) → IsLexeme (47 ∷ 47 ∷ line) []
+  -- two slashes and what stands behind them in their line
+  comment : {line : List ℕ} → IsTrue (every is_in_line line) → IsLexeme (codes "//" ++ line) []
   -- a keyword or a name
   word : {w : List ℕ} → IsTrue (is_identifier w) → IsLexeme w (word_token w ∷ [])
-  -- `$` and a word
-  system_word : {w : List ℕ} → IsTrue (is_identifier w) → IsLexeme (36 ∷ w) (SystemWord (36 ∷ w) ∷ [])
-  -- a backtick and a word
-  macro_word : {w : List ℕ} → IsTrue (is_identifier w) → IsLexeme (96 ∷ w) (MacroWord w ∷ [])
+  system_word : {w : List ℕ} → IsTrue (is_identifier w) → IsLexeme (codes "$" ++ w) (SystemWord (codes "$" ++ w) ∷ [])
+  macro_word : {w : List ℕ} → IsTrue (is_identifier w) → IsLexeme (codes "`" ++ w) (MacroWord w ∷ [])
   number : {ds : List ℕ} → IsTrue (is_number ds) → IsLexeme ds (Number ds ∷ [])
   -- a size or none, an apostrophe, a base and digits
   based : (size base ds : List ℕ) → IsTrue (every is_digit size) → IsBase base → IsTrue (is_based_number ds) →
-      IsLexeme (size ++ (39 ∷ (base ++ ds))) (Based (size ++ (39 ∷ (base ++ ds))) ∷ [])
+      IsLexeme (size ++ (codes "'" ++ (base ++ ds))) (Based (size ++ (codes "'" ++ (base ++ ds))) ∷ [])
   -- an apostrophe and the byte that fills all bits
-  filled : {c : ℕ} → IsTrue (is_filler c) → IsLexeme (39 ∷ c ∷ []) (Based (39 ∷ c ∷ []) ∷ [])
-  string : (cs : List ℕ) → AreCharacters cs → IsLexeme (34 ∷ (cs ++ (34 ∷ []))) (Quoted (34 ∷ (cs ++ (34 ∷ []))) ∷ [])
+  filled : {c : ℕ} → IsTrue (is_filler c) → IsLexeme (codes "'" ++ (c ∷ [])) (Based (codes "'" ++ (c ∷ [])) ∷ [])
+  string : (cs : List ℕ) → AreCharacters cs →
+      IsLexeme (codes "\"" ++ (cs ++ codes "\"")) (Quoted (codes "\"" ++ (cs ++ codes "\"")) ∷ [])
   operator : (op : Op) → IsLexeme (op_text op) (Operator op ∷ [])
-  -- a mark that stands by itself
   mark : (m : Punct) → m ≢ Apostrophe → IsLexeme (mark_text m) (Mark m ∷ [])
-  -- the apostrophe of a cast, and that of a pattern, with what it opens
+  -- the apostrophe of a cast, and that of a pattern, with what they open
   cast : IsLexeme (codes "'(") (Mark Apostrophe ∷ Mark OpenParen ∷ [])
   pattern : IsLexeme (codes "'{") (Mark Apostrophe ∷ Mark OpenBrace ∷ [])
 
--- No longer front of the text is a lexeme.
+-- No longer front of the text is a lexeme: `>>>` is one, and `//` begins a comment and is no two operators.
 abbrev pub IsLongest : (front rest : List ℕ) → Type 0
-IsLongest front rest = (longer behind : List ℕ) (ts : List Token) → front ++ rest ≡ longer ++ behind → IsLexeme longer ts → length longer ≤ length front
+IsLongest front rest =
+    (other behind : List ℕ) (ts : List Token) → front ++ rest ≡ other ++ behind → IsLexeme other ts → length other ≤ length front
 
--- A text and its tokens: those of the longest lexeme at its front, and those of the rest.
+-- A text and its tokens: those of the longest lexeme at its front, and then those of the rest.
 pub data Lexes : List ℕ → List Token → Type 0 where
   no_text : Lexes [] []
-  lexeme : {front rest : List ℕ} {ts us : List Token} → IsLexeme front ts → IsLongest front rest → Lexes rest us → Lexes (front ++ rest) (ts ++ us)
+  lexeme : {front rest : List ℕ} {ts us : List Token} → IsLexeme front ts → IsLongest front rest → Lexes rest us →
+      Lexes (front ++ rest) (ts ++ us)
 
--- What the scan says are the tokens of a text, are its tokens by its lexemes, and no others; where it has none, the text falls into none.
+-- The scan gives a text exactly the tokens of its lexemes, and none where the text does not fall into lexemes.
 abbrev pub TakesLongest : Type 0
 TakesLongest = (text : List ℕ) (ts : List Token) → (tokens text ≡ Some ts) ↔ Lexes text ts

@@ -1,4 +1,4 @@
-//! Laws over the definitions of the grammar and of normal forms. The functions compute nothing.
+//! Laws over the definitions of the scan, of the grammar and of normal forms. The functions compute nothing.
 
 ghost use Rattle.vast_literal.specs.Lexemes.{TakesLongest};
 ghost use Rattle.vast_literal.specs.WorkedLiterals.{WorkedLiterals};
@@ -14,8 +14,8 @@ pub fn worked_literals()
     ensures { WorkedLiterals }
 {}
 
-/// The tokens that the scan gives a text are those of its lexemes, the longest at each place, and it gives none where a text
-/// does not fall into lexemes.
+/// The scan gives each text exactly the tokens of its lexemes, at each place the longest, and none where the text does not fall
+/// into lexemes.
 pub fn scan_takes_longest()
     ensures { TakesLongest }
 {}
