@@ -125,6 +125,15 @@ unfolding scan
 complete text ts no_text = refl
 complete text ts (lexeme {front = w} {rest} {ts = us} {us = vs} l m r) = complete_by w rest us vs l m (complete rest vs r)
 
-pub takes_longest : TakesLongest
+-- The law, and its two directions for those who say something of lexemes and prove it of the scan.
+
+pub scan_lexes : (text : List ℕ) (ts : List Token) → tokens text ≡ Some ts → Lexes text ts
 unfolding tokens
-takes_longest text ts = (sound (length text) text ts (omega arith), complete text ts)
+scan_lexes text ts e = sound (length text) text ts (omega arith) e
+
+pub lexes_scan : (text : List ℕ) (ts : List Token) → Lexes text ts → tokens text ≡ Some ts
+unfolding tokens
+lexes_scan text ts l = complete text ts l
+
+pub takes_longest : TakesLongest
+takes_longest text ts = (scan_lexes text ts, lexes_scan text ts)
