@@ -8,13 +8,14 @@ use Rattle.vast_literal.specs.Grammar.{DerivesExpression, Spells}
 use Rattle.vast_literal.specs.FileGrammar.{DerivesFile, IsFile}
 use Rattle.vast_literal.proofs.Complete.{one_expression}
 use Rattle.vast_literal.proofs.FilesParse.{one_file}
+use Rattle.vast_literal.proofs.Longest.{lexes_scan}
 
 pub expression_once : (text : List ℕ) (a b : NormalExpr) → DerivesExpression text a → DerivesExpression text b → a ≡ b
 expression_once text a b x y =
-    let e : x.parts ≡ y.parts = same_Some _ _ (sym x.has_parts ∙ y.has_parts) in
+    let e : x.parts ≡ y.parts = same_Some _ _ (sym (lexes_scan text x.parts x.lexed) ∙ lexes_scan text y.parts y.lexed) in
     one_expression.same y.parts a b (subst (λ (ts : List Token). Spells 0 ts a) e x.spelled) y.spelled
 
 pub file_once : (text : List ℕ) (a b : NormalFile) → DerivesFile text a → DerivesFile text b → a ≡ b
 file_once text a b x y =
-    let e : x.parts ≡ y.parts = same_Some _ _ (sym x.has_parts ∙ y.has_parts) in
+    let e : x.parts ≡ y.parts = same_Some _ _ (sym (lexes_scan text x.parts x.lexed) ∙ lexes_scan text y.parts y.lexed) in
     one_file.same y.parts a b (subst (λ (ts : List Token). IsFile ts a) e x.spelled) y.spelled

@@ -10,6 +10,7 @@ use Rattle.vast_literal.specs.FileGrammar.{no_items, more_items, empty, arrow, a
 use Rattle.vast_literal.specs.WorkedTexts.{HasOneFile, module_of, given_comparison, ternary_label, typed_wire, wire_array, casez_function}
 use Rattle.vast_literal.proofs.Sound.{lower}
 use Rattle.vast_literal.proofs.DerivedOnce.{file_once}
+use Rattle.vast_literal.proofs.Longest.{scan_lexes}
 
 -- A name at a level, and a number.
 name_at : (j : ℕ) (w : List ℕ) → j ≤ 14 → Spells j (Word w ∷ []) (Name w)
@@ -19,7 +20,7 @@ number_at_zero : (w : List ℕ) → Spells 0 (Number w ∷ []) (Literal w)
 number_at_zero w = lower 14 0 _ _ (omega arith) (omega arith) (number w)
 
 one : (text : List ℕ) (ts : List Token) (t : NormalFile) → tokens text ≡ Some ts → IsFile ts t → HasOneFile text t
-one text ts t e d = let x : DerivesFile text t = record { parts = ts; has_parts = e; spelled = d } in record { derived = x; no_other = λ u y. file_once text u t y x }
+one text ts t e d = let x : DerivesFile text t = record { parts = ts; lexed = scan_lexes text ts e; spelled = d } in record { derived = x; no_other = λ u y. file_once text u t y x }
 
 -- A member alone in the module `m`.
 in_module : (ts : List Token) (x : NormalMember) → IsMember ts x → IsFile ((Reserved ModuleKey ∷ (Word (codes "m") ∷ (Mark Semicolon ∷ (ts ++ (Reserved EndModuleKey ∷ []))))) ++ []) (module_of x)

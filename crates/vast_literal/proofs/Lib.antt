@@ -57,3 +57,10 @@ pub mod SoundMemberParts
 pub mod SoundMembers
 pub mod SoundFiles
 pub mod KeywordTable
+pub mod LexemeShapes
+pub mod LexemeFronts
+pub mod LexemeRuns
+pub mod LexemeNumbers
+pub mod LexemeSigns
+pub mod LexemeStarts
+pub mod Longest

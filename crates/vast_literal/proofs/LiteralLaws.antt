@@ -7,7 +7,7 @@ use Rattle.vast_literal.proofs.TokenReads.{stops, Reads}
 use Rattle.vast_literal.proofs.ScanLaws.{and_left, and_right, scan_number, scan_based, scan_filler, scan_signed}
 use Rattle.vast_literal.proofs.Pieces.{free_reads, minus_free}
 
-every_push : (p : ℕ → Bool) (d : List ℕ) (c : ℕ) → every p d ≡ true → p c ≡ true → every p (d ++ (c ∷ [])) ≡ true
+pub every_push : (p : ℕ → Bool) (d : List ℕ) (c : ℕ) → every p d ≡ true → p c ≡ true → every p (d ++ (c ∷ [])) ≡ true
 every_push p [] c h k = rw k
 every_push p (x ∷ d) c h k = rw (and_left (p x) (every p d) h) (every_push p d c (and_right (p x) (every p d) h) k)
 
@@ -29,7 +29,7 @@ tail_step : (d : List ℕ) (c : ℕ) (v rest : List ℕ) (b : Bool) → eqb c 11
 tail_step d c v rest true e g h k = rw (eqb-true c 115 e) (signed_tail d v rest g h k)
 tail_step d c v rest false e g h k = radix_tail d (c ∷ v) rest g h k
 
-based_tail : (d v rest : List ℕ) → every is_digit d ≡ true → is_based_tail v ≡ true → stops rest ≡ true → scan Gap (d ++ (39 ∷ (v ++ rest))) ≡ cons_token (Based (d ++ (39 ∷ v))) (scan Gap rest)
+pub based_tail : (d v rest : List ℕ) → every is_digit d ≡ true → is_based_tail v ≡ true → stops rest ≡ true → scan Gap (d ++ (39 ∷ (v ++ rest))) ≡ cons_token (Based (d ++ (39 ∷ v))) (scan Gap rest)
 based_tail d [] rest g h k = cc
 based_tail d (c ∷ v) rest g h k = tail_step d c v rest (eqb c 115) refl g h k
 

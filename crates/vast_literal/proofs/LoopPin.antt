@@ -12,6 +12,7 @@ use Rattle.vast_literal.specs.MemberParser.{bound_of, loop_at, keyed_on, member_
 use Rattle.vast_literal.specs.FileParser.{parameters_on, ports_on, module_at, item_at, is_more, file_at}
 use Rattle.vast_literal.specs.WorkedTexts.{HasNoFile}
 use Rattle.vast_literal.proofs.FilesParse.{file_parses}
+use Rattle.vast_literal.proofs.Longest.{lexes_scan}
 
 -- Thirty of fuel, and more.
 abbrev ten : ℕ → ℕ
@@ -37,7 +38,7 @@ never n = refl
 -- A loop goes on while a name is less than something, and not while a disjunction holds.
 pub no_disjunction : HasNoFile (codes "module m; for (genvar i = 0; i < a || b; i = i + 1) begin end endmodule")
 no_disjunction u x =
-    let e : x.parts ≡ loop_tokens = same_Some _ _ (sym x.has_parts ∙ loop_text) in
+    let e : x.parts ≡ loop_tokens = same_Some _ _ (sym (lexes_scan _ x.parts x.lexed) ∙ loop_text) in
     let g = file_parses loop_tokens u (subst (λ (ts : List Token). IsFile ts u) e x.spelled) in
     let h = g.holds (plenty g.from) (omega arith) in
     let k = never g.from in absurd (cc (h, k))

@@ -10,6 +10,7 @@ use Rattle.vast_literal.specs.Parser.{◌>>=◌, lead, code, after, prefix, word
 use Rattle.vast_literal.specs.WorkedTexts.{HasOneTree, HasNoTree}
 use Rattle.vast_literal.proofs.Complete.{read_all, one_tree}
 use Rattle.vast_literal.proofs.Answers.{derived}
+use Rattle.vast_literal.proofs.Longest.{scan_lexes, lexes_scan}
 
 -- Twenty of fuel, and more.
 abbrev enough : ℕ → ℕ
@@ -23,7 +24,7 @@ Parsed ts r = (n : ℕ) → (run (enough n)).expression_at ts ≡ r
 only : (text : List ℕ) (ts : List Token) (t : NormalExpr) → tokens text ≡ Some ts → Parsed ts (Some (t, [])) → HasOneTree text t
 only text ts t e p =
     let d = derived ts t (record { from = enough zero; holds = λ m small. fuelled m small }) in
-    record { derived = record { parts = ts; has_parts = e; spelled = d }; no_other = λ u x. one_tree ts u t (subst (λ (us : List Token). Spells 0 us u) (same_Some _ _ (let f = x.has_parts in cc (e, f))) x.spelled) d }
+    record { derived = record { parts = ts; lexed = scan_lexes text ts e; spelled = d }; no_other = λ u x. one_tree ts u t (subst (λ (us : List Token). Spells 0 us u) (same_Some _ _ (let f = lexes_scan text x.parts x.lexed in cc (e, f))) x.spelled) d }
   where
     fuelled : (m : ℕ) → enough zero ≤ m → (run m).expression_at ts ≡ Some (t, [])
     fuelled m small = let n = m - 20 in let e : m ≡ enough n = omega arith in subst (λ (k : ℕ). (run k).expression_at ts ≡ Some (t, [])) (sym e) (p n)
@@ -31,7 +32,7 @@ only text ts t e p =
 -- The text has these tokens, and the parser goes on to none or stops before the last of them.
 none : (text : List ℕ) (ts : List Token) (r : Option (NormalExpr × List Token)) → tokens text ≡ Some ts → Parsed ts r → ((t : NormalExpr) → r ≡ Some (t, []) → ⊥) → HasNoTree text
 none text ts r e p never t x =
-    let g = read_all ts t (subst (λ (us : List Token). Spells 0 us t) (same_Some _ _ (let f = x.has_parts in cc (e, f))) x.spelled) in
+    let g = read_all ts t (subst (λ (us : List Token). Spells 0 us t) (same_Some _ _ (let f = lexes_scan text x.parts x.lexed in cc (e, f))) x.spelled) in
     let h = g.holds (enough g.from) (omega arith) in
     let k = p g.from in
     never t (cc (h, k))

@@ -30,7 +30,7 @@ every_is : (p : ℕ → Bool) (cs : List ℕ) → every p cs ≡ list_all p cs
 every_is p [] = refl
 every_is p (c ∷ cs) = ap (λ b. p c && b) (every_is p cs)
 
-or_true : (x : Bool) → (x || true) ≡ true
+pub or_true : (x : Bool) → (x || true) ≡ true
 or_true true = refl
 or_true false = refl
 
@@ -56,7 +56,7 @@ decimal_number n s =
     let wide : 2 ^ 128 ≤ 10 ^ 64 = lit≤ tt in
     some_number (decimal n) (decimal_is_IsNumeral_wide n (omega arith)).0.0 (decimal_digits n s)
 
-no_tick : (c : ℕ) → is_digit c ≡ true → eqb c 39 ≡ false
+pub no_tick : (c : ℕ) → is_digit c ≡ true → eqb c 39 ≡ false
 no_tick c h = grind (arith, nat_tests)
 
 -- literal tokens
@@ -71,7 +71,7 @@ literal_from_based : (t : List ℕ) → is_based t ≡ true → is_literal_text 
 literal_from_based [] h = cc
 literal_from_based (c ∷ cs) h = rw (based_first c cs (eqb c 39) refl h) (bare_from_based (c ∷ cs) h)
 
-based_sized : (size tail : List ℕ) → every is_digit size ≡ true → is_based_tail tail ≡ true → is_based (size ++ (39 ∷ tail)) ≡ true
+pub based_sized : (size tail : List ℕ) → every is_digit size ≡ true → is_based_tail tail ≡ true → is_based (size ++ (39 ∷ tail)) ≡ true
 based_sized [] tail h k = k
 based_sized (c ∷ cs) tail h k =
     let p = and_parts (is_digit c) (every is_digit cs) h in

@@ -2,7 +2,7 @@
 use Rattle.std.specs.Prelude.{◌≡◌, ℕ, List, [], ◌∷◌, ◌++◌, Bool, true, false, codes, Option, Some, None, IsTrue}
 use Rattle.vast_literal.specs.Tokens.{Less, LessEqual, Plus, Key, IfKey, ElseKey, CaseKey, CasezKey, CasexKey, EndCaseKey, DefaultKey, UniqueKey, BeginKey, EndKey, AssignKey, WireKey, RegKey, LogicKey, IntegerKey, IntKey, GenvarKey, SignedKey, UnsignedKey, ModuleKey, EndModuleKey, ParameterKey, LocalparamKey, AlwaysCombKey, AlwaysFFKey, AlwaysKey, PosedgeKey, NegedgeKey, OrKey, FunctionKey, AutomaticKey, EndFunctionKey, InputKey, OutputKey, InOutKey, ForKey}
 use Rattle.vast_literal.specs.Tokens.{OpenParen, CloseParen, OpenBracket, CloseBracket, Comma, Colon, Semicolon, Dot, Hash, At, DoubleColon, Assign, Token, Reserved, Word, MacroWord, Number, Quoted, Operator, Mark}
-use Rattle.vast_literal.specs.Scan.{tokens}
+use Rattle.vast_literal.specs.Lexemes.{Lexes}
 use Rattle.vast_literal.specs.NormalExpr.{NormalExpr, Name, Binary, NormalExprs}
 use Rattle.vast_literal.specs.NormalFile.{NormalStatement, BlockingStatement, NonblockingStatement, AssignStatement, ChoiceStatement, CaseStatement, NormalStatements, Done, Then, Arms, Only, Otherwise, Or, Labels, NoLabels, Label, Group, One, Range, NormalDeclaration, Event, EdgeEvent, NameEvent, NormalConnection, NormalMember, DeclarationPart, AssignPart, ParameterPart, MacroPart, InstancePart, AlwaysPart, ConditionalPart, FunctionPart, LoopPart, NormalMembers, NoParts, MoreParts, NormalParameter, NormalPort, NormalItem, ModulePart, IncludePart, NormalFile}
 use Rattle.vast_literal.specs.Grammar.{Spells, SpellsList}
@@ -273,10 +273,10 @@ pub data IsItem : List Token → NormalItem → Type 0 where
 pub data IsFile : List Token → NormalFile → Type 0 where
   file : {ts : List Token} {is : List NormalItem} → IsMany IsItem ts is → IsFile ts (record { items = is })
 
--- The grammar derives the file from the text: the text has tokens, and they spell it.
+-- The grammar derives the file from the text: these are the tokens of its lexemes, and they spell it.
 pub record DerivesFile (text : List ℕ) (t : NormalFile) : Type 0 where
   pub parts : List Token
-  pub has_parts : tokens text ≡ Some parts
+  pub lexed : Lexes text parts
   pub spelled : IsFile parts t
 
 -- Each token list spells at most one declaration, statement, member and file.

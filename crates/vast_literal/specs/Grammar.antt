@@ -1,9 +1,9 @@
 -- The grammar of expressions: which token lists spell which normal expression, at which level.
-use Rattle.std.specs.Prelude.{◌≡◌, ℕ, suc, ◌<◌, List, [], ◌∷◌, ◌++◌, Bool, true, false, Some, IsTrue}
+use Rattle.std.specs.Prelude.{◌≡◌, ℕ, suc, ◌<◌, List, [], ◌∷◌, ◌++◌, Bool, true, false, IsTrue}
 use Rattle.vast_literal.specs.Tokens.{Op, level, is_unary, Key, LogicKey, SignedKey, UnsignedKey, IntegerKey, IntKey}
 use Rattle.vast_literal.specs.Tokens.{OpenParen, CloseParen, OpenBracket, CloseBracket, OpenBrace, CloseBrace, Comma, Colon, Question, DoubleColon, PlusColon, Apostrophe}
 use Rattle.vast_literal.specs.Tokens.{Token, Reserved, Word, SystemWord, MacroWord, Number, Based, Quoted, Operator, Mark}
-use Rattle.vast_literal.specs.Scan.{tokens}
+use Rattle.vast_literal.specs.Lexemes.{Lexes}
 use Rattle.vast_literal.specs.NormalExpr.{NormalExpr, Name, Literal, Text, MacroAlone, Unary, Binary, Ternary, Index, Slice, PartSelect, Concat, Pattern, Replicated, Call, MacroCall, Cast, PackageCast, WordCast, NormalExprs, NoNormals, MoreNormals}
 
 -- The keywords that head a cast.
@@ -77,10 +77,10 @@ mutual
     last : {ts : List Token} {t : NormalExpr} → Spells 0 ts t → SpellsJoined ts (MoreNormals t NoNormals)
     next : {ts us : List Token} {t : NormalExpr} {xs : NormalExprs} → Spells 0 ts t → SpellsJoined us xs → SpellsJoined (ts ++ (Mark Comma ∷ us)) (MoreNormals t xs)
 
--- The grammar derives the expression from the text: the text has tokens, and they spell it.
+-- The grammar derives the expression from the text: these are the tokens of its lexemes, and they spell it.
 pub record DerivesExpression (text : List ℕ) (t : NormalExpr) : Type 0 where
   pub parts : List Token
-  pub has_parts : tokens text ≡ Some parts
+  pub lexed : Lexes text parts
   pub spelled : Spells 0 parts t
 
 -- Each token list spells at most one expression.

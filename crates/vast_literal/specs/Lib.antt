@@ -36,3 +36,4 @@ pub mod PlainFile
 pub mod WellFormedFile
 pub mod WorkedTexts
 pub mod WorkedLiterals
+pub mod Lexemes

@@ -1,5 +1,6 @@
-//! Laws over the definitions of the grammar and of normal forms. The functions compute nothing.
+//! Laws over the definitions of the scan, of the grammar and of normal forms. The functions compute nothing.
 
+ghost use Rattle.vast_literal.specs.Lexemes.{TakesLongest};
 ghost use Rattle.vast_literal.specs.WorkedLiterals.{WorkedLiterals};
 ghost use Rattle.vast_literal.specs.WorkedTexts.{WorkedTexts};
 
@@ -11,4 +12,10 @@ pub fn worked_texts()
 /// What some texts denote, and how some numbers, patterns and strings are written: worked statements on the definitions.
 pub fn worked_literals()
     ensures { WorkedLiterals }
+{}
+
+/// The scan gives each text exactly the tokens of its lexemes, at each place the longest, and none where the text does not fall
+/// into lexemes.
+pub fn scan_takes_longest()
+    ensures { TakesLongest }
 {}

@@ -14,6 +14,7 @@ use Rattle.vast_literal.specs.Grammar.{DerivesExpression}
 use Rattle.vast_literal.specs.NormalExpr.{normal, signing_key, scalar_sign, integer_sign}
 use Rattle.vast_literal.proofs.Pieces.{add_tokens-nil}
 use Rattle.vast_literal.proofs.Spelled.{spelled, low}
+use Rattle.vast_literal.proofs.Longest.{scan_lexes}
 use Rattle.vast_literal.specs.LiteralToken.{is_literal_text, is_string_text}
 use Rattle.vast_literal.specs.Plain.{is_plain_name, is_called_name, is_plain, is_plain_type, are_plain, is_edgeless, is_edgeless_type, are_edgeless}
 use Rattle.vast_literal.specs.ExprTokens.{expr_tokens, cast_tokens, each_tokens, comma_tokens, comma_tail_tokens, wrapped_tokens, cast_operand, word_cast_tokens}
@@ -250,4 +251,4 @@ tokens_of a ts r = rw append-nil at (r.at [] refl) ∙ add_tokens-nil ts
 
 -- The grammar derives the normal expression from the printed text.
 pub expr_derived : (e : ExprTree) → is_plain e ≡ true → is_edgeless e ≡ true → is_well_formed e ≡ true → (expr_text e).fault ≡ None → DerivesExpression (expr_text e).text (normal e)
-expr_derived e p l w f = record { parts = expr_tokens e; has_parts = tokens_of _ _ (expr_reads e p l w f); spelled = low e (spelled e l w) }
+expr_derived e p l w f = record { parts = expr_tokens e; lexed = scan_lexes _ _ (tokens_of _ _ (expr_reads e p l w f)); spelled = low e (spelled e l w) }

@@ -41,6 +41,7 @@ use Rattle.vast_literal.specs.FileTokens.{each_port, typed_tokens, each_paramete
 use Rattle.vast_literal.specs.FileGrammar.{DerivesFile}
 use Rattle.vast_literal.proofs.Words.{string_reads}
 use Rattle.vast_literal.proofs.FilesSpelled.{file_spelled}
+use Rattle.vast_literal.proofs.Longest.{scan_lexes}
 use Rattle.vast_print.specs.Page.{print}
 use Rattle.vast_print.specs.Layout.{direction_word, port_text, typed_text, parameter_port_text, ports_page, parameter_ports_page, opening_page, header_page, body_page, module_page, item_page, items_page, layout}
 use Rattle.vast_print.proofs.PageLines.{print_tokens}
@@ -261,4 +262,4 @@ printed_tokens p ts h = print_tokens h.lines
 
 -- The grammar derives the normal form of a plain, well-formed file from its printed layout.
 pub file_derived : (f : FileTree) → is_plain_file f ≡ true → is_well_formed_file f ≡ true → (layout f).fault ≡ None → DerivesFile (print (layout f)) (normal_file f)
-file_derived f p w e = record { parts = file_tokens f; has_parts = printed_tokens (layout f) (file_tokens f) (layout_whole f p w e); spelled = file_spelled f p w }
+file_derived f p w e = record { parts = file_tokens f; lexed = scan_lexes _ _ (printed_tokens (layout f) (file_tokens f) (layout_whole f p w e)); spelled = file_spelled f p w }
