@@ -17,6 +17,7 @@ use Rattle.vast_literal.specs.Tree.{ExprTree, IndexTree}
 use Rattle.vast_core.specs.Nodes.{ExprRoot}
 use Rattle.vast_core.specs.declared.handle.Index.{Index}
 use Rattle.vast_core.specs.declared.handle.Expr.{Expr}
+use Rattle.vast_core.specs.declared.handle.IndexableExpr.{IndexableExpr}
 use Rattle.vast_core.specs.Handles.{expr_to_indexable_expr, index_to_expr}
 use Rattle.vast_core.specs.Bench.{Bench, OwnsExpr, tree_of}
 use Rattle.vast_core.specs.Growth.{with_expr, next_expr, with_fixed_index, next_fixed_index, known_literal}
@@ -171,6 +172,14 @@ slotted-step start now after array dimension index next before made longer slot 
           (append_assoc (map (tree_of start) before) (slots index (tree_of start array)) (IndexTree (tree_of start array) (known_literal text index) ∷ []));
       more = more-more start now (with_expr made-tree mid) s.more wider;
     })
+
+-- The slot was made, and there was no memory for its place in the list.
+pub slotted-refused :
+    (start now after : Bench) (r : Result (Unit {0}) AllocError) (array : Expr) (dimension index at : ℤ) (before made left : List Expr) (trees : List ExprTree) (subject : IndexableExpr) (text : List ℕ) →
+    IsErr r → Slotted start now array dimension index before made → after ≡ with_fixed_index subject text at now → AddsTrees start after r before left trees
+slotted-refused start now after (Ok x) array dimension index at before made left trees subject text e s grown = absurd cc
+slotted-refused start now after (Err x) array dimension index at before made left trees subject text e s grown =
+    rw grown (more-root start (with_expr (known_literal text at) now) _ (more-root start now (ExprRoot (known_literal text at)) s.more))
 
 ended : (dimension index : ℤ) (array : ExprTree) → pos 0 ≤ℤ index → (pos 0 ≤ℤ dimension → index ≤ℤ dimension) → (dimension <ℤ pos 0 → index ≡ pos 0) → dimension ≤ℤ index → slots index array ≡ slots dimension array
 unfolding slots

@@ -160,7 +160,7 @@ keeps-cond b c d false h k = k
 
 -- A call of the arenas keeps what the file had where what it leaves keeps it; where memory was refused nothing changed.
 
-kept-from : (a b c d : Bench) → c ≡ d → b ≡ a → Keeps b d → Keeps a c
+pub kept-from : (a b c d : Bench) → c ≡ d → b ≡ a → Keeps b d → Keeps a c
 kept-from a b c d end start k = subst (λ x. Keeps x c) start (subst (λ x. Keeps b x) (sym end) k)
 
 pub kept_by :

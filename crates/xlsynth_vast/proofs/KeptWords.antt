@@ -10,6 +10,8 @@ use Rattle.vast_core.specs.declared.handle.Conditional.{Conditional}
 use Rattle.vast_core.specs.declared.handle.CaseStatement.{CaseStatement}
 use Rattle.vast_core.specs.declared.handle.GenerateLoop.{GenerateLoop}
 use Rattle.vast_core.specs.declared.handle.Def.{Def}
+use Rattle.vast_core.specs.declared.ast.scope.Scope.{Scope}
+use Rattle.vast_core.specs.declared.ast.scope.Scope.TheVariants.{Module as ModuleScope, Loop as LoopScope}
 use Rattle.vast_core.specs.declared.node.Assignment.{Assignment}
 use Rattle.vast_literal.specs.declared.kind.ModulePortDirection.{ModulePortDirection}
 use Rattle.vast_literal.specs.declared.kind.DataKind.{DataKind}
@@ -25,6 +27,7 @@ use Rattle.vast_core.specs.Parameters.{with_parameter_port, with_plain_parameter
 use Rattle.vast_core.specs.Hoisting.{with_hoisted}
 use Rattle.vast_core.specs.Functions.{with_variable}
 use Rattle.vast_core.specs.Containers.{InFile, InPorts, InFunction, InNest, StatementEnters, ElseIfEnters, ElseEnters, CaseArmEnters, MemberEnters, no_fresh, fresh_assignment, fresh_block, fresh_container, next_block, with_block, with_conditional, new_conditional, with_case, new_case, with_statement, with_else_if, with_else, with_case_arm, with_case_unique}
+use Rattle.vast_core.specs.Scopes.{with_scope_member}
 use Rattle.vast_core.specs.Loops.{next_always, with_always, with_loop, new_loop, with_loop_member, with_plain_loop_parameter, with_defined_loop_parameter}
 use Rattle.xlsynth_vast.specs.Equations.{is_one, with_bit_vector}
 use Rattle.xlsynth_vast.specs.AlwaysBlocks.{with_always_member, with_loop_always}
@@ -143,3 +146,7 @@ plain_loop_parameter-kept owner name value b = keeps-then b (with_loop_member ow
 
 pub defined_loop_parameter-kept : (owner : GenerateLoop) (definition : Def) (value : Expr) (b : Bench) → Keeps b (with_defined_loop_parameter owner definition value b)
 defined_loop_parameter-kept owner definition value b = keeps-then b (with_loop_member owner _ b) _ (loop_member-kept owner _ b) (keeps-root _ _)
+
+pub scope_member-kept : (scope : Scope) (entry : MemberEntry) (b : Bench) → Keeps b (with_scope_member scope entry b)
+scope_member-kept (ModuleScope owner) entry b = member-kept owner entry b
+scope_member-kept (LoopScope owner) entry b = loop_member-kept owner entry b

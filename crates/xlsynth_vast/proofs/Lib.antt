@@ -21,5 +21,6 @@ pub mod Kept
 pub mod KeptWords
 mod KeptCalls
 mod KeptRegisters
+mod KeptReductions
 pub mod Callers
 mod Presence

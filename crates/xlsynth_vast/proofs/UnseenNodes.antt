@@ -11,7 +11,7 @@ use Rattle.xlsynth_vast.specs.Reductions.{HasMoreNodes, MakesTree}
 use Rattle.xlsynth_vast.specs.Registers.{HasUnused}
 use Rattle.xlsynth_vast.proofs.Unseen.{tree-unseen}
 
-nodes-unused : (b c : Bench) → HasMoreNodes b c → HasUnused b c
+pub nodes-unused : (b c : Bench) → HasMoreNodes b c → HasUnused b c
 nodes-unused b c h =
     record { roots = h.more; assignments = []; containers = []; spare = b.spare; after = h.after ∙ rw (append-nil b.assignments, append-nil b.nests) refl }
 

@@ -6,6 +6,7 @@ ghost use Rattle.vast_core.specs.Bench.{OwnsExpr, OwnsType, OwnsMacroRef};
 ghost use Rattle.vast_core.specs.Records.{BlankLineRecord, CommentRecord, InlineRecord, MacroRecord};
 ghost use Rattle.vast_core.specs.Growth.{Builds, next_continuous, with_assignment};
 ghost use Rattle.vast_core.specs.Artifacts.{next_def, with_definition, next_blank_line, next_comment, next_inline, next_macro_statement, with_artifact, next_statement};
+ghost use Rattle.xlsynth_vast.specs.Keeps.{Keeps};
 
 use crate::file::VastFile;
 use std::alloc::AllocError;
@@ -26,8 +27,9 @@ impl VastFile {
         data_type: &VastDataType,
     ) -> Result<Def, AllocError>
         requires { OwnsType self.old data_type.now }
-        ensures { Builds self.old self.new result next_def
+        ensures built { Builds self.old self.new result next_def
             (with_definition (record { name = name.now; kind = kind; data_type = data_type.now })) }
+        ensures kept { Keeps self.old self.new }
     {
         self.ast.push_def(name, kind, *data_type)
     }
@@ -37,7 +39,9 @@ impl VastFile {
     /// # Errors
     /// `AllocError` where a growth was refused; the file is unchanged.
     pub fn make_blank_line(&mut self) -> Result<BlankLine, AllocError>
-        ensures { Builds self.old self.new result next_blank_line (with_artifact BlankLineRecord) }
+        ensures built { Builds self.old self.new result next_blank_line
+            (with_artifact BlankLineRecord) }
+        ensures kept { Keeps self.old self.new }
     {
         self.ast.push_blank_line()
     }
@@ -47,8 +51,9 @@ impl VastFile {
     /// # Errors
     /// `AllocError` where a growth was refused; the file is unchanged.
     pub fn make_comment(&mut self, text: &str) -> Result<Comment, AllocError>
-        ensures { Builds self.old self.new result next_comment
+        ensures built { Builds self.old self.new result next_comment
             (with_artifact (CommentRecord text.now)) }
+        ensures kept { Keeps self.old self.new }
     {
         self.ast.push_comment(text)
     }
@@ -61,8 +66,9 @@ impl VastFile {
         &mut self,
         text: &str,
     ) -> Result<InlineVerilogStatement, AllocError>
-        ensures { Builds self.old self.new result next_inline
+        ensures built { Builds self.old self.new result next_inline
             (with_artifact (InlineRecord text.now)) }
+        ensures kept { Keeps self.old self.new }
     {
         self.ast.push_inline(text)
     }
@@ -77,8 +83,9 @@ impl VastFile {
         semicolon: bool,
     ) -> Result<MacroStatement, AllocError>
         requires { OwnsMacroRef self.old macro_ref.now }
-        ensures { Builds self.old self.new result next_macro_statement
+        ensures built { Builds self.old self.new result next_macro_statement
             (with_artifact (MacroRecord macro_ref.now semicolon)) }
+        ensures kept { Keeps self.old self.new }
     {
         self.ast.push_macro_statement(*macro_ref, semicolon)
     }
@@ -94,8 +101,9 @@ impl VastFile {
     ) -> Result<ContinuousAssignment, AllocError>
         requires lhs { OwnsExpr self.old lhs.now }
         requires rhs { OwnsExpr self.old rhs.now }
-        ensures { Builds self.old self.new result next_continuous
+        ensures built { Builds self.old self.new result next_continuous
             (with_assignment (record { lhs = lhs.now; rhs = rhs.now; nonblocking = false })) }
+        ensures kept { Keeps self.old self.new }
     {
         self.ast.push_continuous(*lhs, *rhs)
     }
@@ -111,8 +119,9 @@ impl VastFile {
     ) -> Result<VastStatement, AllocError>
         requires lhs { OwnsExpr self.old lhs.now }
         requires rhs { OwnsExpr self.old rhs.now }
-        ensures { Builds self.old self.new result next_statement
+        ensures built { Builds self.old self.new result next_statement
             (with_assignment (record { lhs = lhs.now; rhs = rhs.now; nonblocking = true })) }
+        ensures kept { Keeps self.old self.new }
     {
         self.ast.push_assignment(*lhs, *rhs, true)
     }
@@ -128,8 +137,9 @@ impl VastFile {
     ) -> Result<VastStatement, AllocError>
         requires lhs { OwnsExpr self.old lhs.now }
         requires rhs { OwnsExpr self.old rhs.now }
-        ensures { Builds self.old self.new result next_statement
+        ensures built { Builds self.old self.new result next_statement
             (with_assignment (record { lhs = lhs.now; rhs = rhs.now; nonblocking = false })) }
+        ensures kept { Keeps self.old self.new }
     {
         self.ast.push_assignment(*lhs, *rhs, false)
     }

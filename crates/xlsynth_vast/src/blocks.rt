@@ -7,6 +7,7 @@ ghost use Rattle.vast_core.specs.Nests.{AssignStatement, ContinuousStatement, Bl
 ghost use Rattle.vast_core.specs.Growth.{Builds, Leaves, with_assignment};
 ghost use Rattle.vast_core.specs.Artifacts.{next_statement};
 ghost use Rattle.vast_core.specs.Containers.{with_statement};
+ghost use Rattle.xlsynth_vast.specs.Keeps.{Keeps};
 
 use crate::file::VastFile;
 use std::alloc::AllocError;
@@ -26,10 +27,11 @@ impl VastFile {
         requires block { OwnsBlock self.old block }
         requires lhs { OwnsExpr self.old lhs.now }
         requires rhs { OwnsExpr self.old rhs.now }
-        ensures { Builds self.old self.new result next_statement
+        ensures built { Builds self.old self.new result next_statement
             (λ b. with_statement block (AssignStatement (next_statement b))
             (with_assignment (record { lhs = lhs.now; rhs = rhs.now; nonblocking = false })
             b)) }
+        ensures kept { Keeps self.old self.new }
     {
         let spot = Spot::Block(block);
         self.ast
@@ -49,9 +51,10 @@ impl VastFile {
         requires block { OwnsBlock self.old block }
         requires lhs { OwnsExpr self.old lhs.now }
         requires rhs { OwnsExpr self.old rhs.now }
-        ensures { Builds self.old self.new result next_statement
+        ensures built { Builds self.old self.new result next_statement
             (λ b. with_statement block (AssignStatement (next_statement b))
             (with_assignment (record { lhs = lhs.now; rhs = rhs.now; nonblocking = true }) b)) }
+        ensures kept { Keeps self.old self.new }
     {
         let spot = Spot::Block(block);
         self.ast
@@ -71,10 +74,11 @@ impl VastFile {
         requires block { OwnsBlock self.old block }
         requires lhs { OwnsExpr self.old lhs.now }
         requires rhs { OwnsExpr self.old rhs.now }
-        ensures { Builds self.old self.new result next_statement
+        ensures built { Builds self.old self.new result next_statement
             (λ b. with_statement block (ContinuousStatement (next_statement b))
             (with_assignment (record { lhs = lhs.now; rhs = rhs.now; nonblocking = false })
             b)) }
+        ensures kept { Keeps self.old self.new }
     {
         let spot = Spot::Block(block);
         self.ast
@@ -91,8 +95,9 @@ impl VastFile {
         text: &str,
     ) -> Result<(), AllocError>
         requires { OwnsBlock self.old block }
-        ensures { Leaves self.old self.new result
+        ensures built { Leaves self.old self.new result
             (with_statement block (CommentStatement text.now)) }
+        ensures kept { Keeps self.old self.new }
     {
         let text = String::from_str(self.ast.allocator(), text)?;
         self.ast.append_statement(block, Statement::Comment(text))
@@ -108,8 +113,9 @@ impl VastFile {
         text: &str,
     ) -> Result<(), AllocError>
         requires { OwnsBlock self.old block }
-        ensures { Leaves self.old self.new result
+        ensures built { Leaves self.old self.new result
             (with_statement block (InlineStatement text.now)) }
+        ensures kept { Keeps self.old self.new }
     {
         let text = String::from_str(self.ast.allocator(), text)?;
         self.ast.append_statement(block, Statement::Inline(text))
@@ -121,7 +127,8 @@ impl VastFile {
     /// `AllocError` where a growth was refused; the file is unchanged.
     pub fn block_add_blank_line(&mut self, block: VastStatementBlock) -> Result<(), AllocError>
         requires { OwnsBlock self.old block }
-        ensures { Leaves self.old self.new result (with_statement block BlankStatement) }
+        ensures built { Leaves self.old self.new result (with_statement block BlankStatement) }
+        ensures kept { Keeps self.old self.new }
     {
         self.ast.append_statement(block, Statement::BlankLine)
     }

@@ -5,6 +5,7 @@ ghost use Rattle.vast_core.specs.Bench.{OwnsBlock, OwnsExpr, OwnsCase};
 ghost use Rattle.vast_core.specs.Nests.{CasesStatement};
 ghost use Rattle.vast_core.specs.Growth.{Builds};
 ghost use Rattle.vast_core.specs.Containers.{next_block, next_case, with_case, with_statement, with_case_arm, with_case_unique};
+ghost use Rattle.xlsynth_vast.specs.Keeps.{Keeps};
 ghost use Rattle.xlsynth_vast.specs.Refusals.{MayChange};
 ghost use Rattle.xlsynth_vast.specs.Cases.{may_be_unique};
 
@@ -25,9 +26,10 @@ impl VastFile {
     ) -> Result<CaseStatement, AllocError>
         requires block { OwnsBlock self.old block }
         requires selector { OwnsExpr self.old selector.now }
-        ensures { Builds self.old self.new result next_case
+        ensures built { Builds self.old self.new result next_case
             (λ b. with_statement block (CasesStatement (next_case b))
             (with_case CaseKind.Case selector.now b)) }
+        ensures kept { Keeps self.old self.new }
     {
         self.ast.append_block_case(block, CaseKind::Case, *selector)
     }
@@ -43,9 +45,10 @@ impl VastFile {
     ) -> Result<CaseStatement, AllocError>
         requires block { OwnsBlock self.old block }
         requires selector { OwnsExpr self.old selector.now }
-        ensures { Builds self.old self.new result next_case
+        ensures built { Builds self.old self.new result next_case
             (λ b. with_statement block (CasesStatement (next_case b))
             (with_case CaseKind.CaseZ selector.now b)) }
+        ensures kept { Keeps self.old self.new }
     {
         self.ast
             .append_block_case(block, CaseKind::CaseZ, *selector)
@@ -62,9 +65,10 @@ impl VastFile {
     ) -> Result<CaseStatement, AllocError>
         requires block { OwnsBlock self.old block }
         requires selector { OwnsExpr self.old selector.now }
-        ensures { Builds self.old self.new result next_case
+        ensures built { Builds self.old self.new result next_case
             (λ b. with_statement block (CasesStatement (next_case b))
             (with_case CaseKind.CaseX selector.now b)) }
+        ensures kept { Keeps self.old self.new }
     {
         self.ast
             .append_block_case(block, CaseKind::CaseX, *selector)
@@ -81,8 +85,9 @@ impl VastFile {
     ) -> Result<VastStatementBlock, AllocError>
         requires case { OwnsCase self.old case }
         requires pattern { OwnsExpr self.old pattern.now }
-        ensures { Builds self.old self.new result next_block
+        ensures built { Builds self.old self.new result next_block
             (with_case_arm case (Some pattern.now)) }
+        ensures kept { Keeps self.old self.new }
     {
         self.ast.case_add_arm(case, Some(*pattern))
     }
@@ -97,7 +102,8 @@ impl VastFile {
         case: CaseStatement,
     ) -> Result<VastStatementBlock, AllocError>
         requires case { OwnsCase self.old case }
-        ensures { Builds self.old self.new result next_block (with_case_arm case None) }
+        ensures built { Builds self.old self.new result next_block (with_case_arm case None) }
+        ensures kept { Keeps self.old self.new }
     {
         self.ast.case_add_arm(case, None)
     }
@@ -109,8 +115,9 @@ impl VastFile {
     /// memory for these words was refused. The file is unchanged.
     pub fn case_set_unique(&mut self, case: CaseStatement, unique: bool) -> Result<(), VastFault>
         requires { OwnsCase self.old case }
-        ensures { MayChange self.old self.new result (λ b. may_be_unique b.file_type unique)
+        ensures built { MayChange self.old self.new result (λ b. may_be_unique b.file_type unique)
             (with_case_unique case unique) }
+        ensures kept { Keeps self.old self.new }
     {
         if unique && self.ast.file_type() == VastFileType::Verilog {
             let words = "unique case requires SystemVerilog";

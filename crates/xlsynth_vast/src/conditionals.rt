@@ -7,6 +7,7 @@ ghost use Rattle.vast_core.specs.Records.{ConditionalEntry};
 ghost use Rattle.vast_core.specs.Nests.{ConditionalStatement};
 ghost use Rattle.vast_core.specs.Growth.{Builds, with_member};
 ghost use Rattle.vast_core.specs.Containers.{next_block, next_conditional, with_conditional, with_statement, with_else_if, with_else, has_else};
+ghost use Rattle.xlsynth_vast.specs.Keeps.{Keeps};
 ghost use Rattle.xlsynth_vast.specs.Inspections.{then_block_at};
 
 use crate::file::VastFile;
@@ -25,9 +26,10 @@ impl VastFile {
     ) -> Result<Conditional, AllocError>
         requires owner { OwnsModule self.old owner }
         requires condition { OwnsExpr self.old condition.now }
-        ensures { Builds self.old self.new result next_conditional
+        ensures built { Builds self.old self.new result next_conditional
             (λ b. with_member owner (ConditionalEntry (next_conditional b))
             (with_conditional condition.now b)) }
+        ensures kept { Keeps self.old self.new }
     {
         self.ast
             .push_conditional(Spot::Scope(Scope::Module(owner)), *condition)
@@ -44,9 +46,10 @@ impl VastFile {
     ) -> Result<Conditional, AllocError>
         requires block { OwnsBlock self.old block }
         requires condition { OwnsExpr self.old condition.now }
-        ensures { Builds self.old self.new result next_conditional
+        ensures built { Builds self.old self.new result next_conditional
             (λ b. with_statement block (ConditionalStatement (next_conditional b))
             (with_conditional condition.now b)) }
+        ensures kept { Keeps self.old self.new }
     {
         self.ast.push_conditional(Spot::Block(block), *condition)
     }
@@ -83,8 +86,9 @@ impl VastFile {
         requires condition { OwnsExpr self.old condition.now }
         requires no_else { has_else
             (slice_get self.old.nests (conditional_index conditional)) ≡ false }
-        ensures { Builds self.old self.new result next_block
+        ensures built { Builds self.old self.new result next_block
             (with_else_if conditional condition.now) }
+        ensures kept { Keeps self.old self.new }
     {
         self.ast.conditional_add_else_if(conditional, *condition)
     }
@@ -101,7 +105,8 @@ impl VastFile {
         requires conditional { OwnsConditional self.old conditional }
         requires no_else { has_else
             (slice_get self.old.nests (conditional_index conditional)) ≡ false }
-        ensures { Builds self.old self.new result next_block (with_else conditional) }
+        ensures built { Builds self.old self.new result next_block (with_else conditional) }
+        ensures kept { Keeps self.old self.new }
     {
         self.ast.conditional_add_else(conditional)
     }

@@ -78,8 +78,9 @@ impl VastFile {
         requires owner { OwnsModule self.old owner }
         requires data_type { OwnsType self.old data_type.now }
         requires free { NameIsFree self.old owner name.now }
-        ensures { Builds self.old self.new result next_logic_ref
+        ensures built { Builds self.old self.new result next_logic_ref
             (with_declaration owner DataKind.Wire name.now data_type.now) }
+        ensures kept { Keeps self.old self.new }
     {
         self.ast
             .push_declaration(owner, DataKind::Wire, name, *data_type)

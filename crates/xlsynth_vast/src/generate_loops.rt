@@ -10,6 +10,7 @@ ghost use Rattle.vast_core.specs.Artifacts.{next_statement};
 ghost use Rattle.vast_core.specs.Containers.{next_conditional, with_conditional};
 ghost use Rattle.vast_core.specs.Parameters.{next_localparam_ref};
 ghost use Rattle.vast_core.specs.Loops.{next_loop, with_loop, with_loop_member, with_plain_loop_parameter, with_defined_loop_parameter};
+ghost use Rattle.xlsynth_vast.specs.Keeps.{Keeps};
 ghost use Rattle.xlsynth_vast.specs.Inspections.{genvar_at};
 
 use crate::file::VastFile;
@@ -47,9 +48,10 @@ impl VastFile {
         requires owner { OwnsModule self.old owner }
         requires start { OwnsExpr self.old start.now }
         requires end { OwnsExpr self.old end.now }
-        ensures { Builds self.old self.new result next_loop
+        ensures built { Builds self.old self.new result next_loop
             (λ b. with_member owner (LoopEntry (next_loop b))
             (with_loop name.now start.now end.now (option_copied label.entry) b)) }
+        ensures kept { Keeps self.old self.new }
     {
         let label = own_label(self.ast.allocator(), label)?;
         self.ast
@@ -72,9 +74,10 @@ impl VastFile {
         requires parent { OwnsLoop self.old parent }
         requires start { OwnsExpr self.old start.now }
         requires end { OwnsExpr self.old end.now }
-        ensures { Builds self.old self.new result next_loop
+        ensures built { Builds self.old self.new result next_loop
             (λ b. with_loop_member parent (LoopEntry (next_loop b))
             (with_loop name.now start.now end.now (option_copied label.entry) b)) }
+        ensures kept { Keeps self.old self.new }
     {
         let label = own_label(self.ast.allocator(), label)?;
         self.ast
@@ -102,8 +105,9 @@ impl VastFile {
     ) -> Result<LocalparamRef, AllocError>
         requires generate { OwnsLoop self.old generate }
         requires rhs { OwnsExpr self.old rhs.now }
-        ensures { Builds self.old self.new result next_localparam_ref
+        ensures built { Builds self.old self.new result next_localparam_ref
             (with_plain_loop_parameter generate name.now rhs.now) }
+        ensures kept { Keeps self.old self.new }
     {
         let form = ParameterForm::Plain(String::from_str(self.ast.allocator(), name)?);
         self.ast.push_localparam(Scope::Loop(generate), form, *rhs)
@@ -122,8 +126,9 @@ impl VastFile {
         requires generate { OwnsLoop self.old generate }
         requires definition { OwnsDef self.old definition.now }
         requires rhs { OwnsExpr self.old rhs.now }
-        ensures { Builds self.old self.new result next_localparam_ref
+        ensures built { Builds self.old self.new result next_localparam_ref
             (with_defined_loop_parameter generate definition.now rhs.now) }
+        ensures kept { Keeps self.old self.new }
     {
         let form = ParameterForm::Defined(*definition);
         self.ast.push_localparam(Scope::Loop(generate), form, *rhs)
@@ -142,10 +147,11 @@ impl VastFile {
         requires generate { OwnsLoop self.old generate }
         requires lhs { OwnsExpr self.old lhs.now }
         requires rhs { OwnsExpr self.old rhs.now }
-        ensures { Builds self.old self.new result next_statement
+        ensures built { Builds self.old self.new result next_statement
             (λ b. with_loop_member generate (AssignmentEntry (next_continuous b))
             (with_assignment (record { lhs = lhs.now; rhs = rhs.now; nonblocking = false })
             b)) }
+        ensures kept { Keeps self.old self.new }
     {
         let spot = Spot::Scope(Scope::Loop(generate));
         self.ast
@@ -163,9 +169,10 @@ impl VastFile {
     ) -> Result<Conditional, AllocError>
         requires generate { OwnsLoop self.old generate }
         requires condition { OwnsExpr self.old condition.now }
-        ensures { Builds self.old self.new result next_conditional
+        ensures built { Builds self.old self.new result next_conditional
             (λ b. with_loop_member generate (ConditionalEntry (next_conditional b))
             (with_conditional condition.now b)) }
+        ensures kept { Keeps self.old self.new }
     {
         self.ast
             .push_conditional(Spot::Scope(Scope::Loop(generate)), *condition)
@@ -177,10 +184,10 @@ impl VastFile {
     /// `AllocError` where a growth was refused; the file is unchanged.
     pub fn generate_add_blank_line(&mut self, generate: GenerateLoop) -> Result<(), AllocError>
         requires { OwnsLoop self.old generate }
-        ensures { Leaves self.old self.new result (with_loop_member generate BlankEntry) }
+        ensures built { Leaves self.old self.new result (with_loop_member generate BlankEntry) }
+        ensures kept { Keeps self.old self.new }
     {
-        self.ast
-            .append_member(Scope::Loop(generate), Member::BlankLine)
+        self.append_member(Scope::Loop(generate), Member::BlankLine)
     }
 
     /// The comment, as the loop's last member.
@@ -194,11 +201,11 @@ impl VastFile {
     ) -> Result<(), AllocError>
         requires generate { OwnsLoop self.old generate }
         requires comment { OwnsComment self.old comment.now }
-        ensures { Leaves self.old self.new result
+        ensures built { Leaves self.old self.new result
             (with_loop_member generate (CommentEntry comment.now)) }
+        ensures kept { Keeps self.old self.new }
     {
-        self.ast
-            .append_member(Scope::Loop(generate), Member::Comment(*comment))
+        self.append_member(Scope::Loop(generate), Member::Comment(*comment))
     }
 
     /// The instantiation, as the loop's last member.
@@ -212,10 +219,11 @@ impl VastFile {
     ) -> Result<(), AllocError>
         requires generate { OwnsLoop self.old generate }
         requires instantiation { OwnsInstantiation self.old instantiation.now }
-        ensures { Leaves self.old self.new result
+        ensures built { Leaves self.old self.new result
             (with_loop_member generate (InstanceEntry instantiation.now)) }
+        ensures kept { Keeps self.old self.new }
     {
-        self.ast.append_member(Scope::Loop(generate), Member::Instantiation(*instantiation))
+        self.append_member(Scope::Loop(generate), Member::Instantiation(*instantiation))
     }
 
     /// The text, as the loop's last member.
@@ -229,11 +237,11 @@ impl VastFile {
     ) -> Result<(), AllocError>
         requires generate { OwnsLoop self.old generate }
         requires statement { OwnsInline self.old statement.now }
-        ensures { Leaves self.old self.new result
+        ensures built { Leaves self.old self.new result
             (with_loop_member generate (InlineEntry statement.now)) }
+        ensures kept { Keeps self.old self.new }
     {
-        self.ast
-            .append_member(Scope::Loop(generate), Member::Inline(*statement))
+        self.append_member(Scope::Loop(generate), Member::Inline(*statement))
     }
 
     /// The use of a macro, as the loop's last member.
@@ -247,10 +255,10 @@ impl VastFile {
     ) -> Result<(), AllocError>
         requires generate { OwnsLoop self.old generate }
         requires statement { OwnsMacroStatement self.old statement.now }
-        ensures { Leaves self.old self.new result
+        ensures built { Leaves self.old self.new result
             (with_loop_member generate (MacroEntry statement.now)) }
+        ensures kept { Keeps self.old self.new }
     {
-        self.ast
-            .append_member(Scope::Loop(generate), Member::Macro(*statement))
+        self.append_member(Scope::Loop(generate), Member::Macro(*statement))
     }
 }

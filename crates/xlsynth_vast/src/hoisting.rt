@@ -4,6 +4,7 @@ ghost use Rattle.std.specs.Prelude.{◌≡◌, ◌≤◌, length};
 ghost use Rattle.vast_core.specs.Bench.{OwnsModule};
 ghost use Rattle.vast_core.specs.Growth.{Leaves};
 ghost use Rattle.vast_core.specs.Hoisting.{with_hoisted};
+ghost use Rattle.xlsynth_vast.specs.Keeps.{Keeps};
 ghost use Rattle.xlsynth_vast.specs.Inspections.{members_in};
 
 use crate::file::VastFile;
@@ -26,7 +27,8 @@ impl VastFile {
     ) -> Result<(), AllocError>
         requires owner { OwnsModule self.old owner }
         requires start { start ≤ length (members_in self.old owner) }
-        ensures { Leaves self.old self.new result (with_hoisted owner start) }
+        ensures built { Leaves self.old self.new result (with_hoisted owner start) }
+        ensures kept { Keeps self.old self.new }
     {
         self.ast.hoist_declarations(owner, start)
     }

@@ -5,6 +5,7 @@ ghost use Rattle.vast_core.specs.Bench.{OwnsExpr};
 ghost use Rattle.vast_core.specs.Records.{connection_record};
 ghost use Rattle.vast_core.specs.Growth.{Builds};
 ghost use Rattle.vast_core.specs.Artifacts.{next_instantiation, with_instance};
+ghost use Rattle.xlsynth_vast.specs.Keeps.{Keeps};
 ghost use Rattle.xlsynth_vast.specs.Instances.{connected};
 
 use crate::file::VastFile;
@@ -77,7 +78,7 @@ impl VastFile {
             parameter_expressions.now }
         requires connection_expressions { All (λ e. IfSome e (λ x. OwnsExpr self.old x.now))
             connection_expressions.now }
-        ensures { Builds self.old self.new result next_instantiation
+        ensures built { Builds self.old self.new result next_instantiation
             (with_instance
             (record {
               module_name = module_name.now;
@@ -88,6 +89,7 @@ impl VastFile {
                   (map (λ n. n.now) connection_names.now)
                   (map option_copied connection_expressions.now);
             })) }
+        ensures kept { Keeps self.old self.new }
     {
         let alloc = self.ast.allocator();
         let parameters = parameters(alloc, parameter_names, parameter_expressions)?;

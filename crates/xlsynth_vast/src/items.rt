@@ -5,6 +5,7 @@ ghost use Rattle.std.specs.Prelude.{◌≡◌};
 ghost use Rattle.vast_core.specs.Bench.{OwnsBlankLine};
 ghost use Rattle.vast_core.specs.Records.{IncludeEntry, FileCommentEntry, FileBlankEntry};
 ghost use Rattle.vast_core.specs.Growth.{Leaves, with_item};
+ghost use Rattle.xlsynth_vast.specs.Keeps.{Keeps};
 
 use crate::file::VastFile;
 use std::alloc::AllocError;
@@ -16,7 +17,8 @@ impl VastFile {
     /// # Errors
     /// `AllocError` where a growth was refused; the file is unchanged.
     pub fn add_include(&mut self, include: &str) -> Result<(), AllocError>
-        ensures { Leaves self.old self.new result (with_item (IncludeEntry include.now)) }
+        ensures built { Leaves self.old self.new result (with_item (IncludeEntry include.now)) }
+        ensures kept { Keeps self.old self.new }
     {
         self.ast.append_include(include)
     }
@@ -27,7 +29,8 @@ impl VastFile {
     /// `AllocError` where a growth was refused; the file is unchanged.
     pub fn add_blank_line(&mut self, blank_line: BlankLine) -> Result<(), AllocError>
         requires { OwnsBlankLine self.old blank_line }
-        ensures { Leaves self.old self.new result (with_item FileBlankEntry) }
+        ensures built { Leaves self.old self.new result (with_item FileBlankEntry) }
+        ensures kept { Keeps self.old self.new }
     {
         let _ = blank_line;
         self.ast.append_file_blank_line()
@@ -38,7 +41,8 @@ impl VastFile {
     /// # Errors
     /// `AllocError` where a growth was refused; the file is unchanged.
     pub fn add_comment_text(&mut self, text: &str) -> Result<(), AllocError>
-        ensures { Leaves self.old self.new result (with_item (FileCommentEntry text.now)) }
+        ensures built { Leaves self.old self.new result (with_item (FileCommentEntry text.now)) }
+        ensures kept { Keeps self.old self.new }
     {
         self.ast.append_file_comment(text)
     }

@@ -14,6 +14,7 @@ mod expressions;
 mod file;
 mod functions;
 mod generate_loops;
+mod growth;
 pub mod helpers;
 mod hoisting;
 mod inspect;

@@ -4,6 +4,7 @@ ghost use Rattle.std.specs.Prelude.{◌≡◌};
 ghost use Rattle.vast_core.specs.Bench.{OwnsModule, OwnsContinuous, OwnsBlankLine, OwnsComment, OwnsInline, OwnsMacroStatement, OwnsInstantiation};
 ghost use Rattle.vast_core.specs.Records.{AssignmentEntry, BlankEntry, CommentEntry, InlineEntry, MacroEntry, InstanceEntry};
 ghost use Rattle.vast_core.specs.Growth.{Leaves, with_member};
+ghost use Rattle.xlsynth_vast.specs.Keeps.{Keeps};
 
 use crate::file::VastFile;
 use std::alloc::AllocError;
@@ -24,11 +25,11 @@ impl VastFile {
     ) -> Result<(), AllocError>
         requires owner { OwnsModule self.old owner }
         requires instantiation { OwnsInstantiation self.old instantiation }
-        ensures { Leaves self.old self.new result
+        ensures built { Leaves self.old self.new result
             (with_member owner (InstanceEntry instantiation)) }
+        ensures kept { Keeps self.old self.new }
     {
-        self.ast
-            .append_member(Scope::Module(owner), Member::Instantiation(instantiation))
+        self.append_member(Scope::Module(owner), Member::Instantiation(instantiation))
     }
 
     /// The assignment, as the module's last member.
@@ -42,9 +43,11 @@ impl VastFile {
     ) -> Result<(), AllocError>
         requires owner { OwnsModule self.old owner }
         requires assignment { OwnsContinuous self.old assignment }
-        ensures { Leaves self.old self.new result (with_member owner (AssignmentEntry assignment)) }
+        ensures built { Leaves self.old self.new result
+            (with_member owner (AssignmentEntry assignment)) }
+        ensures kept { Keeps self.old self.new }
     {
-        self.ast.append_member(
+        self.append_member(
             Scope::Module(owner),
             Member::ContinuousAssignment(assignment),
         )
@@ -61,10 +64,10 @@ impl VastFile {
     ) -> Result<(), AllocError>
         requires owner { OwnsModule self.old owner }
         requires blank { OwnsBlankLine self.old blank }
-        ensures { Leaves self.old self.new result (with_member owner BlankEntry) }
+        ensures built { Leaves self.old self.new result (with_member owner BlankEntry) }
+        ensures kept { Keeps self.old self.new }
     {
-        self.ast
-            .append_member(Scope::Module(owner), Member::BlankLine)
+        self.append_member(Scope::Module(owner), Member::BlankLine)
     }
 
     /// The comment, as the module's last member.
@@ -78,10 +81,10 @@ impl VastFile {
     ) -> Result<(), AllocError>
         requires owner { OwnsModule self.old owner }
         requires comment { OwnsComment self.old comment }
-        ensures { Leaves self.old self.new result (with_member owner (CommentEntry comment)) }
+        ensures built { Leaves self.old self.new result (with_member owner (CommentEntry comment)) }
+        ensures kept { Keeps self.old self.new }
     {
-        self.ast
-            .append_member(Scope::Module(owner), Member::Comment(comment))
+        self.append_member(Scope::Module(owner), Member::Comment(comment))
     }
 
     /// The text, as the module's last member.
@@ -95,10 +98,11 @@ impl VastFile {
     ) -> Result<(), AllocError>
         requires owner { OwnsModule self.old owner }
         requires statement { OwnsInline self.old statement }
-        ensures { Leaves self.old self.new result (with_member owner (InlineEntry statement)) }
+        ensures built { Leaves self.old self.new result
+            (with_member owner (InlineEntry statement)) }
+        ensures kept { Keeps self.old self.new }
     {
-        self.ast
-            .append_member(Scope::Module(owner), Member::Inline(statement))
+        self.append_member(Scope::Module(owner), Member::Inline(statement))
     }
 
     /// The use of a macro, as the module's last member.
@@ -112,9 +116,9 @@ impl VastFile {
     ) -> Result<(), AllocError>
         requires owner { OwnsModule self.old owner }
         requires statement { OwnsMacroStatement self.old statement }
-        ensures { Leaves self.old self.new result (with_member owner (MacroEntry statement)) }
+        ensures built { Leaves self.old self.new result (with_member owner (MacroEntry statement)) }
+        ensures kept { Keeps self.old self.new }
     {
-        self.ast
-            .append_member(Scope::Module(owner), Member::Macro(statement))
+        self.append_member(Scope::Module(owner), Member::Macro(statement))
     }
 }

@@ -3,6 +3,7 @@
 ghost use Rattle.std.specs.Prelude.{◌≡◌, ◌↔◌, IsTrue, IfOk, string_bytes};
 ghost use Rattle.vast_core.specs.Bench.{OwnsModule, NameIsFree};
 ghost use Rattle.vast_core.specs.Growth.{Builds, next_module, with_module};
+ghost use Rattle.xlsynth_vast.specs.Keeps.{Keeps};
 ghost use Rattle.xlsynth_vast.specs.Conditions.{is_free};
 ghost use Rattle.xlsynth_vast.specs.Equations.{name_of};
 
@@ -16,7 +17,8 @@ impl VastFile {
     /// # Errors
     /// `AllocError` where a growth was refused; the file is unchanged.
     pub fn add_module(&mut self, name: &str) -> Result<VastModule, AllocError>
-        ensures { Builds self.old self.new result next_module (with_module name.now) }
+        ensures built { Builds self.old self.new result next_module (with_module name.now) }
+        ensures kept { Keeps self.old self.new }
     {
         self.ast.push_module(name)
     }

@@ -6,6 +6,7 @@ ghost use Rattle.std.specs.Prelude.{◌≡◌, true, false, None, Some};
 ghost use Rattle.vast_core.specs.Bench.{OwnsModule, OwnsExpr, OwnsType, OwnsDef};
 ghost use Rattle.vast_core.specs.Growth.{Builds, next_logic_ref};
 ghost use Rattle.vast_core.specs.Parameters.{next_parameter_ref, next_localparam_ref, with_parameter_port, with_plain_parameter, with_int_parameter, with_defined_parameter};
+ghost use Rattle.xlsynth_vast.specs.Keeps.{Keeps};
 
 use crate::file::VastFile;
 use std::alloc::AllocError;
@@ -27,8 +28,9 @@ impl VastFile {
     ) -> Result<LogicRef, AllocError>
         requires owner { OwnsModule self.old owner }
         requires value { OwnsExpr self.old value.now }
-        ensures { Builds self.old self.new result next_logic_ref
+        ensures built { Builds self.old self.new result next_logic_ref
             (with_parameter_port owner name.now None value.now) }
+        ensures kept { Keeps self.old self.new }
     {
         self.ast.push_parameter_port(owner, name, None, *value)
     }
@@ -47,8 +49,9 @@ impl VastFile {
         requires owner { OwnsModule self.old owner }
         requires data_type { OwnsType self.old data_type.now }
         requires value { OwnsExpr self.old value.now }
-        ensures { Builds self.old self.new result next_logic_ref
+        ensures built { Builds self.old self.new result next_logic_ref
             (with_parameter_port owner name.now (Some data_type.now) value.now) }
+        ensures kept { Keeps self.old self.new }
     {
         self.ast
             .push_parameter_port(owner, name, Some(*data_type), *value)
@@ -66,8 +69,9 @@ impl VastFile {
     ) -> Result<ParameterRef, AllocError>
         requires owner { OwnsModule self.old owner }
         requires rhs { OwnsExpr self.old rhs.now }
-        ensures { Builds self.old self.new result next_parameter_ref
+        ensures built { Builds self.old self.new result next_parameter_ref
             (with_plain_parameter owner false name.now rhs.now) }
+        ensures kept { Keeps self.old self.new }
     {
         let form = ParameterForm::Plain(String::from_str(self.ast.allocator(), name)?);
         self.ast.push_parameter(owner, form, *rhs)
@@ -86,8 +90,9 @@ impl VastFile {
         requires owner { OwnsModule self.old owner }
         requires definition { OwnsDef self.old definition.now }
         requires rhs { OwnsExpr self.old rhs.now }
-        ensures { Builds self.old self.new result next_parameter_ref
+        ensures built { Builds self.old self.new result next_parameter_ref
             (with_defined_parameter owner false definition.now rhs.now) }
+        ensures kept { Keeps self.old self.new }
     {
         let defined = ParameterForm::Defined(*definition);
         self.ast.push_parameter(owner, defined, *rhs)
@@ -105,8 +110,9 @@ impl VastFile {
     ) -> Result<LocalparamRef, AllocError>
         requires owner { OwnsModule self.old owner }
         requires rhs { OwnsExpr self.old rhs.now }
-        ensures { Builds self.old self.new result next_localparam_ref
+        ensures built { Builds self.old self.new result next_localparam_ref
             (with_plain_parameter owner true name.now rhs.now) }
+        ensures kept { Keeps self.old self.new }
     {
         let form = ParameterForm::Plain(String::from_str(self.ast.allocator(), name)?);
         self.ast.push_localparam(Scope::Module(owner), form, *rhs)
@@ -124,8 +130,9 @@ impl VastFile {
     ) -> Result<LocalparamRef, AllocError>
         requires owner { OwnsModule self.old owner }
         requires rhs { OwnsExpr self.old rhs.now }
-        ensures { Builds self.old self.new result next_localparam_ref
+        ensures built { Builds self.old self.new result next_localparam_ref
             (with_int_parameter owner true name.now rhs.now) }
+        ensures kept { Keeps self.old self.new }
     {
         let int_form = ParameterForm::Int(String::from_str(self.ast.allocator(), name)?);
         self.ast
@@ -145,8 +152,9 @@ impl VastFile {
         requires owner { OwnsModule self.old owner }
         requires definition { OwnsDef self.old definition.now }
         requires rhs { OwnsExpr self.old rhs.now }
-        ensures { Builds self.old self.new result next_localparam_ref
+        ensures built { Builds self.old self.new result next_localparam_ref
             (with_defined_parameter owner true definition.now rhs.now) }
+        ensures kept { Keeps self.old self.new }
     {
         let defined = ParameterForm::Defined(*definition);
         self.ast

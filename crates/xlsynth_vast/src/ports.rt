@@ -6,6 +6,7 @@
 ghost use Rattle.std.specs.Prelude.{◌≡◌};
 ghost use Rattle.vast_core.specs.Bench.{OwnsModule, OwnsType, NameIsFree};
 ghost use Rattle.vast_core.specs.Growth.{Builds, next_logic_ref, with_port};
+ghost use Rattle.xlsynth_vast.specs.Keeps.{Keeps};
 
 use crate::file::VastFile;
 use std::alloc::AllocError;
@@ -22,8 +23,9 @@ impl VastFile {
         requires owner { OwnsModule self.old owner }
         requires data_type { OwnsType self.old data_type }
         requires free { NameIsFree self.old owner name.now }
-        ensures { Builds self.old self.new result next_logic_ref
+        ensures built { Builds self.old self.new result next_logic_ref
             (with_port owner direction DataKind.Wire name.now data_type) }
+        ensures kept { Keeps self.old self.new }
     {
         self.ast
             .push_port(owner, direction, DataKind::Wire, name, data_type)
@@ -39,8 +41,9 @@ impl VastFile {
         requires owner { OwnsModule self.old owner }
         requires data_type { OwnsType self.old data_type }
         requires free { NameIsFree self.old owner name.now }
-        ensures { Builds self.old self.new result next_logic_ref
+        ensures built { Builds self.old self.new result next_logic_ref
             (with_port owner direction DataKind.Logic name.now data_type) }
+        ensures kept { Keeps self.old self.new }
     {
         self.ast
             .push_port(owner, direction, DataKind::Logic, name, data_type)
@@ -59,8 +62,9 @@ impl VastFile {
         requires owner { OwnsModule self.old owner }
         requires data_type { OwnsType self.old data_type.now }
         requires free { NameIsFree self.old owner name.now }
-        ensures { Builds self.old self.new result next_logic_ref
+        ensures built { Builds self.old self.new result next_logic_ref
             (with_port owner ModulePortDirection.Input DataKind.Wire name.now data_type.now) }
+        ensures kept { Keeps self.old self.new }
     {
         self.wire_port(owner, ModulePortDirection::Input, name, *data_type)
     }
@@ -78,8 +82,9 @@ impl VastFile {
         requires owner { OwnsModule self.old owner }
         requires data_type { OwnsType self.old data_type.now }
         requires free { NameIsFree self.old owner name.now }
-        ensures { Builds self.old self.new result next_logic_ref
+        ensures built { Builds self.old self.new result next_logic_ref
             (with_port owner ModulePortDirection.Output DataKind.Wire name.now data_type.now) }
+        ensures kept { Keeps self.old self.new }
     {
         self.wire_port(owner, ModulePortDirection::Output, name, *data_type)
     }
@@ -97,8 +102,9 @@ impl VastFile {
         requires owner { OwnsModule self.old owner }
         requires data_type { OwnsType self.old data_type.now }
         requires free { NameIsFree self.old owner name.now }
-        ensures { Builds self.old self.new result next_logic_ref
+        ensures built { Builds self.old self.new result next_logic_ref
             (with_port owner ModulePortDirection.InOut DataKind.Wire name.now data_type.now) }
+        ensures kept { Keeps self.old self.new }
     {
         self.wire_port(owner, ModulePortDirection::InOut, name, *data_type)
     }
@@ -116,8 +122,9 @@ impl VastFile {
         requires owner { OwnsModule self.old owner }
         requires data_type { OwnsType self.old data_type.now }
         requires free { NameIsFree self.old owner name.now }
-        ensures { Builds self.old self.new result next_logic_ref
+        ensures built { Builds self.old self.new result next_logic_ref
             (with_port owner ModulePortDirection.Input DataKind.Logic name.now data_type.now) }
+        ensures kept { Keeps self.old self.new }
     {
         self.logic_port(owner, ModulePortDirection::Input, name, *data_type)
     }
@@ -135,8 +142,9 @@ impl VastFile {
         requires owner { OwnsModule self.old owner }
         requires data_type { OwnsType self.old data_type.now }
         requires free { NameIsFree self.old owner name.now }
-        ensures { Builds self.old self.new result next_logic_ref
+        ensures built { Builds self.old self.new result next_logic_ref
             (with_port owner ModulePortDirection.Output DataKind.Logic name.now data_type.now) }
+        ensures kept { Keeps self.old self.new }
     {
         self.logic_port(owner, ModulePortDirection::Output, name, *data_type)
     }

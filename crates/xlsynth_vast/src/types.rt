@@ -5,6 +5,7 @@ ghost use Rattle.vast_literal.specs.Tree.{ScalarTree, IntegerTree, IntTree, Exte
 ghost use Rattle.vast_core.specs.Types.{IsUsableWidth, is_packable, is_castable, is_signed, width_of, AreDimensions};
 ghost use Rattle.vast_core.specs.Bench.{OwnsExpr, OwnsType, tree_of, maybe_tree_of, type_of};
 ghost use Rattle.vast_core.specs.Growth.{Builds, next_type, with_type};
+ghost use Rattle.xlsynth_vast.specs.Keeps.{Keeps};
 ghost use Rattle.xlsynth_vast.specs.Conditions.{is_usable_width};
 ghost use Rattle.xlsynth_vast.specs.Equations.{next_bit_vector, with_bit_vector};
 ghost use Rattle.xlsynth_vast.specs.Refusals.{AnswersBy};
@@ -23,9 +24,10 @@ impl VastFile {
     /// # Errors
     /// `AllocError` where a growth was refused; the file is unchanged.
     pub fn make_scalar_type(&mut self) -> Result<VastDataType, AllocError>
-        ensures { Builds self.old self.new result next_type (with_type (ScalarTree false)) }
+        ensures built { Builds self.old self.new result next_type (with_type (ScalarTree false)) }
+        ensures kept { Keeps self.old self.new }
     {
-        self.ast.push_type(TypeNode::Scalar(false))
+        self.push_type(TypeNode::Scalar(false))
     }
 
     /// The type of `bit_count` bits; of one bit it is a scalar.
@@ -38,11 +40,12 @@ impl VastFile {
         signed: bool,
     ) -> Result<VastDataType, AllocError>
         requires { pos 1 ≤ℤ bit_count }
-        ensures { Builds self.old self.new result (next_bit_vector bit_count)
+        ensures built { Builds self.old self.new result (next_bit_vector bit_count)
             (with_bit_vector bit_count signed) }
+        ensures kept { Keeps self.old self.new }
     {
         if bit_count == 1 {
-            self.ast.push_type(TypeNode::Scalar(signed))
+            self.push_type(TypeNode::Scalar(signed))
         } else {
             self.ast.push_vector(bit_count, signed)
         }
@@ -59,10 +62,12 @@ impl VastFile {
     ) -> Result<VastDataType, AllocError>
         requires width { OwnsExpr self.old width.now }
         requires usable { IsUsableWidth (tree_of self.old width.now) }
-        ensures { Builds self.old self.new result next_type (with_vector_expr width.now signed) }
+        ensures built { Builds self.old self.new result next_type
+            (with_vector_expr width.now signed) }
+        ensures kept { Keeps self.old self.new }
     {
         let value = self.ast.expr(*width).literal_value();
-        self.ast.push_type(TypeNode::Vector(*width, value, signed))
+        self.push_type(TypeNode::Vector(*width, value, signed))
     }
 
     /// Verilog's `integer`.
@@ -70,9 +75,10 @@ impl VastFile {
     /// # Errors
     /// `AllocError` where a growth was refused; the file is unchanged.
     pub fn make_integer_type(&mut self, signed: bool) -> Result<VastDataType, AllocError>
-        ensures { Builds self.old self.new result next_type (with_type (IntegerTree signed)) }
+        ensures built { Builds self.old self.new result next_type (with_type (IntegerTree signed)) }
+        ensures kept { Keeps self.old self.new }
     {
-        self.ast.push_type(TypeNode::Integer(signed))
+        self.push_type(TypeNode::Integer(signed))
     }
 
     /// SystemVerilog's `int`.
@@ -80,9 +86,10 @@ impl VastFile {
     /// # Errors
     /// `AllocError` where a growth was refused; the file is unchanged.
     pub fn make_int_type(&mut self, signed: bool) -> Result<VastDataType, AllocError>
-        ensures { Builds self.old self.new result next_type (with_type (IntTree signed)) }
+        ensures built { Builds self.old self.new result next_type (with_type (IntTree signed)) }
+        ensures kept { Keeps self.old self.new }
     {
-        self.ast.push_type(TypeNode::Int(signed))
+        self.push_type(TypeNode::Int(signed))
     }
 
     /// A type of this name that is declared elsewhere.
@@ -90,10 +97,12 @@ impl VastFile {
     /// # Errors
     /// `AllocError` where a growth was refused; the file is unchanged.
     pub fn make_extern_type(&mut self, name: &str) -> Result<VastDataType, AllocError>
-        ensures { Builds self.old self.new result next_type (with_type (ExternalTree name.now)) }
+        ensures built { Builds self.old self.new result next_type
+            (with_type (ExternalTree name.now)) }
+        ensures kept { Keeps self.old self.new }
     {
         let name = String::from_str(self.ast.allocator(), name)?;
-        self.ast.push_type(TypeNode::External(name))
+        self.push_type(TypeNode::External(name))
     }
 
     /// A type of this name that is declared in a package, `package::name`.
@@ -105,14 +114,15 @@ impl VastFile {
         package_name: &str,
         name: &str,
     ) -> Result<VastDataType, AllocError>
-        ensures { Builds self.old self.new result next_type
+        ensures built { Builds self.old self.new result next_type
             (with_type (PackageTree package_name.now name.now)) }
+        ensures kept { Keeps self.old self.new }
     {
         let package_name = String::from_str(self.ast.allocator(), package_name)?;
         let name = String::from_str(self.ast.allocator(), name)?;
         let package = PackageName { package_name, name };
         let package = Box::new(self.ast.allocator(), package)?;
-        self.ast.push_type(TypeNode::Package(package))
+        self.push_type(TypeNode::Package(package))
     }
 
     /// The packed array of elements of a type, with its dimensions from the outermost;
@@ -128,10 +138,12 @@ impl VastFile {
         requires element { OwnsType self.old element }
         requires packable { IsTrue (is_packable (type_of self.old element)) }
         requires dimensions { AreDimensions dimensions.now }
-        ensures { Builds self.old self.new result next_type (with_packed element dimensions.now) }
+        ensures built { Builds self.old self.new result next_type
+            (with_packed element dimensions.now) }
+        ensures kept { Keeps self.old self.new }
     {
         let dimensions = Vec::from_slice(self.ast.allocator(), dimensions)?;
-        self.ast.push_type(TypeNode::Packed(element, dimensions))
+        self.push_type(TypeNode::Packed(element, dimensions))
     }
 
     /// The unpacked array of elements of a type, with its dimensions from the outermost.
@@ -145,10 +157,12 @@ impl VastFile {
     ) -> Result<VastDataType, AllocError>
         requires element { OwnsType self.old element }
         requires dimensions { AreDimensions dimensions.now }
-        ensures { Builds self.old self.new result next_type (with_unpacked element dimensions.now) }
+        ensures built { Builds self.old self.new result next_type
+            (with_unpacked element dimensions.now) }
+        ensures kept { Keeps self.old self.new }
     {
         let dimensions = Vec::from_slice(self.ast.allocator(), dimensions)?;
-        self.ast.push_type(TypeNode::Unpacked(element, dimensions))
+        self.push_type(TypeNode::Unpacked(element, dimensions))
     }
 
     /// Whether the expression may be a vector's width: it isn't a literal with a value below 1.

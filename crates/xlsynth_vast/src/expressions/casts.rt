@@ -4,6 +4,7 @@ ghost use Rattle.std.specs.Prelude.{◌≡◌, IsTrue};
 ghost use Rattle.vast_core.specs.Types.{is_castable};
 ghost use Rattle.vast_core.specs.Bench.{OwnsExpr, OwnsType, type_of};
 ghost use Rattle.vast_core.specs.Growth.{Builds, next_expr};
+ghost use Rattle.xlsynth_vast.specs.Keeps.{Keeps};
 ghost use Rattle.xlsynth_vast.specs.Expressions.{with_width_cast, with_type_cast};
 
 use crate::file::VastFile;
@@ -18,9 +19,11 @@ impl VastFile {
     pub fn make_width_cast(&mut self, width: &Expr, value: &Expr) -> Result<Expr, AllocError>
         requires width { OwnsExpr self.old width.now }
         requires value { OwnsExpr self.old value.now }
-        ensures { Builds self.old self.new result next_expr (with_width_cast width.now value.now) }
+        ensures built { Builds self.old self.new result next_expr
+            (with_width_cast width.now value.now) }
+        ensures kept { Keeps self.old self.new }
     {
-        self.ast.push_expr(ExprNode::WidthCast(*width, *value))
+        self.push_expr(ExprNode::WidthCast(*width, *value))
     }
 
     /// The value, cast to a type that is no array; [`VastFile::type_can_be_cast`] is the test.
@@ -35,9 +38,10 @@ impl VastFile {
         requires data_type { OwnsType self.old data_type.now }
         requires castable { IsTrue (is_castable (type_of self.old data_type.now)) }
         requires value { OwnsExpr self.old value.now }
-        ensures { Builds self.old self.new result next_expr
+        ensures built { Builds self.old self.new result next_expr
             (with_type_cast data_type.now value.now) }
+        ensures kept { Keeps self.old self.new }
     {
-        self.ast.push_expr(ExprNode::TypeCast(*data_type, *value))
+        self.push_expr(ExprNode::TypeCast(*data_type, *value))
     }
 }

@@ -4,6 +4,7 @@ ghost use Rattle.std.specs.Prelude.{◌≡◌};
 ghost use Rattle.vast_literal.specs.declared.operator.BinaryOperator.TheVariants.{Ne as NeOp, CaseNe as CaseNeOp, Eq as EqOp, CaseEq as CaseEqOp, Ge as GeOp, Gt as GtOp, Le as LeOp, Lt as LtOp, LogicalAnd as LogicalAndOp, LogicalOr as LogicalOrOp, NeX as NeXOp, EqX as EqXOp};
 ghost use Rattle.vast_core.specs.Bench.{OwnsExpr};
 ghost use Rattle.vast_core.specs.Growth.{Builds, next_expr};
+ghost use Rattle.xlsynth_vast.specs.Keeps.{Keeps};
 ghost use Rattle.xlsynth_vast.specs.Expressions.{with_binary, with_ternary};
 
 use crate::file::VastFile;
@@ -18,10 +19,11 @@ impl VastFile {
     pub fn make_ne(&mut self, lhs: &Expr, rhs: &Expr) -> Result<Expr, AllocError>
         requires lhs { OwnsExpr self.old lhs.now }
         requires rhs { OwnsExpr self.old rhs.now }
-        ensures { Builds self.old self.new result next_expr (with_binary NeOp lhs.now rhs.now) }
+        ensures built { Builds self.old self.new result next_expr
+            (with_binary NeOp lhs.now rhs.now) }
+        ensures kept { Keeps self.old self.new }
     {
-        self.ast
-            .push_expr(ExprNode::Binary(BinaryOperator::Ne, *lhs, *rhs))
+        self.push_expr(ExprNode::Binary(BinaryOperator::Ne, *lhs, *rhs))
     }
 
     /// The inequality with unknown bits compared too, `a !== b`.
@@ -31,10 +33,11 @@ impl VastFile {
     pub fn make_case_ne(&mut self, lhs: &Expr, rhs: &Expr) -> Result<Expr, AllocError>
         requires lhs { OwnsExpr self.old lhs.now }
         requires rhs { OwnsExpr self.old rhs.now }
-        ensures { Builds self.old self.new result next_expr (with_binary CaseNeOp lhs.now rhs.now) }
+        ensures built { Builds self.old self.new result next_expr
+            (with_binary CaseNeOp lhs.now rhs.now) }
+        ensures kept { Keeps self.old self.new }
     {
-        self.ast
-            .push_expr(ExprNode::Binary(BinaryOperator::CaseNe, *lhs, *rhs))
+        self.push_expr(ExprNode::Binary(BinaryOperator::CaseNe, *lhs, *rhs))
     }
 
     /// The equality `a == b`.
@@ -44,10 +47,11 @@ impl VastFile {
     pub fn make_eq(&mut self, lhs: &Expr, rhs: &Expr) -> Result<Expr, AllocError>
         requires lhs { OwnsExpr self.old lhs.now }
         requires rhs { OwnsExpr self.old rhs.now }
-        ensures { Builds self.old self.new result next_expr (with_binary EqOp lhs.now rhs.now) }
+        ensures built { Builds self.old self.new result next_expr
+            (with_binary EqOp lhs.now rhs.now) }
+        ensures kept { Keeps self.old self.new }
     {
-        self.ast
-            .push_expr(ExprNode::Binary(BinaryOperator::Eq, *lhs, *rhs))
+        self.push_expr(ExprNode::Binary(BinaryOperator::Eq, *lhs, *rhs))
     }
 
     /// The equality with unknown bits compared too, `a === b`.
@@ -57,10 +61,11 @@ impl VastFile {
     pub fn make_case_eq(&mut self, lhs: &Expr, rhs: &Expr) -> Result<Expr, AllocError>
         requires lhs { OwnsExpr self.old lhs.now }
         requires rhs { OwnsExpr self.old rhs.now }
-        ensures { Builds self.old self.new result next_expr (with_binary CaseEqOp lhs.now rhs.now) }
+        ensures built { Builds self.old self.new result next_expr
+            (with_binary CaseEqOp lhs.now rhs.now) }
+        ensures kept { Keeps self.old self.new }
     {
-        self.ast
-            .push_expr(ExprNode::Binary(BinaryOperator::CaseEq, *lhs, *rhs))
+        self.push_expr(ExprNode::Binary(BinaryOperator::CaseEq, *lhs, *rhs))
     }
 
     /// The comparison `a >= b`.
@@ -70,10 +75,11 @@ impl VastFile {
     pub fn make_ge(&mut self, lhs: &Expr, rhs: &Expr) -> Result<Expr, AllocError>
         requires lhs { OwnsExpr self.old lhs.now }
         requires rhs { OwnsExpr self.old rhs.now }
-        ensures { Builds self.old self.new result next_expr (with_binary GeOp lhs.now rhs.now) }
+        ensures built { Builds self.old self.new result next_expr
+            (with_binary GeOp lhs.now rhs.now) }
+        ensures kept { Keeps self.old self.new }
     {
-        self.ast
-            .push_expr(ExprNode::Binary(BinaryOperator::Ge, *lhs, *rhs))
+        self.push_expr(ExprNode::Binary(BinaryOperator::Ge, *lhs, *rhs))
     }
 
     /// The comparison `a > b`.
@@ -83,10 +89,11 @@ impl VastFile {
     pub fn make_gt(&mut self, lhs: &Expr, rhs: &Expr) -> Result<Expr, AllocError>
         requires lhs { OwnsExpr self.old lhs.now }
         requires rhs { OwnsExpr self.old rhs.now }
-        ensures { Builds self.old self.new result next_expr (with_binary GtOp lhs.now rhs.now) }
+        ensures built { Builds self.old self.new result next_expr
+            (with_binary GtOp lhs.now rhs.now) }
+        ensures kept { Keeps self.old self.new }
     {
-        self.ast
-            .push_expr(ExprNode::Binary(BinaryOperator::Gt, *lhs, *rhs))
+        self.push_expr(ExprNode::Binary(BinaryOperator::Gt, *lhs, *rhs))
     }
 
     /// The comparison `a <= b`.
@@ -96,10 +103,11 @@ impl VastFile {
     pub fn make_le(&mut self, lhs: &Expr, rhs: &Expr) -> Result<Expr, AllocError>
         requires lhs { OwnsExpr self.old lhs.now }
         requires rhs { OwnsExpr self.old rhs.now }
-        ensures { Builds self.old self.new result next_expr (with_binary LeOp lhs.now rhs.now) }
+        ensures built { Builds self.old self.new result next_expr
+            (with_binary LeOp lhs.now rhs.now) }
+        ensures kept { Keeps self.old self.new }
     {
-        self.ast
-            .push_expr(ExprNode::Binary(BinaryOperator::Le, *lhs, *rhs))
+        self.push_expr(ExprNode::Binary(BinaryOperator::Le, *lhs, *rhs))
     }
 
     /// The comparison `a < b`.
@@ -109,10 +117,11 @@ impl VastFile {
     pub fn make_lt(&mut self, lhs: &Expr, rhs: &Expr) -> Result<Expr, AllocError>
         requires lhs { OwnsExpr self.old lhs.now }
         requires rhs { OwnsExpr self.old rhs.now }
-        ensures { Builds self.old self.new result next_expr (with_binary LtOp lhs.now rhs.now) }
+        ensures built { Builds self.old self.new result next_expr
+            (with_binary LtOp lhs.now rhs.now) }
+        ensures kept { Keeps self.old self.new }
     {
-        self.ast
-            .push_expr(ExprNode::Binary(BinaryOperator::Lt, *lhs, *rhs))
+        self.push_expr(ExprNode::Binary(BinaryOperator::Lt, *lhs, *rhs))
     }
 
     /// The logical AND `a && b`.
@@ -122,11 +131,11 @@ impl VastFile {
     pub fn make_logical_and(&mut self, lhs: &Expr, rhs: &Expr) -> Result<Expr, AllocError>
         requires lhs { OwnsExpr self.old lhs.now }
         requires rhs { OwnsExpr self.old rhs.now }
-        ensures { Builds self.old self.new result next_expr
+        ensures built { Builds self.old self.new result next_expr
             (with_binary LogicalAndOp lhs.now rhs.now) }
+        ensures kept { Keeps self.old self.new }
     {
-        self.ast
-            .push_expr(ExprNode::Binary(BinaryOperator::LogicalAnd, *lhs, *rhs))
+        self.push_expr(ExprNode::Binary(BinaryOperator::LogicalAnd, *lhs, *rhs))
     }
 
     /// The logical OR `a || b`.
@@ -136,11 +145,11 @@ impl VastFile {
     pub fn make_logical_or(&mut self, lhs: &Expr, rhs: &Expr) -> Result<Expr, AllocError>
         requires lhs { OwnsExpr self.old lhs.now }
         requires rhs { OwnsExpr self.old rhs.now }
-        ensures { Builds self.old self.new result next_expr
+        ensures built { Builds self.old self.new result next_expr
             (with_binary LogicalOrOp lhs.now rhs.now) }
+        ensures kept { Keeps self.old self.new }
     {
-        self.ast
-            .push_expr(ExprNode::Binary(BinaryOperator::LogicalOr, *lhs, *rhs))
+        self.push_expr(ExprNode::Binary(BinaryOperator::LogicalOr, *lhs, *rhs))
     }
 
     /// The inequality with an unknown value, written `a !== b`.
@@ -150,10 +159,11 @@ impl VastFile {
     pub fn make_ne_x(&mut self, lhs: &Expr, rhs: &Expr) -> Result<Expr, AllocError>
         requires lhs { OwnsExpr self.old lhs.now }
         requires rhs { OwnsExpr self.old rhs.now }
-        ensures { Builds self.old self.new result next_expr (with_binary NeXOp lhs.now rhs.now) }
+        ensures built { Builds self.old self.new result next_expr
+            (with_binary NeXOp lhs.now rhs.now) }
+        ensures kept { Keeps self.old self.new }
     {
-        self.ast
-            .push_expr(ExprNode::Binary(BinaryOperator::NeX, *lhs, *rhs))
+        self.push_expr(ExprNode::Binary(BinaryOperator::NeX, *lhs, *rhs))
     }
 
     /// The equality with an unknown value, written `a === b`.
@@ -163,10 +173,11 @@ impl VastFile {
     pub fn make_eq_x(&mut self, lhs: &Expr, rhs: &Expr) -> Result<Expr, AllocError>
         requires lhs { OwnsExpr self.old lhs.now }
         requires rhs { OwnsExpr self.old rhs.now }
-        ensures { Builds self.old self.new result next_expr (with_binary EqXOp lhs.now rhs.now) }
+        ensures built { Builds self.old self.new result next_expr
+            (with_binary EqXOp lhs.now rhs.now) }
+        ensures kept { Keeps self.old self.new }
     {
-        self.ast
-            .push_expr(ExprNode::Binary(BinaryOperator::EqX, *lhs, *rhs))
+        self.push_expr(ExprNode::Binary(BinaryOperator::EqX, *lhs, *rhs))
     }
 
     /// The choice `c ? a : b`.
@@ -182,10 +193,10 @@ impl VastFile {
         requires condition { OwnsExpr self.old condition.now }
         requires consequent { OwnsExpr self.old consequent.now }
         requires alternate { OwnsExpr self.old alternate.now }
-        ensures { Builds self.old self.new result next_expr
+        ensures built { Builds self.old self.new result next_expr
             (with_ternary condition.now consequent.now alternate.now) }
+        ensures kept { Keeps self.old self.new }
     {
-        self.ast
-            .push_expr(ExprNode::Ternary(*condition, *consequent, *alternate))
+        self.push_expr(ExprNode::Ternary(*condition, *consequent, *alternate))
     }
 }

@@ -3,6 +3,7 @@
 ghost use Rattle.std.specs.Prelude.{◌≡◌, ◌≢◌, IfOk, All, [], map};
 ghost use Rattle.vast_core.specs.Bench.{OwnsExpr};
 ghost use Rattle.vast_core.specs.Growth.{Builds, next_expr, next_macro_ref, next_fixed_replication, with_fixed_replication};
+ghost use Rattle.xlsynth_vast.specs.Keeps.{Keeps};
 ghost use Rattle.xlsynth_vast.specs.Expressions.{with_concat, with_replication, with_pattern, with_call, with_macro, with_macro_call};
 
 use crate::file::VastFile;
@@ -25,11 +26,12 @@ impl VastFile {
     /// `AllocError` where a growth was refused; the file is unchanged.
     pub fn make_concat(&mut self, expressions: &[&Expr]) -> Result<Expr, AllocError>
         requires { All (λ e. OwnsExpr self.old e.now) expressions.now }
-        ensures { Builds self.old self.new result next_expr
+        ensures built { Builds self.old self.new result next_expr
             (with_concat (map (λ e. e.now) expressions.now)) }
+        ensures kept { Keeps self.old self.new }
     {
         let parts = self.handles(expressions)?;
-        self.ast.push_expr(ExprNode::Concat(None, parts))
+        self.push_expr(ExprNode::Concat(None, parts))
     }
 
     /// The replicated concatenation `{n{a, b}}`.
@@ -43,12 +45,12 @@ impl VastFile {
     ) -> Result<Expr, AllocError>
         requires replication { OwnsExpr self.old replication.now }
         requires elements { All (λ e. OwnsExpr self.old e.now) elements.now }
-        ensures { Builds self.old self.new result next_expr
+        ensures built { Builds self.old self.new result next_expr
             (with_replication replication.now (map (λ e. e.now) elements.now)) }
+        ensures kept { Keeps self.old self.new }
     {
         let parts = self.handles(elements)?;
-        self.ast
-            .push_expr(ExprNode::Concat(Some(*replication), parts))
+        self.push_expr(ExprNode::Concat(Some(*replication), parts))
     }
 
     /// The replicated concatenation by a number, for which a literal is made too.
@@ -61,8 +63,9 @@ impl VastFile {
         elements: &[&Expr],
     ) -> Result<Expr, AllocError>
         requires { All (λ e. OwnsExpr self.old e.now) elements.now }
-        ensures { Builds self.old self.new result (next_fixed_replication replication)
+        ensures built { Builds self.old self.new result (next_fixed_replication replication)
             (with_fixed_replication replication (map (λ e. e.now) elements.now)) }
+        ensures kept { Keeps self.old self.new }
     {
         let parts = self.handles(elements)?;
         self.ast.push_replication_fixed(replication, &parts)
@@ -74,11 +77,12 @@ impl VastFile {
     /// `AllocError` where a growth was refused; the file is unchanged.
     pub fn make_array_assignment_pattern(&mut self, elements: &[&Expr]) -> Result<Expr, AllocError>
         requires { All (λ e. OwnsExpr self.old e.now) elements.now }
-        ensures { Builds self.old self.new result next_expr
+        ensures built { Builds self.old self.new result next_expr
             (with_pattern (map (λ e. e.now) elements.now)) }
+        ensures kept { Keeps self.old self.new }
     {
         let parts = self.handles(elements)?;
-        self.ast.push_expr(ExprNode::Pattern(parts))
+        self.push_expr(ExprNode::Pattern(parts))
     }
 
     /// The call `f(a, b)` of a function of this name.
@@ -92,12 +96,13 @@ impl VastFile {
     ) -> Result<Expr, AllocError>
         requires name { name.now ≢ [] }
         requires arguments { All (λ e. OwnsExpr self.old e.now) arguments.now }
-        ensures { Builds self.old self.new result next_expr
+        ensures built { Builds self.old self.new result next_expr
             (with_call name.now (map (λ e. e.now) arguments.now)) }
+        ensures kept { Keeps self.old self.new }
     {
         let parts = self.handles(arguments)?;
         let name = String::from_str(self.ast.allocator(), name)?;
-        self.ast.push_expr(ExprNode::Call(name, parts))
+        self.push_expr(ExprNode::Call(name, parts))
     }
 
     /// The use of a macro without arguments, `` `M ``.
@@ -105,7 +110,8 @@ impl VastFile {
     /// # Errors
     /// `AllocError` where a growth was refused; the file is unchanged.
     pub fn make_macro_ref(&mut self, name: &str) -> Result<MacroRef, AllocError>
-        ensures { Builds self.old self.new result next_macro_ref (with_macro name.now) }
+        ensures built { Builds self.old self.new result next_macro_ref (with_macro name.now) }
+        ensures kept { Keeps self.old self.new }
     {
         let name = String::from_str(self.ast.allocator(), name)?;
         self.ast.push_macro(name, None)
@@ -121,8 +127,9 @@ impl VastFile {
         arguments: &[&Expr],
     ) -> Result<MacroRef, AllocError>
         requires { All (λ e. OwnsExpr self.old e.now) arguments.now }
-        ensures { Builds self.old self.new result next_macro_ref
+        ensures built { Builds self.old self.new result next_macro_ref
             (with_macro_call name.now (map (λ e. e.now) arguments.now)) }
+        ensures kept { Keeps self.old self.new }
     {
         let parts = self.handles(arguments)?;
         let name = String::from_str(self.ast.allocator(), name)?;

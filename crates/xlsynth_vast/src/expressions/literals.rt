@@ -28,7 +28,8 @@ impl VastFile {
     /// `Refused` where the text is no literal, and then where the format doesn't take its number: the unsized formats
     /// have limits. `Memory` where a growth was refused. The file is unchanged.
     pub fn make_literal(&mut self, text: &str, format: &LiteralFormat) -> Result<Expr, VastFault>
-        ensures built { MayBuild self.old self.new result (λ _. literal_in format.now text.now) next_expr
+        ensures built { MayBuild self.old self.new result
+            (λ _. literal_in format.now text.now) next_expr
             with_expr }
         ensures kept { Keeps self.old self.new }
     {
@@ -37,7 +38,7 @@ impl VastFile {
         literal.validate_format(alloc, *format)?;
         let text = literal.format(alloc, *format)?;
         let node = ExprNode::Literal(text, known_value(literal.value()));
-        Ok(self.ast.push_expr(node)?)
+        Ok(self.push_expr(node)?)
     }
 
     /// The binary pattern of these digits `0`, `1` and `?`, the most significant first, as wide as they are many.
@@ -51,7 +52,7 @@ impl VastFile {
         ensures kept { Keeps self.old self.new }
     {
         let text = pattern_text(self.ast.allocator(), bits_msb)?;
-        Ok(self.ast.push_expr(ExprNode::Literal(text, None))?)
+        Ok(self.push_expr(ExprNode::Literal(text, None))?)
     }
 
     /// The string of this content: it stands between quotes, with escapes where they are needed.
@@ -59,10 +60,12 @@ impl VastFile {
     /// # Errors
     /// `AllocError` where a growth was refused; the file is unchanged.
     pub fn make_string_literal(&mut self, value: &str) -> Result<Expr, AllocError>
-        ensures { Builds self.old self.new result next_expr (with_expr (string_literal value.now)) }
+        ensures built { Builds self.old self.new result next_expr
+            (with_expr (string_literal value.now)) }
+        ensures kept { Keeps self.old self.new }
     {
         let text = quoted_text(self.ast.allocator(), value)?;
-        self.ast.push_expr(ExprNode::StringText(text))
+        self.push_expr(ExprNode::StringText(text))
     }
 
     /// The number in decimal, without a width; a negative one has its minus.
@@ -71,11 +74,12 @@ impl VastFile {
     /// `AllocError` where a growth was refused; the file is unchanged.
     #[tactic(auto, using(vast_literal::proofs::NumberLaws::signed_text))]
     pub fn make_unsized_decimal_literal(&mut self, value: i32) -> Result<Expr, AllocError>
-        ensures { Builds self.old self.new result next_expr (with_expr (decimal_literal value)) }
+        ensures built { Builds self.old self.new result next_expr
+            (with_expr (decimal_literal value)) }
+        ensures kept { Keeps self.old self.new }
     {
         let text = format!(in self.ast.allocator(); "{value}")?;
-        self.ast
-            .push_expr(ExprNode::Literal(text, Some(i64::from(value))))
+        self.push_expr(ExprNode::Literal(text, Some(i64::from(value))))
     }
 
     /// All ones, `'1`.
@@ -83,11 +87,12 @@ impl VastFile {
     /// # Errors
     /// `AllocError` where a growth was refused; the file is unchanged.
     pub fn make_unsized_one_literal(&mut self) -> Result<Expr, AllocError>
-        ensures { Builds self.old self.new result next_expr
+        ensures built { Builds self.old self.new result next_expr
             (with_expr (LiteralTree (codes "'1") (Some (pos 1)))) }
+        ensures kept { Keeps self.old self.new }
     {
         let text = String::from_str(self.ast.allocator(), "'1")?;
-        self.ast.push_expr(ExprNode::Literal(text, Some(1)))
+        self.push_expr(ExprNode::Literal(text, Some(1)))
     }
 
     /// All zeros, `'0`.
@@ -95,11 +100,12 @@ impl VastFile {
     /// # Errors
     /// `AllocError` where a growth was refused; the file is unchanged.
     pub fn make_unsized_zero_literal(&mut self) -> Result<Expr, AllocError>
-        ensures { Builds self.old self.new result next_expr
+        ensures built { Builds self.old self.new result next_expr
             (with_expr (LiteralTree (codes "'0") (Some (pos 0)))) }
+        ensures kept { Keeps self.old self.new }
     {
         let text = String::from_str(self.ast.allocator(), "'0")?;
-        self.ast.push_expr(ExprNode::Literal(text, Some(0)))
+        self.push_expr(ExprNode::Literal(text, Some(0)))
     }
 
     /// All bits unknown, `'X`.
@@ -107,10 +113,11 @@ impl VastFile {
     /// # Errors
     /// `AllocError` where a growth was refused; the file is unchanged.
     pub fn make_unsized_x_literal(&mut self) -> Result<Expr, AllocError>
-        ensures { Builds self.old self.new result next_expr
+        ensures built { Builds self.old self.new result next_expr
             (with_expr (LiteralTree (codes "'X") None)) }
+        ensures kept { Keeps self.old self.new }
     {
         let text = String::from_str(self.ast.allocator(), "'X")?;
-        self.ast.push_expr(ExprNode::Literal(text, None))
+        self.push_expr(ExprNode::Literal(text, None))
     }
 }

@@ -2,6 +2,7 @@
 
 ghost use Rattle.vast_literal.specs.Tree.{NameTree, Untyped};
 ghost use Rattle.vast_core.specs.Growth.{Builds, next_expr, with_expr};
+ghost use Rattle.xlsynth_vast.specs.Keeps.{Keeps};
 
 use crate::file::VastFile;
 use std::alloc::AllocError;
@@ -14,9 +15,11 @@ impl VastFile {
     /// # Errors
     /// `AllocError` where a growth was refused; the file is unchanged.
     pub fn make_name(&mut self, name: &str) -> Result<Expr, AllocError>
-        ensures { Builds self.old self.new result next_expr (with_expr (NameTree name.now Untyped)) }
+        ensures built { Builds self.old self.new result next_expr
+            (with_expr (NameTree name.now Untyped)) }
+        ensures kept { Keeps self.old self.new }
     {
         let name = String::from_str(self.ast.allocator(), name)?;
-        self.ast.push_expr(ExprNode::Name(name, None))
+        self.push_expr(ExprNode::Name(name, None))
     }
 }

@@ -6,6 +6,7 @@ ghost use Rattle.vast_literal.specs.LiteralToken.{is_literal_text};
 ghost use Rattle.vast_core.specs.Handles.{expr_to_indexable_expr};
 ghost use Rattle.vast_core.specs.Bench.{OwnsExpr, OwnsIndexable};
 ghost use Rattle.vast_core.specs.Growth.{Builds, next_expr, next_index, next_fixed_index, with_fixed_index, next_slice, next_fixed_slice, with_fixed_slice};
+ghost use Rattle.xlsynth_vast.specs.Keeps.{Keeps};
 ghost use Rattle.xlsynth_vast.specs.Expressions.{with_index, with_slice, with_part_select};
 ghost use Rattle.xlsynth_vast.specs.Literals.{selector_text};
 
@@ -38,9 +39,10 @@ impl VastFile {
         requires subject { OwnsIndexable self.old subject.now }
         requires hi { pos 0 ≤ℤ hi }
         requires lo { pos 0 ≤ℤ lo }
-        ensures { Builds self.old self.new result
+        ensures built { Builds self.old self.new result
             (next_fixed_slice (selector_text hi) hi (selector_text lo) lo)
             (with_fixed_slice subject.now (selector_text hi) hi (selector_text lo) lo) }
+        ensures kept { Keeps self.old self.new }
     {
         let alloc = self.ast.allocator();
         let high_text = selector_text(alloc, hi)?;
@@ -56,8 +58,10 @@ impl VastFile {
     pub fn make_index(&mut self, subject: &IndexableExpr, index: i64) -> Result<Index, AllocError>
         requires subject { OwnsIndexable self.old subject.now }
         requires index { pos 0 ≤ℤ index }
-        ensures { Builds self.old self.new result (next_fixed_index (selector_text index) index)
+        ensures built { Builds self.old self.new result
+            (next_fixed_index (selector_text index) index)
             (with_fixed_index subject.now (selector_text index) index) }
+        ensures kept { Keeps self.old self.new }
     {
         let text = selector_text(self.ast.allocator(), index)?;
         self.ast.push_index_fixed(*subject, &text, index)
@@ -76,8 +80,9 @@ impl VastFile {
         requires subject { OwnsIndexable self.old subject.now }
         requires hi { OwnsExpr self.old hi.now }
         requires lo { OwnsExpr self.old lo.now }
-        ensures { Builds self.old self.new result next_slice
+        ensures built { Builds self.old self.new result next_slice
             (with_slice subject.now hi.now lo.now) }
+        ensures kept { Keeps self.old self.new }
     {
         self.ast.push_slice(*subject, *hi, *lo)
     }
@@ -93,7 +98,9 @@ impl VastFile {
     ) -> Result<Index, AllocError>
         requires subject { OwnsIndexable self.old subject.now }
         requires index { OwnsExpr self.old index.now }
-        ensures { Builds self.old self.new result next_index (with_index subject.now index.now) }
+        ensures built { Builds self.old self.new result next_index
+            (with_index subject.now index.now) }
+        ensures kept { Keeps self.old self.new }
     {
         self.ast.push_index(*subject, *index)
     }
@@ -111,11 +118,11 @@ impl VastFile {
         requires subject { OwnsIndexable self.old subject.now }
         requires start { OwnsExpr self.old start.now }
         requires width { pos 1 ≤ℤ width }
-        ensures { Builds self.old self.new result next_expr
+        ensures built { Builds self.old self.new result next_expr
             (with_part_select subject.now start.now width) }
+        ensures kept { Keeps self.old self.new }
     {
-        self.ast
-            .push_expr(ExprNode::PartSelect(subject.to_expr(), *start, width))
+        self.push_expr(ExprNode::PartSelect(subject.to_expr(), *start, width))
     }
 }
 

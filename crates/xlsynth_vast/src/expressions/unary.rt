@@ -4,6 +4,7 @@ ghost use Rattle.std.specs.Prelude.{◌≡◌};
 ghost use Rattle.vast_literal.specs.declared.operator.UnaryOperator.TheVariants.{Negate as NegateOp, BitwiseNot as BitwiseNotOp, LogicalNot as LogicalNotOp, AndReduce as AndReduceOp, OrReduce as OrReduceOp, XorReduce as XorReduceOp};
 ghost use Rattle.vast_core.specs.Bench.{OwnsExpr};
 ghost use Rattle.vast_core.specs.Growth.{Builds, next_expr};
+ghost use Rattle.xlsynth_vast.specs.Keeps.{Keeps};
 ghost use Rattle.xlsynth_vast.specs.Expressions.{with_unary, with_pos_edge, with_neg_edge};
 
 use crate::file::VastFile;
@@ -17,8 +18,9 @@ impl VastFile {
     /// `AllocError` where a growth was refused; the file is unchanged.
     pub fn make_not(&mut self, expression: &Expr) -> Result<Expr, AllocError>
         requires { OwnsExpr self.old expression.now }
-        ensures { Builds self.old self.new result next_expr
+        ensures built { Builds self.old self.new result next_expr
             (with_unary BitwiseNotOp expression.now) }
+        ensures kept { Keeps self.old self.new }
     {
         self.make_bitwise_not(expression)
     }
@@ -29,11 +31,11 @@ impl VastFile {
     /// `AllocError` where a growth was refused; the file is unchanged.
     pub fn make_bitwise_not(&mut self, expression: &Expr) -> Result<Expr, AllocError>
         requires { OwnsExpr self.old expression.now }
-        ensures { Builds self.old self.new result next_expr
+        ensures built { Builds self.old self.new result next_expr
             (with_unary BitwiseNotOp expression.now) }
+        ensures kept { Keeps self.old self.new }
     {
-        self.ast
-            .push_expr(ExprNode::Unary(UnaryOperator::BitwiseNot, *expression))
+        self.push_expr(ExprNode::Unary(UnaryOperator::BitwiseNot, *expression))
     }
 
     /// The negation `-a`.
@@ -42,10 +44,11 @@ impl VastFile {
     /// `AllocError` where a growth was refused; the file is unchanged.
     pub fn make_negate(&mut self, expression: &Expr) -> Result<Expr, AllocError>
         requires { OwnsExpr self.old expression.now }
-        ensures { Builds self.old self.new result next_expr (with_unary NegateOp expression.now) }
+        ensures built { Builds self.old self.new result next_expr
+            (with_unary NegateOp expression.now) }
+        ensures kept { Keeps self.old self.new }
     {
-        self.ast
-            .push_expr(ExprNode::Unary(UnaryOperator::Negate, *expression))
+        self.push_expr(ExprNode::Unary(UnaryOperator::Negate, *expression))
     }
 
     /// The logical complement `!a`.
@@ -54,11 +57,11 @@ impl VastFile {
     /// `AllocError` where a growth was refused; the file is unchanged.
     pub fn make_logical_not(&mut self, expression: &Expr) -> Result<Expr, AllocError>
         requires { OwnsExpr self.old expression.now }
-        ensures { Builds self.old self.new result next_expr
+        ensures built { Builds self.old self.new result next_expr
             (with_unary LogicalNotOp expression.now) }
+        ensures kept { Keeps self.old self.new }
     {
-        self.ast
-            .push_expr(ExprNode::Unary(UnaryOperator::LogicalNot, *expression))
+        self.push_expr(ExprNode::Unary(UnaryOperator::LogicalNot, *expression))
     }
 
     /// The AND of all bits, `&a`.
@@ -67,11 +70,11 @@ impl VastFile {
     /// `AllocError` where a growth was refused; the file is unchanged.
     pub fn make_and_reduce(&mut self, expression: &Expr) -> Result<Expr, AllocError>
         requires { OwnsExpr self.old expression.now }
-        ensures { Builds self.old self.new result next_expr
+        ensures built { Builds self.old self.new result next_expr
             (with_unary AndReduceOp expression.now) }
+        ensures kept { Keeps self.old self.new }
     {
-        self.ast
-            .push_expr(ExprNode::Unary(UnaryOperator::AndReduce, *expression))
+        self.push_expr(ExprNode::Unary(UnaryOperator::AndReduce, *expression))
     }
 
     /// The OR of all bits, `|a`.
@@ -80,10 +83,11 @@ impl VastFile {
     /// `AllocError` where a growth was refused; the file is unchanged.
     pub fn make_or_reduce(&mut self, expression: &Expr) -> Result<Expr, AllocError>
         requires { OwnsExpr self.old expression.now }
-        ensures { Builds self.old self.new result next_expr (with_unary OrReduceOp expression.now) }
+        ensures built { Builds self.old self.new result next_expr
+            (with_unary OrReduceOp expression.now) }
+        ensures kept { Keeps self.old self.new }
     {
-        self.ast
-            .push_expr(ExprNode::Unary(UnaryOperator::OrReduce, *expression))
+        self.push_expr(ExprNode::Unary(UnaryOperator::OrReduce, *expression))
     }
 
     /// The XOR of all bits, `^a`.
@@ -92,11 +96,11 @@ impl VastFile {
     /// `AllocError` where a growth was refused; the file is unchanged.
     pub fn make_xor_reduce(&mut self, expression: &Expr) -> Result<Expr, AllocError>
         requires { OwnsExpr self.old expression.now }
-        ensures { Builds self.old self.new result next_expr
+        ensures built { Builds self.old self.new result next_expr
             (with_unary XorReduceOp expression.now) }
+        ensures kept { Keeps self.old self.new }
     {
-        self.ast
-            .push_expr(ExprNode::Unary(UnaryOperator::XorReduce, *expression))
+        self.push_expr(ExprNode::Unary(UnaryOperator::XorReduce, *expression))
     }
 
     /// The event of a rising edge, `posedge a`.
@@ -105,9 +109,10 @@ impl VastFile {
     /// `AllocError` where a growth was refused; the file is unchanged.
     pub fn make_pos_edge(&mut self, expression: &Expr) -> Result<Expr, AllocError>
         requires { OwnsExpr self.old expression.now }
-        ensures { Builds self.old self.new result next_expr (with_pos_edge expression.now) }
+        ensures built { Builds self.old self.new result next_expr (with_pos_edge expression.now) }
+        ensures kept { Keeps self.old self.new }
     {
-        self.ast.push_expr(ExprNode::PosEdge(*expression))
+        self.push_expr(ExprNode::PosEdge(*expression))
     }
 
     /// The event of a falling edge, `negedge a`.
@@ -116,8 +121,9 @@ impl VastFile {
     /// `AllocError` where a growth was refused; the file is unchanged.
     pub fn make_neg_edge(&mut self, expression: &Expr) -> Result<Expr, AllocError>
         requires { OwnsExpr self.old expression.now }
-        ensures { Builds self.old self.new result next_expr (with_neg_edge expression.now) }
+        ensures built { Builds self.old self.new result next_expr (with_neg_edge expression.now) }
+        ensures kept { Keeps self.old self.new }
     {
-        self.ast.push_expr(ExprNode::NegEdge(*expression))
+        self.push_expr(ExprNode::NegEdge(*expression))
     }
 }

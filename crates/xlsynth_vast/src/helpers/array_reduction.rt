@@ -4,6 +4,7 @@ ghost use Rattle.std.specs.Prelude.{◌≡◌, All, map};
 ghost use Rattle.std.specs.List.{flat_map};
 ghost use Rattle.vast_core.specs.Bench.{OwnsExpr, OwnsIndexable, tree_of};
 ghost use Rattle.vast_core.specs.FileTree.{tree};
+ghost use Rattle.xlsynth_vast.specs.Keeps.{Keeps};
 ghost use Rattle.xlsynth_vast.specs.Expressions.{subject_of};
 ghost use Rattle.xlsynth_vast.specs.Reductions.{MakesTree, MakesTrees, AddsTrees};
 ghost use Rattle.xlsynth_vast.specs.ArrayReduction.{slots, elements, array_reduction};
@@ -133,6 +134,7 @@ pub fn bitwise_or_reduce_array_elements(
     requires { OwnsIndexable file.old value.now }
     ensures made { MakesTree file.old file.new result
         (array_reduction dimensions.now (subject_of file.old value.now)) }
+    ensures kept { Keeps file.old file.new }
     ensures unseen { tree file.new ≡ tree file.old }
 {
     records_are_sound(file);

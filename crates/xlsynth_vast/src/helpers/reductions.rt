@@ -6,6 +6,7 @@ ghost use Rattle.vast_literal.specs.declared.operator.BinaryOperator.TheVariants
 ghost use Rattle.vast_core.specs.Bench.{OwnsExpr, tree_of};
 ghost use Rattle.vast_core.specs.FileTree.{tree};
 ghost use Rattle.vast_core.specs.Growth.{Builds, next_expr, with_expr};
+ghost use Rattle.xlsynth_vast.specs.Keeps.{Keeps};
 ghost use Rattle.xlsynth_vast.specs.Expressions.{with_binary};
 ghost use Rattle.xlsynth_vast.specs.Reductions.{MakesTree, MakesChain, bit_literal, logical_reduction, bitwise_reduction};
 
@@ -114,6 +115,7 @@ pub fn logical_or_reduce(
     ensures made { MakesTree file.old file.new result
         (Ok (logical_reduction LogicalOrOp false invert
         (map (tree_of file.old) values.now))) }
+    ensures kept { Keeps file.old file.new }
     ensures unseen { tree file.new ≡ tree file.old }
 {
     records_are_sound(file);
@@ -135,6 +137,7 @@ pub fn logical_and_reduce(
     ensures made { MakesTree file.old file.new result
         (Ok (logical_reduction LogicalAndOp true invert
         (map (tree_of file.old) values.now))) }
+    ensures kept { Keeps file.old file.new }
     ensures unseen { tree file.new ≡ tree file.old }
 {
     records_are_sound(file);
@@ -150,6 +153,7 @@ pub fn bitwise_or_reduce(values: &[Expr], file: &mut VastFile) -> Result<Expr, V
     requires { All (OwnsExpr file.old) values.now }
     ensures made { MakesTree file.old file.new result
         (Ok (bitwise_reduction (map (tree_of file.old) values.now))) }
+    ensures kept { Keeps file.old file.new }
     ensures unseen { tree file.new ≡ tree file.old }
 {
     records_are_sound(file);

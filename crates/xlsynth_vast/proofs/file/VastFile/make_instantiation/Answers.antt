@@ -4,6 +4,8 @@ use Rattle.vast_core.specs.declared.handle.Expr.{Expr}
 use Rattle.vast_core.specs.Bench.{OwnsExpr}
 use Rattle.vast_core.specs.View.{bench}
 use Rattle.vast_core.proofs.Lists.{Each-All}
+use Rattle.xlsynth_vast.proofs.Kept.{kept_by}
+use Rattle.xlsynth_vast.proofs.KeptWords.{instance-kept}
 use Rattle.xlsynth_vast.proofs.Connected.{connected-sound, connected-valued, each-copied}
 use Rattle.xlsynth_vast.proofs.file.VastFile.make_instantiation.Goals as goal
 
@@ -17,3 +19,6 @@ push_instantiation-requires-clause-values c = connected-valued (λ (e : Bor Expr
 pub push_instantiation-requires-clause-connections : goal.push_instantiation-requires-clause-connections
 push_instantiation-requires-clause-connections c =
     connected-sound (bench c.self.inside.ast) _ _ _ c.in_ok-connections.ensures (each-copied (bench c.self.inside.ast) c.args.connection_expressions.now (rw (← c.self.view_is) at c.requires.connection_expressions))
+
+pub returns-clause-kept : goal.returns-clause-kept
+returns-clause-kept c = kept_by _ _ _ _ _ _ c.push_instantiation.ensures c.self.view_is (instance-kept _ _)

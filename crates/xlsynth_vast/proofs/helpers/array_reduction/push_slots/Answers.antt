@@ -1,5 +1,5 @@
 use Rattle.std.proofs.Common.{rules, ◌≡◌, ◌+ℤ◌, ◌<ℤ◌, ◌≤ℤ◌, pos, to_z, of_z, w64}
-use Rattle.xlsynth_vast.proofs.ArrayReduced.{slotted-start, slot-subject, slotted-step, slotted-end}
+use Rattle.xlsynth_vast.proofs.ArrayReduced.{slotted-start, slot-subject, slotted-step, slotted-refused, slotted-end}
 use Rattle.xlsynth_vast.proofs.helpers.array_reduction.push_slots.Goals as goal
 
 pub loop-index-init : goal.loop-index-init
@@ -14,7 +14,11 @@ loop-index-preserved c =
     let next : to_z w64 (of_z w64 (to_z w64 c.loop-index.index-bits +ℤ pos 1)) ≡ to_z w64 c.loop-index.index-bits +ℤ pos 1 = rw c.loop-index.index-is plus in
     let below : to_z w64 c.loop-index.index-bits <ℤ to_z w64 (of_z w64 c.args.dimension) = search rules in
     slotted-step _ _ _ _ _ _ _ _ _ _ c.in_ok-slot.slot c.loop-index.invariant c.requires.array below next
-    (rw c.make_indexable_expression-array.ensures at c.in_ok-slot.ensures) (rw c.to_expr.ensures at c.in_ok-push.ensures.items)
+    (rw c.make_indexable_expression-array.ensures at c.in_ok-slot.ensures.built) (rw c.to_expr.ensures at c.in_ok-push.ensures.items)
+
+pub returns-in_err-push : goal.returns-in_err-push
+returns-in_err-push c =
+    slotted-refused _ _ _ c.from_residual-in_err-push.result _ _ _ _ _ _ _ _ _ _ c.from_residual-in_err-push.ensures.0 c.loop-index.invariant c.in_ok-slot.ensures.built.1
 
 pub returns : goal.returns
 returns c =

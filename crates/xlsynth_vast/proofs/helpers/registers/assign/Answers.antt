@@ -21,11 +21,11 @@ block_add_nonblocking_assignment-requires-clause-rhs c = value-owned c.args.shar
 pub returns-in_err-block_add_nonblocking_assignment-in-Some : goal.returns-in_err-block_add_nonblocking_assignment-in-Some
 returns-in_err-block_add_nonblocking_assignment-in-Some c =
     fill-refused _ _ c.from_residual-in_err-block_add_nonblocking_assignment-in-Some.result c.args.block _ c.from_residual-in_err-block_add_nonblocking_assignment-in-Some.ensures.0
-    (stays-then c.args.file.now _ _ c.args.block c.args.block (value-still c.args.share c.args.register.now c.args.file.now _ c.args.block c.in_ok-value.ensures.1) (inl refl) (stays-same _ _ c.args.block c.in_err-block_add_nonblocking_assignment-in-Some.ensures))
+    (stays-then c.args.file.now _ _ c.args.block c.args.block (value-still c.args.share c.args.register.now c.args.file.now _ c.args.block c.in_ok-value.ensures.1) (inl refl) (stays-same _ _ c.args.block c.in_err-block_add_nonblocking_assignment-in-Some.ensures.built))
 
 pub returns-in_ok-block_add_nonblocking_assignment-in-Some : goal.returns-in_ok-block_add_nonblocking_assignment-in-Some
 returns-in_ok-block_add_nonblocking_assignment-in-Some c =
-    assigned-value c.args.share c.args.block c.args.register.now c.args.file.now _ _ _ c.in-Some.value c.in_ok-value.ensures c.in-Some.is c.in_ok-block_add_nonblocking_assignment-in-Some.ensures.1
+    assigned-value c.args.share c.args.block c.args.register.now c.args.file.now _ _ _ c.in-Some.value c.in_ok-value.ensures c.in-Some.is c.in_ok-block_add_nonblocking_assignment-in-Some.ensures.built.1
 
 pub returns-in-None : goal.returns-in-None
 returns-in-None c = assigned-none c.args.share c.args.block c.args.register.now c.args.file.now _ _ c.in_ok-value.ensures c.in-None.is
