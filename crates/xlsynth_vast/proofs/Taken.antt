@@ -1,9 +1,15 @@
 -- Laws of taken names, and of their list.
-use Rattle.std.proofs.Common.{◌≡◌, ◌≢◌, ℕ, List, [], ◌∷◌, ◌++◌, Bool, true, false, IsTrue, map, Some, slice_get, Result, Ok, Err, refl, sym, ap, ◌∙◌, arith, if◌then◌else◌}
+use Rattle.std.proofs.Common.{◌≡◌, ◌≢◌, ◌<◌, ◌+◌, ℕ, List, [], ◌∷◌, ◌++◌, length, take, get_or, Bool, true, false, IsTrue, map, Some, slice_get, Result, Ok, Err, refl, sym, ap, ◌∙◌, arith, if◌then◌else◌}
 use Rattle.std.proofs.lemmas.Bool.{true≢false, or_parts}
 use Rattle.std.specs.Prelude.{IsErrAnd, MatchResult, alloc_error}
 use Rattle.std.specs.List.{join_by, flat_map}
 use Rattle.std.specs.Str.{bytes_eq}
+use Rattle.std.specs.declared.cmp.Ordering.{Ordering}
+use Rattle.std.specs.declared.cmp.Ordering.TheVariants.{Less, Equal, Greater}
+use Rattle.std.specs.Ordering.{nat_cmp}
+use Rattle.std.specs.Cmp.Lexicographic.{slice_cmp}
+use Rattle.std.specs.BTreeSet.{insert_key}
+use Rattle.std.proofs.lemmas.List.{take_more}
 use Rattle.std.proofs.lemmas.Slice.Eq.{bytes_eq-Decides}
 use Rattle.vast_literal.specs.Keyword.{is_among}
 use Rattle.vast_literal.specs.declared.error.VastFault.{VastFault}
@@ -13,8 +19,9 @@ use Rattle.vast_core.specs.declared.handle.VastModule.{VastModule}
 use Rattle.vast_core.specs.declared.handle.VastFunction.{VastFunction}
 use Rattle.vast_core.specs.Handles.{module_index, function_index}
 use Rattle.vast_core.specs.Bench.{Bench}
-use Rattle.vast_core.specs.Records.{ModuleRecord, IsFree}
+use Rattle.vast_core.specs.Records.{ModuleRecord, IsFree, with_name, in_byte_order}
 use Rattle.vast_core.specs.Nests.{FunctionRecord}
+use Rattle.vast_core.proofs.Names.{entered-one}
 use Rattle.vast_core.proofs.Lists.{All-cons, All-head, All-tail}
 use Rattle.xlsynth_vast.specs.Declarations.{names_in, already_declared, unless_taken}
 use Rattle.xlsynth_vast.specs.Functions.{declared_in_function, unless_taken_in_function}
@@ -28,6 +35,30 @@ flat-of f sep (x ∷ xs) = ap (λ r. (sep ++ f x) ++ r) (flat-of f sep xs)
 pub join_by-map : {X : Type 0} (f : X → List ℕ) (sep : List ℕ) (xs : List X) → join_by f sep xs ≡ join_by (λ name. name) sep (map f xs)
 join_by-map f sep [] = refl
 join_by-map f sep (x ∷ xs) = ap (λ r. f x ++ r) (flat-of f sep xs)
+
+-- A set of names behind references, with one name more.
+
+insert-case :
+    {X : Type 0} (f : X → List ℕ) (x name : X) (xs : List X) (o : Ordering) → slice_cmp nat_cmp (f name) (f x) ≡ o →
+    map f (insert_key (λ a b. slice_cmp nat_cmp (f a) (f b)) xs name) ≡ with_name (f name) (map f xs) →
+    map f (insert_key (λ a b. slice_cmp nat_cmp (f a) (f b)) (x ∷ xs) name) ≡ with_name (f name) (map f (x ∷ xs))
+insert-case f x name xs Less e h = rw e refl
+insert-case f x name xs Equal e h = rw e refl
+insert-case f x name xs Greater e h = rw e (ap (λ r. f x ∷ r) h)
+
+map-insert_key :
+    {X : Type 0} (f : X → List ℕ) (names : List X) (name : X) →
+    map f (insert_key (λ a b. slice_cmp nat_cmp (f a) (f b)) names name) ≡ with_name (f name) (map f names)
+map-insert_key f [] name = refl
+map-insert_key f (x ∷ xs) name = insert-case f x name xs (slice_cmp nat_cmp (f name) (f x)) refl (map-insert_key f xs name)
+
+-- The next of the names that were entered, at its place in byte order.
+pub sorted-more :
+    {X : Type 0} (f : X → List ℕ) (sorted new : List X) (name : X) (names : List (List ℕ)) (i : ℕ) → i < length names → get_or names i [] ≡ f name →
+    new ≡ insert_key (λ a b. slice_cmp nat_cmp (f a) (f b)) sorted name → map f sorted ≡ in_byte_order (take i names) →
+    map f new ≡ in_byte_order (take (i + 1) names)
+sorted-more f sorted new name names i l at e h =
+    rw (e, map-insert_key f sorted name, h, take_more names i [] l, at) (sym (entered-one (take i names) (f name)))
 
 -- A name is free exactly where it isn't among those taken.
 

@@ -4,6 +4,7 @@
 
 ghost use Rattle.std.specs.Prelude.{◌≡◌, Ok, IfOk, MatchResult, OnOk, codes, map, string_bytes};
 ghost use Rattle.vast_literal.specs.Fault.{OnlyRefusedBy};
+ghost use Rattle.vast_core.specs.Records.{in_byte_order};
 ghost use Rattle.vast_core.specs.Bench.{OwnsModule, OwnsType, NameIsFree};
 ghost use Rattle.vast_core.specs.Growth.{Builds, next_logic_ref, with_declaration};
 ghost use Rattle.xlsynth_vast.specs.Refusals.{MayBuild};
@@ -15,13 +16,27 @@ use std::alloc::{AllocError, Global};
 use std::collections::BTreeSet;
 use vast_core::{DataKind, LogicRef, VastDataType, VastModule};
 use vast_literal::{VastError, VastFault};
+use vast_names::NameTable;
 
-/// The names, with a comma and a space between each two.
-pub(crate) fn listed_names(alloc: Global, names: &BTreeSet<String>) -> Result<String, AllocError>
-    ensures { IfOk result
-        (λ list. string_bytes list ≡ listed_names (map string_bytes names.now.keys)) }
+/// The names in the order of their bytes.
+fn in_byte_order(alloc: Global, names: &NameTable) -> Result<BTreeSet<&str>, AllocError>
+    ensures { IfOk result (λ sorted. map (λ name. name.now) sorted.keys
+        ≡ in_byte_order names.now) }
 {
-    let taken: Vec<&str> = names.iter().map(|name| name.as_str()).collect(alloc)?;
+    let mut sorted = BTreeSet::new(alloc);
+    for index in 0..names.len() {
+        sorted.insert(names.name(index))?;
+    }
+    Ok(sorted)
+}
+
+/// The names in the order of their bytes, with a comma and a space between each two.
+pub(crate) fn listed_names(alloc: Global, names: &NameTable) -> Result<String, AllocError>
+    ensures { IfOk result
+        (λ list. string_bytes list ≡ listed_names (in_byte_order names.now)) }
+{
+    let sorted = in_byte_order(alloc, names)?;
+    let taken: Vec<&str> = sorted.iter().map(|name| *name).collect(alloc)?;
     taken.join(alloc, ", ")
 }
 
@@ -30,11 +45,11 @@ fn already_declared(
     alloc: Global,
     kind: &str,
     name: &str,
-    names: &BTreeSet<String>,
+    names: &NameTable,
 ) -> Result<String, AllocError>
     ensures { IfOk result
         (λ text. string_bytes text
-        ≡ already_declared kind.now name.now (map string_bytes names.now.keys)) }
+        ≡ already_declared kind.now name.now (in_byte_order names.now)) }
 {
     let list = listed_names(alloc, names)?;
     format!(in alloc;

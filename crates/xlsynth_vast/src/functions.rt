@@ -3,8 +3,9 @@
 //! A function's result, inputs and locals share one set of names; no name is declared twice. The function's own name is
 //! among those of its module, too.
 
-ghost use Rattle.std.specs.Prelude.{◌≡◌, Ok, true, false, Some, IfOk, MatchResult, OnOk, codes, map, string_bytes};
+ghost use Rattle.std.specs.Prelude.{◌≡◌, Ok, true, false, Some, IfOk, MatchResult, OnOk, codes, string_bytes};
 ghost use Rattle.vast_literal.specs.Fault.{OnlyRefusedBy};
+ghost use Rattle.vast_core.specs.Records.{in_byte_order};
 ghost use Rattle.vast_core.specs.Bench.{OwnsModule, OwnsType, OwnsFunction, OwnsBlock, OwnsLogicRef, IsFreeInFunction, type_of};
 ghost use Rattle.vast_core.specs.Growth.{next_logic_ref};
 ghost use Rattle.vast_core.specs.Functions.{with_variable};
@@ -34,7 +35,7 @@ fn declared_in_function(
     ensures { IfOk result
         (λ text. string_bytes text
         ≡ declared_in_function kind.now name.now (string_bytes owner.now.name)
-        (map string_bytes owner.now.names.keys)) }
+        (in_byte_order owner.now.names)) }
 {
     let list = listed_names(alloc, &owner.names)?;
     let function = owner.name.as_str();
