@@ -16,15 +16,16 @@ use Rattle.vast_literal.specs.SettledFiles.{settled_file}
 use Rattle.vast_literal.proofs.SettledFiles.{file_soon, file_none, file_more}
 use Rattle.vast_literal.proofs.SoundFiles.{file_derived}
 use Rattle.vast_literal.proofs.DerivedOnce.{file_once}
+use Rattle.vast_literal.proofs.Longest.{scan_lexes, lexes_scan}
 
 pub file_spelled : (ts rest : List Token) (x : NormalFile) → settled_file ts ≡ Some (x, rest) → rest ≡ [] → IsFile ts x
 file_spelled ts rest x e d = let s = file_soon ts (x, []) (e ∙ ap (λ (r : List Token). Some (x, r)) d) in file_derived s.from ts x (s.holds s.from (omega arith))
 
 pub text_derives : (text : List ℕ) (x : NormalFile) → IsFile (lex Gap text) x → DerivesFile text x
-text_derives text x d = record { parts = lex Gap text; has_parts = tokens_used text (file_used (lex Gap text) x d); spelled = d }
+text_derives text x d = record { parts = lex Gap text; lexed = scan_lexes text (lex Gap text) (tokens_used text (file_used (lex Gap text) x d)); spelled = d }
 
 pub text_without_file : (text : List ℕ) → ((x : NormalFile) → IsFile (lex Gap text) x → ⊥) → (x : NormalFile) → DerivesFile text x → ⊥
-text_without_file text n x d = n x (subst (λ us. IsFile us x) (sym (tokens_lexed text d.parts d.has_parts)) d.spelled)
+text_without_file text n x d = n x (subst (λ us. IsFile us x) (sym (tokens_lexed text d.parts (lexes_scan text d.parts d.lexed))) d.spelled)
 
 -- What is derived is what was read: there is no other.
 
