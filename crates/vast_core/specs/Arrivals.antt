@@ -1,6 +1,6 @@
 -- What the code hands over where the arenas grow, as contracts speak of it.
-use Rattle.std.specs.Prelude.{ℕ, ◌<◌, true, false, Option, Some, None, List, [], ◌∷◌, String, string_bytes}
-use Rattle.std.specs.declared.alloc.Global.{Global}
+use Rattle.std.specs.Prelude.{ℕ, ◌<◌, true, false, Option, Some, None, List, [], ◌∷◌}
+use Rattle.std.specs.Borrow.{Bor}
 use Rattle.vast_core.specs.declared.ast.growth.Entry.{Entry}
 use Rattle.vast_core.specs.declared.ast.growth.Entry.TheVariants.{Statement as StatementOf, ElseIf as ElseIfOf, Else as ElseOf, CaseArm as CaseArmOf, Member as MemberOf}
 use Rattle.vast_core.specs.declared.ast.growth.Place.{Place}
@@ -23,15 +23,15 @@ entry_of (ElseOf b) = ElseEnters b
 entry_of (CaseArmOf a) = CaseArmEnters a
 entry_of (MemberOf m) = MemberEnters (member_entry m)
 
-abbrev pub name_of : Option (String Global) → Option (List ℕ)
+abbrev pub name_of : Option (Bor (List ℕ)) → Option (List ℕ)
 name_of None = None
-name_of (Some name) = Some (string_bytes name)
+name_of (Some name) = Some name.now
 
 abbrev pub listing_of : Place → Listing
 listing_of NowhereOf = Nowhere
 listing_of (FileOf item) = InFile (file_entry item)
 listing_of (HeaderOf owner p) = InHeader owner (parameter_port_record p)
-listing_of (PortsOf owner port name) = InPorts owner port (string_bytes name)
+listing_of (PortsOf owner port name) = InPorts owner port name.now
 listing_of (ModuleOf owner member name) = InModule owner (member_entry member) (name_of name)
 listing_of (FunctionOf owner local v) = InFunction owner local (variable_record v)
 listing_of (NestOf place entry) = InNest place (entry_of entry)

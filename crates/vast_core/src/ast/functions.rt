@@ -38,7 +38,6 @@ impl Ast {
             (λ b. with_named_member owner (FunctionEntry (next_function b)) name.now
             (with_function name.now result_type b)) }
     {
-        let taken = String::from_str(self.alloc, name)?;
         let variable = String::from_str(self.alloc, name)?;
         let own_name = String::from_str(self.alloc, name)?;
         let mut names = NameTable::new(self.alloc);
@@ -60,7 +59,7 @@ impl Ast {
             names,
         };
         self.grow(
-            Place::Module(owner, Member::Function(function), Some(taken)),
+            Place::Module(owner, Member::Function(function), Some(name)),
             Arrivals {
                 terms: Terms::One(ExprNode::Name(variable, Some(result_type))),
                 node: Node::Function(node),

@@ -1,6 +1,6 @@
 //! The one growth of the arenas: nodes that come, and the entry of a list that names them.
 
-ghost use Rattle.std.specs.Prelude.{◌≡◌, ◌+◌, ◌-◌, ◌≤◌, ◌<◌, OnOk, OnErr, length, map, string_bytes, vec_capacity, vec_len};
+ghost use Rattle.std.specs.Prelude.{◌≡◌, ◌+◌, ◌-◌, ◌≤◌, ◌<◌, OnOk, OnErr, length, map, vec_capacity, vec_len};
 ghost use Rattle.vast_core.specs.Records.{module_record, member_entry, file_entry, parameter_port_record, changed_at, with_port, with_parameter_port, with_member, with_named_member};
 ghost use Rattle.vast_core.specs.Nests.{nest_record, statement_entry, function_record, variable_record};
 ghost use Rattle.vast_core.specs.Functions.{with_listed_variable};
@@ -30,12 +30,12 @@ pub(crate) enum Entry {
 
 /// The list that gains an entry, with the entry; a name is taken from then on.
 #[derive(Drop)]
-pub(crate) enum Place {
+pub(crate) enum Place<'a> {
     Nowhere,
     File(FileItem),
     Header(VastModule, ParameterPort),
-    Ports(VastModule, ModulePort, String),
-    Module(VastModule, Member, Option<String>),
+    Ports(VastModule, ModulePort, &'a str),
+    Module(VastModule, Member, Option<&'a str>),
     /// Whether the variable is a local; else it is an input.
     Function(VastFunction, bool, FunctionVariable),
     /// Into the container of this index.
@@ -134,13 +134,13 @@ impl Module {
     }
 
     /// Lists the port and takes its name, or changes nothing.
-    fn enter_port(&mut self, port: ModulePort, name: String) -> Result<(), AllocError>
+    fn enter_port(&mut self, port: ModulePort, name: &str) -> Result<(), AllocError>
         ensures ok { OnOk result
-            (module_record self.new ≡ with_port port (string_bytes name) (module_record self.old)) }
+            (module_record self.new ≡ with_port port name.now (module_record self.old)) }
         ensures err { OnErr result (module_record self.new ≡ module_record self.old) }
     {
         self.ports.reserve(1)?;
-        self.names.enter(&name)?;
+        self.names.enter(name)?;
         self.ports.push(port).unwrap();
         Ok(())
     }
@@ -155,24 +155,23 @@ impl Module {
     }
 
     /// Appends the member and takes the name, or changes nothing.
-    fn enter_member(&mut self, member: Member, name: String) -> Result<(), AllocError>
+    fn enter_member(&mut self, member: Member, name: &str) -> Result<(), AllocError>
         ensures ok { OnOk result
             (module_record self.new
-            ≡ with_named_member (member_entry member) (string_bytes name)
-            (module_record self.old)) }
+            ≡ with_named_member (member_entry member) name.now (module_record self.old)) }
         ensures err { OnErr result (module_record self.new ≡ module_record self.old) }
     {
         self.members.reserve(1)?;
-        self.names.enter(&name)?;
+        self.names.enter(name)?;
         self.members.push(member).unwrap();
         Ok(())
     }
 
     /// Adds the member, and takes the name where there is one, or changes nothing.
-    fn enter(&mut self, member: Member, name: Option<String>) -> Result<(), AllocError>
+    fn enter(&mut self, member: Member, name: Option<&str>) -> Result<(), AllocError>
         ensures ok { OnOk result
             (module_record self.new
-            ≡ with_listed (member_entry member) (name_of name) (module_record self.old)) }
+            ≡ with_listed (member_entry member) (name_of name.entry) (module_record self.old)) }
         ensures err { OnErr result (module_record self.new ≡ module_record self.old) }
     {
         match name {
@@ -218,12 +217,12 @@ fn enter_port(
     modules: &mut Vec<Module>,
     owner: VastModule,
     port: ModulePort,
-    name: String,
+    name: &str,
 ) -> Result<(), AllocError>
     requires { owner.id.index < length modules.old.items }
     ensures ok { OnOk result
         (map module_record modules.new.items
-        ≡ changed_at owner.id.index (with_port port (string_bytes name))
+        ≡ changed_at owner.id.index (with_port port name.now)
         (map module_record modules.old.items)) }
     ensures err { OnErr result
         (map module_record modules.new.items ≡ map module_record modules.old.items) }
@@ -238,12 +237,12 @@ fn enter_module(
     modules: &mut Vec<Module>,
     owner: VastModule,
     member: Member,
-    name: Option<String>,
+    name: Option<&str>,
 ) -> Result<(), AllocError>
     requires { owner.id.index < length modules.old.items }
     ensures ok { OnOk result
         (map module_record modules.new.items
-        ≡ changed_at owner.id.index (with_listed (member_entry member) (name_of name))
+        ≡ changed_at owner.id.index (with_listed (member_entry member) (name_of name.entry))
         (map module_record modules.old.items)) }
     ensures err { OnErr result
         (map module_record modules.new.items ≡ map module_record modules.old.items) }
@@ -282,23 +281,23 @@ fn enter(
     functions: &mut Vec<Function>,
     items: &mut Vec<FileItem>,
     spare: &mut Option<VastStatementBlock>,
-    place: Place,
+    place: Place<'_>,
 ) -> Result<(), AllocError>
     requires { ListingThere (length modules.old.items) (length nests.old.items)
         (length functions.old.items) (listing_of place) }
     ensures modules { OnOk result
         (map module_record modules.new.items
-        ≡ listed_modules (listing_of place) (map module_record modules.old.items)) }
+        ≡ listed_modules (listing_of place.entry) (map module_record modules.old.items)) }
     ensures nests { OnOk result
         (map nest_record nests.new.items
-        ≡ listed_nests (listing_of place) (map nest_record nests.old.items)) }
+        ≡ listed_nests (listing_of place.entry) (map nest_record nests.old.items)) }
     ensures functions { OnOk result
         (map function_record functions.new.items
-        ≡ listed_functions (listing_of place) (map function_record functions.old.items)) }
+        ≡ listed_functions (listing_of place.entry) (map function_record functions.old.items)) }
     ensures items { OnOk result
         (map file_entry items.new.items
-        ≡ listed_items (listing_of place) (map file_entry items.old.items)) }
-    ensures spare { OnOk result (spare.new ≡ listed_spare (listing_of place) spare.old) }
+        ≡ listed_items (listing_of place.entry) (map file_entry items.old.items)) }
+    ensures spare { OnOk result (spare.new ≡ listed_spare (listing_of place.entry) spare.old) }
     ensures err_modules { OnErr result
         (map module_record modules.new.items ≡ map module_record modules.old.items) }
     ensures err_nests { OnErr result
@@ -345,11 +344,11 @@ fn spare_left(used: bool, spare: Option<VastStatementBlock>) -> Option<VastState
 impl Ast {
     /// Adds the entry and the nodes, for which there is room, or changes nothing.
     #[inline(always)]
-    fn admit(&mut self, place: Place, arrivals: Arrivals) -> Result<(), AllocError>
+    fn admit(&mut self, place: Place<'_>, arrivals: Arrivals) -> Result<(), AllocError>
         requires sound { GrowthSound (bench self.old) (listing_of place) (fresh_of arrivals) }
         requires room { HasRoom self.old (fresh_of arrivals) }
         ensures { GrowsBy self.old self.new result
-            (after_growth (listing_of place) (fresh_of arrivals)) }
+            (after_growth (listing_of place.entry) (fresh_of arrivals)) }
     {
         let mut spare = spare_left(arrivals.node.takes_spare(), self.spare);
         enter(
@@ -383,10 +382,10 @@ impl Ast {
     /// # Errors
     /// `AllocError` where a growth was refused; nothing changed.
     #[inline(always)]
-    pub(crate) fn grow(&mut self, place: Place, arrivals: Arrivals) -> Result<(), AllocError>
+    pub(crate) fn grow(&mut self, place: Place<'_>, arrivals: Arrivals) -> Result<(), AllocError>
         requires { GrowthSound (bench self.old) (listing_of place) (fresh_of arrivals) }
         ensures { GrowsBy self.old self.new result
-            (after_growth (listing_of place) (fresh_of arrivals)) }
+            (after_growth (listing_of place.entry) (fresh_of arrivals)) }
     {
         self.make_room(&arrivals)?;
         self.admit(place, arrivals)

@@ -37,7 +37,6 @@ impl Ast {
     {
         let node_name = String::from_str(self.alloc, name)?;
         let member_name = String::from_str(self.alloc, name)?;
-        let taken_name = String::from_str(self.alloc, name)?;
         let logic_ref = LogicRef {
             id: self.next_term(),
         };
@@ -45,7 +44,7 @@ impl Ast {
             Place::Module(
                 owner,
                 Member::Declaration(kind, member_name, data_type),
-                Some(taken_name),
+                Some(name),
             ),
             Arrivals {
                 terms: Terms::One(ExprNode::Name(node_name, Some(data_type))),

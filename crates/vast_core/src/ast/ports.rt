@@ -37,7 +37,6 @@ impl Ast {
     {
         let node_name = String::from_str(self.alloc, name)?;
         let port_name = String::from_str(self.alloc, name)?;
-        let taken_name = String::from_str(self.alloc, name)?;
         let logic_ref = LogicRef {
             id: self.next_term(),
         };
@@ -45,7 +44,7 @@ impl Ast {
             id: self.next_port(),
         };
         self.grow(
-            Place::Ports(owner, port, taken_name),
+            Place::Ports(owner, port, name),
             Arrivals {
                 terms: Terms::One(ExprNode::Name(node_name, Some(data_type))),
                 node: Node::Port(Port {

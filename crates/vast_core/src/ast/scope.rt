@@ -25,10 +25,10 @@ pub enum Scope {
     Loop(GenerateLoop),
 }
 
-impl Place {
+impl<'a> Place<'a> {
     /// At the end of the scope's members, without a name.
     #[inline(always)]
-    pub(crate) fn in_scope(scope: Scope, member: Member) -> Place
+    pub(crate) fn in_scope(scope: Scope, member: Member) -> Place<'a>
         ensures { listing_of result ≡ listing_in scope (member_entry member) }
     {
         match scope {

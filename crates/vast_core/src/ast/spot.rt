@@ -47,9 +47,9 @@ fn statement_of(form: AssignmentForm, assignment: VastStatement) -> Statement
     }
 }
 
-impl Place {
+impl<'a> Place<'a> {
     /// At the end of the spot's list, with an assignment.
-    fn of_assignment(spot: Spot, form: AssignmentForm, assignment: VastStatement) -> Place
+    fn of_assignment(spot: Spot, form: AssignmentForm, assignment: VastStatement) -> Place<'a>
         ensures { listing_of result ≡ assignment_at spot form assignment }
     {
         match spot {
@@ -65,7 +65,7 @@ impl Place {
     }
 
     /// At the end of the spot's list, with a conditional.
-    fn of_conditional(spot: Spot, conditional: Conditional) -> Place
+    fn of_conditional(spot: Spot, conditional: Conditional) -> Place<'a>
         ensures { listing_of result ≡ conditional_at spot conditional }
     {
         match spot {

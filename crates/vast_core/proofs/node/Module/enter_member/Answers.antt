@@ -1,4 +1,4 @@
-use Rattle.std.proofs.Common.{◌≡◌, ◌++◌, ◌∷◌, [], rules, refl, string_bytes}
+use Rattle.std.proofs.Common.{◌≡◌, ◌++◌, ◌∷◌, [], rules, refl}
 use Rattle.std.proofs.lemmas.List.{map-append}
 use Rattle.vast_core.specs.Records.{with_name, in_byte_order}
 use Rattle.vast_core.proofs.Names.{entered-one}
@@ -6,6 +6,6 @@ use Rattle.vast_core.proofs.node.Module.enter_member.Goals as goal
 
 pub returns-clause-ok : goal.returns-clause-ok
 returns-clause-ok c =
-    let names : in_byte_order c.enter.new.self ≡ with_name (string_bytes c.args.name) (in_byte_order c.args.self.now.names) = rw (c.in_ok-enter.ensures.ok, c.deref.ensures) (entered-one c.args.self.now.names (string_bytes c.args.name)) in
+    let names : in_byte_order c.enter.new.self ≡ with_name c.args.name.now (in_byte_order c.args.self.now.names) = rw c.in_ok-enter.ensures.ok (entered-one c.args.self.now.names c.args.name.now) in
     let members : c.push.new.self.items ≡ c.args.self.now.members.items ++ c.args.member ∷ [] = search rules in
     rw (names, members) (simp map-append refl)
