@@ -1,6 +1,7 @@
 -- The headline: what is printed of any list of calls. To believe it, read in this order what it names: `built` and the
 -- calls of `Script` (what the steps build), `start` and `tree` of `Bench` (a new file, and the tree of a file), `layout`,
--- `print` and `Emits` (its text, byte for byte), `is_plain_file`, `normal_file` and `DerivesFile` (what the grammar says).
+-- `print` and `Emits` (its text, byte for byte), `is_plain_file`, `normal_file`, `Lexes` and `DerivesFile` (what the grammar
+-- says, from the lexemes of a text on).
 use Rattle.std.specs.Prelude.{ℕ, List, Vec, Result, Ok, IfOk, String, string_bytes}
 use Rattle.std.specs.declared.alloc.Global.{Global}
 use Rattle.vast_literal.specs.Tree.{FileTree}
