@@ -1,13 +1,10 @@
 -- How the arguments of a call are written in a line: a space before each of their pieces. A text is a list of bytes.
-use Rattle.std.specs.Prelude.{◌≡◌, ℕ, ◌+◌, ◌*◌, ◌-◌, ◌≤◌, ◌<◌, ◌⊎◌, ◌≢◌, ℤ, pos, neg_ℤ, List, [], ◌∷◌, ◌++◌, length, min, Option, Some, None, String, string_bytes, encode_utf8}
-use Rattle.std.specs.BTreeMap.{BTreeMap, get_by}
+use Rattle.std.specs.Prelude.{◌≡◌, ℕ, ◌+◌, ◌*◌, ◌-◌, ◌≤◌, ◌<◌, ◌⊎◌, ◌≢◌, ℤ, pos, neg_ℤ, List, [], ◌∷◌, ◌++◌, length, min, Option, Some, None, encode_utf8}
 use Rattle.std.specs.Borrow.{Bor}
 use Rattle.std.specs.Char.{IsScalar}
-use Rattle.std.specs.Cmp.Lexicographic.{slice_cmp}
 use Rattle.std.specs.List.{All, flat_map}
-use Rattle.std.specs.Ordering.{nat_cmp}
 use Rattle.std.specs.Str.Parse.{IsNumeral, digits_value}
-use Rattle.std.specs.declared.alloc.Global.{Global}
+use Rattle.vast_names.specs.Map.{meaning as meant_by}
 use Rattle.vast_list.specs.declared.arguments.Arguments.{Arguments}
 use Rattle.vast_list.specs.declared.names.Named.{Named}
 use Rattle.vast_list.specs.declared.names.Named.TheVariants.{Handle, Skipped, Number as NumberNamed}
@@ -77,8 +74,8 @@ abbrev pub IsPlaceOf : (skipped : List ℕ) → (number place : ℕ) → Type 0
 IsPlaceOf skipped number place = skipped ≡ [] → place ≡ min number 18446744073709551614
 
 -- What a name stands for.
-abbrev pub meaning : BTreeMap (String Global) Named → List ℕ → Option Named
-meaning names name = get_by (λ (key : String Global). slice_cmp nat_cmp name (string_bytes key)) names
+abbrev pub meaning : (List (List ℕ) × List (Option Named)) → List ℕ → Option Named
+meaning names = meant_by names
 
 -- By what the names so far stand for, and the numbers of the lines that were passed over.
 module _ (named : List ℕ → Option Named) (skipped : List ℕ) where

@@ -88,7 +88,7 @@ impl<'a> Arguments<'a> {
     pub(crate) fn named(&self, name: &str) -> Option<Named>
         ensures { result ≡ meaning self.now.known.names.now name.now }
     {
-        self.known.names.get(name).copied()
+        self.known.names.get(name)
     }
 
     /// The place among the answers of the step of this number.

@@ -170,7 +170,7 @@ fn check_name(known: Known<'_>, text: &str, name: Option<&str>) -> Result<(), Mi
         let problem = Problem::NotAName;
         return Err(Misfit { left, problem });
     }
-    if known.names.contains_key(name) {
+    if known.names.get(name).is_some() {
         let problem = Problem::NameTaken;
         return Err(Misfit { left, problem });
     }

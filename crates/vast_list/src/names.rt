@@ -1,6 +1,6 @@
 //! The names of a list.
 
-use std::collections::BTreeMap;
+use vast_names::NameMap;
 
 /// What a name of a list stands for.
 #[derive(Clone, Copy)]
@@ -16,7 +16,7 @@ pub(crate) enum Named {
 }
 
 /// The names so far.
-pub(crate) type Names = BTreeMap<String, Named>;
+pub(crate) type Names = NameMap<Named>;
 
 /// A name begins with a letter or `_`, and goes on with those and digits.
 pub(crate) fn is_name(word: &str) -> bool {

@@ -58,18 +58,12 @@ fn make_call(file: &mut VastFile, answers: &[Answer], call: &Call) -> Result<Ans
 }
 
 /// The name stands for this from now on.
-fn enter(
-    alloc: Global,
-    names: &mut Names,
-    name: Option<&str>,
-    stands_for: Named,
-) -> Result<(), AllocError>
+fn enter(names: &mut Names, name: Option<&str>, stands_for: Named) -> Result<(), AllocError>
     ensures entered { OnOk result
         (meaning names.new ≡ entered (meaning names.old) (option_copied name.entry) stands_for) }
     ensures left { OnErr result (meaning names.new ≡ meaning names.old) }
 {
     if let Some(name) = name {
-        let name = String::from_str(alloc, name)?;
         names.insert(name, stands_for)?;
     }
     Ok(())
@@ -80,7 +74,7 @@ fn forget(names: &mut Names, name: Option<&str>)
     ensures { meaning names.new ≡ forgotten (meaning names.old) (option_copied name.entry) }
 {
     if let Some(name) = name {
-        let _ = names.remove(name);
+        names.remove(name);
     }
 }
 
@@ -131,8 +125,7 @@ impl Session {
         match action {
             Action::Ask(question) => {
                 let value = self.ask(number, text, call, &question)?;
-                let alloc = self.file.allocator();
-                enter(alloc, &mut self.names, name, named(&value))?;
+                enter(&mut self.names, name, named(&value))?;
                 Ok(Given::Answer { call, value })
             }
             Action::Call(made) => {
@@ -178,9 +171,8 @@ impl Session {
             self.skipped.reserve(1)?;
         }
         if let Some(name) = name {
-            if is_name(name) && !self.names.contains_key(name) {
-                let alloc = self.file.allocator();
-                enter(alloc, &mut self.names, Some(name), Named::Skipped)?;
+            if is_name(name) && self.names.get(name).is_none() {
+                enter(&mut self.names, Some(name), Named::Skipped)?;
             }
         }
         if !call.starts_with('?') {
@@ -311,9 +303,8 @@ impl Session {
     {
         self.answers.reserve(1)?;
         self.lines.reserve(1)?;
-        let alloc = self.file.allocator();
         let place = self.answers.len();
-        enter(alloc, &mut self.names, name, Named::Handle(place))?;
+        enter(&mut self.names, name, Named::Handle(place))?;
         match make_call(&mut self.file, &self.answers, made) {
             Ok(answer) => {
                 self.answers.push(answer)?;
