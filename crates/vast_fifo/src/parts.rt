@@ -27,44 +27,46 @@ pub(crate) fn make_bits(width: i64, file: &mut VastFile) -> Result<VastDataType,
     Ok(file.make_bit_vector_type(width, false)?)
 }
 
-/// An input of this name.
+/// An input of this name, of so many bits.
 pub(crate) fn add_input(
     owner: VastModule,
     name: &str,
-    data_type: VastDataType,
+    width: i64,
     file: &mut VastFile,
 ) -> Result<Expr, FifoFault>
     requires owner { OwnsModule file.old owner }
-    requires data_type { OwnsType file.old data_type }
+    requires width { pos 1 ≤ℤ width }
     ensures answer { IfOk result (λ e. OwnsExpr file.new e) }
     ensures exprs { (e : Expr) → OwnsExpr file.old e → OwnsExpr file.new e }
     ensures types { (t : VastDataType) → OwnsType file.old t → OwnsType file.new t }
     ensures modules { (m : VastModule) → OwnsModule file.old m → OwnsModule file.new m }
 {
+    let bits = make_bits(width, file)?;
     if !file.name_is_free(owner, name) {
         return Err(FifoFault::Taken);
     }
-    Ok(file.add_input(owner, name, &data_type)?.to_expr())
+    Ok(file.add_input(owner, name, &bits)?.to_expr())
 }
 
-/// An output of this name.
+/// An output of this name, of so many bits.
 pub(crate) fn add_output(
     owner: VastModule,
     name: &str,
-    data_type: VastDataType,
+    width: i64,
     file: &mut VastFile,
 ) -> Result<Expr, FifoFault>
     requires owner { OwnsModule file.old owner }
-    requires data_type { OwnsType file.old data_type }
+    requires width { pos 1 ≤ℤ width }
     ensures answer { IfOk result (λ e. OwnsExpr file.new e) }
     ensures exprs { (e : Expr) → OwnsExpr file.old e → OwnsExpr file.new e }
     ensures types { (t : VastDataType) → OwnsType file.old t → OwnsType file.new t }
     ensures modules { (m : VastModule) → OwnsModule file.old m → OwnsModule file.new m }
 {
+    let bits = make_bits(width, file)?;
     if !file.name_is_free(owner, name) {
         return Err(FifoFault::Taken);
     }
-    Ok(file.add_output(owner, name, &data_type)?.to_expr())
+    Ok(file.add_output(owner, name, &bits)?.to_expr())
 }
 
 /// A variable of this name.

@@ -84,9 +84,8 @@ fn add_clock(owner: VastModule, file: &mut VastFile) -> Result<Clock, FifoFault>
     ensures types { (t : VastDataType) → OwnsType file.old t → OwnsType file.new t }
     ensures modules { (m : VastModule) → OwnsModule file.old m → OwnsModule file.new m }
 {
-    let bit = make_bits(1, file)?;
-    let clk = add_input(owner, "clk", bit, file)?;
-    let rst = add_input(owner, "rst", bit, file)?;
+    let clk = add_input(owner, "clk", 1, file)?;
+    let rst = add_input(owner, "rst", 1, file)?;
     Ok(Clock { clk, rst })
 }
 
@@ -99,10 +98,8 @@ fn add_write(owner: VastModule, width: i64, file: &mut VastFile) -> Result<Acces
     ensures types { (t : VastDataType) → OwnsType file.old t → OwnsType file.new t }
     ensures modules { (m : VastModule) → OwnsModule file.old m → OwnsModule file.new m }
 {
-    let bit = make_bits(1, file)?;
-    let asked = add_input(owner, "write", bit, file)?;
-    let bits = make_bits(width, file)?;
-    let word = add_input(owner, "write_data", bits, file)?;
+    let asked = add_input(owner, "write", 1, file)?;
+    let word = add_input(owner, "write_data", width, file)?;
     Ok(Access { asked, word })
 }
 
@@ -115,10 +112,8 @@ fn add_read(owner: VastModule, width: i64, file: &mut VastFile) -> Result<Access
     ensures types { (t : VastDataType) → OwnsType file.old t → OwnsType file.new t }
     ensures modules { (m : VastModule) → OwnsModule file.old m → OwnsModule file.new m }
 {
-    let bit = make_bits(1, file)?;
-    let asked = add_input(owner, "read", bit, file)?;
-    let bits = make_bits(width, file)?;
-    let word = add_output(owner, "read_data", bits, file)?;
+    let asked = add_input(owner, "read", 1, file)?;
+    let word = add_output(owner, "read_data", width, file)?;
     Ok(Access { asked, word })
 }
 
@@ -130,9 +125,8 @@ fn add_hindered(owner: VastModule, file: &mut VastFile) -> Result<Sides, FifoFau
     ensures types { (t : VastDataType) → OwnsType file.old t → OwnsType file.new t }
     ensures modules { (m : VastModule) → OwnsModule file.old m → OwnsModule file.new m }
 {
-    let bit = make_bits(1, file)?;
-    let write = add_output(owner, "full", bit, file)?;
-    let read = add_output(owner, "empty", bit, file)?;
+    let write = add_output(owner, "full", 1, file)?;
+    let read = add_output(owner, "empty", 1, file)?;
     Ok(Sides { write, read })
 }
 
