@@ -1,6 +1,7 @@
-//! Prints the examples that its words name: `vast_show counter states pipeline registers hierarchy`.
+//! Prints the examples that its words name: `vast_show counter states pipeline registers hierarchy fifo uart`.
 #![tactic(auto)]
 
+mod designs;
 mod program;
 
 use program::{fail, run};

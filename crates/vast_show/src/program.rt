@@ -1,8 +1,10 @@
 //! What the program does with its words.
 
-ghost use Rattle.std.specs.Prelude.{◌≡◌, ◌≤◌, length};
+ghost use Rattle.std.specs.Prelude.{◌≡◌, ◌≤◌, length, IfOk, string_bytes};
+ghost use Rattle.vast_print.specs.Layout.{IsFileText};
 ghost use Rattle.vast_show.specs.Shown.{ShowsFile, ShowsFiles};
 
+use crate::designs::{fifo, uart};
 use std::alloc::Global;
 use std::fmt::Display;
 use std::io::Write;
@@ -24,13 +26,33 @@ pub(crate) fn run<W: Write, E: Write>(alloc: Global, words: &[&str], out: &mut W
     0
 }
 
-/// Prints one example.
+/// Prints one example: a queue, a transmitter, or one of `vast_examples`.
 fn show<W: Write, E: Write>(alloc: Global, word: &str, out: &mut W, err: &mut E) -> u8
     ensures status { result ≤ 1 }
     ensures shown { result ≡ 0 → ShowsFile (W.contents out.old) (W.contents out.new) }
     ensures silent { result ≡ 0 → E.contents err.new ≡ E.contents err.old }
 {
-    match example(alloc, word) {
+    if word == "fifo" {
+        print(fifo(alloc, 8, 16), out, err)
+    } else if word == "uart" {
+        print(uart(alloc, 4), out, err)
+    } else {
+        print(example(alloc, word), out, err)
+    }
+}
+
+/// Prints the text, or says why there is none.
+fn print<F: Display + Drop, W: Write, E: Write>(
+    text: Result<String, F>,
+    out: &mut W,
+    err: &mut E,
+) -> u8
+    requires { IfOk text (λ t. IsFileText (string_bytes t)) }
+    ensures status { result ≤ 1 }
+    ensures shown { result ≡ 0 → ShowsFile (W.contents out.old) (W.contents out.new) }
+    ensures silent { result ≡ 0 → E.contents err.new ≡ E.contents err.old }
+{
+    match text {
         Ok(text) => match out.write_all(text.as_bytes()) {
             Ok(()) => 0,
             Err(_) => fail("write fault", err),

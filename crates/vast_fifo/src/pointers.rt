@@ -1,0 +1,96 @@
+//! The pointers of the queue: registers that are 0 at a reset, and one more where a word is written or read.
+
+ghost use Rattle.std.specs.Prelude.{◌≤ℤ◌, pos, IfOk};
+ghost use Rattle.vast_core.specs.Bench.{OwnsExpr, OwnsModule, OwnsType};
+ghost use Rattle.xlsynth_vast.specs.Registers.{OwnsRegister};
+
+use crate::fault::FifoFault;
+use crate::parts::make_number;
+use crate::signals::{Clock, State};
+use xlsynth_vast::helpers::{RegisterDefinition, RegisterScope, Reset, add_registers};
+use xlsynth_vast::{Expr, VastDataType, VastFile, VastModule};
+
+pub(crate) fn add_pointers(
+    owner: VastModule,
+    clock: &Clock,
+    state: &State,
+    address: i64,
+    file: &mut VastFile,
+) -> Result<(), FifoFault>
+    requires owner { OwnsModule file.old owner }
+    requires fits { address ≤ℤ pos 62 }
+    requires clk { OwnsExpr file.old clock.now.clk }
+    requires rst { OwnsExpr file.old clock.now.rst }
+    requires head { OwnsExpr file.old state.now.pointers.write }
+    requires tail { OwnsExpr file.old state.now.pointers.read }
+    requires writes { OwnsExpr file.old state.now.strobes.write }
+    requires reads { OwnsExpr file.old state.now.strobes.read }
+    ensures exprs { (e : Expr) → OwnsExpr file.old e → OwnsExpr file.new e }
+    ensures types { (t : VastDataType) → OwnsType file.old t → OwnsType file.new t }
+    ensures modules { (m : VastModule) → OwnsModule file.old m → OwnsModule file.new m }
+{
+    let pointers = &state.pointers;
+    let head = make_register(pointers.write, state.strobes.write, address + 1, file)?;
+    let tail = make_register(pointers.read, state.strobes.read, address + 1, file)?;
+    add_both(owner, clock, head, tail, file)
+}
+
+/// The pointer of so many bits as a register: one more where it is enabled.
+fn make_register(
+    pointer: Expr,
+    enable: Expr,
+    width: i64,
+    file: &mut VastFile,
+) -> Result<RegisterDefinition, FifoFault>
+    requires pointer { OwnsExpr file.old pointer }
+    requires enable { OwnsExpr file.old enable }
+    ensures answer { IfOk result (λ r. OwnsRegister file.new r) }
+    ensures exprs { (e : Expr) → OwnsExpr file.old e → OwnsExpr file.new e }
+    ensures types { (t : VastDataType) → OwnsType file.old t → OwnsType file.new t }
+    ensures modules { (m : VastModule) → OwnsModule file.old m → OwnsModule file.new m }
+{
+    let zero = make_number(width, 0, file)?;
+    let next = make_next(pointer, width, file)?;
+    Ok(RegisterDefinition {
+        reg: pointer,
+        next,
+        reset_value: Some(zero),
+        enable: Some(enable),
+    })
+}
+
+fn make_next(pointer: Expr, width: i64, file: &mut VastFile) -> Result<Expr, FifoFault>
+    requires pointer { OwnsExpr file.old pointer }
+    ensures answer { IfOk result (λ e. OwnsExpr file.new e) }
+    ensures exprs { (e : Expr) → OwnsExpr file.old e → OwnsExpr file.new e }
+    ensures types { (t : VastDataType) → OwnsType file.old t → OwnsType file.new t }
+    ensures modules { (m : VastModule) → OwnsModule file.old m → OwnsModule file.new m }
+{
+    let one = make_number(width, 1, file)?;
+    Ok(file.make_add(&pointer, &one)?)
+}
+
+fn add_both(
+    owner: VastModule,
+    clock: &Clock,
+    head: RegisterDefinition,
+    tail: RegisterDefinition,
+    file: &mut VastFile,
+) -> Result<(), FifoFault>
+    requires owner { OwnsModule file.old owner }
+    requires clk { OwnsExpr file.old clock.now.clk }
+    requires rst { OwnsExpr file.old clock.now.rst }
+    requires head { OwnsRegister file.old head }
+    requires tail { OwnsRegister file.old tail }
+    ensures exprs { (e : Expr) → OwnsExpr file.old e → OwnsExpr file.new e }
+    ensures types { (t : VastDataType) → OwnsType file.old t → OwnsType file.new t }
+    ensures modules { (m : VastModule) → OwnsModule file.old m → OwnsModule file.new m }
+{
+    let reset = Reset {
+        signal: clock.rst,
+        active_low: false,
+    };
+    let scope = RegisterScope::Module(owner);
+    add_registers(&clock.clk, Some(reset), &[head, tail], scope, file)?;
+    Ok(())
+}

@@ -1,0 +1,51 @@
+//! A transmitter of bytes, 8 data bits and 1 stop bit, as a user's crate over `xlsynth_vast`.
+//!
+//! Where it is not busy, `start` takes the byte. The line is low for one bit, holds the byte from its lowest bit on, and
+//! is high for one bit at least.
+#![tactic(auto, using(xlsynth_vast::proofs::Callers::callers))]
+
+ghost use Rattle.std.specs.Prelude.{◌≤ℤ◌, pos, IfOk};
+ghost use Rattle.vast_core.specs.Bench.{OwnsModule, OwnsBlock, OwnsExpr, OwnsType};
+
+mod branches;
+mod fault;
+mod parts;
+mod sender;
+mod signals;
+
+pub use fault::UartFault;
+use parts::add_owner;
+use sender::add_sender;
+use signals::{add_outputs, add_ports, add_state};
+use xlsynth_vast::{Expr, VastDataType, VastFile, VastModule, VastStatementBlock};
+
+/// Adds the module `uart_tx`, which sends a bit in so many clocks, and answers it.
+///
+/// # Errors
+/// `Clocks` where a bit has no clock; want of memory.
+pub fn add_uart(file: &mut VastFile, clocks: i64) -> Result<VastModule, UartFault>
+    ensures answer { IfOk result (λ m. OwnsModule file.new m) }
+    ensures exprs { (e : Expr) → OwnsExpr file.old e → OwnsExpr file.new e }
+    ensures types { (t : VastDataType) → OwnsType file.old t → OwnsType file.new t }
+    ensures modules { (m : VastModule) → OwnsModule file.old m → OwnsModule file.new m }
+    ensures blocks { (x : VastStatementBlock) → OwnsBlock file.old x → OwnsBlock file.new x }
+{
+    if clocks < 1 {
+        return Err(UartFault::Clocks);
+    }
+    let owner = add_owner("uart_tx", file)?;
+    let ports = add_ports(owner, file)?;
+    let state = add_state(owner, timer_bits(clocks), file)?;
+    add_outputs(owner, &ports, &state, file)?;
+    add_sender(owner, &ports, &state, clocks, file)?;
+    Ok(owner)
+}
+
+/// How many bits count the clocks of a bit, from 0.
+fn timer_bits(clocks: i64) -> i64
+    requires { pos 1 ≤ℤ clocks }
+    ensures { pos 1 ≤ℤ result }
+{
+    let bits = 64 - i64::from((clocks - 1).leading_zeros());
+    bits.max(1)
+}
