@@ -29,6 +29,11 @@ def without_field_names(text):
     return re.sub(r"([{;]\s*)([^\s{};=:]+)(\s=\s)", r"\1\3", text)
 
 
+def said_in(lines):
+    """What lines of comments say, as one text."""
+    return " ".join(it.strip().removeprefix("--").strip() for it in lines).strip()
+
+
 def words_in(text):
     """The words of a text; of `p.text` also `p`."""
     found = []
@@ -54,10 +59,10 @@ def bound_in(text):
 
 
 class Definition:
-    """A definition: its module, file, name, kind, first line, and its lines without comments and texts."""
+    """A definition: its module, file, name, kind, the comment above it, and its lines without comments and texts."""
 
-    def __init__(self, module, path, name, kind, start):
-        self.module, self.path, self.name, self.kind, self.start = module, path, name, kind, start
+    def __init__(self, module, path, name, kind, comment):
+        self.module, self.path, self.name, self.kind, self.comment = module, path, name, kind, comment
         self.lines = []
         self.constructors = []
         self.fields = []
@@ -106,7 +111,7 @@ class Definition:
 
 
 class Module:
-    """A file of specs/: its imports and its definitions in their order."""
+    """A file of specs/: the comment at its top, its imports, and its definitions in their order."""
 
     def __init__(self, name, path):
         self.name, self.path = name, path
@@ -114,6 +119,7 @@ class Module:
         self.definitions, self.by_constructor = {}, {}
         with open(path, encoding="utf-8") as it:
             text = it.read()
+        self.comment = said_in(re.match(r"(?:--.*\n)*", text)[0].split("\n"))
         for found in IMPORT.finditer(text):
             self.read_import(found)
         text = IMPORT.sub(lambda found: re.sub(r"[^\n]", " ", found[0]), text)
@@ -135,28 +141,30 @@ class Module:
                 self.handed_on[parts[-1]] = module, parts[0]
 
     def read_definitions(self, text):
-        current, shift = None, 0
-        for number, raw in enumerate(text.split("\n"), 1):
+        current, shift, above = None, 0, []
+        for raw in text.split("\n"):
             line = without_comment(without_strings(raw))
             if not line.strip():
+                above = [*above, raw] if raw.strip() else []
                 continue
             indent = len(line) - len(line.lstrip())
             if indent == 0:
-                shift = 2 if re.match(rf"^{MODIFIERS}mutual\s*$", line) else 0
+                shift = 2 if re.match(rf"^{MODIFIERS}mutual\s*$|^module\s", line) else 0
                 if shift or re.match(r"^(pub\s+)?mod\s|^infix[lr]?\s", line):
                     current = None
                     continue
             if indent == shift:
                 head = line[shift:]
                 if found := DATA.match(head):
-                    current = self.define(found[3], found[2], number)
+                    current = self.define(found[3], found[2], said_in(above))
                 elif (found := SIGNATURE.match(head)) and found[2] != "unfolding":
-                    current = self.define(found[2], "function", number)
+                    current = self.define(found[2], "function", said_in(above))
             if current is not None:
                 current.lines.append(line)
+            above = []
 
-    def define(self, name, kind, number):
-        it = Definition(self.name, self.path, name, kind, number)
+    def define(self, name, kind, comment):
+        it = Definition(self.name, self.path, name, kind, comment)
         self.definitions[name] = it
         return it
 
