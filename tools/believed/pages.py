@@ -3,7 +3,7 @@ import os
 
 BELIEVED = """# What must be believed
 
-Written by `tools/believed/run --write`, and the gate fails where it is not true: so no definition comes under a claim unseen. A claim is the contract of a public function; it rests on the definitions that its clauses name, and on those that these name, and so on. What the contract of some public function rests on stands in a crate's `specs/` itself, and nothing else does; what only private contracts name stands in `specs/Internal/`, and what proofs alone name in `proofs/`: these two are checked by the prover and need not be read. The gate fails where a definition stands in the wrong one. Where to begin: `crates/vast_script/specs/Headline.antt`, which says what to read in which order. `docs/DEFINITIONS.md` has the definitions, file by file, and marks those that the first claim rests on. Lines are counted without comments, blank lines and imports.
+Written by `tools/believed/run --write`, and the gate fails where it is not true: so no definition comes under a claim unseen. A claim is the contract of a public function, or of one of a program's `main.rt`; it rests on the definitions that its clauses name, and on those that these name, and so on. What the contract of some public function rests on stands in a crate's `specs/` itself, and nothing else does; what only private contracts name stands in `specs/Internal/`, and what proofs alone name in `proofs/`: these two are checked by the prover and need not be read. The gate fails where a definition stands in the wrong one. Where to begin: `crates/vast_script/specs/Headline.antt`, which says what to read in which order. `docs/DEFINITIONS.md` has the definitions, file by file, and marks those that the first claim rests on. Lines are counted without comments, blank lines and imports.
 
 | Claim | Definitions | Lines | Files |
 |---|---|---|---|
@@ -40,7 +40,7 @@ def rows_of(module, headline, claimed):
     rows = []
     for it in module.definitions.values():
         if it.comment or not rows:
-            rows.append(([], it.comment))
+            rows.append(([], it.comment or module.comment))
         rows[-1][0].append(marked(it, headline, claimed))
     name = os.path.basename(module.path)
     for names, comment in rows:

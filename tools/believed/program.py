@@ -6,7 +6,7 @@ from theory import RESERVED, bound_in, without_strings, words_in
 
 USE = re.compile(r"(?m)^[ \t]*ghost\s+use\s+([\w.\-]+?)(?:\.\{([^}]*)\}|\s+as\s+([\w\-]+))?\s*;")
 ITEM = re.compile(
-    r"(?P<fn>(?P<public>pub(?:\([^)]*\))?\s+)?(?:const\s+)?fn\s+(?P<name>\w+))"
+    r"(?P<fn>(?P<public>pub(?:\([^)]*\))?\s+)?(?:const\s+|extern\s+\"[^\"]*\"\s+)?fn\s+(?P<name>\w+))"
     r"|(?P<impl>\bimpl\b(?:<[^{]*?>)?\s+(?P<head>[^{;]+?)\s*\{)"
     r"|(?P<trait>trait\s+(?P<trait_name>\w+)[^{;]*\{)"
     r"|(?P<open>\{)|(?P<close>\})"
@@ -38,7 +38,9 @@ def matching(text, start):
 
 
 class Function:
-    """A function, with its path below the crate, its line, its signature and its clauses."""
+    """A function, with its path below the crate, its line, its signature and its clauses.
+
+    Public are those that are `pub`, and those of a program's src/main.rt: what they say is what the program does."""
 
     def __init__(self, source, path, is_public, line):
         self.source, self.path, self.is_public, self.line = source, path, is_public, line
@@ -69,6 +71,7 @@ class Source:
                 self.imports[parts[-1]] = found[1], parts[0]
         parts = os.path.relpath(path, base).removesuffix(".rt").split("/")
         self.module = [] if parts in (["lib"], ["main"]) else parts
+        self.is_root_of_program = parts == ["main"]
         self.functions = list(self.read())
 
     def read(self):
@@ -93,7 +96,8 @@ class Source:
 
     def function(self, found, owner):
         path = [*self.module, *([owner] if owner else []), found["name"]]
-        return Function(self, path, (found["public"] or "").strip() == "pub", self.text[: found.start()].count("\n") + 1)
+        is_public = (found["public"] or "").strip() == "pub" or self.is_root_of_program
+        return Function(self, path, is_public, self.text[: found.start()].count("\n") + 1)
 
     def read_clauses(self, function, start):
         """Reads a signature up to its first clause, body or semicolon, and the clauses; answers where they end."""
