@@ -38,9 +38,7 @@ def matching(text, start):
 
 
 class Function:
-    """A function, with its path below the crate, its line, its signature and its clauses.
-
-    Public are those that are `pub`, and those of a program's src/main.rt: what they say is what the program does."""
+    """A function, with its path below the crate, its line, its signature and its clauses."""
 
     def __init__(self, source, path, is_public, line):
         self.source, self.path, self.is_public, self.line = source, path, is_public, line
@@ -96,8 +94,7 @@ class Source:
 
     def function(self, found, owner):
         path = [*self.module, *([owner] if owner else []), found["name"]]
-        is_public = (found["public"] or "").strip() == "pub" or self.is_root_of_program
-        return Function(self, path, is_public, self.text[: found.start()].count("\n") + 1)
+        return Function(self, path, (found["public"] or "").strip() == "pub", self.text[: found.start()].count("\n") + 1)
 
     def read_clauses(self, function, start):
         """Reads a signature up to its first clause, body or semicolon, and the clauses; answers where they end."""
