@@ -42,7 +42,7 @@ class Function:
 
     def __init__(self, source, path, is_public, line):
         self.source, self.path, self.is_public, self.line = source, path, is_public, line
-        self.signature, self.clauses = "", []
+        self.signature, self.clauses, self.body = "", [], ""
 
     def words(self):
         parameters = set(re.findall(r"(\w+)\s*:", self.signature)) | {"self", "result"}
@@ -79,6 +79,7 @@ class Source:
             if found["fn"]:
                 function = self.function(found, owners[-1][1] if owners else None)
                 i = self.read_clauses(function, i)
+                function.body = self.text[i : matching(self.text, i)]
                 yield function
             elif found["close"]:
                 depth -= 1
