@@ -5,7 +5,7 @@ use Rattle.std.specs.declared.alloc.Global.{Global}
 use Rattle.vast_core.specs.Bench.{start}
 use Rattle.vast_core.specs.FileTree.{tree}
 use Rattle.vast_literal.specs.declared.kind.VastFileType.{VastFileType}
-use Rattle.vast_list.specs.Session.{Gives, IsFileLeft, IsSame, IsTextOf}
+use Rattle.vast_list.specs.Session.{Gives, IsFileLeft, IsTextOf}
 use Rattle.vast_list.specs.declared.fault.Fault.TheVariants.{Memory as FaultMemory}
 use Rattle.vast_list.specs.declared.session.Given.{Given}
 use Rattle.vast_list.specs.declared.session.Session.{Session}
@@ -20,34 +20,14 @@ use Rattle.vast_c.specs.declared.kept.Told.{Told}
 abbrev pub IsSameTree : (before after : Session) → Type 0
 IsSameTree before after = IsFileLeft before after FaultMemory
 
--- A line that gives nothing leaves the session as it was; where memory was refused, its tree and its answers.
-abbrev pub LeftBy : (before after : Session) → Cause → Type 0
-LeftBy before after Refused = IsSame before after
-LeftBy before after Condition = IsSame before after
-LeftBy before after Form = IsSame before after
-LeftBy before after Memory = IsSameTree before after
-
-abbrev pub LeftIfAny : (before after : Session) → Option Cause → Type 0
-LeftIfAny before after None = after ≡ before
-LeftIfAny before after (Some cause) = LeftBy before after cause
-
 -- Lines gave these, one after another.
 abbrev pub Gave : (before : Session) → List Given → (after : Session) → Type 0
 Gave before [] after = after ≡ before
 Gave before (given ∷ more) after = (between : Session) × (line : List ℕ) × Gives before between line given × Gave between more after
 
--- One line gave something.
-abbrev pub GaveOne : (before after : Session) → Type 0
-GaveOne before after = (line : List ℕ) × (given : Given) × Gives before after line given
-
 -- Lines of this number gave what they gave.
 abbrev pub GaveSome : (before : Session) → ℕ → (after : Session) → Type 0
 GaveSome before taken after = (given : List Given) × (length given ≡ taken) × Gave before given after
-
--- So many lines gave what they gave, and the next one, if there was one, nothing.
-abbrev pub MadeAll : (before : Session) → ℕ → Option Cause → (after : Session) → Type 0
-MadeAll before taken cause after =
-    (between : Session) × GaveSome before taken between × LeftIfAny between after cause
 
 -- So many lines gave what they gave to the session that is open, and since then it is the same but for what Same leaves out.
 abbrev pub Made : Option Kept → ℕ → (Same : Session → Session → Type 0) → Option Kept → Type 0

@@ -20,7 +20,7 @@ pub struct Handle {
 }
 
 impl Model for Handle {
-    ghost use Rattle.vast_handle.specs.Kept.{holds};
+    ghost use Rattle.vast_handle.specs.Internal.Kept.{holds};
     ghost use Rattle.vast_c.specs.contracts.kept.Kept.{the_row as kept_row};
 
     ghost also_owns = { λ h. holds kept_row h.alloc h.at h.kept };

@@ -4,10 +4,6 @@ use Rattle.std.specs.Io.KnownBytes.{Appends}
 use Rattle.vast_input.specs.Input.{GivesAll}
 use Rattle.vast_literal.specs.NormalFile.{NormalFile}
 use Rattle.vast_literal.specs.FileGrammar.{DerivesFile}
-use Rattle.vast_check.specs.declared.answer.Answer.{Answer}
-use Rattle.vast_check.specs.declared.answer.Answer.TheVariants.{Derived}
-use Rattle.vast_check.specs.declared.same.Found.{Found}
-use Rattle.vast_check.specs.declared.same.Found.TheVariants.{Same}
 
 -- the bytes are the UTF-8 of a text that the grammar derives
 abbrev pub IsDerived : List ℕ → Type 0
@@ -25,16 +21,6 @@ TellsDerived name before after old new = (bytes : List ℕ) × GivesAll before a
 abbrev pub TellsUnderived : (before after : Option (List ℕ)) → Type 0
 TellsUnderived before after = (bytes : List ℕ) × GivesAll before after bytes × (IsDerived bytes → ⊥)
 
--- It is said that bytes are derived exactly where they are.
-abbrev pub Answers : List ℕ → Answer → Type 0
-Answers bytes Derived = IsDerived bytes
-Answers bytes _ = IsDerived bytes → ⊥
-
 -- Both are the UTF-8 of texts, and the grammar derives one file from both.
 abbrev pub AreSame : (old new : List ℕ) → Type 0
 AreSame old new = IsUtf8 old × IsUtf8 new × ((t : NormalFile) × DerivesFile old t × DerivesFile new t)
-
--- It is said that two are the same exactly where they are.
-abbrev pub Compares : (old new : List ℕ) → Found → Type 0
-Compares old new Same = AreSame old new
-Compares old new _ = AreSame old new → ⊥

@@ -3,7 +3,7 @@
 ghost use Rattle.std.specs.Prelude.{◌≡◌, ◌≤◌, ◌+◌, length, take};
 ghost use Rattle.std.specs.List.{count_by, suffix_len};
 ghost use Rattle.std.specs.Fmt.{is_char_start};
-ghost use Rattle.vast_check.specs.Places.{is_break, is_no_break, last_line, line_at, column_at};
+ghost use Rattle.vast_check.specs.Internal.Places.{is_break, is_no_break, last_line, line_at, column_at};
 
 /// A line and a column, both from one.
 #[derive(Clone, Copy)]

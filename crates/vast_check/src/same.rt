@@ -2,7 +2,8 @@
 
 ghost use Rattle.std.specs.Prelude.{◌≡◌, ◌≢◌, IfOk, codes, string_bytes};
 ghost use Rattle.std.specs.Io.KnownBytes.{Appends};
-ghost use Rattle.vast_check.specs.Check.{AreSame, Compares};
+ghost use Rattle.vast_check.specs.Check.{AreSame};
+ghost use Rattle.vast_check.specs.Internal.Check.{Compares};
 
 use crate::answer::{Answer, answer_of};
 use crate::difference::{Pair, difference, push_line_at, push_number};

@@ -2,7 +2,7 @@
 use Rattle.std.proofs.Common.{◌≡◌, ℕ, ◌<◌, ◌≤◌, List, [], ◌∷◌, length, Option, Some, None, slice_get, refl, arith, length-append}
 use Rattle.std.specs.Prelude.{IfSome}
 use Rattle.vast_core.specs.Sound.{Each}
-use Rattle.vast_core.specs.Containers.{added}
+use Rattle.vast_core.specs.Internal.Containers.{added}
 use Rattle.vast_core.proofs.Lists.{slice_get-append, Each-push}
 use Rattle.vast_core.proofs.Nests.{get-before}
 

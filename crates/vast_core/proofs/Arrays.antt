@@ -7,7 +7,8 @@ use Rattle.vast_core.specs.Handles.{type_rank}
 use Rattle.vast_core.specs.Types.{TypeWellFormed}
 use Rattle.vast_literal.specs.Shape.{base_of}
 use Rattle.vast_core.specs.Bench.{Bench, OwnsType, type_of}
-use Rattle.vast_core.specs.BitCount.{product, dimensions_of, base_bits, bit_count, Exceeds, IsArrayOf}
+use Rattle.vast_core.specs.BitCount.{product, dimensions_of, base_bits, bit_count, Exceeds}
+use Rattle.vast_core.specs.Internal.BitCount.{IsArrayOf}
 use Rattle.vast_core.proofs.Products.{product-positive, product-append, regroup, one-times, at-least, positive-product, ≤ℤ_trans, dimensions-positive}
 
 pub packed-array :

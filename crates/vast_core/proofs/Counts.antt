@@ -3,7 +3,7 @@ use Rattle.std.proofs.Common.{◌≡◌, ℕ, zero, suc, ◌+◌, ◌≤◌, Boo
 use Rattle.std.proofs.lemmas.Grind.{flat_map-append}
 use Rattle.std.proofs.lemmas.List.Sums.{sum_by-append}
 use Rattle.vast_core.specs.Records.{changed_at}
-use Rattle.vast_core.specs.Containers.{added, read_off}
+use Rattle.vast_core.specs.Internal.Containers.{added, read_off}
 use Rattle.vast_core.specs.Hoisting.{parted, hoisted, is_declaration}
 use Rattle.vast_core.specs.Records.{MemberEntry}
 

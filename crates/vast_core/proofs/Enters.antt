@@ -15,7 +15,9 @@ use Rattle.vast_core.specs.Growth.{with_assignment, next_id}
 use Rattle.vast_core.specs.Artifacts.{next_statement}
 use Rattle.vast_core.specs.Parents.{held_by_statement}
 use Rattle.vast_core.specs.Sound.{AssignmentSound, StatementSound}
-use Rattle.vast_core.specs.Containers.{InNest, StatementEnters, ElseIfEnters, ElseEnters, CaseArmEnters, GrowthSound, FreshSound, no_fresh, fresh_assignment, fresh_block, fresh_container, next_block, next_conditional, next_case, new_conditional, new_case, with_block, with_conditional, with_case}
+use Rattle.vast_core.specs.Containers.{StatementEnters, ElseIfEnters, ElseEnters, CaseArmEnters, next_block, next_conditional, next_case, new_conditional, new_case, with_block, with_conditional, with_case}
+use Rattle.vast_core.specs.Internal.Containers.{InNest, GrowthSound, FreshSound, no_fresh, fresh_assignment, fresh_block}
+use Rattle.vast_core.proofs.Containers.{fresh_container}
 use Rattle.vast_core.proofs.Lists.{slice_get-seam}
 use Rattle.vast_core.proofs.Nests.{kind-there}
 use Rattle.vast_core.proofs.Sound.{never}

@@ -17,8 +17,10 @@ use Rattle.vast_core.specs.Nests.{BlockRecord, VariableRecord}
 use Rattle.vast_core.specs.Bench.{Bench, NameIsFree, OwnsExpr, OwnsType, OwnsBlock, OwnsModule, OwnsLoop, OwnsAlways, OwnsFunction, OwnsLogicRef, OwnsContinuous, type_of}
 use Rattle.vast_core.specs.Growth.{with_named_member, next_logic_ref, next_continuous, with_assignment}
 use Rattle.vast_core.specs.Sound.{EventSound}
-use Rattle.vast_core.specs.Containers.{after_growth, InModule, with_fresh, GrowthSound, FreshSound, next_block}
-use Rattle.vast_core.specs.Loops.{with_function, next_always, next_loop, next_function, new_always, with_always, fresh_always, new_loop, fresh_name, fresh_loop, new_function, fresh_function}
+use Rattle.vast_core.specs.Containers.{next_block}
+use Rattle.vast_core.specs.Internal.Containers.{after_growth, InModule, with_fresh, GrowthSound, FreshSound}
+use Rattle.vast_core.specs.Loops.{with_function, next_always, next_loop, next_function, new_always, with_always, new_loop, new_function}
+use Rattle.vast_core.proofs.Loops.{fresh_always, fresh_name, fresh_loop, fresh_function}
 use Rattle.vast_core.proofs.Lists.{slice_get-seam, Each-own}
 use Rattle.vast_core.proofs.NodeLaws.{Extends-root, HasExpr-kept, HasType-kept}
 use Rattle.vast_core.proofs.Terms.{last-test}

@@ -19,8 +19,8 @@ use Rattle.vast_core.specs.Bench.{Bench, OwnsExpr, OwnsType, OwnsModule, OwnsFun
 use Rattle.vast_core.specs.Growth.{next_port, next_logic_ref}
 use Rattle.vast_core.specs.Sound.{AssignmentSound, EntrySound, DefinitionSound, ArtifactSound, InstanceSound, GivesValues}
 use Rattle.vast_core.specs.WrittenKinds.{IsOwnKind, IsVariableKind}
-use Rattle.vast_core.specs.Containers.{Nowhere, InFile, InHeader, InPorts, InModule, InFunction, GrowthSound, Fresh, no_fresh, fresh_assignment, with_fresh}
-use Rattle.vast_core.specs.Loops.{fresh_name, name_term}
+use Rattle.vast_core.specs.Internal.Containers.{Nowhere, InFile, InHeader, InPorts, InModule, InFunction, GrowthSound, Fresh, no_fresh, fresh_assignment, with_fresh}
+use Rattle.vast_core.proofs.Loops.{fresh_name, name_term}
 use Rattle.vast_core.proofs.Lists.{slice_get-seam}
 use Rattle.vast_core.proofs.NodeLaws.{Extends-root, HasType-kept}
 use Rattle.vast_core.proofs.Sound.{MemberSound-kept, ParameterPortSound-kept, ArtifactSound-kept, InstanceSound-kept}

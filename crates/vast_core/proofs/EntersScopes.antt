@@ -19,11 +19,15 @@ use Rattle.vast_core.specs.Parents.{held_by_member}
 use Rattle.vast_core.specs.WrittenKinds.{HasOwnKind}
 use Rattle.vast_core.specs.Sound.{EventSound, FormSound, MemberSound, MemberNewer}
 use Rattle.vast_core.specs.Growth.{next_logic_ref, next_continuous, with_expr}
-use Rattle.vast_core.specs.Parameters.{IsDeclaredBy}
-use Rattle.vast_core.specs.Containers.{Fresh, FreshSound, GrowthSound, with_fresh, after_growth, no_fresh, fresh_assignment, fresh_container, next_conditional, new_conditional, made, held_by_fresh, spare_used}
-use Rattle.vast_core.specs.Loops.{next_always, next_loop, new_always, fresh_always, new_loop, fresh_loop, fresh_name, with_loop}
+use Rattle.vast_core.specs.Internal.Parameters.{IsDeclaredBy}
+use Rattle.vast_core.specs.Containers.{next_conditional, new_conditional}
+use Rattle.vast_core.specs.Internal.Containers.{Fresh, FreshSound, GrowthSound, with_fresh, after_growth, no_fresh, fresh_assignment, made, held_by_fresh, spare_used}
+use Rattle.vast_core.proofs.Containers.{fresh_container}
+use Rattle.vast_core.specs.Loops.{next_always, next_loop, new_always, new_loop, with_loop}
+use Rattle.vast_core.proofs.Loops.{fresh_always, fresh_loop, fresh_name}
 use Rattle.vast_core.specs.Unattached.{always_over}
-use Rattle.vast_core.specs.Scopes.{OwnsScope, IsShared, IsOlder, listing_in, with_scope_member, with_scope_parameter}
+use Rattle.vast_core.specs.Scopes.{OwnsScope, IsShared, IsOlder, with_scope_member, with_scope_parameter}
+use Rattle.vast_core.specs.Internal.Scopes.{listing_in}
 use Rattle.vast_core.proofs.Lists.{slice_get-seam}
 use Rattle.vast_core.proofs.Sound.{MemberSound-kept}
 use Rattle.vast_core.proofs.Growing.{Grows-fresh}

@@ -9,7 +9,8 @@ use Rattle.vast_core.specs.declared.node.Module.{Module}
 use Rattle.vast_core.specs.declared.node.Function.{Function}
 use Rattle.vast_core.specs.Raw.{Raw}
 use Rattle.vast_core.specs.Handles.{module_index, function_index}
-use Rattle.vast_core.specs.Nodes.{no_nodes, TermsSound}
+use Rattle.vast_core.specs.Nodes.{no_nodes}
+use Rattle.vast_core.specs.Internal.Nodes.{TermsSound}
 use Rattle.vast_core.specs.Records.{ParameterPortRecord, ModuleRecord, MemberEntry, InstanceRecord, changed_at, with_port, with_parameter_port, port_record, module_record, definition_record, artifact_record, instance_record, file_entry}
 use Rattle.vast_core.specs.Nests.{NestRecord, BlockRecord, ConditionalNestRecord, CaseNestRecord, LoopNestRecord, VariableRecord, FunctionRecord, nest_kind, is_block_kind, nest_record, function_record, always_record}
 use Rattle.vast_core.specs.Functions.{with_listed_variable}
@@ -19,9 +20,11 @@ use Rattle.vast_core.specs.Records.{IsFree}
 use Rattle.vast_core.specs.Nests.{declared_names}
 use Rattle.vast_core.specs.DeclaredNames.{NamesSound}
 use Rattle.vast_core.specs.Parents.{Part, places, held_by_module}
-use Rattle.vast_core.specs.Sound.{Each, PortSound, AssignmentSound, MemberSound, ParameterPortSound, ModuleSound, EntrySound, DefinitionSound, ArtifactSound, InstanceSound, NestSound, NestsSound, VariableSound, FunctionSound, AlwaysSound, RecordsSound, FileSound, IsSound, AreDistinct}
-use Rattle.vast_core.specs.Containers.{NestedEntry, StatementEnters, ElseIfEnters, ElseEnters, CaseArmEnters, MemberEnters, Listing, Nowhere, InFile, InHeader, InPorts, InModule, InFunction, InNest, AsSpare, with_entry, with_listed, listed_modules, listed_functions, listed_nests, listed_items, listed_spare, with_listing, added, with_empty_block, spare_left, with_fresh, Fresh, FreshSound, EntersSound, ListingSound, GrowthSound, ComesEmpty, FunctionComes, InstanceComes, read_off, after_growth}
-use Rattle.vast_core.specs.Arrivals.{ListingThere, fresh_node, fresh_of, terms_of}
+use Rattle.vast_core.specs.Sound.{Each, PortSound, AssignmentSound, MemberSound, ParameterPortSound, ModuleSound, EntrySound, DefinitionSound, ArtifactSound, InstanceSound, NestSound, NestsSound, VariableSound, FunctionSound, AlwaysSound, RecordsSound, FileSound, AreDistinct}
+use Rattle.vast_core.specs.Internal.Sound.{IsSound}
+use Rattle.vast_core.specs.Containers.{NestedEntry, StatementEnters, ElseIfEnters, ElseEnters, CaseArmEnters, MemberEnters, with_entry}
+use Rattle.vast_core.specs.Internal.Containers.{Listing, Nowhere, InFile, InHeader, InPorts, InModule, InFunction, InNest, AsSpare, with_listed, listed_modules, listed_functions, listed_nests, listed_items, listed_spare, with_listing, added, with_empty_block, spare_left, with_fresh, Fresh, FreshSound, EntersSound, ListingSound, GrowthSound, ComesEmpty, FunctionComes, InstanceComes, read_off, after_growth}
+use Rattle.vast_core.specs.Internal.Arrivals.{ListingThere, fresh_node, fresh_of, terms_of}
 use Rattle.vast_core.specs.declared.ast.arrivals.Arrivals.{Arrivals}
 use Rattle.vast_core.proofs.Readers.{module-below, length-nests}
 use Rattle.vast_core.proofs.Lists.{length-changed_at, Each-push, Each-changed_at, Each-changed_there}

@@ -7,7 +7,8 @@ use Rattle.vast_core.specs.Raw.{Raw}
 use Rattle.vast_core.specs.Records.{ModuleRecord, module_record, changed_at}
 use Rattle.vast_core.specs.Bench.{Bench}
 use Rattle.vast_core.specs.View.{bench}
-use Rattle.vast_core.specs.Sound.{ModuleSound, RecordsSound, IsSound}
+use Rattle.vast_core.specs.Sound.{ModuleSound, RecordsSound}
+use Rattle.vast_core.specs.Internal.Sound.{IsSound}
 use Rattle.vast_core.proofs.Lists.{length-changed_at, Each-map, Each-changed_at}
 use Rattle.vast_core.proofs.NodeLaws.{Extends-same}
 use Rattle.vast_core.proofs.Sound.{Grows, carried, ModuleSound-kept}

@@ -10,7 +10,7 @@ use Rattle.vast_core.specs.Functions.{with_listed_variable}
 use Rattle.vast_core.specs.Hoisting.{with_members_hoisted, with_hoisted}
 use Rattle.vast_core.specs.WrittenKinds.{IsVariableKind, HasOwnKind, HasLocalKind}
 use Rattle.vast_core.specs.Sound.{Each, DeclaresOwnKinds, HasLocalKinds, GivesValues, KindsSound}
-use Rattle.vast_core.specs.Containers.{Listing, Nowhere, InFile, InHeader, InPorts, InModule, InFunction, InNest, AsSpare, with_listed, with_listing, with_fresh, Fresh, FreshSound, ComesEmpty, FunctionComes, InstanceComes, ListingSound}
+use Rattle.vast_core.specs.Internal.Containers.{Listing, Nowhere, InFile, InHeader, InPorts, InModule, InFunction, InNest, AsSpare, with_listed, with_listing, with_fresh, Fresh, FreshSound, ComesEmpty, FunctionComes, InstanceComes, ListingSound}
 use Rattle.vast_core.proofs.Lists.{Each-push, Each-changed_at}
 use Rattle.vast_core.proofs.Added.{Each-added}
 use Rattle.vast_core.proofs.Hoisting.{Each-hoisted}

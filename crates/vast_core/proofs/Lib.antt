@@ -1,3 +1,5 @@
+pub mod Containers
+pub mod Loops
 pub mod Lists
 pub mod NodeLaws
 pub mod WellFormed

@@ -17,7 +17,7 @@ use Rattle.vast_core.specs.Functions.{with_listed_variable}
 use Rattle.vast_core.specs.Hoisting.{with_members_hoisted, with_hoisted}
 use Rattle.vast_core.specs.DeclaredNames.{name_of_port, name_of_function, names_by_port, names_by_member, names_declared, times, NamesSound}
 use Rattle.vast_core.specs.Sound.{AreDistinct, Each, MemberSound, ModuleSound, RecordsSound, NamesAreSound}
-use Rattle.vast_core.specs.Containers.{Listing, Nowhere, InFile, InHeader, InPorts, InModule, InFunction, InNest, AsSpare, with_listed, listed_name, with_listing, Fresh, with_fresh, ListingSound}
+use Rattle.vast_core.specs.Internal.Containers.{Listing, Nowhere, InFile, InHeader, InPorts, InModule, InFunction, InNest, AsSpare, with_listed, listed_name, with_listing, Fresh, with_fresh, ListingSound}
 use Rattle.vast_core.proofs.Lists.{below-of, All-cons, All-head, All-tail, Each-changed_at, Each-changed_there}
 use Rattle.vast_core.proofs.Added.{Each-added, get-added}
 use Rattle.vast_core.proofs.Names.{test-equal}

@@ -4,7 +4,9 @@ use Rattle.vast_core.specs.declared.handle.VastStatementBlock.{VastStatementBloc
 use Rattle.vast_core.specs.declared.handle.Conditional.{Conditional}
 use Rattle.vast_core.specs.Nests.{NestRecord}
 use Rattle.vast_core.specs.Bench.{Bench, OwnsBlock, OwnsConditional}
-use Rattle.vast_core.specs.Containers.{NestedEntry, InNest, fresh_container, with_nest_entry, with_nest}
+use Rattle.vast_core.specs.Containers.{NestedEntry, with_nest_entry, with_nest}
+use Rattle.vast_core.specs.Internal.Containers.{InNest}
+use Rattle.vast_core.proofs.Containers.{fresh_container}
 use Rattle.vast_core.proofs.Growing.{Grows-fresh, Grows-listing}
 use Rattle.vast_core.proofs.Stays.{block_stays, conditional_stays}
 

@@ -12,7 +12,8 @@ use Rattle.vast_core.specs.Nests.{NestRecord, BlockRecord, ConditionalNestRecord
 use Rattle.vast_core.specs.Bench.{Bench, OwnsBlock}
 use Rattle.vast_core.specs.View.{bench}
 use Rattle.vast_core.specs.Containers.{with_unique}
-use Rattle.vast_core.specs.Sound.{FileSound, Each, EventSound, NestSound, FunctionSound, AlwaysSound, RecordsSound, IsSound}
+use Rattle.vast_core.specs.Sound.{FileSound, Each, EventSound, NestSound, FunctionSound, AlwaysSound, RecordsSound}
+use Rattle.vast_core.specs.Internal.Sound.{IsSound}
 use Rattle.vast_core.proofs.Lists.{below-of, slice_get-map, Each-at, All-own}
 use Rattle.vast_core.proofs.NodeLaws.{Extends-same}
 use Rattle.vast_core.proofs.Nests.{kind-changed, nests-changed}

@@ -11,7 +11,8 @@ use Rattle.vast_core.specs.declared.node.ExprNode.TheVariants.{Name, Literal, St
 use Rattle.vast_core.specs.declared.node.TypeNode.{TypeNode}
 use Rattle.vast_core.specs.declared.node.TypeNode.TheVariants.{Scalar, Vector, Integer, Int, External, Package, Packed, Unpacked}
 use Rattle.vast_core.specs.Handles.{rank, type_rank}
-use Rattle.vast_core.specs.Nodes.{Root, ExprRoot, TypeRoot, Nodes, no_nodes, with_root, is_expr_root, is_type_root, is_root_of, expr_of_root, type_of_root, HasExpr, HasType, expr_in, type_in, maybe_type_in, maybe_expr_in, exprs_in, expr_tree, type_tree, term_root, ExprChildrenHold, TypeChildrenHold, ChildrenHold, RootFits, RootWellFormed, built, TermsSound, IsNodeAt}
+use Rattle.vast_core.specs.Nodes.{Root, ExprRoot, TypeRoot, Nodes, no_nodes, with_root, is_expr_root, is_type_root, is_root_of, expr_of_root, type_of_root, expr_in, type_in, maybe_type_in, maybe_expr_in, exprs_in, expr_tree, type_tree, term_root, ExprChildrenHold, TypeChildrenHold, built}
+use Rattle.vast_core.specs.Internal.Nodes.{HasExpr, HasType, ChildrenHold, RootFits, RootWellFormed, TermsSound, IsNodeAt}
 use Rattle.vast_core.specs.Types.{ExprFits, TypeFits, ExprWellFormed, TypeWellFormed, MaybeTypeWellFormed, MaybeExprWellFormed, ExprsWellFormed}
 use Rattle.vast_core.specs.Sound.{Each}
 use Rattle.vast_core.proofs.Lists.{slice_get-append, slice_get-seam, All-head, All-tail, All-implies, Each-push, Each-get}

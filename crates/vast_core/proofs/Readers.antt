@@ -10,7 +10,8 @@ use Rattle.vast_core.specs.Raw.{Raw}
 use Rattle.vast_core.specs.Records.{port_record, module_record, definition_record, artifact_record, instance_record, file_entry}
 use Rattle.vast_core.specs.Bench.{is_continuous}
 use Rattle.vast_core.specs.View.{bench}
-use Rattle.vast_core.specs.Sound.{PortSound, AssignmentSound, ModuleSound, DefinitionSound, ArtifactSound, InstanceSound, EntrySound, IsSound}
+use Rattle.vast_core.specs.Sound.{PortSound, AssignmentSound, ModuleSound, DefinitionSound, ArtifactSound, InstanceSound, EntrySound}
+use Rattle.vast_core.specs.Internal.Sound.{IsSound}
 use Rattle.vast_core.specs.declared.node.Nest.{Nest}
 use Rattle.vast_core.specs.Nests.{nest_record}
 use Rattle.vast_core.specs.FileTree.{family, families}

@@ -8,8 +8,11 @@ use Rattle.vast_literal.specs.declared.kind.AssignmentForm.{AssignmentForm}
 use Rattle.vast_literal.specs.declared.kind.AssignmentForm.TheVariants.{Blocking, Nonblocking, Continuous}
 use Rattle.vast_core.specs.Bench.{Bench, OwnsExpr}
 use Rattle.vast_core.specs.Artifacts.{next_statement}
-use Rattle.vast_core.specs.Containers.{GrowthSound, after_growth, fresh_assignment, fresh_container, next_conditional, new_conditional}
-use Rattle.vast_core.specs.Spots.{OwnsSpot, IsWrittenIn, assigned, assignment_at, conditional_at, with_assignment_at, with_conditional_at}
+use Rattle.vast_core.specs.Containers.{next_conditional, new_conditional}
+use Rattle.vast_core.specs.Internal.Containers.{GrowthSound, after_growth, fresh_assignment}
+use Rattle.vast_core.proofs.Containers.{fresh_container}
+use Rattle.vast_core.specs.Spots.{OwnsSpot, IsWrittenIn, assigned, with_assignment_at, with_conditional_at}
+use Rattle.vast_core.specs.Internal.Spots.{assignment_at, conditional_at}
 use Rattle.vast_core.proofs.Enters.{assignment-enters as statement-enters, continuous-enters, conditional-enters as nested-enters}
 use Rattle.vast_core.proofs.EntersScopes.{assignment-enters as member-enters, conditional-enters as member-conditional-enters}
 

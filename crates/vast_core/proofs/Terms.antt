@@ -3,11 +3,13 @@ use Rattle.std.proofs.Common.{◌≡◌, ℕ, ◌+◌, IsTrue, length, nat_lt, R
 use Rattle.std.specs.declared.alloc.AllocError.{AllocError}
 use Rattle.std.proofs.lemmas.List.{length-map}
 use Rattle.vast_core.specs.Raw.{Raw}
-use Rattle.vast_core.specs.Nodes.{no_nodes, built, RootWellFormed}
+use Rattle.vast_core.specs.Nodes.{no_nodes, built}
+use Rattle.vast_core.specs.Internal.Nodes.{RootWellFormed}
 use Rattle.vast_core.specs.Bench.{Bench, AreWellFormed}
 use Rattle.vast_core.specs.View.{bench}
 use Rattle.vast_core.specs.Growth.{Grows}
-use Rattle.vast_core.specs.Sound.{IsSound, Each}
+use Rattle.vast_core.specs.Sound.{Each}
+use Rattle.vast_core.specs.Internal.Sound.{IsSound}
 use Rattle.vast_core.proofs.NodeLaws.{built-length, built-well_formed, expr-well_formed, type-well_formed}
 
 pub length-terms : (a b : Raw) → b ≡ a → length (bench a).nodes.roots ≡ length b.terms

@@ -8,8 +8,10 @@ use Rattle.vast_core.specs.Raw.{Raw}
 use Rattle.vast_core.specs.Nests.{AlwaysRecord}
 use Rattle.vast_core.specs.Bench.{Bench, OwnsAlways, OwnsBlock}
 use Rattle.vast_core.specs.View.{bench}
-use Rattle.vast_core.specs.Sound.{EventSound, FileSound, IsSound}
-use Rattle.vast_core.specs.Containers.{AsSpare, GrowthSound, Fresh, FreshSound, no_fresh, fresh_block, with_block, next_block}
+use Rattle.vast_core.specs.Sound.{EventSound, FileSound}
+use Rattle.vast_core.specs.Internal.Sound.{IsSound}
+use Rattle.vast_core.specs.Containers.{with_block, next_block}
+use Rattle.vast_core.specs.Internal.Containers.{AsSpare, GrowthSound, Fresh, FreshSound, no_fresh, fresh_block}
 use Rattle.vast_core.specs.Loops.{next_always}
 use Rattle.vast_core.specs.Unattached.{always_over, with_always_over}
 use Rattle.vast_core.proofs.Lists.{Each-own}

@@ -1,13 +1,11 @@
 -- How many bits a type has: the product of its dimensions and of the bits of the type within.
-use Rattle.std.specs.Prelude.{◌≡◌, ◌≤ℤ◌, ◌*ℤ◌, ◌<◌, ◌^◌, pos, ℤ, IsTrue, List, [], ◌∷◌, ◌++◌, Option, Some, None, All}
+use Rattle.std.specs.Prelude.{◌≡◌, ◌≤ℤ◌, ◌*ℤ◌, ◌^◌, pos, ℤ, IsTrue, List, [], ◌∷◌, ◌++◌, Option, Some, None}
 use Rattle.vast_literal.specs.Tree.{TypeTree, ScalarTree, VectorTree, IntegerTree, IntTree, ExternalTree, PackageTree, PackedTree, UnpackedTree, MissingType, SomeExpr, NoExpr}
-use Rattle.vast_core.specs.declared.handle.VastDataType.{VastDataType}
 use Rattle.vast_core.specs.declared.bits.BitCountFault.{BitCountFault}
 use Rattle.vast_core.specs.declared.bits.BitCountFault.TheVariants.{Overflow, Symbolic, External}
 use Rattle.vast_core.specs.declared.bits.WidthFault.{WidthFault}
 use Rattle.vast_core.specs.declared.bits.WidthFault.TheVariants.{Symbolic as SymbolicWidth, Undeclared}
-use Rattle.vast_core.specs.Handles.{type_rank}
-use Rattle.vast_core.specs.Types.{width_of, is_castable}
+use Rattle.vast_core.specs.Types.{width_of}
 use Rattle.vast_literal.specs.Shape.{base_of, is_external}
 use Rattle.vast_core.specs.Bench.{Bench, OwnsExpr, OwnsType, tree_of, type_of}
 
@@ -67,17 +65,3 @@ CountRefused b t (External u) = OwnsType b u × (type_of b u ≡ base_of t) × I
 abbrev pub WidthRefused : Bench → TypeTree → WidthFault → Type 0
 WidthRefused b t (SymbolicWidth e) = OwnsExpr b e × (width_of t ≡ SomeExpr (tree_of b e)) × (width_value t ≡ None)
 WidthRefused b t Undeclared = (width_of t ≡ NoExpr) × (width_value t ≡ None)
-
--- The type is an array with these dimensions of the element type.
-pub record IsArrayOf (b : Bench) (data_type element : VastDataType) (dimensions : List ℤ) : Type 0 where
-  pub owned : OwnsType b element
-  pub older : type_rank element < type_rank data_type
-  pub base : base_of (type_of b element) ≡ base_of (type_of b data_type)
-  pub all : dimensions_of (type_of b data_type) ≡ dimensions ++ dimensions_of (type_of b element)
-  pub each : All (λ d. pos 1 ≤ℤ d) dimensions
-  pub rest : All (λ d. pos 1 ≤ℤ d) (dimensions_of (type_of b element))
-
-pub record IsNoArray (t : TypeTree) : Type 0 where
-  pub base : base_of t ≡ t
-  pub all : dimensions_of t ≡ []
-  pub castable : IsTrue (is_castable t)

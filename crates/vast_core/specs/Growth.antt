@@ -17,11 +17,10 @@ use Rattle.vast_core.specs.declared.handle.ContinuousAssignment.{ContinuousAssig
 use Rattle.vast_literal.specs.declared.kind.ModulePortDirection.{ModulePortDirection}
 use Rattle.vast_literal.specs.declared.kind.DataKind.{DataKind}
 use Rattle.vast_core.specs.declared.node.Assignment.{Assignment}
-use Rattle.vast_core.specs.declared.node.ExprNode.{ExprNode}
 use Rattle.vast_core.specs.Handles.{module_index, indexable_expr_to_expr}
 use Rattle.vast_core.specs.Raw.{Raw}
 use Rattle.vast_core.specs.View.{bench}
-use Rattle.vast_core.specs.Nodes.{Root, ExprRoot, TypeRoot, built, with_root as with_node}
+use Rattle.vast_core.specs.Nodes.{Root, ExprRoot, TypeRoot, with_root as with_node}
 use Rattle.vast_core.specs.Records.{FileEntry, ModuleEntry, MemberEntry, DeclarationEntry, new_module, with_port as with_listed_port, with_member as with_listed_member, with_named_member as with_listed_name, changed_at}
 use Rattle.vast_core.specs.Bench.{Bench, tree_of, trees_of, type_of}
 
@@ -43,10 +42,6 @@ GrowsBy old new result after = Leaves (bench old) (bench new) result after
 
 abbrev pub with_root : Bench → Root → Bench
 with_root b r = record b { nodes = with_node b.nodes r }
-
--- Expressions and types more, each made of older ones.
-abbrev pub with_terms : List ExprNode → Bench → Bench
-with_terms ts b = record b { nodes = built b.nodes ts }
 
 abbrev pub with_expr : ExprTree → Bench → Bench
 with_expr e b = with_root b (ExprRoot e)

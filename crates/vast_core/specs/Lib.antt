@@ -4,7 +4,6 @@ pub mod Nodes
 pub mod Records
 pub mod Nests
 pub mod Raw
-pub mod Arenas
 pub mod Bench
 pub mod BitCount
 pub mod View
@@ -18,10 +17,10 @@ pub mod Parents
 pub mod WrittenKinds
 pub mod Sound
 pub mod Containers
-pub mod Arrivals
 pub mod Loops
 pub mod Functions
 pub mod Events
 pub mod Unattached
 pub mod Scopes
 pub mod Spots
+pub mod Internal

@@ -1,6 +1,5 @@
 -- What a file holds after a call that adds an always block, a loop, a conditional or a function, or a loop's member.
-use Rattle.std.specs.Prelude.{ℕ, true, List, [], ◌∷◌, ◌++◌, length, Option, Some, None, slice_get, String}
-use Rattle.std.specs.declared.alloc.Global.{Global}
+use Rattle.std.specs.Prelude.{ℕ, true, List, [], ◌∷◌, ◌++◌, length, Option, slice_get}
 use Rattle.vast_literal.specs.Tree.{ExprTree, NameTree, Untyped, Typed}
 use Rattle.vast_core.specs.declared.handle.Expr.{Expr}
 use Rattle.vast_core.specs.declared.handle.Def.{Def}
@@ -9,15 +8,13 @@ use Rattle.vast_core.specs.declared.handle.VastAlwaysBase.{VastAlwaysBase}
 use Rattle.vast_core.specs.declared.handle.VastFunction.{VastFunction}
 use Rattle.vast_core.specs.declared.handle.GenerateLoop.{GenerateLoop}
 use Rattle.vast_literal.specs.declared.kind.AlwaysKind.{AlwaysKind}
-use Rattle.vast_core.specs.declared.node.ExprNode.{ExprNode}
-use Rattle.vast_core.specs.declared.node.ExprNode.TheVariants.{Name}
 use Rattle.vast_core.specs.Handles.{loop_index, definition_index}
 use Rattle.vast_core.specs.Records.{FormEntry, PlainForm, DefinedForm, MemberEntry, ParameterEntry, with_name}
 use Rattle.vast_core.specs.Nests.{NestRecord, LoopNestRecord, AlwaysRecord, FunctionRecord}
 use Rattle.vast_core.specs.Bench.{Bench, type_of}
 use Rattle.vast_core.specs.Growth.{next_id, next_logic_ref, with_expr}
 use Rattle.vast_core.specs.Parameters.{defined_name}
-use Rattle.vast_core.specs.Containers.{MemberEnters, Fresh, no_fresh, next_block, with_nest, with_block, with_nest_entry}
+use Rattle.vast_core.specs.Containers.{MemberEnters, next_block, with_nest, with_block, with_nest_entry}
 
 abbrev pub next_always : Bench → VastAlwaysBase
 next_always b = record { id = next_id b (length b.always_blocks) }
@@ -50,24 +47,12 @@ new_always b kind events = record { kind = kind; events = events; block = next_b
 abbrev pub with_always : AlwaysKind → List Expr → Bench → Bench
 with_always kind events b = record (with_block b) { always_blocks = b.always_blocks ++ new_always b kind events ∷ [] }
 
-abbrev pub fresh_always : AlwaysRecord → Fresh
-fresh_always a = record no_fresh { block = true; always_block = Some a }
-
 -- A loop without members, and its variable's name as an expression.
 abbrev pub new_loop : Bench → List ℕ → Expr → Expr → Option (List ℕ) → NestRecord
 new_loop b name start end label = LoopNestRecord (record { genvar = next_logic_ref b; name = name; start = start; end = end; label = label; members = [] })
 
 abbrev pub with_loop : List ℕ → Expr → Expr → Option (List ℕ) → Bench → Bench
 with_loop name start end label b = with_expr (NameTree name Untyped) (with_nest (new_loop b name start end label) b)
-
-abbrev pub name_term : String Global → Option VastDataType → ExprNode
-name_term name type = Name name type
-
-abbrev pub fresh_name : String Global → Option VastDataType → Fresh
-fresh_name name type = record no_fresh { terms = name_term name type ∷ [] }
-
-abbrev pub fresh_loop : String Global → NestRecord → Fresh
-fresh_loop variable n = record no_fresh { terms = name_term variable None ∷ []; container = Some n }
 
 -- A function without inputs and locals, its empty body, and its result's name as an expression.
 abbrev pub new_function : Bench → List ℕ → VastDataType → FunctionRecord
@@ -76,6 +61,3 @@ new_function b name result_type = record { name = name; result_type = result_typ
 abbrev pub with_function : List ℕ → VastDataType → Bench → Bench
 with_function name result_type b =
     with_expr (NameTree name (Typed (type_of b result_type))) (record (with_block b) { functions = b.functions ++ new_function b name result_type ∷ [] })
-
-abbrev pub fresh_function : String Global → VastDataType → FunctionRecord → Fresh
-fresh_function name result_type f = record no_fresh { terms = name_term name (Some result_type) ∷ []; block = true; function = Some f }

@@ -1,5 +1,5 @@
 -- The arena of expressions and types: nodes, and the trees that they stand for.
-use Rattle.std.specs.Prelude.{◌≡◌, ℕ, ◌<◌, Bool, true, false, IsTrue, List, [], ◌∷◌, ◌++◌, Option, Some, None, slice_get, string_bytes, All, Vec, IfSome}
+use Rattle.std.specs.Prelude.{◌≡◌, ℕ, Bool, true, false, IsTrue, List, [], ◌∷◌, ◌++◌, Option, Some, None, slice_get, string_bytes, All, Vec, IfSome}
 use Rattle.std.specs.declared.alloc.Global.{Global}
 use Rattle.vast_literal.specs.Tree.{ExprTree, NameTree, LiteralTree, StringTree, UnaryTree, BinaryTree, TernaryTree, IndexTree, SliceTree, PartSelectTree, ConcatTree, PatternTree, WidthCastTree, TypeCastTree, PosEdgeTree, NegEdgeTree, MacroTree, CallTree, MissingExpr, TypeTree, ScalarTree, VectorTree, IntegerTree, IntTree, ExternalTree, PackageTree, PackedTree, UnpackedTree, MissingType, MaybeType, Untyped, Typed, MaybeExpr, NoExpr, SomeExpr, Exprs, NoExprs, MoreExprs, MaybeExprs, NoArguments, SomeArguments}
 use Rattle.vast_core.specs.declared.handle.Id.{Id}
@@ -9,8 +9,6 @@ use Rattle.vast_core.specs.declared.node.ExprNode.{ExprNode}
 use Rattle.vast_core.specs.declared.node.ExprNode.TheVariants.{Name, Literal, StringText, Unary, Binary, Ternary, Index, Slice, PartSelect, Concat, Pattern, WidthCast, TypeCast, PosEdge, NegEdge, Macro, MacroCall, Call, DataType}
 use Rattle.vast_core.specs.declared.node.TypeNode.{TypeNode}
 use Rattle.vast_core.specs.declared.node.TypeNode.TheVariants.{Scalar, Vector, Integer, Int, External, Package, Packed, Unpacked}
-use Rattle.vast_core.specs.Handles.{rank, type_rank}
-use Rattle.vast_core.specs.Types.{ExprFits, TypeFits, ExprWellFormed, TypeWellFormed}
 
 -- What a node of the arena stands for.
 pub data Root : Type 0 where
@@ -76,12 +74,6 @@ type_of_root (Some (TypeRoot t)) = t
 pub record IsOwned (file_id : ℕ) (id : Id) (of_its_kind : Bool) : Type 0 where
   pub of_file : id.file_id ≡ file_id
   pub of_kind : IsTrue of_its_kind
-
-abbrev pub HasExpr : Nodes → Expr → Type 0
-HasExpr b e = IsOwned b.id e.id (is_expr_root (slice_get b.roots e.id.index))
-
-abbrev pub HasType : Nodes → VastDataType → Type 0
-HasType b t = IsOwned b.id t.id (is_type_root (slice_get b.roots t.id.index))
 
 -- The tree of a handle.
 unfoldable pub expr_in : Nodes → Expr → ExprTree
@@ -175,32 +167,7 @@ TypeChildrenHold P Q (Package p) = Unit {0}
 TypeChildrenHold P Q (Packed element dimensions) = Q element
 TypeChildrenHold P Q (Unpacked element dimensions) = Q element
 
-abbrev pub ChildrenHold : (P : Expr → Type 0) (Q : VastDataType → Type 0) → ExprNode → Type 0
-ChildrenHold P Q (DataType n) = TypeChildrenHold P Q n
-ChildrenHold P Q n = ExprChildrenHold P Q n
-
--- What a node keeps of itself, and of all that it is made of.
-abbrev pub RootFits : Root → Type 0
-RootFits (ExprRoot e) = ExprFits e
-RootFits (TypeRoot t) = TypeFits t
-
-abbrev pub RootWellFormed : Root → Type 0
-RootWellFormed (ExprRoot e) = ExprWellFormed e
-RootWellFormed (TypeRoot t) = TypeWellFormed t
-
 -- The nodes after these terms, each made of older ones.
 abbrev pub built : Nodes → List ExprNode → Nodes
 built b [] = b
 built b (t ∷ ts) = built (with_root b (term_root b t)) ts
-
--- Each term fits, and its children are older nodes of the file.
-abbrev pub TermsSound : Nodes → List ExprNode → Type 0
-TermsSound b [] = Unit {0}
-TermsSound b (t ∷ ts) = ChildrenHold (HasExpr b) (HasType b) t × RootFits (term_root b t) × TermsSound (with_root b (term_root b t)) ts
-
--- The term is node i, is well formed, and its children are older nodes of the file.
-pub record IsNodeAt (b : Nodes) (i : ℕ) (t : ExprNode) : Type 0 where
-  pub root : slice_get b.roots i ≡ Some (term_root b t)
-  pub owned : ChildrenHold (HasExpr b) (HasType b) t
-  pub older : ChildrenHold (λ e. rank e < i) (λ u. type_rank u < i) t
-  pub well_formed : RootWellFormed (term_root b t)

@@ -1,6 +1,5 @@
 -- What a file holds after a call that adds a parameter, and the handle of the parameter's name.
-use Rattle.std.specs.Prelude.{◌≡◌, ℕ, Bool, List, [], length, Option, Some, None, slice_get, String, string_bytes, IfSome}
-use Rattle.std.specs.declared.alloc.Global.{Global}
+use Rattle.std.specs.Prelude.{ℕ, Bool, List, [], length, Option, Some, None, slice_get}
 use Rattle.vast_literal.specs.Tree.{ExprTree, NameTree, Untyped, Typed}
 use Rattle.vast_core.specs.declared.handle.Expr.{Expr}
 use Rattle.vast_core.specs.declared.handle.Def.{Def}
@@ -11,7 +10,7 @@ use Rattle.vast_core.specs.declared.handle.LocalparamRef.{LocalparamRef}
 use Rattle.vast_core.specs.Handles.{module_index, definition_index}
 use Rattle.vast_core.specs.Nodes.{maybe_type_in}
 use Rattle.vast_core.specs.Records.{ParameterPortRecord, DefinitionRecord, FormEntry, PlainForm, IntForm, DefinedForm, ParameterEntry, with_parameter_port as with_listed_parameter, changed_at}
-use Rattle.vast_core.specs.Bench.{Bench, OwnsType, type_of}
+use Rattle.vast_core.specs.Bench.{Bench, type_of}
 use Rattle.vast_core.specs.Growth.{next_id, with_expr, with_member}
 
 abbrev pub next_parameter_ref : Bench → ParameterRef
@@ -53,7 +52,3 @@ abbrev pub form_name : Bench → FormEntry → ExprTree
 form_name b (PlainForm name) = NameTree name Untyped
 form_name b (IntForm name) = NameTree name Untyped
 form_name b (DefinedForm d) = defined_name b (slice_get b.definitions (definition_index d))
-
--- The name and the type that are those of what the form declares; the type is the file's.
-abbrev pub IsDeclaredBy : Bench → FormEntry → String Global × Option VastDataType → Type 0
-IsDeclaredBy b form declared = (NameTree (string_bytes declared.0) (maybe_type_in b.nodes declared.1) ≡ form_name b form) × IfSome declared.1 (OwnsType b)

@@ -1,5 +1,5 @@
 -- What has members: a module or a loop.
-use Rattle.std.specs.Prelude.{◌<◌, Bool, None}
+use Rattle.std.specs.Prelude.{◌<◌, Bool}
 use Rattle.vast_core.specs.declared.handle.Expr.{Expr}
 use Rattle.vast_core.specs.declared.handle.VastStatementBlock.{VastStatementBlock}
 use Rattle.vast_core.specs.declared.ast.scope.Scope.{Scope}
@@ -9,17 +9,11 @@ use Rattle.vast_core.specs.Records.{MemberEntry, DeclarationEntry, AssignmentEnt
 use Rattle.vast_core.specs.Bench.{Bench, OwnsModule, OwnsLoop}
 use Rattle.vast_core.specs.Growth.{with_expr, with_member}
 use Rattle.vast_core.specs.Parameters.{form_name}
-use Rattle.vast_core.specs.Containers.{Listing, InModule, InNest, MemberEnters}
 use Rattle.vast_core.specs.Loops.{with_loop_member}
 
 abbrev pub OwnsScope : Bench → Scope → Type 0
 OwnsScope b (ScopeModule m) = OwnsModule b m
 OwnsScope b (ScopeLoop l) = OwnsLoop b l
-
--- A member without a name goes to the end of the scope's members.
-abbrev pub listing_in : Scope → MemberEntry → Listing
-listing_in (ScopeModule m) entry = InModule m entry None
-listing_in (ScopeLoop l) entry = InNest (loop_index l) (MemberEnters entry)
 
 abbrev pub with_scope_member : Scope → MemberEntry → Bench → Bench
 with_scope_member (ScopeModule m) entry b = with_member m entry b

@@ -1,21 +1,19 @@
 -- Where a conditional or an assignment goes: among the members of a scope, or into a block.
 use Rattle.std.specs.Prelude.{Bool, true, false}
 use Rattle.vast_core.specs.declared.handle.Expr.{Expr}
-use Rattle.vast_core.specs.declared.handle.Conditional.{Conditional}
 use Rattle.vast_core.specs.declared.handle.VastStatement.{VastStatement}
 use Rattle.vast_core.specs.declared.node.Assignment.{Assignment}
 use Rattle.vast_core.specs.declared.ast.spot.Spot.{Spot}
 use Rattle.vast_core.specs.declared.ast.spot.Spot.TheVariants.{Scope as ScopeSpot, Block as BlockSpot}
 use Rattle.vast_literal.specs.declared.kind.AssignmentForm.{AssignmentForm}
 use Rattle.vast_literal.specs.declared.kind.AssignmentForm.TheVariants.{Blocking, Nonblocking, Continuous}
-use Rattle.vast_core.specs.Handles.{block_index}
 use Rattle.vast_core.specs.Records.{AssignmentEntry, ConditionalEntry}
 use Rattle.vast_core.specs.Nests.{StatementEntry, AssignStatement, ContinuousStatement, ConditionalStatement}
 use Rattle.vast_core.specs.Bench.{Bench, OwnsBlock}
 use Rattle.vast_core.specs.Growth.{next_continuous, with_assignment}
 use Rattle.vast_core.specs.Artifacts.{next_statement}
-use Rattle.vast_core.specs.Containers.{Listing, InNest, StatementEnters, next_conditional, with_conditional, with_statement}
-use Rattle.vast_core.specs.Scopes.{OwnsScope, listing_in, with_scope_member}
+use Rattle.vast_core.specs.Containers.{next_conditional, with_conditional, with_statement}
+use Rattle.vast_core.specs.Scopes.{OwnsScope, with_scope_member}
 
 abbrev pub OwnsSpot : Bench → Spot → Type 0
 OwnsSpot b (ScopeSpot scope) = OwnsScope b scope
@@ -41,15 +39,6 @@ abbrev pub statement_of : AssignmentForm → VastStatement → StatementEntry
 statement_of Continuous a = ContinuousStatement a
 statement_of Blocking a = AssignStatement a
 statement_of Nonblocking a = AssignStatement a
-
--- The entry at the end of the spot's list.
-abbrev pub assignment_at : Spot → AssignmentForm → VastStatement → Listing
-assignment_at (ScopeSpot scope) form a = listing_in scope (AssignmentEntry (record { id = a.id }))
-assignment_at (BlockSpot block) form a = InNest (block_index block) (StatementEnters (statement_of form a))
-
-abbrev pub conditional_at : Spot → Conditional → Listing
-conditional_at (ScopeSpot scope) c = listing_in scope (ConditionalEntry c)
-conditional_at (BlockSpot block) c = InNest (block_index block) (StatementEnters (ConditionalStatement c))
 
 -- An assignment more, at the end of the scope's members or of the block's statements.
 abbrev pub with_assignment_at : Spot → AssignmentForm → Expr → Expr → Bench → Bench

@@ -71,8 +71,8 @@ impl Model for Ast {
 
     ghost Value = { Raw };
 
-    ghost use Rattle.vast_core.specs.Arenas.{arenas};
-    ghost use Rattle.vast_core.specs.Sound.{IsSound};
+    ghost use Rattle.vast_core.specs.Internal.Arenas.{arenas};
+    ghost use Rattle.vast_core.specs.Internal.Sound.{IsSound};
 
     ghost view = { arenas };
 

@@ -1,3 +1,3 @@
 pub mod Check
-pub mod ReadBack
 pub mod Words
+pub mod Internal

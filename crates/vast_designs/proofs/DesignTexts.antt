@@ -24,7 +24,8 @@ use Rattle.vast_script.specs.declared.step.Step.{Step}
 use Rattle.vast_script.specs.Arguments.{found, one, two, three, many}
 use Rattle.vast_script.specs.Script.{call_of, run, Going, called}
 use Rattle.vast_script.proofs.Calls.{left-called}
-use Rattle.vast_designs.specs.DesignCalls.{IsPlainDesign, calls_text, passthrough_calls, cases_calls}
+use Rattle.vast_designs.specs.DesignCalls.{IsPlainDesign, passthrough_calls, cases_calls}
+use Rattle.vast_designs.specs.Internal.DesignCalls.{calls_text}
 use Rattle.vast_designs.specs.DesignTexts.{passthrough_text, cases_text}
 
 -- A design's calls print its text.

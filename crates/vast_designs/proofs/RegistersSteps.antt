@@ -22,7 +22,7 @@ use Rattle.xlsynth_vast.specs.Equations.{next_bit_vector, with_bit_vector}
 use Rattle.xlsynth_vast.specs.Declarations.{names_in, unless_taken}
 use Rattle.xlsynth_vast.specs.Literals.{literal_in}
 use Rattle.xlsynth_vast.specs.Registers.{OwnsRegister}
-use Rattle.vast_designs.specs.RegistersFile.{the_module, bit, clock, reset, enable, the_signals, byte, first, first_next, second, second_next, the_state, first_value, second_value, the_values, enabled, plain, signals_made, state_made, values_made}
+use Rattle.vast_designs.specs.Internal.RegistersFile.{the_module, bit, clock, reset, enable, the_signals, byte, first, first_next, second, second_next, the_state, first_value, second_value, the_values, enabled, plain, signals_made, state_made, values_made}
 use Rattle.vast_designs.proofs.DesignTexts.{allowed}
 
 -- The file after each call within a part.

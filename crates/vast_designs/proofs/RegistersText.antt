@@ -25,7 +25,7 @@ use Rattle.xlsynth_vast.specs.declared.helpers.registers.RegisterScope.TheVarian
 use Rattle.xlsynth_vast.specs.Registers.{registers_member, maybe_reset_tree, register_trees}
 use Rattle.xlsynth_vast.specs.AddedRegisters.{with_assigned, with_if, with_branches, with_register_block, with_registers, AddsRegisters, MayAddRegisters}
 use Rattle.vast_designs.specs.DesignTexts.{registers_text}
-use Rattle.vast_designs.specs.RegistersFile.{the_module, clock, reset, the_signals, the_state, the_values, enabled, plain, signals_made, state_made, values_made}
+use Rattle.vast_designs.specs.Internal.RegistersFile.{the_module, clock, reset, the_signals, the_state, the_values, enabled, plain, signals_made, state_made, values_made}
 
 -- The tree of the file, with this member at its end.
 

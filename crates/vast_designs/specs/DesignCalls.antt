@@ -1,5 +1,5 @@
 -- The designs that are lists of calls, and what a list of calls prints.
-use Rattle.std.specs.Prelude.{◌≡◌, ℕ, pos, true, false, List, [], ◌∷◌, codes}
+use Rattle.std.specs.Prelude.{◌≡◌, pos, true, false, List, [], ◌∷◌, codes}
 use Rattle.vast_literal.specs.declared.kind.VastFileType.TheVariants.{SystemVerilog}
 use Rattle.vast_literal.specs.declared.kind.ModulePortDirection.TheVariants.{Input, Output}
 use Rattle.vast_literal.specs.declared.kind.DataKind.TheVariants.{Wire, Reg}
@@ -9,8 +9,6 @@ use Rattle.vast_core.specs.Nests.{CommentStatement}
 use Rattle.vast_core.specs.Growth.{decimal_literal}
 use Rattle.vast_core.specs.Bench.{start}
 use Rattle.vast_core.specs.FileTree.{tree}
-use Rattle.vast_print.specs.Page.{print}
-use Rattle.vast_print.specs.Layout.{layout}
 use Rattle.vast_script.specs.Outcome.{Call}
 use Rattle.vast_script.specs.Script.{called}
 use Rattle.vast_script.specs.Types.{make_bit_vector_type}
@@ -18,10 +16,6 @@ use Rattle.vast_script.specs.Expressions.{make_binary_pattern, make_leaf, make_f
 use Rattle.vast_script.specs.Modules.{add_module, add_port}
 use Rattle.vast_script.specs.Artifacts.{make_continuous_assignment, add_member_continuous_assignment}
 use Rattle.vast_script.specs.Statements.{add_function, function_add_variable, function_body, function_result, block_add_case, case_set_unique, case_add_item, case_add_default, block_add_assignment, block_add}
-
--- The text of the file that the calls build: the first that a program makes, in SystemVerilog.
-unfoldable pub calls_text : List Call → List ℕ
-calls_text calls = print (layout (tree (called (start SystemVerilog 1) calls)))
 
 -- That file is plain.
 abbrev pub IsPlainDesign : List Call → Type 0

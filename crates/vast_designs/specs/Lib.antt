@@ -1,3 +1,3 @@
 pub mod DesignCalls
 pub mod DesignTexts
-pub mod RegistersFile
+pub mod Internal

@@ -9,7 +9,7 @@ ghost use Rattle.vast_core.specs.FileTree.{tree};
 ghost use Rattle.vast_print.specs.Page.{print};
 ghost use Rattle.vast_print.specs.Layout.{layout};
 ghost use Rattle.vast_designs.specs.DesignTexts.{registers_text};
-ghost use Rattle.vast_designs.specs.RegistersFile.{the_signals, signals_made, the_state, state_made, the_values, values_made, enabled, plain};
+ghost use Rattle.vast_designs.specs.Internal.RegistersFile.{the_signals, signals_made, the_state, state_made, the_values, values_made, enabled, plain};
 
 use std::alloc::{AllocError, Global};
 use xlsynth_vast::helpers::{RegisterDefinition, RegisterScope, Reset, add_registers};

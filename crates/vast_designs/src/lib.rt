@@ -5,7 +5,7 @@
 
 ghost use Rattle.std.specs.Prelude.{◌≡◌, IfOk, map, string_bytes};
 ghost use Rattle.vast_script.specs.Script.{call_of};
-ghost use Rattle.vast_designs.specs.DesignCalls.{calls_text};
+ghost use Rattle.vast_designs.specs.Internal.DesignCalls.{calls_text};
 
 mod clocked;
 mod encoder;

@@ -38,7 +38,7 @@ use Rattle.std_heap.specs.contracts.Global.{the_row as Z, the_field}
 use Rattle.std_heap.proofs.Global.TheLaws.{the_row_laws as LZ}
 use Rattle.std_heap.specs.contracts.GlobalAllocator.TheImpl.{ghosts}
 use Rattle.std_heap.proofs.GlobalToken.{dealloc_token-Testable}
-use Rattle.vast_handle.specs.Kept.{holds}
+use Rattle.vast_handle.specs.Internal.Kept.{holds}
 use Rattle.vast_handle.proofs.Values.{both}
 
 abbrev pub al : Al

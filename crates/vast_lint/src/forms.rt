@@ -1,7 +1,7 @@
 //! What the lint keeps of expressions and types.
 
 ghost use Rattle.std.specs.Prelude.{◌≡◌, is_none};
-ghost use Rattle.vast_lint.specs.Forms.{is_left_side, is_selectable};
+ghost use Rattle.vast_lint.specs.Internal.Forms.{is_left_side, is_selectable};
 
 use crate::rule::Rule;
 

@@ -3,7 +3,7 @@
 ghost use Rattle.std.specs.Prelude.{◌≡◌};
 ghost use Rattle.std.specs.List.{list_all};
 ghost use Rattle.vast_literal.specs.Scan.{is_letter, is_word_byte};
-ghost use Rattle.vast_lint.specs.Forms.{is_simple};
+ghost use Rattle.vast_lint.specs.Internal.Forms.{is_simple};
 
 use crate::rule::Rule;
 use xlsynth_vast::{VastFileType, is_system_verilog_keyword};

@@ -6,7 +6,8 @@ use Rattle.std.specs.Prelude.{Decides, option_copied}
 use Rattle.std.specs.Str.{bytes_eq}
 use mathlib.Core.Path.{fun_ext}
 use Rattle.vast_list.specs.declared.names.Named.{Named}
-use Rattle.vast_list.specs.Names.{IsFree, entered, forgotten}
+use Rattle.vast_list.specs.Names.{IsFree, entered}
+use Rattle.vast_list.specs.Internal.Names.{forgotten}
 use Rattle.vast_list.specs.Written.{meaning}
 
 pub is_entered :

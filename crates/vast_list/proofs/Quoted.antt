@@ -14,7 +14,8 @@ use Rattle.std.specs.Str.Pattern.{FindsChar, FindsTextPrefix, SplitsAroundMatch,
 use Rattle.std.specs.Str.Parse.{IsNumeral, digits_value, without_leading_plus}
 use Rattle.vast_list.specs.declared.problem.Misfit.{Misfit}
 use Rattle.vast_list.specs.Json.{letter_meaning}
-use Rattle.vast_list.specs.Written.{IsCharacter, IsCode, IsCodeFront, IsContent, IsContentFront, IsHigh, IsLow, IsMeaning, IsPair, IsPart, IsPartFront, IsQuoted, IsTextFront, paired}
+use Rattle.vast_list.specs.Written.{IsCharacter, IsCode, IsContent, IsHigh, IsLow, IsPair, IsPart, IsQuoted, paired}
+use Rattle.vast_list.specs.Internal.Written.{IsCodeFront, IsContentFront, IsMeaning, IsPartFront, IsTextFront}
 use Rattle.vast_list.proofs.Words.{around, behind_text, encoded_low}
 use lib.Utf8.{encode, next}
 

@@ -28,7 +28,8 @@ use Rattle.vast_list.specs.Lines.{behind_call, line_arguments, line_name, text_n
 use Rattle.vast_list.specs.Names.{IsFree}
 use Rattle.vast_list.specs.Helpers.{Helps, IsKept}
 use Rattle.vast_list.specs.CallNames.{call_name}
-use Rattle.vast_list.specs.Session.{Calls, Enters, HasMade, IsFileLeft, IsLeft, IsMade, IsRead, IsTextOf, IsToldAs, IsWrittenIn}
+use Rattle.vast_list.specs.Session.{Calls, Enters, HasMade, IsFileLeft, IsLeft, IsMade, IsTextOf, IsWrittenIn}
+use Rattle.vast_list.specs.Internal.Session.{IsRead, IsToldAs}
 use Rattle.vast_list.specs.Written.{meaning}
 
 pub nodes-unused : (old new : Bench) → HasMoreNodes old new → HasUnused old new

@@ -13,7 +13,8 @@ use Rattle.std.proofs.lemmas.Slice.Eq.{slice_eq-Decides}
 use Rattle.std.proofs.lemmas.List.{append-nil, append_assoc, drop-drop, map-id, take-append-drop, take_more, drop_more}
 use Rattle.std.proofs.lemmas.Grind.{flat_map-append}
 use Rattle.vast_list.specs.declared.origins.TextLine.{TextLine}
-use Rattle.vast_list.specs.Origins.{ComesFrom, Follows, IsOriginIn, text_of}
+use Rattle.vast_list.specs.Origins.{text_of}
+use Rattle.vast_list.specs.Internal.Origins.{ComesFrom, Follows, IsOriginIn}
 
 same : (xs bytes : List ℕ) → pointwise nat_eq xs bytes ≡ true → xs ≡ bytes
 same xs bytes h = (slice_eq-Decides Decides-eqb xs bytes true (sym h)).0 refl

@@ -15,7 +15,8 @@ use Rattle.vast_list.specs.declared.names.Named.{Named}
 use Rattle.vast_list.specs.declared.problem.Misfit.{Misfit}
 use Rattle.vast_list.specs.declared.problem.Problem.{Problem}
 use Rattle.vast_list.specs.CallArguments.{Number, Piece, Word, Text, bracketed, number}
-use Rattle.vast_list.specs.Written.{AreLeft, AreWritten, Goes, GoesText, IsInteger, IsIntegerWord, IsNatural, IsTextFront, IsWritten, Reads, WritesIn, left, meaning}
+use Rattle.vast_list.specs.Written.{AreWritten, IsInteger, IsNatural, IsWritten, meaning}
+use Rattle.vast_list.specs.Internal.Written.{AreLeft, Goes, GoesText, IsIntegerWord, IsTextFront, Reads, WritesIn, left}
 use lib.Utf8.{encode}
 
 pub encoded_low : (c : ℕ) → c < 128 → encode_utf8 c ≡ c ∷ []

@@ -1,43 +1,16 @@
 -- What a list gives as a line of JSON: how the line ends.
-use Rattle.std.specs.Prelude.{◌≡◌, ℕ, false, List, ◌++◌, codes, IsTrue, Option, Some, None, String, string_bytes}
-use Rattle.std.specs.declared.alloc.Global.{Global}
-use Rattle.vast_core.specs.FileTree.{tree}
-use Rattle.vast_literal.specs.declared.kind.VastFileType.{VastFileType}
-use Rattle.vast_list.specs.declared.json_line.Answers.{Answers}
+use Rattle.std.specs.Prelude.{◌≡◌, ℕ, false, List, ◌++◌, codes}
 use Rattle.vast_list.specs.declared.output.Verdict.{Verdict}
 use Rattle.vast_list.specs.declared.output.Verdict.TheVariants.{Made, Refused, NotInForm}
-use Rattle.vast_list.specs.declared.session.Session.{Session}
-use Rattle.vast_list.specs.Built.{HasBuilt, IsListText, TakesLine}
+use Rattle.vast_list.specs.Built.{IsListText}
 use Rattle.vast_list.specs.Json.{json_text}
-use Rattle.vast_list.specs.Output.{is_made}
-use Rattle.vast_list.specs.Session.{IsTextOf}
 
 -- The line ends with this value under the name `text`.
 abbrev pub EndsWithText : (value line : List ℕ) → Type 0
 EndsWithText value line = (front : List ℕ) × (line ≡ front ++ codes ",\"text\":" ++ value ++ codes "}\n")
-
--- A text as JSON has it, or null.
-abbrev pub maybe_json : Option (String Global) → List ℕ
-maybe_json None = codes "null"
-maybe_json (Some text) = json_text (string_bytes text)
-
--- Where nothing was at fault, that is the session's text; else there is none.
-abbrev pub EndsWithSession : Verdict → Session → (line : List ℕ) → Type 0
-EndsWithSession Made session line = (text : List ℕ) × IsTextOf (tree session.file) text × EndsWithText (json_text text) line
-EndsWithSession Refused session line = EndsWithText (codes "null") line
-EndsWithSession NotInForm session line = EndsWithText (codes "null") line
 
 -- Where nothing was at fault, that is the text that the list's lines build; else there is none.
 abbrev pub IsListJson : Verdict → (lines : List (List ℕ)) → (line : List ℕ) → Type 0
 IsListJson Made lines line = (text : List ℕ) × IsListText false lines text × EndsWithText (json_text text) line
 IsListJson Refused lines line = EndsWithText (codes "null") line
 IsListJson NotInForm lines line = EndsWithText (codes "null") line
-
--- Of a list that is not at fault the line is taken.
-pub record AnswersOn (old new : Answers) (line : List ℕ) : Type 0 where
-  pub verdict : IsTrue (is_made new.told.verdict) → IsTrue (is_made old.told.verdict)
-  pub taken : IsTrue (is_made new.told.verdict) → TakesLine false old.session new.session line
-
--- All lines were taken; without a fault, the file is what they build.
-abbrev pub AreAnswers : VastFileType → (lines : List (List ℕ)) → Answers → Type 0
-AreAnswers dialect lines answers = IsTrue (is_made answers.told.verdict) → HasBuilt false dialect lines answers.session

@@ -42,11 +42,6 @@ first_word text = before_first (λ byte. byte == 32) text
 abbrev pub behind_word : List ℕ → List ℕ
 behind_word text = after_first (λ byte. byte == 32) text
 
--- What is left of a text, where anything is.
-abbrev pub rest_text : Option (Bor (List ℕ)) → List ℕ
-rest_text None = []
-rest_text (Some rest) = rest.now
-
 abbrev pub is_equals_front : List ℕ → Bool
 is_equals_front text = starts_with (λ b c. b == c) text (codes "= ")
 

@@ -1,8 +1,6 @@
 -- A lint beside a session whose lines are answered one by one.
-use Rattle.std.specs.Prelude.{◌≡◌, ℕ, length, Option, Some, None, Result, Ok, Err, Bool, true, false, ⊤}
+use Rattle.std.specs.Prelude.{◌≡◌, ℕ, length, Option, Some, None, Bool, true, false, ⊤}
 use Rattle.vast_lint.specs.Lint.{counted}
-use Rattle.vast_list.specs.declared.fault.Fault.{Fault}
-use Rattle.vast_list.specs.declared.fault.Fault.TheVariants.{Line, Memory}
 use Rattle.vast_list.specs.declared.linted.SessionLint.{SessionLint}
 use Rattle.vast_list.specs.declared.session.Session.{Session}
 use Rattle.vast_list.specs.declared.talk.Talk.{Talk}
@@ -24,9 +22,3 @@ AreBeside (Some session) (Some lint) has_lint = (has_lint ≡ true) × IsLevel l
 
 abbrev pub IsTalking : Talk → Type 0
 IsTalking talk = AreBeside talk.session talk.lint talk.has_lint
-
--- Memory was refused.
-abbrev pub is_memory : {X : Type 0} → Result X Fault → Bool
-is_memory (Ok given) = false
-is_memory (Err (Line fault)) = false
-is_memory (Err Memory) = true

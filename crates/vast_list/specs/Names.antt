@@ -12,11 +12,6 @@ abbrev pub entered : (named : List ℕ → Option Named) → (name : Option (Lis
 entered named None meant = named
 entered named (Some name) meant = update bytes_eq named name (Some meant)
 
--- The name, if there is one, stands for nothing from now on.
-abbrev pub forgotten : (named : List ℕ → Option Named) → (name : Option (List ℕ)) → List ℕ → Option Named
-forgotten named None = named
-forgotten named (Some name) = update bytes_eq named name None
-
 -- The name, if there is one, stands for nothing so far.
 abbrev pub IsFree : (named : List ℕ → Option Named) → (name : Option (List ℕ)) → Type 0
 IsFree named None = ⊤

@@ -1,5 +1,5 @@
 -- What a line of a list does to a session: to its file and the answers so far.
-use Rattle.std.specs.Prelude.{◌≡◌, ◌⊎◌, ℕ, List, [], ◌∷◌, ◌++◌, length, Option, None, option_copied, Result, Ok, Err, ⊤}
+use Rattle.std.specs.Prelude.{◌≡◌, ◌⊎◌, ℕ, List, [], ◌∷◌, ◌++◌, length, Option, None, Result, Ok, Err}
 use Rattle.vast_core.specs.Bench.{Bench}
 use Rattle.vast_core.specs.FileTree.{tree}
 use Rattle.vast_literal.specs.Tree.{FileTree}
@@ -7,16 +7,12 @@ use Rattle.vast_print.specs.Layout.{layout}
 use Rattle.vast_print.specs.Page.{print}
 use Rattle.vast_script.specs.declared.answer.Answer.{Answer}
 use Rattle.vast_script.specs.declared.fault.StepFault.{StepFault}
-use Rattle.vast_script.specs.declared.fault.StepFault.TheVariants.{Memory as OutOfMemory}
 use Rattle.vast_script.specs.Outcome.{Replays}
 use Rattle.vast_script.specs.Script.{call_of}
 use Rattle.vast_list.specs.declared.fault.Fault.{Fault}
 use Rattle.vast_list.specs.declared.fault.Fault.TheVariants.{Line, Memory}
 use Rattle.vast_list.specs.declared.line.Call.{Call}
 use Rattle.vast_list.specs.declared.line.Call.TheVariants.{Step as StepCall, Helper as HelperCall}
-use Rattle.vast_list.specs.declared.line.Action.{Action}
-use Rattle.vast_list.specs.declared.line.Action.TheVariants.{Ask, Call as CallAction}
-use Rattle.vast_list.specs.declared.line.Line.{Line as ReadLine}
 use Rattle.vast_list.specs.declared.session.Given.{Given}
 use Rattle.vast_list.specs.declared.session.Given.TheVariants.{Nothing, Step, Helper, Answer as Answered}
 use Rattle.vast_list.specs.declared.session.Session.{Session}
@@ -25,8 +21,8 @@ use Rattle.vast_list.specs.declared.names.Named.TheVariants.{Handle, Skipped}
 use Rattle.vast_list.specs.CallArguments.{call_pieces}
 use Rattle.vast_list.specs.CallNames.{call_name}
 use Rattle.vast_list.specs.Helpers.{Helps}
-use Rattle.vast_list.specs.Lines.{LineKind, Passed, Asked, Helped, Stepped, behind_call, call_word, line_arguments, line_kind, line_name, line_word, text_name, word_kind}
-use Rattle.vast_list.specs.Names.{IsEntered, IsFree, value_named}
+use Rattle.vast_list.specs.Lines.{Passed, Asked, Helped, Stepped, line_arguments, line_kind, line_name, line_word}
+use Rattle.vast_list.specs.Names.{IsEntered, value_named}
 use Rattle.vast_list.specs.Written.{AreWritten, meaning}
 
 -- What becomes of a call that is counted: of a step what becomes of it in a replay, of a helper what its equation says.
@@ -34,25 +30,9 @@ abbrev pub Calls : (old new : Bench) → List Answer → Result Answer StepFault
 Calls old new answers result (StepCall step) = Replays old new answers result (call_of step)
 Calls old new answers result (HelperCall helper) = Helps old new answers result helper
 
--- Want of memory is told as such; any other fault as a line's, unless memory for its words was refused.
-abbrev pub IsToldAs : StepFault → Fault → Type 0
-IsToldAs OutOfMemory told = told ≡ Memory
-IsToldAs _ told = ⊤
-
 -- The call was made over the answers so far, and its answer stands behind them.
 abbrev pub IsMade : (old new : Session) → Call → Type 0
 IsMade old new call = (answer : Answer) × Calls old.file new.file old.answers.items (Ok answer) call × (new.answers.items ≡ old.answers.items ++ answer ∷ [])
-
--- What a line is that is read as the call.
-abbrev pub call_kind : Call → LineKind
-call_kind (StepCall step) = Stepped
-call_kind (HelperCall helper) = Helped
-
--- What a line does whose call has this name and, over the names so far, these arguments.
-abbrev pub IsActionOf : (named : List ℕ → Option Named) → (skipped name arguments : List ℕ) → Action → Type 0
-IsActionOf named skipped name arguments (Ask question) = word_kind name ≡ Asked
-IsActionOf named skipped name arguments (CallAction call) =
-    (word_kind name ≡ call_kind call) × (call_name call ≡ name) × AreWritten named skipped (call_pieces call) arguments
 
 -- The arguments of the call are written so, over the session's names and the numbers that were passed over.
 abbrev pub IsWrittenIn : Session → Call → (arguments : List ℕ) → Type 0
@@ -87,15 +67,6 @@ IsFileLeft old new Memory = (tree new.file ≡ tree old.file) × (new.answers.it
 abbrev pub IsLeft : (old new : Session) → Fault → Type 0
 IsLeft old new fault = IsFileLeft old new fault × IsSameKnown old new
 
-abbrev pub Makes : (old new : Session) → Call → Result (Unit {0}) Fault → Type 0
-Makes old new call (Ok done) = IsMade old new call
-Makes old new call (Err fault) = IsFileLeft old new fault
-
--- A call's name stands from now on for the place of its answer.
-abbrev pub MakesName : (old new : Session) → (name : Option (List ℕ)) → Result (Unit {0}) Fault → Type 0
-MakesName old new name (Ok done) = Enters old new name (Handle (length old.answers.items))
-MakesName old new name (Err fault) = IsSameKnown old new
-
 -- A call was made with the line's arguments, and the line's name stands for the place of its answer from now on.
 abbrev pub GivesCall : (old new : Session) → (name line : List ℕ) → Type 0
 GivesCall old new name line = HasMade old new name (line_arguments line) × Enters old new (line_name line) (Handle (length old.answers.items))
@@ -107,12 +78,6 @@ Gives old new line Nothing = IsSame old new
 Gives old new line (Step number name) = GivesCall old new name.now line
 Gives old new line (Helper number name) = GivesCall old new name.now line
 Gives old new line (Answered name value) = IsSameFile old new × Enters old new (line_name line) (value_named value)
-
--- The text's call has the name that stands in it, and the arguments behind that; the name of its answer stands for nothing
--- so far.
-abbrev pub IsRead : (named : List ℕ → Option Named) → (skipped text : List ℕ) → ReadLine → Type 0
-IsRead named skipped text line =
-    (line.call.now ≡ call_word text) × IsActionOf named skipped line.call.now (behind_call text) line.action × (option_copied line.name ≡ text_name text) × IsFree named (text_name text)
 
 -- The line is of the kind that gives this, under its call's name.
 abbrev pub IsGivenBy : (line : List ℕ) → Given → Type 0

@@ -3,7 +3,7 @@
 //! With one request refused, such a run gives what it gives without a refusal: that is how want of memory is tried.
 
 ghost use Rattle.std.specs.Prelude.{OnOk, true};
-ghost use Rattle.vast_list.specs.Built.{TakesLine};
+ghost use Rattle.vast_list.specs.Internal.Built.{TakesLine};
 
 use crate::fault::Fault;
 use crate::session::{Given, Session};

@@ -1,8 +1,9 @@
 //! A list in the answering.
 
 ghost use Rattle.std.specs.Prelude.{◌≡◌, IfOk, OnOk, is_some, false, true};
-ghost use Rattle.vast_list.specs.Built.{TakesLine};
-ghost use Rattle.vast_list.specs.Output.{Prints, TakesOn, is_again, is_made};
+ghost use Rattle.vast_list.specs.Internal.Built.{TakesLine};
+ghost use Rattle.vast_list.specs.Output.{is_again};
+ghost use Rattle.vast_list.specs.Internal.Output.{Prints, TakesOn, is_made};
 
 use crate::again::Trial;
 use crate::fault::{Fault, LineFault};

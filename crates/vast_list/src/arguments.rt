@@ -2,7 +2,8 @@
 
 ghost use Rattle.std.specs.Prelude.{◌≡◌, List, [], ◌++◌, IfOk, OnOk, IsTrue, None, codes, false, string_bytes};
 ghost use Rattle.vast_list.specs.CallArguments.{Piece};
-ghost use Rattle.vast_list.specs.Written.{AreLeft, Goes, GoesText, IsPlaceOf, Reads, left, meaning};
+ghost use Rattle.vast_list.specs.Written.{IsPlaceOf, meaning};
+ghost use Rattle.vast_list.specs.Internal.Written.{AreLeft, Goes, GoesText, Reads, left};
 
 use crate::names::{Named, Names};
 use crate::problem::{Misfit, Problem};

@@ -3,7 +3,7 @@
 ghost use Rattle.std.specs.Prelude.{◌≡◌, IfOk};
 ghost use Rattle.vast_list.specs.CallArguments.{step_pieces};
 ghost use Rattle.vast_list.specs.CallNames.{step_name};
-ghost use Rattle.vast_list.specs.Written.{AreLeft};
+ghost use Rattle.vast_list.specs.Internal.Written.{AreLeft};
 
 mod artifacts;
 mod expressions;

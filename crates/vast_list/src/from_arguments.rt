@@ -2,7 +2,7 @@
 
 ghost use Rattle.std.specs.Prelude.{◌≡◌, ◌≢◌, Ok, IfOk, IsTrue, slice_index};
 ghost use Rattle.vast_list.specs.CallArguments.{count, format, kind, listed, number, optional, place, text, truth};
-ghost use Rattle.vast_list.specs.Written.{IsAnswered, IsCountWord, IsHandleWord, IsIntegerWord};
+ghost use Rattle.vast_list.specs.Internal.Written.{IsAnswered, IsCountWord, IsHandleWord, IsIntegerWord};
 
 use crate::arguments::{Arguments, FromArguments, SKIPPED};
 use crate::names::{Named, is_name};

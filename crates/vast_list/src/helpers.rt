@@ -3,11 +3,11 @@
 ghost use Rattle.std.specs.Prelude.{◌≡◌, IfOk};
 ghost use Rattle.vast_script.specs.Arguments.{many, one};
 ghost use Rattle.vast_script.specs.Kinds.{an_expr, an_indexable};
-ghost use Rattle.vast_script.specs.Outcome.{WrapsRefusable};
+ghost use Rattle.vast_script.specs.Internal.Outcome.{WrapsRefusable};
 ghost use Rattle.vast_list.specs.CallArguments.{helper_pieces};
 ghost use Rattle.vast_list.specs.CallNames.{helper_name};
 ghost use Rattle.vast_list.specs.Helpers.{Helps, Makes, all_hold, any_holds, elements_joined, joined};
-ghost use Rattle.vast_list.specs.Written.{AreLeft};
+ghost use Rattle.vast_list.specs.Internal.Written.{AreLeft};
 
 mod registers;
 

@@ -1,10 +1,12 @@
 //! The lines of a list.
 
 ghost use Rattle.std.specs.Prelude.{◌≡◌, [], IfOk, IfSome, IfNone, IsTrue, MatchOption, OnOk, drop, false, option_copied, true};
-ghost use Rattle.vast_list.specs.Lines.{Passed, behind_call, behind_first, behind_word, call_word, dialect_word, first_word, is_equals_front, is_passed, line_kind, rest_text, text_name, without_return, word_kind};
+ghost use Rattle.vast_list.specs.Lines.{Passed, behind_call, behind_first, behind_word, call_word, dialect_word, first_word, is_equals_front, is_passed, line_kind, text_name, without_return, word_kind};
+ghost use Rattle.vast_list.specs.Internal.Lines.{rest_text};
 ghost use Rattle.vast_list.specs.Names.{IsFree};
-ghost use Rattle.vast_list.specs.Session.{IsActionOf, IsRead};
-ghost use Rattle.vast_list.specs.Written.{left, meaning};
+ghost use Rattle.vast_list.specs.Internal.Session.{IsActionOf, IsRead};
+ghost use Rattle.vast_list.specs.Written.{meaning};
+ghost use Rattle.vast_list.specs.Internal.Written.{left};
 
 use crate::arguments::{Arguments, Known};
 use crate::calls::make_step;

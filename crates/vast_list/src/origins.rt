@@ -1,7 +1,8 @@
 //! Which calls the lines of a text come from.
 
 ghost use Rattle.std.specs.Prelude.{◌≡◌, ◌⊎◌, ◌++◌, ◌<◌, ◌≤◌, [], All, IfOk, IfSome, OnErr, OnOk, length, take, drop};
-ghost use Rattle.vast_list.specs.Origins.{ComesFrom, Follows, IsOriginIn, text_of};
+ghost use Rattle.vast_list.specs.Origins.{text_of};
+ghost use Rattle.vast_list.specs.Internal.Origins.{ComesFrom, Follows, IsOriginIn};
 
 use std::alloc::{AllocError, Global};
 use std::fmt::Write;

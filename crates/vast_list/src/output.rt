@@ -3,7 +3,8 @@
 ghost use Rattle.std.specs.Prelude.{◌≡◌, ◌≤◌, IfOk, IfSome, None, is_some, length, take, string_bytes, All};
 ghost use Rattle.vast_core.specs.FileTree.{tree};
 ghost use Rattle.vast_list.specs.Lines.{BeginsWithDialect, Passed, line_kind, line_texts};
-ghost use Rattle.vast_list.specs.Output.{header_line, is_again, BeginsWithHeader, IsAnswered, IsDesign, IsFinished, IsOutput};
+ghost use Rattle.vast_list.specs.Output.{header_line, is_again, BeginsWithHeader, IsOutput};
+ghost use Rattle.vast_list.specs.Internal.Output.{IsAnswered, IsDesign, IsFinished};
 ghost use Rattle.vast_list.specs.Session.{IsTextOf};
 
 use crate::again::Trial;

@@ -5,8 +5,10 @@ ghost use Rattle.vast_core.specs.Bench.{start};
 ghost use Rattle.vast_core.specs.FileTree.{tree};
 ghost use Rattle.xlsynth_vast.specs.Registers.{HasUnused};
 ghost use Rattle.vast_list.specs.Lines.{without_return};
-ghost use Rattle.vast_list.specs.Names.{IsFree, entered, forgotten, value_named};
-ghost use Rattle.vast_list.specs.Session.{Calls, IsGivenBy, IsRead, IsTextOf, IsToldAs, Makes, MakesName, Skips, Takes};
+ghost use Rattle.vast_list.specs.Names.{IsFree, entered, value_named};
+ghost use Rattle.vast_list.specs.Internal.Names.{forgotten};
+ghost use Rattle.vast_list.specs.Session.{Calls, IsGivenBy, IsTextOf, Skips, Takes};
+ghost use Rattle.vast_list.specs.Internal.Session.{IsRead, IsToldAs, Makes, MakesName};
 ghost use Rattle.vast_list.specs.Written.{meaning};
 
 use crate::arguments::{Known, place_of};

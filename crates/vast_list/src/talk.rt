@@ -1,7 +1,8 @@
 //! Lines that are answered one by one, by JSON.
 
 ghost use Rattle.std.specs.Prelude.{◌≡◌, MatchOption, OnOk, false, true};
-ghost use Rattle.vast_list.specs.Linted.{HasCounted, IsLevel, IsTalking, is_memory};
+ghost use Rattle.vast_list.specs.Linted.{HasCounted, IsLevel, IsTalking};
+ghost use Rattle.vast_list.specs.Internal.Linted.{is_memory};
 
 use crate::fault::Fault;
 use crate::json::push_json_text;

@@ -1,7 +1,8 @@
 //! Texts between quotes.
 
 ghost use Rattle.std.specs.Prelude.{◌≡◌, ◌≢◌, ◌∷◌, ◌++◌, IfOk, IfSome, encode_utf8, string_bytes};
-ghost use Rattle.vast_list.specs.Written.{IsCodeFront, IsContentFront, IsHigh, IsLow, IsMeaning, IsPartFront, IsTextFront, paired as pair_code};
+ghost use Rattle.vast_list.specs.Written.{IsHigh, IsLow, paired as pair_code};
+ghost use Rattle.vast_list.specs.Internal.Written.{IsCodeFront, IsContentFront, IsMeaning, IsPartFront, IsTextFront};
 
 use crate::problem::{Misfit, Problem};
 use std::alloc::Global;

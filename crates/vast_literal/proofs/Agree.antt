@@ -1,8 +1,8 @@
 -- Two readings that agree, and leave fewer tokens than a bound.
 use Rattle.std.proofs.Common.{◌≡◌, ℕ, suc, ◌+◌, ◌*◌, ◌≤◌, ◌<◌, true, false, cond, nat_eq, List, [], ◌∷◌, length, Option, Some, None, refl, sym, ◌∙◌, subst, arith}
 use Rattle.vast_literal.specs.Tokens.{LessEqual, Punct, Assign, Key, Token, Reserved, Operator, Mark}
-use Rattle.vast_literal.specs.Parser.{◌>>=◌, Parser, after, key_at, enclosed_at}
-use Rattle.vast_literal.specs.StatementParser.{key_code, after_key_on, after_key, arrow_at}
+use Rattle.vast_literal.specs.Internal.Parser.{◌>>=◌, Parser, after, key_at, enclosed_at}
+use Rattle.vast_literal.specs.Internal.StatementParser.{key_code, after_key_on, after_key, arrow_at}
 use Rattle.vast_literal.proofs.Sound.{after_is}
 use Rattle.vast_literal.proofs.Same.{Within, Same, FewerIn}
 use Rattle.vast_literal.proofs.SettledExpressions.{Both}

@@ -4,11 +4,13 @@ use Rattle.vast_literal.specs.Tokens.{OpenParen, CloseParen, Comma, Semicolon, H
 use Rattle.vast_literal.specs.NormalExpr.{NormalExpr}
 use Rattle.vast_literal.specs.NormalFile.{NormalDeclaration, NormalMembers, NormalParameter, NormalPort, NormalItem, ModulePart, IncludePart, NormalFile}
 use Rattle.vast_literal.specs.FileGrammar.{IsJoined, is_direction, IsParameter, header_parameter, IsPort, port, IsParameters, no_header_parameters, header_parameters, IsPorts, no_ports, ports, IsItem, module_item, include_item, IsFile, file, OneFile}
-use Rattle.vast_literal.specs.Parser.{◌>>=◌, lead, code, after, key_at, word_at, run}
-use Rattle.vast_literal.specs.StatementParser.{ReadOf}
-use Rattle.vast_literal.specs.DeclarationParser.{many, declaration_at}
-use Rattle.vast_literal.specs.MemberParser.{members}
-use Rattle.vast_literal.specs.FileParser.{parameter_at, port_on, port_at, header_parameters_at, header_ports_at, parameters_on, ports_on, module_at, path_end, path_of, include_on, item_at, is_more, file_at}
+use Rattle.vast_literal.specs.Parser.{code}
+use Rattle.vast_literal.specs.Internal.Parser.{◌>>=◌, lead, after, key_at, word_at, run}
+use Rattle.vast_literal.specs.Internal.StatementParser.{ReadOf}
+use Rattle.vast_literal.specs.Internal.DeclarationParser.{many, declaration_at}
+use Rattle.vast_literal.specs.Internal.MemberParser.{members}
+use Rattle.vast_literal.specs.Internal.FileParser.{path_end, path_of, include_on, is_more}
+use Rattle.vast_literal.proofs.FileParser.{parameter_at, port_on, port_at, header_parameters_at, header_ports_at, parameters_on, ports_on, module_at, item_at, file_at}
 use Rattle.vast_literal.proofs.Gives.{Soon, by_fuel, at_once, same, same2, same3, one_result}
 use Rattle.vast_literal.proofs.Moves.{Quiet, bound, after_self}
 use Rattle.vast_literal.proofs.StatementsParse.{key_self, expression_parses}

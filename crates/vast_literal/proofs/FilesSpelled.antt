@@ -5,11 +5,11 @@ use Rattle.vast_literal.specs.Tree.{Dialect, MaybeType, Untyped, Typed, PortDire
 use Rattle.vast_literal.specs.NormalFile.{ModulePart}
 use Rattle.vast_literal.specs.FileGrammar.{IsMany, no_items, more_items, absent, no_type, IsDeclaration, declares, is_direction, IsParameter, header_parameter, IsPort, port, IsParameters, no_header_parameters, header_parameters, IsPorts, no_ports, ports, IsItem, module_item, include_item, IsFile, file}
 use Rattle.vast_literal.specs.Plain.{is_plain_name}
-use Rattle.vast_literal.specs.ExprTokens.{expr_tokens}
+use Rattle.vast_literal.proofs.ExprTokens.{expr_tokens}
 use Rattle.vast_literal.specs.WellFormed.{is_well_formed, is_well_formed_type}
 use Rattle.vast_literal.specs.Shape.{base_of, base_kind}
 use Rattle.vast_literal.specs.NormalTree.{direction_key, normal_port, normal_ports, normal_typed, normal_parameter, normal_parameters, normal_module, normal_item_before, normal_items, normal_file}
-use Rattle.vast_literal.specs.FileTokens.{port_declaration_tokens, each_port, typed_tokens, each_parameter, header_parameter_tokens, header_port_tokens, module_tokens, item_tokens, items_tokens, file_tokens}
+use Rattle.vast_literal.proofs.FileTokens.{port_declaration_tokens, each_port, typed_tokens, each_parameter, header_parameter_tokens, header_port_tokens, module_tokens, item_tokens, items_tokens, file_tokens}
 use Rattle.vast_literal.specs.PlainFile.{is_plain_value, is_plain_declared, are_plain_members, are_plain_ports, is_plain_typed, are_plain_parameters, is_plain_module, is_path_byte, are_plain_items, is_plain_file}
 use Rattle.vast_literal.specs.WellFormedFile.{are_well_formed_members, are_well_formed_ports, is_well_formed_typed, are_well_formed_parameters, is_well_formed_module, are_well_formed_items, is_well_formed_file}
 use Rattle.vast_literal.proofs.ScanLaws.{and_left, and_right}

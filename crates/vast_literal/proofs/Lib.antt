@@ -1,3 +1,9 @@
+pub mod LiteralToken
+pub mod ExprTokens
+pub mod FileParser
+pub mod SettledDeclarationsWords
+pub mod SettledMembersWords
+pub mod FileTokens
 pub mod QuotedLaws
 pub mod Numbers
 pub mod Widths

@@ -2,7 +2,8 @@
 use Rattle.std.proofs.Common.{◌≡◌, ℕ, List, [], ◌∷◌, ◌++◌, Bool, true, false, cond, eqb, eqb-true, ◌&&◌, ◌||◌, refl, sym, append_assoc, true≢false}
 use Rattle.vast_literal.specs.Tokens.{Minus, Number, Based, Operator}
 use Rattle.vast_literal.specs.Scan.{is_digit, is_based_digit, is_radix, is_filler, Gap, cons_token, scan}
-use Rattle.vast_literal.specs.LiteralToken.{every, is_number, is_radix_tail, is_based_tail, is_based, is_filled, is_bare_literal, is_literal_text, bare_token, literal_tokens}
+use Rattle.vast_literal.specs.LiteralToken.{every, is_number, is_radix_tail, is_based_tail, is_based, is_filled, is_bare_literal, is_literal_text}
+use Rattle.vast_literal.proofs.LiteralToken.{bare_token, literal_tokens}
 use Rattle.vast_literal.proofs.TokenReads.{stops, Reads}
 use Rattle.vast_literal.proofs.ScanLaws.{and_left, and_right, scan_number, scan_based, scan_filler, scan_signed}
 use Rattle.vast_literal.proofs.Pieces.{free_reads, minus_free}

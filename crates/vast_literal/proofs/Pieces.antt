@@ -7,7 +7,7 @@ use Rattle.vast_literal.specs.NormalExpr.{unary_operator_token}
 use Rattle.vast_literal.specs.Spelling.{op_text}
 use Rattle.vast_literal.specs.LiteralToken.{is_number}
 use Rattle.vast_literal.specs.Plain.{is_identifier}
-use Rattle.vast_literal.specs.ExprTokens.{wrapped_tokens}
+use Rattle.vast_literal.proofs.ExprTokens.{wrapped_tokens}
 use Rattle.vast_literal.proofs.TokenReads.{stops, opens, Free, Divides, Reads}
 use Rattle.vast_literal.proofs.ScanLaws.{add_tokens-append, scan_word, scan_word_cast, scan_number, scan_number_cast, scan_operator, scan_not, scan_and, scan_or, scan_colon}
 

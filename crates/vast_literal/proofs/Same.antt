@@ -1,7 +1,7 @@
 -- Two readings that agree, and leave no more tokens than a bound.
 use Rattle.std.proofs.Common.{◌≡◌, ℕ, suc, ◌≤◌, ◌<◌, Bool, true, false, cond, List, [], ◌∷◌, length, Option, Some, None, refl, subst, arith}
 use Rattle.vast_literal.specs.Tokens.{is_unary, Punct, OpenParen, OpenBracket, CloseBracket, Colon, Question, DoubleColon, PlusColon, Apostrophe, Token, Word, Number, Operator, Mark}
-use Rattle.vast_literal.specs.Parser.{◌>>=◌, Lead, Ends, Opens, Ticks, Scopes, Brackets, Asks, Closes, Colons, PlusColons, Infix, lead, after, prefix, word_at, number_at}
+use Rattle.vast_literal.specs.Internal.Parser.{◌>>=◌, Lead, Ends, Opens, Ticks, Scopes, Brackets, Asks, Closes, Colons, PlusColons, Infix, lead, after, prefix, word_at, number_at}
 use Rattle.vast_literal.proofs.Sound.{after_is}
 
 -- what was read leaves no more tokens than this

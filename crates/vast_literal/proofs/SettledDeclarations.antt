@@ -4,11 +4,12 @@ use Rattle.vast_literal.specs.Tokens.{Key, OpenBracket, CloseBracket, Colon, Dou
 use Rattle.vast_literal.specs.NormalExpr.{NormalExpr}
 use Rattle.vast_literal.specs.NormalFile.{Group, One, Range}
 use Rattle.vast_literal.specs.FileGrammar.{is_kind, is_sign}
-use Rattle.vast_literal.specs.Parser.{◌>>=◌, Parser, lead, code, after, key_at, word_at, enclosed_at, run}
-use Rattle.vast_literal.specs.DeclarationParser.{many_on, group_on, group_at, is_bracket, groups_at, maybe_on, maybe_at, signed_at, sign_on, named_on, unscoped_on, worded_on, typed_on, kind_on, declaration_at}
-use Rattle.vast_literal.specs.Settled.{either, settled}
-use Rattle.vast_literal.specs.Nexts.{key_with}
-use Rattle.vast_literal.specs.SettledDeclarations.{group_end, settled_group, settled_groups, named_end, signed_end, type_or_name, plain_word, scoped_type, behind_word, behind_kind, settled_declaration}
+use Rattle.vast_literal.specs.Parser.{code}
+use Rattle.vast_literal.specs.Internal.Parser.{◌>>=◌, Parser, lead, after, key_at, word_at, enclosed_at, run}
+use Rattle.vast_literal.specs.Internal.DeclarationParser.{many_on, group_on, group_at, is_bracket, groups_at, maybe_on, maybe_at, signed_at, sign_on, named_on, unscoped_on, worded_on, typed_on, kind_on, declaration_at}
+use Rattle.vast_literal.specs.Internal.Settled.{either, settled}
+use Rattle.vast_literal.specs.Internal.Nexts.{key_with}
+use Rattle.vast_literal.specs.Internal.SettledDeclarations.{group_end, settled_group, settled_groups, named_end, signed_end, type_or_name, plain_word, scoped_type, behind_word, behind_kind, settled_declaration}
 use Rattle.vast_literal.proofs.Same.{FewerIn, fewer_word}
 use Rattle.vast_literal.proofs.SettledExpressions.{run_settled}
 use Rattle.vast_literal.proofs.Agree.{Agree, ready, wide, of_same, chain, begun, second, read, shorter_mark, behind, fewer_key, enclosed_agree}

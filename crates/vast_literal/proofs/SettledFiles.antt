@@ -3,13 +3,14 @@ use Rattle.std.proofs.Common.{◌≡◌, ℕ, suc, ◌+◌, ◌*◌, ◌<◌, Bo
 use Rattle.vast_literal.specs.Tokens.{Key, ModuleKey, EndModuleKey, ParameterKey, OpenParen, CloseParen, Comma, Semicolon, Hash, Assign, Token, Reserved, MacroWord, Quoted, Mark}
 use Rattle.vast_literal.specs.NormalFile.{NormalPort, ModulePart, IncludePart, NormalFile}
 use Rattle.vast_literal.specs.FileGrammar.{is_direction, IsFile}
-use Rattle.vast_literal.specs.Parser.{◌>>=◌, after, key_at, word_at, run}
-use Rattle.vast_literal.specs.StatementParser.{ReadOf, key_code, after_key_on, after_key}
-use Rattle.vast_literal.specs.DeclarationParser.{many_on, declaration_at}
-use Rattle.vast_literal.specs.FileParser.{parameter_at, port_on, port_at, header_parameters_at, header_ports_at, parameters_on, ports_on, module_at, path_of, include_on, item_at, is_more, file_at}
-use Rattle.vast_literal.specs.Settled.{either}
-use Rattle.vast_literal.specs.Nexts.{key_with}
-use Rattle.vast_literal.specs.SettledFiles.{settled_parameter, settled_port, joined_parameters, joined_ports, parameter_list, settled_parameters, port_list, settled_ports, settled_module, include_at, settled_item, settled_items, settled_file}
+use Rattle.vast_literal.specs.Internal.Parser.{◌>>=◌, after, key_at, word_at, run}
+use Rattle.vast_literal.specs.Internal.StatementParser.{ReadOf, key_code, after_key_on, after_key}
+use Rattle.vast_literal.specs.Internal.DeclarationParser.{many_on, declaration_at}
+use Rattle.vast_literal.specs.Internal.FileParser.{path_of, include_on, is_more}
+use Rattle.vast_literal.proofs.FileParser.{parameter_at, port_on, port_at, header_parameters_at, header_ports_at, parameters_on, ports_on, module_at, item_at, file_at}
+use Rattle.vast_literal.specs.Internal.Settled.{either}
+use Rattle.vast_literal.specs.Internal.Nexts.{key_with}
+use Rattle.vast_literal.specs.Internal.SettledFiles.{settled_parameter, settled_port, joined_parameters, joined_ports, parameter_list, settled_parameters, port_list, settled_ports, settled_module, include_at, settled_item, settled_items, settled_file}
 use Rattle.vast_literal.proofs.Gives.{Soon, one_result}
 use Rattle.vast_literal.proofs.FilesParse.{file_parses}
 use Rattle.vast_literal.proofs.Same.{FewerIn, fewer_word}

@@ -1,11 +1,12 @@
 -- The settled parsers of lists: what they read item by item, and that those by fuel agree with them.
 use Rattle.std.proofs.Common.{◌≡◌, ℕ, zero, suc, ◌+◌, ◌*◌, ◌<◌, Bool, true, false, List, [], ◌∷◌, length, Option, Some, None, refl, arith}
 use Rattle.vast_literal.specs.Tokens.{Punct, Token}
-use Rattle.vast_literal.specs.Parser.{◌>>=◌, after}
-use Rattle.vast_literal.specs.StatementParser.{ReadOf}
-use Rattle.vast_literal.specs.DeclarationParser.{many_on, many, joined_on, joined_at, listed_on, listed_at}
-use Rattle.vast_literal.specs.Settled.{either}
-use Rattle.vast_literal.specs.SettledDeclarations.{many_of, joined_of, others_of, listed_of}
+use Rattle.vast_literal.specs.Internal.Parser.{◌>>=◌, after}
+use Rattle.vast_literal.specs.Internal.StatementParser.{ReadOf}
+use Rattle.vast_literal.specs.Internal.DeclarationParser.{many_on, many, joined_on, joined_at, listed_on, listed_at}
+use Rattle.vast_literal.specs.Internal.Settled.{either}
+use Rattle.vast_literal.specs.Internal.SettledDeclarations.{many_of, joined_of, listed_of}
+use Rattle.vast_literal.proofs.SettledDeclarationsWords.{others_of}
 use Rattle.vast_literal.proofs.Same.{FewerIn}
 use Rattle.vast_literal.proofs.Agree.{Agree, ready, chain, meets, Shorter, shorter_mark, behind}
 

@@ -4,12 +4,12 @@ use Rattle.vast_literal.specs.Tokens.{OpenParen, CloseParen, Comma, Semicolon, D
 use Rattle.vast_literal.specs.NormalExpr.{NormalExprs}
 use Rattle.vast_literal.specs.NormalFile.{Done, Then, NormalDeclaration, Event, EdgeEvent, NameEvent, NormalConnection, MacroPart, InstancePart, FunctionPart}
 use Rattle.vast_literal.specs.FileGrammar.{is_edge}
-use Rattle.vast_literal.specs.Parser.{◌>>=◌, Parser, after, key_at, word_at, enclosed_at, arguments, run}
-use Rattle.vast_literal.specs.StatementParser.{key_code, after_key_on, after_key, cases_at, read_with}
-use Rattle.vast_literal.specs.MemberParser.{event_on, event_at, connection_on, connection_at, given_at, connections_at, givens_at, instance_at, instance_on, semicolon_on, macro_end, macro_member, plain_member, input_at, inputs_at, is_local, local_at, locals_at, casez_alone, function_body, function_end, function_at}
-use Rattle.vast_literal.specs.Settled.{either, settled, settled_reader}
-use Rattle.vast_literal.specs.Nexts.{key_with}
-use Rattle.vast_literal.specs.SettledMembers.{settled_event, connection_value, settled_connection, settled_given, settled_connections, settled_givens, instance_end, given_parameters, settled_instance, macro_ending, settled_macro, plain_part, settled_input, settled_inputs, settled_local, settled_locals, lone_case, function_block, function_ending, settled_function}
+use Rattle.vast_literal.specs.Internal.Parser.{◌>>=◌, Parser, after, key_at, word_at, enclosed_at, arguments, run}
+use Rattle.vast_literal.specs.Internal.StatementParser.{key_code, after_key_on, after_key, cases_at, read_with}
+use Rattle.vast_literal.specs.Internal.MemberParser.{event_on, event_at, connection_on, connection_at, given_at, connections_at, givens_at, instance_at, instance_on, semicolon_on, macro_end, macro_member, plain_member, input_at, inputs_at, is_local, local_at, locals_at, casez_alone, function_body, function_end, function_at}
+use Rattle.vast_literal.specs.Internal.Settled.{either, settled, settled_reader}
+use Rattle.vast_literal.specs.Internal.Nexts.{key_with}
+use Rattle.vast_literal.specs.Internal.SettledMembers.{settled_event, connection_value, settled_connection, settled_given, settled_connections, settled_givens, instance_end, given_parameters, settled_instance, macro_ending, settled_macro, plain_part, settled_input, settled_inputs, settled_local, settled_locals, lone_case, function_block, function_ending, settled_function}
 use Rattle.vast_literal.proofs.Same.{fewer_word}
 use Rattle.vast_literal.proofs.SettledExpressions.{run_settled, arguments_same}
 use Rattle.vast_literal.proofs.SettledStatements.{reader_settled, cases_agree}

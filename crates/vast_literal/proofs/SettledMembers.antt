@@ -4,14 +4,15 @@ use Rattle.vast_literal.specs.Tokens.{Op, Plus, OpenParen, CloseParen, Colon, Se
 use Rattle.vast_literal.specs.NormalExpr.{NormalExpr}
 use Rattle.vast_literal.specs.NormalFile.{DeclarationPart, AssignPart, ParameterPart, AlwaysPart, ConditionalPart, LoopPart, NormalMembers, NoParts, MoreParts}
 use Rattle.vast_literal.specs.FileGrammar.{is_member_kind, is_parameter_word, is_clocked}
-use Rattle.vast_literal.specs.Parser.{◌>>=◌, after, key_at, word_at, number_at, enclosed_at, selected_at, run}
-use Rattle.vast_literal.specs.StatementParser.{ReadOf, key_code, after_key_on, after_key, block_at, read_with}
-use Rattle.vast_literal.specs.DeclarationParser.{listed_at, declaration_at}
-use Rattle.vast_literal.specs.MemberParser.{event_at, plain_member, block_with, bound_of, same_word, step_word, label_on, loop_body, loop_at, function_at, keyed_on, member_on, members_on, members}
-use Rattle.vast_literal.specs.Settled.{either, settled, settled_reader}
-use Rattle.vast_literal.specs.Nexts.{key_with, begins_with, sign_with, is_plus}
-use Rattle.vast_literal.specs.SettledDeclarations.{settled_declaration}
-use Rattle.vast_literal.specs.SettledMembers.{settled_members, settled_event, settled_events, plain_part, loop_start, loop_bound, number_one, loop_step, loop_label, loop_block, loop_end, settled_loop, settled_local, assign_part, combinational_part, conditional_part, parameter_part, clocked_part, declaration_part, settled_member}
+use Rattle.vast_literal.specs.Internal.Parser.{◌>>=◌, after, key_at, word_at, number_at, enclosed_at, selected_at, run}
+use Rattle.vast_literal.specs.Internal.StatementParser.{ReadOf, key_code, after_key_on, after_key, block_at, read_with}
+use Rattle.vast_literal.specs.Internal.DeclarationParser.{listed_at, declaration_at}
+use Rattle.vast_literal.specs.Internal.MemberParser.{event_at, plain_member, block_with, bound_of, same_word, step_word, label_on, loop_body, loop_at, function_at, keyed_on, member_on, members_on, members}
+use Rattle.vast_literal.specs.Internal.Settled.{either, settled, settled_reader}
+use Rattle.vast_literal.specs.Internal.Nexts.{key_with, begins_with, sign_with, is_plus}
+use Rattle.vast_literal.specs.Internal.SettledDeclarations.{settled_declaration}
+use Rattle.vast_literal.specs.Internal.SettledMembers.{settled_members, settled_event, settled_events, plain_part, loop_start, loop_bound, number_one, loop_step, loop_label, settled_local, assign_part, combinational_part, conditional_part, parameter_part, clocked_part, declaration_part}
+use Rattle.vast_literal.proofs.SettledMembersWords.{loop_block, loop_end, settled_loop, settled_member}
 use Rattle.vast_literal.proofs.Same.{FewerIn, fewer_word, fewer_number}
 use Rattle.vast_literal.proofs.SettledExpressions.{run_settled, selected_same}
 use Rattle.vast_literal.proofs.SettledStatements.{reader_settled}

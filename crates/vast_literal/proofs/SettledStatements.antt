@@ -5,9 +5,9 @@ use Rattle.vast_literal.specs.NormalExpr.{NormalExpr}
 use Rattle.vast_literal.specs.NormalFile.{AssignStatement, ChoiceStatement, CaseStatement, NormalStatements, Done, Then, Only, Otherwise, Or, NoLabels, Label}
 use Rattle.vast_literal.specs.Grammar.{is_cast_word}
 use Rattle.vast_literal.specs.FileGrammar.{assignment}
-use Rattle.vast_literal.specs.Parser.{Parser, key_at, enclosed_at}
-use Rattle.vast_literal.specs.StatementParser.{Reader, after_key, arrow_at, simple_at, block_at, cases_at, case_of, statement_on, statement_step, statements_on, statements_step, tail_on, choice_on, choice_step, body_on, arm_at, labels_on, labels_step, reader_step, read_with}
-use Rattle.vast_literal.specs.Settled.{settled, settled_reader}
+use Rattle.vast_literal.specs.Internal.Parser.{Parser, key_at, enclosed_at}
+use Rattle.vast_literal.specs.Internal.StatementParser.{Reader, after_key, arrow_at, simple_at, block_at, cases_at, case_of, statement_on, statement_step, statements_on, statements_step, tail_on, choice_on, choice_step, body_on, arm_at, labels_on, labels_step, reader_step, read_with}
+use Rattle.vast_literal.specs.Internal.Settled.{settled, settled_reader}
 use Rattle.vast_literal.proofs.Gives.{low_is}
 use Rattle.vast_literal.proofs.Same.{FewerIn}
 use Rattle.vast_literal.proofs.SettledExpressions.{Both, selected_same, step_both, run_settled}

@@ -5,8 +5,8 @@ use Rattle.vast_literal.specs.NormalExpr.{NormalExpr}
 use Rattle.vast_literal.specs.NormalFile.{Group, NormalDeclaration}
 use Rattle.vast_literal.specs.Grammar.{Spells}
 use Rattle.vast_literal.specs.FileGrammar.{IsMany, no_items, more_items, is_kind, is_sign, IsGroup, one, range, IsMaybe, absent, present, IsTypeName, no_type, own_type, packaged, IsDeclaration, declares}
-use Rattle.vast_literal.specs.Parser.{Parser, Lead, Closes, Colons, lead, after, key_at, word_at}
-use Rattle.vast_literal.specs.DeclarationParser.{group_on, group_at, is_bracket, Fueled, groups_at, maybe_on, maybe_at, signed_at, sign_on, named_on, unscoped_on, worded_on, typed_on, kind_on, declaration_at}
+use Rattle.vast_literal.specs.Internal.Parser.{Parser, Lead, Closes, Colons, lead, after, key_at, word_at}
+use Rattle.vast_literal.specs.Internal.DeclarationParser.{group_on, group_at, is_bracket, Fueled, groups_at, maybe_on, maybe_at, signed_at, sign_on, named_on, unscoped_on, worded_on, typed_on, kind_on, declaration_at}
 use Rattle.vast_literal.proofs.Sound.{bind_some, after_is, word_is, lead_is, Sound}
 use Rattle.vast_literal.proofs.SoundPrimary.{enclosed_sound}
 use Rattle.vast_literal.proofs.SoundLists.{Fronted, answers, moved, key_is, many_sound}

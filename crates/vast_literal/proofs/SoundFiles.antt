@@ -5,9 +5,10 @@ use Rattle.std.proofs.lemmas.Slice.Eq.{bytes_eq-Decides}
 use Rattle.vast_literal.specs.Tokens.{Key, ModuleKey, EndModuleKey, ParameterKey, OpenParen, CloseParen, Comma, Semicolon, Hash, Assign, Token, Reserved, Word, MacroWord, Quoted, Mark}
 use Rattle.vast_literal.specs.NormalFile.{NormalParameter, NormalPort, NormalItem, ModulePart, NormalFile}
 use Rattle.vast_literal.specs.FileGrammar.{IsJoined, is_direction, IsParameter, header_parameter, IsPort, port, IsParameters, no_header_parameters, header_parameters, IsPorts, no_ports, ports, IsItem, module_item, include_item, IsFile, file}
-use Rattle.vast_literal.specs.Parser.{◌>>=◌, after, key_at, run}
-use Rattle.vast_literal.specs.MemberParser.{members}
-use Rattle.vast_literal.specs.FileParser.{parameter_at, port_on, port_at, header_parameters_at, header_ports_at, parameters_on, ports_on, module_at, path_end, path_of, include_on, item_at, is_more, file_at}
+use Rattle.vast_literal.specs.Internal.Parser.{◌>>=◌, after, key_at, run}
+use Rattle.vast_literal.specs.Internal.MemberParser.{members}
+use Rattle.vast_literal.specs.Internal.FileParser.{path_end, path_of, include_on, is_more}
+use Rattle.vast_literal.proofs.FileParser.{parameter_at, port_on, port_at, header_parameters_at, header_ports_at, parameters_on, ports_on, module_at, item_at, file_at}
 use Rattle.vast_literal.proofs.Sound.{bind_some, after_is, word_is}
 use Rattle.vast_literal.proofs.SoundLevels.{sound}
 use Rattle.vast_literal.proofs.SoundLists.{Fronted, answers, passed, key_is, after_key_is, many_sound, joined_sound}

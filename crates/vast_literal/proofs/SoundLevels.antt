@@ -4,7 +4,7 @@ use Rattle.std.proofs.lemmas.Option.{same_Some}
 use Rattle.vast_literal.specs.Tokens.{Op, level, OpenBracket, CloseBracket, Colon, Question, PlusColon, Token, Number, Operator, Mark}
 use Rattle.vast_literal.specs.NormalExpr.{NormalExpr, Binary, Index, Slice, PartSelect}
 use Rattle.vast_literal.specs.Grammar.{Spells, up, ternary, binary, unary, index, slice, part_select}
-use Rattle.vast_literal.specs.Parser.{◌>>=◌, Parser, Lead, Brackets, Asks, Closes, Colons, PlusColons, Infix, lead, prefix, select, selects_on, selects_step, selected_at, operand_on, operand_step, climb_on, climb_step, binary_step, expression_on, expression_step, step, silent, run}
+use Rattle.vast_literal.specs.Internal.Parser.{◌>>=◌, Parser, Lead, Brackets, Asks, Closes, Colons, PlusColons, Infix, lead, prefix, select, selects_on, selects_step, selected_at, operand_on, operand_step, climb_on, climb_step, binary_step, expression_on, expression_step, step, silent, run}
 use Rattle.vast_literal.proofs.Sound.{bind_some, chosen, after_is, prefix_is, number_is, lead_is, level_small, lower, From, BelowAt, Below, Climbs, Sound, stays}
 use Rattle.vast_literal.proofs.SoundPrimary.{enclosed_sound, list_sound, primary_sound}
 

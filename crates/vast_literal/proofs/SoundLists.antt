@@ -3,9 +3,9 @@ use Rattle.std.proofs.Common.{◌≡◌, ℕ, zero, suc, Bool, true, false, cond
 use Rattle.std.proofs.lemmas.Option.{same_Some, cond_some}
 use Rattle.vast_literal.specs.Tokens.{Punct, Key, IfKey, reserved_keys, Token, Reserved, Mark}
 use Rattle.vast_literal.specs.FileGrammar.{IsMany, no_items, more_items, IsJoined, last_item, next_item, IsList, empty, full}
-use Rattle.vast_literal.specs.Parser.{after, key_at}
-use Rattle.vast_literal.specs.StatementParser.{ReadOf, key_code, after_key_on, after_key}
-use Rattle.vast_literal.specs.DeclarationParser.{many_on, many, joined_on, joined_at, listed_on, listed_at}
+use Rattle.vast_literal.specs.Internal.Parser.{after, key_at}
+use Rattle.vast_literal.specs.Internal.StatementParser.{ReadOf, key_code, after_key_on, after_key}
+use Rattle.vast_literal.specs.Internal.DeclarationParser.{many_on, many, joined_on, joined_at, listed_on, listed_at}
 use Rattle.vast_literal.proofs.Sound.{bind_some, after_is}
 
 -- a front of the tokens spells what was read, and the rest is behind it

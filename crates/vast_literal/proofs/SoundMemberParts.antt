@@ -6,10 +6,10 @@ use Rattle.vast_literal.specs.Tokens.{Less, Plus, OpenParen, CloseParen, Comma, 
 use Rattle.vast_literal.specs.NormalExpr.{NormalExpr, Name, Binary}
 use Rattle.vast_literal.specs.NormalFile.{NormalStatement, NormalStatements, NormalDeclaration, Event, NormalConnection}
 use Rattle.vast_literal.specs.FileGrammar.{unique, not_unique, IsCases, IsStatements, IsMany, IsJoined, IsList, is_kind, is_member_kind, is_local_kind, is_edge, IsEvent, edge, plain, IsInput, input, IsDeclared, declared, IsGiven, given, IsConnection, connected, unconnected, IsSemicolon, with_one, without, IsLabel, no_label, labelled, IsFunctionBody, block_body, casez_body}
-use Rattle.vast_literal.specs.Parser.{◌>>=◌, Parser, after, key_at, enclosed_at, run}
-use Rattle.vast_literal.specs.StatementParser.{ReadOf, after_key, block_at, cases_at, read_with}
-use Rattle.vast_literal.specs.DeclarationParser.{listed_at, declaration_at}
-use Rattle.vast_literal.specs.MemberParser.{event_on, event_at, connection_on, connection_at, given_at, connections_at, givens_at, semicolon_on, block_with, bound_of, same_word, step_word, label_on, input_at, inputs_at, local_on, is_local, local_at, locals_at, casez_alone, function_body}
+use Rattle.vast_literal.specs.Internal.Parser.{◌>>=◌, Parser, after, key_at, enclosed_at, run}
+use Rattle.vast_literal.specs.Internal.StatementParser.{ReadOf, after_key, block_at, cases_at, read_with}
+use Rattle.vast_literal.specs.Internal.DeclarationParser.{listed_at, declaration_at}
+use Rattle.vast_literal.specs.Internal.MemberParser.{event_on, event_at, connection_on, connection_at, given_at, connections_at, givens_at, semicolon_on, block_with, bound_of, same_word, step_word, label_on, input_at, inputs_at, local_on, is_local, local_at, locals_at, casez_alone, function_body}
 use Rattle.vast_literal.proofs.Sound.{bind_some, after_is, word_is, number_is, Sound}
 use Rattle.vast_literal.proofs.SoundPrimary.{enclosed_sound}
 use Rattle.vast_literal.proofs.SoundLevels.{sound}

@@ -5,10 +5,10 @@ use Rattle.vast_literal.specs.NormalExpr.{NormalExpr, Name, Binary}
 use Rattle.vast_literal.specs.NormalFile.{NormalDeclaration, NormalConnection, NormalMember, DeclarationPart, AssignPart, ParameterPart, AlwaysPart, ConditionalPart, NormalMembers}
 use Rattle.vast_literal.specs.Grammar.{Spells}
 use Rattle.vast_literal.specs.FileGrammar.{IsDeclaration, IsList, IsInput, is_member_kind, is_parameter_word, is_clocked, IsGivenList, no_parameters, with_parameters, IsMember, declaration, continuous, parameter, macro, macro_with, instance, combinational, clocked, conditional, function, loop, IsMembers, closed, and_member}
-use Rattle.vast_literal.specs.Parser.{◌>>=◌, after, key_at, enclosed_at, selected_at, run}
-use Rattle.vast_literal.specs.StatementParser.{ReadOf, after_key, read_with}
-use Rattle.vast_literal.specs.DeclarationParser.{listed_at, declaration_at}
-use Rattle.vast_literal.specs.MemberParser.{event_at, instance_at, instance_on, macro_end, macro_member, plain_member, block_with, bound_of, same_word, step_word, loop_body, loop_at, function_end, function_at, keyed_on, member_on, members_on, members}
+use Rattle.vast_literal.specs.Internal.Parser.{◌>>=◌, after, key_at, enclosed_at, selected_at, run}
+use Rattle.vast_literal.specs.Internal.StatementParser.{ReadOf, after_key, read_with}
+use Rattle.vast_literal.specs.Internal.DeclarationParser.{listed_at, declaration_at}
+use Rattle.vast_literal.specs.Internal.MemberParser.{event_at, instance_at, instance_on, macro_end, macro_member, plain_member, block_with, bound_of, same_word, step_word, loop_body, loop_at, function_end, function_at, keyed_on, member_on, members_on, members}
 use Rattle.vast_literal.proofs.Sound.{bind_some, after_is, word_is}
 use Rattle.vast_literal.proofs.SoundPrimary.{enclosed_sound, arguments_sound}
 use Rattle.vast_literal.proofs.SoundLevels.{selected_sound, sound}

@@ -4,7 +4,7 @@ use Rattle.std.proofs.lemmas.Option.{same_Some}
 use Rattle.vast_literal.specs.Tokens.{Punct, OpenParen, CloseParen, OpenBrace, CloseBrace, Comma, DoubleColon, Apostrophe, Key, Token, Reserved, Word, SystemWord, MacroWord, Number, Based, Quoted, Mark}
 use Rattle.vast_literal.specs.NormalExpr.{NormalExpr, Name, Literal, Pattern, Call, MacroCall, Cast, PackageCast, WordCast, NormalExprs}
 use Rattle.vast_literal.specs.Grammar.{is_cast_word, Spells, name, number, based, quoted, paren, call, system_call, concat, replicated, array_pattern, macro_alone, macro_call, number_cast, name_cast, package_cast, paren_cast, word_cast, SpellsList, none, some, last, next}
-use Rattle.vast_literal.specs.Parser.{◌>>=◌, Parser, Lead, Opens, Ticks, Scopes, lead, after, enclosed_at, cast, list_on, list_step, arguments_on, arguments, applied_at, word_on, number_on, macro_on, paren_on, brace_next, brace_on, primary}
+use Rattle.vast_literal.specs.Internal.Parser.{◌>>=◌, Parser, Lead, Opens, Ticks, Scopes, lead, after, enclosed_at, cast, list_on, list_step, arguments_on, arguments, applied_at, word_on, number_on, macro_on, paren_on, brace_next, brace_on, primary}
 use Rattle.vast_literal.proofs.Sound.{bind_some, chosen, after_is, word_is, lead_is, same_tree, From, FromList, FromArguments, FromEnclosed, Sound}
 
 module _ (p : Parser) (s : Sound p) where

@@ -6,9 +6,10 @@ use Rattle.vast_literal.specs.Tree.{UnaryOp, NegateOp, ExprTree, NameTree, Liter
 use Rattle.vast_literal.specs.Shape.{is_scalar_name, is_zero, is_elided_index, is_elided_slice, unary_wraps, left_child_wraps, right_child_wraps, ternary_wraps, select_wraps}
 use Rattle.vast_literal.specs.NormalExpr.{NormalExpr, Name, Literal, Unary, Call, Cast, NormalExprs, NoNormals, MoreNormals, unary_operator_token, binary_operator_token, normal_literal, signing_key, normal_word_cast, scalar_sign, integer_sign, normal, normal_cast, normals}
 use Rattle.vast_literal.specs.Grammar.{is_cast_word, Spells, ternary, binary, unary, index, slice, part_select, name, number, based, quoted, paren, call, system_call, concat, replicated, array_pattern, macro_alone, macro_call, number_cast, name_cast, package_cast, paren_cast, word_cast, SpellsList, none, some, SpellsJoined, last, next}
-use Rattle.vast_literal.specs.LiteralToken.{is_number, bare_token, literal_tokens}
+use Rattle.vast_literal.specs.LiteralToken.{is_number}
+use Rattle.vast_literal.proofs.LiteralToken.{bare_token, literal_tokens}
 use Rattle.vast_literal.specs.Plain.{is_edgeless, is_edgeless_type, are_edgeless}
-use Rattle.vast_literal.specs.ExprTokens.{is_bare_head, wrapped_tokens, cast_operand, comma_tail_tokens, comma_tokens, called_token, word_cast_tokens, expr_tokens, cast_tokens, each_tokens}
+use Rattle.vast_literal.proofs.ExprTokens.{is_bare_head, wrapped_tokens, cast_operand, comma_tail_tokens, comma_tokens, called_token, word_cast_tokens, expr_tokens, cast_tokens, each_tokens}
 use Rattle.vast_literal.specs.WellFormed.{is_positive, is_cast_type, is_well_formed, is_well_formed_type, are_well_formed}
 use Rattle.vast_literal.proofs.ScanLaws.{and_left, and_right}
 use Rattle.vast_literal.proofs.NumberLaws.{no_minus}

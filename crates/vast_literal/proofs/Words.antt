@@ -4,7 +4,7 @@ use Rattle.vast_literal.specs.Tokens.{Key, key_text, Reserved, Word, SystemWord,
 use Rattle.vast_literal.specs.Scan.{scan}
 use Rattle.vast_literal.specs.LiteralToken.{is_number, is_string_text}
 use Rattle.vast_literal.specs.Plain.{is_identifier, is_plain_name, is_called_name}
-use Rattle.vast_literal.specs.ExprTokens.{called_token}
+use Rattle.vast_literal.proofs.ExprTokens.{called_token}
 use Rattle.vast_literal.proofs.TokenReads.{Free, Divides, Reads}
 use Rattle.vast_literal.proofs.ScanLaws.{and_left, scan_name, scan_number, scan_system, scan_macro, scan_string, scan_key, scan_word_cast, key_token, key_identifier, plain_token}
 

@@ -1,5 +1,5 @@
 -- Literals: what `bits[N]:value` denotes, and why a text is refused.
-use Rattle.std.specs.Prelude.{ℕ, ◌-◌, ◌%◌, ◌^◌, ◌<◌, ◌≤◌, List, [], ◌∷◌, ◌++◌, length, drop, Bool, false, ◌&&◌, ◌||◌, ◌==◌, nat_lt, nat_le, nat_eq, codes, Option, Some, None, Result, Ok, Err, if◌then◌else◌}
+use Rattle.std.specs.Prelude.{ℕ, ◌-◌, ◌%◌, ◌^◌, List, [], ◌∷◌, ◌++◌, length, drop, Bool, false, ◌&&◌, ◌||◌, ◌==◌, nat_lt, nat_le, nat_eq, codes, Option, Some, None, Result, Ok, Err, if◌then◌else◌}
 use Rattle.std.specs.List.{list_all, starts_with}
 use Rattle.std.specs.Char.{is_ascii_digit}
 use Rattle.std.specs.Option.{option_map}
@@ -10,13 +10,6 @@ use Rattle.vast_literal.specs.Digits.{weighted, is_numeral, number_in}
 pub record Bits : Type 0 where
   pub width : ℕ
   pub value : ℕ
-
--- What a literal is: 1 to 1,048,576 bits, and a number below 2 to the power of the width and below 2^128.
-pub record IsLiteral (bits : Bits) : Type 0 where
-  pub positive : 1 ≤ bits.width
-  pub narrow : bits.width ≤ 1048576
-  pub fits : bits.value < 2 ^ bits.width
-  pub small : bits.value < 2 ^ 128
 
 -- The text of a mark and what stands on its sides, at the first place where it stands.
 unfoldable pub split_at : List ℕ → List ℕ → Option (List ℕ × List ℕ)

@@ -1,6 +1,5 @@
 -- Which texts are one literal token or one string token.
 use Rattle.std.specs.Prelude.{ℕ, List, [], ◌∷◌, Bool, true, false, cond, not, ◌&&◌, ◌||◌, eqb}
-use Rattle.vast_literal.specs.Tokens.{Minus, Token, Number, Based, Operator}
 use Rattle.vast_literal.specs.Scan.{is_digit, is_radix, is_based_digit, is_filler}
 
 -- Each byte passes the test.
@@ -46,15 +45,6 @@ is_bare_literal text = is_number text || (is_based text || is_filled text)
 abbrev pub is_literal_text : List ℕ → Bool
 is_literal_text [] = false
 is_literal_text (c ∷ cs) = cond (eqb c 45) (is_bare_literal cs) (is_bare_literal (c ∷ cs))
-
--- The token of a literal without a minus.
-abbrev pub bare_token : List ℕ → Token
-bare_token text = cond (is_number text) (Number text) (Based text)
-
--- The tokens of a literal's text.
-abbrev pub literal_tokens : List ℕ → List Token
-literal_tokens [] = Based [] ∷ []
-literal_tokens (c ∷ cs) = cond (eqb c 45) (Operator Minus ∷ bare_token cs ∷ []) (bare_token (c ∷ cs) ∷ [])
 
 -- No bytes.
 abbrev pub is_done : List ℕ → Bool

@@ -2,7 +2,8 @@
 
 ghost use Rattle.std.specs.Prelude.{◌≡◌, ◌^◌, ◌<◌, ◌≤◌, Ok, MatchResult, IfOk, string_bytes, List, ℕ, IsTrue};
 ghost use Rattle.vast_literal.specs.Fault.{HasText, OnlyRefusedBy};
-ghost use Rattle.vast_literal.specs.Literal.{Bits, IsLiteral, untyped_text, literal_of};
+ghost use Rattle.vast_literal.specs.Literal.{Bits, untyped_text, literal_of};
+ghost use Rattle.vast_literal.specs.Internal.Literal.{IsLiteral};
 ghost use Rattle.vast_literal.specs.Denotes.{Denotes};
 ghost use Rattle.vast_literal.specs.LiteralText.{format_takes, format_text};
 ghost use Rattle.vast_literal.specs.LiteralToken.{is_literal_text};

@@ -1,7 +1,7 @@
 -- Laws of texts that are cut from a buffer.
 use Rattle.std.proofs.Common.{◌≡◌, ℕ, zero, suc, ◌+◌, ◌-◌, ◌<◌, ◌≤◌, List, [], ◌∷◌, ◌++◌, length, drop, get_or, refl, sym, ap, arith, length-append, slice_range}
 use Rattle.std.proofs.lemmas.List.{drop_at, take_all, length-drop, take-append-le, drop-append-le}
-use Rattle.vast_names.specs.Texts.{cut, AreEnds}
+use Rattle.vast_names.specs.Internal.Texts.{cut, AreEnds}
 
 pub length-cut : (start : ℕ) (ends bytes : List ℕ) → length (cut start ends bytes) ≡ length ends
 length-cut start [] bytes = refl

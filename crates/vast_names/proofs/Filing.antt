@@ -11,8 +11,8 @@ use Rattle.std.specs.Ordering.{nat_cmp}
 use Rattle.std.specs.Cmp.Lexicographic.{slice_cmp}
 use Rattle.std.specs.Map.{update, lookup}
 use Rattle.std.specs.Str.{bytes_eq}
-use Rattle.vast_names.specs.Hash.{slot_among}
-use Rattle.vast_names.specs.Index.{Reaches, here, further, IsSound, IsFound, AreFiled}
+use Rattle.vast_names.specs.Internal.Hash.{slot_among}
+use Rattle.vast_names.specs.Internal.Index.{Reaches, here, further, IsSound, IsFound, AreFiled}
 
 -- What a cursor reaches lies there, or beyond its link.
 pub reaches-case : (links : List ℕ) (cursor to : ℕ) → Reaches links cursor to → (cursor ≡ to + 1) ⊎ ((0 < cursor) × (cursor ≤ length links) × Reaches links (slice_index links (cursor - 1)) to)

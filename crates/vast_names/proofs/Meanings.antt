@@ -9,7 +9,8 @@ use Rattle.std.specs.Map.{update}
 use Rattle.std.specs.Prelude.{Decides}
 use Rattle.std.specs.Str.{bytes_eq}
 use mathlib.Core.Path.{fun_ext}
-use Rattle.vast_names.specs.Map.{AreDistinct, IsMap, value_of}
+use Rattle.vast_names.specs.Map.{value_of}
+use Rattle.vast_names.specs.Internal.Map.{AreDistinct, IsMap}
 
 same : (first name : List ℕ) → first ≡ name → bytes_eq first name ≡ true
 same first name h = (bytes_eq-Decides first name).1 h

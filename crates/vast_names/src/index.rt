@@ -3,9 +3,9 @@
 ghost use Rattle.std.specs.Prelude.{◌≡◌, ◌+◌, ◌<◌, ◌≤◌, ◌≢◌, ℕ, List, Some, [], length, slice_index, slice_index_or, slice_get, IsNone, IfSome, All, IfOk, OnOk, OnErr};
 ghost use Rattle.std.specs.BTreeMap.{get_by_text};
 ghost use Rattle.std.specs.Str.{IsUtf8};
-ghost use Rattle.vast_names.specs.Hash.{slot_among};
-ghost use Rattle.vast_names.specs.Texts.{texts_of, IsCut};
-ghost use Rattle.vast_names.specs.Index.{Reaches, IsSound, Files, FilesNoLess, FilesOneMore};
+ghost use Rattle.vast_names.specs.Internal.Hash.{slot_among};
+ghost use Rattle.vast_names.specs.Internal.Texts.{texts_of, IsCut};
+ghost use Rattle.vast_names.specs.Internal.Index.{Reaches, IsSound, Files, FilesNoLess, FilesOneMore};
 
 use crate::hash::slot_among;
 use crate::texts::Texts;

@@ -26,7 +26,7 @@ impl<V> Model for NameMap<V> {
 
     ghost Value = { List (List ℕ) × List (Option V) };
 
-    ghost use Rattle.vast_names.specs.Map.{IsMap};
+    ghost use Rattle.vast_names.specs.Internal.Map.{IsMap};
 
     ghost view = { λ m. (m.names, m.values.items) };
 

@@ -4,7 +4,7 @@
 mod tests;
 
 ghost use Rattle.std.specs.Prelude.{◌≡◌, ◌≢◌, ◌<◌, ◌↔◌, ◌∷◌, [], ◌++◌, Some, None, length, All, Contains, IsTrue, OnOk, OnErr, MatchOption, slice_get};
-ghost use Rattle.vast_names.specs.Texts.{texts_of};
+ghost use Rattle.vast_names.specs.Internal.Texts.{texts_of};
 
 use crate::index::Index;
 use crate::texts::Texts;
@@ -21,7 +21,7 @@ pub struct NameTable {
 
 impl Model for NameTable {
     ghost use Rattle.std.specs.Prelude.{ℕ, List};
-    ghost use Rattle.vast_names.specs.Table.{names_of, IsTable};
+    ghost use Rattle.vast_names.specs.Internal.Table.{names_of, IsTable};
 
     ghost Value = { List (List ℕ) };
 

@@ -5,7 +5,7 @@ use Rattle.vast_literal.specs.Tree.{ExprTree, Exprs, MoreExprs}
 use Rattle.vast_literal.specs.Plain.{is_plain, is_edgeless, are_plain, are_edgeless}
 use Rattle.vast_core.specs.declared.handle.Expr.{Expr}
 use Rattle.vast_core.specs.Bench.{Bench, tree_of, trees_of}
-use Rattle.vast_plain.specs.Values.{are_plain_values, exprs_weight}
+use Rattle.vast_plain.specs.Internal.Values.{are_plain_values, exprs_weight}
 use Rattle.vast_plain.proofs.Tests.{and-true, and-false, and-assoc, and-comm, and-swap}
 
 -- lists

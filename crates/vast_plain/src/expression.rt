@@ -5,7 +5,7 @@ ghost use Rattle.vast_literal.specs.Tree.{ConcatTree, TypeCastTree};
 ghost use Rattle.vast_literal.specs.PlainFile.{is_left_side, is_plain_value, is_plain_maybe, is_plain_event};
 ghost use Rattle.vast_core.specs.Bench.{OwnsExpr, OwnsType, tree_of, trees_of, maybe_tree_of, type_of};
 ghost use Rattle.vast_core.specs.View.{bench};
-ghost use Rattle.vast_plain.specs.Values.{Answers, Begins, BeginsExpr, are_plain_values, exprs_weight};
+ghost use Rattle.vast_plain.specs.Internal.Values.{Answers, Begins, BeginsExpr, are_plain_values, exprs_weight};
 
 use crate::names::{is_called_name, is_plain_name};
 use crate::types::begin_type;

@@ -6,7 +6,7 @@ ghost use Rattle.vast_core.specs.Records.{file_entry};
 ghost use Rattle.vast_core.specs.Sound.{EntrySound};
 ghost use Rattle.vast_core.specs.FileTree.{tree, item_tree};
 ghost use Rattle.vast_core.specs.View.{bench};
-ghost use Rattle.vast_plain.specs.Values.{Answers};
+ghost use Rattle.vast_plain.specs.Internal.Values.{Answers};
 
 use crate::module::is_plain_module;
 use crate::names::is_plain_path;

@@ -10,7 +10,7 @@ ghost use Rattle.vast_core.specs.Nests.{label_bytes};
 ghost use Rattle.vast_core.specs.Sound.{MemberSound};
 ghost use Rattle.vast_core.specs.FileTree.{families, loop_member, member_tree, members_tree};
 ghost use Rattle.vast_core.specs.View.{bench};
-ghost use Rattle.vast_plain.specs.Values.{Answers};
+ghost use Rattle.vast_plain.specs.Internal.Values.{Answers};
 
 use crate::expression::is_plain_value;
 use crate::names::{is_plain_label, is_plain_name};

@@ -8,7 +8,7 @@ ghost use Rattle.vast_core.specs.Records.{module_record, parameter_port_record, 
 ghost use Rattle.vast_core.specs.Sound.{MemberSound, ParameterPortSound};
 ghost use Rattle.vast_core.specs.FileTree.{parameter_port_tree, port_tree, module_tree};
 ghost use Rattle.vast_core.specs.View.{bench};
-ghost use Rattle.vast_plain.specs.Values.{Answers};
+ghost use Rattle.vast_plain.specs.Internal.Values.{Answers};
 
 use crate::expression::is_plain_value;
 use crate::member::are_plain_members;

@@ -10,7 +10,7 @@ ghost use Rattle.vast_core.specs.Nests.{variable_record};
 ghost use Rattle.vast_core.specs.Sound.{FormSound, ConnectionSound, VariableSound, EventSound};
 ghost use Rattle.vast_core.specs.FileTree.{families, form_tree, connection_tree, variable_tree, always_in, function_in, member_tree};
 ghost use Rattle.vast_core.specs.View.{bench};
-ghost use Rattle.vast_plain.specs.Values.{Answers};
+ghost use Rattle.vast_plain.specs.Internal.Values.{Answers};
 
 use crate::expression::{is_plain_event, is_plain_maybe, is_plain_value};
 use crate::names::is_plain_name;

@@ -7,8 +7,8 @@ ghost use Rattle.vast_core.specs.Handles.{conditional_index, case_index};
 ghost use Rattle.vast_core.specs.Nests.{statement_entry};
 ghost use Rattle.vast_core.specs.FileTree.{families, statement_in, conditional_statement, case_statement, block_tree};
 ghost use Rattle.vast_core.specs.View.{bench};
-ghost use Rattle.vast_plain.specs.Values.{Answers};
-ghost use Rattle.vast_plain.specs.Statements.{StatementOwned};
+ghost use Rattle.vast_plain.specs.Internal.Values.{Answers};
+ghost use Rattle.vast_plain.specs.Internal.Statements.{StatementOwned};
 
 use crate::expression::{is_left_side, is_plain_maybe, is_plain_value};
 use std::alloc::AllocError;

@@ -5,7 +5,7 @@ ghost use Rattle.vast_literal.specs.Plain.{is_plain_type, is_edgeless_type};
 ghost use Rattle.vast_literal.specs.PlainFile.{is_plain_declaration};
 ghost use Rattle.vast_core.specs.Bench.{OwnsExpr, OwnsType, type_of};
 ghost use Rattle.vast_core.specs.View.{bench};
-ghost use Rattle.vast_plain.specs.Values.{Answers, Begins, type_weight};
+ghost use Rattle.vast_plain.specs.Internal.Values.{Answers, Begins, type_weight};
 
 use crate::expression::{are_plain_values, wait};
 use crate::names::is_plain_name;

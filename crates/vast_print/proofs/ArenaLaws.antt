@@ -15,13 +15,15 @@ use Rattle.vast_core.specs.Records.{member_entry, parameter_port_record, connect
 use Rattle.vast_core.specs.FileTree.{member_tree, members_tree, parameter_port_tree, connection_tree, item_tree, tree}
 use Rattle.vast_print.specs.Printed.{Printed, plain_text}
 use Rattle.vast_print.specs.Page.{Page, written, print}
-use Rattle.vast_print.specs.Ink.{Ink, Wet, Stopped, Writes, word, next, hang, pour}
+use Rattle.vast_print.specs.Ink.{Ink, Wet, Stopped, word, next, hang, pour}
+use Rattle.vast_print.specs.Internal.Ink.{Writes}
 use Rattle.vast_print.specs.Draft.{Draft, unwritten, whole}
-use Rattle.vast_print.specs.Emits.{Answers, Faults}
+use Rattle.vast_print.specs.Emits.{Answers}
+use Rattle.vast_print.specs.Internal.Emits.{Faults}
 use Rattle.vast_print.specs.declared.refusal.Refusal.{Refusal}
 use Rattle.vast_print.specs.declared.refusal.PrintFault.{PrintFault}
 use Rattle.vast_print.specs.declared.refusal.PrintFault.TheVariants.{Refused, Memory}
-use Rattle.vast_print.specs.Words.{comma}
+use Rattle.vast_print.specs.Internal.Words.{comma}
 use Rattle.vast_print.specs.Members.{member_page, members_page, entries_page, connection_text, connections_page, instance_head_page}
 use Rattle.vast_print.specs.Layout.{body_page, header_page, ports_page, parameter_port_text, parameter_ports_page, items_page, layout}
 use Rattle.vast_print.proofs.InkLaws.{pour-then, pour-word, hang-stopped, pour-stopped, whole-page, whole-fault, line-text, line-fault}

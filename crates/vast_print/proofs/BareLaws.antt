@@ -16,7 +16,8 @@ use Rattle.vast_print.specs.declared.refusal.Refusal.{Refusal}
 use Rattle.vast_print.specs.declared.refusal.Refusal.TheVariants.{ScalarIndex, ScalarSlice}
 use Rattle.vast_print.specs.Printed.{Printed, plain_text, ◌⊕◌, wrapped}
 use Rattle.vast_print.specs.Levels.{unary_operator_text, binary_operator_text}
-use Rattle.vast_print.specs.Bare.{is_number, begins_word, continues_word, is_word, is_bare, is_bare_head}
+use Rattle.vast_print.specs.Bare.{is_number, begins_word, continues_word, is_word, is_bare}
+use Rattle.vast_print.specs.Internal.Bare.{is_bare_head}
 use Rattle.vast_print.specs.Text.{elided, cast_to, width_cast, expr_text, type_cast}
 use Rattle.vast_print.proofs.FaultLaws.{elided_text}
 

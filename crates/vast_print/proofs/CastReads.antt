@@ -15,8 +15,8 @@ use Rattle.vast_literal.specs.Spelling.{op_text}
 use Rattle.vast_literal.specs.LiteralToken.{every, is_number, is_bare_literal, is_literal_text, is_string_text}
 use Rattle.vast_literal.specs.NormalExpr.{unary_operator_token, binary_operator_token}
 use Rattle.vast_literal.specs.Plain.{is_identifier, is_plain_name}
-use Rattle.vast_literal.specs.ExprTokens.{expr_tokens, cast_tokens, each_tokens, comma_tokens, comma_tail_tokens, argument_tokens, called_token, cast_operand, wrapped_tokens, word_cast_tokens}
-use Rattle.vast_literal.specs.ExprTokens as Tokens
+use Rattle.vast_literal.proofs.ExprTokens.{expr_tokens, cast_tokens, each_tokens, comma_tokens, comma_tail_tokens, argument_tokens, called_token, cast_operand, wrapped_tokens, word_cast_tokens}
+use Rattle.vast_literal.proofs.ExprTokens as Tokens
 use Rattle.vast_literal.specs.WellFormed.{is_well_formed, is_positive}
 use Rattle.vast_literal.proofs.ScanLaws.{and_left}
 use Rattle.vast_literal.proofs.TokenReads.{opens, Free, Divides, Reads}
@@ -29,7 +29,7 @@ use Rattle.vast_print.specs.declared.refusal.Refusal.TheVariants.{ScalarIndex, S
 use Rattle.vast_print.specs.Printed.{Printed}
 use Rattle.vast_print.specs.Levels.{unary_operator_text, binary_operator_text}
 use Rattle.vast_print.specs.Bare.{is_bare}
-use Rattle.vast_print.specs.Bare as Bare
+use Rattle.vast_print.specs.Internal.Bare as BareInternal
 use Rattle.vast_print.specs.Text.{elided, expr_text}
 use Rattle.vast_print.proofs.BareLaws.{bare-head}
 use Rattle.vast_print.proofs.TestLaws.{bare_same}
@@ -107,13 +107,13 @@ pub elided_head : (b z n m : Bool) (r : Refusal) (s rest : Printed) → (if b th
 elided_head true z n m r s rest e f = let (d, k) = elided_fine z r s e in let g = f refl k in cc (d, g)
 elided_head false z n m r s rest e f = refl
 
-pub heads : (e : ExprTree) → is_well_formed e ≡ true → (expr_text e).fault ≡ None → Bare.is_bare_head e ≡ Tokens.is_bare_head e
-unfolding Bare.is_bare_head Tokens.is_bare_head expr_text
+pub heads : (e : ExprTree) → is_well_formed e ≡ true → (expr_text e).fault ≡ None → BareInternal.is_bare_head e ≡ Tokens.is_bare_head e
+unfolding BareInternal.is_bare_head Tokens.is_bare_head expr_text
 heads (NameTree n type) w f = bare_same n
 heads (LiteralTree t v) w f = bare_same t ∙ or_false (is_number t) (is_identifier t) (literal_no_word t w)
 heads (StringTree t) w f = bare_same t ∙ string_no_head t w
-heads (IndexTree s i) w f = elided_head (is_scalar_name s) (is_zero i) (Bare.is_bare_head s) (Tokens.is_bare_head s) ScalarIndex (expr_text s) _ f (λ _ k. heads s (and_left _ _ w) k)
-heads (SliceTree s a b) w f = elided_head (is_scalar_name s) (is_zero a && is_zero b) (Bare.is_bare_head s) (Tokens.is_bare_head s) ScalarSlice (expr_text s) _ f (λ _ k. heads s (and_left _ _ w) k)
+heads (IndexTree s i) w f = elided_head (is_scalar_name s) (is_zero i) (BareInternal.is_bare_head s) (Tokens.is_bare_head s) ScalarIndex (expr_text s) _ f (λ _ k. heads s (and_left _ _ w) k)
+heads (SliceTree s a b) w f = elided_head (is_scalar_name s) (is_zero a && is_zero b) (BareInternal.is_bare_head s) (Tokens.is_bare_head s) ScalarSlice (expr_text s) _ f (λ _ k. heads s (and_left _ _ w) k)
 heads _ w f = refl
 
 pub head_of_text : (t : List ℕ) → not (is_bare t) ≡ head_wrapped t

@@ -20,13 +20,14 @@ use Rattle.vast_core.proofs.Lists.{below-of}
 use Rattle.vast_core.specs.Bench.{Bench, OwnsStatement, tree_of, maybe_tree_of, trees_of}
 use Rattle.vast_core.specs.Nests.{StatementEntry, AssignStatement, ContinuousStatement, ConditionalStatement, CasesStatement, BlankStatement, CommentStatement, InlineStatement, NestRecord, BlockRecord, ConditionalNestRecord, CaseNestRecord, LoopNestRecord, statement_entry, variable_record}
 use Rattle.vast_core.specs.FileTree.{Family, BlockFamily, ConditionalFamily, CaseFamily, LoopFamily, NoFamily, family, unfolded, families, conditional_statement, case_statement, conditional_member, loop_member, form_of, assigned_tree, continuous_tree, statement_in, statements_tree, block_tree, alternates_tree, case_arms_tree, variable_tree}
-use Rattle.vast_print.specs.Bodies.{assignment_of, bare_assignment}
+use Rattle.vast_print.specs.Internal.Bodies.{assignment_of, bare_assignment}
 use Rattle.vast_print.specs.Printed.{plain_text, ◌⊕◌}
 use Rattle.vast_print.specs.Page.{written}
 use Rattle.vast_print.specs.Ink.{Ink, word, next, hang, pour}
 use Rattle.vast_print.specs.Text.{expr_text}
-use Rattle.vast_print.specs.Words.{separator}
-use Rattle.vast_print.specs.Statements.{assignment_operator, unique_word, case_word, label_text, statement_page, statements_page, block_page, alternates_page, arms_page, arm_page, arm_body_page}
+use Rattle.vast_print.specs.Internal.Words.{separator}
+use Rattle.vast_print.specs.Statements.{assignment_operator, unique_word, case_word, label_text, statement_page, statements_page, block_page, alternates_page, arms_page}
+use Rattle.vast_print.specs.Internal.Statements.{arm_page, arm_body_page}
 use Rattle.vast_print.specs.Members.{input_text, local_page, locals_page, loop_text, member_page, members_page}
 use Rattle.vast_literal.specs.Shape.{is_one_casez}
 use Rattle.vast_print.proofs.Lines.{word-nothing, word-word}

@@ -15,7 +15,7 @@ use Rattle.vast_print.specs.Ink.{Ink, word, pour, pour_lines, hang_lines, stop}
 use Rattle.vast_print.specs.Text.{expr_text, package_text}
 use Rattle.vast_print.specs.Declaration.{unpacked_text, highest_index_text, signed_word, unsigned_word, with_dimensions, type_text, name_text, kind_word, declaration_text, port_declaration_text}
 use Rattle.vast_print.specs.Layout.{port_text, parameter_port_text, direction_word}
-use Rattle.vast_print.specs.Words.{has_text, kind_opening, signed_opening, unsigned_opening}
+use Rattle.vast_print.specs.Internal.Words.{has_text, kind_opening, signed_opening, unsigned_opening}
 use Rattle.vast_print.proofs.InkLaws.{pour-then, pour-empty, pour-word}
 
 pub plain-append : (a b : List ℕ) → plain_text (a ++ b) ≡ plain_text a ⊕ plain_text b

@@ -15,7 +15,7 @@ use Rattle.vast_literal.specs.Plain.{is_plain_name, is_plain, is_plain_type, is_
 use Rattle.vast_literal.specs.PlainFile.{is_plain_declaration}
 use Rattle.vast_literal.specs.WellFormed.{is_well_formed, is_well_formed_type}
 use Rattle.vast_literal.specs.NormalTree.{kind_key, sign_of}
-use Rattle.vast_literal.specs.FileTokens.{maybe_tokens, type_name_tokens, number_tokens, zero_tokens, range_tokens, highest_index_tokens, vector_tokens, packed_tokens, unpacked_dimension_tokens, unpacked_tokens, declaration_tokens}
+use Rattle.vast_literal.proofs.FileTokens.{maybe_tokens, type_name_tokens, number_tokens, zero_tokens, range_tokens, highest_index_tokens, vector_tokens, packed_tokens, unpacked_dimension_tokens, unpacked_tokens, declaration_tokens}
 use Rattle.vast_literal.proofs.DeclarationSpelled.{base_edgeless, base_formed}
 use Rattle.vast_literal.proofs.TokenReads.{stops, opens, Free, Divides, Reads}
 use Rattle.vast_literal.proofs.ScanLaws.{and_left, and_right, scan_colon}

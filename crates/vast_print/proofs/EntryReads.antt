@@ -7,7 +7,7 @@ use Rattle.vast_literal.specs.Scan.{scan}
 use Rattle.vast_literal.specs.Plain.{is_plain_name}
 use Rattle.vast_literal.specs.PlainFile.{is_plain_maybe, are_plain_connections}
 use Rattle.vast_literal.specs.WellFormedFile.{is_well_formed_maybe, are_well_formed_connections, is_given, are_given}
-use Rattle.vast_literal.specs.FileTokens.{separated, value_tokens, connection_tokens, each_connection}
+use Rattle.vast_literal.proofs.FileTokens.{separated, value_tokens, connection_tokens, each_connection}
 use Rattle.vast_literal.proofs.TokenReads.{Free, Divides, Reads}
 use Rattle.vast_literal.proofs.ScanLaws.{and_left, and_right}
 use Rattle.vast_literal.proofs.Pieces.{free_reads, free_free, reads_end, as_reads, reads_sep, open_paren, close_paren}

@@ -17,8 +17,8 @@ use Rattle.vast_literal.proofs.Spelled.{spelled, low}
 use Rattle.vast_literal.proofs.Longest.{scan_lexes}
 use Rattle.vast_literal.specs.LiteralToken.{is_literal_text, is_string_text}
 use Rattle.vast_literal.specs.Plain.{is_plain_name, is_called_name, is_plain, is_plain_type, are_plain, is_edgeless, is_edgeless_type, are_edgeless}
-use Rattle.vast_literal.specs.ExprTokens.{expr_tokens, cast_tokens, each_tokens, comma_tokens, comma_tail_tokens, wrapped_tokens, cast_operand, word_cast_tokens}
-use Rattle.vast_literal.specs.ExprTokens as Tokens
+use Rattle.vast_literal.proofs.ExprTokens.{expr_tokens, cast_tokens, each_tokens, comma_tokens, comma_tail_tokens, wrapped_tokens, cast_operand, word_cast_tokens}
+use Rattle.vast_literal.proofs.ExprTokens as Tokens
 use Rattle.vast_literal.specs.WellFormed.{is_well_formed, is_well_formed_type, is_cast_type, are_well_formed, is_positive}
 use Rattle.vast_literal.proofs.ScanLaws.{and_left, and_right}
 use Rattle.vast_literal.proofs.TokenReads.{stops, Free, Reads}

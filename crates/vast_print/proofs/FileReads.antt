@@ -6,8 +6,8 @@ use Rattle.vast_literal.specs.Scan.{scan}
 use Rattle.vast_literal.specs.Plain.{is_plain_name}
 use Rattle.vast_literal.specs.PlainFile.{is_plain_value, is_plain_declared}
 use Rattle.vast_literal.specs.WellFormed.{is_well_formed, is_well_formed_type}
-use Rattle.vast_literal.specs.ExprTokens.{expr_tokens}
-use Rattle.vast_literal.specs.FileTokens.{port_declaration_tokens, separated}
+use Rattle.vast_literal.proofs.ExprTokens.{expr_tokens}
+use Rattle.vast_literal.proofs.FileTokens.{port_declaration_tokens, separated}
 use Rattle.vast_literal.proofs.TokenReads.{Free, Divides, Reads}
 use Rattle.vast_literal.proofs.ScanLaws.{and_left, and_right}
 use Rattle.vast_literal.proofs.Pieces.{free_reads, reads_end, as_reads, reads_sep, open_paren}
@@ -24,7 +24,7 @@ use Rattle.vast_print.proofs.PageReads.{above_fine, inner_fine, Whole, whole_abo
 use Rattle.vast_literal.specs.PlainFile.{are_plain_members}
 use Rattle.vast_literal.specs.WellFormedFile.{are_well_formed_members}
 use Rattle.vast_literal.specs.Tree.{Members, NoMembers, MoreMembers}
-use Rattle.vast_literal.specs.FileTokens.{member_tokens, members_tokens}
+use Rattle.vast_literal.proofs.FileTokens.{member_tokens, members_tokens}
 use Rattle.vast_print.specs.Members.{member_page, members_page}
 use Rattle.vast_print.proofs.PageReads.{whole_comment}
 use Rattle.std.proofs.Common.{◌||◌, eqb}
@@ -37,7 +37,7 @@ use Rattle.vast_literal.specs.LiteralToken.{every, is_string_rest}
 use Rattle.vast_literal.specs.PlainFile.{are_plain_ports, is_plain_typed, are_plain_parameters, is_plain_module, is_path_byte, are_plain_items, is_plain_file}
 use Rattle.vast_literal.specs.WellFormedFile.{are_well_formed_ports, is_well_formed_typed, are_well_formed_parameters, is_well_formed_module, are_well_formed_items, is_well_formed_file}
 use Rattle.vast_literal.specs.NormalTree.{direction_key, normal_file}
-use Rattle.vast_literal.specs.FileTokens.{each_port, typed_tokens, each_parameter, header_parameter_tokens, header_port_tokens, module_tokens, item_tokens, items_tokens, file_tokens}
+use Rattle.vast_literal.proofs.FileTokens.{each_port, typed_tokens, each_parameter, header_parameter_tokens, header_port_tokens, module_tokens, item_tokens, items_tokens, file_tokens}
 use Rattle.vast_literal.specs.FileGrammar.{DerivesFile}
 use Rattle.vast_literal.proofs.Words.{string_reads}
 use Rattle.vast_literal.proofs.FilesSpelled.{file_spelled}

@@ -8,7 +8,7 @@ use Rattle.vast_literal.specs.Tree.{Statements}
 use Rattle.vast_literal.specs.PlainFile.{is_plain_declaration, is_plain_declared, are_plain_declared, are_plain_statements, is_plain_function}
 use Rattle.vast_literal.specs.WellFormed.{is_well_formed_type}
 use Rattle.vast_literal.specs.WellFormedFile.{are_well_formed_statements, are_well_formed_inputs, are_well_formed_locals, is_well_formed_function, is_local_word}
-use Rattle.vast_literal.specs.FileTokens.{declaration_tokens, declared_tokens, port_declaration_tokens, block_tokens, statements_tokens, separated, each_input, local_tokens, body_tokens, function_tokens}
+use Rattle.vast_literal.proofs.FileTokens.{declaration_tokens, declared_tokens, port_declaration_tokens, block_tokens, statements_tokens, separated, each_input, local_tokens, body_tokens, function_tokens}
 use Rattle.vast_literal.proofs.TokenReads.{Reads}
 use Rattle.vast_literal.proofs.ScanLaws.{and_left, and_right}
 use Rattle.vast_literal.proofs.Pieces.{free_reads, free_free, reads_end, as_reads, reads_reads, reads_sep, comma}

@@ -7,7 +7,7 @@ use Rattle.vast_core.specs.Nests.{StatementEntry, AssignStatement, ContinuousSta
 use Rattle.vast_core.specs.Bench.{Bench}
 use Rattle.vast_core.specs.Sound.{VariableSound, FunctionSound}
 use Rattle.vast_core.proofs.Lists.{All-Each}
-use Rattle.vast_print.specs.Fits.{AlwaysFits, MemberFits}
+use Rattle.vast_print.specs.Internal.Fits.{AlwaysFits, MemberFits}
 
 abbrev pub height : ℕ → ℕ
 height i = 8 * (2 ^ 64 - i)

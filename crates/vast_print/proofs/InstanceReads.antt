@@ -10,8 +10,8 @@ use Rattle.vast_literal.specs.Scan.{scan}
 use Rattle.vast_literal.specs.Plain.{is_plain_name}
 use Rattle.vast_literal.specs.PlainFile.{is_plain_event, are_plain_events, are_plain_awaited, are_plain_connections, is_plain_instance}
 use Rattle.vast_literal.specs.WellFormedFile.{is_well_formed_event, are_well_formed_events, are_well_formed_connections, are_given}
-use Rattle.vast_literal.specs.ExprTokens.{expr_tokens}
-use Rattle.vast_literal.specs.FileTokens.{block_tokens, statements_tokens, separated, connection_tokens, each_connection, given_tokens, instance_tokens, more_event_tokens, event_tokens, always_tokens}
+use Rattle.vast_literal.proofs.ExprTokens.{expr_tokens}
+use Rattle.vast_literal.proofs.FileTokens.{block_tokens, statements_tokens, separated, connection_tokens, each_connection, given_tokens, instance_tokens, more_event_tokens, event_tokens, always_tokens}
 use Rattle.vast_literal.proofs.TokenReads.{stops, Free, Divides, Reads}
 use Rattle.vast_literal.proofs.ScanLaws.{and_left, and_right}
 use Rattle.vast_literal.proofs.Pieces.{free_reads, free_free, reads_end, as_reads, reads_reads, divides_free}

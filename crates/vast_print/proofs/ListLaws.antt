@@ -10,9 +10,10 @@ use Rattle.vast_print.specs.Printed.{Printed, plain_text, ◌⊕◌}
 use Rattle.vast_print.specs.Page.{lead, written}
 use Rattle.vast_print.specs.Ink.{Ink, word, next, hang, pour}
 use Rattle.vast_print.specs.Text.{expr_text}
-use Rattle.vast_print.specs.Statements.{statement_page, statements_page, block_page, alternates_page, arms_page, arm_page}
+use Rattle.vast_print.specs.Statements.{statement_page, statements_page, block_page, alternates_page, arms_page}
+use Rattle.vast_print.specs.Internal.Statements.{arm_page}
 use Rattle.vast_print.specs.Members.{entries_page, local_page, locals_page}
-use Rattle.vast_print.specs.Words.{comma}
+use Rattle.vast_print.specs.Internal.Words.{comma}
 use Rattle.vast_print.proofs.Lines.{word-nothing}
 use Rattle.vast_print.proofs.InkLaws.{hang-none, hang-above, hang-lead, pour-then, pour-word}
 use Rattle.vast_print.proofs.StatementLaws.{hang-arms-none, hang-arms, pour-else-if-arm}

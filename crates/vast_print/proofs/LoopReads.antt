@@ -6,8 +6,8 @@ use Rattle.vast_literal.specs.declared.operator.BinaryOperator.TheVariants.{Lt a
 use Rattle.vast_literal.specs.Scan.{scan}
 use Rattle.vast_literal.specs.Plain.{is_plain_name}
 use Rattle.vast_literal.specs.PlainFile.{is_plain_label}
-use Rattle.vast_literal.specs.ExprTokens.{expr_tokens, wrapped_tokens}
-use Rattle.vast_literal.specs.FileTokens.{loop_label_tokens}
+use Rattle.vast_literal.proofs.ExprTokens.{expr_tokens, wrapped_tokens}
+use Rattle.vast_literal.proofs.FileTokens.{loop_label_tokens}
 use Rattle.vast_literal.proofs.TokenReads.{Free, Divides, Reads}
 use Rattle.vast_literal.proofs.Pieces.{free_reads, free_free, reads_reads, reads_sep, operator_divides}
 use Rattle.vast_literal.proofs.Words.{key_reads, name_reads, number_reads}

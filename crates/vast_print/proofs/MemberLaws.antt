@@ -7,7 +7,7 @@ use Rattle.vast_literal.specs.declared.kind.AlwaysKind.{AlwaysKind as AlwaysWord
 use Rattle.vast_literal.specs.declared.kind.AlwaysKind.TheVariants.{AlwaysFF as AlwaysFFWord, AlwaysAt as AlwaysAtWord, AlwaysComb as AlwaysCombWord}
 use Rattle.vast_literal.specs.Tree.{MemberTree, DeclarationMember, ParameterMember, CommentMember, BlankMember, InlineMember, MacroMember, InstanceMember, AlwaysMember, FunctionMember, LoopMember, Members, NoMembers, MoreMembers}
 use Rattle.vast_literal.specs.Shape.{result_kind, right_child_wraps}
-use Rattle.vast_print.specs.Words.{endfunction_word, always_ff_opening, always_at_opening, always_comb_opening, function_opening, for_opening, step_word}
+use Rattle.vast_print.specs.Internal.Words.{endfunction_word, always_ff_opening, always_at_opening, always_comb_opening, function_opening, for_opening, step_word}
 use Rattle.vast_print.specs.Printed.{plain_text, wrapped}
 use Rattle.vast_print.specs.Page.{written, commented}
 use Rattle.vast_print.specs.Ink.{Ink, word, next, hang, pour}

@@ -11,9 +11,9 @@ use Rattle.vast_literal.specs.Plain.{is_plain_name}
 use Rattle.vast_literal.specs.PlainFile.{is_plain_value, are_plain_statements, are_plain_awaited, is_plain_parameter_name, is_plain_label}
 use Rattle.vast_literal.specs.WellFormed.{is_well_formed, is_well_formed_type}
 use Rattle.vast_literal.specs.WellFormedFile.{are_well_formed_statements, are_well_formed_events, is_well_formed_parameter_name}
-use Rattle.vast_literal.specs.ExprTokens.{expr_tokens}
+use Rattle.vast_literal.proofs.ExprTokens.{expr_tokens}
 use Rattle.vast_literal.specs.NormalTree.{parameter_key}
-use Rattle.vast_literal.specs.FileTokens.{declared_tokens, block_tokens, statements_tokens, parameter_name_tokens, instance_tokens, always_tokens, function_tokens, loop_label_tokens}
+use Rattle.vast_literal.proofs.FileTokens.{declared_tokens, block_tokens, statements_tokens, parameter_name_tokens, instance_tokens, always_tokens, function_tokens, loop_label_tokens}
 use Rattle.vast_literal.proofs.TokenReads.{Free, Reads}
 use Rattle.vast_literal.proofs.ScanLaws.{and_left, and_right}
 use Rattle.vast_literal.proofs.Pieces.{free_reads, reads_end, as_reads, reads_sep}
@@ -30,7 +30,7 @@ use Rattle.vast_print.proofs.PageReads.{above_fine, beside_fine, inner_fine, wri
 use Rattle.vast_literal.specs.PlainFile.{is_plain_member, are_plain_members}
 use Rattle.vast_literal.specs.WellFormedFile.{is_well_formed_member, are_well_formed_members, is_macro, is_own_kind}
 use Rattle.vast_literal.specs.Tree.{Alternates, MemberTree, DeclarationMember, AssignMember, ParameterMember, CommentMember, BlankMember, InlineMember, MacroMember, InstanceMember, AlwaysMember, ConditionalMember, FunctionMember, LoopMember, Members, NoMembers, MoreMembers}
-use Rattle.vast_literal.specs.FileTokens.{semicolon_tokens, member_tokens, members_tokens, statement_tokens, ended}
+use Rattle.vast_literal.proofs.FileTokens.{semicolon_tokens, member_tokens, members_tokens, statement_tokens, ended}
 use Rattle.vast_print.specs.Members.{semicolon_text, member_page, members_page}
 use Rattle.vast_print.specs.Statements.{statement_page}
 use Rattle.vast_print.proofs.StatementReads.{assignment_open, block_fine, statement_whole}

@@ -6,7 +6,7 @@ use Rattle.vast_literal.specs.declared.kind.VastFileType.{VastFileType as Dialec
 use Rattle.vast_print.specs.Printed.{plain_text}
 use Rattle.vast_print.specs.Page.{written, commented}
 use Rattle.vast_print.specs.Ink.{Ink, word, next, hang, pour}
-use Rattle.vast_print.specs.Words.{comma}
+use Rattle.vast_print.specs.Internal.Words.{comma}
 use Rattle.vast_print.specs.Members.{members_page}
 use Rattle.vast_print.specs.Layout.{port_text, parameter_port_text, ports_page, parameter_ports_page, opening_page, header_page, body_page, module_page, item_page, items_page}
 use Rattle.vast_print.proofs.ListLaws.{entries-end, entries-step}

@@ -7,7 +7,7 @@ use Rattle.vast_print.specs.Printed.{plain_text}
 use Rattle.vast_print.specs.Page.{written}
 use Rattle.vast_print.specs.Draft.{Draft}
 use Rattle.vast_print.specs.Ink.{Ink, Wet, word, pour, onto, margin}
-use Rattle.vast_print.specs.Words.{has_text}
+use Rattle.vast_print.specs.Internal.Words.{has_text}
 use Rattle.vast_print.proofs.Lines.{unbroken, eqb-false}
 use Rattle.vast_print.proofs.InkLaws.{pour-word}
 

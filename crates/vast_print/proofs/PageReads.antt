@@ -3,7 +3,7 @@ use Rattle.std.proofs.Common.{◌≡◌, ℕ, List, [], ◌∷◌, ◌++◌, Boo
 use Rattle.vast_literal.specs.Tokens.{Token, Key, key_text, Reserved, BeginKey, EndKey, IfKey, ElseKey, Mark, OpenParen, CloseParen, Semicolon, Assign, Colon}
 use Rattle.vast_literal.specs.Scan.{scan}
 use Rattle.vast_literal.specs.LiteralToken.{every}
-use Rattle.vast_literal.specs.FileTokens.{block_tokens}
+use Rattle.vast_literal.proofs.FileTokens.{block_tokens}
 use Rattle.vast_literal.proofs.TokenReads.{Free, Divides, Reads}
 use Rattle.vast_literal.proofs.Pieces.{free_reads, free_free, reads_end, divides_free}
 use Rattle.vast_literal.proofs.Words.{key_reads}

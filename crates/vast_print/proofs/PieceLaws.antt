@@ -15,8 +15,8 @@ use Rattle.vast_print.specs.Page.{written}
 use Rattle.vast_print.specs.Ink.{Ink, word, pour}
 use Rattle.vast_print.specs.Levels.{binary_operator_text}
 use Rattle.vast_print.specs.Text.{expr_text, list_text, more_text, type_cast}
-use Rattle.vast_print.specs.Words.{separator, scalar_cast_closing, number_cast_closing}
-use Rattle.vast_print.specs.Pieces.{piece_text, piece_weight, PieceOwned, pieces_text, pieces_weight, PiecesOwned, exprs_weight, expr_weight}
+use Rattle.vast_print.specs.Internal.Words.{separator, scalar_cast_closing, number_cast_closing}
+use Rattle.vast_print.specs.Internal.Pieces.{piece_text, piece_weight, PieceOwned, pieces_text, pieces_weight, PiecesOwned, exprs_weight, expr_weight}
 use Rattle.vast_print.proofs.InkLaws.{pour-then, pour-empty, pour-word, pour-stopped}
 use Rattle.vast_print.proofs.TextLaws.{pour-wrapped, pour-bare, pour-name, pour-literal, pour-string, pour-unary, pour-ternary, pour-index, pour-scalar-index, pour-scalar-slice, pour-refused-index, pour-refused-slice, pour-concat, pour-parts, pour-replicated, pour-pattern-list, pour-macro, pour-no-arguments, pour-arguments, pour-call, pour-rising, pour-falling, pour-type-cast, pour-width-cast, pour-scalar-cast, pour-vector-cast, pour-integer-cast, pour-int-cast, pour-external-cast, pour-package-cast}
 use Rattle.vast_print.proofs.NumberLaws.{pour-number}

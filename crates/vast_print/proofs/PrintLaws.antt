@@ -6,7 +6,7 @@ use Rattle.vast_print.specs.Printed.{plain_text, spaced}
 use Rattle.vast_print.specs.Page.{written}
 use Rattle.vast_print.specs.Ink.{Ink, word, pour}
 use Rattle.vast_print.specs.Declaration.{packed_text, based_text, type_text, signed_word, unsigned_word, highest_index_text}
-use Rattle.vast_print.specs.Words.{has_text, signed_opening, unsigned_opening}
+use Rattle.vast_print.specs.Internal.Words.{has_text, signed_opening, unsigned_opening}
 use Rattle.vast_print.specs.Text.{package_text}
 use Rattle.vast_print.proofs.InkLaws.{pour-word, pour-then, pour-empty, pour-stopped}
 use Rattle.vast_print.proofs.Lines.{word-word, word-stopped}

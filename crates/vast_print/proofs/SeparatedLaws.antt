@@ -8,7 +8,7 @@ use Rattle.vast_print.specs.Page.{written}
 use Rattle.vast_print.specs.Ink.{Ink, word, pour}
 use Rattle.vast_print.specs.Text.{expr_text, list_text, more_text}
 use Rattle.vast_print.specs.Members.{input_text, inputs_text, more_inputs_text, events_text, more_events_text}
-use Rattle.vast_print.specs.Words.{separator}
+use Rattle.vast_print.specs.Internal.Words.{separator}
 use Rattle.vast_print.proofs.Lines.{word-nothing}
 use Rattle.vast_print.proofs.InkLaws.{pour-word, pour-then, pour-empty}
 

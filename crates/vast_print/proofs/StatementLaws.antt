@@ -11,7 +11,8 @@ use Rattle.vast_print.specs.Printed.{plain_text, ◌⊕◌}
 use Rattle.vast_print.specs.Page.{line, inner, above, written, commented}
 use Rattle.vast_print.specs.Ink.{Ink, word, next, hang, pour}
 use Rattle.vast_print.specs.Text.{expr_text}
-use Rattle.vast_print.specs.Statements.{assign_opening, assignment_operator, case_word, unique_word, label_text, begin_end, statement_page, statements_page, block_page, alternates_page, arms_page, arm_body_page, arm_page}
+use Rattle.vast_print.specs.Statements.{assign_opening, assignment_operator, case_word, unique_word, label_text, begin_end, statement_page, statements_page, block_page, alternates_page, arms_page}
+use Rattle.vast_print.specs.Internal.Statements.{arm_body_page, arm_page}
 use Rattle.vast_print.proofs.InkLaws.{hang-line, pour-line, hang-none, pour-none, hang-blank, hang-above, pour-above, pour-beside, hang-beside, hang-line-above, hang-inner, hang-written, pour-then, pour-word}
 
 pour-opening : (d : ℕ) (k : Ink) (form : AssignForm) → pour d k (written (plain_text (assign_opening form))) ≡ word k (assign_opening form)

@@ -12,9 +12,10 @@ use Rattle.vast_print.specs.Page.{written}
 use Rattle.vast_print.specs.Draft.{Draft}
 use Rattle.vast_print.specs.Ink.{Ink, Wet, Stopped, word, pour}
 use Rattle.vast_print.specs.Levels.{unary_operator_text}
-use Rattle.vast_print.specs.Bare.{is_bare, is_bare_head}
+use Rattle.vast_print.specs.Bare.{is_bare}
+use Rattle.vast_print.specs.Internal.Bare.{is_bare_head}
 use Rattle.vast_print.specs.Text.{elided, cast_to, width_cast, package_text, expr_text, arguments_text, replicated, list_text, type_cast}
-use Rattle.vast_print.specs.Words.{cast_sign_word, scalar_cast_opening, scalar_cast_closing, number_cast_opening, number_cast_closing}
+use Rattle.vast_print.specs.Internal.Words.{cast_sign_word, scalar_cast_opening, scalar_cast_closing, number_cast_opening, number_cast_closing}
 use Rattle.vast_print.proofs.InkLaws.{pour-then, pour-empty, pour-word, pour-refused}
 use Rattle.vast_print.proofs.Lines.{word-word}
 use Rattle.vast_print.proofs.BareLaws.{bare-head}

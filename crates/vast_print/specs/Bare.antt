@@ -2,8 +2,6 @@
 use Rattle.std.specs.Prelude.{ℕ, Bool, false, ◌&&◌, ◌||◌, ◌==◌, List, [], ◌∷◌}
 use Rattle.std.specs.Char.{is_ascii_digit, is_ascii_alphabetic, is_ascii_alphanumeric}
 use Rattle.std.specs.List.{list_all}
-use Rattle.vast_literal.specs.Tree.{ExprTree, NameTree, LiteralTree, StringTree, IndexTree, SliceTree}
-use Rattle.vast_literal.specs.Shape.{is_scalar_name}
 
 -- one or more digits
 abbrev pub is_number : List ℕ → Bool
@@ -24,12 +22,3 @@ is_word (c ∷ w) = begins_word c && list_all continues_word w
 
 unfoldable pub is_bare : List ℕ → Bool
 is_bare w = is_number w || is_word w
-
--- the expressions whose text is bare: an elided select is its name
-unfoldable pub is_bare_head : ExprTree → Bool
-is_bare_head (NameTree name type) = is_bare name
-is_bare_head (LiteralTree text value) = is_bare text
-is_bare_head (StringTree text) = is_bare text
-is_bare_head (IndexTree s i) = is_scalar_name s && is_bare_head s
-is_bare_head (SliceTree s h l) = is_scalar_name s && is_bare_head s
-is_bare_head _ = false

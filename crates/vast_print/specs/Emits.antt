@@ -4,8 +4,6 @@ use Rattle.std.specs.declared.alloc.Global.{Global}
 use Rattle.vast_literal.specs.declared.error.VastFault.{VastFault}
 use Rattle.vast_literal.specs.declared.error.VastFault.TheVariants.{Refused as RefusedBy, Memory as NoMemory}
 use Rattle.vast_print.specs.declared.refusal.Refusal.{Refusal}
-use Rattle.vast_print.specs.declared.refusal.PrintFault.{PrintFault}
-use Rattle.vast_print.specs.declared.refusal.PrintFault.TheVariants.{Refused, Memory}
 use Rattle.vast_print.specs.Printed.{Printed, refusal_text}
 use Rattle.vast_print.specs.Page.{Page, print}
 
@@ -27,9 +25,3 @@ Emits p r = Answers (print p) p.fault r
 -- the text as it stands, or its first refusal
 abbrev pub EmitsText : Printed → Result (String Global) VastFault → Type 0
 EmitsText p r = Answers p.text p.fault r
-
--- a refusal keeps its words, unless memory for them was refused
-abbrev pub Faults : PrintFault → VastFault → Type 0
-Faults (Refused r) (RefusedBy e) = string_bytes e.0 ≡ refusal_text r
-Faults (Memory error) (RefusedBy e) = ⊥
-Faults fault (NoMemory e) = Unit {0}

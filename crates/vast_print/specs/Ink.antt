@@ -1,8 +1,6 @@
 -- What is written so far, and what becomes of it where a page is written behind it.
-use Rattle.std.specs.Prelude.{◌≡◌, ℕ, ◌+◌, ◌*◌, List, [], ◌∷◌, ◌++◌, true, false, cond, replicate, Option, Some, None, Result, Ok, Err}
+use Rattle.std.specs.Prelude.{ℕ, ◌+◌, ◌*◌, List, [], ◌∷◌, ◌++◌, true, false, cond, replicate, Option, Some, None}
 use Rattle.vast_print.specs.declared.refusal.Refusal.{Refusal}
-use Rattle.vast_print.specs.declared.refusal.PrintFault.{PrintFault}
-use Rattle.vast_print.specs.declared.refusal.PrintFault.TheVariants.{Refused, Memory}
 use Rattle.vast_print.specs.Page.{Line, Page}
 use Rattle.vast_print.specs.Draft.{Draft}
 
@@ -51,9 +49,3 @@ hang d k p = stop (hang_lines d k p.lines) p.fault
 -- a page that goes on behind the last line
 unfoldable pub pour : ℕ → Ink → Page → Ink
 pour d k p = stop (pour_lines d k p.lines) p.fault
-
--- what a call that is to leave this ink does: the draft is the ink, or the answer is the ink's refusal, or memory ends
-abbrev pub Writes : Ink → Draft → Result (Unit {0}) PrintFault → Type 0
-Writes ink new (Ok _) = ink ≡ Wet new
-Writes ink new (Err (Refused r)) = ink ≡ Stopped r
-Writes ink new (Err (Memory error)) = Unit {0}

@@ -9,11 +9,8 @@ pub mod Ink
 pub mod Statements
 pub mod Members
 pub mod Layout
-pub mod Words
 pub mod Emits
-pub mod Pieces
-pub mod Fits
-pub mod Bodies
 pub mod Derived
 pub mod WorkedTexts
 pub mod WorkedPages
+pub mod Internal

@@ -73,10 +73,3 @@ unfoldable mutual
   arms_page word (CaseArm label b arms) =
       above (beside (written (label_text label ⊕ plain_text (codes ": "))) (cond (is_bare_arm word b) (statements_page b) (block_page b)))
       (arms_page word arms)
-
--- what stands behind an arm's label
-unfoldable pub arm_body_page : CaseWord → Statements → Page
-arm_body_page word b = cond (is_bare_arm word b) (statements_page b) (block_page b)
-
-unfoldable pub arm_page : CaseWord → MaybeExpr → Statements → Page
-arm_page word label b = beside (written (label_text label ⊕ plain_text (codes ": "))) (arm_body_page word b)

@@ -6,8 +6,9 @@ ghost use Rattle.vast_core.specs.Handles.{always_index};
 ghost use Rattle.vast_core.specs.Sound.{EventSound};
 ghost use Rattle.vast_core.specs.FileTree.{families, always_in};
 ghost use Rattle.vast_core.specs.View.{bench};
-ghost use Rattle.vast_print.specs.Fits.{AlwaysFits};
-ghost use Rattle.vast_print.specs.Ink.{Writes, Wet, hang, pour};
+ghost use Rattle.vast_print.specs.Internal.Fits.{AlwaysFits};
+ghost use Rattle.vast_print.specs.Ink.{Wet, hang, pour};
+ghost use Rattle.vast_print.specs.Internal.Ink.{Writes};
 ghost use Rattle.vast_print.specs.Page.{written};
 ghost use Rattle.vast_print.specs.Members.{events_text, always_text, member_page};
 

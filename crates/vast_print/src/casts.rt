@@ -4,7 +4,7 @@ ghost use Rattle.std.specs.Prelude.{false, ◌≡◌, ◌+◌, OnOk};
 ghost use Rattle.vast_literal.specs.Tree.{WidthCastTree, TypeCastTree, ExternalTree, PackageTree};
 ghost use Rattle.vast_core.specs.Bench.{OwnsExpr, OwnsType, tree_of, type_of};
 ghost use Rattle.vast_core.specs.View.{bench};
-ghost use Rattle.vast_print.specs.Pieces.{expr_weight, pieces_text, pieces_weight, PiecesOwned, BeginsExpr};
+ghost use Rattle.vast_print.specs.Internal.Pieces.{expr_weight, pieces_text, pieces_weight, PiecesOwned, BeginsExpr};
 ghost use Rattle.vast_print.specs.Printed.{plain_text, ◌⊕◌, wrapped};
 ghost use Rattle.vast_print.specs.Text.{expr_text};
 

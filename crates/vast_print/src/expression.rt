@@ -3,11 +3,12 @@
 ghost use Rattle.std.specs.Prelude.{◌≡◌, ◌+◌};
 ghost use Rattle.vast_core.specs.Bench.{OwnsExpr, tree_of};
 ghost use Rattle.vast_core.specs.View.{bench};
-ghost use Rattle.vast_print.specs.Ink.{Writes, Wet, pour};
+ghost use Rattle.vast_print.specs.Ink.{Wet, pour};
+ghost use Rattle.vast_print.specs.Internal.Ink.{Writes};
 ghost use Rattle.vast_print.specs.Page.{written};
 ghost use Rattle.vast_print.specs.Printed.{wrapped};
 ghost use Rattle.vast_print.specs.Text.{expr_text};
-ghost use Rattle.vast_print.specs.Pieces.{expr_weight, piece_weight, piece_text, PieceOwned, PiecesOwned, Begins, BeginsExpr};
+ghost use Rattle.vast_print.specs.Internal.Pieces.{expr_weight, piece_weight, piece_text, PieceOwned, PiecesOwned, Begins, BeginsExpr};
 
 use crate::casts::{begin_type_cast, begin_width_cast};
 use crate::lists::{begin_call, begin_concat, begin_macro_call, begin_pattern, print_macro};

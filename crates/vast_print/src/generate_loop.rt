@@ -6,8 +6,9 @@ ghost use Rattle.vast_core.specs.Handles.{loop_index};
 ghost use Rattle.vast_core.specs.Nests.{label_bytes};
 ghost use Rattle.vast_core.specs.FileTree.{families, loop_member};
 ghost use Rattle.vast_core.specs.View.{bench};
-ghost use Rattle.vast_print.specs.Fits.{HasRoom};
-ghost use Rattle.vast_print.specs.Ink.{Writes, Wet, next, hang, pour};
+ghost use Rattle.vast_print.specs.Internal.Fits.{HasRoom};
+ghost use Rattle.vast_print.specs.Ink.{Wet, next, hang, pour};
+ghost use Rattle.vast_print.specs.Internal.Ink.{Writes};
 ghost use Rattle.vast_print.specs.Page.{written};
 ghost use Rattle.vast_print.specs.Members.{loop_label_text, loop_text, member_page};
 

@@ -7,7 +7,8 @@ ghost use Rattle.vast_core.specs.Sound.{ConnectionSound};
 ghost use Rattle.vast_core.specs.Records.{InstanceEntry};
 ghost use Rattle.vast_core.specs.FileTree.{connection_tree, member_tree};
 ghost use Rattle.vast_core.specs.View.{bench};
-ghost use Rattle.vast_print.specs.Ink.{Writes, Wet, hang, pour};
+ghost use Rattle.vast_print.specs.Ink.{Wet, hang, pour};
+ghost use Rattle.vast_print.specs.Internal.Ink.{Writes};
 ghost use Rattle.vast_print.specs.Page.{written};
 ghost use Rattle.vast_print.specs.Members.{entries_page, connection_text, connections_page, instance_head_page, member_page};
 

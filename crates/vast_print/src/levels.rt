@@ -4,7 +4,7 @@ ghost use Rattle.std.specs.Prelude.{◌≡◌};
 ghost use Rattle.vast_literal.specs.Shape.{binary_precedence, is_negative_literal, is_reduction, is_reduction_operator, is_scalar_name, is_scalar_type, is_width_cast, is_zero, left_child_wraps, highest_index_wraps, precedence, right_child_wraps, select_wraps, ternary_wraps, unary_wraps};
 ghost use Rattle.vast_core.specs.Bench.{OwnsExpr, OwnsType, tree_of, type_of};
 ghost use Rattle.vast_core.specs.View.{bench};
-ghost use Rattle.vast_print.specs.Bare.{is_bare_head};
+ghost use Rattle.vast_print.specs.Internal.Bare.{is_bare_head};
 ghost use Rattle.vast_print.specs.Levels.{unary_operator_text, binary_operator_text};
 
 use crate::bare::is_bare;
@@ -160,7 +160,7 @@ pub(crate) fn is_zero(ast: &Ast, e: Expr) -> bool
 }
 
 /// Whether an expression's text is a number or a word.
-#[tactic(auto, unfolding(crate::specs::Bare::is_bare_head))]
+#[tactic(auto, unfolding(crate::specs::Internal::Bare::is_bare_head))]
 pub(crate) fn is_bare_expr(ast: &Ast, e: Expr) -> bool
     requires { OwnsExpr (bench ast.now) e }
     ensures { result ≡ is_bare_head (tree_of (bench ast.now) e) }

@@ -4,10 +4,11 @@ ghost use Rattle.std.specs.Prelude.{All, IfSome};
 ghost use Rattle.vast_literal.specs.Tree.{ConcatTree, PatternTree, MacroTree, CallTree, NoArguments, SomeArguments};
 ghost use Rattle.vast_core.specs.Bench.{OwnsExpr, maybe_tree_of, trees_of};
 ghost use Rattle.vast_core.specs.View.{bench};
-ghost use Rattle.vast_print.specs.Ink.{Writes, Wet, pour};
+ghost use Rattle.vast_print.specs.Ink.{Wet, pour};
+ghost use Rattle.vast_print.specs.Internal.Ink.{Writes};
 ghost use Rattle.vast_print.specs.Page.{written};
 ghost use Rattle.vast_print.specs.Text.{expr_text};
-ghost use Rattle.vast_print.specs.Pieces.{PiecesOwned, BeginsExpr};
+ghost use Rattle.vast_print.specs.Internal.Pieces.{PiecesOwned, BeginsExpr};
 
 use crate::pieces::{Piece, push_list, push_part, push_plain};
 use crate::refusal::PrintFault;

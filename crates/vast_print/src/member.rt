@@ -7,8 +7,9 @@ ghost use Rattle.vast_core.specs.Records.{member_entry};
 ghost use Rattle.vast_core.specs.Sound.{MemberSound};
 ghost use Rattle.vast_core.specs.FileTree.{declared, member_tree, members_tree};
 ghost use Rattle.vast_core.specs.View.{bench};
-ghost use Rattle.vast_print.specs.Fits.{MemberFits};
-ghost use Rattle.vast_print.specs.Ink.{Writes, Wet, hang};
+ghost use Rattle.vast_print.specs.Internal.Fits.{MemberFits};
+ghost use Rattle.vast_print.specs.Ink.{Wet, hang};
+ghost use Rattle.vast_print.specs.Internal.Ink.{Writes};
 ghost use Rattle.vast_print.specs.Members.{member_page, members_page};
 ghost use Rattle.vast_literal.specs.Tree.{DeclarationMember, MacroMember};
 

@@ -6,7 +6,8 @@ ghost use Rattle.vast_core.specs.Records.{module_record, parameter_port_record, 
 ghost use Rattle.vast_core.specs.Sound.{MemberSound, ParameterPortSound};
 ghost use Rattle.vast_core.specs.FileTree.{parameter_port_tree, port_tree, members_tree, module_tree, item_tree};
 ghost use Rattle.vast_core.specs.View.{bench};
-ghost use Rattle.vast_print.specs.Ink.{Writes, Wet, word, next, hang, pour};
+ghost use Rattle.vast_print.specs.Ink.{Wet, word, next, hang, pour};
+ghost use Rattle.vast_print.specs.Internal.Ink.{Writes};
 ghost use Rattle.vast_print.specs.Printed.{plain_text};
 ghost use Rattle.vast_print.specs.Layout.{port_text, ports_page, header_page, body_page, module_page, item_page};
 ghost use Rattle.vast_print.specs.Page.{written};

@@ -3,7 +3,7 @@
 ghost use Rattle.vast_literal.specs.Tree.{UnaryTree, BinaryTree, TernaryTree, PosEdgeTree, NegEdgeTree};
 ghost use Rattle.vast_core.specs.Bench.{OwnsExpr, tree_of};
 ghost use Rattle.vast_core.specs.View.{bench};
-ghost use Rattle.vast_print.specs.Pieces.{PiecesOwned, BeginsExpr};
+ghost use Rattle.vast_print.specs.Internal.Pieces.{PiecesOwned, BeginsExpr};
 
 use crate::levels::{
     binary_operator_text, left_wraps, right_wraps, ternary_wraps, unary_operator_text, unary_wraps,

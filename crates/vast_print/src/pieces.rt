@@ -6,7 +6,7 @@ ghost use Rattle.std.specs.Fmt.{signed_decimal};
 ghost use Rattle.vast_literal.specs.Shape.{select_wraps};
 ghost use Rattle.vast_core.specs.Bench.{OwnsExpr, tree_of, trees_of};
 ghost use Rattle.vast_core.specs.View.{bench};
-ghost use Rattle.vast_print.specs.Pieces.{expr_weight, exprs_weight, pieces_text, pieces_weight, PiecesOwned};
+ghost use Rattle.vast_print.specs.Internal.Pieces.{expr_weight, exprs_weight, pieces_text, pieces_weight, PiecesOwned};
 ghost use Rattle.vast_print.specs.Printed.{plain_text, ◌⊕◌, wrapped};
 ghost use Rattle.vast_print.specs.Text.{expr_text, list_text};
 

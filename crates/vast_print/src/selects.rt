@@ -3,7 +3,7 @@
 ghost use Rattle.vast_literal.specs.Tree.{IndexTree, SliceTree, PartSelectTree};
 ghost use Rattle.vast_core.specs.Bench.{OwnsExpr, tree_of};
 ghost use Rattle.vast_core.specs.View.{bench};
-ghost use Rattle.vast_print.specs.Pieces.{PiecesOwned, BeginsExpr};
+ghost use Rattle.vast_print.specs.Internal.Pieces.{PiecesOwned, BeginsExpr};
 
 use crate::levels::{is_scalar_name, is_zero};
 use crate::pieces::{Piece, push_number, push_part, push_plain, push_subject};

@@ -5,11 +5,12 @@ ghost use Rattle.std.specs.Fmt.{signed_decimal};
 ghost use Rattle.vast_literal.specs.Shape.{base_of, packed_dimensions, unpacked_dimensions, is_external};
 ghost use Rattle.vast_core.specs.Bench.{OwnsExpr, OwnsType, tree_of, type_of};
 ghost use Rattle.vast_core.specs.View.{bench};
-ghost use Rattle.vast_print.specs.Ink.{Writes, Wet, word, pour};
+ghost use Rattle.vast_print.specs.Ink.{Wet, word, pour};
+ghost use Rattle.vast_print.specs.Internal.Ink.{Writes};
 ghost use Rattle.vast_print.specs.Page.{written};
 ghost use Rattle.vast_print.specs.Printed.{plain_text, spaced};
 ghost use Rattle.vast_print.specs.Declaration.{packed_text, unpacked_range, unpacked_text, type_text, highest_index_text};
-ghost use Rattle.vast_print.specs.Words.{has_text};
+ghost use Rattle.vast_print.specs.Internal.Words.{has_text};
 
 use crate::expression::print_wrapped;
 use crate::levels::highest_index_wraps;

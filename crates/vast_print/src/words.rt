@@ -1,7 +1,7 @@
 //! The words that stand between the parts of a tree.
 
 ghost use Rattle.std.specs.Prelude.{◌≡◌, codes};
-ghost use Rattle.vast_print.specs.Words.{signed_opening, unsigned_opening, scalar_cast_opening, scalar_cast_closing, cast_sign_word, number_cast_opening, number_cast_closing, comma, separator, endfunction_word, function_opening, for_opening, step_word, always_ff_opening, always_at_opening, always_comb_opening};
+ghost use Rattle.vast_print.specs.Internal.Words.{signed_opening, unsigned_opening, scalar_cast_opening, scalar_cast_closing, cast_sign_word, number_cast_opening, number_cast_closing, comma, separator, endfunction_word, function_opening, for_opening, step_word, always_ff_opening, always_at_opening, always_comb_opening};
 ghost use Rattle.vast_print.specs.Members.{parameter_word, semicolon_text};
 ghost use Rattle.vast_print.specs.Statements.{assignment_operator, case_word, unique_word};
 ghost use Rattle.vast_core.specs.FileTree.{form_of};
@@ -129,7 +129,7 @@ pub(crate) fn or_before(i: usize) -> &'static str
 }
 
 /// Before a function's result.
-#[tactic(auto, unfolding(crate::specs::Words::function_opening))]
+#[tactic(auto, unfolding(crate::specs::Internal::Words::function_opening))]
 pub(crate) fn function() -> &'static str
     ensures { result.now ≡ function_opening }
 {
@@ -137,7 +137,7 @@ pub(crate) fn function() -> &'static str
 }
 
 /// Before a loop's variable.
-#[tactic(auto, unfolding(crate::specs::Words::for_opening))]
+#[tactic(auto, unfolding(crate::specs::Internal::Words::for_opening))]
 pub(crate) fn for_genvar() -> &'static str
     ensures { result.now ≡ for_opening }
 {
@@ -145,7 +145,7 @@ pub(crate) fn for_genvar() -> &'static str
 }
 
 /// Behind a loop's header.
-#[tactic(auto, unfolding(crate::specs::Words::step_word))]
+#[tactic(auto, unfolding(crate::specs::Internal::Words::step_word))]
 pub(crate) fn step() -> &'static str
     ensures { result.now ≡ step_word }
 {
@@ -153,7 +153,7 @@ pub(crate) fn step() -> &'static str
 }
 
 /// Before the events of a clocked block.
-#[tactic(auto, unfolding(crate::specs::Words::always_ff_opening))]
+#[tactic(auto, unfolding(crate::specs::Internal::Words::always_ff_opening))]
 pub(crate) fn always_ff() -> &'static str
     ensures { result.now ≡ always_ff_opening }
 {
@@ -161,7 +161,7 @@ pub(crate) fn always_ff() -> &'static str
 }
 
 /// Before the events of a block of any kind.
-#[tactic(auto, unfolding(crate::specs::Words::always_at_opening))]
+#[tactic(auto, unfolding(crate::specs::Internal::Words::always_at_opening))]
 pub(crate) fn always_at() -> &'static str
     ensures { result.now ≡ always_at_opening }
 {
@@ -169,7 +169,7 @@ pub(crate) fn always_at() -> &'static str
 }
 
 /// Before a combinational block.
-#[tactic(auto, unfolding(crate::specs::Words::always_comb_opening))]
+#[tactic(auto, unfolding(crate::specs::Internal::Words::always_comb_opening))]
 pub(crate) fn always_comb() -> &'static str
     ensures { result.now ≡ always_comb_opening }
 {
@@ -177,7 +177,7 @@ pub(crate) fn always_comb() -> &'static str
 }
 
 /// Behind a function's body.
-#[tactic(auto, unfolding(crate::specs::Words::endfunction_word))]
+#[tactic(auto, unfolding(crate::specs::Internal::Words::endfunction_word))]
 pub(crate) fn endfunction() -> &'static str
     ensures { result.now ≡ endfunction_word }
 {

@@ -6,15 +6,16 @@ use Rattle.vast_literal.specs.NormalFile.{NormalStatement, NormalStatements, Don
 use Rattle.vast_literal.specs.Tokens.{Key, key_text}
 use Rattle.vast_read.specs.Texts.{key_of}
 use Rattle.vast_read.specs.StatementParts.{ChoicePart, arms_of, last_arm}
-use Rattle.vast_read.specs.StatementView.{arm_view, block_view, statement_view}
-use Rattle.vast_read.specs.Blocks.{Side, Choices, blank, last_block, choice_view, choices_of}
+use Rattle.vast_read.specs.StatementView.{block_view, statement_view}
+use Rattle.vast_read.specs.Internal.StatementView.{arm_view}
+use Rattle.vast_read.specs.Internal.Blocks.{Side, Choices, blank, last_block, choice_view, choices_of}
 use Rattle.vast_read.specs.declared.same.choice.Choice.{Choice}
 use Rattle.vast_read.specs.declared.same.statement_level.StatementKind.{StatementKind}
 use Rattle.vast_read.specs.declared.same.statement_level.StatementKind.TheVariants as kind
 use Rattle.vast_read.specs.declared.tree.statement.Arm.{Arm}
 use Rattle.vast_read.specs.declared.tree.statement.NormalStatement.{NormalStatement as Tree}
 use Rattle.vast_read.specs.declared.same.statement_level.StatementLevel.{StatementLevel as CodeLevel}
-use Rattle.vast_read.specs.StatementLevels.{Level, level_of, level_view, head_of, blocks_of}
+use Rattle.vast_read.specs.Internal.StatementLevels.{Level, level_of, level_view, head_of, blocks_of}
 use Rattle.vast_read.proofs.LevelLaws.{key_again}
 
 both : {A B : Type 0} (p q : A × B) → p.0 ≡ q.0 → p.1 ≡ q.1 → p ≡ q

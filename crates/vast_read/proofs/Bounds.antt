@@ -4,10 +4,11 @@ use Rattle.std.proofs.lemmas.Slice.Eq.{bytes_eq-Decides}
 use Rattle.vast_literal.specs.Spelling.{op_text}
 use Rattle.vast_literal.specs.Tokens.{Op, Less, LogicNot}
 use Rattle.vast_literal.specs.NormalExpr.{NormalExpr, NormalExprs, Name, Binary}
-use Rattle.vast_literal.specs.MemberParser.{bound_of}
+use Rattle.vast_literal.specs.Internal.MemberParser.{bound_of}
 use Rattle.vast_read.specs.Texts.{signs, sign_written, infix_of}
 use Rattle.vast_read.specs.View.{with_arguments}
-use Rattle.vast_read.specs.Bounds.{is_name_of, is_less, is_bounded}
+use Rattle.vast_read.specs.Internal.Bounds.{is_name_of, is_bounded}
+use Rattle.vast_read.proofs.BoundsWords.{is_less}
 
 differs : (v w : List ℕ) → (v ≡ w → ⊥) → bytes_eq v w ≡ false
 differs v w d = go (bytes_eq v w) refl

@@ -2,10 +2,10 @@
 use Rattle.std.proofs.Common.{◌≡◌, ℕ, List, Some, None, refl}
 use Rattle.vast_literal.specs.Tokens.{Token, CloseBrace}
 use Rattle.vast_literal.specs.NormalExpr.{NormalExpr, Concat, Pattern, Replicated, Call, MacroCall, NormalExprs}
-use Rattle.vast_literal.specs.Parser.{◌>>=◌, after}
-use Rattle.vast_read.specs.Reading.{Reading}
+use Rattle.vast_literal.specs.Internal.Parser.{◌>>=◌, after}
+use Rattle.vast_read.specs.Internal.Reading.{Reading}
 use Rattle.vast_read.specs.declared.machine.Head.TheVariants as head
-use Rattle.vast_read.specs.Machine.{built_at}
+use Rattle.vast_read.specs.Internal.Machine.{built_at}
 use Rattle.vast_read.proofs.Steps.{then_some, then_none}
 
 module _ {E P W : Type 0} (r : Reading E P W) where

@@ -2,12 +2,12 @@
 use Rattle.std.proofs.Common.{◌≡◌, ℕ, List, Option, Some, None, refl, ap, ◌∙◌}
 use Rattle.vast_literal.specs.Tokens.{Token, OpenParen, CloseParen}
 use Rattle.vast_literal.specs.NormalExpr.{Call, MacroCall}
-use Rattle.vast_literal.specs.Parser.{after, lead, applied_at, word_on, macro_on}
-use Rattle.vast_literal.specs.Settled.{settled}
-use Rattle.vast_read.specs.Reading.{Reading}
-use Rattle.vast_read.specs.Steps.{system_at}
+use Rattle.vast_literal.specs.Internal.Parser.{after, lead, applied_at, word_on, macro_on}
+use Rattle.vast_literal.specs.Internal.Settled.{settled}
+use Rattle.vast_read.specs.Internal.Reading.{Reading}
+use Rattle.vast_read.specs.Internal.Steps.{system_at}
 use Rattle.vast_read.specs.declared.machine.Head.TheVariants as head
-use Rattle.vast_read.specs.Machine.{listing_at}
+use Rattle.vast_read.specs.Internal.Machine.{listing_at}
 use Rattle.vast_read.proofs.Steps.{then_some, then_none, either_some, word_reads, macro_reads, system_reads}
 use Rattle.vast_read.proofs.ListWaits.{calls_list, macros_list}
 

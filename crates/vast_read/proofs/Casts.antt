@@ -2,15 +2,15 @@
 use Rattle.std.proofs.Common.{◌≡◌, ℕ, true, false, List, Option, Some, None, refl, ap, ◌∙◌}
 use Rattle.vast_literal.specs.Tokens.{Token, Key, OpenParen, Apostrophe, DoubleColon}
 use Rattle.vast_literal.specs.NormalExpr.{NormalExpr, Name, Literal, Call, Cast, PackageCast, WordCast}
-use Rattle.vast_literal.specs.Parser.{◌>>=◌, after, lead, word_at, cast, word_on, number_on}
+use Rattle.vast_literal.specs.Internal.Parser.{◌>>=◌, after, lead, word_at, cast, word_on, number_on}
 use Rattle.vast_literal.specs.Grammar.{is_cast_word}
-use Rattle.vast_literal.specs.Settled.{either, settled}
-use Rattle.vast_read.specs.Reading.{Reading}
-use Rattle.vast_read.specs.Steps.{package_at, key_cast}
+use Rattle.vast_literal.specs.Internal.Settled.{either, settled}
+use Rattle.vast_read.specs.Internal.Reading.{Reading}
+use Rattle.vast_read.specs.Internal.Steps.{package_at, key_cast}
 use Rattle.vast_read.specs.TokenView.{key_view}
 use Rattle.vast_read.specs.declared.machine.Waiting.{Waiting}
 use Rattle.vast_read.specs.declared.machine.Waiting.TheVariants as wait
-use Rattle.vast_read.specs.Machine.{then_primary, opened_then}
+use Rattle.vast_read.specs.Internal.Machine.{then_primary, opened_then}
 use Rattle.vast_read.proofs.Steps.{then_some, then_none, either_some, either_none, word_reads, number_reads, package_reads, key_cast_yes, key_cast_no}
 use Rattle.vast_read.proofs.Waits.{cast_waits, package_waits, word_waits, then_nothing}
 

@@ -4,14 +4,15 @@ use Rattle.vast_literal.specs.Tokens.{Key, OpenBracket, CloseBracket, Colon, Dou
 use Rattle.vast_literal.specs.NormalExpr.{NormalExpr}
 use Rattle.vast_literal.specs.NormalFile.{Group, One, Range}
 use Rattle.vast_literal.specs.FileGrammar.{is_kind, is_sign}
-use Rattle.vast_literal.specs.Parser.{◌>>=◌, code, after, key_at, word_at, enclosed_at}
-use Rattle.vast_literal.specs.DeclarationParser.{is_bracket, maybe_on, maybe_at}
-use Rattle.vast_literal.specs.Settled.{either, settled}
-use Rattle.vast_literal.specs.Nexts.{key_with}
-use Rattle.vast_literal.specs.SettledDeclarations.{group_end, settled_group, settled_groups, named_end, signed_end, type_or_name, plain_word, scoped_type, behind_word, behind_kind, settled_declaration}
+use Rattle.vast_literal.specs.Parser.{code}
+use Rattle.vast_literal.specs.Internal.Parser.{◌>>=◌, after, key_at, word_at, enclosed_at}
+use Rattle.vast_literal.specs.Internal.DeclarationParser.{is_bracket, maybe_on, maybe_at}
+use Rattle.vast_literal.specs.Internal.Settled.{either, settled}
+use Rattle.vast_literal.specs.Internal.Nexts.{key_with}
+use Rattle.vast_literal.specs.Internal.SettledDeclarations.{group_end, settled_group, settled_groups, named_end, signed_end, type_or_name, plain_word, scoped_type, behind_word, behind_kind, settled_declaration}
 use Rattle.vast_literal.proofs.SettledDeclarations.{groups_read}
-use Rattle.vast_read.specs.ListSteps.{with_list}
-use Rattle.vast_read.specs.DeclarationSteps.{group_rest}
+use Rattle.vast_read.proofs.ListStepsWords.{with_list}
+use Rattle.vast_read.specs.Internal.DeclarationSteps.{group_rest}
 use Rattle.vast_read.proofs.Steps.{then_some, either_some, either_none}
 use Rattle.vast_read.proofs.ListSteps.{list_begin, many_end, many_go_on, many_fail}
 

@@ -1,7 +1,7 @@
 -- A declaration is told by its words and its groups.
 use Rattle.std.proofs.Common.{◌≡◌, option_map, ap, ◌∙◌}
 use Rattle.vast_read.specs.DeclarationView.{declaration_view, groups_view}
-use Rattle.vast_read.specs.DeclaredWords.{declared_words, declared_groups}
+use Rattle.vast_read.specs.Internal.DeclaredWords.{declared_words, declared_groups}
 use Rattle.vast_read.specs.Texts.{key_of}
 use Rattle.vast_read.specs.declared.tree.declaration.NormalDeclaration.{NormalDeclaration}
 

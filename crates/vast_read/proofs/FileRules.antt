@@ -4,10 +4,10 @@ use Rattle.std.proofs.lemmas.Bool.{eqb-true}
 use Rattle.std.specs.Prelude.{MatchOption}
 use Rattle.vast_literal.specs.Tokens.{Token}
 use Rattle.vast_literal.specs.NormalFile.{IncludePart}
-use Rattle.vast_literal.specs.Parser.{◌>>=◌}
-use Rattle.vast_literal.specs.FileParser.{path_end, path_of, include_on}
-use Rattle.vast_read.specs.FileSteps.{quoted_in}
-use Rattle.vast_read.specs.Includes.{include_text}
+use Rattle.vast_literal.specs.Internal.Parser.{◌>>=◌}
+use Rattle.vast_literal.specs.Internal.FileParser.{path_end, path_of, include_on}
+use Rattle.vast_read.specs.Internal.FileSteps.{quoted_in}
+use Rattle.vast_read.specs.Internal.Includes.{include_text}
 use Rattle.vast_read.proofs.Steps.{then_some, then_none, either_some, either_none}
 use Rattle.vast_read.proofs.FileSteps.{parameter_reads, parameters_join, parameters_end, parameters_go_on, parameters_fail, parameter_list_reads, parameters_read, port_reads, ports_join, ports_end, ports_go_on, ports_fail, port_list_reads, ports_read, module_reads, include_nothing, include_other, include_macro, path_missing, path_other, quoted_is, path_end_gives, item_reads, items_begin, items_end, items_go_on, items_fail, file_reads}
 

@@ -3,19 +3,21 @@ use Rattle.std.proofs.Common.{◌≡◌, ℕ, suc, ◌*◌, true, false, List, [
 use Rattle.vast_literal.specs.Tokens.{ModuleKey, EndModuleKey, ParameterKey, OpenParen, CloseParen, Comma, Semicolon, Hash, Assign, Token, MacroWord, Quoted, Mark}
 use Rattle.vast_literal.specs.NormalFile.{NormalParameter, NormalPort, NormalItem, ModulePart}
 use Rattle.vast_literal.specs.FileGrammar.{is_direction}
-use Rattle.vast_literal.specs.Parser.{◌>>=◌, after, word_at}
-use Rattle.vast_literal.specs.StatementParser.{after_key}
-use Rattle.vast_literal.specs.FileParser.{path_end, include_on, is_more}
-use Rattle.vast_literal.specs.Settled.{either, settled}
-use Rattle.vast_literal.specs.Nexts.{key_with}
-use Rattle.vast_literal.specs.SettledDeclarations.{joined_of, others_of, settled_declaration}
-use Rattle.vast_literal.specs.SettledMembers.{settled_members}
-use Rattle.vast_literal.specs.SettledFiles.{settled_parameter, settled_port, joined_parameters, joined_ports, parameter_list, settled_parameters, port_list, settled_ports, settled_module, include_at, settled_item, settled_items, settled_file}
+use Rattle.vast_literal.specs.Internal.Parser.{◌>>=◌, after, word_at}
+use Rattle.vast_literal.specs.Internal.StatementParser.{after_key}
+use Rattle.vast_literal.specs.Internal.FileParser.{path_end, include_on, is_more}
+use Rattle.vast_literal.specs.Internal.Settled.{either, settled}
+use Rattle.vast_literal.specs.Internal.Nexts.{key_with}
+use Rattle.vast_literal.specs.Internal.SettledDeclarations.{joined_of, settled_declaration}
+use Rattle.vast_literal.proofs.SettledDeclarationsWords.{others_of}
+use Rattle.vast_literal.specs.Internal.SettledMembers.{settled_members}
+use Rattle.vast_literal.specs.Internal.SettledFiles.{settled_parameter, settled_port, joined_parameters, joined_ports, parameter_list, settled_parameters, port_list, settled_ports, settled_module, include_at, settled_item, settled_items, settled_file}
 use Rattle.vast_literal.proofs.Agree.{wide, second, shorter_mark}
 use Rattle.vast_literal.proofs.SettledLists.{joined_reads}
 use Rattle.vast_literal.proofs.SettledFiles.{parameter_agree, port_agree, items_read}
-use Rattle.vast_read.specs.ListSteps.{with_list}
-use Rattle.vast_read.specs.FileSteps.{other_parameters, other_ports, macro_in, quoted_in}
+use Rattle.vast_read.proofs.ListStepsWords.{with_list}
+use Rattle.vast_read.specs.Internal.FileSteps.{macro_in, quoted_in}
+use Rattle.vast_read.proofs.FileStepsWords.{other_parameters, other_ports}
 use Rattle.vast_read.proofs.Steps.{then_some}
 use Rattle.vast_read.proofs.ListSteps.{list_begin, many_end, many_go_on, many_fail, joined_begin, others_end, others_go_on, others_fail}
 

@@ -3,7 +3,8 @@ use Rattle.std.proofs.Common.{◌≡◌, ◌≢◌, ℕ, List, Option, Some, Non
 use Rattle.vast_literal.specs.FileGrammar.{DerivesFile}
 use Rattle.vast_literal.specs.NormalFile.{NormalFile}
 use Rattle.vast_literal.proofs.DerivedOnce.{file_once}
-use Rattle.vast_read.specs.Compared.{Compares, Found}
+use Rattle.vast_read.specs.Compared.{Compares}
+use Rattle.vast_read.specs.Internal.Compared.{Found}
 use Rattle.vast_read.specs.FileView.{file_view}
 use Rattle.vast_read.specs.declared.same.Comparison.{Comparison}
 use Rattle.vast_read.specs.declared.same.Comparison.TheVariants.{Same, Different, OldUnderived, NewUnderived}

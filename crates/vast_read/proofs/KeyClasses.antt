@@ -2,8 +2,8 @@
 use Rattle.std.proofs.Common.{◌≡◌, nat_eq, ◌||◌, refl}
 use Rattle.vast_literal.specs.Tokens.{Key, CaseKey, CasezKey, CasexKey, WireKey, RegKey, LogicKey, IntegerKey, IntKey, GenvarKey, SignedKey, UnsignedKey, ParameterKey, LocalparamKey, AlwaysFFKey, AlwaysKey, PosedgeKey, NegedgeKey, InputKey, OutputKey, InOutKey}
 use Rattle.vast_literal.specs.FileGrammar.{is_kind, is_sign, is_member_kind, is_local_kind, is_parameter_word, is_clocked, is_edge, is_direction}
-use Rattle.vast_literal.specs.StatementParser.{key_code}
-use Rattle.vast_read.specs.StatementSteps.{is_case_word, is_casez}
+use Rattle.vast_literal.specs.Internal.StatementParser.{key_code}
+use Rattle.vast_read.specs.Internal.StatementSteps.{is_case_word, is_casez}
 
 pub is_case_word_keys : (k : Key) → is_case_word k ≡ (nat_eq (key_code k) (key_code CaseKey) || nat_eq (key_code k) (key_code CasezKey) || nat_eq (key_code k) (key_code CasexKey))
 unfolding is_case_word key_code

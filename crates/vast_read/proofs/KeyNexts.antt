@@ -1,11 +1,12 @@
 -- Which keyword or sign stands next.
 use Rattle.std.proofs.Common.{◌≡◌, true, false, cond, nat_eq, Bool, List, [], ◌∷◌, Some, None, refl, arith, ◌≢◌, eq-eqb}
 use Rattle.vast_literal.specs.Tokens.{Op, LessEqual, Assign, Key, Token, Reserved, Operator, Mark}
-use Rattle.vast_literal.specs.Parser.{after, code, key_at}
-use Rattle.vast_literal.specs.StatementParser.{key_code, after_key_on, after_key, arrow_at}
-use Rattle.vast_literal.specs.Settled.{either}
-use Rattle.vast_read.specs.Steps.{sign_in}
-use Rattle.vast_literal.specs.Nexts.{key_in, key_with, sign_with, is_less_equal}
+use Rattle.vast_literal.specs.Parser.{code}
+use Rattle.vast_literal.specs.Internal.Parser.{after, key_at}
+use Rattle.vast_literal.specs.Internal.StatementParser.{key_code, after_key_on, after_key, arrow_at}
+use Rattle.vast_literal.specs.Internal.Settled.{either}
+use Rattle.vast_read.specs.Internal.Steps.{sign_in}
+use Rattle.vast_literal.specs.Internal.Nexts.{key_in, key_with, sign_with, is_less_equal}
 use Rattle.vast_read.proofs.Nexts.{sign_is}
 use Rattle.std.proofs.lemmas.Bool.Decides.{nat_tests}
 

@@ -10,7 +10,7 @@ use Rattle.vast_read.specs.declared.tree.expression.NormalExpr.{NormalExpr as Tr
 use Rattle.vast_read.specs.declared.same.level.Level.{Level as CodeLevel}
 use Rattle.vast_read.specs.declared.same.level.Kind.{Kind}
 use Rattle.vast_read.specs.declared.same.level.Kind.TheVariants as kind
-use Rattle.vast_read.specs.Levels.{Level, level_of, level_view, words_in, parts_in}
+use Rattle.vast_read.specs.Internal.Levels.{Level, level_of, level_view, words_in, parts_in}
 
 prefix_again : (op : Op) → prefix_of (op_text op) ≡ op
 unfolding prefix_of

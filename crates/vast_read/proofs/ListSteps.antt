@@ -1,11 +1,12 @@
 -- Lists that are read item by item.
 use Rattle.std.proofs.Common.{◌≡◌, Bool, true, false, List, [], ◌∷◌, ◌++◌, Option, Some, None, refl, append_assoc, append-nil}
 use Rattle.vast_literal.specs.Tokens.{Token}
-use Rattle.vast_literal.specs.Parser.{◌>>=◌}
-use Rattle.vast_literal.specs.StatementParser.{ReadOf}
-use Rattle.vast_literal.specs.DeclarationParser.{many_on}
-use Rattle.vast_literal.specs.SettledDeclarations.{joined_of, others_of}
-use Rattle.vast_read.specs.ListSteps.{with_list}
+use Rattle.vast_literal.specs.Internal.Parser.{◌>>=◌}
+use Rattle.vast_literal.specs.Internal.StatementParser.{ReadOf}
+use Rattle.vast_literal.specs.Internal.DeclarationParser.{many_on}
+use Rattle.vast_literal.specs.Internal.SettledDeclarations.{joined_of}
+use Rattle.vast_literal.proofs.SettledDeclarationsWords.{others_of}
+use Rattle.vast_read.proofs.ListStepsWords.{with_list}
 use Rattle.vast_read.proofs.Steps.{then_some, then_none, either_some, either_none}
 
 pub list_begin : {A : Type 0} (o : ReadOf (List A)) → o ≡ with_list [] o

@@ -2,17 +2,17 @@
 use Rattle.std.proofs.Common.{◌≡◌, List, ◌∷◌, Some, None, refl, ◌∙◌}
 use Rattle.vast_literal.specs.Tokens.{Token, CloseParen, OpenBrace, CloseBrace, Comma}
 use Rattle.vast_literal.specs.NormalExpr.{NormalExpr, Concat, Pattern, Replicated, Call, MacroCall, NormalExprs, NoNormals, MoreNormals}
-use Rattle.vast_literal.specs.Parser.{◌>>=◌, after, applied_at, list_on, brace_on}
-use Rattle.vast_literal.specs.Settled.{either, settled}
+use Rattle.vast_literal.specs.Internal.Parser.{◌>>=◌, after, applied_at, list_on, brace_on}
+use Rattle.vast_literal.specs.Internal.Settled.{either, settled}
 use Rattle.vast_literal.proofs.Agree.{chained}
-use Rattle.vast_read.specs.Reading.{Reading}
-use Rattle.vast_read.specs.Steps.{replicated_at, concat_at, join, joined}
+use Rattle.vast_read.specs.Internal.Reading.{Reading}
+use Rattle.vast_read.specs.Internal.Steps.{replicated_at, concat_at, join, joined}
 use Rattle.vast_read.specs.declared.machine.Waiting.{Waiting}
 use Rattle.vast_read.specs.declared.machine.Waiting.TheVariants as wait
 use Rattle.vast_read.specs.declared.machine.Head.{Head}
 use Rattle.vast_read.specs.declared.machine.Head.TheVariants as head
 use Rattle.vast_read.specs.declared.machine.State.TheVariants as state
-use Rattle.vast_read.specs.Machine.{made, closing, behind, parts_then, finished, then_primary, meaning, listing_at, built_at}
+use Rattle.vast_read.specs.Internal.Machine.{made, closing, behind, parts_then, finished, then_primary, meaning, listing_at, built_at}
 use Rattle.vast_read.proofs.Steps.{then_some, either_some, either_none, either_then, more_reads, list_reads, rest_ends, rest_behind, joined_twice, arguments_read, applied_reads, brace_reads, replicated_reads, concat_reads}
 use Rattle.vast_read.proofs.Waits.{waits, resumed_list, resumed_brace}
 

@@ -7,7 +7,7 @@ use Rattle.vast_literal.specs.Tokens.{Key, key_text}
 use Rattle.vast_read.specs.Texts.{key_of}
 use Rattle.vast_read.specs.declared.same.member_level.MemberKind.{MemberKind}
 use Rattle.vast_read.specs.declared.same.member_level.MemberKind.TheVariants as kind
-use Rattle.vast_read.specs.MemberLevels.{Level, level_of, level_view, head_of, blocks_of}
+use Rattle.vast_read.specs.Internal.MemberLevels.{Level, level_of, level_view, head_of, blocks_of}
 use Rattle.vast_read.specs.MemberView.{member_view}
 use Rattle.vast_read.specs.declared.tree.member.NormalMember.{NormalMember as Tree}
 use Rattle.vast_read.specs.declared.same.member_level.MemberLevel.{MemberLevel as CodeLevel}

@@ -3,19 +3,21 @@ use Rattle.std.proofs.Common.{◌≡◌, suc, ◌+◌, ◌*◌, true, false, Lis
 use Rattle.vast_literal.specs.Tokens.{CloseParen, Comma, OrKey, Token, Reserved}
 use Rattle.vast_literal.specs.NormalFile.{NormalDeclaration, Event, NormalConnection}
 use Rattle.vast_literal.specs.FileGrammar.{is_local_kind}
-use Rattle.vast_literal.specs.Parser.{◌>>=◌, after, key_at}
-use Rattle.vast_literal.specs.StatementParser.{after_key}
-use Rattle.vast_literal.specs.DeclarationParser.{many_on}
-use Rattle.vast_literal.specs.MemberParser.{local_on, is_local}
-use Rattle.vast_literal.specs.Settled.{either}
-use Rattle.vast_literal.specs.Nexts.{begins_with}
-use Rattle.vast_literal.specs.SettledDeclarations.{joined_of, others_of, listed_of}
-use Rattle.vast_literal.specs.SettledMembers.{settled_event, settled_events, settled_connection, settled_given, settled_connections, settled_givens, settled_input, settled_inputs, settled_local, settled_locals}
+use Rattle.vast_literal.specs.Internal.Parser.{◌>>=◌, after, key_at}
+use Rattle.vast_literal.specs.Internal.StatementParser.{after_key}
+use Rattle.vast_literal.specs.Internal.DeclarationParser.{many_on}
+use Rattle.vast_literal.specs.Internal.MemberParser.{local_on, is_local}
+use Rattle.vast_literal.specs.Internal.Settled.{either}
+use Rattle.vast_literal.specs.Internal.Nexts.{begins_with}
+use Rattle.vast_literal.specs.Internal.SettledDeclarations.{joined_of, listed_of}
+use Rattle.vast_literal.proofs.SettledDeclarationsWords.{others_of}
+use Rattle.vast_literal.specs.Internal.SettledMembers.{settled_event, settled_events, settled_connection, settled_given, settled_connections, settled_givens, settled_input, settled_inputs, settled_local, settled_locals}
 use Rattle.vast_literal.proofs.Agree.{wide, second, shorter_mark, shorter_key}
 use Rattle.vast_literal.proofs.SettledLists.{many_reads, joined_reads}
 use Rattle.vast_literal.proofs.SettledMemberParts.{event_agree, connection_agree, given_agree, input_agree, local_agree}
-use Rattle.vast_read.specs.ListSteps.{with_list}
-use Rattle.vast_read.specs.MemberSteps.{joined_events, other_events, joined_connections, other_connections, other_givens, joined_inputs, other_inputs}
+use Rattle.vast_read.proofs.ListStepsWords.{with_list}
+use Rattle.vast_read.specs.Internal.MemberSteps.{joined_events, joined_connections, joined_inputs}
+use Rattle.vast_read.proofs.MemberStepsWords.{other_events, other_connections, other_givens, other_inputs}
 use Rattle.vast_read.proofs.Steps.{then_some, then_none, either_some, either_none}
 use Rattle.vast_read.proofs.ListSteps.{list_begin, many_end, many_go_on, many_fail, joined_begin, others_end, others_go_on, others_fail}
 

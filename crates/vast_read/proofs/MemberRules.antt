@@ -1,9 +1,9 @@
 -- The laws that the functions of the reader of members are proved by.
 use Rattle.std.proofs.Common.{◌≡◌, ℕ, true, false, List, Some, None, bytes_eq, codes}
 use Rattle.vast_literal.specs.Tokens.{Token}
-use Rattle.vast_literal.specs.Parser.{word_at, number_at}
-use Rattle.vast_literal.specs.MemberParser.{same_word}
-use Rattle.vast_literal.specs.SettledMembers.{number_one}
+use Rattle.vast_literal.specs.Internal.Parser.{word_at, number_at}
+use Rattle.vast_literal.specs.Internal.MemberParser.{same_word}
+use Rattle.vast_literal.specs.Internal.SettledMembers.{number_one}
 use Rattle.vast_read.proofs.Steps.{then_some, then_none, either_some, either_none}
 use Rattle.vast_read.proofs.MemberLists.{events_join, events_end, events_go_on, events_fail, connections_join, connections_end, connections_go_on, connections_fail, givens_join, givens_end, givens_go_on, givens_fail, inputs_join, inputs_end, inputs_go_on, inputs_fail, locals_begin, locals_end, locals_go_on, locals_fail}
 use Rattle.vast_read.proofs.MemberSteps.{event_reads, value_reads, connection_reads, given_reads, instance_end_reads, given_parameters_read, instance_reads, macro_ending_reads, macro_reads, same_word_none, number_one_none, loop_start_reads, loop_bound_reads, loop_step_reads, loop_label_reads, input_reads, local_reads, lone_reads, function_block_reads, function_ending_reads, function_reads, assign_part_reads, combinational_reads, conditional_reads, parameter_part_reads, clocked_reads, declaration_part_reads, other_part_reads, unkeyed_kind, unkeyed_plain, plain_end, plain_word, plain_macro, plain_key, plain_keyword, plain_system, plain_number, plain_based, plain_quoted, plain_operator, plain_mark}

@@ -4,18 +4,19 @@ use Rattle.vast_literal.specs.Tokens.{Op, Punct, OpenParen, CloseParen, Colon, S
 use Rattle.vast_literal.specs.NormalExpr.{NormalExpr, NormalExprs}
 use Rattle.vast_literal.specs.NormalFile.{Done, Then, NormalDeclaration, EdgeEvent, NameEvent, NormalConnection, NormalMember, DeclarationPart, AssignPart, ParameterPart, MacroPart, InstancePart, AlwaysPart, ConditionalPart, FunctionPart, LoopPart, NormalMembers, NoParts, MoreParts}
 use Rattle.vast_literal.specs.FileGrammar.{is_member_kind, is_parameter_word, is_clocked, is_edge}
-use Rattle.vast_literal.specs.Parser.{◌>>=◌, after, word_at, number_at, enclosed_at, arguments, selected_at}
-use Rattle.vast_literal.specs.StatementParser.{ReadOf, after_key, block_at}
-use Rattle.vast_literal.specs.MemberParser.{bound_of, same_word}
-use Rattle.vast_literal.specs.Settled.{either, settled, settled_reader}
-use Rattle.vast_literal.specs.Nexts.{key_in, key_with, begins_with, sign_with, is_plus}
-use Rattle.vast_literal.specs.SettledDeclarations.{settled_declaration}
-use Rattle.vast_literal.specs.SettledMembers.{settled_members, settled_event, settled_events, connection_value, settled_connection, settled_given, settled_connections, settled_givens, instance_end, given_parameters, settled_instance, macro_ending, settled_macro, plain_part, loop_start, loop_bound, number_one, loop_step, loop_label, loop_block, loop_end, settled_loop, settled_input, settled_inputs, settled_local, settled_locals, lone_case, function_block, function_ending, settled_function, assign_part, combinational_part, conditional_part, parameter_part, clocked_part, declaration_part, settled_member}
+use Rattle.vast_literal.specs.Internal.Parser.{◌>>=◌, after, word_at, number_at, enclosed_at, arguments, selected_at}
+use Rattle.vast_literal.specs.Internal.StatementParser.{ReadOf, after_key, block_at}
+use Rattle.vast_literal.specs.Internal.MemberParser.{bound_of, same_word}
+use Rattle.vast_literal.specs.Internal.Settled.{either, settled, settled_reader}
+use Rattle.vast_literal.specs.Internal.Nexts.{key_in, key_with, begins_with, sign_with, is_plus}
+use Rattle.vast_literal.specs.Internal.SettledDeclarations.{settled_declaration}
+use Rattle.vast_literal.specs.Internal.SettledMembers.{settled_members, settled_event, settled_events, connection_value, settled_connection, settled_given, settled_connections, settled_givens, instance_end, given_parameters, settled_instance, macro_ending, settled_macro, plain_part, loop_start, loop_bound, number_one, loop_step, loop_label, settled_input, settled_inputs, settled_local, settled_locals, lone_case, function_block, function_ending, settled_function, assign_part, combinational_part, conditional_part, parameter_part, clocked_part, declaration_part}
+use Rattle.vast_literal.proofs.SettledMembersWords.{loop_block, loop_end, settled_loop, settled_member}
 use Rattle.vast_literal.proofs.Agree.{chained}
 use Rattle.vast_literal.proofs.SettledMembers.{members_settled}
 use Rattle.vast_read.specs.StatementParts.{arms_in}
-use Rattle.vast_read.specs.StatementSteps.{choice_statement, cases_of, block}
-use Rattle.vast_read.specs.MemberSteps.{unkeyed_part, other_part, join_members, with_members}
+use Rattle.vast_read.specs.Internal.StatementSteps.{choice_statement, cases_of, block}
+use Rattle.vast_read.specs.Internal.MemberSteps.{unkeyed_part, other_part, join_members, with_members}
 use Rattle.vast_read.proofs.Steps.{then_some, then_none, either_some, either_none}
 use Rattle.vast_read.proofs.StatementSteps.{casez_same}
 

@@ -1,7 +1,7 @@
 -- Lists of events, of what is given and of members with one more at the end.
 use Rattle.std.proofs.Common.{◌≡◌, List, [], ◌∷◌, ◌++◌, refl, ap}
 use Rattle.vast_literal.specs.NormalFile.{NoParts, MoreParts}
-use Rattle.vast_read.specs.MemberSteps.{join_members}
+use Rattle.vast_read.specs.Internal.MemberSteps.{join_members}
 use Rattle.vast_read.specs.MemberView.{event_view, events_view, connection_view, connections_view, member_view, members_view}
 use Rattle.vast_read.specs.declared.tree.member.Event.{Event}
 use Rattle.vast_read.specs.declared.tree.member.Connection.{Connection}

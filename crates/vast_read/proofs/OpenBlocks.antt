@@ -3,14 +3,15 @@ use Rattle.std.proofs.Common.{◌≡◌, Bool, true, false, List, [], ◌∷◌,
 use Rattle.vast_literal.specs.Tokens.{Token, Key, ElseKey, EndCaseKey, BeginKey, EndKey}
 use Rattle.vast_literal.specs.NormalExpr.{NormalExpr}
 use Rattle.vast_literal.specs.NormalFile.{NormalStatement, ChoiceStatement, CaseStatement, NormalStatements, Done, Then, Labels, NoLabels, Label}
-use Rattle.vast_literal.specs.Parser.{◌>>=◌}
-use Rattle.vast_literal.specs.StatementParser.{ReadOf, after_key}
-use Rattle.vast_literal.specs.Settled.{settled_reader}
+use Rattle.vast_literal.specs.Internal.Parser.{◌>>=◌}
+use Rattle.vast_literal.specs.Internal.StatementParser.{ReadOf, after_key}
+use Rattle.vast_literal.specs.Internal.Settled.{settled_reader}
 use Rattle.vast_literal.proofs.Agree.{chained}
-use Rattle.vast_read.specs.Steps.{in_parens}
-use Rattle.vast_read.specs.StatementParts.{ChoicePart, LabelPart, arms_of, join_block, join_labels}
-use Rattle.vast_read.specs.StatementReading.{StatementReading}
-use Rattle.vast_read.specs.StatementSteps.{is_casez, cases_of, choice_statement, choice_behind, else_if, block, with_block, with_labels, label_at, bare_body}
+use Rattle.vast_read.specs.Internal.Steps.{in_parens}
+use Rattle.vast_read.specs.StatementParts.{ChoicePart, LabelPart, arms_of}
+use Rattle.vast_read.specs.Internal.StatementParts.{join_block, join_labels}
+use Rattle.vast_read.specs.Internal.StatementReading.{StatementReading}
+use Rattle.vast_read.specs.Internal.StatementSteps.{is_casez, cases_of, choice_statement, choice_behind, else_if, block, with_block, with_labels, label_at, bare_body}
 use Rattle.vast_read.specs.TokenView.{key_view}
 use Rattle.vast_read.specs.declared.open.Case.{Case}
 use Rattle.vast_read.specs.declared.open.Owner.{Owner}
@@ -18,7 +19,7 @@ use Rattle.vast_read.specs.declared.open.Owner.TheVariants as owner
 use Rattle.vast_read.specs.declared.open.OpenBlock.{OpenBlock}
 use Rattle.vast_read.specs.declared.open.Progress.{Progress}
 use Rattle.vast_read.specs.declared.open.Progress.TheVariants as progress
-use Rattle.vast_read.specs.OpenBlocks.{arm_then, case_of, labelled, body_then, closed, ended, resumed, block_then, going}
+use Rattle.vast_read.specs.Internal.OpenBlocks.{arm_then, case_of, labelled, body_then, closed, ended, resumed, block_then, going}
 use Rattle.vast_read.proofs.Steps.{then_some, then_none, either_some, either_none}
 use Rattle.vast_read.proofs.StatementSteps.{statements_read, statements_begin, statements_end, with_one, block_reads, cases_read, unique_reads, labels_begin, labels_end, labels_read, with_one_label, more_arms_read, choice_arm_reads, label_arm_reads, body_reads}
 use Rattle.vast_read.proofs.StatementLoops.{statement_by_key, case_or_simple_reads, choice_begins, arms_behind, choice_stops, last_block_reads}

@@ -3,14 +3,15 @@ use Rattle.std.proofs.Common.{◌≡◌, List, [], ◌∷◌, Option, Some, None
 use Rattle.vast_literal.specs.Tokens.{Key, EndKey, BeginKey, AssignKey, AlwaysCombKey, IfKey, ForKey, FunctionKey, Token, Reserved}
 use Rattle.vast_literal.specs.NormalExpr.{NormalExpr}
 use Rattle.vast_literal.specs.NormalFile.{NormalMember, LoopPart, NormalMembers, NoParts, MoreParts}
-use Rattle.vast_literal.specs.Parser.{◌>>=◌, key_at}
-use Rattle.vast_literal.specs.StatementParser.{ReadOf, after_key, after_key_on, key_code}
-use Rattle.vast_literal.specs.Settled.{either}
-use Rattle.vast_literal.specs.SettledMembers.{settled_members, settled_member, settled_loop, settled_function, loop_start, loop_bound, loop_step, loop_label, loop_block, loop_end, assign_part, combinational_part, conditional_part}
+use Rattle.vast_literal.specs.Internal.Parser.{◌>>=◌, key_at}
+use Rattle.vast_literal.specs.Internal.StatementParser.{ReadOf, after_key, after_key_on, key_code}
+use Rattle.vast_literal.specs.Internal.Settled.{either}
+use Rattle.vast_literal.specs.Internal.SettledMembers.{settled_members, settled_function, loop_start, loop_bound, loop_step, loop_label, assign_part, combinational_part, conditional_part}
+use Rattle.vast_literal.proofs.SettledMembersWords.{settled_member, settled_loop, loop_block, loop_end}
 use Rattle.vast_literal.proofs.Agree.{chained}
 use Rattle.vast_literal.proofs.SoundLists.{after_key_is}
-use Rattle.vast_read.specs.MemberSteps.{join_members, with_members, other_part, unlooped_part}
-use Rattle.vast_read.specs.OpenLoops.{Opening, loop_head, loop_of, closing, opening_of, with_loop, resumed, closed}
+use Rattle.vast_read.specs.Internal.MemberSteps.{join_members, with_members, other_part, unlooped_part}
+use Rattle.vast_read.specs.Internal.OpenLoops.{Opening, loop_head, loop_of, closing, opening_of, with_loop, resumed, closed}
 use Rattle.vast_read.specs.declared.looped.OpenLoop.{OpenLoop}
 use Rattle.vast_read.proofs.Steps.{then_some, then_none, either_some, either_none}
 use Rattle.vast_read.proofs.MemberSteps.{member_reads, members_begin, members_end, members_go_on, members_fail}

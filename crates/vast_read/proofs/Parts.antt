@@ -2,12 +2,12 @@
 use Rattle.std.proofs.Common.{◌≡◌, List, ◌∷◌, Option, Some, None, refl, ◌∙◌}
 use Rattle.vast_literal.specs.Tokens.{Token, Comma}
 use Rattle.vast_literal.specs.NormalExpr.{NormalExpr, NoNormals, MoreNormals}
-use Rattle.vast_literal.specs.Parser.{◌>>=◌, after}
-use Rattle.vast_read.specs.Reading.{Reading}
-use Rattle.vast_read.specs.Steps.{join}
+use Rattle.vast_literal.specs.Internal.Parser.{◌>>=◌, after}
+use Rattle.vast_read.specs.Internal.Reading.{Reading}
+use Rattle.vast_read.specs.Internal.Steps.{join}
 use Rattle.vast_read.specs.declared.machine.Head.{Head}
 use Rattle.vast_read.specs.declared.machine.Waiting.TheVariants as wait
-use Rattle.vast_read.specs.Machine.{closing, finished, parts_then, built_at}
+use Rattle.vast_read.specs.Internal.Machine.{closing, finished, parts_then, built_at}
 use Rattle.vast_read.proofs.Steps.{then_some, then_none, rest_ends}
 use Rattle.vast_read.proofs.Waits.{primary_stands, then_nothing, then_stands}
 use Rattle.vast_read.proofs.ListWaits.{part_waits, part_ends}

@@ -5,7 +5,7 @@ use Rattle.vast_read.specs.declared.tree.expression.NormalExpr.{NormalExpr}
 use Rattle.vast_read.specs.declared.tree.expression.NormalExpr.TheVariants.{Concat, Replicated, rolls-Concat, rolls-Replicated}
 use Rattle.vast_read.specs.declared.tree.expression.NormalExpr.TheFolds.{fold-roll-NormalExpr}
 use Rattle.vast_read.specs.declared.tree.expression.NormalExpr.TheOpen.{NormalExpr-F}
-use Rattle.vast_read.specs.Release.{Rounds, rounds_each, rounds_first_last, left_with, rounds, rounds_level, rounds_beside, rounds_alone, list_beside, list_alone}
+use Rattle.vast_read.specs.Internal.Release.{Rounds, rounds_each, rounds_first_last, left_with, rounds, rounds_level, rounds_beside, rounds_alone, list_beside, list_alone}
 
 -- Of a list with one more at its end.
 pub each_last : {A : Type 0} (f : A → Rounds) (xs : List A) (x : A) → rounds_each (map f (xs ++ x ∷ [])) ≡ rounds_each (map f xs) + (f x).0 + 1

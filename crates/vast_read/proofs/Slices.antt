@@ -2,14 +2,14 @@
 use Rattle.std.proofs.Common.{◌≡◌, List, ◌∷◌, Option, Some, None, refl, ap, ◌∙◌}
 use Rattle.vast_literal.specs.Tokens.{Token, CloseBracket, Colon}
 use Rattle.vast_literal.specs.NormalExpr.{NormalExpr, Index, Slice}
-use Rattle.vast_literal.specs.Parser.{◌>>=◌, after, enclosed_at}
-use Rattle.vast_literal.specs.Settled.{either, settled}
-use Rattle.vast_read.specs.Reading.{Reading}
-use Rattle.vast_read.specs.Steps.{select_end, part_at}
+use Rattle.vast_literal.specs.Internal.Parser.{◌>>=◌, after, enclosed_at}
+use Rattle.vast_literal.specs.Internal.Settled.{either, settled}
+use Rattle.vast_read.specs.Internal.Reading.{Reading}
+use Rattle.vast_read.specs.Internal.Steps.{select_end, part_at}
 use Rattle.vast_read.specs.declared.machine.Waiting.{Waiting}
 use Rattle.vast_read.specs.declared.machine.Waiting.TheVariants as wait
 use Rattle.vast_read.specs.declared.machine.State.TheVariants as state
-use Rattle.vast_read.specs.Machine.{finished, then_primary, meaning}
+use Rattle.vast_read.specs.Internal.Machine.{finished, then_primary, meaning}
 use Rattle.vast_read.proofs.Steps.{either_some, either_none, end_reads}
 use Rattle.vast_read.proofs.Waits.{index_ends, slice_waits, primary_stands, then_nothing, then_stands}
 

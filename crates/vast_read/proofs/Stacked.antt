@@ -3,7 +3,7 @@ use Rattle.std.proofs.Common.{◌≡◌, ℕ, suc, ◌-◌, List, [], ◌∷◌,
 use Rattle.std.specs.List.{slice_get}
 use Rattle.std.proofs.lemmas.List.{reverse-append}
 use Rattle.std.proofs.lemmas.Option.{slice_get_within}
-use Rattle.vast_read.specs.Stack.{below}
+use Rattle.vast_read.specs.Internal.Stack.{below}
 
 pub reversed_more : {A : Type 0} (xs : List A) (x : A) → reverse (xs ++ x ∷ []) ≡ (x ∷ reverse xs)
 reversed_more xs x = reverse-append xs (x ∷ [])

@@ -1,8 +1,9 @@
 -- Lists of trees of statements, and one more behind them.
 use Rattle.std.proofs.Common.{◌≡◌, List, [], ◌∷◌, ◌++◌, map, refl, ap}
 use Rattle.vast_literal.specs.NormalFile.{Done, Then, NoLabels, Label}
-use Rattle.vast_read.specs.StatementParts.{join_block, join_labels}
-use Rattle.vast_read.specs.StatementView.{statement_view, arm_view, label_view, block_view, labels_view}
+use Rattle.vast_read.specs.Internal.StatementParts.{join_block, join_labels}
+use Rattle.vast_read.specs.StatementView.{statement_view, block_view}
+use Rattle.vast_read.specs.Internal.StatementView.{arm_view, label_view, labels_view}
 use Rattle.vast_read.specs.declared.tree.statement.NormalStatement.{NormalStatement as Tree}
 use Rattle.vast_read.specs.declared.tree.statement.Arm.{Arm}
 use Rattle.vast_read.specs.declared.tree.statement.CaseArm.{CaseArm}

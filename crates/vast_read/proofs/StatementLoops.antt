@@ -2,14 +2,16 @@
 use Rattle.std.proofs.Common.{◌≡◌, false, List, [], ◌∷◌, Option, Some, None, refl, ◌∙◌}
 use Rattle.vast_literal.specs.Tokens.{IfKey, ElseKey, UniqueKey, AssignKey, Token}
 use Rattle.vast_literal.specs.NormalFile.{NormalStatement, ChoiceStatement, NormalStatements, Done, Then, Arms}
-use Rattle.vast_literal.specs.Parser.{◌>>=◌}
-use Rattle.vast_literal.specs.StatementParser.{ReadOf, after_key, simple_at}
-use Rattle.vast_literal.specs.Nexts.{key_with}
-use Rattle.vast_literal.specs.Settled.{either, settled, settled_reader}
+use Rattle.vast_literal.specs.Internal.Parser.{◌>>=◌}
+use Rattle.vast_literal.specs.Internal.StatementParser.{ReadOf, after_key, simple_at}
+use Rattle.vast_literal.specs.Internal.Nexts.{key_with}
+use Rattle.vast_literal.specs.Internal.Settled.{either, settled, settled_reader}
 use Rattle.vast_literal.proofs.Agree.{chained}
 use Rattle.vast_literal.proofs.SettledStatements.{statement_settled}
-use Rattle.vast_read.specs.StatementParts.{ChoicePart, arms_of, join_block}
-use Rattle.vast_read.specs.StatementSteps.{is_case_word, assign_at, choice_statement, cases_of, unique_case, block, choice_arm, more_arms, else_arm, arms_end, else_if, last_block, choice_behind, case_or_simple}
+use Rattle.vast_read.specs.StatementParts.{ChoicePart, arms_of}
+use Rattle.vast_read.specs.Internal.StatementParts.{join_block}
+use Rattle.vast_read.specs.Internal.StatementSteps.{is_case_word, assign_at, choice_statement, cases_of, unique_case, block, choice_arm, more_arms, else_arm, arms_end, else_if, choice_behind, case_or_simple}
+use Rattle.vast_read.proofs.StatementStepsWords.{last_block}
 use Rattle.vast_read.proofs.Steps.{then_some, then_none, either_some, either_none, enclosed_reads}
 use Rattle.vast_read.proofs.StatementSteps.{step_reads, choice_reads, choice_statement_reads, label_reads, bare_reads, statements_begin, statements_end, statements_go_on, statements_fail}
 

@@ -7,9 +7,9 @@ use Rattle.vast_read.specs.declared.tree.statement.NormalStatement.TheFolds.{fol
 use Rattle.vast_read.specs.declared.tree.statement.NormalStatement.TheOpen.{NormalStatement-F}
 use Rattle.vast_read.specs.declared.tree.statement.Arm.{Arm}
 use Rattle.vast_read.specs.declared.tree.statement.CaseArm.{CaseArm}
-use Rattle.vast_read.specs.Release.{Rounds, rounds_each, rounds_first_last, of_list}
+use Rattle.vast_read.specs.Internal.Release.{Rounds, rounds_each, rounds_first_last, of_list}
 use Rattle.vast_read.proofs.Release.{each_last, first_last_last}
-use Rattle.vast_read.specs.StatementRelease.{of_block, of_last, of_choice, statement_step, arm_step, label_step, statement_rounds, arm_rounds, label_rounds, statement_beside, statement_alone, block_beside, block_alone, choice_alone}
+use Rattle.vast_read.specs.Internal.StatementRelease.{of_block, of_last, of_choice, statement_step, arm_step, label_step, statement_rounds, arm_rounds, label_rounds, statement_beside, statement_alone, block_beside, block_alone, choice_alone}
 
 choice_rounds : (arms : List Arm) (last : Option (List NormalStatement)) → statement_rounds (Choice arms last) ≡ of_choice (map arm_rounds arms) (of_last (option_map (map statement_rounds) last))
 choice_rounds arms None = ap statement_rounds (sym (rolls-Choice arms None)) ∙ fold-roll-NormalStatement Rounds Rounds Rounds statement_step arm_step label_step (NormalStatement-F.Choice arms None)

@@ -5,15 +5,17 @@ use Rattle.vast_literal.specs.NormalExpr.{NormalExpr}
 use Rattle.vast_literal.specs.NormalFile.{NormalStatement, AssignStatement, ChoiceStatement, CaseStatement, NormalStatements, Done, Then, Arms, Only, Otherwise, Or, Labels, NoLabels, Label}
 use Rattle.vast_literal.specs.Grammar.{is_cast_word}
 use Rattle.vast_literal.specs.FileGrammar.{assignment}
-use Rattle.vast_literal.specs.Parser.{◌>>=◌, after, key_at, enclosed_at, selected_at, primary}
-use Rattle.vast_literal.specs.StatementParser.{ReadOf, key_code, after_key_on, after_key, arrow_at, simple_at, block_at, cases_at, case_of, statement_on, statement_step, statements_on, statements_step, tail_on, choice_on, choice_step, body_on, arm_at, labels_on, labels_step}
-use Rattle.vast_literal.specs.Settled.{either, settled, settled_reader}
+use Rattle.vast_literal.specs.Internal.Parser.{◌>>=◌, after, key_at, enclosed_at, selected_at, primary}
+use Rattle.vast_literal.specs.Internal.StatementParser.{ReadOf, key_code, after_key_on, after_key, arrow_at, simple_at, block_at, cases_at, case_of, statement_on, statement_step, statements_on, statements_step, tail_on, choice_on, choice_step, body_on, arm_at, labels_on, labels_step}
+use Rattle.vast_literal.specs.Internal.Settled.{either, settled, settled_reader}
 use Rattle.vast_literal.proofs.Agree.{chained}
 use Rattle.vast_literal.proofs.SettledStatements.{statements_settled, choice_settled, labels_settled}
-use Rattle.vast_read.specs.Steps.{in_parens}
-use Rattle.vast_read.specs.StatementParts.{ChoicePart, LabelPart, arms_before, last_arm, arms_of, join_block, join_labels}
-use Rattle.vast_literal.specs.Nexts.{key_with}
-use Rattle.vast_read.specs.StatementSteps.{is_case_word, is_casez, assign_at, choice_statement, cases_of, unique_case, block, with_block, choice_arm, more_arms, else_arm, arms_end, label_at, bare_body, body_at, label_arm, with_labels}
+use Rattle.vast_read.specs.Internal.Steps.{in_parens}
+use Rattle.vast_read.specs.StatementParts.{ChoicePart, LabelPart, last_arm, arms_of}
+use Rattle.vast_read.specs.Internal.StatementParts.{arms_before, join_block, join_labels}
+use Rattle.vast_literal.specs.Internal.Nexts.{key_with}
+use Rattle.vast_read.specs.Internal.StatementSteps.{is_case_word, is_casez, assign_at, choice_statement, cases_of, unique_case, block, with_block, choice_arm, more_arms, else_arm, arms_end, label_at, bare_body, body_at, with_labels}
+use Rattle.vast_read.proofs.StatementStepsWords.{label_arm}
 use Rattle.vast_read.proofs.Steps.{then_some, then_none, either_some, either_none, either_then}
 
 low_settled : settled_reader.low ≡ settled

@@ -12,7 +12,7 @@ use Rattle.vast_literal.specs.NormalFile.{NormalFile}
 use Rattle.vast_read.specs.FileView.{file_view}
 use Rattle.vast_read.specs.declared.tree.file.NormalFile as code
 use Rattle.vast_literal.specs.FileGrammar.{IsFile, DerivesFile}
-use Rattle.vast_literal.specs.SettledFiles.{settled_file}
+use Rattle.vast_literal.specs.Internal.SettledFiles.{settled_file}
 use Rattle.vast_literal.proofs.SettledFiles.{file_soon, file_none, file_more}
 use Rattle.vast_literal.proofs.SoundFiles.{file_derived}
 use Rattle.vast_literal.proofs.DerivedOnce.{file_once}

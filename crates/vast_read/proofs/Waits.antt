@@ -2,18 +2,19 @@
 use Rattle.std.proofs.Common.{◌≡◌, ℕ, suc, List, [], ◌∷◌, Some, None, refl, sym, ◌∙◌}
 use Rattle.vast_literal.specs.Tokens.{Op, level, Token, OpenParen, CloseParen, OpenBracket, CloseBracket, Colon, Question, Apostrophe}
 use Rattle.vast_literal.specs.NormalExpr.{NormalExpr, Unary, Binary, Ternary, Index, Slice, Cast, PackageCast, WordCast}
-use Rattle.vast_literal.specs.Parser.{◌>>=◌, Read, after, prefix, enclosed_at, cast, primary, selected_at}
-use Rattle.vast_literal.specs.Settled.{either, settled}
+use Rattle.vast_literal.specs.Internal.Parser.{◌>>=◌, Read, after, prefix, enclosed_at, cast, primary, selected_at}
+use Rattle.vast_literal.specs.Internal.Settled.{either, settled}
 use Rattle.vast_literal.proofs.Agree.{chained}
-use Rattle.vast_read.specs.Reading.{Reading}
-use Rattle.vast_read.specs.Steps.{infix_at, one_select, select_end, choice_at, grouped}
+use Rattle.vast_read.specs.Internal.Reading.{Reading}
+use Rattle.vast_read.specs.Internal.Steps.{infix_at, select_end, choice_at}
+use Rattle.vast_read.proofs.StepsWords.{one_select, grouped}
 use Rattle.vast_read.specs.TokenView.{sign_view, key_view}
 use Rattle.vast_read.specs.declared.machine.Waiting.{Waiting}
 use Rattle.vast_read.specs.declared.machine.Waiting.TheVariants as wait
 use Rattle.vast_read.specs.declared.machine.Head.{Head}
 use Rattle.vast_read.specs.declared.machine.State.TheVariants as state
 use Rattle.vast_read.specs.declared.machine.Binding.TheVariants as bind
-use Rattle.vast_read.specs.Machine.{Next, binds, binding, extended, finished, closed, selected, resumed, operand_then, asked_then, primary_then, then_primary, meaning, opened_then}
+use Rattle.vast_read.specs.Internal.Machine.{Next, binds, binding, extended, finished, closed, selected, resumed, operand_then, asked_then, primary_then, then_primary, meaning, opened_then}
 use Rattle.vast_read.proofs.Steps.{then_some, then_none, either_some, either_none, either_then, expression_reads, choice_reads, binary_reads, climb_reads, operand_reads, selected_reads, selects_reads, select_reads, enclosed_reads, parens_read, cast_reads, paren_reads}
 
 begun : (next : Next) (us : List Token) → (settled.operand_at us >>= λ x. extended bind.Loose next x.0 x.1) ≡ (settled.expression_at us >>= λ a. next a.0 a.1)

@@ -5,10 +5,10 @@ use Rattle.std.specs.List.{list_any}
 use Rattle.vast_literal.specs.Spelling.{op_text}
 use Rattle.vast_literal.proofs.ScanLaws.{key_token}
 use Rattle.vast_literal.specs.Keyword.{is_keyword}
-use Rattle.vast_literal.specs.Nexts.{key_in}
+use Rattle.vast_literal.specs.Internal.Nexts.{key_in}
 use Rattle.vast_literal.specs.Tokens.{Op, LogicOr, LogicNot, Key, key_text, key_written, reserved_keys, Word, keyword_token, word_token}
 use Rattle.vast_read.specs.Texts.{signs, sign_written, prefix_of, infix_of, key_or, key_of}
-use Rattle.vast_read.specs.Writings.{is_sign, prefix_text, infix_text, keyword_text}
+use Rattle.vast_read.specs.Internal.Writings.{is_sign, prefix_text, infix_text, keyword_text}
 
 sign_found : (ops : List Op) (o : Op) (w : List ℕ) → list_any (λ op. bytes_eq (op_text op) w) ops ≡ true → op_text (sign_written ops o w) ≡ w
 sign_found [] o w h = absurd (cc)

@@ -1,5 +1,5 @@
 -- What is found of two texts.
-use Rattle.std.specs.Prelude.{◌≡◌, ◌≢◌, ℕ, List, Option, None}
+use Rattle.std.specs.Prelude.{ℕ, List}
 use Rattle.vast_literal.specs.FileGrammar.{DerivesFile}
 use Rattle.vast_literal.specs.NormalFile.{NormalFile}
 use Rattle.vast_read.specs.declared.same.Comparison.{Comparison}
@@ -15,10 +15,3 @@ Compares Same old new = (t : NormalFile) × DerivesFile old t × DerivesFile new
 Compares Different old new = IsDerived old × IsDerived new × ((t : NormalFile) → DerivesFile old t → DerivesFile new t → ⊥)
 Compares OldUnderived old new = (t : NormalFile) → DerivesFile old t → ⊥
 Compares NewUnderived old new = (t : NormalFile) → DerivesFile new t → ⊥
-
--- The same of the files that were read of two texts, where one was read.
-abbrev pub Found : Comparison → (old new : Option NormalFile) → Type 0
-Found Same old new = (old ≡ new) × (old ≢ None)
-Found Different old new = (old ≢ new) × (old ≢ None) × (new ≢ None)
-Found OldUnderived old new = old ≡ None
-Found NewUnderived old new = new ≡ None

@@ -1,9 +1,6 @@
 -- The normal modules and files that those of the reader stand for.
-use Rattle.std.specs.Prelude.{ℕ, List, map}
-use Rattle.vast_literal.specs.NormalExpr.{NormalExpr}
+use Rattle.std.specs.Prelude.{List, map}
 use Rattle.vast_literal.specs.NormalFile as normal
-use Rattle.vast_literal.specs.NormalFile.{NormalMembers}
-use Rattle.vast_literal.specs.Tokens.{Key}
 use Rattle.vast_read.specs.Texts.{key_of}
 use Rattle.vast_read.specs.View.{view}
 use Rattle.vast_read.specs.DeclarationView.{declaration_view}
@@ -40,16 +37,3 @@ items_view is = map item_view is
 -- The normal file that a file of the reader stands for.
 abbrev pub file_view : NormalFile → normal.NormalFile
 file_view f = record { items = items_view f.items }
-
--- A parameter, a port, a module and a file of these parts.
-abbrev pub parameter_of : normal.NormalDeclaration → NormalExpr → normal.NormalParameter
-parameter_of d x = record { declaration = d; value = x }
-
-abbrev pub port_of : Key → normal.NormalDeclaration → normal.NormalPort
-port_of k d = record { direction = k; declaration = d }
-
-abbrev pub module_of : List ℕ → List normal.NormalParameter → List normal.NormalPort → NormalMembers → normal.NormalModule
-module_of w ps qs ms = record { name = w; parameters = ps; ports = qs; members = ms }
-
-abbrev pub file_of : List normal.NormalItem → normal.NormalFile
-file_of is = record { items = is }

@@ -35,10 +35,6 @@ connection_view c = record { name = c.name; value = option_map (λ x. view x.val
 abbrev pub connections_view : List Connection → List normal.NormalConnection
 connections_view cs = map connection_view cs
 
--- What is given by a name.
-abbrev pub given : List ℕ → Option expression.NormalExpr → normal.NormalConnection
-given w x = record { name = w; value = x }
-
 abbrev pub members_of : List normal.NormalMember → NormalMembers
 members_of [] = NoParts
 members_of (m ∷ ms) = MoreParts m (members_of ms)

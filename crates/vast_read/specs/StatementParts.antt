@@ -14,11 +14,6 @@ abbrev pub block_of : List NormalStatement → NormalStatements
 block_of [] = Done
 block_of (s ∷ ss) = Then s (block_of ss)
 
--- Arms before those behind them.
-abbrev pub arms_before : List ChoicePart → Arms → Arms
-arms_before [] a = a
-arms_before (p ∷ ps) a = Or p.0 p.1 (arms_before ps a)
-
 -- The last arm, with the block of the last `else`.
 abbrev pub last_arm : ChoicePart → Option NormalStatements → Arms
 last_arm p None = Only p.0 p.1
@@ -38,12 +33,3 @@ arms_in _ = Only (Name []) Done
 abbrev pub labels_of : List LabelPart → Labels
 labels_of [] = NoLabels
 labels_of (p ∷ ps) = Label p.0 p.1 (labels_of ps)
-
--- Statements and labels one behind the other.
-abbrev pub join_block : NormalStatements → NormalStatements → NormalStatements
-join_block Done ys = ys
-join_block (Then x xs) ys = Then x (join_block xs ys)
-
-abbrev pub join_labels : Labels → Labels → Labels
-join_labels NoLabels ys = ys
-join_labels (Label x b xs) ys = Label x b (join_labels xs ys)

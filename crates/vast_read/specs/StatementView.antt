@@ -1,14 +1,12 @@
 -- The normal statements that statements of the reader stand for.
-use Rattle.std.specs.Prelude.{List, Option, option_map, map}
+use Rattle.std.specs.Prelude.{List, option_map, map}
 use Rattle.vast_literal.specs.NormalFile as normal
-use Rattle.vast_literal.specs.NormalFile.{NormalStatements, Arms, Labels}
+use Rattle.vast_literal.specs.NormalFile.{NormalStatements}
 use Rattle.vast_read.specs.Texts.{key_of}
 use Rattle.vast_read.specs.StatementParts.{ChoicePart, LabelPart, block_of, arms_of, labels_of}
 use Rattle.vast_read.specs.View.{view}
 use Rattle.vast_read.specs.declared.tree.statement.NormalStatement.{NormalStatement, fold-NormalStatement}
 use Rattle.vast_read.specs.declared.tree.statement.NormalStatement.TheOpen.{NormalStatement-F, Arm-F, CaseArm-F}
-use Rattle.vast_read.specs.declared.tree.statement.Arm.{Arm, fold-Arm}
-use Rattle.vast_read.specs.declared.tree.statement.CaseArm.{CaseArm, fold-CaseArm}
 
 -- One level, with each statement, arm and label inside already seen.
 abbrev pub statement_level : NormalStatement-F normal.NormalStatement ChoicePart LabelPart → normal.NormalStatement
@@ -27,18 +25,6 @@ label_level a = (option_map (λ x. view x.value) a.label, block_of a.block)
 abbrev pub statement_view : NormalStatement → normal.NormalStatement
 statement_view = fold-NormalStatement normal.NormalStatement ChoicePart LabelPart statement_level arm_level label_level
 
-abbrev pub arm_view : Arm → ChoicePart
-arm_view = fold-Arm normal.NormalStatement ChoicePart LabelPart statement_level arm_level label_level
-
-abbrev pub label_view : CaseArm → LabelPart
-label_view = fold-CaseArm normal.NormalStatement ChoicePart LabelPart statement_level arm_level label_level
-
 -- A block, arms and labels.
 abbrev pub block_view : List NormalStatement → NormalStatements
 block_view ss = block_of (map statement_view ss)
-
-abbrev pub arms_view : List Arm → Option (List NormalStatement) → Arms
-arms_view arms last = arms_of (map arm_view arms) (option_map block_view last)
-
-abbrev pub labels_view : List CaseArm → Labels
-labels_view arms = labels_of (map label_view arms)

@@ -3,9 +3,9 @@
 ghost use Rattle.std.specs.Prelude.{◌≡◌, IfOk, IfErr};
 ghost use Rattle.vast_literal.specs.NormalExpr.{NoNormals, MoreNormals};
 ghost use Rattle.vast_read.specs.declared.fault.Fault.TheVariants.{Memory};
-ghost use Rattle.vast_read.specs.Forms.{form_tree};
-ghost use Rattle.vast_read.specs.Reading.{Reading};
-ghost use Rattle.vast_read.specs.Steps.{join};
+ghost use Rattle.vast_read.specs.Internal.Forms.{form_tree};
+ghost use Rattle.vast_read.specs.Internal.Reading.{Reading};
+ghost use Rattle.vast_read.specs.Internal.Steps.{join};
 
 mod declarations;
 mod files;

@@ -1,7 +1,7 @@
 //! Generate loops that are open.
 
 ghost use Rattle.std.specs.Prelude.{◌≡◌};
-ghost use Rattle.vast_read.specs.OpenLoops.{closing};
+ghost use Rattle.vast_read.specs.Internal.OpenLoops.{closing};
 ghost use Rattle.vast_read.specs.TokenView.{key_view};
 
 use crate::build::{Build, BuildMembers};

@@ -1,7 +1,7 @@
 //! What waits for an expression, and what is read next.
 
 ghost use Rattle.std.specs.Prelude.{◌≡◌, MatchResult, Ok, Err};
-ghost use Rattle.vast_read.specs.Machine.{binds, binding, closing};
+ghost use Rattle.vast_read.specs.Internal.Machine.{binds, binding, closing};
 ghost use Rattle.vast_read.specs.TokenView.{mark_view};
 
 use crate::build::Build;

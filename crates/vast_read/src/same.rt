@@ -1,7 +1,8 @@
 //! Whether two texts derive the same file.
 
 ghost use Rattle.std.specs.Prelude.{IfOk, option_map};
-ghost use Rattle.vast_read.specs.Compared.{Compares, Found};
+ghost use Rattle.vast_read.specs.Compared.{Compares};
+ghost use Rattle.vast_read.specs.Internal.Compared.{Found};
 ghost use Rattle.vast_read.specs.FileView.{file_view};
 
 mod choice;

@@ -1,7 +1,7 @@
 //! A stack.
 
 ghost use Rattle.std.specs.Prelude.{◌≡◌, [], ◌∷◌, OnOk, OnErr, MatchOption};
-ghost use Rattle.vast_read.specs.Stack.{below};
+ghost use Rattle.vast_read.specs.Internal.Stack.{below};
 
 use std::alloc::{AllocError, Global};
 use std::marker::Model;

@@ -70,10 +70,6 @@ abbrev pub FindsAll : {A : Type 0} → Result (Vec A Global) StepFault → Resul
 FindsAll (Ok xs) looked = looked ≡ Ok xs.items
 FindsAll (Err fault) looked = IsCause (cause_of fault) looked
 
-abbrev pub FindsWithAll : {A B : Type 0} → Result (A × Vec B Global) StepFault → Result (A × List B) Cause → Type 0
-FindsWithAll (Ok p) looked = looked ≡ Ok (p.0, p.1.items)
-FindsWithAll (Err fault) looked = IsCause (cause_of fault) looked
-
 -- An argument that may be left out, and a list of such.
 abbrev pub found_if : {H : Type 0} → Kind H → List Answer → Option ℕ → Result (Option H) Cause
 found_if k answers None = Ok None
@@ -91,7 +87,3 @@ is_own_if k b (Some h) = k.is_own b h
 unfoldable pub many_and_open : {A : Type 0} → Kind A → Bench → List Answer → List ℕ → List (Option ℕ) → Result (List A × List (Option A)) Cause
 many_and_open k b answers ns ms =
     then_look (all_found k answers ns) (λ xs. then_look (all_found_if k answers ms) (λ ys. if_own (list_all (k.is_own b) xs && list_all (is_own_if k b) ys) (xs, ys)))
-
-abbrev pub FindsOpen : {A : Type 0} → Result (Vec A Global × Vec (Option A) Global) StepFault → Result (List A × List (Option A)) Cause → Type 0
-FindsOpen (Ok p) looked = looked ≡ Ok (p.0.items, p.1.items)
-FindsOpen (Err fault) looked = IsCause (cause_of fault) looked

@@ -6,7 +6,6 @@ use Rattle.vast_core.specs.declared.handle.VastFunction.{VastFunction as Functio
 use Rattle.vast_core.specs.declared.handle.VastDataType.{VastDataType as TypeHandle}
 use Rattle.vast_core.specs.declared.handle.Expr.{Expr as ExprHandle}
 use Rattle.vast_core.specs.declared.handle.IndexableExpr.{IndexableExpr as IndexableHandle}
-use Rattle.vast_core.specs.declared.handle.LogicRef.{LogicRef as LogicRefHandle}
 use Rattle.vast_core.specs.declared.handle.MacroRef.{MacroRef as MacroRefHandle}
 use Rattle.vast_core.specs.declared.handle.Def.{Def as DefinitionHandle}
 use Rattle.vast_core.specs.declared.handle.BlankLine.{BlankLine as BlankLineHandle}
@@ -21,7 +20,7 @@ use Rattle.vast_core.specs.declared.handle.Conditional.{Conditional as Condition
 use Rattle.vast_core.specs.declared.handle.CaseStatement.{CaseStatement as CaseHandle}
 use Rattle.vast_core.specs.declared.handle.GenerateLoop.{GenerateLoop as LoopHandle}
 use Rattle.vast_core.specs.Handles.{logic_ref_to_expr, indexable_expr_to_expr, slice_to_expr, index_to_expr, parameter_ref_to_expr, localparam_ref_to_expr, macro_ref_to_expr, logic_ref_to_indexable_expr, index_to_indexable_expr, parameter_ref_to_indexable_expr}
-use Rattle.vast_core.specs.Nodes.{is_expr_root, is_type_root, is_macro, is_name}
+use Rattle.vast_core.specs.Nodes.{is_expr_root, is_type_root, is_macro}
 use Rattle.vast_core.specs.Bench.{Bench, has_root, is_continuous, is_blank_line, is_comment, is_inline, is_macro_statement, is_block, is_conditional, is_case, is_loop}
 use Rattle.vast_script.specs.declared.answer.Answer.{Answer}
 use Rattle.vast_script.specs.declared.answer.Answer.TheVariants.{BlankLine, CaseStatement, Comment, Conditional, ContinuousAssignment, Def, Expr, GenerateLoop, Index, IndexableExpr, InlineVerilogStatement, Instantiation, LocalparamRef, LogicRef, MacroRef, MacroStatement, ParameterRef, Slice, VastAlwaysBase, VastDataType, VastFunction, VastModule, VastStatementBlock}
@@ -81,13 +80,6 @@ type_of _ = None
 
 abbrev pub a_type : Kind TypeHandle
 a_type = record { of_answer = type_of; is_own = λ b t. is_own_id b t.id (is_type_root (slice_get b.nodes.roots t.id.index)) }
-
-abbrev pub logic_ref_of : Answer → Option LogicRefHandle
-logic_ref_of (LogicRef r) = Some r
-logic_ref_of _ = None
-
-abbrev pub a_logic_ref : Kind LogicRefHandle
-a_logic_ref = record { of_answer = logic_ref_of; is_own = λ b r. is_own_id b r.id (has_root is_name b r.id.index) }
 
 abbrev pub macro_ref_of : Answer → Option MacroRefHandle
 macro_ref_of (MacroRef r) = Some r

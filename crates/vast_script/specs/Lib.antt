@@ -1,6 +1,5 @@
 pub mod Outcome
 pub mod Kinds
-pub mod Owned
 pub mod Arguments
 pub mod Conditions
 pub mod Operators
@@ -13,3 +12,4 @@ pub mod Loops
 pub mod Script
 pub mod Laws
 pub mod Headline
+pub mod Internal

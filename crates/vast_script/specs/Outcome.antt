@@ -1,8 +1,5 @@
 -- What becomes of a step: it is made, or it is at fault.
 use Rattle.std.specs.Prelude.{◌≡◌, ℕ, Bool, true, false, List, Option, Some, None, Result, Ok, Err, ⊤, string_bytes}
-use Rattle.std.specs.declared.alloc.AllocError.{AllocError}
-use Rattle.vast_literal.specs.declared.error.VastFault.{VastFault}
-use Rattle.vast_literal.specs.declared.error.VastFault.TheVariants.{Refused as CallRefused, Memory as CallMemory}
 use Rattle.vast_core.specs.Bench.{Bench}
 use Rattle.vast_script.specs.declared.answer.Answer.{Answer}
 use Rattle.vast_script.specs.declared.fault.StepFault.{StepFault}
@@ -73,16 +70,3 @@ at_step i WrongKind = WrongKindAt i
 at_step i Condition = ConditionAt i
 at_step i (Refused e) = RefusedAt i e
 at_step i Memory = ScriptMemory
-
-abbrev pub of_call : VastFault → StepFault
-of_call (CallRefused e) = Refused e
-of_call (CallMemory e) = Memory
-
--- What a call made as an answer, or want of memory.
-abbrev pub Wraps : {A : Type 0} → Result A AllocError → Result Answer StepFault → (A → Answer) → Type 0
-Wraps (Ok x) result wrap = result ≡ Ok (wrap x)
-Wraps (Err error) result wrap = result ≡ Err Memory
-
-abbrev pub WrapsRefusable : {A : Type 0} → Result A VastFault → Result Answer StepFault → (A → Answer) → Type 0
-WrapsRefusable (Ok x) result wrap = result ≡ Ok (wrap x)
-WrapsRefusable (Err fault) result wrap = result ≡ Err (of_call fault)

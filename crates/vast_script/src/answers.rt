@@ -1,7 +1,7 @@
 //! What calls made, as answers of steps.
 
 ghost use Rattle.vast_script.specs.declared.answer.Answer.TheVariants.{Nothing};
-ghost use Rattle.vast_script.specs.Outcome.{Wraps, WrapsRefusable};
+ghost use Rattle.vast_script.specs.Internal.Outcome.{Wraps, WrapsRefusable};
 
 use crate::answer::Answer;
 use crate::fault::StepFault;

@@ -10,7 +10,7 @@ use xlsynth_vast::{
 
 impl Argument for VastModule {
     ghost use Rattle.vast_script.specs.Kinds.{a_module};
-    ghost use Rattle.vast_script.specs.Owned.{owned_where};
+    ghost use Rattle.vast_script.specs.Internal.Owned.{owned_where};
 
     ghost kind = { a_module };
 
@@ -26,7 +26,7 @@ impl Argument for VastModule {
 
 impl Argument for VastFunction {
     ghost use Rattle.vast_script.specs.Kinds.{a_function};
-    ghost use Rattle.vast_script.specs.Owned.{owned_where};
+    ghost use Rattle.vast_script.specs.Internal.Owned.{owned_where};
 
     ghost kind = { a_function };
 
@@ -42,7 +42,7 @@ impl Argument for VastFunction {
 
 impl Argument for VastDataType {
     ghost use Rattle.vast_script.specs.Kinds.{a_type};
-    ghost use Rattle.vast_script.specs.Owned.{owned_where};
+    ghost use Rattle.vast_script.specs.Internal.Owned.{owned_where};
 
     ghost kind = { a_type };
 
@@ -58,7 +58,7 @@ impl Argument for VastDataType {
 
 impl Argument for Expr {
     ghost use Rattle.vast_script.specs.Kinds.{an_expr};
-    ghost use Rattle.vast_script.specs.Owned.{owned_where};
+    ghost use Rattle.vast_script.specs.Internal.Owned.{owned_where};
 
     ghost kind = { an_expr };
 
@@ -81,7 +81,7 @@ impl Argument for Expr {
 
 impl Argument for IndexableExpr {
     ghost use Rattle.vast_script.specs.Kinds.{an_indexable};
-    ghost use Rattle.vast_script.specs.Owned.{owned_where};
+    ghost use Rattle.vast_script.specs.Internal.Owned.{owned_where};
 
     ghost kind = { an_indexable };
 
@@ -99,8 +99,8 @@ impl Argument for IndexableExpr {
 }
 
 impl Argument for LogicRef {
-    ghost use Rattle.vast_script.specs.Kinds.{a_logic_ref};
-    ghost use Rattle.vast_script.specs.Owned.{owned_where};
+    ghost use Rattle.vast_script.specs.Internal.Kinds.{a_logic_ref};
+    ghost use Rattle.vast_script.specs.Internal.Owned.{owned_where};
 
     ghost kind = { a_logic_ref };
 
@@ -116,7 +116,7 @@ impl Argument for LogicRef {
 
 impl Argument for MacroRef {
     ghost use Rattle.vast_script.specs.Kinds.{a_macro_ref};
-    ghost use Rattle.vast_script.specs.Owned.{owned_where};
+    ghost use Rattle.vast_script.specs.Internal.Owned.{owned_where};
 
     ghost kind = { a_macro_ref };
 
@@ -132,7 +132,7 @@ impl Argument for MacroRef {
 
 impl Argument for Def {
     ghost use Rattle.vast_script.specs.Kinds.{a_definition};
-    ghost use Rattle.vast_script.specs.Owned.{owned_where};
+    ghost use Rattle.vast_script.specs.Internal.Owned.{owned_where};
 
     ghost kind = { a_definition };
 
@@ -148,7 +148,7 @@ impl Argument for Def {
 
 impl Argument for BlankLine {
     ghost use Rattle.vast_script.specs.Kinds.{a_blank_line};
-    ghost use Rattle.vast_script.specs.Owned.{owned_where};
+    ghost use Rattle.vast_script.specs.Internal.Owned.{owned_where};
 
     ghost kind = { a_blank_line };
 
@@ -164,7 +164,7 @@ impl Argument for BlankLine {
 
 impl Argument for Comment {
     ghost use Rattle.vast_script.specs.Kinds.{a_comment};
-    ghost use Rattle.vast_script.specs.Owned.{owned_where};
+    ghost use Rattle.vast_script.specs.Internal.Owned.{owned_where};
 
     ghost kind = { a_comment };
 
@@ -180,7 +180,7 @@ impl Argument for Comment {
 
 impl Argument for InlineVerilogStatement {
     ghost use Rattle.vast_script.specs.Kinds.{an_inline};
-    ghost use Rattle.vast_script.specs.Owned.{owned_where};
+    ghost use Rattle.vast_script.specs.Internal.Owned.{owned_where};
 
     ghost kind = { an_inline };
 
@@ -196,7 +196,7 @@ impl Argument for InlineVerilogStatement {
 
 impl Argument for MacroStatement {
     ghost use Rattle.vast_script.specs.Kinds.{a_macro_statement};
-    ghost use Rattle.vast_script.specs.Owned.{owned_where};
+    ghost use Rattle.vast_script.specs.Internal.Owned.{owned_where};
 
     ghost kind = { a_macro_statement };
 
@@ -212,7 +212,7 @@ impl Argument for MacroStatement {
 
 impl Argument for Instantiation {
     ghost use Rattle.vast_script.specs.Kinds.{an_instantiation};
-    ghost use Rattle.vast_script.specs.Owned.{owned_where};
+    ghost use Rattle.vast_script.specs.Internal.Owned.{owned_where};
 
     ghost kind = { an_instantiation };
 
@@ -228,7 +228,7 @@ impl Argument for Instantiation {
 
 impl Argument for ContinuousAssignment {
     ghost use Rattle.vast_script.specs.Kinds.{a_continuous};
-    ghost use Rattle.vast_script.specs.Owned.{owned_where};
+    ghost use Rattle.vast_script.specs.Internal.Owned.{owned_where};
 
     ghost kind = { a_continuous };
 
@@ -244,7 +244,7 @@ impl Argument for ContinuousAssignment {
 
 impl Argument for VastAlwaysBase {
     ghost use Rattle.vast_script.specs.Kinds.{an_always};
-    ghost use Rattle.vast_script.specs.Owned.{owned_where};
+    ghost use Rattle.vast_script.specs.Internal.Owned.{owned_where};
 
     ghost kind = { an_always };
 
@@ -260,7 +260,7 @@ impl Argument for VastAlwaysBase {
 
 impl Argument for VastStatementBlock {
     ghost use Rattle.vast_script.specs.Kinds.{a_block};
-    ghost use Rattle.vast_script.specs.Owned.{owned_where};
+    ghost use Rattle.vast_script.specs.Internal.Owned.{owned_where};
 
     ghost kind = { a_block };
 
@@ -276,7 +276,7 @@ impl Argument for VastStatementBlock {
 
 impl Argument for Conditional {
     ghost use Rattle.vast_script.specs.Kinds.{a_conditional};
-    ghost use Rattle.vast_script.specs.Owned.{owned_where};
+    ghost use Rattle.vast_script.specs.Internal.Owned.{owned_where};
 
     ghost kind = { a_conditional };
 
@@ -292,7 +292,7 @@ impl Argument for Conditional {
 
 impl Argument for CaseStatement {
     ghost use Rattle.vast_script.specs.Kinds.{a_case};
-    ghost use Rattle.vast_script.specs.Owned.{owned_where};
+    ghost use Rattle.vast_script.specs.Internal.Owned.{owned_where};
 
     ghost kind = { a_case };
 
@@ -308,7 +308,7 @@ impl Argument for CaseStatement {
 
 impl Argument for GenerateLoop {
     ghost use Rattle.vast_script.specs.Kinds.{a_loop};
-    ghost use Rattle.vast_script.specs.Owned.{owned_where};
+    ghost use Rattle.vast_script.specs.Internal.Owned.{owned_where};
 
     ghost kind = { a_loop };
 

@@ -25,7 +25,8 @@ use Rattle.vast_core.proofs.Lists.{All-cons}
 use Rattle.vast_core.proofs.Laws.{next_owned, next_tree}
 use Rattle.vast_core.proofs.Products.{≤ℤ_trans, at-least, product-positive, All-drop, All-append, dimension-kept}
 use Rattle.xlsynth_vast.specs.Literals.{selector_text}
-use Rattle.xlsynth_vast.specs.Reductions.{ChecksBy, HasMoreNodes, AddsTrees, MakesTrees}
+use Rattle.xlsynth_vast.specs.Reductions.{HasMoreNodes}
+use Rattle.xlsynth_vast.specs.Internal.Reductions.{ChecksBy, AddsTrees, MakesTrees}
 use Rattle.xlsynth_vast.specs.Refusals.{and_then}
 use Rattle.xlsynth_vast.specs.ArrayReduction.{slots, elements, element_at}
 use Rattle.xlsynth_vast.proofs.Reduced.{more-none, more-root, more-more, more_owned, more_tree, more_trees, all-more, All-at}

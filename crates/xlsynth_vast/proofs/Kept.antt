@@ -7,7 +7,8 @@ use Rattle.vast_core.specs.Nodes.{Root}
 use Rattle.vast_core.specs.Records.{ModuleRecord, changed_at}
 use Rattle.vast_core.specs.Bench.{Bench}
 use Rattle.vast_core.specs.Growth.{Grows as GrowsTo, with_root}
-use Rattle.vast_core.specs.Containers.{Listing, with_listing, Fresh, with_fresh, with_unique}
+use Rattle.vast_core.specs.Containers.{with_unique}
+use Rattle.vast_core.specs.Internal.Containers.{Listing, with_listing, Fresh, with_fresh}
 use Rattle.vast_core.proofs.NodeLaws.{Extends-root}
 use Rattle.vast_core.proofs.Sound.{Grows, logic_ref_stays, port_stays, continuous_stays}
 use Rattle.vast_core.proofs.Stays.{expr_stays, tree_stays, type_stays, type_tree_stays, parameter_ref_stays, localparam_ref_stays, index_stays, slice_stays, macro_ref_stays, indexable_stays, module_stays, function_stays, instantiation_stays, always_stays, def_stays, statement_stays, blank_line_stays, comment_stays, inline_stays, macro_statement_stays, block_stays, conditional_stays, case_stays, loop_stays}

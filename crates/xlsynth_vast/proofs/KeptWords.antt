@@ -26,7 +26,9 @@ use Rattle.vast_core.specs.Artifacts.{with_artifact, with_definition, with_insta
 use Rattle.vast_core.specs.Parameters.{with_parameter_port, with_plain_parameter, with_int_parameter, with_defined_parameter}
 use Rattle.vast_core.specs.Hoisting.{with_hoisted}
 use Rattle.vast_core.specs.Functions.{with_variable}
-use Rattle.vast_core.specs.Containers.{InFile, InPorts, InFunction, InNest, StatementEnters, ElseIfEnters, ElseEnters, CaseArmEnters, MemberEnters, no_fresh, fresh_assignment, fresh_block, fresh_container, next_block, with_block, with_conditional, new_conditional, with_case, new_case, with_statement, with_else_if, with_else, with_case_arm, with_case_unique}
+use Rattle.vast_core.specs.Containers.{StatementEnters, ElseIfEnters, ElseEnters, CaseArmEnters, MemberEnters, next_block, with_block, with_conditional, new_conditional, with_case, new_case, with_statement, with_else_if, with_else, with_case_arm, with_case_unique}
+use Rattle.vast_core.specs.Internal.Containers.{InFile, InPorts, InFunction, InNest, no_fresh, fresh_assignment, fresh_block}
+use Rattle.vast_core.proofs.Containers.{fresh_container}
 use Rattle.vast_core.specs.Scopes.{with_scope_member}
 use Rattle.vast_core.specs.Loops.{next_always, with_always, with_loop, new_loop, with_loop_member, with_plain_loop_parameter, with_defined_loop_parameter}
 use Rattle.xlsynth_vast.specs.Equations.{is_one, with_bit_vector}

@@ -13,7 +13,8 @@ use Rattle.vast_core.proofs.Lists.{slice_get-append, All-head, All-tail, All-imp
 use Rattle.vast_core.proofs.NodeLaws.{Extends, HasExpr-kept, expr_in-kept}
 use Rattle.vast_core.proofs.Laws.{next_owned, next_tree}
 use Rattle.xlsynth_vast.specs.Expressions.{with_unary, with_binary}
-use Rattle.xlsynth_vast.specs.Reductions.{chain, with_nodes, bit_literal, logical_reduction, bitwise_reduction, HasMoreNodes, IsTree, MakesTree, MakesChain}
+use Rattle.xlsynth_vast.specs.Reductions.{chain, with_nodes, bit_literal, logical_reduction, bitwise_reduction, HasMoreNodes, IsTree, MakesTree}
+use Rattle.xlsynth_vast.specs.Internal.Reductions.{MakesChain}
 
 -- Nodes more.
 

@@ -32,7 +32,7 @@ use Rattle.xlsynth_vast.specs.declared.helpers.registers.Share.TheVariants.{Unre
 use Rattle.xlsynth_vast.specs.Expressions.{with_pos_edge}
 use Rattle.xlsynth_vast.specs.Registers.{unreset_value, assigned_all, by_reset, registers_member, OwnsScope, OwnsReset, OwnsRegister, HasUnused, unless_unresettable, maybe_reset_tree, register_trees}
 use Rattle.xlsynth_vast.specs.AddedRegisters.{with_all_assigned, with_register_block, with_clocked_at, with_registers, AddsOneAlways, MayAddRegisters}
-use Rattle.xlsynth_vast.specs.RegisterSteps.{IsOlderScope}
+use Rattle.xlsynth_vast.specs.Internal.RegisterSteps.{IsOlderScope}
 use Rattle.xlsynth_vast.proofs.RegisterParts.{Wider, wider-wider, wider_owned, wider_tree, registers-owned, registers-kept, get-unchanged, unused-none, unused-block, unused-wider, Changes, changes-then, changes-root}
 use Rattle.xlsynth_vast.proofs.RegisterBlocks.{Stands, all-assigned-changes, all-assigned-stands}
 use Rattle.xlsynth_vast.proofs.RegisterBranches.{StaysFrom, IsBlockOf, maybe-reset-changes, maybe-reset-read}

@@ -21,7 +21,7 @@ use Rattle.xlsynth_vast.specs.Expressions.{with_pos_edge}
 use Rattle.xlsynth_vast.specs.Inspections.{then_block_at}
 use Rattle.xlsynth_vast.specs.Registers.{OwnsRegister, OwnsReset, HasUnused}
 use Rattle.xlsynth_vast.specs.AddedRegisters.{is_resettable, value_expr, with_value, with_assigned, with_all_assigned, active_expr, with_active, with_if, with_if_else, first_block, second_block, with_branches, with_reset, with_register_block, with_clocked, with_registers}
-use Rattle.xlsynth_vast.specs.RegisterSteps.{StaysUnused, MayFill, MayMakeBlock}
+use Rattle.xlsynth_vast.specs.Internal.RegisterSteps.{StaysUnused, MayFill, MayMakeBlock}
 use Rattle.xlsynth_vast.proofs.RegisterParts.{unused-none, unused-block, unused-count, Changes, changes-then}
 use Rattle.xlsynth_vast.proofs.RegisterBlocks.{value-changes, value-made, all-assigned-changes}
 use Rattle.xlsynth_vast.proofs.RegisterBranches.{active-changes, active-made, opened-changes, opened-owned, opened-then, opened-else, both-changes, first-owned, second-owned, second-place}

@@ -15,8 +15,7 @@ pub mod Reductions
 pub mod ArrayReduction
 pub mod Registers
 pub mod AddedRegisters
-pub mod RegisterSteps
 pub mod Conditions
 pub mod Keeps
-pub mod TreeCode
 pub mod Presence
+pub mod Internal

@@ -29,7 +29,7 @@ impl Model for VastFile {
     ghost use Rattle.std.specs.Coded.{codes};
     ghost use Rattle.vast_core.specs.Bench.{Bench};
     ghost use Rattle.vast_core.specs.View.{bench};
-    ghost use Rattle.xlsynth_vast.specs.TreeCode.{expr_code, type_code};
+    ghost use Rattle.xlsynth_vast.specs.Internal.TreeCode.{expr_code, type_code};
 
     ghost Value = { Bench };
 

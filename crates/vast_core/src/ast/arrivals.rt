@@ -3,8 +3,8 @@
 ghost use Rattle.std.specs.Prelude.{◌≡◌, ◌+◌, ◌-◌, ◌++◌, ◌≤◌, OnOk, length, map, vec_capacity, vec_len};
 ghost use Rattle.vast_core.specs.Records.{definition_record, artifact_record, instance_record, module_record, port_record};
 ghost use Rattle.vast_core.specs.Nests.{always_record, function_record, nest_record};
-ghost use Rattle.vast_core.specs.Containers.{added, with_empty_block, count_of, block_count, HasRoom};
-ghost use Rattle.vast_core.specs.Arrivals.{fresh_of, fresh_node, no_arrivals, terms_of};
+ghost use Rattle.vast_core.specs.Internal.Containers.{added, with_empty_block, count_of, block_count, HasRoom};
+ghost use Rattle.vast_core.specs.Internal.Arrivals.{fresh_of, fresh_node, no_arrivals, terms_of};
 ghost use Rattle.vast_core.specs.View.{bench};
 
 use crate::ast::Ast;

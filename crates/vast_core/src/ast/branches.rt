@@ -8,8 +8,9 @@ ghost use Rattle.vast_core.specs.Sound.{ConditionalSound, CaseSound};
 ghost use Rattle.vast_core.specs.FileTree.{ConditionalFamily, CaseFamily, families, block_tree, alternates_tree, case_arms_tree};
 ghost use Rattle.vast_literal.specs.Tree.{CaseTree};
 ghost use Rattle.vast_core.specs.Growth.{Grows, GrowsBy};
-ghost use Rattle.vast_core.specs.Containers.{InNest, GrowthSound, new_conditional, fresh_block, with_nest_entry, with_block, with_statement, next_case, with_case, next_block, with_else_if, with_else, with_case_arm, has_else, with_unique, with_case_unique};
-ghost use Rattle.vast_core.specs.Arrivals.{entry_of};
+ghost use Rattle.vast_core.specs.Containers.{new_conditional, with_nest_entry, with_block, with_statement, next_case, with_case, next_block, with_else_if, with_else, with_case_arm, has_else, with_unique, with_case_unique};
+ghost use Rattle.vast_core.specs.Internal.Containers.{InNest, GrowthSound, fresh_block};
+ghost use Rattle.vast_core.specs.Internal.Arrivals.{entry_of};
 ghost use Rattle.vast_core.specs.View.{bench};
 
 use crate::ast::Ast;

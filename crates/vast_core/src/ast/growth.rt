@@ -4,8 +4,9 @@ ghost use Rattle.std.specs.Prelude.{◌≡◌, ◌+◌, ◌-◌, ◌≤◌, ◌<
 ghost use Rattle.vast_core.specs.Records.{module_record, member_entry, file_entry, parameter_port_record, changed_at, with_port, with_parameter_port, with_member, with_named_member};
 ghost use Rattle.vast_core.specs.Nests.{nest_record, statement_entry, function_record, variable_record};
 ghost use Rattle.vast_core.specs.Functions.{with_listed_variable};
-ghost use Rattle.vast_core.specs.Containers.{StatementEnters, ElseIfEnters, ElseEnters, CaseArmEnters, MemberEnters, with_entry, with_listed, listed_modules, listed_nests, listed_functions, listed_items, listed_spare, spare_left, GrowthSound, HasRoom, after_growth};
-ghost use Rattle.vast_core.specs.Arrivals.{entry_of, name_of, listing_of, fresh_of, ListingThere};
+ghost use Rattle.vast_core.specs.Containers.{StatementEnters, ElseIfEnters, ElseEnters, CaseArmEnters, MemberEnters, with_entry};
+ghost use Rattle.vast_core.specs.Internal.Containers.{with_listed, listed_modules, listed_nests, listed_functions, listed_items, listed_spare, spare_left, GrowthSound, HasRoom, after_growth};
+ghost use Rattle.vast_core.specs.Internal.Arrivals.{entry_of, name_of, listing_of, fresh_of, ListingThere};
 ghost use Rattle.vast_core.specs.Growth.{GrowsBy};
 ghost use Rattle.vast_core.specs.View.{bench};
 

@@ -3,7 +3,7 @@
 ghost use Rattle.std.specs.Prelude.{◌≡◌, ◌↔◌, IsTrue, IfNone, IfSome};
 ghost use Rattle.vast_core.specs.Types.{IsUsableWidth, width_of, vector_width, is_signed, is_packable, is_castable};
 ghost use Rattle.vast_literal.specs.Shape.{base_of};
-ghost use Rattle.vast_core.specs.BitCount.{IsArrayOf, IsNoArray};
+ghost use Rattle.vast_core.specs.Internal.BitCount.{IsArrayOf, IsNoArray};
 ghost use Rattle.vast_core.specs.Bench.{OwnsExpr, OwnsType, tree_of, type_of, maybe_tree_of};
 ghost use Rattle.vast_core.specs.View.{bench};
 

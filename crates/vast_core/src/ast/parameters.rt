@@ -6,7 +6,8 @@ ghost use Rattle.vast_core.specs.Records.{form_entry};
 ghost use Rattle.vast_core.specs.Bench.{OwnsModule, OwnsExpr, OwnsType};
 ghost use Rattle.vast_core.specs.Sound.{FormSound};
 ghost use Rattle.vast_core.specs.Growth.{Grows, next_expr, next_logic_ref};
-ghost use Rattle.vast_core.specs.Parameters.{IsDeclaredBy, with_parameter_port, next_parameter_ref, next_localparam_ref};
+ghost use Rattle.vast_core.specs.Parameters.{with_parameter_port, next_parameter_ref, next_localparam_ref};
+ghost use Rattle.vast_core.specs.Internal.Parameters.{IsDeclaredBy};
 ghost use Rattle.vast_core.specs.Scopes.{OwnsScope, with_scope_parameter};
 ghost use Rattle.vast_core.specs.View.{bench};
 

@@ -2,10 +2,11 @@
 
 ghost use Rattle.std.specs.Prelude.{◌≡◌};
 ghost use Rattle.vast_core.specs.Records.{member_entry};
-ghost use Rattle.vast_core.specs.Scopes.{OwnsScope, IsShared, listing_in, with_scope_member};
-ghost use Rattle.vast_core.specs.Arrivals.{listing_of, fresh_of};
+ghost use Rattle.vast_core.specs.Scopes.{OwnsScope, IsShared, with_scope_member};
+ghost use Rattle.vast_core.specs.Internal.Scopes.{listing_in};
+ghost use Rattle.vast_core.specs.Internal.Arrivals.{listing_of, fresh_of};
 ghost use Rattle.vast_core.specs.Growth.{GrowsBy};
-ghost use Rattle.vast_core.specs.Containers.{GrowthSound, with_fresh};
+ghost use Rattle.vast_core.specs.Internal.Containers.{GrowthSound, with_fresh};
 ghost use Rattle.vast_core.specs.Sound.{MemberSound};
 ghost use Rattle.vast_core.specs.View.{bench};
 

@@ -5,9 +5,10 @@ ghost use Rattle.vast_core.specs.Nests.{statement_entry};
 ghost use Rattle.vast_core.specs.Bench.{OwnsExpr};
 ghost use Rattle.vast_core.specs.Growth.{Grows};
 ghost use Rattle.vast_core.specs.Artifacts.{next_statement};
-ghost use Rattle.vast_core.specs.Arrivals.{listing_of};
+ghost use Rattle.vast_core.specs.Internal.Arrivals.{listing_of};
 ghost use Rattle.vast_core.specs.Containers.{next_conditional};
-ghost use Rattle.vast_core.specs.Spots.{OwnsSpot, IsWrittenIn, is_nonblocking, statement_of, assignment_at, conditional_at, with_assignment_at, with_conditional_at};
+ghost use Rattle.vast_core.specs.Spots.{OwnsSpot, IsWrittenIn, is_nonblocking, statement_of, with_assignment_at, with_conditional_at};
+ghost use Rattle.vast_core.specs.Internal.Spots.{assignment_at, conditional_at};
 ghost use Rattle.vast_core.specs.View.{bench};
 
 use crate::ast::Ast;

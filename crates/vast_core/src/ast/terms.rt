@@ -2,11 +2,13 @@
 
 ghost use Rattle.std.specs.Prelude.{◌≡◌, ◌<◌, [], ◌∷◌, IfSome, IfNone, None, slice_get};
 ghost use Rattle.vast_core.specs.Handles.{rank, type_rank};
-ghost use Rattle.vast_core.specs.Nodes.{IsNodeAt, TermsSound, ExprChildrenHold, TypeChildrenHold, expr_tree, type_tree};
+ghost use Rattle.vast_core.specs.Nodes.{ExprChildrenHold, TypeChildrenHold, expr_tree, type_tree};
+ghost use Rattle.vast_core.specs.Internal.Nodes.{IsNodeAt, TermsSound};
 ghost use Rattle.vast_core.specs.Types.{ExprWellFormed, TypeWellFormed};
 ghost use Rattle.vast_core.specs.Bench.{OwnsExpr, OwnsType, tree_of, type_of};
-ghost use Rattle.vast_core.specs.Growth.{GrowsBy, with_terms};
-ghost use Rattle.vast_core.specs.Arrivals.{terms_of};
+ghost use Rattle.vast_core.specs.Growth.{GrowsBy};
+ghost use Rattle.vast_core.specs.Internal.Growth.{with_terms};
+ghost use Rattle.vast_core.specs.Internal.Arrivals.{terms_of};
 ghost use Rattle.vast_core.specs.View.{bench};
 
 use crate::ast::Ast;

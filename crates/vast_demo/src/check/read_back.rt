@@ -1,7 +1,7 @@
 //! What a file prints is read back.
 
 ghost use Rattle.vast_core.specs.FileTree.{tree};
-ghost use Rattle.vast_demo.specs.ReadBack.{ReadsBack};
+ghost use Rattle.vast_demo.specs.Internal.ReadBack.{ReadsBack};
 
 use vast_read::{NormalFile, read_normal};
 use xlsynth_vast::{VastFault, VastFile};

@@ -3,7 +3,7 @@
 ghost use Rattle.std.specs.Prelude.{◌≡◌, IfNone, IfOk, IfSome};
 ghost use Rattle.vast_list.specs.CallArguments.{operator_pieces};
 ghost use Rattle.vast_list.specs.CallNames.{operator_name};
-ghost use Rattle.vast_list.specs.Written.{AreLeft};
+ghost use Rattle.vast_list.specs.Internal.Written.{AreLeft};
 
 use crate::arguments::Arguments;
 use crate::problem::Misfit;

@@ -4,7 +4,7 @@ ghost use Rattle.std.specs.Prelude.{All, IfOk, IfSome};
 ghost use Rattle.vast_core.specs.Bench.{OwnsExpr};
 ghost use Rattle.xlsynth_vast.specs.Registers.{OwnsRegister, OwnsReset, OwnsScope};
 ghost use Rattle.vast_script.specs.declared.answer.Answer.TheVariants.{Nothing};
-ghost use Rattle.vast_script.specs.Outcome.{WrapsRefusable};
+ghost use Rattle.vast_script.specs.Internal.Outcome.{WrapsRefusable};
 ghost use Rattle.vast_list.specs.CallArguments.{register_pieces, reset_pieces};
 ghost use Rattle.vast_list.specs.Helpers.{AddsNamed, NamesIf, NamesRegister, NamesRegisters, NamesReset, NamesScope};
 

@@ -6,7 +6,7 @@ use Rattle.std.proofs.lemmas.Bool.Decides.{nat_tests}
 use Rattle.vast_literal.specs.Tokens.{Based}
 use Rattle.vast_literal.specs.Scan.{is_based_digit, is_radix, Gap, AfterTick, InSigned, InRadix, InBased}
 use Rattle.vast_read.specs.Lexed.{lex, unspelled}
-use Rattle.vast_read.specs.Scanner.{opens_based, radix_place, IsTick}
+use Rattle.vast_read.specs.Internal.Scanner.{opens_based, radix_place, IsTick}
 use Rattle.vast_read.proofs.scanner.Lexemes.{At, advance, fails, run, run_stops, ends}
 use Rattle.vast_read.proofs.scanner.Strings.{two_taken}
 use Rattle.vast_read.proofs.scanner.Words.{passed_within}

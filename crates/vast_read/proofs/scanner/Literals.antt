@@ -7,7 +7,7 @@ use Rattle.vast_literal.specs.Tokens.{Number, Based, Mark, Apostrophe, OpenParen
 use Rattle.vast_literal.specs.Scan.{is_digit, is_radix, is_filler, Gap, InNumber, AfterTick, keep, give, fail, before_tick, step}
 use Rattle.vast_read.specs.Lexed.{lex, lex_on, unspelled}
 use Rattle.vast_literal.proofs.ScanLaws.{digit_letter, and_left, and_right}
-use Rattle.vast_read.specs.Scanner.{opens_based, is_based_tick, opens_mark, IsTick}
+use Rattle.vast_read.specs.Internal.Scanner.{opens_based, is_based_tick, opens_mark, IsTick}
 use Rattle.vast_read.proofs.scanner.Lexemes.{At, head_at, one_more, advance, run, run_stops, ends_by}
 use Rattle.vast_read.proofs.scanner.Strings.{other_within}
 

@@ -10,7 +10,7 @@ use Rattle.std.proofs.lemmas.Str.{IsCharBoundary-end, IsCharBoundary-before_asci
 use Rattle.vast_literal.specs.Tokens.{Token}
 use Rattle.vast_literal.specs.Scan.{is_letter, is_digit, is_space, Gap, Pending, InComment, Step, keep, fail, whole_signs, find_sign, start_sign, start, grown}
 use Rattle.vast_read.specs.Lexed.{lex, lex_on, unspelled}
-use Rattle.vast_read.specs.Scanner.{growth_step, starts_sign, Reaches}
+use Rattle.vast_read.specs.Internal.Scanner.{growth_step, starts_sign, Reaches}
 use Rattle.vast_read.specs.declared.scanner.sign.Growth.{Growth}
 use Rattle.vast_read.specs.declared.scanner.sign.Growth.TheVariants as growth
 use Rattle.vast_read.proofs.scanner.Cuts.{cut_behind}

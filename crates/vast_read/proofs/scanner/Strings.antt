@@ -6,7 +6,7 @@ use Rattle.std.proofs.lemmas.Bool.Decides.{nat_tests}
 use Rattle.vast_literal.specs.Tokens.{Quoted}
 use Rattle.vast_literal.specs.Scan.{Gap, InString, InEscape}
 use Rattle.vast_read.specs.Lexed.{lex, unspelled}
-use Rattle.vast_read.specs.Scanner.{string_part, EndsString}
+use Rattle.vast_read.specs.Internal.Scanner.{string_part, EndsString}
 use Rattle.vast_read.proofs.scanner.Lexemes.{At, advance, fails}
 
 -- a byte other than a line feed stands within the text

@@ -3,8 +3,8 @@
 ghost use Rattle.std.specs.Prelude.{◌≡◌, [], ◌∷◌, ◌++◌, IfOk, IfErr};
 ghost use Rattle.vast_literal.specs.NormalFile.{One, Range};
 ghost use Rattle.vast_read.specs.declared.fault.Fault.TheVariants.{Memory};
-ghost use Rattle.vast_read.specs.DeclarationReading.{DeclarationReading};
-ghost use Rattle.vast_read.specs.DeclarationView.{head_view, with_head};
+ghost use Rattle.vast_read.specs.Internal.DeclarationReading.{DeclarationReading};
+ghost use Rattle.vast_read.specs.Internal.DeclarationView.{head_view, with_head};
 
 use crate::build::Build;
 use crate::fault::Fault;

@@ -3,8 +3,8 @@
 ghost use Rattle.std.specs.Prelude.{◌≡◌, [], ◌∷◌, ◌++◌, IfOk, IfErr};
 ghost use Rattle.vast_literal.specs.NormalFile.{ModulePart, IncludePart};
 ghost use Rattle.vast_read.specs.declared.fault.Fault.TheVariants.{Memory};
-ghost use Rattle.vast_read.specs.FileReading.{FileReading};
-ghost use Rattle.vast_read.specs.FileView.{parameter_of, port_of, module_of, file_of};
+ghost use Rattle.vast_read.specs.Internal.FileReading.{FileReading};
+ghost use Rattle.vast_read.specs.Internal.FileView.{parameter_of, port_of, module_of, file_of};
 ghost use Rattle.vast_read.specs.TokenView.{key_view};
 
 use crate::build::BuildMembers;

@@ -3,10 +3,10 @@
 ghost use Rattle.std.specs.Prelude.{◌≡◌, [], ◌∷◌, ◌++◌, IfOk, IfErr, Some, None};
 ghost use Rattle.vast_literal.specs.NormalFile.{EdgeEvent, NameEvent, NoParts, MoreParts};
 ghost use Rattle.vast_read.specs.declared.fault.Fault.TheVariants.{Memory};
-ghost use Rattle.vast_read.specs.MemberForms.{form_member};
-ghost use Rattle.vast_read.specs.MemberReading.{MemberReading};
-ghost use Rattle.vast_read.specs.MemberSteps.{join_members};
-ghost use Rattle.vast_read.specs.MemberView.{given};
+ghost use Rattle.vast_read.specs.Internal.MemberForms.{form_member};
+ghost use Rattle.vast_read.specs.Internal.MemberReading.{MemberReading};
+ghost use Rattle.vast_read.specs.Internal.MemberSteps.{join_members};
+ghost use Rattle.vast_read.specs.Internal.MemberView.{given};
 ghost use Rattle.vast_read.specs.TokenView.{key_view};
 ghost use Rattle.vast_read.specs.View.{view};
 

@@ -3,9 +3,9 @@
 ghost use Rattle.std.specs.Prelude.{◌≡◌, [], ◌∷◌, ◌++◌, IfOk, IfErr, option_map};
 ghost use Rattle.vast_literal.specs.NormalFile.{Done, Then, NoLabels, Label as LabelledArm};
 ghost use Rattle.vast_read.specs.declared.fault.Fault.TheVariants.{Memory};
-ghost use Rattle.vast_read.specs.StatementForms.{form_statement};
-ghost use Rattle.vast_read.specs.StatementParts.{join_block, join_labels};
-ghost use Rattle.vast_read.specs.StatementReading.{StatementReading};
+ghost use Rattle.vast_read.specs.Internal.StatementForms.{form_statement};
+ghost use Rattle.vast_read.specs.Internal.StatementParts.{join_block, join_labels};
+ghost use Rattle.vast_read.specs.Internal.StatementReading.{StatementReading};
 
 use crate::build::Build;
 use crate::fault::Fault;

@@ -2,8 +2,8 @@
 
 ghost use Rattle.std.specs.Prelude.{◌≡◌, IfOk, IfErr};
 ghost use Rattle.vast_read.specs.declared.fault.Fault.TheVariants.{Memory};
-ghost use Rattle.vast_read.specs.Forms.{form_tree};
-ghost use Rattle.vast_read.specs.Readings.{trees};
+ghost use Rattle.vast_read.specs.Internal.Forms.{form_tree};
+ghost use Rattle.vast_read.specs.Internal.Readings.{trees};
 ghost use Rattle.vast_read.specs.View.{view};
 
 mod declarations;
@@ -28,7 +28,7 @@ impl<'t> Build<'t> for Trees {
 
     type Word = Word;
 
-    ghost use Rattle.vast_read.specs.Readings.{trees};
+    ghost use Rattle.vast_read.specs.Internal.Readings.{trees};
 
     ghost sees = { trees };
 

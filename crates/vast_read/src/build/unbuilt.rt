@@ -2,8 +2,8 @@
 
 ghost use Rattle.std.specs.Prelude.{◌≡◌, IfOk, IfErr};
 ghost use Rattle.vast_read.specs.declared.fault.Fault.TheVariants.{Memory};
-ghost use Rattle.vast_read.specs.Forms.{form_tree};
-ghost use Rattle.vast_read.specs.Readings.{tree_of, trees_of};
+ghost use Rattle.vast_read.specs.Internal.Forms.{form_tree};
+ghost use Rattle.vast_read.specs.Internal.Readings.{tree_of, trees_of};
 
 mod declarations;
 mod files;

@@ -1,13 +1,13 @@
 //! Declarations.
 
 ghost use Rattle.std.specs.Prelude.{◌≡◌, ℕ, ◌<◌, ◌≤◌, length, IfOk, MatchOption, Some, None, option_map};
-ghost use Rattle.vast_literal.specs.DeclarationParser.{maybe_at};
-ghost use Rattle.vast_literal.specs.Parser.{word_at};
-ghost use Rattle.vast_literal.specs.SettledDeclarations.{group_end, settled_groups, signed_end, type_or_name, plain_word, scoped_type, behind_word, behind_kind, settled_declaration};
-ghost use Rattle.vast_read.specs.Answers.{ReadsAs};
-ghost use Rattle.vast_read.specs.DeclarationSteps.{group_rest};
-ghost use Rattle.vast_read.specs.DeclarationView.{head_view, headed};
-ghost use Rattle.vast_read.specs.KeyClasses.{class_test};
+ghost use Rattle.vast_literal.specs.Internal.DeclarationParser.{maybe_at};
+ghost use Rattle.vast_literal.specs.Internal.Parser.{word_at};
+ghost use Rattle.vast_literal.specs.Internal.SettledDeclarations.{group_end, settled_groups, signed_end, type_or_name, plain_word, scoped_type, behind_word, behind_kind, settled_declaration};
+ghost use Rattle.vast_read.specs.Internal.Answers.{ReadsAs};
+ghost use Rattle.vast_read.specs.Internal.DeclarationSteps.{group_rest};
+ghost use Rattle.vast_read.specs.Internal.DeclarationView.{head_view, headed};
+ghost use Rattle.vast_read.specs.Internal.KeyClasses.{class_test};
 ghost use Rattle.vast_read.specs.TokenView.{key_view};
 
 use crate::build::BuildDeclarations;

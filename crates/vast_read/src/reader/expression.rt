@@ -2,11 +2,11 @@
 
 ghost use Rattle.std.specs.Prelude.{◌≡◌, ℕ, ◌≤◌, length};
 ghost use Rattle.vast_literal.specs.Tokens.{Comma};
-ghost use Rattle.vast_literal.specs.Parser.{after, enclosed_at, arguments, list_on, selected_at};
-ghost use Rattle.vast_literal.specs.Settled.{settled};
-ghost use Rattle.vast_read.specs.Answers.{ReadsAs};
-ghost use Rattle.vast_read.specs.Machine.{load, meaning, resumed, work, KeepsStep, Lessens};
-ghost use Rattle.vast_read.specs.Steps.{in_parens};
+ghost use Rattle.vast_literal.specs.Internal.Parser.{after, enclosed_at, arguments, list_on, selected_at};
+ghost use Rattle.vast_literal.specs.Internal.Settled.{settled};
+ghost use Rattle.vast_read.specs.Internal.Answers.{ReadsAs};
+ghost use Rattle.vast_read.specs.Internal.Machine.{load, meaning, resumed, work, KeepsStep, Lessens};
+ghost use Rattle.vast_read.specs.Internal.Steps.{in_parens};
 ghost use Rattle.vast_read.specs.TokenView.{mark_view};
 
 use crate::build::Build;

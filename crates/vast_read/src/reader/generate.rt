@@ -1,10 +1,10 @@
 //! Generate loops up to their members.
 
 ghost use Rattle.std.specs.Prelude.{◌≡◌, ℕ, ◌≤◌, length, MatchResult, Some, None, option_map};
-ghost use Rattle.vast_literal.specs.MemberParser.{same_word};
-ghost use Rattle.vast_literal.specs.SettledMembers.{loop_start, loop_bound, number_one, loop_step, loop_label};
-ghost use Rattle.vast_read.specs.Answers.{ReadsAs};
-ghost use Rattle.vast_read.specs.OpenLoops.{loop_head, opening_of};
+ghost use Rattle.vast_literal.specs.Internal.MemberParser.{same_word};
+ghost use Rattle.vast_literal.specs.Internal.SettledMembers.{loop_start, loop_bound, number_one, loop_step, loop_label};
+ghost use Rattle.vast_read.specs.Internal.Answers.{ReadsAs};
+ghost use Rattle.vast_read.specs.Internal.OpenLoops.{loop_head, opening_of};
 
 use crate::build::{Build, BuildMembers, Trees};
 use crate::fault::Fault;

@@ -1,9 +1,9 @@
 //! Members by their keywords.
 
 ghost use Rattle.std.specs.Prelude.{◌≡◌, ℕ, ◌<◌, ◌≤◌, length, IfOk};
-ghost use Rattle.vast_literal.specs.SettledMembers.{settled_local, assign_part, combinational_part, conditional_part, parameter_part, clocked_part, declaration_part};
-ghost use Rattle.vast_read.specs.Answers.{ReadsAs};
-ghost use Rattle.vast_read.specs.MemberSteps.{unkeyed_part, other_part};
+ghost use Rattle.vast_literal.specs.Internal.SettledMembers.{settled_local, assign_part, combinational_part, conditional_part, parameter_part, clocked_part, declaration_part};
+ghost use Rattle.vast_read.specs.Internal.Answers.{ReadsAs};
+ghost use Rattle.vast_read.specs.Internal.MemberSteps.{unkeyed_part, other_part};
 ghost use Rattle.vast_read.specs.TokenView.{key_view};
 
 use crate::build::{BuildDeclarations, BuildMembers, MemberForm};

@@ -2,9 +2,9 @@
 
 ghost use Rattle.std.specs.Prelude.{◌≡◌, ℕ, ◌<◌, ◌≤◌, length, IfOk, MatchOption, MatchResult, Some, None};
 ghost use Rattle.std.specs.Bool.{MatchBool};
-ghost use Rattle.vast_literal.specs.StatementParser.{after_key, arrow_at};
-ghost use Rattle.vast_read.specs.KeyClasses.{class_test};
-ghost use Rattle.vast_literal.specs.Nexts.{key_with, sign_with, is_less_equal, is_plus};
+ghost use Rattle.vast_literal.specs.Internal.StatementParser.{after_key, arrow_at};
+ghost use Rattle.vast_read.specs.Internal.KeyClasses.{class_test};
+ghost use Rattle.vast_literal.specs.Internal.Nexts.{key_with, sign_with, is_less_equal, is_plus};
 ghost use Rattle.vast_read.specs.TokenView.{key_view};
 
 use crate::fault::Fault;

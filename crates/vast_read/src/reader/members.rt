@@ -1,10 +1,10 @@
 //! Members: a loop over a list of the generate loops that are open, so that no text takes stack.
 
 ghost use Rattle.std.specs.Prelude.{◌≡◌, ℕ, ◌<◌, ◌≤◌, length, IfOk};
-ghost use Rattle.vast_literal.specs.SettledMembers.{settled_members};
-ghost use Rattle.vast_read.specs.Answers.{ReadsAs};
-ghost use Rattle.vast_read.specs.MemberSteps.{unlooped_part};
-ghost use Rattle.vast_read.specs.OpenLoops.{closed, resumed, Keeps};
+ghost use Rattle.vast_literal.specs.Internal.SettledMembers.{settled_members};
+ghost use Rattle.vast_read.specs.Internal.Answers.{ReadsAs};
+ghost use Rattle.vast_read.specs.Internal.MemberSteps.{unlooped_part};
+ghost use Rattle.vast_read.specs.Internal.OpenLoops.{closed, resumed, Keeps};
 ghost use Rattle.vast_read.specs.TokenView.{key_view};
 
 use crate::build::{BuildMembers, MemberForm};

@@ -2,10 +2,10 @@
 
 ghost use Rattle.std.specs.Prelude.{◌≡◌, ℕ, ◌<◌, ◌≤◌, [], ◌∷◌, ◌++◌, length, IfOk, Some};
 ghost use Rattle.vast_literal.specs.NormalFile.{CaseStatement};
-ghost use Rattle.vast_literal.specs.Settled.{settled_reader};
-ghost use Rattle.vast_read.specs.Answers.{ReadsAs};
-ghost use Rattle.vast_read.specs.OpenBlocks.{arm_then, block_then, body_then, closed, ended, going, labelled, Ends, Goes};
-ghost use Rattle.vast_read.specs.StatementSteps.{case_or_simple, cases_of, choice_behind, unique_case};
+ghost use Rattle.vast_literal.specs.Internal.Settled.{settled_reader};
+ghost use Rattle.vast_read.specs.Internal.Answers.{ReadsAs};
+ghost use Rattle.vast_read.specs.Internal.OpenBlocks.{arm_then, block_then, body_then, closed, ended, going, labelled, Ends, Goes};
+ghost use Rattle.vast_read.specs.Internal.StatementSteps.{case_or_simple, cases_of, choice_behind, unique_case};
 ghost use Rattle.vast_read.specs.TokenView.{key_view};
 
 use crate::build::{BuildStatements, StatementForm};

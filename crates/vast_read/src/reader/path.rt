@@ -1,7 +1,7 @@
 //! The path of an include, between the quotes of a string.
 
 ghost use Rattle.std.specs.Prelude.{◌≡◌, ◌≢◌, ℕ, List, ◌∷◌, MatchOption, MatchResult, Some, None};
-ghost use Rattle.vast_literal.specs.FileParser.{path_end, path_of};
+ghost use Rattle.vast_literal.specs.Internal.FileParser.{path_end, path_of};
 
 use crate::fault::Fault;
 

@@ -1,12 +1,12 @@
 //! Where the reader stays where a token doesn't fit: before it.
 
 ghost use Rattle.std.specs.Prelude.{◌≡◌, ℕ, ◌<◌, ◌≤◌, length, IfOk, IsCharBoundary};
-ghost use Rattle.vast_literal.specs.Parser.{primary, enclosed_at};
-ghost use Rattle.vast_literal.specs.Settled.{settled};
-ghost use Rattle.vast_read.specs.Answers.{ReadsAs};
-ghost use Rattle.vast_read.specs.Machine.{load, then_primary, work, Keeps};
+ghost use Rattle.vast_literal.specs.Internal.Parser.{primary, enclosed_at};
+ghost use Rattle.vast_literal.specs.Internal.Settled.{settled};
+ghost use Rattle.vast_read.specs.Internal.Answers.{ReadsAs};
+ghost use Rattle.vast_read.specs.Internal.Machine.{load, then_primary, work, Keeps};
 ghost use Rattle.vast_read.specs.Places.{IsBetweenTokens};
-ghost use Rattle.vast_read.specs.Position.{position_view};
+ghost use Rattle.vast_read.specs.Internal.Position.{position_view};
 ghost use Rattle.vast_read.specs.TokenView.{mark_view};
 
 use crate::build::Build;

@@ -2,10 +2,10 @@
 
 ghost use Rattle.std.specs.Prelude.{◌≡◌, ℕ, ◌<◌, ◌≤◌, length, IfOk, Some, None};
 ghost use Rattle.std.specs.Bool.{MatchBool};
-ghost use Rattle.vast_literal.specs.Settled.{settled, settled_reader};
-ghost use Rattle.vast_literal.specs.StatementParser.{simple_at};
-ghost use Rattle.vast_read.specs.Answers.{ReadsAs};
-ghost use Rattle.vast_read.specs.StatementSteps.{assign_at, choice_statement, cases_of, block, else_if, label_at, bare_body};
+ghost use Rattle.vast_literal.specs.Internal.Settled.{settled, settled_reader};
+ghost use Rattle.vast_literal.specs.Internal.StatementParser.{simple_at};
+ghost use Rattle.vast_read.specs.Internal.Answers.{ReadsAs};
+ghost use Rattle.vast_read.specs.Internal.StatementSteps.{assign_at, choice_statement, cases_of, block, else_if, label_at, bare_body};
 ghost use Rattle.vast_read.specs.TokenView.{key_view};
 
 use crate::build::{BuildStatements, StatementForm};

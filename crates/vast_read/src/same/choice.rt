@@ -2,9 +2,10 @@
 
 ghost use Rattle.std.specs.Prelude.{◌≡◌, ◌≢◌, ◌<◌, length};
 ghost use Rattle.std.specs.Bool.{MatchBool};
-ghost use Rattle.vast_read.specs.Blocks.{choice_view, choice_rounds, arms_rounds, blank};
+ghost use Rattle.vast_read.specs.Internal.Blocks.{choice_view, choice_rounds, arms_rounds, blank};
 ghost use Rattle.vast_read.specs.StatementParts.{arms_in};
-ghost use Rattle.vast_read.specs.StatementView.{arms_view, statement_view};
+ghost use Rattle.vast_read.specs.StatementView.{statement_view};
+ghost use Rattle.vast_read.specs.Internal.StatementView.{arms_view};
 
 use crate::children::Children;
 use crate::tree::{Arm, NormalStatement};

@@ -1,9 +1,9 @@
 //! Whether two declarations are the same.
 
 ghost use Rattle.std.specs.Prelude.{◌≡◌, IfOk, option_map};
-ghost use Rattle.vast_read.specs.Comparison.{Tells};
+ghost use Rattle.vast_read.specs.Internal.Comparison.{Tells};
 ghost use Rattle.vast_read.specs.DeclarationView.{groups_view};
-ghost use Rattle.vast_read.specs.DeclaredWords.{declared_words, declared_groups};
+ghost use Rattle.vast_read.specs.Internal.DeclaredWords.{declared_words, declared_groups};
 ghost use Rattle.vast_read.specs.Texts.{key_of};
 
 use crate::same::expression::{part, same_expression, same_part};

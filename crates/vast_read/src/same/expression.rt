@@ -3,10 +3,10 @@
 ghost use Rattle.std.specs.Prelude.{◌≡◌, ◌≢◌, ◌↔◌, ◌<◌, ◌≤◌, ◌+◌, ◌*◌, ◌∷◌, IfOk, option_map, map};
 ghost use Rattle.std.specs.Bool.{MatchBool};
 ghost use Rattle.vast_read.specs.View.{view, listed};
-ghost use Rattle.vast_read.specs.Release.{rounds_beside, rounds_each, rounds};
-ghost use Rattle.vast_read.specs.Comparison.{Tells};
-ghost use Rattle.vast_read.specs.Levels.{part_view, list_view, part_rounds, level_view, level_rounds, parts_in, both_parts};
-ghost use Rattle.vast_read.specs.Pairs.{lefts, rights, Adds, pairs_rounds};
+ghost use Rattle.vast_read.specs.Internal.Release.{rounds_beside, rounds_each, rounds};
+ghost use Rattle.vast_read.specs.Internal.Comparison.{Tells};
+ghost use Rattle.vast_read.specs.Internal.Levels.{part_view, list_view, part_rounds, level_view, level_rounds, parts_in, both_parts};
+ghost use Rattle.vast_read.specs.Internal.Pairs.{lefts, rights, Adds, pairs_rounds};
 
 use crate::same::level::Level;
 use crate::stack::Stack;

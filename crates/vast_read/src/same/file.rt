@@ -1,8 +1,8 @@
 //! Whether two files are the same.
 
 ghost use Rattle.std.specs.Prelude.{◌≡◌, IfOk};
-ghost use Rattle.vast_read.specs.Comparison.{Tells};
-ghost use Rattle.vast_read.specs.Headers.{header_view};
+ghost use Rattle.vast_read.specs.Internal.Comparison.{Tells};
+ghost use Rattle.vast_read.specs.Internal.Headers.{header_view};
 ghost use Rattle.vast_read.specs.FileView.{parameters_view, ports_view, module_view, item_view, file_view};
 
 use crate::same::expression::same_expression;

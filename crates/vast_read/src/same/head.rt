@@ -1,8 +1,8 @@
 //! Whether two members have the same words, expressions, lists and blocks, but for the members inside.
 
 ghost use Rattle.std.specs.Prelude.{◌≡◌, IfOk};
-ghost use Rattle.vast_read.specs.Comparison.{Tells};
-ghost use Rattle.vast_read.specs.MemberLevels.{words_view, declared_view, values_view, lists_view, level_view, head_of, blocks_of};
+ghost use Rattle.vast_read.specs.Internal.Comparison.{Tells};
+ghost use Rattle.vast_read.specs.Internal.MemberLevels.{words_view, declared_view, values_view, lists_view, level_view, head_of, blocks_of};
 
 use crate::same::declaration::same_text;
 use crate::same::expression::{same_arguments, same_part};

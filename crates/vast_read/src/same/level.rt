@@ -1,10 +1,10 @@
 //! The outermost level of an expression.
 
 ghost use Rattle.std.specs.Prelude.{◌≡◌, ◌≤◌, ◌+◌, ◌*◌, map};
-ghost use Rattle.vast_read.specs.Release.{rounds_beside, rounds_each, rounds};
-ghost use Rattle.vast_read.specs.Comparison.{Tells};
+ghost use Rattle.vast_read.specs.Internal.Release.{rounds_beside, rounds_each, rounds};
+ghost use Rattle.vast_read.specs.Internal.Comparison.{Tells};
 ghost use Rattle.vast_read.specs.View.{view, listed};
-ghost use Rattle.vast_read.specs.Levels.{level_view, words_in, level_of, level_rounds, alone, of_one, of_two, of_three, of_list, counted, scoped};
+ghost use Rattle.vast_read.specs.Internal.Levels.{level_view, words_in, level_of, level_rounds, alone, of_one, of_two, of_three, of_list, counted, scoped};
 
 use crate::children::Children;
 use crate::same::written::{infix_text, keyword_text, prefix_text};

@@ -2,7 +2,7 @@
 
 ghost use Rattle.std.specs.Prelude.{◌≡◌, IfOk};
 ghost use Rattle.std.specs.Bool.{MatchBool};
-ghost use Rattle.vast_read.specs.Comparison.{AreAlike};
+ghost use Rattle.vast_read.specs.Internal.Comparison.{AreAlike};
 
 use std::alloc::{AllocError, Global};
 

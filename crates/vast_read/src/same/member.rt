@@ -2,9 +2,9 @@
 
 ghost use Rattle.std.specs.Prelude.{◌≡◌, ◌≢◌, ◌↔◌, ◌<◌, ◌≤◌, ◌+◌, ◌*◌, ◌∷◌, IfOk};
 ghost use Rattle.std.specs.Bool.{MatchBool};
-ghost use Rattle.vast_read.specs.Comparison.{Tells};
-ghost use Rattle.vast_read.specs.Members.{lefts, rights, Adds, all_rounds, member_beside};
-ghost use Rattle.vast_read.specs.MemberLevels.{level_view, level_rounds};
+ghost use Rattle.vast_read.specs.Internal.Comparison.{Tells};
+ghost use Rattle.vast_read.specs.Internal.Members.{lefts, rights, Adds, all_rounds, member_beside};
+ghost use Rattle.vast_read.specs.Internal.MemberLevels.{level_view, level_rounds};
 ghost use Rattle.vast_read.specs.MemberView.{member_view, members_view, name_of};
 ghost use Rattle.vast_read.specs.View.{view};
 

@@ -3,10 +3,10 @@
 ghost use Rattle.std.specs.Prelude.{◌≡◌, ◌≤◌, ◌+◌, ◌*◌, option_map, map};
 ghost use Rattle.vast_literal.specs.NormalFile.{AlwaysPart, ConditionalPart, FunctionPart, InstancePart, LoopPart};
 ghost use Rattle.vast_read.specs.DeclarationView.{declaration_view, declarations_view};
-ghost use Rattle.vast_read.specs.Levels.{part_view};
-ghost use Rattle.vast_read.specs.MemberLevels.{one_word, values_of, arguments_of, no_lists, given_lists, event_list, declared_lists, plain_level, macro_kind, words_view, declared_view, values_view, lists_view, level_view, level_of, level_rounds};
-ghost use Rattle.vast_read.specs.MemberRelease.{members_beside};
-ghost use Rattle.vast_read.specs.Members.{member_beside};
+ghost use Rattle.vast_read.specs.Internal.Levels.{part_view};
+ghost use Rattle.vast_read.specs.Internal.MemberLevels.{one_word, values_of, arguments_of, no_lists, given_lists, event_list, declared_lists, plain_level, macro_kind, words_view, declared_view, values_view, lists_view, level_view, level_of, level_rounds};
+ghost use Rattle.vast_read.specs.Internal.MemberRelease.{members_beside};
+ghost use Rattle.vast_read.specs.Internal.Members.{member_beside};
 ghost use Rattle.vast_read.specs.MemberView.{connections_view, events_view, member_view, members_view};
 ghost use Rattle.vast_read.specs.StatementParts.{arms_in};
 ghost use Rattle.vast_read.specs.StatementView.{block_view, statement_view};

@@ -2,12 +2,13 @@
 
 ghost use Rattle.std.specs.Prelude.{◌≡◌, ◌≢◌, ◌↔◌, ◌<◌, ◌≤◌, ◌+◌, ◌*◌, ◌∷◌, IfOk, option_map, map};
 ghost use Rattle.std.specs.Bool.{MatchBool};
-ghost use Rattle.vast_read.specs.Blocks.{choice_view, choice_rounds, choice_beside, choices_of, last_block, last_beside, lefts, rights, Adds, all_rounds};
-ghost use Rattle.vast_read.specs.StatementLevels.{level_view, level_rounds, blocks_of};
-ghost use Rattle.vast_read.specs.Comparison.{Tells};
-ghost use Rattle.vast_read.specs.StatementRelease.{statement_beside, block_beside, arm_rounds, label_rounds};
-ghost use Rattle.vast_read.specs.Release.{rounds_each};
-ghost use Rattle.vast_read.specs.StatementView.{statement_view, block_view, arm_view, label_view, labels_view};
+ghost use Rattle.vast_read.specs.Internal.Blocks.{choice_view, choice_rounds, choice_beside, choices_of, last_block, last_beside, lefts, rights, Adds, all_rounds};
+ghost use Rattle.vast_read.specs.Internal.StatementLevels.{level_view, level_rounds, blocks_of};
+ghost use Rattle.vast_read.specs.Internal.Comparison.{Tells};
+ghost use Rattle.vast_read.specs.Internal.StatementRelease.{statement_beside, block_beside, arm_rounds, label_rounds};
+ghost use Rattle.vast_read.specs.Internal.Release.{rounds_each};
+ghost use Rattle.vast_read.specs.StatementView.{statement_view, block_view};
+ghost use Rattle.vast_read.specs.Internal.StatementView.{arm_view, label_view, labels_view};
 
 use crate::same::choice::Choice;
 use crate::same::expression::{part, same_expression, same_part};

@@ -1,9 +1,9 @@
 //! The outermost level of a statement.
 
 ghost use Rattle.std.specs.Prelude.{◌≡◌, ◌≤◌, ◌*◌, IfOk};
-ghost use Rattle.vast_read.specs.StatementLevels.{level_view, level_of, level_rounds, head_of, assigns, case_kind};
-ghost use Rattle.vast_read.specs.Comparison.{Tells};
-ghost use Rattle.vast_read.specs.StatementRelease.{statement_beside};
+ghost use Rattle.vast_read.specs.Internal.StatementLevels.{level_view, level_of, level_rounds, head_of, assigns, case_kind};
+ghost use Rattle.vast_read.specs.Internal.Comparison.{Tells};
+ghost use Rattle.vast_read.specs.Internal.StatementRelease.{statement_beside};
 ghost use Rattle.vast_read.specs.StatementView.{statement_view};
 ghost use Rattle.vast_read.specs.View.{view};
 

@@ -1,15 +1,15 @@
 //! Signs and keywords as they are written.
 
 ghost use Rattle.std.specs.Prelude.{◌≡◌};
-ghost use Rattle.vast_read.specs.Comparison.{Tells};
+ghost use Rattle.vast_read.specs.Internal.Comparison.{Tells};
 ghost use Rattle.vast_read.specs.Texts.{key_of};
-ghost use Rattle.vast_read.specs.Writings.{is_sign, prefix_text, infix_text, keyword_text};
+ghost use Rattle.vast_read.specs.Internal.Writings.{is_sign, prefix_text, infix_text, keyword_text};
 
 use crate::scanner::word_token;
 use crate::word::Word;
 
 /// Whether a sign is written so.
-#[tactic(auto, unfolding(crate::specs::Writings::is_sign))]
+#[tactic(auto, unfolding(crate::specs::Internal::Writings::is_sign))]
 fn is_sign(text: &str) -> bool
     ensures { result ≡ is_sign text.now }
 {

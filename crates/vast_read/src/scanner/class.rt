@@ -2,7 +2,7 @@
 
 ghost use Rattle.std.specs.Prelude.{◌≡◌};
 ghost use Rattle.vast_literal.specs.Scan.{is_letter, is_digit, is_word_byte, is_based_digit, is_radix, is_filler, is_space};
-ghost use Rattle.vast_read.specs.Scanner.{opens_mark, passes};
+ghost use Rattle.vast_read.specs.Internal.Scanner.{opens_mark, passes};
 
 /// An ASCII letter or `_`.
 pub(crate) fn is_letter(byte: u8) -> bool

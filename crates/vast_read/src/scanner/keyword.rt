@@ -3,8 +3,9 @@
 ghost use Rattle.std.specs.Prelude.{◌≡◌, ◌<◌, [], None, get_or, length, map, option_map};
 ghost use Rattle.vast_literal.specs.Keyword.{keywords};
 ghost use Rattle.vast_literal.specs.Tokens.{word_token};
-ghost use Rattle.vast_read.specs.TokenView.{key_view, token_view};
-ghost use Rattle.vast_read.specs.KeywordSlots.{slot_of};
+ghost use Rattle.vast_read.specs.TokenView.{key_view};
+ghost use Rattle.vast_read.specs.Internal.TokenView.{token_view};
+ghost use Rattle.vast_read.specs.Internal.KeywordSlots.{slot_of};
 
 use crate::scanner::run::byte_at;
 use crate::token::{Key, Token};

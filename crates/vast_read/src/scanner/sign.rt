@@ -4,8 +4,10 @@ ghost use Rattle.std.specs.Prelude.{◌≡◌, ◌<◌, true, cond, eqb, [], ◌
 ghost use Rattle.vast_literal.specs.Scan.{InComment, Pending, keep, give, whole_signs, find_sign, start_sign, grown};
 ghost use Rattle.vast_literal.specs.Tokens.{Operator, Greater, Less, Plus, Divide};
 ghost use Rattle.vast_literal.specs.Tokens as spec;
-ghost use Rattle.vast_read.specs.TokenView.{token_view, sign_view, mark_view};
-ghost use Rattle.vast_read.specs.Scanner.{byte_at, Fronts, growth_step, growth_or_fail, starts_sign, Reaches};
+ghost use Rattle.vast_read.specs.TokenView.{sign_view, mark_view};
+ghost use Rattle.vast_read.specs.Internal.TokenView.{token_view};
+ghost use Rattle.vast_read.specs.Scanner.{byte_at};
+ghost use Rattle.vast_read.specs.Internal.Scanner.{Fronts, growth_step, growth_or_fail, starts_sign, Reaches};
 
 use crate::scanner::class::Class;
 use crate::scanner::front::Front;

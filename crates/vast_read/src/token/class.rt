@@ -2,8 +2,8 @@
 
 ghost use Rattle.std.specs.Prelude.{◌≡◌};
 ghost use Rattle.vast_literal.specs.FileGrammar.{is_kind, is_sign, is_member_kind, is_local_kind, is_parameter_word, is_clocked, is_edge, is_direction};
-ghost use Rattle.vast_read.specs.KeyClasses.{class_test};
-ghost use Rattle.vast_read.specs.StatementSteps.{is_case_word, is_casez};
+ghost use Rattle.vast_read.specs.Internal.KeyClasses.{class_test};
+ghost use Rattle.vast_read.specs.Internal.StatementSteps.{is_case_word, is_casez};
 ghost use Rattle.vast_read.specs.TokenView.{key_view};
 
 use crate::token::Key;

@@ -3,7 +3,7 @@
 ghost use Rattle.std.specs.Prelude.{◌≡◌, IfOk, nat_eq, option_map};
 ghost use Rattle.vast_literal.specs.Tokens.{key_text, reserved_keys};
 ghost use Rattle.vast_literal.specs.Grammar.{is_cast_word};
-ghost use Rattle.vast_literal.specs.StatementParser.{key_code};
+ghost use Rattle.vast_literal.specs.Internal.StatementParser.{key_code};
 ghost use Rattle.vast_read.specs.Texts.{key_of};
 ghost use Rattle.vast_read.specs.TokenView.{key_view};
 
@@ -116,7 +116,7 @@ impl Key {
     }
 
     /// A number that tells it from the others.
-    #[tactic(auto, unfolding(vast_literal::specs::StatementParser::key_code))]
+    #[tactic(auto, unfolding(vast_literal::specs::Internal::StatementParser::key_code))]
     pub(crate) fn code(self) -> u8
         ensures { result ≡ key_code (key_view self) }
     {

@@ -1,14 +1,14 @@
 //! Signs that the grammar asks for by name.
 
 ghost use Rattle.std.specs.Prelude.{◌≡◌};
-ghost use Rattle.vast_literal.specs.Nexts.{is_less_equal, is_plus};
+ghost use Rattle.vast_literal.specs.Internal.Nexts.{is_less_equal, is_plus};
 ghost use Rattle.vast_read.specs.TokenView.{sign_view};
 
 use crate::token::Sign;
 
 impl Sign {
     /// Whether it is `<=`, which also stands for a nonblocking assignment.
-    #[tactic(auto, unfolding(crate::specs::TokenView::sign_view, vast_literal::specs::Nexts::is_less_equal))]
+    #[tactic(auto, unfolding(crate::specs::TokenView::sign_view, vast_literal::specs::Internal::Nexts::is_less_equal))]
     pub(crate) fn is_less_equal(self) -> bool
         ensures { result ≡ is_less_equal (sign_view self) }
     {
@@ -41,7 +41,7 @@ impl Sign {
     }
 
     /// Whether it is `+`.
-    #[tactic(auto, unfolding(crate::specs::TokenView::sign_view, vast_literal::specs::Nexts::is_plus))]
+    #[tactic(auto, unfolding(crate::specs::TokenView::sign_view, vast_literal::specs::Internal::Nexts::is_plus))]
     pub(crate) fn is_plus(self) -> bool
         ensures { result ≡ is_plus (sign_view self) }
     {

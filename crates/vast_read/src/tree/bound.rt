@@ -1,7 +1,7 @@
 //! The bound of a loop's condition.
 
 ghost use Rattle.std.specs.Prelude.{◌≡◌};
-ghost use Rattle.vast_read.specs.Bounds.{is_name_of, is_bounded};
+ghost use Rattle.vast_read.specs.Internal.Bounds.{is_name_of, is_bounded};
 ghost use Rattle.vast_read.specs.View.{view};
 
 use crate::tree::expression::NormalExpr;

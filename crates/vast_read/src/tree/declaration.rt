@@ -2,7 +2,8 @@
 
 ghost use Rattle.std.specs.Prelude.{◌≡◌, IfOk, IfErr, option_map};
 ghost use Rattle.vast_read.specs.declared.fault.Fault.TheVariants.{Memory};
-ghost use Rattle.vast_read.specs.DeclarationView.{groups_view, declaration_view, head_view, with_head};
+ghost use Rattle.vast_read.specs.DeclarationView.{groups_view, declaration_view};
+ghost use Rattle.vast_read.specs.Internal.DeclarationView.{head_view, with_head};
 
 use crate::children::Children;
 use crate::fault::Fault;

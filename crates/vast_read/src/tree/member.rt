@@ -4,8 +4,9 @@ ghost use Rattle.std.specs.Prelude.{◌≡◌, ◌<◌, ◌≤◌, ◌+◌, ⊤,
 ghost use Rattle.vast_literal.specs.NormalFile.{EdgeEvent, NameEvent, DeclarationPart, ParameterPart, MacroPart, InstancePart, AlwaysPart, ConditionalPart, FunctionPart, LoopPart};
 ghost use Rattle.vast_read.specs.declared.fault.Fault.TheVariants.{Memory};
 ghost use Rattle.vast_read.specs.DeclarationView.{declaration_view, declarations_view};
-ghost use Rattle.vast_read.specs.MemberRelease.{member_left, member_alone, members_beside, members_alone, waiting_alone};
-ghost use Rattle.vast_read.specs.MemberView.{event_view, events_view, connection_view, connections_view, given, member_view, members_view};
+ghost use Rattle.vast_read.specs.Internal.MemberRelease.{member_left, member_alone, members_beside, members_alone, waiting_alone};
+ghost use Rattle.vast_read.specs.MemberView.{event_view, events_view, connection_view, connections_view, member_view, members_view};
+ghost use Rattle.vast_read.specs.Internal.MemberView.{given};
 ghost use Rattle.vast_read.specs.StatementParts.{arms_in};
 ghost use Rattle.vast_read.specs.StatementView.{statement_view, block_view};
 ghost use Rattle.vast_read.specs.TokenView.{key_view};

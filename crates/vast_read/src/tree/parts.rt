@@ -1,7 +1,7 @@
 //! The parts of an expression, and what is left of it as it is let go.
 
 ghost use Rattle.std.specs.Prelude.{◌<◌, ◌≤◌, ◌+◌, ⊤, MatchOption};
-ghost use Rattle.vast_read.specs.Release.{rounds_beside, rounds_alone, rounds_left, list_beside, list_alone};
+ghost use Rattle.vast_read.specs.Internal.Release.{rounds_beside, rounds_alone, rounds_left, list_beside, list_alone};
 
 use crate::children::Children;
 use crate::tree::expression::NormalExpr;

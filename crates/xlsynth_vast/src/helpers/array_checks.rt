@@ -6,7 +6,7 @@ ghost use Rattle.std.specs.Int.{is_positive};
 ghost use Rattle.vast_core.specs.BitCount.{product};
 ghost use Rattle.vast_core.specs.Bench.{OwnsExpr, OwnsType, tree_of, type_of};
 ghost use Rattle.vast_core.specs.View.{bench};
-ghost use Rattle.xlsynth_vast.specs.Reductions.{ChecksBy};
+ghost use Rattle.xlsynth_vast.specs.Internal.Reductions.{ChecksBy};
 ghost use Rattle.xlsynth_vast.specs.ArrayReduction.{packed_dimensions, known_dimensions, mismatch, any_dimension, each_positive, as_known, countable, reducible};
 
 use crate::refusals::refusal;

@@ -6,7 +6,8 @@ ghost use Rattle.vast_core.specs.Bench.{OwnsExpr, OwnsIndexable, tree_of};
 ghost use Rattle.vast_core.specs.FileTree.{tree};
 ghost use Rattle.xlsynth_vast.specs.Keeps.{Keeps};
 ghost use Rattle.xlsynth_vast.specs.Expressions.{subject_of};
-ghost use Rattle.xlsynth_vast.specs.Reductions.{MakesTree, MakesTrees, AddsTrees};
+ghost use Rattle.xlsynth_vast.specs.Reductions.{MakesTree};
+ghost use Rattle.xlsynth_vast.specs.Internal.Reductions.{MakesTrees, AddsTrees};
 ghost use Rattle.xlsynth_vast.specs.ArrayReduction.{slots, elements, array_reduction};
 
 use crate::file::VastFile;

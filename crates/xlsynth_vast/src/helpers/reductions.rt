@@ -8,7 +8,8 @@ ghost use Rattle.vast_core.specs.FileTree.{tree};
 ghost use Rattle.vast_core.specs.Growth.{Builds, next_expr, with_expr};
 ghost use Rattle.xlsynth_vast.specs.Keeps.{Keeps};
 ghost use Rattle.xlsynth_vast.specs.Expressions.{with_binary};
-ghost use Rattle.xlsynth_vast.specs.Reductions.{MakesTree, MakesChain, bit_literal, logical_reduction, bitwise_reduction};
+ghost use Rattle.xlsynth_vast.specs.Reductions.{MakesTree, bit_literal, logical_reduction, bitwise_reduction};
+ghost use Rattle.xlsynth_vast.specs.Internal.Reductions.{MakesChain};
 
 use crate::file::VastFile;
 use crate::helpers::records_are_sound;

@@ -7,11 +7,11 @@ ghost use Rattle.vast_core.specs.Sound.{EventSound};
 ghost use Rattle.vast_core.specs.Growth.{Builds, Leaves};
 ghost use Rattle.vast_core.specs.Containers.{next_block, with_spare_block};
 ghost use Rattle.vast_core.specs.FileTree.{tree};
-ghost use Rattle.xlsynth_vast.specs.Reductions.{ChecksBy};
+ghost use Rattle.xlsynth_vast.specs.Internal.Reductions.{ChecksBy};
 ghost use Rattle.xlsynth_vast.specs.Keeps.{Keeps};
 ghost use Rattle.xlsynth_vast.specs.Registers.{register_trees, maybe_reset_tree, unless_unresettable, OwnsRegister, OwnsReset, OwnsScope, TakeTheirValues};
 ghost use Rattle.xlsynth_vast.specs.AddedRegisters.{is_resettable, running_expr, with_running, value_expr, with_value, with_assigned, with_all_assigned, active_expr, with_active, with_reset, with_clocked, MayAddRegisters};
-ghost use Rattle.xlsynth_vast.specs.RegisterSteps.{MayFill, MayMakeBlock, IsOlderScope};
+ghost use Rattle.xlsynth_vast.specs.Internal.RegisterSteps.{MayFill, MayMakeBlock, IsOlderScope};
 
 use crate::file::VastFile;
 use crate::helpers::records_are_sound;

@@ -1,6 +1,6 @@
 use Rattle.std.proofs.Common.{◌≡◌, ◌+◌, ◌-◌, ◌≤◌, length, take}
 use Rattle.std.specs.List.{suffix_len}
-use Rattle.vast_check.specs.Places.{is_no_break}
+use Rattle.vast_check.specs.Internal.Places.{is_no_break}
 use Rattle.vast_check.proofs.place.line_start.Given as goal
 
 abbrev pub invariant-loop-start : goal.invariant-loop-start

@@ -1,7 +1,7 @@
 use Rattle.std.proofs.Common.{◌≡◌, refl, ap}
 use Rattle.vast_core.specs.Handles.{logic_ref_to_expr}
 use Rattle.vast_designs.specs.declared.clocked.Signals.{Signals}
-use Rattle.vast_designs.specs.RegistersFile.{clock, reset, the_signals, the_state, the_values, enabled, plain}
+use Rattle.vast_designs.specs.Internal.RegistersFile.{clock, reset, the_signals, the_state, the_values, enabled, plain}
 use Rattle.vast_designs.proofs.RegistersSteps.{owns-owner, owns-clock, owns-reset, owns-both}
 use Rattle.vast_designs.proofs.RegistersText.{registers-added}
 use Rattle.vast_designs.proofs.clocked.add_both.Goals as goal

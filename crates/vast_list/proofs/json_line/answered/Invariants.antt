@@ -1,5 +1,5 @@
 use Rattle.std.proofs.Common.{take}
-use Rattle.vast_list.specs.JsonLine.{AreAnswers}
+use Rattle.vast_list.specs.Internal.JsonLine.{AreAnswers}
 use Rattle.vast_list.specs.Lines.{line_texts}
 use Rattle.vast_list.proofs.json_line.answered.Given as goal
 

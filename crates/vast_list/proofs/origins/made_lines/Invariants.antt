@@ -1,5 +1,6 @@
 use Rattle.std.proofs.Common.{◌≡◌, ◌++◌, All, length}
-use Rattle.vast_list.specs.Origins.{text_of, ComesFrom}
+use Rattle.vast_list.specs.Origins.{text_of}
+use Rattle.vast_list.specs.Internal.Origins.{ComesFrom}
 use Rattle.vast_list.proofs.origins.made_lines.Given as goal
 
 -- The lines so far are the text but for its rest.

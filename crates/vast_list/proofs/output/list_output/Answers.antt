@@ -2,7 +2,8 @@ use Rattle.std.proofs.Common.{IfSome, List, ℕ, rules}
 use Rattle.std.proofs.lemmas.Option.{IfSome_then}
 use Rattle.std.proofs.lemmas.Result.{IfOk-weaker}
 use Rattle.vast_list.specs.Lines.{BeginsWithDialect, line_texts}
-use Rattle.vast_list.specs.Output.{IsAnswered, IsFinished, IsOutput}
+use Rattle.vast_list.specs.Output.{IsOutput}
+use Rattle.vast_list.specs.Internal.Output.{IsAnswered, IsFinished}
 use Rattle.vast_list.specs.declared.output.ListOutput.{ListOutput}
 use Rattle.vast_list.proofs.Outputs.{is_output}
 use Rattle.vast_list.proofs.output.list_output.Goals as goal

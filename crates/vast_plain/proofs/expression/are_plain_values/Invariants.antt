@@ -1,7 +1,7 @@
 use Rattle.std.proofs.Common.{◌≡◌, All}
 use Rattle.vast_core.specs.Bench.{OwnsExpr, trees_of}
 use Rattle.vast_core.specs.View.{bench}
-use Rattle.vast_plain.specs.Values.{are_plain_values, exprs_weight}
+use Rattle.vast_plain.specs.Internal.Values.{are_plain_values, exprs_weight}
 use Rattle.vast_plain.proofs.expression.are_plain_values.Given as goal
 
 abbrev pub invariant-loop-e : goal.invariant-loop-e

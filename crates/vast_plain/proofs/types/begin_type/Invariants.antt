@@ -3,7 +3,7 @@ use Rattle.vast_literal.specs.Plain.{is_plain_type, is_edgeless_type}
 use Rattle.vast_core.specs.Handles.{type_rank}
 use Rattle.vast_core.specs.Bench.{OwnsType, type_of}
 use Rattle.vast_core.specs.View.{bench}
-use Rattle.vast_plain.specs.Values.{type_weight}
+use Rattle.vast_plain.specs.Internal.Values.{type_weight}
 use Rattle.vast_plain.proofs.types.begin_type.Given as goal
 
 abbrev pub invariant-loop-element : goal.invariant-loop-element

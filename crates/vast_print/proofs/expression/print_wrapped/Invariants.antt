@@ -5,7 +5,7 @@ use Rattle.vast_print.specs.Ink.{Wet, pour}
 use Rattle.vast_print.specs.Page.{written}
 use Rattle.vast_print.specs.Printed.{wrapped}
 use Rattle.vast_print.specs.Text.{expr_text}
-use Rattle.vast_print.specs.Pieces.{pieces_text, pieces_weight, PiecesOwned}
+use Rattle.vast_print.specs.Internal.Pieces.{pieces_text, pieces_weight, PiecesOwned}
 use Rattle.vast_print.proofs.expression.print_wrapped.Given as goal
 
 abbrev pub invariant-loop-piece : goal.invariant-loop-piece

@@ -5,8 +5,8 @@ use Rattle.vast_core.specs.Bench.{Bench, tree_of, trees_of}
 use Rattle.vast_core.specs.View.{bench}
 use Rattle.vast_print.specs.Printed.{Printed, plain_text, ◌⊕◌, wrapped}
 use Rattle.vast_print.specs.Text.{expr_text}
-use Rattle.vast_print.specs.Words.{separator}
-use Rattle.vast_print.specs.Pieces.{expr_weight, exprs_weight, pieces_text}
+use Rattle.vast_print.specs.Internal.Words.{separator}
+use Rattle.vast_print.specs.Internal.Pieces.{expr_weight, exprs_weight, pieces_text}
 use Rattle.vast_print.proofs.SeparatedLaws.{rest_text}
 use Rattle.vast_print.proofs.PieceLaws.{then-assoc, bare-part, list-one, weight-one}
 use Rattle.vast_print.proofs.pieces.push_list.Goals as goal

@@ -1,7 +1,7 @@
 use Rattle.std.proofs.Common.{◌≡◌, ◌≤◌, ◌+◌, length, drop}
 use Rattle.vast_core.specs.Bench.{trees_of}
 use Rattle.vast_core.specs.View.{bench}
-use Rattle.vast_print.specs.Pieces.{exprs_weight, pieces_text, pieces_weight, PiecesOwned}
+use Rattle.vast_print.specs.Internal.Pieces.{exprs_weight, pieces_text, pieces_weight, PiecesOwned}
 use Rattle.vast_print.specs.Printed.{◌⊕◌}
 use Rattle.vast_print.proofs.SeparatedLaws.{rest_text}
 use Rattle.vast_print.proofs.pieces.push_list.Given as goal

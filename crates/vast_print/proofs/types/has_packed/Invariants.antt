@@ -3,7 +3,7 @@ use Rattle.vast_literal.specs.Shape.{packed_dimensions}
 use Rattle.vast_core.specs.Handles.{type_rank}
 use Rattle.vast_core.specs.Bench.{OwnsType, type_of}
 use Rattle.vast_print.specs.Declaration.{packed_text}
-use Rattle.vast_print.specs.Words.{has_text}
+use Rattle.vast_print.specs.Internal.Words.{has_text}
 use Rattle.vast_core.specs.View.{bench}
 use Rattle.vast_print.proofs.types.has_packed.Given as goal
 

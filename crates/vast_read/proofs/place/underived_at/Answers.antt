@@ -1,5 +1,5 @@
-use Rattle.vast_read.specs.FileReadings.{shadow_items}
-use Rattle.vast_read.specs.FileView.{file_of}
+use Rattle.vast_read.specs.Internal.FileReadings.{shadow_items}
+use Rattle.vast_read.specs.Internal.FileView.{file_of}
 use Rattle.vast_read.proofs.TextDecides.{no_place, one_place}
 use Rattle.vast_read.proofs.place.underived_at.Goals as goal
 use Rattle.vast_read.proofs.place.underived_at.Goals.{in-Ok, in-Err}

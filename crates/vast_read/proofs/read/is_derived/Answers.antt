@@ -1,5 +1,5 @@
-use Rattle.vast_read.specs.FileReadings.{shadow_items}
-use Rattle.vast_read.specs.FileView.{file_of}
+use Rattle.vast_read.specs.Internal.FileReadings.{shadow_items}
+use Rattle.vast_read.specs.Internal.FileView.{file_of}
 use Rattle.vast_read.proofs.TextDecides.{text_decides}
 use Rattle.vast_read.proofs.read.is_derived.Goals as goal
 

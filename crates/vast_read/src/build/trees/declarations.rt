@@ -17,7 +17,7 @@ impl<'t> BuildDeclarations<'t> for Trees {
 
     type Declarations = Children<NormalDeclaration>;
 
-    ghost use Rattle.vast_read.specs.DeclarationReadings.{trees};
+    ghost use Rattle.vast_read.specs.Internal.DeclarationReadings.{trees};
 
     ghost declares = { trees };
 

@@ -24,7 +24,7 @@ impl<'t> BuildFiles<'t> for Trees {
 
     type File = NormalFile;
 
-    ghost use Rattle.vast_read.specs.FileReadings.{file_trees};
+    ghost use Rattle.vast_read.specs.Internal.FileReadings.{file_trees};
 
     ghost files = { file_trees };
 

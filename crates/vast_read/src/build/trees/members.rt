@@ -3,7 +3,7 @@
 ghost use Rattle.std.specs.Prelude.{◌≡◌, IfOk, IfErr};
 ghost use Rattle.vast_read.specs.declared.fault.Fault.TheVariants.{Memory};
 ghost use Rattle.vast_read.specs.DeclarationView.{declaration_view, declarations_view};
-ghost use Rattle.vast_read.specs.MemberForms.{form_member};
+ghost use Rattle.vast_read.specs.Internal.MemberForms.{form_member};
 ghost use Rattle.vast_read.specs.MemberView.{connections_view, events_view, member_view, members_view};
 ghost use Rattle.vast_read.specs.StatementView.{block_view, statement_view};
 ghost use Rattle.vast_read.specs.View.{view, listed};
@@ -28,7 +28,7 @@ impl<'t> BuildMembers<'t> for Trees {
 
     type Members = Children<NormalMember>;
 
-    ghost use Rattle.vast_read.specs.MemberReadings.{member_trees};
+    ghost use Rattle.vast_read.specs.Internal.MemberReadings.{member_trees};
 
     ghost holds = { member_trees };
 

@@ -2,8 +2,9 @@
 
 ghost use Rattle.std.specs.Prelude.{◌≡◌, IfOk, IfErr, map, option_map};
 ghost use Rattle.vast_read.specs.declared.fault.Fault.TheVariants.{Memory};
-ghost use Rattle.vast_read.specs.StatementForms.{form_statement};
-ghost use Rattle.vast_read.specs.StatementView.{statement_view, arm_view, block_view, labels_view};
+ghost use Rattle.vast_read.specs.Internal.StatementForms.{form_statement};
+ghost use Rattle.vast_read.specs.StatementView.{statement_view, block_view};
+ghost use Rattle.vast_read.specs.Internal.StatementView.{arm_view, labels_view};
 ghost use Rattle.vast_read.specs.View.{view};
 
 use crate::build::{BuildStatements, StatementForm, StatementFormOf, Trees};
@@ -24,7 +25,7 @@ impl<'t> BuildStatements<'t> for Trees {
 
     type Cases = Children<CaseArm>;
 
-    ghost use Rattle.vast_read.specs.StatementReadings.{statement_trees};
+    ghost use Rattle.vast_read.specs.Internal.StatementReadings.{statement_trees};
 
     ghost acts = { statement_trees };
 

@@ -34,7 +34,7 @@ impl<'t> BuildDeclarations<'t> for Unbuilt {
 
     type Declarations = Snapshot<Listed<DeclarationShadow<'t>>>;
 
-    ghost use Rattle.vast_read.specs.DeclarationReadings.{group_of, groups_of, declaration_of, declarations_of};
+    ghost use Rattle.vast_read.specs.Internal.DeclarationReadings.{group_of, groups_of, declaration_of, declarations_of};
 
     ghost declares = { record {
       group = λ g. group_of g.value;

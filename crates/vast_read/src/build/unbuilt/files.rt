@@ -52,8 +52,8 @@ impl<'t> BuildFiles<'t> for Unbuilt {
 
     type File = Snapshot<Listed<ItemShadow<'t>>>;
 
-    ghost use Rattle.vast_read.specs.FileReadings.{shadow_parameter, shadow_parameters, shadow_port, shadow_ports, shadow_item, shadow_items};
-    ghost use Rattle.vast_read.specs.FileView.{file_of};
+    ghost use Rattle.vast_read.specs.Internal.FileReadings.{shadow_parameter, shadow_parameters, shadow_port, shadow_ports, shadow_item, shadow_items};
+    ghost use Rattle.vast_read.specs.Internal.FileView.{file_of};
 
     ghost files = { record {
       parameter = λ p. shadow_parameter p.value;

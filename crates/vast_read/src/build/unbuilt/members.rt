@@ -2,11 +2,11 @@
 
 ghost use Rattle.std.specs.Prelude.{◌≡◌, IfOk, IfErr};
 ghost use Rattle.vast_read.specs.declared.fault.Fault.TheVariants.{Memory};
-ghost use Rattle.vast_read.specs.DeclarationReadings.{declaration_of, declarations_of};
-ghost use Rattle.vast_read.specs.MemberForms.{form_member};
-ghost use Rattle.vast_read.specs.MemberReadings.{event_of, events_of, connection_of, connections_of, member_of, members_of};
-ghost use Rattle.vast_read.specs.Readings.{tree_of, trees_of};
-ghost use Rattle.vast_read.specs.StatementReadings.{seen};
+ghost use Rattle.vast_read.specs.Internal.DeclarationReadings.{declaration_of, declarations_of};
+ghost use Rattle.vast_read.specs.Internal.MemberForms.{form_member};
+ghost use Rattle.vast_read.specs.Internal.MemberReadings.{event_of, events_of, connection_of, connections_of, member_of, members_of};
+ghost use Rattle.vast_read.specs.Internal.Readings.{tree_of, trees_of};
+ghost use Rattle.vast_read.specs.Internal.StatementReadings.{seen};
 
 use crate::build::listed::Listed;
 use crate::build::unbuilt::{Shadow, Unbuilt};

@@ -2,9 +2,9 @@
 
 ghost use Rattle.std.specs.Prelude.{◌≡◌, IfOk, IfErr, option_map};
 ghost use Rattle.vast_read.specs.declared.fault.Fault.TheVariants.{Memory};
-ghost use Rattle.vast_read.specs.Readings.{tree_of};
-ghost use Rattle.vast_read.specs.StatementForms.{form_statement};
-ghost use Rattle.vast_read.specs.StatementReadings.{seen};
+ghost use Rattle.vast_read.specs.Internal.Readings.{tree_of};
+ghost use Rattle.vast_read.specs.Internal.StatementForms.{form_statement};
+ghost use Rattle.vast_read.specs.Internal.StatementReadings.{seen};
 
 use crate::build::unbuilt::Shadow;
 use crate::build::{BuildStatements, StatementFormOf, Unbuilt};

@@ -1,6 +1,6 @@
 use Rattle.std.proofs.Common.{sym, subst}
 use Rattle.vast_list.specs.declared.session.Session.{Session}
-use Rattle.vast_c.specs.Seen.{LeftBy}
+use Rattle.vast_c.specs.Internal.Seen.{LeftBy}
 use Rattle.vast_c.proofs.kept.Kept.make_line.Goals as goal
 
 pub returns-in-Err-clause-left : goal.returns-in-Err-clause-left

@@ -1,7 +1,7 @@
 -- proofs/ast/Ast/admit/Answers.antt
 use Rattle.std.proofs.Common.{refl, ap, ◌∙◌}
-use Rattle.vast_core.specs.Containers.{listed_spare, spare_left}
-use Rattle.vast_core.specs.Arrivals.{listing_of, fresh_of}
+use Rattle.vast_core.specs.Internal.Containers.{listed_spare, spare_left}
+use Rattle.vast_core.specs.Internal.Arrivals.{listing_of, fresh_of}
 use Rattle.vast_core.proofs.Terms.{refused}
 use Rattle.vast_core.proofs.Growing.{growth-there, bench-still, sound-still, admitted, bench-grown, sound-grown}
 use Rattle.vast_core.proofs.ast.Ast.admit.Goals as goal

@@ -1,6 +1,6 @@
 -- proofs/ast/Ast/grow_in/Answers.antt
 use Rattle.vast_core.specs.Records.{member_entry}
-use Rattle.vast_core.specs.Arrivals.{fresh_of}
+use Rattle.vast_core.specs.Internal.Arrivals.{fresh_of}
 use Rattle.vast_core.specs.View.{bench}
 use Rattle.vast_core.proofs.EntersScopes.{scope-grown}
 use Rattle.vast_core.proofs.Terms.{leaves-same}

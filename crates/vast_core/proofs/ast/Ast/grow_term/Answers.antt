@@ -1,8 +1,8 @@
 use Rattle.std.proofs.Common.{refl, [], ◌∷◌}
 use Rattle.vast_core.specs.declared.node.ExprNode.{ExprNode}
 use Rattle.vast_core.specs.Raw.{Raw}
-use Rattle.vast_core.specs.Nodes.{TermsSound}
-use Rattle.vast_core.specs.Containers.{Nowhere, Fresh, GrowthSound, no_fresh}
+use Rattle.vast_core.specs.Internal.Nodes.{TermsSound}
+use Rattle.vast_core.specs.Internal.Containers.{Nowhere, Fresh, GrowthSound, no_fresh}
 use Rattle.vast_core.specs.View.{bench}
 use Rattle.vast_core.proofs.Terms.{refused}
 use Rattle.vast_core.proofs.Growing.{bench-still, sound-still, bench-grown, sound-grown}

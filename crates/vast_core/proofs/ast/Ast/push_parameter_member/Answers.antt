@@ -1,7 +1,7 @@
 -- proofs/ast/Ast/push_parameter_member/Answers.antt
 use Rattle.std.proofs.Common.{refl, ◌∙◌}
 use Rattle.vast_core.specs.Records.{form_entry}
-use Rattle.vast_core.specs.Parameters.{IsDeclaredBy}
+use Rattle.vast_core.specs.Internal.Parameters.{IsDeclaredBy}
 use Rattle.vast_core.specs.View.{bench}
 use Rattle.vast_core.proofs.EntersScopes.{parameter-enters, parameter-grown}
 use Rattle.vast_core.proofs.ast.Ast.push_parameter_member.Goals as goal

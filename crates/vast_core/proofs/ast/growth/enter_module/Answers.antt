@@ -1,8 +1,8 @@
 -- proofs/ast/growth/enter_module/Answers.antt
 use Rattle.std.proofs.lemmas.Result.{on_ok_weaker, on_err_weaker}
 use Rattle.vast_core.specs.Records.{module_record, member_entry}
-use Rattle.vast_core.specs.Containers.{with_listed}
-use Rattle.vast_core.specs.Arrivals.{name_of}
+use Rattle.vast_core.specs.Internal.Containers.{with_listed}
+use Rattle.vast_core.specs.Internal.Arrivals.{name_of}
 use Rattle.vast_core.proofs.Lists.{changed-map, unchanged-map}
 use Rattle.vast_core.proofs.ast.growth.enter_module.Goals as goal
 

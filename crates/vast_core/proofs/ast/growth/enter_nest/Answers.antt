@@ -2,7 +2,7 @@
 use Rattle.std.proofs.lemmas.Result.{on_ok_weaker, on_err_weaker}
 use Rattle.vast_core.specs.Nests.{nest_record}
 use Rattle.vast_core.specs.Containers.{with_entry}
-use Rattle.vast_core.specs.Arrivals.{entry_of}
+use Rattle.vast_core.specs.Internal.Arrivals.{entry_of}
 use Rattle.vast_core.proofs.Lists.{changed-map, unchanged-map}
 use Rattle.vast_core.proofs.ast.growth.enter_nest.Goals as goal
 

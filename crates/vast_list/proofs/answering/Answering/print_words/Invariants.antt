@@ -1,4 +1,4 @@
-use Rattle.vast_list.specs.Output.{Prints}
+use Rattle.vast_list.specs.Internal.Output.{Prints}
 use Rattle.vast_list.proofs.answering.Answering.print_words.Given as goal
 
 abbrev pub invariant-loop-words : goal.invariant-loop-words

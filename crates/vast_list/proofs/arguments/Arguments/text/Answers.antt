@@ -1,5 +1,5 @@
 use Rattle.std.proofs.Common.{ap, refl}
-use Rattle.vast_list.specs.Written.{left}
+use Rattle.vast_list.specs.Internal.Written.{left}
 use Rattle.vast_list.proofs.Words.{goes_text}
 use Rattle.vast_list.proofs.arguments.Arguments.text.Goals as goal
 

@@ -2,7 +2,7 @@ use Rattle.std.proofs.Common.{◌∷◌}
 use Rattle.std.specs.List.{flat_map}
 use Rattle.std.specs.Prelude.{codes}
 use Rattle.vast_list.specs.CallArguments.{Word}
-use Rattle.vast_list.specs.Written.{Reads}
+use Rattle.vast_list.specs.Internal.Written.{Reads}
 use Rattle.vast_list.proofs.from_arguments.VecFromArguments.take.Given as goal
 
 -- The opening bracket and the items so far were read.

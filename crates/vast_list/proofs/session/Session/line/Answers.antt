@@ -5,7 +5,8 @@ use Rattle.vast_list.specs.declared.line.Call.{Call}
 use Rattle.vast_list.specs.declared.line.Action.TheVariants.{Call as CallAction}
 use Rattle.vast_list.specs.Lines.{behind_call, without_return}
 use Rattle.vast_list.specs.Names.{IsFree}
-use Rattle.vast_list.specs.Session.{GivesCall, IsActionOf, IsMade, IsRead, MakesName}
+use Rattle.vast_list.specs.Session.{GivesCall, IsMade}
+use Rattle.vast_list.specs.Internal.Session.{IsActionOf, IsRead, MakesName}
 use Rattle.vast_list.specs.Written.{meaning}
 use Rattle.vast_list.specs.declared.line.Line.{Line as ReadLine}
 use Rattle.vast_list.specs.declared.session.Session.{Session}

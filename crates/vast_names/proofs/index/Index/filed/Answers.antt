@@ -1,7 +1,7 @@
 use Rattle.std.proofs.Common.{◌<◌, [], length, rules}
 use Rattle.std.proofs.lemmas.List.Elements.{All-get_or}
 use Rattle.std.specs.Str.{IsUtf8}
-use Rattle.vast_names.specs.Texts.{texts_of}
+use Rattle.vast_names.specs.Internal.Texts.{texts_of}
 use Rattle.vast_names.proofs.index.Index.filed.Goals as goal
 
 pub file-requires-clause-text : goal.file-requires-clause-text

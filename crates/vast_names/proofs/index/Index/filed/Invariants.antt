@@ -1,6 +1,6 @@
 use Rattle.std.proofs.Common.{◌≡◌, length, take}
-use Rattle.vast_names.specs.Texts.{texts_of}
-use Rattle.vast_names.specs.Index.{Files}
+use Rattle.vast_names.specs.Internal.Texts.{texts_of}
+use Rattle.vast_names.specs.Internal.Index.{Files}
 use Rattle.vast_names.proofs.index.Index.filed.Given as goal
 
 abbrev pub invariant-loop-i : goal.invariant-loop-i

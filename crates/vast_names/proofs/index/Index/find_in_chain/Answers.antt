@@ -4,9 +4,9 @@ use Rattle.std.proofs.lemmas.Option.{slice_get-get_or}
 use Rattle.std.proofs.lemmas.Bool.{true≢false}
 use Rattle.std.proofs.lemmas.Bool.Decides.{Decides-eqb}
 use Rattle.std.proofs.lemmas.Slice.Eq.{slice_eq-Decides}
-use Rattle.vast_names.specs.Hash.{slot_among}
-use Rattle.vast_names.specs.Texts.{texts_of}
-use Rattle.vast_names.specs.Index.{Reaches}
+use Rattle.vast_names.specs.Internal.Hash.{slot_among}
+use Rattle.vast_names.specs.Internal.Texts.{texts_of}
+use Rattle.vast_names.specs.Internal.Index.{Reaches}
 use Rattle.vast_names.proofs.Filing.{reaches-case, reaches-none}
 use Rattle.vast_names.proofs.index.Index.find_in_chain.Goals as goal
 

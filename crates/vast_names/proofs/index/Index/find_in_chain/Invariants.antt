@@ -1,7 +1,7 @@
 use Rattle.std.proofs.Common.{◌≡◌, ◌<◌, ◌≤◌, ℕ, [], length, slice_index, slice_index_or}
-use Rattle.vast_names.specs.Hash.{slot_among}
-use Rattle.vast_names.specs.Texts.{texts_of}
-use Rattle.vast_names.specs.Index.{Reaches}
+use Rattle.vast_names.specs.Internal.Hash.{slot_among}
+use Rattle.vast_names.specs.Internal.Texts.{texts_of}
+use Rattle.vast_names.specs.Internal.Index.{Reaches}
 use Rattle.vast_names.proofs.index.Index.find_in_chain.Given as goal
 
 -- a name of the chain that is this name is still ahead

@@ -1,7 +1,7 @@
 use Rattle.std.proofs.Common.{rules}
 use Rattle.std.proofs.lemmas.List.Elements.{All-push}
 use Rattle.std.specs.Str.{IsUtf8}
-use Rattle.vast_names.specs.Texts.{texts_of}
+use Rattle.vast_names.specs.Internal.Texts.{texts_of}
 use Rattle.vast_names.proofs.table.NameTable.enter.Goals as goal
 
 pub invariant_of-self : goal.invariant_of-self

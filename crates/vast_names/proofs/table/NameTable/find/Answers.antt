@@ -1,6 +1,6 @@
 use Rattle.std.specs.BTreeMap.{get_by_text}
 use Rattle.std.proofs.Common.{rules}
-use Rattle.vast_names.specs.Texts.{texts_of}
+use Rattle.vast_names.specs.Internal.Texts.{texts_of}
 use Rattle.vast_names.proofs.Filing.{find-answer}
 use Rattle.vast_names.proofs.table.NameTable.find.Goals as goal
 

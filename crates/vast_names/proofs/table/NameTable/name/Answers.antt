@@ -1,7 +1,7 @@
 use Rattle.std.proofs.Common.{length, ◌<◌, []}
 use Rattle.std.specs.Str.{IsUtf8}
 use Rattle.std.proofs.lemmas.List.Elements.{All-get_or}
-use Rattle.vast_names.specs.Texts.{texts_of}
+use Rattle.vast_names.specs.Internal.Texts.{texts_of}
 use Rattle.vast_names.proofs.table.NameTable.name.Goals as goal
 
 -- each name is text

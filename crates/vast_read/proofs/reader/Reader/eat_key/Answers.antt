@@ -1,5 +1,5 @@
 use Rattle.std.proofs.Common.{◌≡◌, sym, refl}
-use Rattle.vast_literal.specs.StatementParser.{key_code}
+use Rattle.vast_literal.specs.Internal.StatementParser.{key_code}
 use Rattle.vast_read.specs.TokenView.{key_view}
 use Rattle.vast_read.proofs.KeyNexts.{after_key_same, after_key_differs}
 use Rattle.vast_read.proofs.reader.Reader.eat_key.Goals as goal

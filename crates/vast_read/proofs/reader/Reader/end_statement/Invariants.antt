@@ -1,5 +1,5 @@
 use Rattle.std.proofs.Common.{◌≡◌, ◌≤◌, length}
-use Rattle.vast_read.specs.OpenBlocks.{ended, going}
+use Rattle.vast_read.specs.Internal.OpenBlocks.{ended, going}
 use Rattle.vast_read.proofs.reader.Reader.end_statement.Given as goal
 
 abbrev pub invariant-steps : goal.invariant-steps

@@ -1,7 +1,7 @@
 use Rattle.std.proofs.Common.{◌≡◌, ◌≤◌, length}
-use Rattle.vast_literal.specs.SettledMembers.{settled_givens}
-use Rattle.vast_read.specs.MemberSteps.{other_givens}
-use Rattle.vast_read.specs.ListSteps.{with_list}
+use Rattle.vast_literal.specs.Internal.SettledMembers.{settled_givens}
+use Rattle.vast_read.proofs.MemberStepsWords.{other_givens}
+use Rattle.vast_read.proofs.ListStepsWords.{with_list}
 use Rattle.vast_read.proofs.reader.Reader.givens.Given as goal
 
 abbrev pub invariant-loop-self : goal.invariant-loop-self

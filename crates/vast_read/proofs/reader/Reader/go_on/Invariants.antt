@@ -1,5 +1,5 @@
 use Rattle.std.proofs.Common.{◌≡◌, ◌≤◌, length}
-use Rattle.vast_read.specs.Machine.{meaning, work}
+use Rattle.vast_read.specs.Internal.Machine.{meaning, work}
 use Rattle.vast_read.proofs.reader.Reader.go_on.Given as goal
 
 abbrev pub invariant-steps : goal.invariant-steps

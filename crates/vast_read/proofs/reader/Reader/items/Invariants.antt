@@ -1,6 +1,6 @@
 use Rattle.std.proofs.Common.{◌≡◌, ◌≤◌, length}
-use Rattle.vast_literal.specs.SettledFiles.{settled_items}
-use Rattle.vast_read.specs.ListSteps.{with_list}
+use Rattle.vast_literal.specs.Internal.SettledFiles.{settled_items}
+use Rattle.vast_read.proofs.ListStepsWords.{with_list}
 use Rattle.vast_read.proofs.reader.Reader.items.Given as goal
 
 abbrev pub invariant-loop-self : goal.invariant-loop-self

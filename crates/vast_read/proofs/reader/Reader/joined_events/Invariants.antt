@@ -1,6 +1,7 @@
 use Rattle.std.proofs.Common.{◌≡◌, ◌≤◌, length}
-use Rattle.vast_read.specs.MemberSteps.{joined_events, other_events}
-use Rattle.vast_read.specs.ListSteps.{with_list}
+use Rattle.vast_read.specs.Internal.MemberSteps.{joined_events}
+use Rattle.vast_read.proofs.MemberStepsWords.{other_events}
+use Rattle.vast_read.proofs.ListStepsWords.{with_list}
 use Rattle.vast_read.proofs.reader.Reader.joined_events.Given as goal
 
 abbrev pub invariant-loop-self : goal.invariant-loop-self

@@ -1,7 +1,7 @@
 use Rattle.std.proofs.Common.{◌≡◌, ◌≤◌, length}
-use Rattle.vast_literal.specs.SettledFiles.{joined_parameters}
-use Rattle.vast_read.specs.FileSteps.{other_parameters}
-use Rattle.vast_read.specs.ListSteps.{with_list}
+use Rattle.vast_literal.specs.Internal.SettledFiles.{joined_parameters}
+use Rattle.vast_read.proofs.FileStepsWords.{other_parameters}
+use Rattle.vast_read.proofs.ListStepsWords.{with_list}
 use Rattle.vast_read.proofs.reader.Reader.joined_parameters.Given as goal
 
 abbrev pub invariant-loop-self : goal.invariant-loop-self

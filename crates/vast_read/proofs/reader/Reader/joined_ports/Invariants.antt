@@ -1,7 +1,7 @@
 use Rattle.std.proofs.Common.{◌≡◌, ◌≤◌, length}
-use Rattle.vast_literal.specs.SettledFiles.{joined_ports}
-use Rattle.vast_read.specs.FileSteps.{other_ports}
-use Rattle.vast_read.specs.ListSteps.{with_list}
+use Rattle.vast_literal.specs.Internal.SettledFiles.{joined_ports}
+use Rattle.vast_read.proofs.FileStepsWords.{other_ports}
+use Rattle.vast_read.proofs.ListStepsWords.{with_list}
 use Rattle.vast_read.proofs.reader.Reader.joined_ports.Given as goal
 
 abbrev pub invariant-loop-self : goal.invariant-loop-self

@@ -1,6 +1,6 @@
 use Rattle.std.proofs.Common.{◌≡◌, ◌≤◌, length}
-use Rattle.vast_literal.specs.SettledMembers.{settled_members}
-use Rattle.vast_read.specs.OpenLoops.{resumed}
+use Rattle.vast_literal.specs.Internal.SettledMembers.{settled_members}
+use Rattle.vast_read.specs.Internal.OpenLoops.{resumed}
 use Rattle.vast_read.specs.TokenView.{key_view}
 use Rattle.vast_read.proofs.reader.Reader.members.Given as goal
 

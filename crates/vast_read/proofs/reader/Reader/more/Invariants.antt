@@ -1,8 +1,8 @@
 use Rattle.std.proofs.Common.{◌≡◌, ◌≤◌, length}
 use Rattle.vast_literal.specs.Tokens.{Comma}
-use Rattle.vast_literal.specs.Parser.{after, list_on}
-use Rattle.vast_literal.specs.Settled.{settled}
-use Rattle.vast_read.specs.Steps.{rest_at, joined}
+use Rattle.vast_literal.specs.Internal.Parser.{after, list_on}
+use Rattle.vast_literal.specs.Internal.Settled.{settled}
+use Rattle.vast_read.specs.Internal.Steps.{rest_at, joined}
 use Rattle.vast_read.proofs.reader.Reader.more.Given as goal
 
 abbrev pub invariant-loop-self : goal.invariant-loop-self

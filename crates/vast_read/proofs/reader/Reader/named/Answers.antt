@@ -1,7 +1,7 @@
 use Rattle.std.proofs.Common.{◌≡◌, Some, None}
 use Rattle.vast_literal.specs.Tokens.{OpenParen, Apostrophe}
 use Rattle.vast_literal.specs.NormalExpr.{Name}
-use Rattle.vast_literal.specs.Parser.{after}
+use Rattle.vast_literal.specs.Internal.Parser.{after}
 use Rattle.vast_read.proofs.Casts.{name_casts}
 use Rattle.vast_read.proofs.reader.Reader.named.Goals as goal
 

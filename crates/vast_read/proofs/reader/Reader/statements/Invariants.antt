@@ -1,6 +1,6 @@
 use Rattle.std.proofs.Common.{◌≡◌, ◌≤◌, length}
-use Rattle.vast_literal.specs.Settled.{settled_reader}
-use Rattle.vast_read.specs.StatementSteps.{with_block}
+use Rattle.vast_literal.specs.Internal.Settled.{settled_reader}
+use Rattle.vast_read.specs.Internal.StatementSteps.{with_block}
 use Rattle.vast_read.proofs.reader.Reader.statements.Given as goal
 
 abbrev pub invariant-loop-self : goal.invariant-loop-self

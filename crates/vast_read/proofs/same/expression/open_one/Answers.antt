@@ -1,7 +1,7 @@
 use Rattle.std.proofs.Common.{sym, ap, ◌∙◌}
 use Rattle.vast_read.proofs.Moved.{moved}
 use Rattle.vast_read.proofs.LevelLaws.{one_level}
-use Rattle.vast_read.specs.Levels.{level_of}
+use Rattle.vast_read.specs.Internal.Levels.{level_of}
 use Rattle.vast_read.proofs.same.expression.open_one.Goals as goal
 
 pub returns-clause-same : goal.returns-clause-same

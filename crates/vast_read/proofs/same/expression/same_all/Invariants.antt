@@ -1,5 +1,5 @@
 use Rattle.std.specs.Prelude.{◌≡◌, ◌↔◌}
-use Rattle.vast_read.specs.Pairs.{lefts, rights, pairs_rounds}
+use Rattle.vast_read.specs.Internal.Pairs.{lefts, rights, pairs_rounds}
 use Rattle.vast_read.proofs.same.expression.same_all.Given as goal
 
 -- What waits is equal just where what waited at first is.

@@ -1,5 +1,5 @@
 use Rattle.std.specs.Prelude.{◌↔◌, length}
-use Rattle.vast_read.specs.Comparison.{AreAlike}
+use Rattle.vast_read.specs.Internal.Comparison.{AreAlike}
 use Rattle.vast_read.proofs.same.list.same_list.Given as goal
 
 -- What is left is alike just where all is.

@@ -1,7 +1,7 @@
 use Rattle.std.proofs.Common.{sym, ap, ◌∙◌}
 use Rattle.vast_read.proofs.Moved.{moved}
 use Rattle.vast_read.proofs.MemberLaws.{one_level}
-use Rattle.vast_read.specs.MemberLevels.{level_of}
+use Rattle.vast_read.specs.Internal.MemberLevels.{level_of}
 use Rattle.vast_read.proofs.same.member.open_member.Goals as goal
 
 pub returns-clause-same : goal.returns-clause-same

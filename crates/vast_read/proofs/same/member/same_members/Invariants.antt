@@ -1,6 +1,6 @@
 use Rattle.std.specs.Prelude.{◌≡◌, ◌↔◌}
 use Rattle.vast_read.specs.MemberView.{members_view}
-use Rattle.vast_read.specs.Members.{lefts, rights, all_rounds}
+use Rattle.vast_read.specs.Internal.Members.{lefts, rights, all_rounds}
 use Rattle.vast_read.proofs.same.member.same_members.Given as goal
 
 -- What waits is equal just where the two lists are.

@@ -1,7 +1,7 @@
 use Rattle.std.proofs.Common.{sym, ap, ◌∙◌}
 use Rattle.vast_read.proofs.Moved.{moved}
 use Rattle.vast_read.proofs.BlockLaws.{one_level}
-use Rattle.vast_read.specs.StatementLevels.{level_of}
+use Rattle.vast_read.specs.Internal.StatementLevels.{level_of}
 use Rattle.vast_read.proofs.same.statement.open_statement.Goals as goal
 
 pub returns-clause-same : goal.returns-clause-same

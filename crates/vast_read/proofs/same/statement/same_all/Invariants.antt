@@ -1,5 +1,5 @@
 use Rattle.std.specs.Prelude.{◌≡◌, ◌↔◌}
-use Rattle.vast_read.specs.Blocks.{lefts, rights, all_rounds}
+use Rattle.vast_read.specs.Internal.Blocks.{lefts, rights, all_rounds}
 use Rattle.vast_read.proofs.same.statement.same_all.Given as goal
 
 -- What waits is equal just where what waited at first is.

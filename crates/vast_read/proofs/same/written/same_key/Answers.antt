@@ -1,6 +1,6 @@
 use Rattle.std.proofs.Common.{ap, ◌∙◌}
 use Rattle.vast_read.proofs.KeysTold.{keys_told}
-use Rattle.vast_read.specs.Writings.{keyword_text}
+use Rattle.vast_read.specs.Internal.Writings.{keyword_text}
 use Rattle.vast_read.proofs.same.written.same_key.Goals as goal
 
 pub returns : goal.returns

@@ -1,6 +1,6 @@
 use Rattle.std.proofs.Common.{◌≡◌, get_or, true, false, refl, sym, ap, ◌∙◌, arith}
 use Rattle.vast_literal.specs.Scan.{is_filler}
-use Rattle.vast_read.specs.Scanner.{opens_mark}
+use Rattle.vast_read.specs.Internal.Scanner.{opens_mark}
 use Rattle.vast_read.proofs.scanner.Cuts.{cut_behind}
 use Rattle.vast_read.proofs.scanner.Words.{passed_within}
 use Rattle.vast_read.proofs.scanner.Literals.{tick_on, based_tick, filler_small, unopened, filler_front, mark_front, tick_none}

@@ -1,6 +1,6 @@
 use Rattle.std.proofs.Common.{◌≡◌, ◌+◌, ◌-◌, ◌<◌, get_or, true, refl, sym, ap, ◌∙◌, arith}
 use Rattle.vast_literal.specs.Scan.{is_based_digit, is_radix}
-use Rattle.vast_read.specs.Scanner.{radix_place}
+use Rattle.vast_read.specs.Internal.Scanner.{radix_place}
 use Rattle.vast_read.proofs.scanner.Cuts.{run_cut}
 use Rattle.vast_read.proofs.scanner.Words.{based_small, passed_within}
 use Rattle.vast_read.proofs.scanner.BasedLiterals.{radix_none, digit_none, based_front}

@@ -1,5 +1,5 @@
 use Rattle.std.proofs.Common.{◌-◌, arith}
-use Rattle.vast_read.specs.Scanner.{EndsString}
+use Rattle.vast_read.specs.Internal.Scanner.{EndsString}
 use Rattle.vast_read.proofs.scanner.Cuts.{cut_behind}
 use Rattle.vast_read.proofs.scanner.literal.quoted.Goals as goal
 

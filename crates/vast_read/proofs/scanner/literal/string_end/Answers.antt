@@ -2,7 +2,7 @@ use Rattle.std.proofs.Common.{◌≡◌, ◌+◌, take, get_or, eqb, false, refl
 use Rattle.std.proofs.lemmas.Bool.{ne_eqb}
 use Rattle.std.proofs.lemmas.List.{get_or_past}
 use Rattle.vast_literal.specs.Scan.{InString}
-use Rattle.vast_read.specs.Scanner.{string_part}
+use Rattle.vast_read.specs.Internal.Scanner.{string_part}
 use Rattle.vast_read.proofs.scanner.Lexemes.{fails}
 use Rattle.vast_read.proofs.scanner.Strings.{other_within, quote_on, part_on, part_none, string_ends}
 use Rattle.vast_read.proofs.scanner.literal.string_end.Goals as goal

@@ -1,6 +1,6 @@
 use Rattle.std.proofs.Common.{◌≡◌, ◌+◌, ◌-◌, ◌≤◌, length, drop}
 use Rattle.std.specs.List.{prefix_len}
-use Rattle.vast_read.specs.Scanner.{passes}
+use Rattle.vast_read.specs.Internal.Scanner.{passes}
 use Rattle.vast_read.proofs.scanner.run.run_end.Given as goal
 
 abbrev pub invariant-loop-end : goal.invariant-loop-end

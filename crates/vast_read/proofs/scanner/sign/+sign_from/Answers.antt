@@ -1,7 +1,7 @@
 use Rattle.std.proofs.Common.{◌≡◌, ◌<◌, get_or, Some, None, sym, ap, ◌∙◌, subst, arith}
 use Rattle.vast_literal.specs.Scan.{keep, Pending, grown}
-use Rattle.vast_read.specs.TokenView.{token_view}
-use Rattle.vast_read.specs.Scanner.{growth_step, Reaches}
+use Rattle.vast_read.specs.Internal.TokenView.{token_view}
+use Rattle.vast_read.specs.Internal.Scanner.{growth_step, Reaches}
 use Rattle.vast_read.proofs.scanner.Strings.{other_within}
 use Rattle.vast_read.proofs.scanner.Signs.{grown_reaches, sign_ends}
 use Rattle.vast_read.proofs.scanner.sign.+sign_from.Goals as goal

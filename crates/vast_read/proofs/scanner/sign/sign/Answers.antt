@@ -1,6 +1,6 @@
 use Rattle.std.proofs.Common.{◌≡◌, ◌<◌, get_or, ap, ◌∙◌, arith}
 use Rattle.vast_literal.specs.Scan.{fail, whole_signs, find_sign, start_sign}
-use Rattle.vast_read.specs.Scanner.{growth_step}
+use Rattle.vast_read.specs.Internal.Scanner.{growth_step}
 use Rattle.vast_read.proofs.scanner.Signs.{first_reaches, sign_none}
 use Rattle.vast_read.proofs.scanner.sign.sign.Goals as goal
 

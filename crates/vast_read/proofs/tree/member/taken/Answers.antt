@@ -1,4 +1,4 @@
-use Rattle.vast_read.specs.MemberRelease.{member_rounds}
+use Rattle.vast_read.specs.Internal.MemberRelease.{member_rounds}
 use Rattle.vast_read.proofs.Release.{item_taken}
 use Rattle.vast_read.proofs.tree.member.taken.Goals as goal
 

@@ -1,5 +1,5 @@
 use Rattle.vast_read.proofs.StatementRelease.{arm_left}
-use Rattle.vast_read.specs.StatementRelease.{statement_left}
+use Rattle.vast_read.specs.Internal.StatementRelease.{statement_left}
 use Rattle.vast_read.proofs.tree.statement.shed_arms.Goals as goal
 
 pub returns-in-Some : goal.returns-in-Some

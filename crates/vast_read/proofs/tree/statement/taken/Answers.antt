@@ -1,4 +1,4 @@
-use Rattle.vast_read.specs.StatementRelease.{statement_rounds}
+use Rattle.vast_read.specs.Internal.StatementRelease.{statement_rounds}
 use Rattle.vast_read.proofs.Release.{item_taken}
 use Rattle.vast_read.proofs.tree.statement.taken.Goals as goal
 

@@ -1,4 +1,4 @@
-use Rattle.vast_read.specs.Release.{rounds_left}
+use Rattle.vast_read.specs.Internal.Release.{rounds_left}
 use Rattle.vast_read.proofs.tree.expression.NormalExpr.drop.Given as goal
 
 abbrev pub decreases-loop-waiting : goal.decreases-loop-waiting

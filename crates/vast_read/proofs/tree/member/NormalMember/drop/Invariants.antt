@@ -1,4 +1,4 @@
-use Rattle.vast_read.specs.MemberRelease.{member_left}
+use Rattle.vast_read.specs.Internal.MemberRelease.{member_left}
 use Rattle.vast_read.proofs.tree.member.NormalMember.drop.Given as goal
 
 abbrev pub decreases-loop-next : goal.decreases-loop-next

@@ -1,5 +1,5 @@
 use Rattle.vast_read.proofs.StatementRelease.{case_left}
-use Rattle.vast_read.specs.StatementRelease.{statement_left}
+use Rattle.vast_read.specs.Internal.StatementRelease.{statement_left}
 use Rattle.vast_read.proofs.tree.statement.NormalStatement.shed.Goals as goal
 
 pub returns-in-Some-before : goal.returns-in-Some-before

@@ -1,5 +1,5 @@
 use Rattle.vast_read.proofs.StatementRelease.{turned_alone, turned_ahead}
-use Rattle.vast_read.specs.StatementRelease.{statement_left}
+use Rattle.vast_read.specs.Internal.StatementRelease.{statement_left}
 use Rattle.vast_read.proofs.tree.statement.NormalStatement.turn.Goals as goal
 
 pub returns-in-None : goal.returns-in-None

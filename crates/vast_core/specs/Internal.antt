@@ -1,0 +1,10 @@
+pub mod Nodes
+pub mod Arenas
+pub mod BitCount
+pub mod Growth
+pub mod Parameters
+pub mod Sound
+pub mod Containers
+pub mod Arrivals
+pub mod Scopes
+pub mod Spots

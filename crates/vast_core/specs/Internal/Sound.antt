@@ -1,0 +1,10 @@
+-- Beside `specs/Sound.antt`: what private contracts and proofs say, and no public one.
+use Rattle.vast_core.specs.Nodes.{no_nodes}
+use Rattle.vast_core.specs.Internal.Nodes.{TermsSound}
+use Rattle.vast_core.specs.Raw.{Raw}
+use Rattle.vast_core.specs.View.{bench}
+use Rattle.vast_core.specs.Sound.{FileSound}
+
+pub record IsSound (a : Raw) : Type 0 where
+  pub terms : TermsSound (no_nodes a.id) a.terms
+  pub file : FileSound (bench a)

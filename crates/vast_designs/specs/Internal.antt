@@ -1,0 +1,2 @@
+pub mod DesignCalls
+pub mod RegistersFile

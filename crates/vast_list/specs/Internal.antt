@@ -1,0 +1,9 @@
+pub mod Lines
+pub mod Output
+pub mod Written
+pub mod Names
+pub mod Session
+pub mod Built
+pub mod JsonLine
+pub mod Origins
+pub mod Linted

@@ -1,0 +1,51 @@
+-- Beside `specs/Session.antt`: what private contracts and proofs say, and no public one.
+use Rattle.std.specs.Prelude.{◌≡◌, ℕ, List, length, Option, option_copied, Result, Ok, Err, ⊤}
+use Rattle.vast_script.specs.declared.fault.StepFault.{StepFault}
+use Rattle.vast_script.specs.declared.fault.StepFault.TheVariants.{Memory as OutOfMemory}
+use Rattle.vast_list.specs.declared.fault.Fault.{Fault}
+use Rattle.vast_list.specs.declared.fault.Fault.TheVariants.{Memory}
+use Rattle.vast_list.specs.declared.line.Call.{Call}
+use Rattle.vast_list.specs.declared.line.Call.TheVariants.{Step as StepCall, Helper as HelperCall}
+use Rattle.vast_list.specs.declared.line.Action.{Action}
+use Rattle.vast_list.specs.declared.line.Action.TheVariants.{Ask, Call as CallAction}
+use Rattle.vast_list.specs.declared.line.Line.{Line as ReadLine}
+use Rattle.vast_list.specs.declared.session.Session.{Session}
+use Rattle.vast_list.specs.declared.names.Named.{Named}
+use Rattle.vast_list.specs.declared.names.Named.TheVariants.{Handle}
+use Rattle.vast_list.specs.CallArguments.{call_pieces}
+use Rattle.vast_list.specs.CallNames.{call_name}
+use Rattle.vast_list.specs.Lines.{LineKind, Asked, Helped, Stepped, behind_call, call_word, text_name, word_kind}
+use Rattle.vast_list.specs.Names.{IsFree}
+use Rattle.vast_list.specs.Written.{AreWritten}
+use Rattle.vast_list.specs.Session.{IsMade, IsSameKnown, Enters, IsFileLeft}
+
+-- Want of memory is told as such; any other fault as a line's, unless memory for its words was refused.
+abbrev pub IsToldAs : StepFault → Fault → Type 0
+IsToldAs OutOfMemory told = told ≡ Memory
+IsToldAs _ told = ⊤
+
+-- What a line is that is read as the call.
+abbrev pub call_kind : Call → LineKind
+call_kind (StepCall step) = Stepped
+call_kind (HelperCall helper) = Helped
+
+-- What a line does whose call has this name and, over the names so far, these arguments.
+abbrev pub IsActionOf : (named : List ℕ → Option Named) → (skipped name arguments : List ℕ) → Action → Type 0
+IsActionOf named skipped name arguments (Ask question) = word_kind name ≡ Asked
+IsActionOf named skipped name arguments (CallAction call) =
+    (word_kind name ≡ call_kind call) × (call_name call ≡ name) × AreWritten named skipped (call_pieces call) arguments
+
+abbrev pub Makes : (old new : Session) → Call → Result (Unit {0}) Fault → Type 0
+Makes old new call (Ok done) = IsMade old new call
+Makes old new call (Err fault) = IsFileLeft old new fault
+
+-- A call's name stands from now on for the place of its answer.
+abbrev pub MakesName : (old new : Session) → (name : Option (List ℕ)) → Result (Unit {0}) Fault → Type 0
+MakesName old new name (Ok done) = Enters old new name (Handle (length old.answers.items))
+MakesName old new name (Err fault) = IsSameKnown old new
+
+-- The text's call has the name that stands in it, and the arguments behind that; the name of its answer stands for nothing
+-- so far.
+abbrev pub IsRead : (named : List ℕ → Option Named) → (skipped text : List ℕ) → ReadLine → Type 0
+IsRead named skipped text line =
+    (line.call.now ≡ call_word text) × IsActionOf named skipped line.call.now (behind_call text) line.action × (option_copied line.name ≡ text_name text) × IsFree named (text_name text)

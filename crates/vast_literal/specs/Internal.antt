@@ -1,0 +1,11 @@
+pub mod Literal
+pub mod Parser
+pub mod StatementParser
+pub mod DeclarationParser
+pub mod MemberParser
+pub mod FileParser
+pub mod Settled
+pub mod Nexts
+pub mod SettledDeclarations
+pub mod SettledMembers
+pub mod SettledFiles

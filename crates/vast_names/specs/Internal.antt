@@ -1,0 +1,5 @@
+pub mod Hash
+pub mod Texts
+pub mod Index
+pub mod Table
+pub mod Map

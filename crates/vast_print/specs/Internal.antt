@@ -1,0 +1,8 @@
+pub mod Bare
+pub mod Ink
+pub mod Statements
+pub mod Words
+pub mod Emits
+pub mod Pieces
+pub mod Fits
+pub mod Bodies

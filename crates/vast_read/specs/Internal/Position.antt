@@ -1,0 +1,17 @@
+-- The tokens from a place of a text on.
+use Rattle.std.specs.Prelude.{ℕ, List, [], ◌∷◌, Option, Some, None}
+use Rattle.vast_literal.specs.Tokens as to
+use Rattle.vast_literal.specs.Scan.{Gap}
+use Rattle.vast_read.specs.Lexed.{lex}
+use Rattle.vast_read.specs.Internal.TokenView.{token_view}
+use Rattle.vast_read.specs.declared.token.Token.{Token}
+use Rattle.vast_read.specs.declared.scanner.position.Position.{Position}
+
+-- A token and those of the text behind it, where there is one.
+abbrev pub next_of : Option Token → List ℕ → List to.Token
+next_of None behind = []
+next_of (Some t) behind = token_view t ∷ lex Gap behind
+
+-- The token that stands at a place and those behind it.
+abbrev pub position_view : Position → List to.Token
+position_view p = next_of p.token p.behind.now

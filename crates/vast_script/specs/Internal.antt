@@ -1,0 +1,4 @@
+pub mod Outcome
+pub mod Kinds
+pub mod Owned
+pub mod Arguments

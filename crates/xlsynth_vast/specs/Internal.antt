@@ -1,0 +1,3 @@
+pub mod Reductions
+pub mod RegisterSteps
+pub mod TreeCode
