@@ -11,7 +11,7 @@ Written by `tools/believed/run --write`, and the gate fails where it is not true
 
 DEFINITIONS = """# Definitions
 
-Written by `tools/believed/run --write` from the comments above the definitions, and the gate fails where it is not true. Here stands what the contracts of public functions speak of, file by file: all of each crate's `specs/` but its `Internal/`, whose files are named below each crate's table. `docs/GLOSSARY.md` says the most of it in plain words. The law over lists of calls, `vast_script::laws::prints_what_was_built`, rests on each definition that stands upright; on one in italics rests another claim of `docs/BELIEVED.md`; on one in brackets the contract of some other public function. A comment stands for the definition before it and for those that follow it in the row.
+Written by `tools/believed/run --write` from the comments above the definitions, and the gate fails where it is not true. Here stands what the contracts of public functions speak of, file by file: all of each crate's `specs/` but its `Internal/`, whose files are named below each crate's table. `docs/GLOSSARY.md` says the most of it in plain words. The law over lists of calls, `vast_script::laws::prints_what_was_built`, rests on each definition that stands upright; on one in italics rests another claim of `docs/BELIEVED.md`; on one in brackets the contract of some other public function. Those without a comment of their own stand beside their file's.
 """
 
 
@@ -36,15 +36,14 @@ def marked(definition, headline, claimed):
 
 
 def rows_of(module, headline, claimed):
-    """The rows of a file's definitions: one begins at each that has a comment."""
-    rows = []
-    for it in module.definitions.values():
-        if it.comment or not rows:
-            rows.append(([], it.comment or module.comment))
-        rows[-1][0].append(marked(it, headline, claimed))
+    """The rows of a file's definitions: those without a comment of their own stand by the file's."""
+    its = list(module.definitions.values())
+    plain = [marked(it, headline, claimed) for it in its if not it.comment]
+    rows = [(", ".join(plain), module.comment)] if plain else []
+    rows += [(marked(it, headline, claimed), it.comment) for it in its if it.comment]
     name = os.path.basename(module.path)
     for names, comment in rows:
-        yield f"| {', '.join(names)} | {comment.replace('|', chr(92) + '|')} | `{name}` |\n"
+        yield f"| {names} | {comment.replace('|', chr(92) + '|')} | `{name}` |\n"
 
 
 def definitions_page(modules, headline, claimed):
