@@ -2,7 +2,6 @@
 -- are the file's.
 use Rattle.std.proofs.Common.{◌≡◌, ℕ, false, List, [], ◌∷◌, length, Option, Some, All, String, string_bytes, refl, arith, length-append}
 use Rattle.std.specs.Prelude.{IfSome}
-use Rattle.std.specs.declared.alloc.Global.{Global}
 use Rattle.vast_literal.specs.Tree.{NameTree, MaybeType, Untyped, Typed}
 use Rattle.vast_core.specs.declared.handle.Expr.{Expr}
 use Rattle.vast_core.specs.declared.handle.VastModule.{VastModule}
@@ -39,20 +38,20 @@ always-comes b kind events h =
 
 -- Loops.
 
-abbrev pub grown_loop : Bench → String Global → List ℕ → Expr → Expr → Option (List ℕ) → Bench
+abbrev pub grown_loop : Bench → List ℕ → List ℕ → Expr → Expr → Option (List ℕ) → Bench
 grown_loop b variable name start end label = with_fresh (fresh_loop variable (new_loop b name start end label)) b
 
-pub loop_owned : (b : Bench) (variable : String Global) (name : List ℕ) (start end : Expr) (label : Option (List ℕ)) → OwnsLoop (grown_loop b variable name start end label) (next_loop b)
+pub loop_owned : (b : Bench) (variable : List ℕ) (name : List ℕ) (start end : Expr) (label : Option (List ℕ)) → OwnsLoop (grown_loop b variable name start end label) (next_loop b)
 loop_owned b variable name start end label = record { of_file = refl; of_kind = rw (slice_get-seam b.nests (new_loop b name start end label)) refl }
 
 pub named_owned : (b c : Bench) (r : Root) (name : List ℕ) (type : MaybeType) → c.nodes ≡ with_node b.nodes r → r ≡ ExprRoot (NameTree name type) → OwnsLogicRef c (next_logic_ref b)
 named_owned b c r name type n e = record { of_file = rw n refl; of_kind = rw (n, slice_get-seam b.nodes.roots r, e) refl }
 
 pub loop-comes :
-    (b : Bench) (variable : String Global) (name : List ℕ) (start end : Expr) (label : Option (List ℕ)) → OwnsExpr b start → OwnsExpr b end →
+    (b : Bench) (variable : List ℕ) (name : List ℕ) (start end : Expr) (label : Option (List ℕ)) → OwnsExpr b start → OwnsExpr b end →
     FreshSound b (grown_loop b variable name start end label) (fresh_loop variable (new_loop b name start end label))
 loop-comes b variable name start end label h k =
-    let r : Root = ExprRoot (NameTree (string_bytes variable) Untyped) in
+    let r : Root = ExprRoot (NameTree variable Untyped) in
     record {
       terms = (tt, tt, tt);
       port = tt;
@@ -62,7 +61,7 @@ loop-comes b variable name start end label h k =
       instance = tt;
       assignment = tt;
       container = record {
-        genvar = named_owned b (grown_loop b variable name start end label) r (string_bytes variable) Untyped refl refl;
+        genvar = named_owned b (grown_loop b variable name start end label) r variable Untyped refl refl;
         start = HasExpr-kept b.nodes (with_node b.nodes r) (Extends-root b.nodes r) start h;
         end = HasExpr-kept b.nodes (with_node b.nodes r) (Extends-root b.nodes r) end k;
         members = tt;
@@ -73,7 +72,7 @@ loop-comes b variable name start end label h k =
 
 -- Names of parameters, and assignments.
 
-pub name-comes : (b : Bench) (name : String Global) (type : Option VastDataType) → IfSome type (OwnsType b) → FreshSound b (with_fresh (fresh_name name type) b) (fresh_name name type)
+pub name-comes : (b : Bench) (name : List ℕ) (type : Option VastDataType) → IfSome type (OwnsType b) → FreshSound b (with_fresh (fresh_name name type) b) (fresh_name name type)
 name-comes b name type h = record { terms = (h, tt, tt); port = tt; fresh_module = tt; definition = tt; artifact = tt; instance = tt; assignment = tt; container = tt; function = tt; always_block = tt }
 
 pub next_continuous_owned : (b : Bench) (lhs rhs : Expr) → OwnsContinuous (with_assignment (record { lhs = lhs; rhs = rhs; nonblocking = false }) b) (next_continuous b)
@@ -81,20 +80,20 @@ next_continuous_owned b lhs rhs = record { of_file = refl; of_kind = rw (slice_g
 
 -- Functions.
 
-abbrev grown_function : Bench → String Global → List ℕ → VastDataType → Bench
+abbrev grown_function : Bench → List ℕ → List ℕ → VastDataType → Bench
 grown_function b variable name type = with_fresh (fresh_function variable type (new_function b name type)) b
 
-function_owned : (b : Bench) (variable : String Global) (name : List ℕ) (type : VastDataType) → OwnsFunction (grown_function b variable name type) (next_function b)
+function_owned : (b : Bench) (variable : List ℕ) (name : List ℕ) (type : VastDataType) → OwnsFunction (grown_function b variable name type) (next_function b)
 function_owned b variable name type = record { of_file = refl; of_kind = rw (length-append b.functions (new_function b name type ∷ [])) (last-test (length b.functions)) }
 
-body_owned : (b : Bench) (variable : String Global) (name : List ℕ) (type : VastDataType) → OwnsBlock (grown_function b variable name type) (next_block b)
+body_owned : (b : Bench) (variable : List ℕ) (name : List ℕ) (type : VastDataType) → OwnsBlock (grown_function b variable name type) (next_block b)
 body_owned b variable name type = record { of_file = refl; of_kind = rw (slice_get-seam b.nests (BlockRecord [])) refl }
 
 pub function-enters :
-    (b : Bench) (owner : VastModule) (variable : String Global) (name : List ℕ) (type : VastDataType) → OwnsModule b owner → OwnsType b type → NameIsFree b owner name →
+    (b : Bench) (owner : VastModule) (variable : List ℕ) (name : List ℕ) (type : VastDataType) → OwnsModule b owner → OwnsType b type → NameIsFree b owner name →
     GrowthSound b (InModule owner (FunctionEntry (next_function b)) (Some name)) (fresh_function variable type (new_function b name type))
 function-enters b owner variable name type h k free =
-    let r : Root = ExprRoot (NameTree (string_bytes variable) (Typed (type_of b type))) in
+    let r : Root = ExprRoot (NameTree variable (Typed (type_of b type))) in
     record {
       fresh = record {
         terms = (k, tt, tt);
@@ -108,7 +107,7 @@ function-enters b owner variable name type h k free =
         function = record {
           sound = record {
             result_type = HasType-kept b.nodes (with_node b.nodes r) (Extends-root b.nodes r) type k;
-            result_name = named_owned b (grown_function b variable name type) r (string_bytes variable) (Typed (type_of b type)) refl refl;
+            result_name = named_owned b (grown_function b variable name type) r variable (Typed (type_of b type)) refl refl;
             inputs = tt;
             locals = tt;
             body = body_owned b variable name type;
@@ -125,15 +124,15 @@ function-enters b owner variable name type h k free =
 
 -- The same, of a node that is known to be this.
 pub function-enters-as :
-    (b : Bench) (owner : VastModule) (h : VastFunction) (variable : String Global) (taken name : List ℕ) (type : VastDataType) (g : LogicRef) (inputs locals : List VariableRecord) (body : VastStatementBlock) (names : List (List ℕ)) →
+    (b : Bench) (owner : VastModule) (h : VastFunction) (variable : List ℕ) (taken name : List ℕ) (type : VastDataType) (g : LogicRef) (inputs locals : List VariableRecord) (body : VastStatementBlock) (names : List (List ℕ)) →
     h ≡ next_function b → g ≡ next_logic_ref b → inputs ≡ [] → locals ≡ [] → body ≡ next_block b → names ≡ name ∷ [] → taken ≡ name → OwnsModule b owner → OwnsType b type → NameIsFree b owner name →
     GrowthSound b (InModule owner (FunctionEntry h) (Some taken)) (fresh_function variable type (record { name = name; result_type = type; result_name = g; inputs = inputs; locals = locals; body = body; names = names }))
 function-enters-as b owner h variable taken name type g inputs locals body names e f i l x n t o k free = rw (e, f, i, l, x, n, t) (function-enters b owner variable name type o k free)
 
 -- What the file is behind this growth.
 pub function-grown :
-    (b : Bench) (owner : VastModule) (h : VastFunction) (variable : String Global) (n taken name : List ℕ) (type : VastDataType) (g : LogicRef) (inputs locals : List VariableRecord) (body : VastStatementBlock) (names : List (List ℕ)) →
-    h ≡ next_function b → g ≡ next_logic_ref b → inputs ≡ [] → locals ≡ [] → body ≡ next_block b → names ≡ n ∷ [] → taken ≡ n → name ≡ n → string_bytes variable ≡ n →
+    (b : Bench) (owner : VastModule) (h : VastFunction) (variable : List ℕ) (n taken name : List ℕ) (type : VastDataType) (g : LogicRef) (inputs locals : List VariableRecord) (body : VastStatementBlock) (names : List (List ℕ)) →
+    h ≡ next_function b → g ≡ next_logic_ref b → inputs ≡ [] → locals ≡ [] → body ≡ next_block b → names ≡ n ∷ [] → taken ≡ n → name ≡ n → variable ≡ n →
     after_growth (InModule owner (FunctionEntry h) (Some taken)) (fresh_function variable type (record { name = name; result_type = type; result_name = g; inputs = inputs; locals = locals; body = body; names = names })) b
     ≡ with_named_member owner (FunctionEntry (next_function b)) n (with_function n type b)
 function-grown b owner h variable n taken name type g inputs locals body names e f i l x m t o v = rw (e, f, i, l, x, m, t, o, v) refl

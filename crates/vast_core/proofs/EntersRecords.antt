@@ -2,7 +2,6 @@
 -- that names it, are the file's.
 use Rattle.std.proofs.Common.{◌≡◌, ℕ, Bool, List, [], ◌∷◌, length, Option, Some, String, string_bytes, refl, length-append}
 use Rattle.std.specs.Prelude.{IfSome}
-use Rattle.std.specs.declared.alloc.Global.{Global}
 use Rattle.vast_literal.specs.Tree.{NameTree, Typed}
 use Rattle.vast_core.specs.declared.handle.LogicRef.{LogicRef}
 use Rattle.vast_core.specs.declared.handle.ModulePort.{ModulePort}
@@ -65,7 +64,7 @@ item-enters b e h = record { fresh = nothing-comes b b; listing = h; placed = re
 -- Members of a module.
 
 pub declaration-enters :
-    (b : Bench) (owner : VastModule) (kind : DataKind) (own taken : List ℕ) (name : String Global) (t : VastDataType) → own ≡ taken → OwnsModule b owner → IsOwnKind kind → OwnsType b t → NameIsFree b owner taken →
+    (b : Bench) (owner : VastModule) (kind : DataKind) (own taken : List ℕ) (name : List ℕ) (t : VastDataType) → own ≡ taken → OwnsModule b owner → IsOwnKind kind → OwnsType b t → NameIsFree b owner taken →
     GrowthSound b (InModule owner (DeclarationEntry kind own t) (Some taken)) (fresh_name name (Some t))
 declaration-enters b owner kind own taken name t e h own_kind k free =
     let f : Fresh = fresh_name name (Some t) in
@@ -76,31 +75,31 @@ declaration-enters b owner kind own taken name t e h own_kind k free =
     })
 
 pub declaration-enters-as :
-    (b : Bench) (owner : VastModule) (kind : DataKind) (n own taken : List ℕ) (name : String Global) (t : VastDataType) → own ≡ n → taken ≡ n → OwnsModule b owner → IsOwnKind kind → OwnsType b t → NameIsFree b owner n →
+    (b : Bench) (owner : VastModule) (kind : DataKind) (n own taken : List ℕ) (name : List ℕ) (t : VastDataType) → own ≡ n → taken ≡ n → OwnsModule b owner → IsOwnKind kind → OwnsType b t → NameIsFree b owner n →
     GrowthSound b (InModule owner (DeclarationEntry kind own t) (Some taken)) (fresh_name name (Some t))
 declaration-enters-as b owner kind n own taken name t e f h own_kind k free = rw (e, f) (declaration-enters b owner kind n n name t refl h own_kind k free)
 
 -- The header and the ports of a module.
 
 pub header-enters :
-    (b : Bench) (owner : VastModule) (p : ParameterPortRecord) (name : String Global) (type : Option VastDataType) → OwnsModule b owner → IfSome p.data_type (OwnsType b) → OwnsExpr b p.value → IfSome type (OwnsType b) →
+    (b : Bench) (owner : VastModule) (p : ParameterPortRecord) (name : List ℕ) (type : Option VastDataType) → OwnsModule b owner → IfSome p.data_type (OwnsType b) → OwnsExpr b p.value → IfSome type (OwnsType b) →
     GrowthSound b (InHeader owner p) (fresh_name name type)
 header-enters b owner p name type h k l m =
     let f : Fresh = fresh_name name type in
     record { fresh = name-comes b name type m; listing = (h, ParameterPortSound-kept b (with_fresh f b) (Grows-fresh b f) p (k, l)); placed = refl }
 
-abbrev fresh_port : String Global → VastDataType → PortRecord → Fresh
+abbrev fresh_port : List ℕ → VastDataType → PortRecord → Fresh
 fresh_port name t p = record no_fresh { terms = name_term name (Some t) ∷ []; port = Some p }
 
 abbrev new_port : Bench → ModulePortDirection → DataKind → List ℕ → VastDataType → PortRecord
 new_port b direction kind name t = record { direction = direction; kind = kind; name = name; data_type = t; logic_ref = next_logic_ref b }
 
 pub port-enters :
-    (b : Bench) (owner : VastModule) (direction : ModulePortDirection) (kind : DataKind) (taken : List ℕ) (name : String Global) (t : VastDataType) → OwnsModule b owner → OwnsType b t → NameIsFree b owner taken →
+    (b : Bench) (owner : VastModule) (direction : ModulePortDirection) (kind : DataKind) (taken : List ℕ) (name : List ℕ) (t : VastDataType) → OwnsModule b owner → OwnsType b t → NameIsFree b owner taken →
     GrowthSound b (InPorts owner (next_port b) taken) (fresh_port name t (new_port b direction kind taken t))
 port-enters b owner direction kind taken name t h k free =
     let p : PortRecord = new_port b direction kind taken t in
-    let r : Root = ExprRoot (NameTree (string_bytes name) (Typed (type_of b t))) in
+    let r : Root = ExprRoot (NameTree name (Typed (type_of b t))) in
     record {
       fresh = record {
         terms = (k, tt, tt);
@@ -119,7 +118,7 @@ port-enters b owner direction kind taken name t h k free =
     }
 
 pub port-enters-as :
-    (b : Bench) (owner : VastModule) (q : ModulePort) (g : LogicRef) (direction : ModulePortDirection) (kind : DataKind) (n own taken : List ℕ) (name : String Global) (t : VastDataType) →
+    (b : Bench) (owner : VastModule) (q : ModulePort) (g : LogicRef) (direction : ModulePortDirection) (kind : DataKind) (n own taken : List ℕ) (name : List ℕ) (t : VastDataType) →
     q ≡ next_port b → g ≡ next_logic_ref b → own ≡ n → taken ≡ n → OwnsModule b owner → OwnsType b t → NameIsFree b owner n →
     GrowthSound b (InPorts owner q taken) (fresh_port name t (record { direction = direction; kind = kind; name = own; data_type = t; logic_ref = g }))
 port-enters-as b owner q g direction kind n own taken name t e f i j h k free = rw (e, f, i, j) (port-enters b owner direction kind n name t h k free)
@@ -127,14 +126,14 @@ port-enters-as b owner q g direction kind n own taken name t e f i j h k free = 
 -- Inputs and locals of a function.
 
 pub variable-enters :
-    (b : Bench) (owner : VastFunction) (local : Bool) (v : VariableRecord) (name : String Global) (t : VastDataType) → OwnsFunction b owner → IsVariableKind local v.kind → OwnsType b v.data_type → OwnsType b t → IsFreeInFunction b owner v.name →
+    (b : Bench) (owner : VastFunction) (local : Bool) (v : VariableRecord) (name : List ℕ) (t : VastDataType) → OwnsFunction b owner → IsVariableKind local v.kind → OwnsType b v.data_type → OwnsType b t → IsFreeInFunction b owner v.name →
     GrowthSound b (InFunction owner local v) (fresh_name name (Some t))
 variable-enters b owner local v name t h kind k l free =
-    let r : Root = ExprRoot (NameTree (string_bytes name) (Typed (type_of b t))) in
+    let r : Root = ExprRoot (NameTree name (Typed (type_of b t))) in
     record { fresh = name-comes b name (Some t) l; listing = record { function_there = h; variable = HasType-kept b.nodes (with_node b.nodes r) (Extends-root b.nodes r) v.data_type k; kind = kind; free = free }; placed = refl }
 
 pub variable-enters-as :
-    (b : Bench) (owner : VastFunction) (local : Bool) (kind : DataKind) (n own : List ℕ) (name : String Global) (t : VastDataType) → own ≡ n → OwnsFunction b owner → IsVariableKind local kind → OwnsType b t → IsFreeInFunction b owner n →
+    (b : Bench) (owner : VastFunction) (local : Bool) (kind : DataKind) (n own : List ℕ) (name : List ℕ) (t : VastDataType) → own ≡ n → OwnsFunction b owner → IsVariableKind local kind → OwnsType b t → IsFreeInFunction b owner n →
     GrowthSound b (InFunction owner local (record { kind = kind; name = own; data_type = t })) (fresh_name name (Some t))
 variable-enters-as b owner local kind n own name t e h suits k free = rw e (variable-enters b owner local (record { kind = kind; name = n; data_type = t }) name t h suits k k free)
 

@@ -1,7 +1,6 @@
 -- What calls know that add a member to a scope: what comes, and the entry that names it, are the file's.
 use Rattle.std.proofs.Common.{◌≡◌, ℕ, ◌<◌, Bool, true, false, List, [], ◌++◌, length, Option, Some, All, String, string_bytes, refl, ap}
 use Rattle.std.specs.Prelude.{IfSome}
-use Rattle.std.specs.declared.alloc.Global.{Global}
 use Rattle.vast_core.specs.declared.ast.scope.Scope.{Scope}
 use Rattle.vast_core.specs.declared.ast.scope.Scope.TheVariants.{Module as ScopeModule, Loop as ScopeLoop}
 use Rattle.vast_core.specs.declared.handle.Expr.{Expr}
@@ -145,7 +144,7 @@ assignment-enters b scope lhs rhs o h k =
     (next_continuous_owned b lhs rhs) tt (newer-in b (with_fresh f b) scope (AssignmentEntry (next_continuous b)) o (λ i below. tt)) refl
 
 pub parameter-enters :
-    (b : Bench) (scope : Scope) (local : Bool) (form : FormEntry) (value : Expr) (name : String Global) (type : Option VastDataType) → OwnsScope b scope → FormSound b form → OwnsExpr b value →
+    (b : Bench) (scope : Scope) (local : Bool) (form : FormEntry) (value : Expr) (name : List ℕ) (type : Option VastDataType) → OwnsScope b scope → FormSound b form → OwnsExpr b value →
     IfSome type (OwnsType b) → GrowthSound b (listing_in scope (ParameterEntry local form value)) (fresh_name name type)
 parameter-enters b scope local form value name type o h k m =
     let f : Fresh = fresh_name name type in
@@ -184,7 +183,7 @@ conditional-enters b scope condition o h =
     (newer-in b (with_fresh f b) scope (ConditionalEntry (next_conditional b)) o (λ i below. below)) refl
 
 pub loop-enters :
-    (b : Bench) (scope : Scope) (variable : String Global) (name : List ℕ) (start end : Expr) (label : Option (List ℕ)) → OwnsScope b scope → OwnsExpr b start → OwnsExpr b end →
+    (b : Bench) (scope : Scope) (variable : List ℕ) (name : List ℕ) (start end : Expr) (label : Option (List ℕ)) → OwnsScope b scope → OwnsExpr b start → OwnsExpr b end →
     GrowthSound b (listing_in scope (LoopEntry (next_loop b))) (fresh_loop variable (new_loop b name start end label))
 loop-enters b scope variable name start end label o h k =
     let f : Fresh = fresh_loop variable (new_loop b name start end label) in
@@ -193,7 +192,7 @@ loop-enters b scope variable name start end label o h k =
 
 -- The same, of nodes that are known to be these.
 pub loop-enters-as :
-    (b : Bench) (scope : Scope) (h : GenerateLoop) (variable : String Global) (g : LogicRef) (name : List ℕ) (start end : Expr) (label : Option (List ℕ)) (ms : List MemberEntry) →
+    (b : Bench) (scope : Scope) (h : GenerateLoop) (variable : List ℕ) (g : LogicRef) (name : List ℕ) (start end : Expr) (label : Option (List ℕ)) (ms : List MemberEntry) →
     h ≡ next_loop b → g ≡ next_logic_ref b → ms ≡ [] → OwnsScope b scope → OwnsExpr b start → OwnsExpr b end →
     GrowthSound b (listing_in scope (LoopEntry h)) (fresh_loop variable (LoopNestRecord (record { genvar = g; name = name; start = start; end = end; label = label; members = ms })))
 loop-enters-as b scope h variable g name start end label ms e f m o k l = rw (e, f, m) (loop-enters b scope variable name start end label o k l)
@@ -205,15 +204,15 @@ scope-grown b (ScopeModule owner) m f = refl
 scope-grown b (ScopeLoop owner) m f = refl
 
 pub loop-grown :
-    (b : Bench) (scope : Scope) (h : GenerateLoop) (variable : String Global) (n : List ℕ) (g : LogicRef) (name : List ℕ) (start end : Expr) (label : Option (List ℕ)) (ms : List MemberEntry) →
-    h ≡ next_loop b → g ≡ next_logic_ref b → ms ≡ [] → string_bytes variable ≡ n → name ≡ n →
+    (b : Bench) (scope : Scope) (h : GenerateLoop) (variable : List ℕ) (n : List ℕ) (g : LogicRef) (name : List ℕ) (start end : Expr) (label : Option (List ℕ)) (ms : List MemberEntry) →
+    h ≡ next_loop b → g ≡ next_logic_ref b → ms ≡ [] → variable ≡ n → name ≡ n →
     with_scope_member scope (LoopEntry h) (with_fresh (fresh_loop variable (LoopNestRecord (record { genvar = g; name = name; start = start; end = end; label = label; members = ms }))) b)
     ≡ with_scope_member scope (LoopEntry (next_loop b)) (with_loop n start end label b)
 loop-grown b scope h variable n g name start end label ms e f m v o = rw (e, f, m, v, o) refl
 
 -- A name may come before the member or after it.
 pub parameter-grown :
-    (b : Bench) (scope : Scope) (local : Bool) (form : FormEntry) (value : Expr) (name : String Global) (type : Option VastDataType) → IsDeclaredBy b form (name, type) →
+    (b : Bench) (scope : Scope) (local : Bool) (form : FormEntry) (value : Expr) (name : List ℕ) (type : Option VastDataType) → IsDeclaredBy b form (name, type) →
     with_scope_member scope (ParameterEntry local form value) (with_fresh (fresh_name name type) b) ≡ with_scope_parameter scope local form value b
 parameter-grown b (ScopeModule owner) local form value name type h = ap (λ t. with_expr t (with_scope_member (ScopeModule owner) (ParameterEntry local form value) b)) h.0
 parameter-grown b (ScopeLoop owner) local form value name type h = ap (λ t. with_expr t (with_scope_member (ScopeLoop owner) (ParameterEntry local form value) b)) h.0

@@ -124,7 +124,7 @@ nest_record (CaseNest c) = CaseNestRecord (case_record c)
 nest_record (LoopNest l) = LoopNestRecord (loop_record l.value)
 
 abbrev pub variable_record : FunctionVariable → VariableRecord
-variable_record v = record { kind = v.kind; name = string_bytes v.name; data_type = v.data_type }
+variable_record v = record { kind = v.kind; name = v.name; data_type = v.data_type }
 
 abbrev pub function_record : Function → FunctionRecord
 function_record f = record { name = string_bytes f.name; result_type = f.result_type; result_name = f.result; inputs = map variable_record f.inputs.items; locals = map variable_record f.locals.items; body = f.body; names = in_byte_order f.names }

@@ -100,8 +100,8 @@ maybe_exprs_in b (Some es) = SomeArguments (exprs_in b es.items)
 
 -- The tree of a node, from those of its children. A type stands for no expression.
 abbrev pub expr_tree : Nodes → ExprNode → ExprTree
-expr_tree b (Name name type) = NameTree (string_bytes name) (maybe_type_in b type)
-expr_tree b (Literal text value) = LiteralTree (string_bytes text) value
+expr_tree b (Name name type) = NameTree name (maybe_type_in b type)
+expr_tree b (Literal text value) = LiteralTree text value
 expr_tree b (StringText text) = StringTree (string_bytes text)
 expr_tree b (Unary operator operand) = UnaryTree operator (expr_in b operand)
 expr_tree b (Binary operator left right) = BinaryTree operator (expr_in b left) (expr_in b right)

@@ -119,18 +119,18 @@ in_byte_order names = fold (λ sorted name. with_name name sorted) [] names
 -- The records of nodes.
 
 abbrev pub port_record : Port → PortRecord
-port_record p = record { direction = p.direction; kind = p.kind; name = string_bytes p.name; data_type = p.data_type; logic_ref = p.logic_ref }
+port_record p = record { direction = p.direction; kind = p.kind; name = p.name; data_type = p.data_type; logic_ref = p.logic_ref }
 
 abbrev pub parameter_port_record : ParameterPort → ParameterPortRecord
 parameter_port_record p = record { name = string_bytes p.name; data_type = p.data_type; value = p.value }
 
 abbrev pub form_entry : ParameterForm → FormEntry
-form_entry (Plain name) = PlainForm (string_bytes name)
-form_entry (Int name) = IntForm (string_bytes name)
+form_entry (Plain name) = PlainForm name
+form_entry (Int name) = IntForm name
 form_entry (Defined d) = DefinedForm d
 
 abbrev pub member_entry : Member → MemberEntry
-member_entry (DeclarationOf kind name data_type) = DeclarationEntry kind (string_bytes name) data_type
+member_entry (DeclarationOf kind name data_type) = DeclarationEntry kind name data_type
 member_entry (AssignmentOf a) = AssignmentEntry a
 member_entry (ParameterOf local form value) = ParameterEntry local (form_entry form) value
 member_entry BlankOf = BlankEntry

@@ -1,4 +1,5 @@
-//! Nodes: what the arenas of a file hold, with handles in the place of children.
+//! Nodes: what the arenas of a file hold, with handles in the place of children. What there are many of are words, of
+//! which most take no memory of their own: names of signals, and literals.
 
 use crate::handle::{
     CaseStatement, Comment, Conditional, ContinuousAssignment, Def, Expr, GenerateLoop,
@@ -8,7 +9,7 @@ use crate::handle::{
 use vast_literal::{
     AlwaysKind, BinaryOperator, CaseKind, DataKind, ModulePortDirection, UnaryOperator,
 };
-use vast_names::NameTable;
+use vast_names::{NameTable, Word};
 
 /// A node of the arena that expressions and types share: an expression, or a data type. Types hold widths and names hold
 /// types, so that "children are older" is one order. It is one flat enum, and the names of a package's type are boxed,
@@ -16,9 +17,9 @@ use vast_names::NameTable;
 #[derive(Drop)]
 pub enum ExprNode {
     /// A name, with the type that it was declared with, if any.
-    Name(String, Option<VastDataType>),
+    Name(Word, Option<VastDataType>),
     /// A literal's text, and its value where that is known.
-    Literal(String, Option<i64>),
+    Literal(Word, Option<i64>),
     /// A string's text, with its quotes.
     StringText(String),
     Unary(UnaryOperator, Expr),
@@ -84,7 +85,7 @@ pub struct PackageName {
 pub struct Port {
     pub direction: ModulePortDirection,
     pub kind: DataKind,
-    pub name: String,
+    pub name: Word,
     pub data_type: VastDataType,
     /// The port's name as an expression.
     pub logic_ref: LogicRef,
@@ -102,9 +103,9 @@ pub struct Assignment {
 #[derive(Drop)]
 pub enum ParameterForm {
     /// A name alone.
-    Plain(String),
+    Plain(Word),
     /// A name of type `int`.
-    Int(String),
+    Int(Word),
     /// The kind, the type and the name of a definition.
     Defined(Def),
 }
@@ -113,7 +114,7 @@ pub enum ParameterForm {
 #[derive(Drop)]
 pub enum Member {
     /// The kind, the name and the type of a wire, reg or logic.
-    Declaration(DataKind, String, VastDataType),
+    Declaration(DataKind, Word, VastDataType),
     ContinuousAssignment(ContinuousAssignment),
     /// Whether the parameter is local, what it declares, and its value.
     Parameter(bool, ParameterForm, Expr),
@@ -160,7 +161,7 @@ pub enum FileItem {
 #[derive(Drop)]
 pub struct FunctionVariable {
     pub kind: DataKind,
-    pub name: String,
+    pub name: Word,
     pub data_type: VastDataType,
 }
 

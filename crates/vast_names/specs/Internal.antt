@@ -3,3 +3,4 @@ pub mod Texts
 pub mod Index
 pub mod Table
 pub mod Map
+pub mod Words

@@ -62,7 +62,7 @@ fn begin(ast: &Ast, e: Expr, waiting: &mut Vec<Expr>) -> Result<bool, AllocError
         (tree_of (bench ast.now) e) result }
 {
     match ast.expr(e) {
-        ExprNode::Name(name, _) => Ok(is_plain_name(name)),
+        ExprNode::Name(name, _) => Ok(is_plain_name(name.as_str())),
         ExprNode::Literal(_, _) => Ok(true),
         ExprNode::StringText(_) => Ok(true),
         ExprNode::Unary(_, operand) => wait(ast, &[*operand], waiting),
@@ -79,7 +79,7 @@ fn begin(ast: &Ast, e: Expr, waiting: &mut Vec<Expr>) -> Result<bool, AllocError
         ExprNode::TypeCast(data_type, operand) => begin_cast(ast, *data_type, *operand, waiting),
         ExprNode::PosEdge(_) => Ok(false),
         ExprNode::NegEdge(_) => Ok(false),
-        ExprNode::Macro(name) => Ok(is_plain_name(name)),
+        ExprNode::Macro(name) => Ok(is_plain_name(name.as_str())),
         ExprNode::MacroCall(name, arguments) => {
             begin_call(ast, is_plain_name(name), arguments, waiting)
         }

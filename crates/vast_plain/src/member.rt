@@ -29,7 +29,7 @@ fn is_plain_member(ast: &Ast, member: &Member) -> Result<bool, AllocError>
         (is_plain_member (member_tree (bench ast.now) (member_entry member.now))) result }
 {
     match member {
-        Member::Declaration(_, name, t) => is_plain_declaration(ast, *t, name),
+        Member::Declaration(_, name, t) => is_plain_declaration(ast, *t, name.as_str()),
         Member::ContinuousAssignment(a) => is_plain_assignment(ast, ast.continuous(*a)),
         Member::Parameter(_, form, value) => is_plain_parameter(ast, form, *value),
         Member::BlankLine => Ok(true),

@@ -55,7 +55,7 @@ fn is_plain_port(ast: &Ast, p: ModulePort) -> Result<bool, AllocError>
     ensures { Answers (is_plain_declared (port_tree (bench ast.now) p).declaration) result }
 {
     let port = ast.port(p);
-    is_plain_declaration(ast, port.data_type, &port.name)
+    is_plain_declaration(ast, port.data_type, port.name.as_str())
 }
 
 /// Whether the ports of a header are plain.

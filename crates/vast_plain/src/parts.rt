@@ -29,8 +29,8 @@ fn is_plain_form(ast: &Ast, form: &ParameterForm) -> Result<bool, AllocError>
         (is_plain_parameter_name (form_tree (bench ast.now) (form_entry form.now))) result }
 {
     match form {
-        ParameterForm::Plain(name) => Ok(is_plain_name(name)),
-        ParameterForm::Int(name) => Ok(is_plain_name(name)),
+        ParameterForm::Plain(name) => Ok(is_plain_name(name.as_str())),
+        ParameterForm::Int(name) => Ok(is_plain_name(name.as_str())),
         ParameterForm::Defined(definition) => {
             let definition = ast.definition(*definition);
             is_plain_declaration(ast, definition.data_type, &definition.name)
@@ -137,7 +137,7 @@ fn is_plain_variable(ast: &Ast, variable: &FunctionVariable) -> Result<bool, All
         (is_plain_declared (variable_tree (bench ast.now) (variable_record variable.now)))
         result }
 {
-    is_plain_declaration(ast, variable.data_type, &variable.name)
+    is_plain_declaration(ast, variable.data_type, variable.name.as_str())
 }
 
 /// Whether the declarations of a function's inputs or locals are plain.

@@ -93,5 +93,5 @@ pub(crate) fn print_port(
 {
     let kind = port_kind(ast, port.kind, port.data_type);
     out.word(direction_word(port.direction))?;
-    print_declaration(ast, kind, port.data_type, &port.name, depth, out)
+    print_declaration(ast, kind, port.data_type, port.name.as_str(), depth, out)
 }

@@ -34,7 +34,7 @@ pub(crate) fn print_expression(
     match ast.expr(e) {
         // Most operands are names, and a name needs no list of pieces.
         ExprNode::Name(text, _) => {
-            out.written(depth, text)?;
+            out.written(depth, text.as_str())?;
             Ok(())
         }
         _ => print_wrapped(ast, e, false, depth, out),
@@ -132,8 +132,8 @@ fn begin(
         (tree_of (bench ast.now) e) result }
 {
     match ast.expr(e) {
-        ExprNode::Name(text, _) => out.written(depth, text)?,
-        ExprNode::Literal(text, _) => out.written(depth, text)?,
+        ExprNode::Name(text, _) => out.written(depth, text.as_str())?,
+        ExprNode::Literal(text, _) => out.written(depth, text.as_str())?,
         ExprNode::StringText(text) => out.written(depth, text)?,
         ExprNode::Unary(operator, operand) => begin_unary(
             ast, *operator, *operand, depth, out, work,

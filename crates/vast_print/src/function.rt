@@ -67,7 +67,7 @@ fn print_input(
 {
     let kind = port_kind(ast, input.kind, input.data_type);
     out.word("input ")?;
-    print_declaration(ast, kind, input.data_type, &input.name, depth, out)
+    print_declaration(ast, kind, input.data_type, input.name.as_str(), depth, out)
 }
 
 /// Writes the inputs of a function behind the last line.
@@ -106,7 +106,7 @@ fn print_local(
         (variable_tree (bench ast.now) (variable_record local.now)))) out.new result }
 {
     out.next(depth)?;
-    print_declaration(ast, local.kind, local.data_type, &local.name, depth, out)?;
+    print_declaration(ast, local.kind, local.data_type, local.name.as_str(), depth, out)?;
     out.word(";")?;
     Ok(())
 }

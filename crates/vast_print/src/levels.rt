@@ -119,7 +119,7 @@ fn is_negative_literal(ast: &Ast, e: Expr) -> bool
     ensures { result ≡ is_negative_literal (tree_of (bench ast.now) e) }
 {
     match ast.expr(e) {
-        ExprNode::Literal(text, _) => match text.as_bytes().first() {
+        ExprNode::Literal(text, _) => match text.as_str().as_bytes().first() {
             Some(first) => *first == b'-',
             None => false,
         },
@@ -166,8 +166,8 @@ pub(crate) fn is_bare_expr(ast: &Ast, e: Expr) -> bool
     ensures { result ≡ is_bare_head (tree_of (bench ast.now) e) }
 {
     match ast.expr(e) {
-        ExprNode::Name(text, _) => is_bare(text),
-        ExprNode::Literal(text, _) => is_bare(text),
+        ExprNode::Name(text, _) => is_bare(text.as_str()),
+        ExprNode::Literal(text, _) => is_bare(text.as_str()),
         ExprNode::StringText(text) => is_bare(text),
         ExprNode::Index(subject, _) => is_scalar_name(ast, *subject) && is_bare_expr(ast, *subject),
         ExprNode::Slice(subject, _, _) => is_scalar_name(ast, *subject)

@@ -89,7 +89,9 @@ pub(crate) fn print_member(
         (member_tree (bench ast.now) (member_entry member.now)))) out.new result }
 {
     match member {
-        Member::Declaration(kind, name, t) => print_variable(ast, *kind, name, *t, depth, out),
+        Member::Declaration(kind, name, t) => {
+            print_variable(ast, *kind, name.as_str(), *t, depth, out)
+        }
         Member::ContinuousAssignment(a) => print_continuous(ast, ast.continuous(*a), depth, out),
         Member::Parameter(local, form, value) => {
             print_parameter(ast, *local, form, *value, depth, out)

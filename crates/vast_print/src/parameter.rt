@@ -102,10 +102,10 @@ fn print_form(
         (form_tree (bench ast.now) (form_entry form.now))))) out.new result }
 {
     match form {
-        ParameterForm::Plain(name) => out.written(depth, name)?,
+        ParameterForm::Plain(name) => out.written(depth, name.as_str())?,
         ParameterForm::Int(name) => {
             out.word("int ")?;
-            out.written(depth, name)?;
+            out.written(depth, name.as_str())?;
         }
         ParameterForm::Defined(definition) => {
             let definition = ast.definition(*definition);

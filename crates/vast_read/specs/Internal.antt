@@ -1,4 +1,3 @@
-pub mod Words
 pub mod TokenView
 pub mod KeyClasses
 pub mod Bounds

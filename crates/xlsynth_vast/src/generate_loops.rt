@@ -20,6 +20,7 @@ use vast_core::{
     Instantiation, LocalparamRef, LogicRef, MacroStatement, Member, ParameterForm, Scope, Spot,
     VastModule, VastStatement,
 };
+use vast_names::Word;
 
 /// The label as a text of its own, if there is one.
 fn own_label(alloc: Global, label: Option<&str>) -> Result<Option<String>, AllocError>
@@ -109,7 +110,7 @@ impl VastFile {
             (with_plain_loop_parameter generate name.now rhs.now) }
         ensures kept { Keeps self.old self.new }
     {
-        let form = ParameterForm::Plain(String::from_str(self.ast.allocator(), name)?);
+        let form = ParameterForm::Plain(Word::new(self.ast.allocator(), name)?);
         self.ast.push_localparam(Scope::Loop(generate), form, *rhs)
     }
 

@@ -93,7 +93,7 @@ impl VastFile {
         requires { OwnsPort self.now port }
         ensures { IfOk result (λ name. name_at self.now port ≡ Some (string_bytes name)) }
     {
-        String::from_str(self.ast.allocator(), &self.ast.port(port).name)
+        String::from_str(self.ast.allocator(), self.ast.port(port).name.as_str())
     }
 
     /// The port's type, which is the file's.
@@ -140,6 +140,6 @@ impl VastFile {
         let ExprNode::Name(name, _) = self.ast.expr(logic_ref.to_expr()) else {
             unreachable!()
         };
-        String::from_str(self.ast.allocator(), name)
+        String::from_str(self.ast.allocator(), name.as_str())
     }
 }

@@ -14,6 +14,7 @@ use vast_core::{
     Def, Expr, LocalparamRef, LogicRef, ParameterForm, ParameterRef, Scope, VastDataType,
     VastModule,
 };
+use vast_names::Word;
 
 impl VastFile {
     /// A parameter without a type, as the last of the module's header; answers its name as an expression.
@@ -73,7 +74,7 @@ impl VastFile {
             (with_plain_parameter owner false name.now rhs.now) }
         ensures kept { Keeps self.old self.new }
     {
-        let form = ParameterForm::Plain(String::from_str(self.ast.allocator(), name)?);
+        let form = ParameterForm::Plain(Word::new(self.ast.allocator(), name)?);
         self.ast.push_parameter(owner, form, *rhs)
     }
 
@@ -114,7 +115,7 @@ impl VastFile {
             (with_plain_parameter owner true name.now rhs.now) }
         ensures kept { Keeps self.old self.new }
     {
-        let form = ParameterForm::Plain(String::from_str(self.ast.allocator(), name)?);
+        let form = ParameterForm::Plain(Word::new(self.ast.allocator(), name)?);
         self.ast.push_localparam(Scope::Module(owner), form, *rhs)
     }
 
@@ -134,7 +135,7 @@ impl VastFile {
             (with_int_parameter owner true name.now rhs.now) }
         ensures kept { Keeps self.old self.new }
     {
-        let int_form = ParameterForm::Int(String::from_str(self.ast.allocator(), name)?);
+        let int_form = ParameterForm::Int(Word::new(self.ast.allocator(), name)?);
         self.ast
             .push_localparam(Scope::Module(owner), int_form, *rhs)
     }

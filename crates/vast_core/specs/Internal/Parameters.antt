@@ -1,6 +1,5 @@
 -- Beside `specs/Parameters.antt`: what private contracts and proofs say, and no public one.
-use Rattle.std.specs.Prelude.{◌≡◌, Option, String, string_bytes, IfSome}
-use Rattle.std.specs.declared.alloc.Global.{Global}
+use Rattle.std.specs.Prelude.{◌≡◌, ℕ, List, Option, IfSome}
 use Rattle.vast_literal.specs.Tree.{NameTree}
 use Rattle.vast_core.specs.declared.handle.VastDataType.{VastDataType}
 use Rattle.vast_core.specs.Nodes.{maybe_type_in}
@@ -9,5 +8,5 @@ use Rattle.vast_core.specs.Bench.{Bench, OwnsType}
 use Rattle.vast_core.specs.Parameters.{form_name}
 
 -- The name and the type that are those of what the form declares; the type is the file's.
-abbrev pub IsDeclaredBy : Bench → FormEntry → String Global × Option VastDataType → Type 0
-IsDeclaredBy b form declared = (NameTree (string_bytes declared.0) (maybe_type_in b.nodes declared.1) ≡ form_name b form) × IfSome declared.1 (OwnsType b)
+abbrev pub IsDeclaredBy : Bench → FormEntry → List ℕ × Option VastDataType → Type 0
+IsDeclaredBy b form declared = (NameTree declared.0 (maybe_type_in b.nodes declared.1) ≡ form_name b form) × IfSome declared.1 (OwnsType b)

@@ -15,6 +15,7 @@ use crate::ast::arrivals::Terms;
 use crate::handle::{Expr, Index, IndexableExpr, MacroRef, Slice};
 use crate::node::ExprNode;
 use std::alloc::AllocError;
+use vast_names::Word;
 
 impl Ast {
     /// The same node as an expression that may be selected from.
@@ -75,7 +76,7 @@ impl Ast {
         ensures { Grows self.old self.new result (next_fixed_index text.now index)
             (with_fixed_index subject text.now index) }
     {
-        let text = String::from_str(self.alloc, text)?;
+        let text = Word::new(self.alloc, text)?;
         let literal = Expr {
             id: self.next_term(),
         };
@@ -132,8 +133,8 @@ impl Ast {
             (next_fixed_slice high_text.now high low_text.now low)
             (with_fixed_slice subject high_text.now high low_text.now low) }
     {
-        let high_text = String::from_str(self.alloc, high_text)?;
-        let low_text = String::from_str(self.alloc, low_text)?;
+        let high_text = Word::new(self.alloc, high_text)?;
+        let low_text = Word::new(self.alloc, low_text)?;
         let high_literal = Expr {
             id: self.next_term(),
         };
@@ -161,7 +162,8 @@ impl Ast {
         ensures { Grows self.old self.new result (next_fixed_replication count)
             (with_fixed_replication count parts.now) }
     {
-        let text = format!(in self.alloc; "{count}")?;
+        let decimal = format!(in self.alloc; "{count}")?;
+        let text = Word::new(self.alloc, &decimal)?;
         let parts = Vec::from_slice(self.alloc, parts)?;
         let literal = Expr {
             id: self.next_term(),

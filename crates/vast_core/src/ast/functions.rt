@@ -16,7 +16,7 @@ use crate::ast::growth::Place;
 use crate::handle::{LogicRef, VastDataType, VastFunction, VastModule, VastStatementBlock};
 use crate::node::{ExprNode, Function, Member};
 use std::alloc::AllocError;
-use vast_names::NameTable;
+use vast_names::{NameTable, Word};
 
 impl Ast {
     /// Adds a function without inputs and locals as the module's last member, with an empty body. The module's name
@@ -38,7 +38,7 @@ impl Ast {
             (λ b. with_named_member owner (FunctionEntry (next_function b)) name.now
             (with_function name.now result_type b)) }
     {
-        let variable = String::from_str(self.alloc, name)?;
+        let variable = Word::new(self.alloc, name)?;
         let own_name = String::from_str(self.alloc, name)?;
         let mut names = NameTable::new(self.alloc);
         names.enter(name)?;

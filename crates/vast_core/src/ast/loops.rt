@@ -19,6 +19,7 @@ use crate::ast::scope::Scope;
 use crate::handle::{Expr, GenerateLoop, LogicRef};
 use crate::node::{ExprNode, LoopNode, Member, Nest};
 use std::alloc::AllocError;
+use vast_names::Word;
 
 impl Ast {
     /// Adds a generate loop without members as the scope's last member. Its variable's name is an expression without
@@ -42,7 +43,7 @@ impl Ast {
             (λ b. with_scope_member scope (LoopEntry (next_loop b))
             (with_loop name.now start end (label_bytes label) b)) }
     {
-        let variable = String::from_str(self.alloc, name)?;
+        let variable = Word::new(self.alloc, name)?;
         let name = String::from_str(self.alloc, name)?;
         let generate_loop = GenerateLoop {
             id: self.next_nest(),

@@ -13,6 +13,7 @@ use crate::handle::{LogicRef, VastDataType, VastModule};
 use crate::node::{ExprNode, Member};
 use std::alloc::AllocError;
 use vast_literal::DataKind;
+use vast_names::Word;
 
 impl Ast {
     /// Adds a wire, reg or logic as the module's last member, and answers its name as an expression. The name is free
@@ -35,8 +36,8 @@ impl Ast {
         ensures { Grows self.old self.new result next_logic_ref
             (with_declaration owner kind name.now data_type) }
     {
-        let node_name = String::from_str(self.alloc, name)?;
-        let member_name = String::from_str(self.alloc, name)?;
+        let node_name = Word::new(self.alloc, name)?;
+        let member_name = Word::new(self.alloc, name)?;
         let logic_ref = LogicRef {
             id: self.next_term(),
         };

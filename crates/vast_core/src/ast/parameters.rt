@@ -18,6 +18,7 @@ use crate::ast::scope::Scope;
 use crate::handle::{Expr, LocalparamRef, LogicRef, ParameterRef, VastDataType, VastModule};
 use crate::node::{ExprNode, Member, ParameterForm, ParameterPort};
 use std::alloc::AllocError;
+use vast_names::Word;
 
 impl Ast {
     /// Adds a parameter to the end of the module's header, and answers its name as an expression. Its name isn't
@@ -39,7 +40,7 @@ impl Ast {
         ensures { Grows self.old self.new result next_logic_ref
             (with_parameter_port owner name.now data_type value) }
     {
-        let node_name = String::from_str(self.alloc, name)?;
+        let node_name = Word::new(self.alloc, name)?;
         let port_name = String::from_str(self.alloc, name)?;
         let port = ParameterPort {
             name: port_name,
@@ -61,19 +62,16 @@ impl Ast {
     }
 
     /// The name of what the form declares, with its type where it has one.
-    fn declared_by(
-        &self,
-        form: &ParameterForm,
-    ) -> Result<(String, Option<VastDataType>), AllocError>
+    fn declared_by(&self, form: &ParameterForm) -> Result<(Word, Option<VastDataType>), AllocError>
         requires { FormSound (bench self.now) (form_entry form.now) }
         ensures { IfOk result (IsDeclaredBy (bench self.now) (form_entry form.now)) }
     {
         match form {
-            ParameterForm::Plain(name) => Ok((String::from_str(self.alloc, name)?, None)),
-            ParameterForm::Int(name) => Ok((String::from_str(self.alloc, name)?, None)),
+            ParameterForm::Plain(name) => Ok((Word::new(self.alloc, name.as_str())?, None)),
+            ParameterForm::Int(name) => Ok((Word::new(self.alloc, name.as_str())?, None)),
             ParameterForm::Defined(d) => {
                 let definition = self.definition(*d);
-                let name = String::from_str(self.alloc, &definition.name)?;
+                let name = Word::new(self.alloc, &definition.name)?;
                 Ok((name, Some(definition.data_type)))
             }
         }

@@ -14,6 +14,7 @@ use crate::handle::{LogicRef, ModulePort, VastDataType, VastModule};
 use crate::node::{ExprNode, Port};
 use std::alloc::AllocError;
 use vast_literal::{DataKind, ModulePortDirection};
+use vast_names::Word;
 
 impl Ast {
     /// Adds a port to the end of the module's ports, and answers its name as an expression. The name is free
@@ -35,8 +36,8 @@ impl Ast {
         ensures { Grows self.old self.new result next_logic_ref
             (with_port owner direction kind name.now data_type) }
     {
-        let node_name = String::from_str(self.alloc, name)?;
-        let port_name = String::from_str(self.alloc, name)?;
+        let node_name = Word::new(self.alloc, name)?;
+        let port_name = Word::new(self.alloc, name)?;
         let logic_ref = LogicRef {
             id: self.next_term(),
         };

@@ -12,6 +12,7 @@ use crate::ast::arrivals::Terms;
 use crate::handle::{Expr, VastDataType};
 use crate::node::{ExprNode, TypeNode};
 use std::alloc::AllocError;
+use vast_names::Word;
 
 impl Ast {
     /// Adds a type. Its parts are the file's, and it fits: a vector's width is usable and its value that of a literal,
@@ -42,7 +43,8 @@ impl Ast {
         requires { pos 1 ≤ℤ bits }
         ensures { Grows self.old self.new result (next_vector bits) (with_vector bits signed) }
     {
-        let text = format!(in self.alloc; "{bits}")?;
+        let decimal = format!(in self.alloc; "{bits}")?;
+        let text = Word::new(self.alloc, &decimal)?;
         let width = Expr {
             id: self.next_term(),
         };

@@ -16,6 +16,7 @@ use crate::handle::{LogicRef, VastDataType, VastFunction};
 use crate::node::{ExprNode, Function, FunctionVariable};
 use std::alloc::AllocError;
 use vast_literal::DataKind;
+use vast_names::Word;
 
 impl Function {
     /// Whether the function's result, inputs and locals have other names.
@@ -93,8 +94,8 @@ impl Ast {
             (with_variable owner local
             (record { kind = kind; name = name.now; data_type = data_type })) }
     {
-        let node_name = String::from_str(self.alloc, name)?;
-        let own_name = String::from_str(self.alloc, name)?;
+        let node_name = Word::new(self.alloc, name)?;
+        let own_name = Word::new(self.alloc, name)?;
         let logic_ref = LogicRef {
             id: self.next_term(),
         };

@@ -15,7 +15,7 @@ use crate::build::{Build, Form};
 use crate::children::Children;
 use crate::fault::Fault;
 use crate::tree::NormalExpr;
-use crate::word::Word;
+use vast_names::Word;
 use std::alloc::Global;
 
 /// The tree of an expression is made.

@@ -10,7 +10,7 @@ use crate::same::expression::{part, same_expression, same_part};
 use crate::same::list::{Same, same_list};
 use crate::same::written::same_key;
 use crate::tree::{Group, NormalDeclaration};
-use crate::word::Word;
+use vast_names::Word;
 use std::alloc::{AllocError, Global};
 
 impl Same for Group {

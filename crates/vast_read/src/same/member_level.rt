@@ -20,7 +20,7 @@ use crate::same::written::keyword_text;
 use crate::tree::{
     Connection, Event, NormalDeclaration, NormalExpr, NormalMember, NormalStatement,
 };
-use crate::word::Word;
+use vast_names::Word;
 
 /// What a member is.
 #[derive(Clone, Copy, PartialEq)]

@@ -6,7 +6,7 @@ ghost use Rattle.vast_read.specs.Texts.{key_of};
 ghost use Rattle.vast_read.specs.Internal.Writings.{is_sign, prefix_text, infix_text, keyword_text};
 
 use crate::scanner::word_token;
-use crate::word::Word;
+use vast_names::Word;
 
 /// Whether a sign is written so.
 #[tactic(auto, unfolding(crate::specs::Internal::Writings::is_sign))]

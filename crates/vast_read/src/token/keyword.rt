@@ -8,7 +8,7 @@ ghost use Rattle.vast_read.specs.Texts.{key_of};
 ghost use Rattle.vast_read.specs.TokenView.{key_view};
 
 use crate::token::Key;
-use crate::word::Word;
+use vast_names::Word;
 use std::alloc::{AllocError, Global};
 
 impl Key {

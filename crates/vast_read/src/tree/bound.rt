@@ -5,7 +5,7 @@ ghost use Rattle.vast_read.specs.Internal.Bounds.{is_name_of, is_bounded};
 ghost use Rattle.vast_read.specs.View.{view};
 
 use crate::tree::expression::NormalExpr;
-use crate::word::Word;
+use vast_names::Word;
 
 /// Whether a comparison by this sign with this left side bounds the name.
 #[tactic(auto, using(crate::proofs::Bounds::tests))]

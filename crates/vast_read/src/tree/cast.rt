@@ -9,7 +9,7 @@ ghost use Rattle.vast_read.specs.View.{view};
 use crate::fault::Fault;
 use crate::token::Key;
 use crate::tree::expression::NormalExpr;
-use crate::word::Word;
+use vast_names::Word;
 use std::alloc::Global;
 
 impl NormalExpr {

@@ -9,7 +9,7 @@ use crate::children::Children;
 use crate::fault::Fault;
 use crate::token::Key;
 use crate::tree::expression::NormalExpr;
-use crate::word::Word;
+use vast_names::Word;
 use std::alloc::Global;
 
 /// What stands between brackets in a declaration: an expression, or a range from one to another.

@@ -16,7 +16,7 @@ use crate::token::Key;
 use crate::tree::declaration::NormalDeclaration;
 use crate::tree::expression::NormalExpr;
 use crate::tree::member::NormalMember;
-use crate::word::Word;
+use vast_names::Word;
 use std::alloc::Global;
 
 /// A parameter of a module's header.

@@ -18,7 +18,7 @@ use crate::token::Key;
 use crate::tree::declaration::NormalDeclaration;
 use crate::tree::expression::NormalExpr;
 use crate::tree::statement::NormalStatement;
-use crate::word::Word;
+use vast_names::Word;
 use std::alloc::Global;
 
 /// What an always block waits for: an edge of an expression, or a change of a name.

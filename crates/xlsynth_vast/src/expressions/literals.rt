@@ -12,6 +12,7 @@ use crate::file::VastFile;
 use std::alloc::AllocError;
 use vast_core::{Expr, ExprNode};
 use vast_literal::{Literal, LiteralFormat, VastFault, pattern_text, quoted_text};
+use vast_names::Word;
 
 /// The value of a literal, where it is known: where an `i64` can be it.
 fn known_value(value: u128) -> Option<i64>
@@ -36,7 +37,7 @@ impl VastFile {
         let alloc = self.ast.allocator();
         let literal = Literal::parse(alloc, text)?;
         literal.validate_format(alloc, *format)?;
-        let text = literal.format(alloc, *format)?;
+        let text = Word::from_string(alloc, literal.format(alloc, *format)?)?;
         let node = ExprNode::Literal(text, known_value(literal.value()));
         Ok(self.push_expr(node)?)
     }
@@ -51,7 +52,8 @@ impl VastFile {
             (λ text. with_expr (pattern_literal text)) }
         ensures kept { Keeps self.old self.new }
     {
-        let text = pattern_text(self.ast.allocator(), bits_msb)?;
+        let alloc = self.ast.allocator();
+        let text = Word::from_string(alloc, pattern_text(alloc, bits_msb)?)?;
         Ok(self.push_expr(ExprNode::Literal(text, None))?)
     }
 
@@ -78,7 +80,8 @@ impl VastFile {
             (with_expr (decimal_literal value)) }
         ensures kept { Keeps self.old self.new }
     {
-        let text = format!(in self.ast.allocator(); "{value}")?;
+        let alloc = self.ast.allocator();
+        let text = Word::from_string(alloc, format!(in alloc; "{value}")?)?;
         self.push_expr(ExprNode::Literal(text, Some(i64::from(value))))
     }
 
@@ -91,7 +94,7 @@ impl VastFile {
             (with_expr (LiteralTree (codes "'1") (Some (pos 1)))) }
         ensures kept { Keeps self.old self.new }
     {
-        let text = String::from_str(self.ast.allocator(), "'1")?;
+        let text = Word::new(self.ast.allocator(), "'1")?;
         self.push_expr(ExprNode::Literal(text, Some(1)))
     }
 
@@ -104,7 +107,7 @@ impl VastFile {
             (with_expr (LiteralTree (codes "'0") (Some (pos 0)))) }
         ensures kept { Keeps self.old self.new }
     {
-        let text = String::from_str(self.ast.allocator(), "'0")?;
+        let text = Word::new(self.ast.allocator(), "'0")?;
         self.push_expr(ExprNode::Literal(text, Some(0)))
     }
 
@@ -117,7 +120,7 @@ impl VastFile {
             (with_expr (LiteralTree (codes "'X") None)) }
         ensures kept { Keeps self.old self.new }
     {
-        let text = String::from_str(self.ast.allocator(), "'X")?;
+        let text = Word::new(self.ast.allocator(), "'X")?;
         self.push_expr(ExprNode::Literal(text, None))
     }
 }

@@ -7,6 +7,7 @@ ghost use Rattle.xlsynth_vast.specs.Keeps.{Keeps};
 use crate::file::VastFile;
 use std::alloc::AllocError;
 use vast_core::{Expr, ExprNode};
+use vast_names::Word;
 
 impl VastFile {
     /// The bare name, which prints as it is and has no type: what inline text, an include or another file declares can
@@ -19,7 +20,7 @@ impl VastFile {
             (with_expr (NameTree name.now Untyped)) }
         ensures kept { Keeps self.old self.new }
     {
-        let name = String::from_str(self.ast.allocator(), name)?;
+        let name = Word::new(self.ast.allocator(), name)?;
         self.push_expr(ExprNode::Name(name, None))
     }
 }

@@ -16,6 +16,7 @@ use crate::helpers::records_are_sound;
 use std::alloc::AllocError;
 use vast_core::{Expr, ExprNode};
 use vast_literal::VastFault;
+use vast_names::Word;
 
 /// The values joined from the left by a call that makes an expression of two; `None` where there are no values.
 fn join_all<F>(
@@ -50,10 +51,10 @@ fn make_bit(set: bool, file: &mut VastFile) -> Result<Expr, AllocError>
     ensures { Builds file.old file.new result next_expr (with_expr (bit_literal set)) }
 {
     if set {
-        let text = String::from_str(file.ast.allocator(), "1'h1")?;
+        let text = Word::new(file.ast.allocator(), "1'h1")?;
         file.ast.push_expr(ExprNode::Literal(text, Some(1)))
     } else {
-        let text = String::from_str(file.ast.allocator(), "1'h0")?;
+        let text = Word::new(file.ast.allocator(), "1'h0")?;
         file.ast.push_expr(ExprNode::Literal(text, Some(0)))
     }
 }

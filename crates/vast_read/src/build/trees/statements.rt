@@ -11,7 +11,7 @@ use crate::build::{BuildStatements, StatementForm, StatementFormOf, Trees};
 use crate::children::Children;
 use crate::fault::Fault;
 use crate::tree::{Arm, CaseArm, NormalExpr, NormalStatement};
-use crate::word::Word;
+use vast_names::Word;
 use std::alloc::Global;
 
 impl<'t> BuildStatements<'t> for Trees {

@@ -6,5 +6,5 @@ use Rattle.vast_core.proofs.ast.Ast.function_add_variable.Goals as goal
 
 pub grow-requires : goal.grow-requires
 grow-requires c =
-    let own : string_bytes c.in_ok-own_name.own_name ≡ c.args.name.now = search rules in
-    (variable-enters-as (bench c.args.self.now) c.args.owner c.args.local c.args.kind c.args.name.now (string_bytes c.in_ok-own_name.own_name) c.in_ok-node_name.node_name c.args.data_type own c.requires.owner c.requires.kind c.requires.data_type c.requires.free)
+    let own : c.in_ok-own_name.own_name ≡ c.args.name.now = search rules in
+    (variable-enters-as (bench c.args.self.now) c.args.owner c.args.local c.args.kind c.args.name.now c.in_ok-own_name.own_name c.in_ok-node_name.node_name c.args.data_type own c.requires.owner c.requires.kind c.requires.data_type c.requires.free)

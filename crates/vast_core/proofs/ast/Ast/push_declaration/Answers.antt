@@ -6,11 +6,11 @@ use Rattle.vast_core.proofs.ast.Ast.push_declaration.Goals as goal
 
 pub grow-requires : goal.grow-requires
 grow-requires c =
-    let own : string_bytes c.in_ok-member_name.member_name ≡ c.args.name.now = search rules in
-    (declaration-enters-as (bench c.args.self.now) c.args.owner c.args.kind c.args.name.now (string_bytes c.in_ok-member_name.member_name) c.args.name.now c.in_ok-node_name.node_name c.args.data_type own refl c.requires.owner c.requires.kind c.requires.data_type c.requires.free)
+    let own : c.in_ok-member_name.member_name ≡ c.args.name.now = search rules in
+    (declaration-enters-as (bench c.args.self.now) c.args.owner c.args.kind c.args.name.now c.in_ok-member_name.member_name c.args.name.now c.in_ok-node_name.node_name c.args.data_type own refl c.requires.owner c.requires.kind c.requires.data_type c.requires.free)
 
 pub returns : goal.returns
 returns c =
-    let node : string_bytes c.in_ok-node_name.node_name ≡ c.args.name.now = search rules in
-    let own : string_bytes c.in_ok-member_name.member_name ≡ c.args.name.now = search rules in
+    let node : c.in_ok-node_name.node_name ≡ c.args.name.now = search rules in
+    let own : c.in_ok-member_name.member_name ≡ c.args.name.now = search rules in
     (rw c.next_term.ensures refl, c.in_ok-grow.ensures.1 ∙ rw (node, own) refl)

@@ -16,7 +16,7 @@ grow-requires c =
 
 pub returns : goal.returns
 returns c =
-    let variable : string_bytes c.in_ok-variable.variable ≡ c.args.name.now = search rules in
+    let variable : c.in_ok-variable.variable ≡ c.args.name.now = search rules in
     let own : string_bytes c.in_ok-own_name.own_name ≡ c.args.name.now = search rules in
     let names : in_byte_order c.enter.new.self ≡ c.args.name.now ∷ [] = rw (c.in_ok-enter.ensures.ok, c.new-names.ensures) refl in (
       rw c.next_function.ensures refl,

@@ -14,7 +14,7 @@ grow_in-requires c =
 
 pub returns : goal.returns
 returns c =
-    let variable : string_bytes c.in_ok-variable.variable ≡ c.args.name.now = search rules in
+    let variable : c.in_ok-variable.variable ≡ c.args.name.now = search rules in
     let own : string_bytes c.in_ok-name.name ≡ c.args.name.now = search rules in (
       rw c.next_nest.ensures.id refl,
       (rw c.in_ok-node.ensures.ok at c.in_ok-grow_in.ensures.1)

@@ -1,7 +1,7 @@
 -- The text of a word, wherever it lies.
 use Rattle.std.specs.Prelude.{ℕ, List, string_bytes}
-use Rattle.vast_read.specs.declared.word.Kept.{Kept}
-use Rattle.vast_read.specs.declared.word.Kept.TheVariants.{Short, Long}
+use Rattle.vast_names.specs.declared.word.Kept.{Kept}
+use Rattle.vast_names.specs.declared.word.Kept.TheVariants.{Short, Long}
 
 abbrev pub kept_text : Kept → List ℕ
 kept_text (Short text) = text

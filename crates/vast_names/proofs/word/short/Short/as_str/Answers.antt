@@ -1,6 +1,6 @@
 use Rattle.std.proofs.Common.{rules}
 use Rattle.std.proofs.lemmas.Str.{IsUtf8-had}
-use Rattle.vast_read.proofs.word.short.Short.as_str.Goals as goal
+use Rattle.vast_names.proofs.word.short.Short.as_str.Goals as goal
 
 -- The bytes are a text's.
 pub returns-in-Err : goal.returns-in-Err
