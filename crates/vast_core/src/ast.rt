@@ -20,6 +20,7 @@ mod assignments;
 mod bit_count;
 mod blocks;
 mod branches;
+mod decimal;
 mod events;
 mod expressions;
 mod functions;

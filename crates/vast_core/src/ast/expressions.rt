@@ -12,6 +12,7 @@ ghost use Rattle.vast_literal.specs.Tree.{IndexTree, SliceTree, MacroTree};
 
 use crate::ast::Ast;
 use crate::ast::arrivals::Terms;
+use crate::ast::decimal::decimal_word;
 use crate::handle::{Expr, Index, IndexableExpr, MacroRef, Slice};
 use crate::node::ExprNode;
 use std::alloc::AllocError;
@@ -162,8 +163,7 @@ impl Ast {
         ensures { Grows self.old self.new result (next_fixed_replication count)
             (with_fixed_replication count parts.now) }
     {
-        let decimal = format!(in self.alloc; "{count}")?;
-        let text = Word::new(self.alloc, &decimal)?;
+        let text = decimal_word(self.alloc, count)?;
         let parts = Vec::from_slice(self.alloc, parts)?;
         let literal = Expr {
             id: self.next_term(),

@@ -9,10 +9,10 @@ ghost use Rattle.vast_core.specs.View.{bench};
 
 use crate::ast::Ast;
 use crate::ast::arrivals::Terms;
+use crate::ast::decimal::decimal_word;
 use crate::handle::{Expr, VastDataType};
 use crate::node::{ExprNode, TypeNode};
 use std::alloc::AllocError;
-use vast_names::Word;
 
 impl Ast {
     /// Adds a type. Its parts are the file's, and it fits: a vector's width is usable and its value that of a literal,
@@ -43,8 +43,7 @@ impl Ast {
         requires { pos 1 ≤ℤ bits }
         ensures { Grows self.old self.new result (next_vector bits) (with_vector bits signed) }
     {
-        let decimal = format!(in self.alloc; "{bits}")?;
-        let text = Word::new(self.alloc, &decimal)?;
+        let text = decimal_word(self.alloc, bits)?;
         let width = Expr {
             id: self.next_term(),
         };

@@ -34,7 +34,7 @@ impl Function {
         ensures err { OnErr result (function_record self.new ≡ function_record self.old) }
     {
         self.inputs.reserve(1)?;
-        self.names.enter(&variable.name)?;
+        self.names.enter(variable.name.as_str())?;
         self.inputs.push(variable).unwrap();
         Ok(())
     }
@@ -46,7 +46,7 @@ impl Function {
         ensures err { OnErr result (function_record self.new ≡ function_record self.old) }
     {
         self.locals.reserve(1)?;
-        self.names.enter(&variable.name)?;
+        self.names.enter(variable.name.as_str())?;
         self.locals.push(variable).unwrap();
         Ok(())
     }
