@@ -25,8 +25,8 @@ use Rattle.vast_list.specs.Lines.{LineKind, Passed, Asked, Helped, Stepped, call
 use Rattle.vast_list.specs.Names.{IsEntered, value_named}
 use Rattle.vast_list.specs.Session.{Calls, Gives, GivesCall, IsGivenBy, IsSameFile, Takes}
 use Rattle.vast_list.specs.Written.{AreWritten, meaning}
-use Rattle.vast_list.specs.Built.{Between, Builds, LinesBuild, Reading, ReadsCall, ReadsLine, ReadsLines, nothing_read}
-use Rattle.vast_list.specs.Internal.Built.{HasBuilt, TakesLine}
+use Rattle.vast_list.specs.Built.{Between, Builds, HasBuilt, LinesBuild, Reading, ReadsCall, ReadsLine, ReadsLines, nothing_read}
+use Rattle.vast_list.specs.Internal.Built.{TakesLine}
 
 -- What no list names since a file and since a later one.
 pub unused-more : (b c d : Bench) → HasUnused b c → HasUnused c d → HasUnused b d

@@ -11,7 +11,7 @@ use Rattle.vast_list.specs.declared.session.Session.{Session}
 use Rattle.vast_list.specs.JsonLine.{EndsWithText, IsListJson}
 use Rattle.vast_list.specs.Internal.JsonLine.{AnswersOn, AreAnswers, EndsWithSession, maybe_json}
 use Rattle.vast_list.specs.Lines.{BeginsWithDialect, line_texts}
-use Rattle.vast_list.specs.Internal.Output.{is_made}
+use Rattle.vast_list.specs.Output.{is_made}
 use Rattle.vast_list.proofs.Outputs.{lines-next}
 use Rattle.vast_list.specs.Session.{IsTextOf}
 use Rattle.vast_list.specs.Written.{meaning}

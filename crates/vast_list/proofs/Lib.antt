@@ -9,3 +9,4 @@ pub mod Built
 pub mod JsonLines
 pub mod TextLines
 pub mod Mapped
+pub mod UntitledLists

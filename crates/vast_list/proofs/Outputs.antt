@@ -7,7 +7,8 @@ use Rattle.vast_literal.specs.declared.kind.VastFileType.{VastFileType}
 use Rattle.vast_list.specs.declared.answering.Answering.{Answering}
 use Rattle.vast_list.specs.declared.session.Session.{Session}
 use Rattle.vast_list.specs.declared.tries.Tries.{Tries}
-use Rattle.vast_list.specs.Internal.Built.{HasBuilt, TakesLine}
+use Rattle.vast_list.specs.Built.{HasBuilt}
+use Rattle.vast_list.specs.Internal.Built.{TakesLine}
 use Rattle.vast_list.proofs.Built.{lines-more}
 use Rattle.vast_list.specs.Lines.{BeginsWithDialect, Passed, dialect_word, line_kind, line_texts, without_return}
 use Rattle.vast_list.specs.Output.{header_line, BeginsWithHeader, IsOutput, is_again}

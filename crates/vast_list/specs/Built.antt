@@ -12,12 +12,13 @@ use Rattle.vast_list.specs.declared.line.Call.TheVariants.{Step as StepCall}
 use Rattle.vast_list.specs.declared.names.Named.{Named}
 use Rattle.vast_list.specs.declared.names.Named.TheVariants.{Handle}
 use Rattle.vast_list.specs.declared.questions.answered.Value.{Value}
+use Rattle.vast_list.specs.declared.session.Session.{Session}
 use Rattle.vast_list.specs.CallArguments.{call_pieces}
 use Rattle.vast_list.specs.CallNames.{call_name}
 use Rattle.vast_list.specs.Lines.{BeginsWithDialect, LineKind, Passed, Asked, Helped, Stepped, call_words, line_arguments, line_kind, line_name, line_word}
 use Rattle.vast_list.specs.Names.{IsEntered, value_named}
 use Rattle.vast_list.specs.Session.{Calls, IsTextOf}
-use Rattle.vast_list.specs.Written.{AreWritten}
+use Rattle.vast_list.specs.Written.{AreWritten, meaning}
 
 -- Between two calls the file is the same; where lines are taken again that were refused memory, it may have nodes and
 -- containers more that no list names.
@@ -63,6 +64,11 @@ nothing_read = record { calls = []; named = λ (name : List ℕ). None }
 abbrev pub LinesBuild : (again : Bool) → VastFileType → (lines : List (List ℕ)) → Bench → List Answer → (named : List ℕ → Option Named) → Type 0
 LinesBuild again dialect lines file answers named =
     (calls : List Call) × ReadsLines nothing_read (record { calls = calls; named = named }) lines × Builds again (start dialect 1) file [] answers calls
+
+-- The session is what the lines build; no line was passed over.
+abbrev pub HasBuilt : (again : Bool) → VastFileType → (lines : List (List ℕ)) → Session → Type 0
+HasBuilt again dialect lines session =
+    LinesBuild again dialect lines session.file session.answers.items (meaning session.names) × (session.skipped.items ≡ [])
 
 -- The text is the printed layout of the tree that the list's lines build.
 abbrev pub IsListText : (again : Bool) → (lines : List (List ℕ)) → (text : List ℕ) → Type 0

@@ -11,4 +11,5 @@ pub mod Built
 pub mod JsonLine
 pub mod Origins
 pub mod Linted
+pub mod Untitled
 pub mod Internal

@@ -1,6 +1,8 @@
 -- What is printed of a list.
 use Rattle.std.specs.Prelude.{◌≡◌, ℕ, Bool, true, false, List, ◌++◌, codes, Option, Some, None}
 use Rattle.std.specs.Borrow.{Bor}
+use Rattle.vast_list.specs.declared.output.Verdict.{Verdict}
+use Rattle.vast_list.specs.declared.output.Verdict.TheVariants.{Made, Refused, NotInForm}
 use Rattle.vast_list.specs.declared.tries.Tries.{Tries}
 use Rattle.vast_list.specs.declared.tries.Tries.TheVariants.{Once, Again}
 use Rattle.vast_list.specs.Built.{IsListText}
@@ -23,3 +25,9 @@ is_again Again = true
 abbrev pub IsOutput : Tries → Option (Bor (List ℕ)) → (lines : List (List ℕ)) → (output : List ℕ) → Type 0
 IsOutput tries (Some title) lines output = BeginsWithHeader title.now output
 IsOutput tries None lines output = IsListText (is_again tries) lines output
+
+-- nothing of the list was at fault
+abbrev pub is_made : Verdict → Bool
+is_made Made = true
+is_made Refused = false
+is_made NotInForm = false

@@ -2,8 +2,8 @@
 
 ghost use Rattle.std.specs.Prelude.{◌≡◌, IfOk, OnOk, is_some, false, true};
 ghost use Rattle.vast_list.specs.Internal.Built.{TakesLine};
-ghost use Rattle.vast_list.specs.Output.{is_again};
-ghost use Rattle.vast_list.specs.Internal.Output.{Prints, TakesOn, is_made};
+ghost use Rattle.vast_list.specs.Output.{is_again, is_made};
+ghost use Rattle.vast_list.specs.Internal.Output.{Prints, TakesOn};
 
 use crate::again::Trial;
 use crate::fault::{Fault, LineFault};

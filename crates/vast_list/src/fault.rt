@@ -2,13 +2,12 @@
 
 use crate::nearest::nearest_call;
 use crate::problem::{Misfit, Problem};
-use crate::session::Session;
+use crate::session::{Select, Session};
 use crate::table::{Parameter, row_of};
 use std::alloc::{AllocError, AllocFailed, Global};
 use std::fmt;
 use vast_literal::{VastError, VastFault};
 use vast_script::{Answer, StepFault};
-use xlsynth_vast::VastFile;
 
 /// Why a line gave nothing.
 #[derive(Drop)]
@@ -199,9 +198,9 @@ pub(crate) fn refused_text(session: &Session, error: VastError) -> Result<LineFa
     let alloc = session.file().allocator();
     let words = format!(in alloc; "{error}")?;
     let mut line = 0;
-    for (place, answer) in session.answers().iter().enumerate() {
-        if is_refused(session.file(), *answer, &words)? {
-            line = session.line_of(place).unwrap_or(0);
+    for select in session.selects() {
+        if is_refused(session, *select, &words)? {
+            line = select.line;
             break;
         }
     }
@@ -216,11 +215,12 @@ pub(crate) fn refused_text(session: &Session, error: VastError) -> Result<LineFa
     })
 }
 
-/// Whether the answer is a select whose text is refused in these words.
-fn is_refused(file: &VastFile, answer: Answer, words: &str) -> Result<bool, AllocError> {
-    let select = match answer {
-        Answer::Index(index) if file.owns(&index) => index.to_expr(),
-        Answer::Slice(slice) if file.owns(&slice) => slice.to_expr(),
+/// Whether the text of the select is refused in these words.
+fn is_refused(session: &Session, select: Select, words: &str) -> Result<bool, AllocError> {
+    let file = session.file();
+    let select = match session.answers().get(select.place) {
+        Some(Answer::Index(index)) if file.owns(index) => index.to_expr(),
+        Some(Answer::Slice(slice)) if file.owns(slice) => slice.to_expr(),
         _ => return Ok(false),
     };
     if !file.owns(&select) {

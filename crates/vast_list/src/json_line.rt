@@ -5,7 +5,7 @@ ghost use Rattle.vast_core.specs.FileTree.{tree};
 ghost use Rattle.vast_list.specs.JsonLine.{EndsWithText, IsListJson};
 ghost use Rattle.vast_list.specs.Internal.JsonLine.{AnswersOn, AreAnswers, EndsWithSession, maybe_json};
 ghost use Rattle.vast_list.specs.Lines.{line_texts};
-ghost use Rattle.vast_list.specs.Internal.Output.{is_made};
+ghost use Rattle.vast_list.specs.Output.{is_made};
 ghost use Rattle.vast_list.specs.Session.{IsTextOf};
 
 use crate::answering::Told;

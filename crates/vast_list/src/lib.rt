@@ -31,6 +31,7 @@ mod table;
 mod talk;
 mod texts;
 mod tries;
+mod untitled;
 mod warnings;
 
 pub use fault::{Fault, LineFault};
@@ -49,4 +50,5 @@ pub use table::json::calls_json;
 pub use table::text::calls_text;
 pub use talk::Talk;
 pub use tries::Tries;
+pub use untitled::UntitledList;
 pub use warnings::{LineWarning, json_with_warnings, list_warnings};

@@ -19,8 +19,15 @@ use xlsynth_vast::{Expr, VastFileType};
 #[derive(Drop)]
 pub(crate) struct SessionLint {
     lint: Lint,
-    /// The name of each answer's call.
-    calls: Vec<&'static str>,
+    /// The call of each answer.
+    calls: Vec<LintedCall>,
+}
+
+/// What is told of a call beside what it prints.
+#[derive(Clone, Copy)]
+struct LintedCall {
+    line: usize,
+    name: &'static str,
 }
 
 impl SessionLint {
@@ -34,13 +41,15 @@ impl SessionLint {
         }
     }
 
-    /// The session's last answer is that of this line's call. Appends what the call prints.
+    /// The session's last answer is that of the call of this line, whose number in the input is `number`. Appends what the
+    /// call prints.
     ///
     /// # Errors
     /// Want of memory; the lint is then behind the session.
     pub(crate) fn answered(
         &mut self,
         session: &Session,
+        number: usize,
         line: &[u8],
         call: Option<&Call>,
         warnings: &mut Vec<LineWarning>,
@@ -49,7 +58,7 @@ impl SessionLint {
         ensures calls { OnOk result
             (length self.new.calls.items ≡ length self.old.calls.items + 1) }
     {
-        self.calls.push(name_in(line))?;
+        self.calls.push(call_in(number, line))?;
         match call {
             Some(Call::Step(step)) => {
                 let told = self.lint.step(step)?;
@@ -80,15 +89,26 @@ impl SessionLint {
     ) -> Result<(), AllocError> {
         let alloc = session.file().allocator();
         for warning in told {
-            let call = self.calls.get(warning.number).copied().unwrap_or("");
+            let (line, name) = match self.calls.get(warning.number) {
+                Some(call) => (call.line, call.name),
+                None => (0, ""),
+            };
             warnings.push(LineWarning {
-                line: session.line_of(warning.number).unwrap_or(0),
-                call: String::from_str(alloc, call)?,
+                line,
+                call: String::from_str(alloc, name)?,
                 text: shown_text(session, warning.shown)?,
                 rule: warning.rule,
             })?;
         }
         Ok(())
+    }
+}
+
+/// The line's call.
+fn call_in(number: usize, line: &[u8]) -> LintedCall {
+    LintedCall {
+        line: number,
+        name: name_in(line),
     }
 }
 

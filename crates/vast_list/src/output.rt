@@ -160,7 +160,11 @@ fn answered<'a>(
 }
 
 /// A list without a dialect.
-fn bad_dialect(alloc: Global, tries: Tries, fault: LineFault) -> Result<ListOutput, AllocError>
+pub(crate) fn bad_dialect(
+    alloc: Global,
+    tries: Tries,
+    fault: LineFault,
+) -> Result<ListOutput, AllocError>
     ensures { IfOk result (λ made. made.output ≡ None) }
 {
     let mut told = Told::new(alloc);
@@ -186,7 +190,7 @@ fn output_of(output: Option<Vec<u8>>, told: Told) -> ListOutput
 
 /// What the list gives, all of whose lines were taken.
 #[tactic(auto, using(crate::proofs::Outputs::titles))]
-fn finished(
+pub(crate) fn finished(
     alloc: Global,
     tries: Tries,
     title: Option<&[u8]>,

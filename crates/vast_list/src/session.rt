@@ -29,11 +29,20 @@ use xlsynth_vast::{Expr, FileIds, VastFile, VastFileType};
 pub struct Session {
     file: VastFile,
     answers: Vec<Answer>,
-    /// The line of each answer.
-    lines: Vec<usize>,
+    /// The selects among the answers, in order.
+    selects: Vec<Select>,
     names: Names,
     /// The numbers of steps and helpers that were passed over, from the least to the greatest.
     skipped: Vec<usize>,
+}
+
+/// A bit select or a part select: where a text is refused, it is over one.
+#[derive(Clone, Copy)]
+pub(crate) struct Select {
+    /// Its place among the answers.
+    pub(crate) place: usize,
+    /// The line of its call.
+    pub(crate) line: usize,
 }
 
 /// What a line gave. `call` is the call's name as it stands in the line, its sign included.
@@ -91,6 +100,13 @@ fn named(value: &Value) -> Named
     }
 }
 
+/// Keeps the line of an answer that is a select. There is room for one more.
+fn keep_select(selects: &mut Vec<Select>, answer: Answer, place: usize, line: usize) {
+    if let Answer::Index(_) | Answer::Slice(_) = answer {
+        let _ = selects.push(Select { place, line });
+    }
+}
+
 impl Session {
     /// An empty file of the dialect. It takes no memory.
     pub fn new(alloc: Global, dialect: VastFileType) -> Session
@@ -103,7 +119,7 @@ impl Session {
         Session {
             file: VastFile::new(alloc, dialect, &mut ids).unwrap(),
             answers: Vec::new(alloc),
-            lines: Vec::new(alloc),
+            selects: Vec::new(alloc),
             names: Names::new(alloc),
             skipped: Vec::new(alloc),
         }
@@ -231,9 +247,9 @@ impl Session {
         &self.answers
     }
 
-    /// The line whose call gave the answer at this place.
-    pub fn line_of(&self, place: usize) -> Option<usize> {
-        self.lines.get(place).copied()
+    /// The bit selects and part selects among the answers, in order.
+    pub(crate) fn selects(&self) -> &[Select] {
+        &self.selects
     }
 
     /// The call that the line makes; `None` where it makes none, or is not in the form.
@@ -304,13 +320,13 @@ impl Session {
         ensures unseen { IfErr result (λ fault. HasUnused self.old.file self.new.file) }
     {
         self.answers.reserve(1)?;
-        self.lines.reserve(1)?;
+        self.selects.reserve(1)?;
         let place = self.answers.len();
         enter(&mut self.names, name, Named::Handle(place))?;
         match make_call(&mut self.file, &self.answers, made) {
             Ok(answer) => {
+                keep_select(&mut self.selects, answer, place, number);
                 self.answers.push(answer)?;
-                let _ = self.lines.push(number);
                 Ok(())
             }
             Err(fault) => {

@@ -202,7 +202,7 @@ fn take_linted<'l>(
     match &given {
         Given::Nothing | Given::Answer { call: _, value: _ } => Ok(given),
         Given::Step { number: _, call: _ } | Given::Helper { number: _, call: _ } => {
-            match lint.answered(session, line, call.as_ref(), warnings) {
+            match lint.answered(session, number, line, call.as_ref(), warnings) {
                 Ok(()) => Ok(given),
                 Err(_) => Err(Fault::Memory),
             }

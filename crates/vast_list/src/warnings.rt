@@ -76,7 +76,7 @@ fn take_linted(
     let call = answering.session.call_of(line)?;
     answering.take(number, line)?;
     if answering.session.answers().len() > before {
-        lint.answered(&answering.session, line, call.as_ref(), warnings)?;
+        lint.answered(&answering.session, number, line, call.as_ref(), warnings)?;
     }
     Ok(())
 }

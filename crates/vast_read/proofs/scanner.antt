@@ -1,7 +1,10 @@
 mod Cuts
 mod Lexemes
+mod Fronts
 pub mod Places
+pub mod LexemePlaces
 mod Words
+mod WordFronts
 mod Literals
 mod BasedLiterals
 mod Strings

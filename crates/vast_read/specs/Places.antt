@@ -2,16 +2,20 @@
 use Rattle.std.specs.Prelude.{◌≡◌, ◌⊎◌, ℕ, List, [], ◌∷◌, ◌++◌, drop, true}
 use Rattle.vast_literal.specs.Tokens.{Token}
 use Rattle.vast_literal.specs.Scan.{Gap, is_space}
+use Rattle.vast_literal.specs.Lexemes.{Lexes}
+use Rattle.vast_read.specs.Behind.{Behind}
 use Rattle.vast_read.specs.Lexed.{lex}
 use Rattle.vast_read.specs.Scanner.{byte_at}
 
--- The tokens of a text are some and those of its rest.
-abbrev pub Ends : (text rest : List ℕ) → Type 0
-Ends text rest = (before : List Token) × (lex Gap text ≡ before ++ lex Gap rest)
-
--- The tokens of a text are some and those from this place on: no token goes over it.
+-- What stands in front of this place is some of the text's lexemes, so no token goes over it.
 abbrev pub IsBetweenTokens : (text : List ℕ) → (place : ℕ) → Type 0
-IsBetweenTokens text place = Ends text (drop place text)
+IsBetweenTokens text place = Behind text (drop place text)
+
+-- The tokens of a text are some and those of what stands behind such a place.
+abbrev pub PlacesPartTokens : Type 0
+PlacesPartTokens =
+    (text : List ℕ) (place : ℕ) (ts : List Token) → IsBetweenTokens text place → Lexes text ts →
+    (before behind : List Token) × (ts ≡ before ++ behind) × Lexes (drop place text) behind
 
 -- The tokens of a text are its first and those of the rest; where it has none, nothing is left.
 abbrev pub IsBehindFirst : (text rest : List ℕ) → Type 0

@@ -1,10 +1,12 @@
 //! The files that the program is given.
 
+use crate::failure::{Failure, fail, tell};
+use crate::input::{Taken, take_input};
 use crate::outcome::Outcome;
-use crate::program::{Failure, Manner, answer_lists, fail, run, tell};
+use crate::program::{Manner, answer_taken, run};
 use crate::words::{Form, Linting};
-use std::fs;
 use std::io::{ErrorKind, IsTerminal, Write};
+use std::{fs, io};
 use vast_list::{Tries, tried};
 
 /// Answers the lists of the files in order, or of standard input where there are none.
@@ -58,8 +60,8 @@ fn answer_file(rt: &HostRuntime, manner: Manner<'_>, file: &str) -> Outcome {
     if file == "-" {
         return run(alloc, manner, &mut rt.stdin(), &mut out, &mut err);
     }
-    match tried!(manner.tries, fs::read(rt, file)) {
-        Ok(bytes) => {
+    match read_file(rt, manner, file) {
+        Ok(taken) => {
             let manner = Manner {
                 form: manner.form,
                 map: manner.map,
@@ -67,7 +69,7 @@ fn answer_file(rt: &HostRuntime, manner: Manner<'_>, file: &str) -> Outcome {
                 tries: manner.tries,
                 source: file,
             };
-            answer_lists(alloc, manner, &bytes, &mut out, &mut err)
+            answer_taken(alloc, manner, taken, &mut out, &mut err)
         }
         Err(error) if error.kind() == ErrorKind::OutOfMemory => fail(Failure::Memory, &mut err),
         Err(error) => {
@@ -78,4 +80,12 @@ fn answer_file(rt: &HostRuntime, manner: Manner<'_>, file: &str) -> Outcome {
             tell(told, &mut err)
         }
     }
+}
+
+fn read_file(rt: &HostRuntime, manner: Manner<'_>, file: &str) -> io::Result<Taken> {
+    if manner.takes_lines_once() {
+        let mut input = fs::File::open(rt, file)?;
+        return take_input(rt.alloc(), &mut input);
+    }
+    Ok(Taken::Bytes(tried!(manner.tries, fs::read(rt, file))?))
 }

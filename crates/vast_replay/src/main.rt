@@ -1,6 +1,7 @@
 //! Makes files of lists of calls, and prints them: `vast_replay counter.list > counter.sv`; `--help` tells the rest.
 #![tactic(auto)]
 
+mod failure;
 mod files;
 mod help;
 mod input;
@@ -11,10 +12,10 @@ mod program;
 mod session;
 mod words;
 
+use failure::{Failure, fail, tell};
 use files::answer_files;
 use help::{HELP, VERSION};
 use outcome::Outcome;
-use program::{Failure, fail, tell};
 use session::answer_lines;
 use std::alloc::{AllocError, Global};
 use std::env;

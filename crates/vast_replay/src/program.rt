@@ -1,43 +1,23 @@
 //! What the program does with lists.
 
-ghost use Rattle.std.specs.Prelude.{◌≡◌};
+ghost use Rattle.std.specs.Prelude.{◌≡◌, OnOk};
 ghost use Rattle.std.specs.Io.KnownBytes.{IsAtEnd};
 
 #[cfg(test)]
 mod tests;
 
-use crate::input::split_lists;
+use crate::failure::{Failure, fail};
+use crate::input::{Taken, split_lists, take_input};
 use crate::outcome::Outcome;
 use crate::words::{Form, Linting};
 use std::alloc::{AllocError, Global};
 use std::fmt::Write as _;
+use std::io;
 use std::io::{ErrorKind, Read, Write};
 use vast_list::{
     LineWarning, ListLines, ListOutput, Plainness, Tries, Verdict, json_with_map,
     json_with_warnings, list_json, list_origins, list_output, list_plainness, list_warnings, tried,
 };
-
-/// What ends a run.
-#[derive(Clone, Copy)]
-pub enum Failure {
-    Memory,
-    Read,
-    Write,
-    /// There are more lines than can be counted.
-    Lines,
-}
-
-impl Failure {
-    /// The line that tells it.
-    fn line(self) -> &'static str {
-        match self {
-            Failure::Memory => "out of memory\n",
-            Failure::Read => "read fault\n",
-            Failure::Write => "write fault\n",
-            Failure::Lines => "too many lines\n",
-        }
-    }
-}
 
 /// How lists are answered.
 #[derive(Clone, Copy)]
@@ -52,6 +32,15 @@ pub struct Manner<'a> {
     pub tries: Tries,
     /// What stands before each fault: where the lists are from.
     pub source: &'a str,
+}
+
+impl Manner<'_> {
+    /// Whether each line is looked at once, so that none need be kept.
+    pub fn takes_lines_once(self) -> bool {
+        let is_text = matches!(self.form, Form::Text | Form::Faults);
+        let is_once = matches!(self.tries, Tries::Once);
+        is_text && is_once && !self.map && self.lint == Linting::Off
+    }
 }
 
 /// Reads lists of calls to the end of `input`, makes their calls and prints what they give.
@@ -79,21 +68,43 @@ pub fn run<R: Read, W: Write, E: Write>(
     ensures silent { result ≡ Outcome.Made → E.contents err.new ≡ E.contents err.old }
     ensures read { result ≡ Outcome.Made → IsAtEnd (R.remaining input.new) }
 {
-    let mut bytes = Vec::new(alloc);
-    match tried!(manner.tries, input.read_to_end(&mut bytes)) {
-        Ok(_) => answer_lists(alloc, manner, &bytes, out, err),
-        Err(error) => {
-            if error.kind() == ErrorKind::OutOfMemory {
-                fail(Failure::Memory, err)
-            } else {
-                fail(Failure::Read, err)
-            }
-        }
+    match read(alloc, manner, input) {
+        Ok(taken) => answer_taken(alloc, manner, taken, out, err),
+        Err(error) if error.kind() == ErrorKind::OutOfMemory => fail(Failure::Memory, err),
+        Err(_) => fail(Failure::Read, err),
     }
 }
 
-/// Answers the lists of an input, as `run` does.
-pub fn answer_lists<W: Write, E: Write>(
+/// Reads an input to its end.
+fn read<R: Read>(alloc: Global, manner: Manner<'_>, input: &mut R) -> io::Result<Taken>
+    ensures { OnOk result (IsAtEnd (R.remaining input.new)) }
+{
+    if manner.takes_lines_once() {
+        return take_input(alloc, input);
+    }
+    let mut bytes = Vec::new(alloc);
+    tried!(manner.tries, input.read_to_end(&mut bytes))?;
+    Ok(Taken::Bytes(bytes))
+}
+
+/// Answers what is read of an input, as `run` does.
+pub(crate) fn answer_taken<W: Write, E: Write>(
+    alloc: Global,
+    manner: Manner<'_>,
+    taken: Taken,
+    out: &mut W,
+    err: &mut E,
+) -> Outcome
+    ensures { result ≡ Outcome.Made → E.contents err.new ≡ E.contents err.old }
+{
+    match taken {
+        Taken::Bytes(bytes) => answer_lists(alloc, manner, &bytes, out, err),
+        Taken::List(made) => answer_made(alloc, manner, false, made, out, err),
+    }
+}
+
+/// Answers the lists of an input.
+fn answer_lists<W: Write, E: Write>(
     alloc: Global,
     manner: Manner<'_>,
     input: &[u8],
@@ -144,6 +155,27 @@ fn answer_text<W: Write, E: Write>(
     let Ok(made) = list_output(alloc, manner.tries, list) else {
         return fail(Failure::Memory, err);
     };
+    let Ok(made) = mapped(alloc, manner, list, made) else {
+        return fail(Failure::Memory, err);
+    };
+    let outcome = answer_made(alloc, manner, list.title.is_some(), made, out, err);
+    if outcome == Outcome::Failed {
+        return outcome;
+    }
+    outcome.and(tell_warnings(alloc, manner, list, err))
+}
+
+/// Writes what one list gives to `out`, in one piece, and its faults to `err`.
+fn answer_made<W: Write, E: Write>(
+    alloc: Global,
+    manner: Manner<'_>,
+    has_title: bool,
+    made: ListOutput,
+    out: &mut W,
+    err: &mut E,
+) -> Outcome
+    ensures { result ≡ Outcome.Made → E.contents err.new ≡ E.contents err.old }
+{
     let Ok(told) = tried!(manner.tries, told(alloc, manner.source, &made)) else {
         return fail(Failure::Memory, err);
     };
@@ -152,19 +184,16 @@ fn answer_text<W: Write, E: Write>(
         verdict,
         ..
     } = made;
-    let Ok(output) = mapped(alloc, manner, list, output) else {
-        return fail(Failure::Memory, err);
-    };
     if let (Form::Text, Some(output)) = (manner.form, &output) {
         if out.write_all(output).is_err() {
             return fail(Failure::Write, err);
         }
     }
-    let outcome = outcome_of(verdict, list.title.is_some());
+    let outcome = outcome_of(verdict, has_title);
     if outcome != Outcome::Made {
         let _ = err.write_all(told.as_bytes());
     }
-    outcome.and(tell_warnings(alloc, manner, list, err))
+    outcome
 }
 
 /// Answers to `out` whether the list's file is plain, where nothing of the list is at fault.
@@ -250,22 +279,19 @@ fn warned(alloc: Global, source: &str, warnings: &[LineWarning]) -> Result<Strin
     Ok(told)
 }
 
-/// The list's output; with a map each line of the file's text stands behind the line of the list that it comes from.
+/// What the list gives; with a map each line of the file's text stands behind the line of the list that it comes from.
 fn mapped(
     alloc: Global,
     manner: Manner<'_>,
     list: &ListLines<'_>,
-    output: Option<Vec<u8>>,
-) -> Result<Option<Vec<u8>>, AllocError> {
-    match output {
-        Some(output) if manner.map => {
-            match tried!(manner.tries, list_origins(alloc, list))? {
-                Some(origins) => Ok(Some(tried!(manner.tries, origins.mapped(&output))?)),
-                None => Ok(Some(output)),
-            }
+    mut made: ListOutput,
+) -> Result<ListOutput, AllocError> {
+    if let (true, Some(output)) = (manner.map, &made.output) {
+        if let Some(origins) = tried!(manner.tries, list_origins(alloc, list))? {
+            made.output = Some(tried!(manner.tries, origins.mapped(output))?);
         }
-        output => Ok(output),
     }
+    Ok(made)
 }
 
 /// Answers one list to `out` by a line of JSON.
@@ -338,23 +364,4 @@ fn told(alloc: Global, source: &str, made: &ListOutput) -> Result<String, AllocE
         writeln!(told, "{source}: {} faults more", made.more)?;
     }
     Ok(told)
-}
-
-/// Tells in one write what is not in the form or can't be read, and that memory was refused to its words.
-pub fn tell<E: Write>(told: Result<String, AllocError>, err: &mut E) -> Outcome {
-    match told {
-        Ok(told) => {
-            let _ = err.write_all(told.as_bytes());
-            Outcome::NotInForm
-        }
-        Err(_) => fail(Failure::Memory, err),
-    }
-}
-
-/// Tells what ends the run.
-pub fn fail<E: Write>(failure: Failure, err: &mut E) -> Outcome
-    ensures { result ≡ Outcome.Failed }
-{
-    let _ = err.write_all(failure.line().as_bytes());
-    Outcome::Failed
 }

@@ -2,8 +2,8 @@
 
 ghost use Rattle.std.specs.Prelude.{◌≡◌};
 
+use crate::failure::{Failure, fail};
 use crate::outcome::Outcome;
-use crate::program::{Failure, fail};
 use std::alloc::Global;
 use std::io;
 use std::io::{BufRead, ErrorKind, Write};

@@ -1,16 +1,9 @@
 -- Beside `specs/Built.antt`: what private contracts and proofs say, and no public one.
-use Rattle.std.specs.Prelude.{◌≡◌, ℕ, Bool, List, []}
-use Rattle.vast_literal.specs.declared.kind.VastFileType.{VastFileType}
+use Rattle.std.specs.Prelude.{◌≡◌, ℕ, Bool, List}
 use Rattle.vast_list.specs.declared.session.Given.{Given}
 use Rattle.vast_list.specs.declared.session.Session.{Session}
 use Rattle.vast_list.specs.Session.{Gives, IsGivenBy, IsSameKnown}
-use Rattle.vast_list.specs.Written.{meaning}
-use Rattle.vast_list.specs.Built.{Between, LinesBuild}
-
--- The session is what the lines build; no line was passed over.
-abbrev pub HasBuilt : (again : Bool) → VastFileType → (lines : List (List ℕ)) → Session → Type 0
-HasBuilt again dialect lines session =
-    LinesBuild again dialect lines session.file session.answers.items (meaning session.names) × (session.skipped.items ≡ [])
+use Rattle.vast_list.specs.Built.{Between}
 
 -- One line is taken; where memory was refused it, once more.
 pub record TakesLine (again : Bool) (old new : Session) (line : List ℕ) : Type 0 where

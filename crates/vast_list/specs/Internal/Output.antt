@@ -1,21 +1,14 @@
 -- Beside `specs/Output.antt`: what private contracts and proofs say, and no public one.
-use Rattle.std.specs.Prelude.{◌≡◌, ℕ, Bool, true, false, is_some, List, Option, Some, None, IsTrue}
+use Rattle.std.specs.Prelude.{◌≡◌, ℕ, false, is_some, List, Option, Some, None, IsTrue}
 use Rattle.std.specs.Borrow.{Bor}
 use Rattle.vast_core.specs.FileTree.{tree}
 use Rattle.vast_literal.specs.declared.kind.VastFileType.{VastFileType}
 use Rattle.vast_list.specs.declared.answering.Answering.{Answering}
-use Rattle.vast_list.specs.declared.output.Verdict.{Verdict}
-use Rattle.vast_list.specs.declared.output.Verdict.TheVariants.{Made, Refused, NotInForm}
 use Rattle.vast_list.specs.declared.tries.Tries.{Tries}
-use Rattle.vast_list.specs.Internal.Built.{HasBuilt, TakesLine}
+use Rattle.vast_list.specs.Built.{HasBuilt}
+use Rattle.vast_list.specs.Internal.Built.{TakesLine}
 use Rattle.vast_list.specs.Session.{IsTextOf}
-use Rattle.vast_list.specs.Output.{BeginsWithHeader, is_again}
-
--- nothing of the list was at fault
-abbrev pub is_made : Verdict → Bool
-is_made Made = true
-is_made Refused = false
-is_made NotInForm = false
+use Rattle.vast_list.specs.Output.{BeginsWithHeader, is_again, is_made}
 
 -- What is printed and told goes on; the session is the same, and what was at fault stays so.
 pub record Prints (old new : Answering) : Type 0 where

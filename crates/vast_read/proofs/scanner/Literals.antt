@@ -5,6 +5,7 @@ use Rattle.std.proofs.lemmas.List.{get_or-drop}
 use Rattle.std.proofs.lemmas.Bool.Decides.{nat_tests}
 use Rattle.vast_literal.specs.Tokens.{Number, Based, Mark, Apostrophe, OpenParen, OpenBrace}
 use Rattle.vast_literal.specs.Scan.{is_digit, is_radix, is_filler, Gap, InNumber, AfterTick, keep, give, fail, before_tick, step}
+use Rattle.vast_literal.specs.LiteralToken.{every}
 use Rattle.vast_read.specs.Lexed.{lex, lex_on, unspelled}
 use Rattle.vast_literal.proofs.ScanLaws.{digit_letter, and_left, and_right}
 use Rattle.vast_read.specs.Internal.Scanner.{opens_based, is_based_tick, opens_mark, IsTick}
@@ -24,10 +25,10 @@ tick_step : (d : List ℕ) (c : ℕ) → c ≡ 39 → step (InNumber d) c ≡ ke
 tick_step d c e = rw e refl
 
 -- an apostrophe behind them
-pub digits_tick : (text : List ℕ) (n : ℕ) → At (InNumber (take n text)) text n → get_or text n 10 ≡ 39 → IsTick text n
-digits_tick text n at e =
+pub digits_tick : (text : List ℕ) (n : ℕ) → every is_digit (take n text) ≡ true → At (InNumber (take n text)) text n → get_or text n 10 ≡ 39 → IsTick text n
+digits_tick text n digits at e =
     let within = other_within text n (λ b. absurd (omega arith)) in
-    record { scanned = advance (InNumber (take n text)) (AfterTick (take n text)) text n within at (tick_step (take n text) (get_or text n 10) e); within = within; here = e }
+    record { scanned = advance (InNumber (take n text)) (AfterTick (take n text)) text n within at (tick_step (take n text) (get_or text n 10) e); digits = digits; within = within; here = e }
 
 -- an apostrophe that opens no based literal stands apart from the number before it
 marks_apart : (d : ℕ) (ds : List ℕ) (filler paren brace : Bool) (x : ℕ) (xs : List ℕ) →
@@ -79,7 +80,7 @@ number_front (c ∷ cs) n h e f =
 pub tick_on : (text : List ℕ) → get_or text 0 10 ≡ 39 → IsTick text 0
 unfolding lex
 tick_on [] e = absurd (omega arith)
-tick_on (c ∷ cs) e = record { scanned = rw e refl; within = omega arith; here = e }
+tick_on (c ∷ cs) e = record { scanned = rw e refl; digits = refl; within = omega arith; here = e }
 
 pub filler_front : (text : List ℕ) → get_or text 0 10 ≡ 39 → opens_based (get_or text 1 10) ≡ false → is_filler (get_or text 1 10) ≡ true → lex Gap text ≡ ((Based (take 2 text)) ∷ lex Gap (drop 2 text))
 unfolding lex

@@ -1,22 +1,25 @@
 -- Places of a text between its tokens.
-use Rattle.std.proofs.Common.{◌≡◌, List, ℕ, [], ◌∷◌, ◌++◌, length, drop, length-drop, inl, inr, refl, sym, ap, ◌∙◌, append_assoc, append-nil, arith}
-use Rattle.vast_literal.specs.Tokens.{Token}
+use Rattle.std.proofs.Common.{◌≡◌, ◌≢◌, List, ℕ, [], ◌∷◌, ◌++◌, length, Option, None, inl, inr, refl, sym, ap, subst, ◌∙◌, append_assoc, arith}
+use Rattle.std.specs.Option.{MatchOption}
 use Rattle.vast_literal.specs.Scan.{Gap}
 use Rattle.vast_read.specs.Lexed.{unspelled, lex}
-use Rattle.vast_read.specs.Places.{Ends, IsBehindFirst, IsBetweenTokens}
-use Rattle.vast_read.proofs.scanner.Lexemes.{none_left}
+use Rattle.vast_read.specs.Behind.{Behind, none_before, lexeme, apostrophe}
+use Rattle.vast_read.specs.Places.{IsBehindFirst}
 
--- behind one more token
-pub ends_behind : (text rest after : List ℕ) (t : Token) → Ends text rest → lex Gap rest ≡ (t ∷ lex Gap after) → Ends text after
-ends_behind text rest after t before d =
-    (before.0 ++ (t ∷ []), before.1 ∙ ap (λ (us : List Token). before.0 ++ us) d ∙ sym (append_assoc before.0 (t ∷ []) (lex Gap after)))
+-- what stands behind some lexemes of a text ends it
+pub behind_suffix : (text rest : List ℕ) → Behind text rest → (before : List ℕ) × (text ≡ before ++ rest)
+behind_suffix text rest none_before = ([], refl)
+behind_suffix text rest (lexeme {front} {behind} l m h) =
+    let s = behind_suffix behind rest h in
+    (front ++ s.0, ap (λ x. front ++ x) s.1 ∙ sym (append_assoc front s.0 rest))
+behind_suffix text rest (apostrophe {c} {behind} l h) =
+    let s = behind_suffix (c ∷ behind) rest h in
+    (39 ∷ s.0, ap (λ x. 39 ∷ x) s.1)
 
--- at the end
-pub between_at_end : (text : List ℕ) → IsBetweenTokens text (length text)
-between_at_end text =
-    let e = length-drop (length text) text in
-    let n = none_left (drop (length text) text) (omega (arith, e)) in
-    (lex Gap text, rw n (sym (append-nil (lex Gap text))))
+pub no_other_rest : {T : Type 0} (P : T → Type 0) (text rest : List ℕ) → Behind text rest → (o : Option T) → o ≡ None → MatchOption o ((before : List ℕ) → text ≢ before ++ rest) P → ⊥
+no_other_rest P text rest h o e n =
+    let s = behind_suffix text rest h in
+    subst (λ x. MatchOption x ((before : List ℕ) → text ≢ before ++ rest) P) e n s.0 s.1
 
 -- behind the first token: where none fits, and where none is left
 pub behind_unspelled : (text rest : List ℕ) → lex Gap rest ≡ lex Gap text → lex Gap rest ≡ (unspelled ∷ []) → IsBehindFirst text []

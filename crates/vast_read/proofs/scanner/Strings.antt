@@ -5,6 +5,7 @@ use Rattle.std.proofs.lemmas.List.{get_or_past, take_more}
 use Rattle.std.proofs.lemmas.Bool.Decides.{nat_tests}
 use Rattle.vast_literal.specs.Tokens.{Quoted}
 use Rattle.vast_literal.specs.Scan.{Gap, InString, InEscape}
+use Rattle.vast_read.specs.Behind.{Behind}
 use Rattle.vast_read.specs.Lexed.{lex, unspelled}
 use Rattle.vast_read.specs.Internal.Scanner.{string_part, EndsString}
 use Rattle.vast_read.proofs.scanner.Lexemes.{At, advance, fails}
@@ -77,8 +78,8 @@ closes : (w rest : List ℕ) (c : ℕ) → c ≡ 34 → lex (InString w) (c ∷ 
 unfolding lex
 closes w rest c e = rw e refl
 
-pub string_ends : (text : List ℕ) (place : ℕ) → place < length text → At (InString (take place text)) text place → get_or text place 10 ≡ 34 → EndsString text (place + 1)
-string_ends text place within at e =
+pub string_ends : (text : List ℕ) (place : ℕ) → place < length text → At (InString (take place text)) text place → Behind text (drop (place + 1) text) → get_or text place 10 ≡ 34 → EndsString text (place + 1)
+string_ends text place within at behind e =
     let here : place + 1 - 1 ≡ place = omega arith in
     let rest = drop-cons text place 10 within in
-    record { scanned = at ∙ (rw (rest, take_more text place 10 within, add-one) (closes (take place text) (drop (suc place) text) _ e)); moved = omega arith; within = omega arith; closed = rw (here, e) refl }
+    record { scanned = at ∙ (rw (rest, take_more text place 10 within, add-one) (closes (take place text) (drop (suc place) text) _ e)); moved = omega arith; within = omega arith; closed = rw (here, e) refl; behind = behind }

@@ -1,8 +1,11 @@
 -- Beside `specs/Scanner.antt`: what private contracts and proofs say, and no public one.
-use Rattle.std.specs.Prelude.{◌≡◌, ◌<◌, ◌≤◌, ◌+◌, ◌-◌, ⊤, ℕ, List, [], ◌∷◌, length, take, drop, Bool, not, ◌||◌, ◌&&◌, cond, eqb, Option, Some, None}
+use Rattle.std.specs.Prelude.{◌≡◌, ◌<◌, ◌≤◌, ◌+◌, ◌-◌, ⊤, ℕ, List, [], ◌∷◌, ◌++◌, length, take, drop, Bool, true, not, ◌||◌, ◌&&◌, cond, eqb, Option, Some, None}
 use Rattle.std.specs.Str.{IsUtf8, IsCharBoundary}
 use Rattle.vast_literal.specs.Tokens as to
 use Rattle.vast_literal.specs.Scan.{is_letter, is_word_byte, is_digit, is_based_digit, is_radix, is_space, Gap, AfterTick, InComment, Pending, Step, keep, give, fail}
+use Rattle.vast_literal.specs.LiteralToken.{every}
+use Rattle.vast_literal.proofs.LexemeShapes.{one, sign_goes}
+use Rattle.vast_read.specs.Behind.{Behind}
 use Rattle.vast_read.specs.Lexed.{lex, lex_on, unspelled}
 use Rattle.vast_read.specs.Internal.TokenView.{token_view}
 use Rattle.vast_read.specs.declared.token.Token.{Token}
@@ -22,10 +25,12 @@ passes class.Digit c = is_digit c
 passes class.BasedDigit c = is_based_digit c
 passes class.Line c = not (eqb c 10)
 
--- The tokens of a text are the token at its front and those behind it, those behind a gap, or none fits; what is behind is shorter.
+-- The tokens of a text are the token at its front and those behind it, those behind a gap, or none fits; what is behind is shorter
+-- and stands behind some of the text's lexemes.
 abbrev pub Fronts : Front → List ℕ → Type 0
-Fronts (front.Token t rest) text = (lex Gap text ≡ (token_view t ∷ lex Gap rest.now)) × (length rest.now < length text)
-Fronts (front.Gap rest) text = (lex Gap text ≡ lex Gap rest.now) × (length rest.now < length text)
+Fronts (front.Token t rest) text =
+    (lex Gap text ≡ (token_view t ∷ lex Gap rest.now)) × (length rest.now < length text) × Behind text rest.now
+Fronts (front.Gap rest) text = (lex Gap text ≡ lex Gap rest.now) × (length rest.now < length text) × Behind text rest.now
 Fronts front.Unspelled text = lex Gap text ≡ (unspelled ∷ [])
 
 -- It is white space or a comment.
@@ -49,9 +54,14 @@ abbrev pub growth_or_fail : Option Growth → Step
 growth_or_fail None = fail
 growth_or_fail (Some g) = growth_step g
 
+-- What may stand behind the bytes before a place, in one lexeme with them.
+abbrev pub GoesOn : (go : List ℕ → Bool) → (text : List ℕ) → (place : ℕ) → Type 0
+GoesOn go text place = (v : List ℕ) → one (take place text ++ v) ≡ go v
+
 -- The scan of the bytes before a place ends by this step, and the text may be cut there.
 pub record Reaches (text : List ℕ) (place : ℕ) (last : Step) : Type 0 where
   pub scanned : lex Gap text ≡ lex_on [] last.out (lex last.state (drop place text))
+  pub goes : GoesOn (sign_goes last.state) text place
   pub moved : 0 < place
   pub utf8 : IsUtf8 text
   pub boundary : IsCharBoundary text place
@@ -75,6 +85,7 @@ radix_place next tick = cond (eqb next 115) (tick + 2) (tick + 1)
 -- An apostrophe stands at a place, behind digits or none.
 pub record IsTick (text : List ℕ) (tick : ℕ) : Type 0 where
   pub scanned : lex Gap text ≡ lex (AfterTick (take tick text)) (drop (tick + 1) text)
+  pub digits : every is_digit (take tick text) ≡ true
   pub within : tick < length text
   pub here : byte_at text tick ≡ 39
 
@@ -88,3 +99,4 @@ pub record EndsString (text : List ℕ) (end : ℕ) : Type 0 where
   pub moved : 0 < end
   pub within : end ≤ length text
   pub closed : byte_at text (end - 1) ≡ 34
+  pub behind : Behind text (drop end text)

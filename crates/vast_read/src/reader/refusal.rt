@@ -59,8 +59,9 @@ impl<'t> Reader<'t> {
         ensures boundary { IsCharBoundary text.now result }
     {
         match self.rest.token {
-            Some(_token) => place_before(text, self.rest.behind.len()),
-            None => text.len(),
+            Some(_token) => place_before(text, self.rest.behind.len() + 1),
+            // No token has fewer than no bytes behind it.
+            None => place_before(text, 0),
         }
     }
 

@@ -2,29 +2,30 @@
 
 ghost use Rattle.std.specs.Prelude.{◌≡◌, IsCharBoundary};
 ghost use Rattle.vast_literal.specs.Scan.{Gap};
+ghost use Rattle.vast_read.specs.Behind.{Behind};
 ghost use Rattle.vast_read.specs.Lexed.{lex};
-ghost use Rattle.vast_read.specs.Places.{BeginsWithoutSpace, Ends, IsBehindFirst, IsBetweenTokens};
+ghost use Rattle.vast_read.specs.Places.{BeginsWithoutSpace, IsBehindFirst, IsBetweenTokens};
 
 use crate::scanner::front::Front;
 use crate::scanner::front_of;
 
-/// The place in a text of its first token that has at most so many bytes behind it; where it has none, the end.
-pub(crate) fn place_before(text: &str, behind: usize) -> usize
+/// The place in a text of its first token that has fewer bytes than so many behind it; where it has none, the end.
+pub(crate) fn place_before(text: &str, bytes: usize) -> usize
     ensures between { IsBetweenTokens text.now result }
     ensures boundary { IsCharBoundary text.now result }
 {
-    place_of(text, from_token(text, behind))
+    place_of(text, from_token(text, bytes))
 }
 
-/// The text from its first token on that has at most so many bytes behind it.
-fn from_token<'t>(text: &'t str, behind: usize) -> &'t str
-    ensures { Ends text.now result.now }
+/// The text from its first token on that has fewer bytes than so many behind it.
+fn from_token<'t>(text: &'t str, bytes: usize) -> &'t str
+    ensures { Behind text.now result.now }
 {
     let mut rest = text;
     while !rest.is_empty() {
         match front_of(rest) {
             Front::Token(_, after) => {
-                if after.len() <= behind {
+                if after.len() < bytes {
                     return rest;
                 }
                 rest = after;
@@ -38,7 +39,7 @@ fn from_token<'t>(text: &'t str, behind: usize) -> &'t str
 
 /// The place from which on this is the rest of the text.
 fn place_of(text: &str, rest: &str) -> usize
-    requires { Ends text.now rest.now }
+    requires { Behind text.now rest.now }
     ensures between { IsBetweenTokens text.now result }
     ensures boundary { IsCharBoundary text.now result }
 {

@@ -1,9 +1,8 @@
 use Rattle.std.proofs.Common.{◌≡◌, take, false}
 use Rattle.std.specs.Prelude.{is_some, IsTrue}
-use Rattle.vast_list.specs.Internal.Built.{HasBuilt}
+use Rattle.vast_list.specs.Built.{HasBuilt}
 use Rattle.vast_list.specs.Lines.{line_texts}
-use Rattle.vast_list.specs.Output.{is_again}
-use Rattle.vast_list.specs.Internal.Output.{is_made}
+use Rattle.vast_list.specs.Output.{is_again, is_made}
 use Rattle.vast_list.proofs.output.answered.Given as goal
 
 abbrev pub invariant-loop-number : goal.invariant-loop-number

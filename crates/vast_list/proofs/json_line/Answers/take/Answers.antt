@@ -6,7 +6,7 @@ use Rattle.vast_list.specs.declared.json_line.Answers.{Answers}
 use Rattle.vast_list.specs.declared.session.Session.{Session}
 use Rattle.vast_list.specs.Internal.Built.{TakesLine}
 use Rattle.vast_list.specs.Internal.JsonLine.{AnswersOn}
-use Rattle.vast_list.specs.Internal.Output.{is_made}
+use Rattle.vast_list.specs.Output.{is_made}
 use Rattle.vast_list.proofs.Built.{takes_once}
 use Rattle.vast_list.proofs.json_line.Answers.take.Goals as goal
 

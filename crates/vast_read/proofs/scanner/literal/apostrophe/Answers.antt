@@ -4,6 +4,7 @@ use Rattle.vast_read.specs.Internal.Scanner.{opens_mark}
 use Rattle.vast_read.proofs.scanner.Cuts.{cut_behind}
 use Rattle.vast_read.proofs.scanner.Words.{passed_within}
 use Rattle.vast_read.proofs.scanner.Literals.{tick_on, based_tick, filler_small, unopened, filler_front, mark_front, tick_none}
+use Rattle.vast_read.proofs.scanner.WordFronts.{filler_behind, mark_behind}
 use Rattle.vast_read.proofs.scanner.literal.apostrophe.Goals as goal
 
 pub based-requires-clause-tick : goal.based-requires-clause-tick
@@ -21,13 +22,19 @@ split_at-requires c =
 pub returns-then-is_filler : goal.returns-then-is_filler
 returns-then-is_filler c =
     let apart = unopened c.args.text.now c.requires (sym c.opens_based.ensures ∙ c.if-opens_based.false) in
-    let filler : is_filler (get_or c.args.text.now 1 10) ≡ true = ap is_filler (sym c.byte_at-next.ensures) ∙ (sym c.is_filler.ensures ∙ c.if-is_filler.true) in
-    (rw (c.split_at.ensures.front, c.split_at.ensures.back) (filler_front c.args.text.now c.requires apart filler), omega (arith, c.split_at.ensures.back_len))
+    let filler : is_filler (get_or c.args.text.now 1 10) ≡ true = ap is_filler (sym c.byte_at-next.ensures) ∙ (sym c.is_filler.ensures ∙ c.if-is_filler.true) in (
+      rw (c.split_at.ensures.front, c.split_at.ensures.back) (filler_front c.args.text.now c.requires apart filler),
+      omega (arith, c.split_at.ensures.back_len),
+      rw c.split_at.ensures.back (filler_behind c.args.text.now c.requires apart filler),
+    )
 
 pub returns-then-opens_mark : goal.returns-then-opens_mark
 returns-then-opens_mark c =
-    let mark : opens_mark (get_or c.args.text.now 1 10) ≡ true = ap opens_mark (sym c.byte_at-next.ensures) ∙ (sym c.opens_mark.ensures ∙ c.if-opens_mark.true) in
-    (rw c.split_at-then-opens_mark.ensures.back (mark_front c.args.text.now c.requires mark), omega (arith, c.split_at-then-opens_mark.ensures.back_len))
+    let mark : opens_mark (get_or c.args.text.now 1 10) ≡ true = ap opens_mark (sym c.byte_at-next.ensures) ∙ (sym c.opens_mark.ensures ∙ c.if-opens_mark.true) in (
+      rw c.split_at-then-opens_mark.ensures.back (mark_front c.args.text.now c.requires mark),
+      omega (arith, c.split_at-then-opens_mark.ensures.back_len),
+      rw c.split_at-then-opens_mark.ensures.back (mark_behind c.args.text.now c.requires mark),
+    )
 
 pub returns-else-opens_mark : goal.returns-else-opens_mark
 returns-else-opens_mark c =

@@ -11,4 +11,4 @@ split_at-requires c =
 pub returns-in-Some : goal.returns-in-Some
 returns-in-Some c =
     let e : EndsString c.args.text.now c.in-Some.end = c.in-Some.ensures in
-    (rw (c.split_at.ensures.front, c.split_at.ensures.back) e.scanned, omega (arith, e.moved, c.split_at.ensures.back_len))
+    (rw (c.split_at.ensures.front, c.split_at.ensures.back) e.scanned, omega (arith, e.moved, c.split_at.ensures.back_len), rw c.split_at.ensures.back e.behind)

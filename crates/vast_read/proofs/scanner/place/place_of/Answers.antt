@@ -1,5 +1,5 @@
-use Rattle.vast_read.proofs.scanner.Places.{between_at_end}
+use Rattle.vast_read.proofs.scanner.Places.{no_other_rest}
 use Rattle.vast_read.proofs.scanner.place.place_of.Goals as goal
 
 pub returns-in-None-clause-between : goal.returns-in-None-clause-between
-returns-in-None-clause-between c = between_at_end c.args.text.now
+returns-in-None-clause-between c = absurd (no_other_rest _ c.args.text.now c.args.rest.now c.requires c.strip_suffix.result c.in-None.is c.strip_suffix.ensures.cases)

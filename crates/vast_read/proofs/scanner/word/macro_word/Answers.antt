@@ -1,5 +1,6 @@
 use Rattle.std.proofs.Common.{sym, ◌∙◌, arith}
 use Rattle.vast_read.proofs.scanner.Words.{word_cut, macro_front, macro_none}
+use Rattle.vast_read.proofs.scanner.WordFronts.{macro_behind}
 use Rattle.vast_read.proofs.scanner.word.macro_word.Goals as goal
 
 pub returns-then-not-is_letter_at : goal.returns-then-not-is_letter_at
@@ -13,5 +14,8 @@ range_from-requires c some = word_cut c.args.text.now 2 c.run_end-end.result c.u
 
 pub returns : goal.returns
 returns c =
-    let front = macro_front c.args.text.now c.run_end-end.result c.requires (sym c.is_letter_at.ensures ∙ c.if-not-is_letter_at.false) c.run_end-end.ensures.place in
-    (rw (c.range.ensures.value, c.range_from.ensures.value) front, omega (arith, c.range_from.ensures.len))
+    let front = macro_front c.args.text.now c.run_end-end.result c.requires (sym c.is_letter_at.ensures ∙ c.if-not-is_letter_at.false) c.run_end-end.ensures.place in (
+      rw (c.range.ensures.value, c.range_from.ensures.value) front,
+      omega (arith, c.range_from.ensures.len),
+      rw c.range_from.ensures.value (macro_behind c.args.text.now c.run_end-end.result c.requires (sym c.is_letter_at.ensures ∙ c.if-not-is_letter_at.false) c.run_end-end.ensures.place),
+    )

@@ -1,5 +1,6 @@
 use Rattle.std.proofs.Common.{sym, ◌∙◌, arith}
 use Rattle.vast_read.proofs.scanner.Words.{word_cut, system_front, system_none}
+use Rattle.vast_read.proofs.scanner.WordFronts.{system_behind}
 use Rattle.vast_read.proofs.scanner.word.system_word.Goals as goal
 
 pub returns-then-not-is_letter_at : goal.returns-then-not-is_letter_at
@@ -10,5 +11,8 @@ split_at-requires c = word_cut c.args.text.now 2 c.run_end.result c.utf8.text (o
 
 pub returns : goal.returns
 returns c =
-    let front = system_front c.args.text.now c.run_end.result c.requires (sym c.is_letter_at.ensures ∙ c.if-not-is_letter_at.false) c.run_end.ensures.place in
-    (rw (c.split_at.ensures.front, c.split_at.ensures.back) front, omega (arith, c.split_at.ensures.back_len))
+    let front = system_front c.args.text.now c.run_end.result c.requires (sym c.is_letter_at.ensures ∙ c.if-not-is_letter_at.false) c.run_end.ensures.place in (
+      rw (c.split_at.ensures.front, c.split_at.ensures.back) front,
+      omega (arith, c.split_at.ensures.back_len),
+      rw c.split_at.ensures.back (system_behind c.args.text.now c.run_end.result c.requires (sym c.is_letter_at.ensures ∙ c.if-not-is_letter_at.false) c.run_end.ensures.place),
+    )
