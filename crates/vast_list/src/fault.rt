@@ -2,12 +2,13 @@
 
 use crate::nearest::nearest_call;
 use crate::problem::{Misfit, Problem};
-use crate::session::{Select, Session};
+use crate::session::Session;
 use crate::table::{Parameter, row_of};
 use std::alloc::{AllocError, AllocFailed, Global};
 use std::fmt;
 use vast_literal::{VastError, VastFault};
-use vast_script::{Answer, StepFault};
+use vast_script::StepFault;
+use xlsynth_vast::{Expr, VastFile};
 
 /// Why a line gave nothing.
 #[derive(Drop)]
@@ -199,7 +200,7 @@ pub(crate) fn refused_text(session: &Session, error: VastError) -> Result<LineFa
     let words = format!(in alloc; "{error}")?;
     let mut line = 0;
     for select in session.selects() {
-        if is_refused(session, *select, &words)? {
+        if is_refused(session.file(), select.expression, &words)? {
             line = select.line;
             break;
         }
@@ -216,13 +217,7 @@ pub(crate) fn refused_text(session: &Session, error: VastError) -> Result<LineFa
 }
 
 /// Whether the text of the select is refused in these words.
-fn is_refused(session: &Session, select: Select, words: &str) -> Result<bool, AllocError> {
-    let file = session.file();
-    let select = match session.answers().get(select.place) {
-        Some(Answer::Index(index)) if file.owns(index) => index.to_expr(),
-        Some(Answer::Slice(slice)) if file.owns(slice) => slice.to_expr(),
-        _ => return Ok(false),
-    };
+fn is_refused(file: &VastFile, select: Expr, words: &str) -> Result<bool, AllocError> {
     if !file.owns(&select) {
         return Ok(false);
     }

@@ -213,7 +213,12 @@ fn design(tries: Tries, answering: Answering<'_>) -> Result<ListOutput, AllocErr
     ensures { IfOk result (λ made. IfSome made.output
         (λ output. IsDesign answering.entry output.items)) }
 {
-    let Answering { session, told, .. } = answering;
+    let Answering {
+        mut session,
+        told,
+        ..
+    } = answering;
+    session.forget_answers();
     match told.verdict {
         Verdict::Made => printed(tries, &session, told),
         Verdict::Refused | Verdict::NotInForm => Ok(output_of(None, told)),

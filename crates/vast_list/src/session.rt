@@ -39,8 +39,7 @@ pub struct Session {
 /// A bit select or a part select: where a text is refused, it is over one.
 #[derive(Clone, Copy)]
 pub(crate) struct Select {
-    /// Its place among the answers.
-    pub(crate) place: usize,
+    pub(crate) expression: Expr,
     /// The line of its call.
     pub(crate) line: usize,
 }
@@ -101,10 +100,13 @@ fn named(value: &Value) -> Named
 }
 
 /// Keeps the line of an answer that is a select. There is room for one more.
-fn keep_select(selects: &mut Vec<Select>, answer: Answer, place: usize, line: usize) {
-    if let Answer::Index(_) | Answer::Slice(_) = answer {
-        let _ = selects.push(Select { place, line });
-    }
+fn keep_select(selects: &mut Vec<Select>, answer: Answer, line: usize) {
+    let expression = match answer {
+        Answer::Index(index) => index.to_expr(),
+        Answer::Slice(slice) => slice.to_expr(),
+        _ => return,
+    };
+    let _ = selects.push(Select { expression, line });
 }
 
 impl Session {
@@ -247,6 +249,15 @@ impl Session {
         &self.answers
     }
 
+    /// Lets go what lines look up, which printing has no need of.
+    pub(crate) fn forget_answers(&mut self)
+        ensures { self.new.file ≡ self.old.file }
+    {
+        let alloc = self.file.allocator();
+        self.answers = Vec::new(alloc);
+        self.names = Names::new(alloc);
+    }
+
     /// The bit selects and part selects among the answers, in order.
     pub(crate) fn selects(&self) -> &[Select] {
         &self.selects
@@ -325,7 +336,7 @@ impl Session {
         enter(&mut self.names, name, Named::Handle(place))?;
         match make_call(&mut self.file, &self.answers, made) {
             Ok(answer) => {
-                keep_select(&mut self.selects, answer, place, number);
+                keep_select(&mut self.selects, answer, number);
                 self.answers.push(answer)?;
                 Ok(())
             }
