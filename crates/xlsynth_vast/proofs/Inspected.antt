@@ -1,7 +1,6 @@
 -- Laws of what inspections answer.
-use Rattle.std.proofs.Common.{◌≡◌, ℕ, zero, suc, ℤ, pos, negsuc, Bool, true, IsTrue, Option, Some, None, List, [], ◌∷◌, take, filter, All, refl, ap, arith, String}
+use Rattle.std.proofs.Common.{◌≡◌, ℕ, zero, suc, ℤ, pos, negsuc, Bool, true, IsTrue, Option, Some, None, List, [], ◌∷◌, take, filter, All, refl, ap, arith}
 use Rattle.std.proofs.lemmas.Int.{ints}
-use Rattle.std.specs.declared.alloc.Global.{Global}
 use Rattle.std.proofs.lemmas.Bool.Decides.{nat_tests}
 use Rattle.std.proofs.lemmas.List.Elements.{All-filter}
 use Rattle.vast_literal.specs.Tree.{TypeTree}
@@ -31,7 +30,7 @@ pub tree-named : (b : Bench) (e : Expr) → IsTrue (has_root is_name b e.id.inde
 unfolding expr_in
 tree-named b e h = root-named _ h
 
-pub no_other_node : (b : Nodes) (node : ExprNode) → is_name (expr_tree b node) ≡ true → ((name : String Global) (type : Option VastDataType) → node ≡ Name name type → ⊥) → ⊥
+pub no_other_node : (b : Nodes) (node : ExprNode) → is_name (expr_tree b node) ≡ true → ((name : List ℕ) (type : Option VastDataType) → node ≡ Name name type → ⊥) → ⊥
 no_other_node b (Name name type) h other = other name type refl
 no_other_node b (Literal text value) h other = cc
 no_other_node b (StringText text) h other = cc
