@@ -1,5 +1,5 @@
 -- A list without a title whose lines are taken as they come.
-use Rattle.std.specs.Prelude.{◌≡◌, ℕ, List, ◌∷◌, ◌++◌, All, IfSome, IsTrue, false, is_some, ⊤}
+use Rattle.std.specs.Prelude.{◌≡◌, ℕ, List, [], ◌∷◌, ◌++◌, All, IfSome, IsTrue, false, is_some, ⊤}
 use Rattle.vast_literal.specs.declared.kind.VastFileType.{VastFileType}
 use Rattle.vast_list.specs.declared.answering.Answering.{Answering}
 use Rattle.vast_list.specs.declared.output.ListOutput.{ListOutput}
