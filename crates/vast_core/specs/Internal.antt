@@ -5,6 +5,7 @@ pub mod Growth
 pub mod Parameters
 pub mod Sound
 pub mod Containers
+pub mod Fresh
 pub mod Arrivals
 pub mod Scopes
 pub mod Spots

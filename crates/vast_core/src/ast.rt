@@ -31,6 +31,7 @@ mod laws;
 mod loops;
 mod members;
 mod modules;
+mod named;
 mod next;
 pub(crate) mod owns;
 mod parameters;

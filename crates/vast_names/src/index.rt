@@ -174,7 +174,7 @@ impl Index {
         ensures slots { OnOk result (0 < length self.new.heads.items) }
     {
         if self.heads.len() <= texts.len() {
-            let slots = (2 * texts.len()).max(FIRST_SLOTS);
+            let slots = (4 * texts.len()).max(FIRST_SLOTS);
             *self = Index::filed(alloc, texts, slots)?;
         }
         Ok(())

@@ -3,18 +3,27 @@
 ghost use Rattle.std.specs.Prelude.{◌≡◌, false, slice_get};
 ghost use Rattle.vast_core.specs.Handles.{continuous_index, statement_index};
 ghost use Rattle.vast_core.specs.Bench.{OwnsContinuous, OwnsStatement, OwnsExpr};
-ghost use Rattle.vast_core.specs.Growth.{Grows, next_continuous, with_assignment};
+ghost use Rattle.vast_core.specs.Internal.Containers.{Nowhere, GrowthSound, after_growth, fresh_assignment};
+ghost use Rattle.vast_core.specs.Growth.{Grows, GrowsBy, next_continuous, with_assignment};
 ghost use Rattle.vast_core.specs.Artifacts.{next_statement};
 ghost use Rattle.vast_core.specs.View.{bench};
 
 use crate::ast::Ast;
-use crate::ast::arrivals::{Arrivals, Node, Terms};
-use crate::ast::growth::Place;
 use crate::handle::{ContinuousAssignment, Expr, VastStatement};
 use crate::node::Assignment;
 use std::alloc::AllocError;
 
 impl Ast {
+    /// Adds one assignment by a plain push, which takes less than the growth of anything.
+    fn grow_assignment(&mut self, assignment: Assignment) -> Result<(), AllocError>
+        requires { GrowthSound (bench self.old) Nowhere (fresh_assignment assignment) }
+        ensures { GrowsBy self.old self.new result
+            (after_growth Nowhere (fresh_assignment assignment)) }
+    {
+        self.assignments.push(assignment)?;
+        Ok(())
+    }
+
     /// Adds the assignment `assign lhs = rhs`, which no list holds yet.
     ///
     /// # Errors
@@ -50,18 +59,11 @@ impl Ast {
             (with_assignment (record { lhs = lhs; rhs = rhs; nonblocking = nonblocking })) }
     {
         let id = self.next_assignment();
-        self.grow(
-            Place::Nowhere,
-            Arrivals {
-                terms: Terms::Nothing,
-                node: Node::Assignment(Assignment {
-                    lhs,
-                    rhs,
-                    nonblocking,
-                }),
-                block: false,
-            },
-        )?;
+        self.grow_assignment(Assignment {
+            lhs,
+            rhs,
+            nonblocking,
+        })?;
         Ok(VastStatement { id })
     }
 

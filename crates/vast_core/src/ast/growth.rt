@@ -234,7 +234,7 @@ fn enter_port(
     target.enter_port(port, name)
 }
 
-fn enter_module(
+pub(crate) fn enter_module(
     modules: &mut Vec<Module>,
     owner: VastModule,
     member: Member,

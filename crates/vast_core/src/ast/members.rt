@@ -7,8 +7,6 @@ ghost use Rattle.vast_core.specs.Growth.{Grows, with_declaration, next_logic_ref
 ghost use Rattle.vast_core.specs.View.{bench};
 
 use crate::ast::Ast;
-use crate::ast::arrivals::{Arrivals, Node, Terms};
-use crate::ast::growth::Place;
 use crate::handle::{LogicRef, VastDataType, VastModule};
 use crate::node::{ExprNode, Member};
 use std::alloc::AllocError;
@@ -41,17 +39,11 @@ impl Ast {
         let logic_ref = LogicRef {
             id: self.next_term(),
         };
-        self.grow(
-            Place::Module(
-                owner,
-                Member::Declaration(kind, member_name, data_type),
-                Some(name),
-            ),
-            Arrivals {
-                terms: Terms::One(ExprNode::Name(node_name, Some(data_type))),
-                node: Node::Nothing,
-                block: false,
-            },
+        self.grow_named(
+            owner,
+            Member::Declaration(kind, member_name, data_type),
+            name,
+            ExprNode::Name(node_name, Some(data_type)),
         )?;
         Ok(logic_ref)
     }

@@ -72,6 +72,9 @@ impl Ast {
         requires shared { IsShared (member_entry member) }
         ensures { GrowsBy self.old self.new result (with_scope_member scope (member_entry member)) }
     {
-        self.grow_in(scope, member, Arrivals::none())
+        match scope {
+            Scope::Module(owner) => self.grow_listed(owner, member),
+            Scope::Loop(_) => self.grow_in(scope, member, Arrivals::none()),
+        }
     }
 }
