@@ -106,7 +106,14 @@ fn print_local(
         (variable_tree (bench ast.now) (variable_record local.now)))) out.new result }
 {
     out.next(depth)?;
-    print_declaration(ast, local.kind, local.data_type, local.name.as_str(), depth, out)?;
+    print_declaration(
+        ast,
+        local.kind,
+        local.data_type,
+        local.name.as_str(),
+        depth,
+        out,
+    )?;
     out.word(";")?;
     Ok(())
 }

@@ -15,8 +15,8 @@ use crate::build::{Build, Form};
 use crate::children::Children;
 use crate::fault::Fault;
 use crate::tree::NormalExpr;
-use vast_names::Word;
 use std::alloc::Global;
+use vast_names::Word;
 
 /// The tree of an expression is made.
 pub(crate) struct Trees;

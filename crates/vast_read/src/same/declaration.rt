@@ -10,8 +10,8 @@ use crate::same::expression::{part, same_expression, same_part};
 use crate::same::list::{Same, same_list};
 use crate::same::written::same_key;
 use crate::tree::{Group, NormalDeclaration};
-use vast_names::Word;
 use std::alloc::{AllocError, Global};
+use vast_names::Word;
 
 impl Same for Group {
     ghost use Rattle.vast_read.specs.DeclarationView.{group_view};

@@ -8,8 +8,8 @@ ghost use Rattle.vast_read.specs.Texts.{key_of};
 ghost use Rattle.vast_read.specs.TokenView.{key_view};
 
 use crate::token::Key;
-use vast_names::Word;
 use std::alloc::{AllocError, Global};
+use vast_names::Word;
 
 impl Key {
     /// How it is written.

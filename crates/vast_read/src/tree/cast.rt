@@ -9,8 +9,8 @@ ghost use Rattle.vast_read.specs.View.{view};
 use crate::fault::Fault;
 use crate::token::Key;
 use crate::tree::expression::NormalExpr;
-use vast_names::Word;
 use std::alloc::Global;
+use vast_names::Word;
 
 impl NormalExpr {
     /// A cast by a keyword.

@@ -9,8 +9,8 @@ use crate::children::Children;
 use crate::fault::Fault;
 use crate::token::Key;
 use crate::tree::expression::NormalExpr;
-use vast_names::Word;
 use std::alloc::Global;
+use vast_names::Word;
 
 /// What stands between brackets in a declaration: an expression, or a range from one to another.
 #[derive(PartialEq, Drop)]

@@ -16,8 +16,8 @@ use crate::token::Key;
 use crate::tree::declaration::NormalDeclaration;
 use crate::tree::expression::NormalExpr;
 use crate::tree::member::NormalMember;
-use vast_names::Word;
 use std::alloc::Global;
+use vast_names::Word;
 
 /// A parameter of a module's header.
 #[derive(PartialEq, Drop)]

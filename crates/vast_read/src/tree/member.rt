@@ -18,8 +18,8 @@ use crate::token::Key;
 use crate::tree::declaration::NormalDeclaration;
 use crate::tree::expression::NormalExpr;
 use crate::tree::statement::NormalStatement;
-use vast_names::Word;
 use std::alloc::Global;
+use vast_names::Word;
 
 /// What an always block waits for: an edge of an expression, or a change of a name.
 #[derive(PartialEq, Drop)]

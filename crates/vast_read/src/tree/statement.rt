@@ -10,8 +10,8 @@ ghost use Rattle.vast_read.specs.View.{view};
 use crate::children::Children;
 use crate::fault::Fault;
 use crate::tree::expression::NormalExpr;
-use vast_names::Word;
 use std::alloc::Global;
+use vast_names::Word;
 
 /// A procedural statement (IEEE Std 1800-2017, clauses 10.4 and 12).
 ///

@@ -11,8 +11,8 @@ use crate::build::{BuildStatements, StatementForm, StatementFormOf, Trees};
 use crate::children::Children;
 use crate::fault::Fault;
 use crate::tree::{Arm, CaseArm, NormalExpr, NormalStatement};
-use vast_names::Word;
 use std::alloc::Global;
+use vast_names::Word;
 
 impl<'t> BuildStatements<'t> for Trees {
     type Statement = NormalStatement;
