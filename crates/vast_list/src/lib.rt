@@ -26,6 +26,7 @@ mod plainness;
 mod problem;
 mod questions;
 mod reply;
+mod selects;
 mod session;
 mod table;
 mod talk;

@@ -19,6 +19,7 @@ use crate::line::{Action, Call, Line, is_empty, read_line, split_line, text_of};
 use crate::names::{Named, Names, is_name};
 use crate::questions::answered::Value;
 use crate::questions::{Question, answer};
+use crate::selects::{Select, keep_select};
 use std::alloc::{AllocError, Global};
 use vast_literal::VastFault;
 use vast_script::{Answer, StepFault, one, replay_step};
@@ -34,14 +35,6 @@ pub struct Session {
     names: Names,
     /// The numbers of steps and helpers that were passed over, from the least to the greatest.
     skipped: Vec<usize>,
-}
-
-/// A bit select or a part select: where a text is refused, it is over one.
-#[derive(Clone, Copy)]
-pub(crate) struct Select {
-    pub(crate) expression: Expr,
-    /// The line of its call.
-    pub(crate) line: usize,
 }
 
 /// What a line gave. `call` is the call's name as it stands in the line, its sign included.
@@ -97,16 +90,6 @@ fn named(value: &Value) -> Named
         Value::Count(count) => i64::try_from(*count).map_or(Named::Other, Named::Number),
         _ => Named::Other,
     }
-}
-
-/// Keeps the line of an answer that is a select. There is room for one more.
-fn keep_select(selects: &mut Vec<Select>, answer: Answer, line: usize) {
-    let expression = match answer {
-        Answer::Index(index) => index.to_expr(),
-        Answer::Slice(slice) => slice.to_expr(),
-        _ => return,
-    };
-    let _ = selects.push(Select { expression, line });
 }
 
 impl Session {
