@@ -7,7 +7,7 @@ use std::alloc::{AllocError, Global};
 const MANY: usize = 10_000;
 
 /// More slots than a table of the names that fall into one of them has.
-const SLOTS: usize = 64;
+const SLOTS: usize = 256;
 
 /// A table of the names `n0`, `n1` and so on, all of them or those that fall into the first slot.
 fn numbered(alloc: Global, count: usize, crowded: bool) -> Result<NameTable, AllocError> {
