@@ -29,17 +29,6 @@ impl Write for Closed {
     }
 }
 
-/// A reader that gives a byte at a time.
-#[derive(Drop)]
-struct Drops<'a>(&'a [u8]);
-
-impl Read for Drops<'_> {
-    fn read(&mut self, buf: &mut [u8]) -> io::Result<usize> {
-        let count = self.0.len().min(buf.len()).min(1);
-        self.0.read(&mut buf[..count])
-    }
-}
-
 const NUMBERED: &str = "verilog\nAddModule \"m\"\nMakeScalarType\nAddWire 0 \"a\" 1\n";
 
 const NAMED: &str = "verilog\nm = AddModule \"m\"\nbit = MakeScalarType\nAddWire m \"a\" bit\n";
@@ -127,43 +116,6 @@ fn a_check_prints_no_design(rt: HostRuntime) {
     assert_eq!(rt; refused.outcome, Outcome::Refused);
     assert!(rt; refused.out.is_empty());
     assert!(rt; refused.err.starts_with(b"a.list:2: MakeNot: "));
-}
-
-#[test]
-fn an_input_may_come_in_pieces(rt: HostRuntime) {
-    let alloc = rt.alloc();
-    let lists: [&[u8]; 9] = [
-        NAMED.as_bytes(),
-        b"\xef\xbb\xbfverilog\r\nm = AddModule \"m\"",
-        b"# one\n\nverilog\n\nm = AddModule \"m\"\n\n?ModuleName 1\n\nMakeNot",
-        b"\n\n\nsystem\nverilog\n",
-        b"#\n#\n#\n",
-        TWO.as_bytes(),
-        b"\xef\xbb\xbf== one\nverilog\nMakeNot 0\n",
-        b"== \n",
-        b"\n",
-    ];
-    for list in lists {
-        let whole = outcome_of(alloc, Form::Text, Tries::Again, list);
-        let at_once = outcome_of(alloc, Form::Text, Tries::Once, list);
-        let mut out: Vec<u8> = Vec::new(alloc);
-        let mut err: Vec<u8> = Vec::new(alloc);
-        let manner = Manner {
-            form: Form::Text,
-            map: false,
-            lint: Linting::Off,
-            tries: Tries::Once,
-            source: "a.list",
-        };
-        let outcome = run(alloc, manner, &mut Drops(list), &mut out, &mut err);
-        assert!(rt; outcome == whole.outcome && outcome == at_once.outcome);
-        assert!(rt;
-            out.as_slice() == whole.out.as_slice() && out.as_slice() == at_once.out.as_slice()
-        );
-        assert!(rt;
-            err.as_slice() == whole.err.as_slice() && err.as_slice() == at_once.err.as_slice()
-        );
-    }
 }
 
 #[test]
