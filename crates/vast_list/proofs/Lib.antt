@@ -10,3 +10,4 @@ pub mod JsonLines
 pub mod TextLines
 pub mod Mapped
 pub mod UntitledLists
+pub mod EndedLines

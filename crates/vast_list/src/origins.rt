@@ -1,7 +1,7 @@
 //! Which calls the lines of a text come from.
 
-ghost use Rattle.std.specs.Prelude.{◌≡◌, ◌⊎◌, ◌++◌, ◌<◌, ◌≤◌, [], All, IfOk, IfSome, OnErr, OnOk, length, take, drop};
-ghost use Rattle.vast_list.specs.Origins.{text_of};
+ghost use Rattle.std.specs.Prelude.{◌≡◌, ◌⊎◌, ◌++◌, ◌<◌, ◌≤◌, ◌-◌, [], All, IfOk, IfSome, OnErr, OnOk, length, take, drop};
+ghost use Rattle.vast_list.specs.Origins.{EndsNumbered, text_of};
 ghost use Rattle.vast_list.specs.Internal.Origins.{ComesFrom, Follows, IsOriginIn};
 
 use std::alloc::{AllocError, Global};
@@ -210,10 +210,12 @@ impl Origins {
     ///
     /// # Errors
     /// Want of memory.
-    pub fn mapped(&self, output: &[u8]) -> Result<Vec<u8>, AllocError> {
+    pub fn mapped(&self, output: &[u8]) -> Result<Vec<u8>, AllocError>
+        ensures { IfOk result (λ mapped.
+            EndsNumbered self.now.lines.items output.now mapped.items) }
+    {
         let mut mapped = Vec::new(self.alloc);
-        let before = output.len().saturating_sub(self.length());
-        mapped.extend_from_slice(output.get(..before).unwrap_or(output))?;
+        mapped.extend_from_slice(&output[..self.begin_in(output)])?;
         for line in &self.lines {
             let number = format!(in self.alloc; "{}\t", line.origin)?;
             mapped.extend_from_slice(number.as_bytes())?;
@@ -222,13 +224,15 @@ impl Origins {
         Ok(mapped)
     }
 
-    /// How many bytes the text has.
-    fn length(&self) -> usize {
-        let mut length = 0usize;
+    /// How many bytes stand before the text in an output that ends with it.
+    fn begin_in(&self, output: &[u8]) -> usize
+        ensures { result ≡ length output.now - length (text_of self.now.lines.items) }
+    {
+        let mut begin = output.len();
         for line in &self.lines {
-            length = length.saturating_add(line.bytes.len());
+            begin = begin.saturating_sub(line.bytes.len());
         }
-        length
+        begin
     }
 
     /// Appends the numbers as a list of JSON.

@@ -20,4 +20,4 @@ returns-in_ok-answering-in-Ok c =
     (λ (made : ListOutput). IfSome made.output (λ output. IsFinished title answering output.items))
     (λ (made : ListOutput). IfSome made.output (λ output. IsOutput c.args.tries title lines output.items))
     (λ made finished. IfSome_then made.output finished (λ output is. is_output c.args.tries title lines behind c.in-Ok.dialect answering output.items begun answered is))
-    c.finished.ensures
+    c.finished.ensures.text
