@@ -11,3 +11,4 @@ pub mod TextLines
 pub mod Mapped
 pub mod UntitledLists
 pub mod EndedLines
+pub mod Numbered
