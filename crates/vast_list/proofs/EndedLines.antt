@@ -1,6 +1,7 @@
 -- Lines that a line feed ends, and the lines of a text.
-use Rattle.std.proofs.Common.{◌≡◌, ℕ, suc, ◌+◌, ◌<◌, Bool, true, false, not, cond, List, [], ◌∷◌, ◌++◌, length, length-append, take, drop, refl, sym, ap, subst, ◌∙◌, arith}
+use Rattle.std.proofs.Common.{◌≡◌, ℕ, suc, ◌+◌, ◌-◌, ◌<◌, ◌≤◌, Bool, true, false, not, cond, List, [], ◌∷◌, ◌++◌, length, length-append, take, drop, refl, sym, ap, subst, ◌∙◌, arith}
 use Rattle.std.proofs.lemmas.Bool.{eqb-true}
+use Rattle.std.proofs.lemmas.List.{take_all, length-drop}
 use Rattle.std.specs.List.{position_or_len}
 use Rattle.vast_list.specs.Lines.{HasNoFeed, IsEnded, is_line_feed, longer, lines_of}
 
@@ -48,9 +49,28 @@ ended_from false byte bytes is inside rest =
       ap (λ (b : List ℕ). byte ∷ b) more.1,
     )
 
-pub ended_at_first : (bytes : List ℕ) → end bytes < length bytes → IsEnded bytes (take (end bytes) bytes) (drop (suc (end bytes)) bytes)
+ended_at_first : (bytes : List ℕ) → end bytes < length bytes → IsEnded bytes (take (end bytes) bytes) (drop (suc (end bytes)) bytes)
 ended_at_first [] inside = absurd (omega (arith, inside))
 ended_at_first (byte ∷ bytes) inside = ended_from (is_line_feed byte) byte bytes refl inside (ended_at_first bytes)
+
+pub ended_first : (bytes : List ℕ) (n : ℕ) → n ≡ end bytes → n < length bytes → IsEnded bytes (take n bytes) (take (length bytes - (n + 1)) (drop (n + 1) bytes))
+ended_first bytes n is inside =
+    let one : suc (end bytes) ≡ n + 1 = omega (arith, is) in
+    let at : end bytes < length bytes = omega (arith, is, inside) in
+    let whole = take_all (length bytes - (n + 1)) (drop (n + 1) bytes) (omega (arith, length-drop (n + 1) bytes)) in
+    subst (IsEnded bytes (take n bytes)) (sym whole) (subst (λ (line : List ℕ). IsEnded bytes line (drop (n + 1) bytes)) (ap (λ (k : ℕ). take k bytes) (sym is))
+    (subst (λ (k : ℕ). IsEnded bytes (take (end bytes) bytes) (drop k bytes)) one (ended_at_first bytes at)))
+
+within_at : (is_end : Bool) (n m : ℕ) → n ≤ m → cond (not is_end) (1 + n) 0 ≤ suc m
+within_at true n m h = omega arith
+within_at false n m h = omega (arith, h)
+
+within : (bytes : List ℕ) → end bytes ≤ length bytes
+within [] = omega arith
+within (byte ∷ bytes) = within_at (is_line_feed byte) (end bytes) (length bytes) (within bytes)
+
+pub none_ended : (bytes : List ℕ) (n : ℕ) → n ≡ end bytes → length bytes ≤ n → HasNoFeed bytes
+none_ended bytes n is outside = omega (arith, is, outside, within bytes)
 
 pub first_of_ended : (bytes line behind : List ℕ) → IsEnded bytes line behind → lines_of bytes ≡ line ∷ lines_of behind
 first_of_ended bytes line behind h = ap lines_of h.1 ∙ line_ended line behind h.0

@@ -1,5 +1,5 @@
 -- What names stand for, after one was entered or forgotten.
-use Rattle.std.proofs.Common.{◌≡◌, ℕ, Bool, true, false, cond, List, Option, Some, None, Bor, refl, sym, ap, ◌∙◌}
+use Rattle.std.proofs.Common.{◌≡◌, ℕ, Bool, true, false, cond, List, Option, Some, None, Bor, Result, Ok, Err, OnOk, refl, sym, ap, ◌∙◌}
 use Rattle.std.proofs.lemmas.Slice.Eq.{bytes_eq-Decides}
 use Rattle.std.specs.Map.{update}
 use Rattle.std.specs.Prelude.{Decides, option_copied}
@@ -43,7 +43,8 @@ pub place_entered :
     (old new : Names) (name : List ℕ) (place : ℕ) → meant_by new.places ≡ update bytes_eq (meant_by old.places) name (Some place) → new.others ≡ old.others →
     meaning new ≡ update bytes_eq (meaning old) name (Some (Handle place))
 place_entered old new name place p o =
-    rw (p, o) (fun_ext (λ (other : List ℕ). place_at (bytes_eq name other) place (meant_by old.places other) (meant_by old.others other)))
+    (λ i. λ (other : List ℕ). place_or (p i other) (meant_by (o i) other))
+    ∙ fun_ext (λ (other : List ℕ). place_at (bytes_eq name other) place (meant_by old.places other) (meant_by old.others other))
 
 beside : (is_name : Bool) (before : Option ℕ) (meant other : Option Named) → place_or (cond is_name None before) (cond is_name meant other) ≡ cond is_name meant (place_or before other)
 beside true before meant other = refl
@@ -54,4 +55,14 @@ pub other_entered :
     (old new : Names) (name : List ℕ) (meant : Option Named) → meant_by new.places ≡ update bytes_eq (meant_by old.places) name None →
     meant_by new.others ≡ update bytes_eq (meant_by old.others) name meant → meaning new ≡ update bytes_eq (meaning old) name meant
 other_entered old new name meant p o =
-    rw (p, o) (fun_ext (λ (other : List ℕ). beside (bytes_eq name other) (meant_by old.places other) meant (meant_by old.others other)))
+    (λ i. λ (other : List ℕ). place_or (p i other) (o i other))
+    ∙ fun_ext (λ (other : List ℕ). beside (bytes_eq name other) (meant_by old.places other) meant (meant_by old.others other))
+
+pub place_inserted :
+    {E : Type 0} (r : Result Unit E) (old new : Names) (name : List ℕ) (meant : Named) (place : ℕ) → meant ≡ Handle place →
+    OnOk r (meant_by new.places ≡ update bytes_eq (meant_by old.places) name (Some place)) → new.others ≡ old.others → OnOk r (meaning new ≡ update bytes_eq (meaning old) name (Some meant))
+place_inserted (Ok _) old new name meant place is p o = rw is (place_entered old new name place p o)
+place_inserted (Err e) old new name meant place is p o = tt
+
+pub none_named : (names : Names) → meant_by names.places ≡ (λ (name : List ℕ). None) → meant_by names.others ≡ (λ (name : List ℕ). None) → meaning names ≡ (λ (name : List ℕ). None)
+none_named names p o = λ i. λ (name : List ℕ). place_or (p i name) (o i name)

@@ -40,7 +40,7 @@ text_of_more : (lines : List TextLine) (line : TextLine) → text_of (lines ++ l
 text_of_more lines line =
     flat_map-append (λ (l : TextLine). l.bytes.items) lines (line ∷ []) ∙ ap (λ (xs : List ℕ). text_of lines ++ xs) (text_of_one line)
 
-pub taken : (lines : List TextLine) (place : ℕ) (line : TextLine) → place < length lines → line ≡ get_or lines place line → text_of (take (place + 1) lines) ≡ text_of (take place lines) ++ line.bytes.items
+taken : (lines : List TextLine) (place : ℕ) (line : TextLine) → place < length lines → line ≡ get_or lines place line → text_of (take (place + 1) lines) ≡ text_of (take place lines) ++ line.bytes.items
 taken lines place line b i =
     ap (λ (ls : List TextLine). text_of ls) (take_more lines place line b ∙ ap (λ (l : TextLine). take place lines ++ l ∷ []) (sym i))
     ∙ text_of_more (take place lines) line

@@ -8,8 +8,8 @@ use Rattle.vast_list.specs.declared.output.ListOutput.{ListOutput}
 use Rattle.vast_list.proofs.Outputs.{is_output}
 use Rattle.vast_list.proofs.output.list_output.Goals as goal
 
-pub returns-in_ok-answering-in-Ok : goal.returns-in_ok-answering-in-Ok
-returns-in_ok-answering-in-Ok c =
+pub returns-in_ok-answering-in-Ok-clause-text : goal.returns-in_ok-answering-in-Ok-clause-text
+returns-in_ok-answering-in-Ok-clause-text c =
     let title = c.args.list.now.title in
     let lines = line_texts c.args.list.now.lines.items in
     let behind = line_texts c.in-Ok.lines.now in
