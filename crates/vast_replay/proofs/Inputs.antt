@@ -1,11 +1,11 @@
 -- What is read of an input, and what is printed of it.
-use Rattle.std.proofs.Common.{◌≡◌, ◌==◌, ℕ, ◌<◌, ◌≤◌, Bool, true, false, cond, List, [], ◌∷◌, ◌++◌, length, Option, Some, None, IfSome, refl, sym, ap, subst, ◌∙◌, arith, append_assoc, append-nil}
+use Rattle.std.proofs.Common.{◌≡◌, ◌==◌, ℕ, ◌+◌, ◌<◌, ◌≤◌, Bool, true, false, cond, List, [], ◌∷◌, ◌++◌, length, Option, Some, None, IfSome, Result, Ok, Err, IfOk, OnOk, Vec, Global, refl, sym, ap, subst, ◌∙◌, arith, append_assoc, append-nil}
 use Rattle.std.proofs.KnownBytes.{Consumes-trans, Consumes-kept}
 use Rattle.std.specs.Io.KnownBytes.{Appends, Consumes, IsAtEnd, Keeps}
 use Rattle.std.specs.List.{starts_with}
-use Rattle.std.proofs.lemmas.Bool.{false≢true}
+use Rattle.std.proofs.lemmas.Bool.{eqb-true, false≢true}
 use Rattle.std.proofs.lemmas.List.{length-append, nil_from_length}
-use Rattle.std.specs.Prelude.{Vec, codes}
+use Rattle.std.specs.Prelude.{IsTrue, codes, if◌then◌else◌, is_ok, is_some, vec_len}
 use Rattle.vast_list.specs.Built.{IsListText}
 use Rattle.vast_list.specs.Lines.{HasNoFeed, IsEnded, lines_of}
 use Rattle.vast_list.specs.Output.{IsPrinted, is_made}
@@ -18,6 +18,9 @@ use Rattle.vast_replay.specs.declared.input.Taken.{Taken}
 use Rattle.vast_replay.specs.declared.input.Taken.TheVariants.{Bytes, List as OneList}
 use Rattle.vast_replay.specs.Input.{GivesTaken, IsTakenOf, IsTextOfInput, PrintsInput, WritesMade, WritesTaken, begins_with, has_header, unmarked}
 use Rattle.vast_replay.specs.Internal.Input.{GivesTextOf, HasRead, ReadsInput, ReadsOn}
+
+pub none_left : (left : Vec ℕ Global) → (vec_len left == 0) ≡ true → left.items ≡ []
+none_left left none = nil_from_length left.items (sym left.ok.0 ∙ eqb-true left.len 0 none)
 
 -- Lines that are read.
 
@@ -41,34 +44,38 @@ ended_lines bytes left piece more taken none h =
 ends_line :
     (old new : InputLines) (piece line : List ℕ) → line ≡ old.left.items ++ piece → GoesOnTo old.list new.list line → new.left.items ≡ [] → HasNoFeed piece →
     ReadsOn old new (piece ++ 10 ∷ [])
-ends_line old new piece line is goes left no bytes h =
-    let none = none_in_both old.left.items piece h.none no in
+ends_line old new piece line is goes left none_of bytes h =
+    let none = none_in_both old.left.items piece h.none none_of in
     record {
       none = subst HasNoFeed (sym left) refl;
       taken = (
         h.taken.0 ++ line ∷ [],
-        goes h.taken.0 h.taken.1.0,
-        λ (more : List ℕ). ended_lines bytes old.left.items piece more h.taken.0 none h.taken.1.1
+        goes h.taken.0 h.taken.1,
+        λ (more : List ℕ). ended_lines bytes old.left.items piece more h.taken.0 none h.taken.2
         ∙ (λ i. (h.taken.0 ++ sym is i ∷ []) ++ lines_of (sym left i ++ more)),
       );
     }
 
 pub ends_piece :
-    (old new : InputLines) (piece : List ℕ) → old.left.items ≡ [] → new.left.items ≡ old.left.items → GoesOnTo old.list new.list piece → HasNoFeed piece → ReadsOn old new (piece ++ 10 ∷ [])
-ends_piece old new piece left same goes no =
-    ends_line old new piece piece (ap (λ (l : List ℕ). l ++ piece) (sym left)) goes (same ∙ left) no
+    {A E : Type 0} (r : Result A E) (old new : InputLines) (piece : List ℕ) → old.left.items ≡ [] → OnOk r (GoesOnTo old.list new.list piece) → new.left ≡ old.left →
+    OnOk r (HasNoFeed piece → ReadsOn old new (piece ++ 10 ∷ []))
+ends_piece (Ok a) old new piece left goes same = λ none_of.
+    ends_line old new piece piece (ap (λ (l : List ℕ). l ++ piece) (sym left)) goes (ap (λ (l : Vec ℕ Global). l.items) same ∙ left) none_of
+ends_piece (Err e) old new piece left goes same = tt
 
 pub ends_left :
-    (old new : InputLines) (piece left : List ℕ) → left ≡ old.left.items ++ piece → GoesOnTo old.list new.list left → new.left.items ≡ [] → HasNoFeed piece → ReadsOn old new (piece ++ 10 ∷ [])
-ends_left old new piece left is goes none no = ends_line old new piece left is goes none no
+    {A E : Type 0} (r : Result A E) (old new : InputLines) (piece left : List ℕ) → left ≡ old.left.items ++ piece → OnOk r (GoesOnTo old.list new.list left) → OnOk r (new.left.items ≡ []) →
+    OnOk r (HasNoFeed piece → ReadsOn old new (piece ++ 10 ∷ []))
+ends_left (Ok a) old new piece left is goes none = λ none_of. ends_line old new piece left is goes none none_of
+ends_left (Err e) old new piece left is goes none = tt
 
-pub keeps_rest : (old new : InputLines) (rest : List ℕ) → HasNoFeed rest → new.list ≡ old.list → new.left.items ≡ old.left.items ++ rest → ReadsOn old new rest
-keeps_rest old new rest no same left bytes h = record {
-  none = subst HasNoFeed (sym left) (none_in_both old.left.items rest h.none no);
+keeps_rest : (old new : InputLines) (rest : List ℕ) → HasNoFeed rest → new.list ≡ old.list → new.left.items ≡ old.left.items ++ rest → ReadsOn old new rest
+keeps_rest old new rest none_of same left bytes h = record {
+  none = subst HasNoFeed (sym left) (none_in_both old.left.items rest h.none none_of);
   taken = (
     h.taken.0,
-    subst (λ (list : UntitledList). HasTaken h.taken.0 list) (sym same) h.taken.1.0,
-    λ (more : List ℕ). ap lines_of (append_assoc bytes rest more) ∙ h.taken.1.1 (rest ++ more)
+    subst (λ (list : UntitledList). HasTaken h.taken.0 list) (sym same) h.taken.1,
+    λ (more : List ℕ). ap lines_of (append_assoc bytes rest more) ∙ h.taken.2 (rest ++ more)
     ∙ ap (λ (bs : List ℕ). h.taken.0 ++ lines_of bs) (sym (append_assoc old.left.items rest more) ∙ ap (λ (l : List ℕ). l ++ more) (sym left)),
   );
 }
@@ -93,8 +100,12 @@ one_more start old new bytes rest piece behind (front, is, read) ended more = (
     reads_both start old new front (piece ++ 10 ∷ []) read (more ended.0),
   )
 
-pub last_more : (start old new : InputLines) (bytes rest : List ℕ) → ReadsUpTo start old bytes rest → ReadsOn old new rest → ReadsOn start new bytes
-last_more start old new bytes rest (front, is, read) more = subst (ReadsOn start new) (sym is) (reads_both start old new front rest read more)
+pub last_more :
+    {A E : Type 0} (r : Result A E) (start old new : InputLines) (bytes rest : List ℕ) → ReadsUpTo start old bytes rest → HasNoFeed rest → new.list ≡ old.list →
+    new.left.items ≡ (if is_ok r then old.left.items ++ rest else old.left.items) → OnOk r (ReadsOn start new bytes)
+last_more (Ok a) start old new bytes rest (front, is, read) none_of same left =
+    subst (ReadsOn start new) (sym is) (reads_both start old new front rest read (keeps_rest old new rest none_of same left))
+last_more (Err e) start old new bytes rest upto none_of same left = tt
 
 -- What a reader gives.
 
@@ -115,36 +126,27 @@ still_given start old a b c (front, given, read) kept = (front, Consumes-kept a 
 all_lines : (bytes left : List ℕ) (taken : List (List ℕ)) → ((more : List ℕ) → lines_of (bytes ++ more) ≡ taken ++ lines_of (left ++ more)) → lines_of bytes ≡ taken ++ lines_of left
 all_lines bytes left taken h = ap lines_of (sym (append-nil bytes)) ∙ h [] ∙ ap (λ (l : List ℕ). taken ++ lines_of l) (append-nil left)
 
-pub text_of_taken : (start : InputLines) (made : ListOutput) → start.left.items ≡ [] → IsPrintedOf start.list made → GivesTextOf start made
-text_of_taken start made left printed bytes h =
-    let all = all_lines bytes start.left.items h.taken.0 h.taken.1.1 ∙ ap (λ (l : List ℕ). h.taken.0 ++ lines_of l) left ∙ append-nil h.taken.0 in
-    subst (λ (lines : List (List ℕ)). IfSome made.output (λ text. IsListText false lines text.items)) (sym all) (printed h.taken.0 h.taken.1.0)
+-- The text is that of the lines that were taken, where nothing is left.
+pub text_of_taken :
+    {E : Type 0} (r : Result ListOutput E) (start now : InputLines) → now ≡ start → start.left.items ≡ [] → IfOk r (IsPrintedOf now.list) → IfOk r (GivesTextOf start)
+text_of_taken (Ok made) start now same left printed = λ bytes h.
+    let all = all_lines bytes start.left.items h.taken.0 h.taken.2 ∙ ap (λ (l : List ℕ). h.taken.0 ++ lines_of l) left ∙ append-nil h.taken.0 in
+    subst (λ (lines : List (List ℕ)). IfSome made.output (λ text. IsListText false lines text.items)) (sym all)
+    (subst (λ (n : InputLines). IsPrintedOf n.list made) same printed h.taken.0 h.taken.1)
+text_of_taken (Err e) start now same left printed = tt
 
+-- What is left is a line more.
 pub text_of_left :
-    (start : InputLines) (list : UntitledList) (made : ListOutput) → 0 < length start.left.items → GoesOnTo start.list list start.left.items → IsPrintedOf list made → GivesTextOf start made
-text_of_left start list made some goes printed bytes h =
+    {E : Type 0} (r : Result ListOutput E) (start next now : InputLines) → now ≡ next → 0 < length start.left.items → GoesOnTo start.list next.list start.left.items → IfOk r (IsPrintedOf now.list) →
+    IfOk r (GivesTextOf start)
+text_of_left (Ok made) start next now same some goes printed = λ bytes h.
     let left = start.left.items in
-    let all = all_lines bytes left h.taken.0 h.taken.1.1 ∙ ap (λ (lines : List (List ℕ)). h.taken.0 ++ lines) (first_of_left left some h.none) in
-    subst (λ (lines : List (List ℕ)). IfSome made.output (λ text. IsListText false lines text.items)) (sym all) (printed (h.taken.0 ++ left ∷ []) (goes h.taken.0 h.taken.1.0))
+    let all = all_lines bytes left h.taken.0 h.taken.2 ∙ ap (λ (lines : List (List ℕ)). h.taken.0 ++ lines) (first_of_left left some h.none) in
+    subst (λ (lines : List (List ℕ)). IfSome made.output (λ text. IsListText false lines text.items)) (sym all)
+    (subst (λ (n : InputLines). IsPrintedOf n.list made) same printed (h.taken.0 ++ left ∷ []) (goes h.taken.0 h.taken.1))
+text_of_left (Err e) start next now same some goes printed = tt
 
--- The front of an input shows whether it begins with a header.
-
-header_at :
-    (is_marked : Bool) (a b c d e f : ℕ) (front rest : List ℕ) →
-    begins_with (codes "== ") (cond is_marked (d ∷ e ∷ f ∷ (front ++ rest)) (a ∷ b ∷ c ∷ d ∷ e ∷ f ∷ (front ++ rest)))
-    ≡ begins_with (codes "== ") (cond is_marked (d ∷ e ∷ f ∷ front) (a ∷ b ∷ c ∷ d ∷ e ∷ f ∷ front))
-header_at true a b c d e f front rest = refl
-header_at false a b c d e f front rest = refl
-
-same_header : (front rest : List ℕ) → 6 ≤ length front → has_header (front ++ rest) ≡ has_header front
-same_header [] rest six = absurd (omega (arith, six))
-same_header (a ∷ []) rest six = absurd (omega (arith, six))
-same_header (a ∷ b ∷ []) rest six = absurd (omega (arith, six))
-same_header (a ∷ b ∷ c ∷ []) rest six = absurd (omega (arith, six))
-same_header (a ∷ b ∷ c ∷ d ∷ []) rest six = absurd (omega (arith, six))
-same_header (a ∷ b ∷ c ∷ d ∷ e ∷ []) rest six = absurd (omega (arith, six))
-same_header (a ∷ b ∷ c ∷ d ∷ e ∷ f ∷ front) rest six =
-    header_at (begins_with (239 ∷ 187 ∷ 191 ∷ []) (a ∷ b ∷ c ∷ [])) a b c d e f front rest
+-- The front of an input shows whether it begins with a byte order mark.
 
 mark_at : (is_marked : Bool) (a b c : ℕ) (front rest : List ℕ) → cond is_marked (front ++ rest) (a ∷ b ∷ c ∷ (front ++ rest)) ≡ cond is_marked front (a ∷ b ∷ c ∷ front) ++ rest
 mark_at true a b c front rest = refl
@@ -156,32 +158,11 @@ same_mark (a ∷ []) rest six = absurd (omega (arith, six))
 same_mark (a ∷ b ∷ []) rest six = absurd (omega (arith, six))
 same_mark (a ∷ b ∷ c ∷ front) rest six = mark_at (begins_with (239 ∷ 187 ∷ 191 ∷ []) (a ∷ b ∷ c ∷ [])) a b c front rest
 
--- A reader at its end gives no more.
-at_end : (a b c : Option (List ℕ)) (front more : List ℕ) → Consumes a b front → IsAtEnd b → Consumes b c more → Consumes a c front
-at_end None b c front more f e m = tt
-at_end (Some x) None c front more f e m = absurd f
-at_end (Some x) (Some y) None front more f e m = absurd m
-at_end (Some x) (Some y) (Some z) front more f e m =
-    let none : length more + length z ≡ 0 = sym (ap length (sym e ∙ m) ∙ length-append more z) in
-    f ∙ ap (λ (l : List ℕ). front ++ l) (e ∙ sym (nil_from_length z (omega (arith, none))))
-
--- All of an input that begins with a header.
-pub all_taken :
-    (a b c : Option (List ℕ)) (front more : List ℕ) (all : Vec ℕ) → Consumes a b front → (length front < 6 → IsAtEnd b) → Consumes b c more → has_header front ≡ true → GivesTaken a c (Bytes all)
-all_taken a b c [] more all f e m header = ([], at_end a b c [] more f (e (omega arith)) m, header)
-all_taken a b c (p ∷ []) more all f e m header = (p ∷ [], at_end a b c (p ∷ []) more f (e (omega arith)) m, header)
-all_taken a b c (p ∷ q ∷ []) more all f e m header = (p ∷ q ∷ [], at_end a b c (p ∷ q ∷ []) more f (e (omega arith)) m, header)
-all_taken a b c (p ∷ q ∷ r ∷ []) more all f e m header = (p ∷ q ∷ r ∷ [], at_end a b c (p ∷ q ∷ r ∷ []) more f (e (omega arith)) m, header)
-all_taken a b c (p ∷ q ∷ r ∷ s ∷ []) more all f e m header = (p ∷ q ∷ r ∷ s ∷ [], at_end a b c (p ∷ q ∷ r ∷ s ∷ []) more f (e (omega arith)) m, header)
-all_taken a b c (p ∷ q ∷ r ∷ s ∷ t ∷ []) more all f e m header = (p ∷ q ∷ r ∷ s ∷ t ∷ [], at_end a b c (p ∷ q ∷ r ∷ s ∷ t ∷ []) more f (e (omega arith)) m, header)
-all_taken a b c (p ∷ q ∷ r ∷ s ∷ t ∷ u ∷ front) more all f e m header =
-    (p ∷ q ∷ r ∷ s ∷ t ∷ u ∷ (front ++ more), Consumes-trans a b c (p ∷ q ∷ r ∷ s ∷ t ∷ u ∷ front) more f m, same_header (p ∷ q ∷ r ∷ s ∷ t ∷ u ∷ front) more (omega arith) ∙ header)
-
 -- What the one list of a short input gives.
 pub short_taken :
     (a b : Option (List ℕ)) (front : List ℕ) (old new : InputLines) (made : ListOutput) → Consumes a b front → HasRead old [] → ReadsOn old new (unmarked front) → IsPrinted made → GivesTextOf new made →
     GivesTaken a b (OneList made)
-short_taken a b front old new made f none read printed text = (front, f, printed, text (unmarked front) (read [] none))
+short_taken a b front old new made f none read printed text = (front, f, (printed, text (unmarked front) (read [] none)))
 
 pub long_taken :
     (a b c : Option (List ℕ)) (front : List ℕ) (old between new : InputLines) (made : ListOutput) → 6 ≤ length front → Consumes a b front → HasRead old [] → ReadsOn old between (unmarked front) →
@@ -189,20 +170,22 @@ pub long_taken :
 long_taken a b c front old between new made six f none read (more, m, reads) printed text = (
     front ++ more,
     Consumes-trans a b c front more f m,
-    printed,
-    subst (λ (bytes : List ℕ). IfSome made.output (λ text. IsListText false (lines_of bytes) text.items)) (sym (same_mark front more six))
-    (text (unmarked front ++ more) (reads (unmarked front) (read [] none))),
+    (
+      printed,
+      subst (λ (bytes : List ℕ). IfSome made.output (λ text. IsListText false (lines_of bytes) text.items)) (sym (same_mark front more six))
+      (text (unmarked front ++ more) (reads (unmarked front) (read [] none))),
+    ),
   )
-
-pub ruleset inputs = (nothing_read, all_taken, short_taken, long_taken)
 
 -- What is written of it.
 
-text_at : (made : Option (Vec ℕ)) (text : Vec ℕ) {P : Vec ℕ → Type 0} → made ≡ Some text → IfSome made P → P text
-text_at made text {P} is h = subst (λ (m : Option (Vec ℕ)). IfSome m P) is h
+both : {X : Type 0} (o : Option X) {P Q : X → Type 0} → IsTrue (is_some o) → IfSome o P → IfSome o Q → (x : X) × P x × Q x
+both (Some x) some p q = (x, p, q)
+both None some p q = absurd (false≢true some)
 
 pub prints_input : (a c old new : Option (List ℕ)) (taken : Taken) → GivesTaken a c taken → WritesTaken taken old new → PrintsInput a c old new
 prints_input a c old new (Bytes bytes) (input, given, header) writes = (input, given, λ none. absurd (false≢true (sym none ∙ header)))
-prints_input a c old new (OneList made) (input, given, printed, text) writes =
-    let (all, is, appends) = writes printed in
-    (input, given, λ _. (all.items, appends, text_at made.output all is text))
+prints_input a c old new (OneList made) (input, given, taken) writes =
+    let written = writes taken.0 in
+    let text = both made.output written.0 written.1 taken.1 in
+    (input, given, λ _. (text.0.items, text.1, text.2))

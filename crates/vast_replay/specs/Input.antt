@@ -1,5 +1,5 @@
 -- What is printed of an input that is one list. A text is a list of bytes.
-use Rattle.std.specs.Prelude.{◌≡◌, ◌==◌, ℕ, Bool, true, false, List, ◌∷◌, [], Option, Some, cond, codes, drop, IfSome, Vec, ⊤}
+use Rattle.std.specs.Prelude.{◌≡◌, ◌==◌, ℕ, Bool, true, false, List, ◌∷◌, [], Option, IfSome, IsTrue, cond, codes, drop, is_some, ⊤}
 use Rattle.std.specs.Io.KnownBytes.{Appends, Consumes}
 use Rattle.std.specs.List.{starts_with}
 use Rattle.vast_list.specs.Built.{IsListText}
@@ -51,7 +51,7 @@ GivesTaken before behind taken = (input : List ℕ) × Consumes before behind in
 
 -- Where something is printed of a list that is not at fault, it was written.
 abbrev pub WritesMade : ListOutput → (old new : Option (List ℕ)) → Type 0
-WritesMade made old new = IsPrinted made → (text : Vec ℕ) × (made.output ≡ Some text) × Appends old new text.items
+WritesMade made old new = IsPrinted made → IsTrue (is_some made.output) × IfSome made.output (λ text. Appends old new text.items)
 
 abbrev pub WritesTaken : Taken → (old new : Option (List ℕ)) → Type 0
 WritesTaken (Bytes bytes) old new = ⊤

@@ -79,7 +79,6 @@ fn without_mark(input: &[u8]) -> &[u8]
 ///
 /// # Errors
 /// A failed read, and want of memory.
-#[tactic(auto, using(crate::proofs::Inputs::inputs))]
 pub(crate) fn take_input<R: Read>(alloc: Global, input: &mut R) -> io::Result<Taken>
     ensures end { OnOk result (IsAtEnd (R.remaining input.new)) }
     ensures taken { IfOk result (GivesTaken (R.remaining input.old) (R.remaining input.new)) }

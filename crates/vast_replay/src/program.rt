@@ -62,6 +62,7 @@ impl Manner<'_> {
 /// where one request is refused, the run gives what it gives without.
 ///
 /// The contract says what the outcome `Made` promises of the streams; the rest of this is tested, not proved.
+#[tactic(auto, using(crate::proofs::Inputs::prints_input))]
 pub fn run<R: Read, W: Write, E: Write>(
     alloc: Global,
     manner: Manner<'_>,
