@@ -39,7 +39,7 @@ pub struct Manner<'a> {
 impl Manner<'_> {
     /// Whether each line is looked at once, so that none need be kept.
     pub fn takes_lines_once(self) -> bool
-        ensures { PrintsTexts self → IsTrue result }
+        ensures { PrintsTexts self.entry → IsTrue result }
     {
         let is_text = matches!(self.form, Form::Text | Form::Faults);
         let is_once = matches!(self.tries, Tries::Once);
@@ -62,7 +62,6 @@ impl Manner<'_> {
 /// where one request is refused, the run gives what it gives without.
 ///
 /// The contract says what the outcome `Made` promises of the streams; the rest of this is tested, not proved.
-#[tactic(auto, using(crate::proofs::Inputs::prints_input))]
 pub fn run<R: Read, W: Write, E: Write>(
     alloc: Global,
     manner: Manner<'_>,
@@ -72,7 +71,7 @@ pub fn run<R: Read, W: Write, E: Write>(
 ) -> Outcome
     ensures silent { result ≡ Outcome.Made → E.contents err.new ≡ E.contents err.old }
     ensures read { result ≡ Outcome.Made → IsAtEnd (R.remaining input.new) }
-    ensures printed { result ≡ Outcome.Made → PrintsTexts manner
+    ensures printed { result ≡ Outcome.Made → PrintsTexts manner.entry
         → PrintsInput (R.remaining input.old) (R.remaining input.new)
         (W.contents out.old) (W.contents out.new) }
 {
@@ -86,7 +85,7 @@ pub fn run<R: Read, W: Write, E: Write>(
 /// Reads an input to its end.
 fn read<R: Read>(alloc: Global, manner: Manner<'_>, input: &mut R) -> io::Result<Taken>
     ensures end { OnOk result (IsAtEnd (R.remaining input.new)) }
-    ensures taken { PrintsTexts manner
+    ensures taken { PrintsTexts manner.entry
         → IfOk result (GivesTaken (R.remaining input.old) (R.remaining input.new)) }
 {
     if manner.takes_lines_once() {
@@ -106,7 +105,7 @@ pub(crate) fn answer_taken<W: Write, E: Write>(
     err: &mut E,
 ) -> Outcome
     ensures silent { result ≡ Outcome.Made → E.contents err.new ≡ E.contents err.old }
-    ensures printed { result ≡ Outcome.Made → manner.form ≡ Form.Text
+    ensures printed { result ≡ Outcome.Made → manner.entry.form ≡ Form.Text
         → WritesTaken taken (W.contents out.old) (W.contents out.new) }
 {
     match taken {
@@ -187,7 +186,7 @@ fn answer_made<W: Write, E: Write>(
     err: &mut E,
 ) -> Outcome
     ensures silent { result ≡ Outcome.Made → E.contents err.new ≡ E.contents err.old }
-    ensures printed { result ≡ Outcome.Made → manner.form ≡ Form.Text
+    ensures printed { result ≡ Outcome.Made → manner.entry.form ≡ Form.Text
         → WritesMade made (W.contents out.old) (W.contents out.new) }
 {
     let Ok(told) = tried!(manner.tries, told(alloc, manner.source, &made)) else {
