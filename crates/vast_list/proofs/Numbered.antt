@@ -18,9 +18,9 @@ more_numbered lines before old numeral counted new place line b i o m c n =
     let text = line.bytes.items in
     let all = numbered (take place lines) in
     let more : numbered (take (place + 1) lines) ≡ all ++ (number ++ 9 ∷ text) =
-        ap numbered (take_more lines place line b ∙ ap (λ (l : TextLine). take place lines ++ l ∷ []) (sym i))
-        ∙ flat_map-append (λ (l : TextLine). decimal l.origin ++ 9 ∷ l.bytes.items) (take place lines) (line ∷ [])
-        ∙ ap (λ (xs : List ℕ). all ++ xs) (numbered_one line) in
+    ap numbered (take_more lines place line b ∙ ap (λ (l : TextLine). take place lines ++ l ∷ []) (sym i))
+    ∙ flat_map-append (λ (l : TextLine). decimal l.origin ++ 9 ∷ l.bytes.items) (take place lines) (line ∷ [])
+    ∙ ap (λ (xs : List ℕ). all ++ xs) (numbered_one line) in
     n
     ∙ ap (λ (xs : List ℕ). xs ++ text) (c ∙ (λ k. o k ++ m k))
     ∙ append_assoc (before ++ all) (number ++ 9 ∷ []) text

@@ -217,11 +217,7 @@ fn begin_in(lines: &[TextLine], output: &[u8]) -> usize
 }
 
 /// Appends the lines, each behind its number and a tab.
-fn push_numbered(
-    alloc: Global,
-    lines: &[TextLine],
-    mapped: &mut Vec<u8>,
-) -> Result<(), AllocError>
+fn push_numbered(alloc: Global, lines: &[TextLine], mapped: &mut Vec<u8>) -> Result<(), AllocError>
     ensures { OnOk result (mapped.new.items ≡ mapped.old.items ++ numbered lines.now) }
 {
     for line in lines {

@@ -1,14 +1,13 @@
 -- What is read of an input, and what is printed of it.
-use Rattle.std.proofs.Common.{◌≡◌, ◌==◌, ℕ, ◌+◌, ◌<◌, ◌≤◌, Bool, true, false, cond, List, [], ◌∷◌, ◌++◌, length, Option, Some, None, IfSome, Result, Ok, Err, IfOk, OnOk, Vec, Global, refl, sym, ap, subst, ◌∙◌, arith, append_assoc, append-nil}
+use Rattle.std.proofs.Common.{◌≡◌, ◌==◌, ℕ, ◌<◌, ◌≤◌, Bool, true, false, cond, List, [], ◌∷◌, ◌++◌, length, Option, Some, None, IfSome, Result, Ok, Err, IfOk, OnOk, Vec, Global, refl, sym, ap, subst, ◌∙◌, arith, append_assoc, append-nil}
 use Rattle.std.proofs.KnownBytes.{Consumes-trans, Consumes-kept}
-use Rattle.std.specs.Io.KnownBytes.{Appends, Consumes, IsAtEnd, Keeps}
-use Rattle.std.specs.List.{starts_with}
+use Rattle.std.specs.Io.KnownBytes.{Consumes, Keeps}
 use Rattle.std.proofs.lemmas.Bool.{eqb-true, false≢true}
-use Rattle.std.proofs.lemmas.List.{length-append, nil_from_length}
-use Rattle.std.specs.Prelude.{IsTrue, codes, if◌then◌else◌, is_ok, is_some, vec_len}
+use Rattle.std.proofs.lemmas.List.{nil_from_length}
+use Rattle.std.specs.Prelude.{IsTrue, if◌then◌else◌, is_ok, is_some, vec_len}
 use Rattle.vast_list.specs.Built.{IsListText}
 use Rattle.vast_list.specs.Lines.{HasNoFeed, IsEnded, lines_of}
-use Rattle.vast_list.specs.Output.{IsPrinted, is_made}
+use Rattle.vast_list.specs.Output.{IsPrinted}
 use Rattle.vast_list.specs.Untitled.{GoesOnTo, HasTaken, IsPrintedOf}
 use Rattle.vast_list.specs.declared.output.ListOutput.{ListOutput}
 use Rattle.vast_list.specs.declared.untitled.UntitledList.{UntitledList}
@@ -16,7 +15,7 @@ use Rattle.vast_list.proofs.EndedLines.{first_of_left, line_ended, none_in_both}
 use Rattle.vast_replay.specs.declared.input.InputLines.{InputLines}
 use Rattle.vast_replay.specs.declared.input.Taken.{Taken}
 use Rattle.vast_replay.specs.declared.input.Taken.TheVariants.{Bytes, List as OneList}
-use Rattle.vast_replay.specs.Input.{GivesTaken, IsTakenOf, IsTextOfInput, PrintsInput, WritesMade, WritesTaken, begins_with, has_header, unmarked}
+use Rattle.vast_replay.specs.Input.{GivesTaken, PrintsInput, WritesTaken, begins_with, unmarked}
 use Rattle.vast_replay.specs.Internal.Input.{GivesTextOf, HasRead, ReadsInput, ReadsOn}
 
 pub none_left : (left : Vec ℕ Global) → (vec_len left == 0) ≡ true → left.items ≡ []
@@ -52,7 +51,7 @@ ends_line old new piece line is goes left none_of bytes h =
         h.taken.0 ++ line ∷ [],
         goes h.taken.0 h.taken.1,
         λ (more : List ℕ). ended_lines bytes old.left.items piece more h.taken.0 none h.taken.2
-        ∙ (λ i. (h.taken.0 ++ sym is i ∷ []) ++ lines_of (sym left i ++ more)),
+            ∙ (λ i. (h.taken.0 ++ sym is i ∷ []) ++ lines_of (sym left i ++ more)),
       );
     }
 
@@ -76,7 +75,7 @@ keeps_rest old new rest none_of same left bytes h = record {
     h.taken.0,
     subst (λ (list : UntitledList). HasTaken h.taken.0 list) (sym same) h.taken.1,
     λ (more : List ℕ). ap lines_of (append_assoc bytes rest more) ∙ h.taken.2 (rest ++ more)
-    ∙ ap (λ (bs : List ℕ). h.taken.0 ++ lines_of bs) (sym (append_assoc old.left.items rest more) ∙ ap (λ (l : List ℕ). l ++ more) (sym left)),
+        ∙ ap (λ (bs : List ℕ). h.taken.0 ++ lines_of bs) (sym (append_assoc old.left.items rest more) ∙ ap (λ (l : List ℕ). l ++ more) (sym left)),
   );
 }
 
@@ -95,10 +94,10 @@ pub one_more :
     (start old new : InputLines) (bytes rest piece behind : List ℕ) → ReadsUpTo start old bytes rest → IsEnded rest piece behind → (HasNoFeed piece → ReadsOn old new (piece ++ 10 ∷ [])) →
     ReadsUpTo start new bytes behind
 one_more start old new bytes rest piece behind (front, is, read) ended more = (
-    front ++ (piece ++ 10 ∷ []),
-    is ∙ ap (λ (r : List ℕ). front ++ r) (ended.1 ∙ sym (append_assoc piece (10 ∷ []) behind)) ∙ sym (append_assoc front (piece ++ 10 ∷ []) behind),
-    reads_both start old new front (piece ++ 10 ∷ []) read (more ended.0),
-  )
+  front ++ (piece ++ 10 ∷ []),
+  is ∙ ap (λ (r : List ℕ). front ++ r) (ended.1 ∙ sym (append_assoc piece (10 ∷ []) behind)) ∙ sym (append_assoc front (piece ++ 10 ∷ []) behind),
+  reads_both start old new front (piece ++ 10 ∷ []) read (more ended.0),
+)
 
 pub last_more :
     {A E : Type 0} (r : Result A E) (start old new : InputLines) (bytes rest : List ℕ) → ReadsUpTo start old bytes rest → HasNoFeed rest → new.list ≡ old.list →
@@ -168,14 +167,14 @@ pub long_taken :
     (a b c : Option (List ℕ)) (front : List ℕ) (old between new : InputLines) (made : ListOutput) → 6 ≤ length front → Consumes a b front → HasRead old [] → ReadsOn old between (unmarked front) →
     ReadsInput between new b c → IsPrinted made → GivesTextOf new made → GivesTaken a c (OneList made)
 long_taken a b c front old between new made six f none read (more, m, reads) printed text = (
-    front ++ more,
-    Consumes-trans a b c front more f m,
-    (
-      printed,
-      subst (λ (bytes : List ℕ). IfSome made.output (λ text. IsListText false (lines_of bytes) text.items)) (sym (same_mark front more six))
-      (text (unmarked front ++ more) (reads (unmarked front) (read [] none))),
-    ),
-  )
+  front ++ more,
+  Consumes-trans a b c front more f m,
+  (
+    printed,
+    subst (λ (bytes : List ℕ). IfSome made.output (λ text. IsListText false (lines_of bytes) text.items)) (sym (same_mark front more six))
+        (text (unmarked front ++ more) (reads (unmarked front) (read [] none))),
+  ),
+)
 
 -- What is written of it.
 

@@ -89,10 +89,10 @@ pub(crate) fn take_input<R: Read>(alloc: Global, input: &mut R) -> io::Result<Ta
         input.read_to_end(&mut front)?;
         return Ok(Taken::Bytes(front));
     }
-    let mut list = InputLines::new(alloc);
-    list.take(lines)?;
+    let mut list = InputLines::empty(alloc);
+    list.take_bytes(lines)?;
     if front.len() >= FRONT_BYTES {
-        list.read(input)?;
+        list.take_rest(input)?;
     }
     Ok(Taken::List(list.finish()?))
 }
@@ -131,7 +131,7 @@ struct InputLines {
 }
 
 impl InputLines {
-    fn new(alloc: Global) -> InputLines
+    fn empty(alloc: Global) -> InputLines
         ensures { HasRead result [] }
     {
         InputLines {
@@ -142,7 +142,7 @@ impl InputLines {
     }
 
     /// Takes the lines of the input, to its end.
-    fn read<R: Read>(&mut self, input: &mut R) -> io::Result<()>
+    fn take_rest<R: Read>(&mut self, input: &mut R) -> io::Result<()>
         ensures end { OnOk result (IsAtEnd (R.remaining input.new)) }
         ensures read { OnOk result
             (ReadsInput self.old self.new (R.remaining input.old) (R.remaining input.new)) }
@@ -151,7 +151,7 @@ impl InputLines {
         for _ in 0..u64::MAX {
             match input.read(&mut buffer) {
                 Ok(0) => return Ok(()),
-                Ok(count) => self.take(&buffer[..count])?,
+                Ok(count) => self.take_bytes(&buffer[..count])?,
                 Err(error) if error.kind() == ErrorKind::Interrupted => {}
                 Err(error) => return Err(error),
             }
@@ -160,7 +160,7 @@ impl InputLines {
     }
 
     /// Takes each line that ends in these bytes.
-    fn take(&mut self, bytes: &[u8]) -> Result<(), AllocError>
+    fn take_bytes(&mut self, bytes: &[u8]) -> Result<(), AllocError>
         ensures { OnOk result (ReadsOn self.old self.new bytes.now) }
     {
         let mut rest = bytes;

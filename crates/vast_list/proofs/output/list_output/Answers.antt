@@ -1,4 +1,4 @@
-use Rattle.std.proofs.Common.{IfSome, List, ℕ, rules}
+use Rattle.std.proofs.Common.{IfSome, rules}
 use Rattle.std.proofs.lemmas.Option.{IfSome_then}
 use Rattle.std.proofs.lemmas.Result.{IfOk-weaker}
 use Rattle.vast_list.specs.Lines.{BeginsWithDialect, line_texts}

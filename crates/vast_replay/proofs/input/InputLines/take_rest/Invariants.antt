@@ -1,6 +1,6 @@
 use Rattle.std.proofs.Common.{◌≡◌, length}
 use Rattle.vast_replay.specs.Internal.Input.{ReadsInput}
-use Rattle.vast_replay.proofs.input.InputLines.read.Given as goal
+use Rattle.vast_replay.proofs.input.InputLines.take_rest.Given as goal
 
 -- The lines of what was given so far were taken.
 abbrev pub invariant-loop : goal.invariant-loop

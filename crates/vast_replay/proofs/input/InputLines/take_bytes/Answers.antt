@@ -1,6 +1,6 @@
 use Rattle.std.proofs.Common.{refl}
 use Rattle.vast_replay.proofs.Inputs.{last_more, one_more}
-use Rattle.vast_replay.proofs.input.InputLines.take.Goals as goal
+use Rattle.vast_replay.proofs.input.InputLines.take_bytes.Goals as goal
 
 pub loop-piece-preserved : goal.loop-piece-preserved
 loop-piece-preserved c =

@@ -1,6 +1,6 @@
 use Rattle.std.proofs.Common.{length}
 use Rattle.vast_replay.proofs.Inputs.{ReadsUpTo}
-use Rattle.vast_replay.proofs.input.InputLines.take.Given as goal
+use Rattle.vast_replay.proofs.input.InputLines.take_bytes.Given as goal
 
 -- The bytes were read up to the rest.
 abbrev pub invariant-loop-piece : goal.invariant-loop-piece
