@@ -1,3 +1,2 @@
 -- Lemmas on lines.
-pub mod FirstLine
 pub mod Steps

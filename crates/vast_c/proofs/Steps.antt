@@ -8,7 +8,7 @@ use Rattle.vast_list.specs.Session.{Gives, IsSame}
 use Rattle.vast_list.specs.Written.{meaning}
 use Rattle.vast_list.specs.declared.session.Given.{Given}
 use Rattle.vast_list.specs.declared.session.Session.{Session}
-use Rattle.vast_c.specs.Lines.{lines_of}
+use Rattle.vast_list.specs.Lines.{lines_of}
 use Rattle.vast_c.specs.Seen.{Gave, GaveSome, IsSameTree, Made}
 use Rattle.vast_c.specs.Internal.Seen.{GaveOne, LeftIfAny, MadeAll}
 use Rattle.vast_c.specs.declared.kept.Cause.{Cause}

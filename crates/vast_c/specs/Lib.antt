@@ -1,4 +1,3 @@
 -- What C sees of a session, and the words of the exports' clauses.
-pub mod Lines
 pub mod Seen
 pub mod Internal

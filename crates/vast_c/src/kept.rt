@@ -5,7 +5,7 @@ ghost use Rattle.std.specs.Prelude.{length};
 ghost use Rattle.vast_core.specs.Bench.{start};
 ghost use Rattle.vast_list.specs.Session.{IsLeft};
 ghost use Rattle.vast_list.specs.declared.session.Session.{Session as AnySession};
-ghost use Rattle.vast_c.specs.Lines.{lines_of};
+ghost use Rattle.vast_list.specs.Lines.{lines_of};
 ghost use Rattle.vast_c.specs.Seen.{IsPrinted, IsToldOf, cause_of};
 ghost use Rattle.vast_c.specs.Internal.Seen.{GaveOne, LeftBy, MadeAll};
 

@@ -7,7 +7,7 @@ ghost use Rattle.std.specs.Prelude.{◌≡◌, ◌≢◌, ◌<◌, ◌↔◌, So
 ghost use Rattle.vast_list.specs.Session.{IsSame};
 ghost use Rattle.vast_literal.specs.declared.kind.VastFileType.TheVariants.{Verilog, SystemVerilog};
 ghost use Rattle.vast_c.specs.declared.kept.Cause.TheVariants.{Condition, Form, Memory, Refused};
-ghost use Rattle.vast_c.specs.Lines.{lines_of};
+ghost use Rattle.vast_list.specs.Lines.{lines_of};
 ghost use Rattle.vast_c.specs.Seen.{Copied, CopiedSome, IsFresh, IsSameTree, IsToldOf, Made, Printed};
 ghost use Rattle.vast_c.specs.Seen.{answer_in, call_in, column_in, count_in, file_in, line_in, message_in};
 ghost use Rattle.vast_c.specs.Seen.{session_in, told_in, words_in};

@@ -10,3 +10,5 @@ pub mod JsonLines
 pub mod TextLines
 pub mod Mapped
 pub mod UntitledLists
+pub mod EndedLines
+pub mod Numbered

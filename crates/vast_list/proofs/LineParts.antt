@@ -1,5 +1,5 @@
 -- Where the call's name and its arguments stand in a line.
-use Rattle.std.proofs.Common.{◌≡◌, ℕ, ◌<◌, List, [], ◌∷◌, ◌++◌, take, drop, refl, sym, ap, ◌∙◌, lit<, length, subst, true, false, Bool}
+use Rattle.std.proofs.Common.{◌≡◌, ℕ, List, [], ◌∷◌, take, drop, sym, ap, ◌∙◌, lit<, length}
 use Rattle.std.proofs.Math.Seq.{drop-append_seam, drop-length, take-length}
 use Rattle.std.specs.List.{position_or_len}
 use Rattle.std.specs.Prelude.{◌==◌}

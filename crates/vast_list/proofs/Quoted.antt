@@ -1,20 +1,20 @@
 -- Texts between quotes, part by part.
-use Rattle.std.proofs.Common.{◌≡◌, ℕ, ◌+◌, ◌*◌, ◌/◌, ◌-◌, ◌<◌, ◌≤◌, suc, List, [], ◌∷◌, ◌++◌, Bool, true, false, cond, Option, Some, None, Result, Ok, Err, take, drop, refl, sym, ap, subst, ◌∙◌, append_assoc, append-nil, lit<, length, arith, inl, inr, ⊎_elim, ltb}
-use Rattle.std.proofs.lemmas.Bool.{le-ltb, lt-ltb, ne_eqb, cases_lt}
+use Rattle.std.proofs.Common.{◌≡◌, ℕ, ◌+◌, ◌/◌, ◌<◌, ◌≤◌, suc, List, [], ◌∷◌, ◌++◌, Bool, true, false, cond, Some, Result, Ok, Err, take, drop, refl, sym, ap, subst, ◌∙◌, append_assoc, append-nil, lit<, length, arith, inl, inr, ⊎_elim, ltb}
+use Rattle.std.proofs.lemmas.Bool.{le-ltb, ne_eqb, cases_lt}
 use Rattle.std.proofs.lemmas.List.{take-append-drop}
 use Rattle.std.proofs.lemmas.List.Concat.{flat_map-append}
 use Rattle.std.proofs.lemmas.List.Elements.{All-append, All-cons, All-nil}
 use Rattle.std.proofs.lemmas.Str.Pattern.{NoCharPasses-char}
 use Rattle.std.specs.Borrow.{Bor}
 use Rattle.std.specs.Char.{IsScalar}
-use Rattle.std.specs.List.{All, flat_map}
+use Rattle.std.specs.List.{flat_map}
 use Rattle.std.specs.Prelude.{◌≢◌, IfOk, encode_utf8, slice_index, ◌==◌}
 use Rattle.std.specs.Str.{NoCharPasses}
 use Rattle.std.specs.Str.Pattern.{FindsChar, FindsTextPrefix, SplitsAroundMatch, StripsPrefix}
 use Rattle.std.specs.Str.Parse.{IsNumeral, digits_value, without_leading_plus}
 use Rattle.vast_list.specs.declared.problem.Misfit.{Misfit}
 use Rattle.vast_list.specs.Json.{letter_meaning}
-use Rattle.vast_list.specs.Written.{IsCharacter, IsCode, IsContent, IsHigh, IsLow, IsPair, IsPart, IsQuoted, paired}
+use Rattle.vast_list.specs.Written.{IsCode, IsContent, IsHigh, IsLow, IsPart, paired}
 use Rattle.vast_list.specs.Internal.Written.{IsCodeFront, IsContentFront, IsMeaning, IsPartFront, IsTextFront}
 use Rattle.vast_list.proofs.Words.{around, behind_text, encoded_low}
 use lib.Utf8.{encode, next}

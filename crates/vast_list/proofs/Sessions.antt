@@ -23,6 +23,7 @@ use Rattle.vast_list.specs.declared.session.Session.{Session}
 use Rattle.vast_list.specs.declared.arguments.Known.{Known}
 use Rattle.vast_list.specs.declared.line.Line.{Line as ReadLine}
 use Rattle.vast_list.specs.declared.names.Named.{Named}
+use Rattle.vast_list.specs.declared.names.Names.{Names}
 use Rattle.std.specs.Prelude.{Option, option_copied}
 use Rattle.vast_list.specs.Lines.{behind_call, line_arguments, line_name, text_name, without_return}
 use Rattle.vast_list.specs.Names.{IsFree}
@@ -101,7 +102,7 @@ pub read_known :
     IsRead (meaning known.names.now) known.skipped.now text line → IsRead (meaning session.names) session.skipped.items text line
 read_known known session text line n s h =
     subst (λ (skipped : List ℕ). IsRead (meaning session.names) skipped text line) s
-    (subst (λ (names : List (List ℕ) × List (Option Named)). IsRead (meaning names) known.skipped.now text line) n h)
+    (subst (λ (names : Names). IsRead (meaning names) known.skipped.now text line) n h)
 
 pub left_same :
     (old new : Session) (fault : Fault) → new.file ≡ old.file → new.answers.items ≡ old.answers.items → meaning new.names ≡ meaning old.names → new.skipped.items ≡ old.skipped.items → IsLeft old new fault

@@ -1,14 +1,13 @@
 -- Words that are taken from the front of a line's rest, and the pieces that they write.
-use Rattle.std.proofs.Common.{◌≡◌, ℕ, ◌+◌, ◌<◌, List, [], ◌∷◌, ◌++◌, Bool, true, false, cond, Option, Some, None, Result, Ok, Err, take, drop, refl, sym, ap, subst, ◌∙◌, append_assoc, append-nil, lit<, length, arith, eqb, eqb-true, inl, inr, ℤ, pos, neg_ℤ}
+use Rattle.std.proofs.Common.{◌≡◌, ℕ, ◌<◌, List, [], ◌∷◌, ◌++◌, Bool, true, false, cond, Option, None, Result, Ok, Err, take, drop, refl, sym, ap, subst, ◌∙◌, append_assoc, append-nil, lit<, length, arith, eqb-true, inl, inr, ℤ, pos, neg_ℤ}
 use Rattle.std.proofs.lemmas.Bool.{lt-ltb, ne_eqb}
 use Rattle.std.proofs.lemmas.List.{take-append-drop}
 use Rattle.std.proofs.lemmas.List.Concat.{flat_map-append}
 use Rattle.std.specs.Borrow.{Bor}
 use Rattle.std.specs.List.{flat_map}
-use Rattle.std.specs.Prelude.{String, IfOk, IsErrAnd, MatchResult, encode_utf8, ◌≢◌, slice_index, codes}
+use Rattle.std.specs.Prelude.{IfOk, IsErrAnd, MatchResult, encode_utf8, ◌≢◌, slice_index, codes}
 use Rattle.std.specs.Str.Parse.{IsNumeral, digits_value, without_leading_sign, signed_digits_value, starts_with_minus, without_leading_plus}
 use Rattle.std.specs.Str.Pattern.{FindsChar, FindsTextPrefix, FindsCharPrefix, SplitsAroundMatch, StripsPrefix}
-use Rattle.std.specs.declared.alloc.Global.{Global}
 use Rattle.vast_list.specs.declared.arguments.Arguments.{Arguments}
 use Rattle.vast_list.specs.declared.arguments.Known.{Known}
 use Rattle.vast_list.specs.declared.names.Named.{Named}

@@ -1,6 +1,6 @@
 -- How the lines of a list are told apart: by their front, up to the call's name. A text is a list of bytes.
-use Rattle.std.specs.Prelude.{◌≡◌, ℕ, ◌==◌, ◌||◌, ◌-◌, Bool, true, false, List, [], ◌∷◌, ◌++◌, length, map, take, drop, filter, codes, slice_index, Option, Some, None, if◌then◌else◌}
-use Rattle.std.specs.List.{All, before_first, after_first, ends_with, starts_with}
+use Rattle.std.specs.Prelude.{◌≡◌, ℕ, ◌==◌, ◌||◌, ◌-◌, Bool, true, false, List, [], ◌∷◌, ◌++◌, length, map, take, drop, filter, codes, slice_index, Option, Some, None, if◌then◌else◌, cond, eqb}
+use Rattle.std.specs.List.{All, before_first, after_first, ends_with, starts_with, position_or_len}
 use Rattle.std.specs.Borrow.{Bor}
 use Rattle.vast_literal.specs.declared.kind.VastFileType.{VastFileType}
 use Rattle.vast_literal.specs.declared.kind.VastFileType.TheVariants.{Verilog, SystemVerilog}
@@ -114,3 +114,24 @@ dialect_word SystemVerilog = codes "systemverilog"
 abbrev pub BeginsWithDialect : (lines : List (List ℕ)) → VastFileType → (behind : List (List ℕ)) → Type 0
 BeginsWithDialect lines dialect behind =
     (passed : List (List ℕ)) × (line : List ℕ) × All (λ l. line_kind l ≡ Passed) passed × (without_return line ≡ dialect_word dialect) × (lines ≡ passed ++ line ∷ behind)
+
+abbrev pub is_line_feed : ℕ → Bool
+is_line_feed byte = eqb byte 10
+
+-- The first line is one byte longer.
+abbrev pub longer : ℕ → List (List ℕ) → List (List ℕ)
+longer byte [] = (byte ∷ []) ∷ []
+longer byte (line ∷ lines) = (byte ∷ line) ∷ lines
+
+-- Each line of a text is ended by a line feed, which the last one may lack; behind the last line feed no line begins.
+abbrev pub lines_of : List ℕ → List (List ℕ)
+lines_of [] = []
+lines_of (byte ∷ bytes) = cond (is_line_feed byte) ([] ∷ lines_of bytes) (longer byte (lines_of bytes))
+
+-- None of the bytes is a line feed.
+abbrev pub HasNoFeed : List ℕ → Type 0
+HasNoFeed bytes = position_or_len is_line_feed bytes ≡ length bytes
+
+-- The first line feed of the bytes ends the line.
+abbrev pub IsEnded : (bytes line behind : List ℕ) → Type 0
+IsEnded bytes line behind = HasNoFeed line × (bytes ≡ line ++ 10 ∷ behind)

@@ -1,6 +1,7 @@
 -- What is printed of a list.
-use Rattle.std.specs.Prelude.{◌≡◌, ℕ, Bool, true, false, List, ◌++◌, codes, Option, Some, None}
+use Rattle.std.specs.Prelude.{◌≡◌, ℕ, Bool, true, false, List, ◌++◌, codes, Option, Some, None, IsTrue, is_some}
 use Rattle.std.specs.Borrow.{Bor}
+use Rattle.vast_list.specs.declared.output.ListOutput.{ListOutput}
 use Rattle.vast_list.specs.declared.output.Verdict.{Verdict}
 use Rattle.vast_list.specs.declared.output.Verdict.TheVariants.{Made, Refused, NotInForm}
 use Rattle.vast_list.specs.declared.tries.Tries.{Tries}
@@ -31,3 +32,7 @@ abbrev pub is_made : Verdict → Bool
 is_made Made = true
 is_made Refused = false
 is_made NotInForm = false
+
+-- where nothing of the list was at fault, something is printed of it
+abbrev pub IsPrinted : ListOutput → Type 0
+IsPrinted made = IsTrue (is_made made.verdict) → IsTrue (is_some made.output)

@@ -1,10 +1,11 @@
 -- How the arguments of a call are written in a line: a space before each of their pieces. A text is a list of bytes.
-use Rattle.std.specs.Prelude.{◌≡◌, ℕ, ◌+◌, ◌*◌, ◌-◌, ◌≤◌, ◌<◌, ◌⊎◌, ◌≢◌, ℤ, pos, neg_ℤ, List, [], ◌∷◌, ◌++◌, length, min, Option, Some, encode_utf8}
+use Rattle.std.specs.Prelude.{◌≡◌, ℕ, ◌+◌, ◌*◌, ◌-◌, ◌≤◌, ◌<◌, ◌⊎◌, ◌≢◌, ℤ, pos, neg_ℤ, List, [], ◌∷◌, ◌++◌, length, min, Option, Some, None, encode_utf8}
 use Rattle.std.specs.Char.{IsScalar}
 use Rattle.std.specs.List.{All, flat_map}
 use Rattle.std.specs.Str.Parse.{IsNumeral, digits_value}
 use Rattle.vast_names.specs.Map.{meaning as meant_by}
 use Rattle.vast_list.specs.declared.names.Named.{Named}
+use Rattle.vast_list.specs.declared.names.Names.{Names}
 use Rattle.vast_list.specs.declared.names.Named.TheVariants.{Handle, Skipped, Number as NumberNamed}
 use Rattle.vast_list.specs.Json.{letter_meaning}
 use Rattle.vast_list.specs.CallArguments.{Piece, Place, Number, Count, Text, Word}
@@ -66,9 +67,14 @@ IsQuoted word content = (written : List ℕ) × IsContent written content × (wo
 abbrev pub IsPlaceOf : (skipped : List ℕ) → (number place : ℕ) → Type 0
 IsPlaceOf skipped number place = skipped ≡ [] → place ≡ min number 18446744073709551614
 
+-- A place, if there is one, else what stands beside it.
+abbrev pub place_or : Option ℕ → Option Named → Option Named
+place_or (Some place) other = Some (Handle place)
+place_or None other = other
+
 -- What a name stands for.
-abbrev pub meaning : (List (List ℕ) × List (Option Named)) → List ℕ → Option Named
-meaning names = meant_by names
+abbrev pub meaning : Names → List ℕ → Option Named
+meaning names name = place_or (meant_by names.places name) (meant_by names.others name)
 
 -- By what the names so far stand for, and the numbers of the lines that were passed over.
 module _ (named : List ℕ → Option Named) (skipped : List ℕ) where

@@ -40,7 +40,7 @@ pub use json::push_json_text;
 pub use json_line::list_json;
 pub use laws::{calls_are_named, steps_build_as_replayed};
 pub use line::dialect_of;
-pub use lines::{HEADER, ListLines};
+pub use lines::{HEADER, ListLines, ended_line};
 pub use map::{json_with_map, list_origins};
 pub use origins::Origins;
 pub use output::{ListOutput, MOST_FAULTS, Verdict, list_output};

@@ -1,4 +1,8 @@
-//! The lines of a list.
+//! The lines of a list, and of a text.
+
+ghost use Rattle.std.specs.Prelude.{◌≡◌, IfSome, IsNone};
+ghost use Rattle.std.specs.List.{position_or_len};
+ghost use Rattle.vast_list.specs.Lines.{HasNoFeed, IsEnded, is_line_feed};
 
 /// What begins the line before a list.
 pub const HEADER: &[u8] = b"== ";
@@ -12,4 +16,31 @@ pub struct ListLines<'a> {
     pub number: usize,
     /// Each with its number in the input.
     pub lines: Vec<(usize, &'a [u8])>,
+}
+
+/// The first line of the bytes, where a line feed ends it, and what stands behind that; `None` where there is none.
+pub fn ended_line(bytes: &[u8]) -> Option<(&[u8], &[u8])>
+    ensures some { IfSome result (λ cut. IsEnded bytes.now cut.0.now cut.1.now) }
+    ensures none { IsNone result → HasNoFeed bytes.now }
+{
+    let end = line_end(bytes);
+    if end < bytes.len() {
+        Some((&bytes[..end], &bytes[end + 1..]))
+    } else {
+        None
+    }
+}
+
+/// Where the first line feed stands, or behind the last byte.
+fn line_end(bytes: &[u8]) -> usize
+    ensures { result ≡ position_or_len is_line_feed bytes.now }
+{
+    let mut end = 0;
+    while end < bytes.len() {
+        if bytes[end] == b'\n' {
+            return end;
+        }
+        end += 1;
+    }
+    end
 }

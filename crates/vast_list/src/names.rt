@@ -1,5 +1,11 @@
 //! The names of a list.
 
+ghost use Rattle.std.specs.Prelude.{◌≡◌, ℕ, List, IfSome, None, OnErr, OnOk, Some};
+ghost use Rattle.std.specs.Map.{update};
+ghost use Rattle.std.specs.Str.{bytes_eq};
+ghost use Rattle.vast_list.specs.Written.{meaning};
+
+use std::alloc::{AllocError, Global};
 use vast_names::NameMap;
 
 /// What a name of a list stands for.
@@ -15,8 +21,72 @@ pub(crate) enum Named {
     Other,
 }
 
-/// The names so far.
-pub(crate) type Names = NameMap<Named>;
+/// The names so far. Nearly all stand for a place among the answers, for which four bytes are kept.
+#[derive(Drop)]
+pub(crate) struct Names {
+    places: NameMap<u32>,
+    /// What those stand for that stand for no place, or for one above 32 bits.
+    others: NameMap<Named>,
+}
+
+/// The place that the name stands for, where four bytes can hold it.
+fn short_place(meant: Named) -> Option<u32>
+    ensures { IfSome result (λ place. meant ≡ Named.Handle place) }
+{
+    match meant {
+        Named::Handle(place) => u32::try_from(place).ok(),
+        _ => None,
+    }
+}
+
+impl Names {
+    /// No name stands for anything. It takes no memory.
+    pub(crate) fn new(alloc: Global) -> Names
+        ensures { meaning result ≡ (λ (name : List ℕ). None) }
+    {
+        Names {
+            places: NameMap::new(alloc),
+            others: NameMap::new(alloc),
+        }
+    }
+
+    /// What the name stands for.
+    pub(crate) fn get(&self, name: &str) -> Option<Named>
+        ensures { result ≡ meaning self.now name.now }
+    {
+        match self.places.get(name) {
+            Some(place) => Some(Named::Handle(place as usize)),
+            None => self.others.get(name),
+        }
+    }
+
+    /// The name stands for this from now on.
+    ///
+    /// # Errors
+    /// Want of memory; nothing changed.
+    pub(crate) fn insert(&mut self, name: &str, meant: Named) -> Result<(), AllocError>
+        ensures ok { OnOk result
+            (meaning self.new ≡ update bytes_eq (meaning self.old) name.now (Some meant)) }
+        ensures err { OnErr result (self.new ≡ self.old) }
+    {
+        match short_place(meant) {
+            Some(place) => self.places.insert(name, place),
+            None => {
+                self.others.insert(name, meant)?;
+                self.places.remove(name);
+                Ok(())
+            }
+        }
+    }
+
+    /// The name stands for nothing from now on.
+    pub(crate) fn remove(&mut self, name: &str)
+        ensures { meaning self.new ≡ update bytes_eq (meaning self.old) name.now None }
+    {
+        self.places.remove(name);
+        self.others.remove(name);
+    }
+}
 
 /// A name begins with a letter or `_`, and goes on with those and digits.
 pub(crate) fn is_name(word: &str) -> bool {

@@ -1,7 +1,7 @@
 //! Which calls the lines of a text come from.
 
-ghost use Rattle.std.specs.Prelude.{◌≡◌, ◌⊎◌, ◌++◌, ◌<◌, ◌≤◌, [], All, IfOk, IfSome, OnErr, OnOk, length, take, drop};
-ghost use Rattle.vast_list.specs.Origins.{text_of};
+ghost use Rattle.std.specs.Prelude.{◌≡◌, ◌⊎◌, ◌++◌, ◌<◌, ◌≤◌, ◌-◌, [], All, IfOk, IfSome, OnErr, OnOk, length, take, drop};
+ghost use Rattle.vast_list.specs.Origins.{EndsNumbered, numbered, text_of};
 ghost use Rattle.vast_list.specs.Internal.Origins.{ComesFrom, Follows, IsOriginIn};
 
 use std::alloc::{AllocError, Global};
@@ -205,30 +205,42 @@ impl Origins {
     }
 }
 
+/// How many bytes stand before the lines in an output that ends with them.
+fn begin_in(lines: &[TextLine], output: &[u8]) -> usize
+    ensures { result ≡ length output.now - length (text_of lines.now) }
+{
+    let mut begin = output.len();
+    for line in lines {
+        begin = begin.saturating_sub(line.bytes.len());
+    }
+    begin
+}
+
+/// Appends the lines, each behind its number and a tab.
+fn push_numbered(alloc: Global, lines: &[TextLine], mapped: &mut Vec<u8>) -> Result<(), AllocError>
+    ensures { OnOk result (mapped.new.items ≡ mapped.old.items ++ numbered lines.now) }
+{
+    for line in lines {
+        let number = format!(in alloc; "{}\t", line.origin)?;
+        mapped.extend_from_slice(number.as_bytes())?;
+        mapped.extend_from_slice(&line.bytes)?;
+    }
+    Ok(())
+}
+
 impl Origins {
     /// The output, whose end is the text: each line of the text stands behind its number and a tab.
     ///
     /// # Errors
     /// Want of memory.
-    pub fn mapped(&self, output: &[u8]) -> Result<Vec<u8>, AllocError> {
+    pub fn mapped(&self, output: &[u8]) -> Result<Vec<u8>, AllocError>
+        ensures { IfOk result (λ mapped.
+            EndsNumbered self.now.lines.items output.now mapped.items) }
+    {
         let mut mapped = Vec::new(self.alloc);
-        let before = output.len().saturating_sub(self.length());
-        mapped.extend_from_slice(output.get(..before).unwrap_or(output))?;
-        for line in &self.lines {
-            let number = format!(in self.alloc; "{}\t", line.origin)?;
-            mapped.extend_from_slice(number.as_bytes())?;
-            mapped.extend_from_slice(&line.bytes)?;
-        }
+        mapped.extend_from_slice(&output[..begin_in(&self.lines, output)])?;
+        push_numbered(self.alloc, &self.lines, &mut mapped)?;
         Ok(mapped)
-    }
-
-    /// How many bytes the text has.
-    fn length(&self) -> usize {
-        let mut length = 0usize;
-        for line in &self.lines {
-            length = length.saturating_add(line.bytes.len());
-        }
-        length
     }
 
     /// Appends the numbers as a list of JSON.

@@ -1,9 +1,9 @@
 //! What is printed of a list.
 
-ghost use Rattle.std.specs.Prelude.{◌≡◌, ◌≤◌, IfOk, IfSome, None, is_some, length, take, string_bytes, All};
+ghost use Rattle.std.specs.Prelude.{◌≡◌, ◌≤◌, IfOk, IfSome, None, false, is_some, length, take, string_bytes, All};
 ghost use Rattle.vast_core.specs.FileTree.{tree};
 ghost use Rattle.vast_list.specs.Lines.{BeginsWithDialect, Passed, line_kind, line_texts};
-ghost use Rattle.vast_list.specs.Output.{header_line, is_again, BeginsWithHeader, IsOutput};
+ghost use Rattle.vast_list.specs.Output.{header_line, is_again, is_made, BeginsWithHeader, IsOutput, IsPrinted};
 ghost use Rattle.vast_list.specs.Internal.Output.{IsAnswered, IsDesign, IsFinished};
 ghost use Rattle.vast_list.specs.Session.{IsTextOf};
 
@@ -61,8 +61,9 @@ pub fn list_output(
     tries: Tries,
     list: &ListLines<'_>,
 ) -> Result<ListOutput, AllocError>
-    ensures { IfOk result (λ made. IfSome made.output
+    ensures text { IfOk result (λ made. IfSome made.output
         (λ output. IsOutput tries list.now.title (line_texts list.now.lines.items) output.items)) }
+    ensures printed { IfOk result IsPrinted }
 {
     match dialect_again(alloc, tries, list) {
         Ok((dialect, lines)) => {
@@ -165,7 +166,8 @@ pub(crate) fn bad_dialect(
     tries: Tries,
     fault: LineFault,
 ) -> Result<ListOutput, AllocError>
-    ensures { IfOk result (λ made. made.output ≡ None) }
+    ensures none { IfOk result (λ made. made.output ≡ None) }
+    ensures fault { IfOk result (λ made. is_made made.verdict ≡ false) }
 {
     let mut told = Told::new(alloc);
     told.keep(tries, fault)?;
@@ -173,7 +175,8 @@ pub(crate) fn bad_dialect(
 }
 
 fn output_of(output: Option<Vec<u8>>, told: Told) -> ListOutput
-    ensures { result.output ≡ output }
+    ensures output { result.output ≡ output }
+    ensures verdict { result.verdict ≡ told.verdict }
 {
     let Told {
         verdict,
@@ -196,8 +199,9 @@ pub(crate) fn finished(
     title: Option<&[u8]>,
     answering: Answering<'_>,
 ) -> Result<ListOutput, AllocError>
-    ensures { IfOk result (λ made. IfSome made.output
+    ensures text { IfOk result (λ made. IfSome made.output
         (λ output. IsFinished title.entry answering.entry output.items)) }
+    ensures printed { IfOk result IsPrinted }
 {
     if let Verdict::NotInForm = answering.told.verdict {
         return Ok(output_of(None, answering.told));
@@ -210,8 +214,9 @@ pub(crate) fn finished(
 
 /// The file's text, where nothing was refused.
 fn design(tries: Tries, answering: Answering<'_>) -> Result<ListOutput, AllocError>
-    ensures { IfOk result (λ made. IfSome made.output
+    ensures text { IfOk result (λ made. IfSome made.output
         (λ output. IsDesign answering.entry output.items)) }
+    ensures printed { IfOk result IsPrinted }
 {
     let Answering {
         mut session,
@@ -227,8 +232,9 @@ fn design(tries: Tries, answering: Answering<'_>) -> Result<ListOutput, AllocErr
 
 /// The file's text, or its refusal.
 fn printed(tries: Tries, session: &Session, mut told: Told) -> Result<ListOutput, AllocError>
-    ensures { IfOk result (λ made. IfSome made.output
+    ensures text { IfOk result (λ made. IfSome made.output
         (λ output. IsTextOf (tree session.now.file) output.items)) }
+    ensures printed { IfOk result IsPrinted }
 {
     match text_again(tries, session) {
         Ok(text) => Ok(output_of(Some(text.into_bytes()), told)),
@@ -257,8 +263,9 @@ fn report(
     title: &[u8],
     mut answering: Answering<'_>,
 ) -> Result<ListOutput, AllocError>
-    ensures { IfOk result (λ made. IfSome made.output
+    ensures text { IfOk result (λ made. IfSome made.output
         (λ output. BeginsWithHeader title.now output.items)) }
+    ensures printed { IfOk result IsPrinted }
 {
     answering.print_file()?;
     let body = answering.report.unwrap_or(Vec::new(alloc));

@@ -1,6 +1,7 @@
 //! A list without a title, taken line by line.
 
 ghost use Rattle.std.specs.Prelude.{[], IfOk, OnOk};
+ghost use Rattle.vast_list.specs.Output.{IsPrinted};
 ghost use Rattle.vast_list.specs.Untitled.{GoesOnTo, HasTaken, IsPrintedOf};
 ghost use Rattle.vast_list.specs.Internal.Untitled.{LeadsTo};
 
@@ -67,7 +68,8 @@ impl UntitledList {
     /// Want of memory.
     #[tactic(auto, using(crate::proofs::UntitledLists::untitled))]
     pub fn finish(self) -> Result<ListOutput, AllocError>
-        ensures { IfOk result (IsPrintedOf self) }
+        ensures text { IfOk result (IsPrintedOf self) }
+        ensures printed { IfOk result IsPrinted }
     {
         let UntitledList { alloc, stage } = self;
         match stage {

@@ -1,12 +1,17 @@
 //! An input, by its lists or by its lines.
 
-ghost use Rattle.std.specs.Prelude.{OnOk};
-ghost use Rattle.std.specs.Io.KnownBytes.{IsAtEnd};
+ghost use Rattle.std.specs.Prelude.{◌≡◌, ◌<◌, ◌∷◌, ◌++◌, [], IfOk, OnOk, length};
+ghost use Rattle.std.specs.Io.KnownBytes.{Consumes, IsAtEnd};
+ghost use Rattle.vast_list.specs.Lines.{HasNoFeed};
+ghost use Rattle.vast_list.specs.Output.{IsPrinted};
+ghost use Rattle.vast_list.specs.Untitled.{GoesOnTo};
+ghost use Rattle.vast_replay.specs.Input.{GivesTaken, unmarked};
+ghost use Rattle.vast_replay.specs.Internal.Input.{GivesTextOf, HasRead, ReadsInput, ReadsOn};
 
 use std::alloc::{AllocError, Global};
 use std::io;
 use std::io::{Error, ErrorKind, Read};
-use vast_list::{HEADER, ListLines, ListOutput, UntitledList};
+use vast_list::{HEADER, ListLines, ListOutput, UntitledList, ended_line};
 
 /// What is read of an input.
 #[derive(Drop)]
@@ -59,51 +64,57 @@ pub(crate) fn split_lists(alloc: Global, input: &[u8]) -> Result<Vec<ListLines<'
     Ok(lists)
 }
 
-fn without_mark(input: &[u8]) -> &[u8] {
-    input.strip_prefix(MARK).unwrap_or(input)
+fn without_mark(input: &[u8]) -> &[u8]
+    ensures { result.now ≡ unmarked input.now }
+{
+    if input.starts_with(MARK) {
+        &input[MARK.len()..]
+    } else {
+        input
+    }
 }
 
 /// Reads the input to its end. The lines of a list without a header are taken as they come, and no more than the longest
-/// is kept; where the first line is a header, and where there are but some bytes, all of them are.
+/// is kept; where the first line is a header all bytes are.
 ///
 /// # Errors
 /// A failed read, and want of memory.
 pub(crate) fn take_input<R: Read>(alloc: Global, input: &mut R) -> io::Result<Taken>
-    ensures { OnOk result (IsAtEnd (R.remaining input.new)) }
+    ensures end { OnOk result (IsAtEnd (R.remaining input.new)) }
+    ensures taken { IfOk result (GivesTaken (R.remaining input.old) (R.remaining input.new)) }
+{
+    let mut front = read_front(alloc, input)?;
+    let lines = without_mark(&front);
+    if lines.starts_with(HEADER) {
+        input.read_to_end(&mut front)?;
+        return Ok(Taken::Bytes(front));
+    }
+    let mut list = InputLines::empty(alloc);
+    list.take_bytes(lines)?;
+    if front.len() >= FRONT_BYTES {
+        list.take_rest(input)?;
+    }
+    Ok(Taken::List(list.finish()?))
+}
+
+/// The first bytes of the input, as many as show whether it begins with a header, or all.
+fn read_front<R: Read>(alloc: Global, input: &mut R) -> io::Result<Vec<u8>>
+    ensures bytes { IfOk result (λ front.
+        Consumes (R.remaining input.old) (R.remaining input.new) front.items) }
+    ensures end { IfOk result (λ front.
+        length front.items < 6 → IsAtEnd (R.remaining input.new)) }
 {
     let mut front = Vec::new(alloc);
     let mut buffer = [0; BUFFER_BYTES];
     for _ in 0..u64::MAX {
         match input.read(&mut buffer) {
-            Ok(0) => return Ok(Taken::Bytes(front)),
+            Ok(0) => return Ok(front),
             Ok(count) => front.extend_from_slice(&buffer[..count])?,
             Err(error) if error.kind() == ErrorKind::Interrupted => {}
             Err(error) => return Err(error),
         }
         if front.len() >= FRONT_BYTES {
-            return take_rest(alloc, front, input);
-        }
-    }
-    Err(Error::from(ErrorKind::Other))
-}
-
-/// Reads the input, which begins with `front`, to its end.
-fn take_rest<R: Read>(alloc: Global, mut front: Vec<u8>, input: &mut R) -> io::Result<Taken>
-    ensures { OnOk result (IsAtEnd (R.remaining input.new)) }
-{
-    if without_mark(&front).starts_with(HEADER) {
-        input.read_to_end(&mut front)?;
-        return Ok(Taken::Bytes(front));
-    }
-    let mut lines = InputLines::new(alloc);
-    lines.take(without_mark(&front))?;
-    let mut buffer = [0; BUFFER_BYTES];
-    for _ in 0..u64::MAX {
-        match input.read(&mut buffer) {
-            Ok(0) => return Ok(Taken::List(lines.finish()?)),
-            Ok(count) => lines.take(&buffer[..count])?,
-            Err(error) if error.kind() == ErrorKind::Interrupted => {}
-            Err(error) => return Err(error),
+            return Ok(front);
         }
     }
     Err(Error::from(ErrorKind::Other))
@@ -120,7 +131,9 @@ struct InputLines {
 }
 
 impl InputLines {
-    fn new(alloc: Global) -> InputLines {
+    fn empty(alloc: Global) -> InputLines
+        ensures { HasRead result [] }
+    {
         InputLines {
             list: UntitledList::new(alloc),
             number: 0,
@@ -128,28 +141,62 @@ impl InputLines {
         }
     }
 
-    /// Takes each line that ends in these bytes.
-    fn take(&mut self, bytes: &[u8]) -> Result<(), AllocError> {
-        for piece in bytes.split_inclusive(|byte| *byte == b'\n') {
-            match piece.strip_suffix(b"\n") {
-                None => self.left.extend_from_slice(piece)?,
-                Some(line) if self.left.is_empty() => self.take_line(line)?,
-                Some(line) => {
-                    self.left.extend_from_slice(line)?;
-                    self.take_left()?;
-                }
+    /// Takes the lines of the input, to its end.
+    fn take_rest<R: Read>(&mut self, input: &mut R) -> io::Result<()>
+        ensures end { OnOk result (IsAtEnd (R.remaining input.new)) }
+        ensures read { OnOk result
+            (ReadsInput self.old self.new (R.remaining input.old) (R.remaining input.new)) }
+    {
+        let mut buffer = [0; BUFFER_BYTES];
+        for _ in 0..u64::MAX {
+            match input.read(&mut buffer) {
+                Ok(0) => return Ok(()),
+                Ok(count) => self.take_bytes(&buffer[..count])?,
+                Err(error) if error.kind() == ErrorKind::Interrupted => {}
+                Err(error) => return Err(error),
             }
         }
-        Ok(())
+        Err(Error::from(ErrorKind::Other))
     }
 
-    fn take_line(&mut self, line: &[u8]) -> Result<(), AllocError> {
+    /// Takes each line that ends in these bytes.
+    fn take_bytes(&mut self, bytes: &[u8]) -> Result<(), AllocError>
+        ensures { OnOk result (ReadsOn self.old self.new bytes.now) }
+    {
+        let mut rest = bytes;
+        while let Some((piece, behind)) = ended_line(rest) {
+            self.take_piece(piece)?;
+            rest = behind;
+        }
+        self.left.extend_from_slice(rest)
+    }
+
+    /// Takes the line that ends with this piece.
+    fn take_piece(&mut self, piece: &[u8]) -> Result<(), AllocError>
+        ensures { OnOk result (HasNoFeed piece.now
+            → ReadsOn self.old self.new (piece.now ++ 10 ∷ [])) }
+    {
+        if self.left.is_empty() {
+            return self.take_line(piece);
+        }
+        self.left.extend_from_slice(piece)?;
+        self.take_left()
+    }
+
+    fn take_line(&mut self, line: &[u8]) -> Result<(), AllocError>
+        ensures taken { OnOk result (GoesOnTo self.old.list self.new.list line.now) }
+        ensures left { self.new.left ≡ self.old.left }
+    {
         self.number = self.number.saturating_add(1);
         self.list.take(self.number, line)
     }
 
     /// What was left is a line.
-    fn take_left(&mut self) -> Result<(), AllocError> {
+    fn take_left(&mut self) -> Result<(), AllocError>
+        ensures taken { OnOk result
+            (GoesOnTo self.old.list self.new.list self.old.left.items) }
+        ensures left { OnOk result (self.new.left.items ≡ []) }
+    {
         self.number = self.number.saturating_add(1);
         self.list.take(self.number, &self.left)?;
         self.left.clear();
@@ -157,7 +204,10 @@ impl InputLines {
     }
 
     /// What the list gives: there are no more bytes.
-    fn finish(mut self) -> Result<ListOutput, AllocError> {
+    fn finish(mut self) -> Result<ListOutput, AllocError>
+        ensures printed { IfOk result IsPrinted }
+        ensures text { IfOk result (GivesTextOf self) }
+    {
         if !self.left.is_empty() {
             self.take_left()?;
         }

@@ -1,7 +1,9 @@
 //! What the program does with lists.
 
-ghost use Rattle.std.specs.Prelude.{◌≡◌, OnOk};
+ghost use Rattle.std.specs.Prelude.{◌≡◌, IfOk, IsTrue, OnOk};
 ghost use Rattle.std.specs.Io.KnownBytes.{IsAtEnd};
+ghost use Rattle.vast_list.specs.Output.{is_made};
+ghost use Rattle.vast_replay.specs.Input.{GivesTaken, PrintsInput, PrintsTexts, WritesMade, WritesTaken};
 
 #[cfg(test)]
 mod tests;
@@ -36,7 +38,9 @@ pub struct Manner<'a> {
 
 impl Manner<'_> {
     /// Whether each line is looked at once, so that none need be kept.
-    pub fn takes_lines_once(self) -> bool {
+    pub fn takes_lines_once(self) -> bool
+        ensures { PrintsTexts self.entry → IsTrue result }
+    {
         let is_text = matches!(self.form, Form::Text | Form::Faults);
         let is_once = matches!(self.tries, Tries::Once);
         is_text && is_once && !self.map && self.lint == Linting::Off
@@ -67,6 +71,9 @@ pub fn run<R: Read, W: Write, E: Write>(
 ) -> Outcome
     ensures silent { result ≡ Outcome.Made → E.contents err.new ≡ E.contents err.old }
     ensures read { result ≡ Outcome.Made → IsAtEnd (R.remaining input.new) }
+    ensures printed { result ≡ Outcome.Made → PrintsTexts manner.entry
+        → PrintsInput (R.remaining input.old) (R.remaining input.new)
+        (W.contents out.old) (W.contents out.new) }
 {
     match read(alloc, manner, input) {
         Ok(taken) => answer_taken(alloc, manner, taken, out, err),
@@ -77,7 +84,9 @@ pub fn run<R: Read, W: Write, E: Write>(
 
 /// Reads an input to its end.
 fn read<R: Read>(alloc: Global, manner: Manner<'_>, input: &mut R) -> io::Result<Taken>
-    ensures { OnOk result (IsAtEnd (R.remaining input.new)) }
+    ensures end { OnOk result (IsAtEnd (R.remaining input.new)) }
+    ensures taken { PrintsTexts manner.entry
+        → IfOk result (GivesTaken (R.remaining input.old) (R.remaining input.new)) }
 {
     if manner.takes_lines_once() {
         return take_input(alloc, input);
@@ -95,7 +104,9 @@ pub(crate) fn answer_taken<W: Write, E: Write>(
     out: &mut W,
     err: &mut E,
 ) -> Outcome
-    ensures { result ≡ Outcome.Made → E.contents err.new ≡ E.contents err.old }
+    ensures silent { result ≡ Outcome.Made → E.contents err.new ≡ E.contents err.old }
+    ensures printed { result ≡ Outcome.Made → manner.entry.form ≡ Form.Text
+        → WritesTaken taken (W.contents out.old) (W.contents out.new) }
 {
     match taken {
         Taken::Bytes(bytes) => answer_lists(alloc, manner, &bytes, out, err),
@@ -174,7 +185,9 @@ fn answer_made<W: Write, E: Write>(
     out: &mut W,
     err: &mut E,
 ) -> Outcome
-    ensures { result ≡ Outcome.Made → E.contents err.new ≡ E.contents err.old }
+    ensures silent { result ≡ Outcome.Made → E.contents err.new ≡ E.contents err.old }
+    ensures printed { result ≡ Outcome.Made → manner.entry.form ≡ Form.Text
+        → WritesMade made (W.contents out.old) (W.contents out.new) }
 {
     let Ok(told) = tried!(manner.tries, told(alloc, manner.source, &made)) else {
         return fail(Failure::Memory, err);
@@ -345,7 +358,9 @@ fn json_linted(
     Ok((line, warned_outcome(manner.lint, warnings.is_empty())))
 }
 
-fn outcome_of(verdict: Verdict, has_title: bool) -> Outcome {
+fn outcome_of(verdict: Verdict, has_title: bool) -> Outcome
+    ensures { result ≡ Outcome.Made → IsTrue (is_made verdict) }
+{
     match verdict {
         Verdict::Made => Outcome::Made,
         Verdict::Refused if has_title => Outcome::Told,

@@ -1,5 +1,5 @@
 -- Beside `specs/Names.antt`: what private contracts and proofs say, and no public one.
-use Rattle.std.specs.Prelude.{ℕ, List, Option, Some, None, if◌then◌else◌}
+use Rattle.std.specs.Prelude.{ℕ, List, Option, Some, None}
 use Rattle.std.specs.Map.{update}
 use Rattle.std.specs.Str.{bytes_eq}
 use Rattle.vast_list.specs.declared.names.Named.{Named}

@@ -1,5 +1,5 @@
 -- Beside `specs/Written.antt`: what private contracts and proofs say, and no public one.
-use Rattle.std.specs.Prelude.{◌≡◌, ℕ, ◌+◌, ◌-◌, ◌<◌, ℤ, List, [], ◌∷◌, ◌++◌, Option, Some, None, encode_utf8}
+use Rattle.std.specs.Prelude.{◌≡◌, ℕ, ◌<◌, ℤ, List, [], ◌∷◌, ◌++◌, Option, Some, None, encode_utf8}
 use Rattle.std.specs.Borrow.{Bor}
 use Rattle.vast_list.specs.declared.arguments.Arguments.{Arguments}
 use Rattle.vast_list.specs.declared.names.Named.TheVariants.{Number as NumberNamed}

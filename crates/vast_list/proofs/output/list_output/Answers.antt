@@ -1,4 +1,4 @@
-use Rattle.std.proofs.Common.{IfSome, List, ℕ, rules}
+use Rattle.std.proofs.Common.{IfSome, rules}
 use Rattle.std.proofs.lemmas.Option.{IfSome_then}
 use Rattle.std.proofs.lemmas.Result.{IfOk-weaker}
 use Rattle.vast_list.specs.Lines.{BeginsWithDialect, line_texts}
@@ -8,8 +8,8 @@ use Rattle.vast_list.specs.declared.output.ListOutput.{ListOutput}
 use Rattle.vast_list.proofs.Outputs.{is_output}
 use Rattle.vast_list.proofs.output.list_output.Goals as goal
 
-pub returns-in_ok-answering-in-Ok : goal.returns-in_ok-answering-in-Ok
-returns-in_ok-answering-in-Ok c =
+pub returns-in_ok-answering-in-Ok-clause-text : goal.returns-in_ok-answering-in-Ok-clause-text
+returns-in_ok-answering-in-Ok-clause-text c =
     let title = c.args.list.now.title in
     let lines = line_texts c.args.list.now.lines.items in
     let behind = line_texts c.in-Ok.lines.now in
@@ -20,4 +20,4 @@ returns-in_ok-answering-in-Ok c =
     (λ (made : ListOutput). IfSome made.output (λ output. IsFinished title answering output.items))
     (λ (made : ListOutput). IfSome made.output (λ output. IsOutput c.args.tries title lines output.items))
     (λ made finished. IfSome_then made.output finished (λ output is. is_output c.args.tries title lines behind c.in-Ok.dialect answering output.items begun answered is))
-    c.finished.ensures
+    c.finished.ensures.text

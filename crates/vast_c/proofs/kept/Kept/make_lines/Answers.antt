@@ -1,6 +1,6 @@
 use Rattle.std.proofs.Common.{◌≡◌, length, drop, refl, sym, ap, ◌∙◌, arith}
 use Rattle.std.proofs.lemmas.List.{length-drop}
-use Rattle.vast_c.specs.Lines.{lines_of}
+use Rattle.vast_list.specs.Lines.{lines_of}
 use Rattle.vast_c.proofs.Steps.{gave_more, next, no_lines}
 use Rattle.vast_c.proofs.kept.Kept.make_lines.Goals as goal
 

@@ -1,5 +1,5 @@
 use Rattle.std.proofs.Common.{◌≡◌, ◌+◌, ◌≤◌, length, drop}
-use Rattle.vast_c.specs.Lines.{lines_of}
+use Rattle.vast_list.specs.Lines.{lines_of}
 use Rattle.vast_c.specs.Seen.{GaveSome}
 use Rattle.vast_c.proofs.kept.Kept.make_lines.Given as goal
 

@@ -1,6 +1,6 @@
 use Rattle.std.proofs.Common.{◌≡◌, ℕ, ◌<◌, ◌≤◌, ◌-◌, false, length, get_or}
-use Rattle.vast_c.specs.Lines.{is_line_feed}
-use Rattle.vast_c.proofs.lines.line_end.Given as goal
+use Rattle.vast_list.specs.Lines.{is_line_feed}
+use Rattle.vast_list.proofs.lines.line_end.Given as goal
 
 -- None of the bytes so far is a line feed.
 abbrev pub invariant-loop-end : goal.invariant-loop-end

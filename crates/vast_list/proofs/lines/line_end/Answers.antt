@@ -1,7 +1,7 @@
 use Rattle.std.proofs.Common.{sym, ap, arith}
 use Rattle.std.proofs.lemmas.List.Sums.{position_or_len_is}
-use Rattle.vast_c.specs.Lines.{is_line_feed}
-use Rattle.vast_c.proofs.lines.line_end.Goals as goal
+use Rattle.vast_list.specs.Lines.{is_line_feed}
+use Rattle.vast_list.proofs.lines.line_end.Goals as goal
 
 pub returns : goal.returns
 returns c = sym (position_or_len_is is_line_feed c.args.bytes.now c.loop-end.end 0 c.loop-end.invariant.1 c.loop-end.invariant.0 (λ inside. absurd (omega (arith, inside, c.loop-end-test.false))))

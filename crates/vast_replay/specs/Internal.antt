@@ -1,0 +1,2 @@
+-- What private contracts and proofs say, and no public one.
+pub mod Input

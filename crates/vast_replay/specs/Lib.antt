@@ -1,0 +1,3 @@
+-- What is printed of an input that is one list.
+pub mod Input
+pub mod Internal
