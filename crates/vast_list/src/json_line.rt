@@ -57,8 +57,8 @@ pub fn list_json(
     write!(text, ",\"line\":{}", list.number)?;
     match dialect_line(alloc, list) {
         Ok((dialect, lines)) => {
-            let answers = answered(alloc, dialect, lines)?;
-            let verdict = push_answers(&mut text, answers)?;
+            let mut answers = answered(alloc, dialect, lines)?;
+            let verdict = push_answers(&mut text, &mut answers)?;
             Ok((text, verdict))
         }
         Err(Fault::Memory) => Err(AllocError),
@@ -131,25 +131,25 @@ impl Answers {
 
 /// Appends the end of the line, from the verdict on.
 #[tactic(auto, using(crate::proofs::JsonLines::endings))]
-fn push_answers(text: &mut String, answers: Answers) -> Result<Verdict, AllocError>
+fn push_answers(text: &mut String, answers: &mut Answers) -> Result<Verdict, AllocError>
     ensures { IfOk result (λ verdict.
-        EndsWithSession verdict answers.session (string_bytes text.new)
-        × (IsTrue (is_made verdict) → IsTrue (is_made answers.told.verdict))) }
+        EndsWithSession verdict answers.old.session (string_bytes text.new)
+        × (IsTrue (is_made verdict) → IsTrue (is_made answers.old.told.verdict))) }
 {
-    let Answers {
-        session,
-        given,
-        mut told,
-    } = answers;
-    let printed = printed(&session, &mut told)?;
-    text.push_str(",\"verdict\":")?;
-    push_json_text(text, verdict_word(told.verdict))?;
-    text.push_str(",\"answers\":[")?;
-    text.push_str(&given)?;
-    text.push(']')?;
-    push_told(text, &told)?;
+    let printed = printed(&answers.session, &mut answers.told)?;
+    push_taken(text, answers)?;
     push_printed(text, printed)?;
-    Ok(told.verdict)
+    Ok(answers.told.verdict)
+}
+
+/// Appends the verdict, what helpers and questions gave, and the faults.
+fn push_taken(text: &mut String, answers: &Answers) -> Result<(), AllocError> {
+    text.push_str(",\"verdict\":")?;
+    push_json_text(text, verdict_word(answers.told.verdict))?;
+    text.push_str(",\"answers\":[")?;
+    text.push_str(&answers.given)?;
+    text.push(']')?;
+    push_told(text, &answers.told)
 }
 
 /// The file's text; `None` where anything was at fault, as the text may be itself.

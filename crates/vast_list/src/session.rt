@@ -125,15 +125,15 @@ impl Session {
             return Ok(Given::Nothing);
         }
         let Line { name, call, action } = self.read(number, text)?;
-        match action {
+        match &action {
             Action::Ask(question) => {
-                let value = self.ask(number, text, call, &question)?;
+                let value = self.ask(number, text, call, question)?;
                 enter(&mut self.names, name, named(&value))?;
                 Ok(Given::Answer { call, value })
             }
             Action::Call(made) => {
                 let step = self.counted();
-                self.make(number, text, name, call, &made)?;
+                self.make(number, text, name, call, made)?;
                 match made {
                     Call::Step(_) => Ok(Given::Step { number: step, call }),
                     Call::Helper(_) => Ok(Given::Helper { number: step, call }),
