@@ -11,11 +11,14 @@ use Rattle.vast_core.specs.Bench.{start}
 use Rattle.vast_core.specs.FileTree.{tree}
 use Rattle.vast_script.specs.Outcome.{Call}
 use Rattle.vast_script.specs.Script.{called}
-use Rattle.vast_script.specs.Types.{make_bit_vector_type}
+use Rattle.vast_script.specs.declared.step.TypeStep.TheVariants.{MakeBitVectorType}
+use Rattle.vast_script.specs.declared.step.StatementStep.TheVariants.{FunctionBody, FunctionResult, CaseAddItem, CaseAddDefault, CaseSetUnique}
+use Rattle.vast_script.specs.declared.step.ArtifactStep.TheVariants.{MakeContinuousAssignment, AddMemberContinuousAssignment}
+use Rattle.vast_script.specs.Types.{type_call}
 use Rattle.vast_script.specs.Expressions.{make_binary_pattern, make_leaf, make_function_call}
 use Rattle.vast_script.specs.Modules.{add_module, add_port}
-use Rattle.vast_script.specs.Artifacts.{make_continuous_assignment, add_member_continuous_assignment}
-use Rattle.vast_script.specs.Statements.{add_function, function_add_variable, function_body, function_result, block_add_case, case_set_unique, case_add_item, case_add_default, block_add_assignment, block_add}
+use Rattle.vast_script.specs.Artifacts.{artifact_call}
+use Rattle.vast_script.specs.Statements.{add_function, function_add_variable, block_add_case, block_add_assignment, block_add, statement_call}
 
 -- That file is plain.
 abbrev pub IsPlainDesign : List Call → Type 0
@@ -24,35 +27,35 @@ IsPlainDesign calls = is_plain_file (tree (called (start SystemVerilog 1) calls)
 unfoldable pub passthrough_calls : List Call
 passthrough_calls =
     add_module (codes "passthrough")
-    ∷ make_bit_vector_type (pos 8) false
+    ∷ type_call (MakeBitVectorType (pos 8) false)
     ∷ add_port Input Wire 0 (codes "input_data") 1
     ∷ add_port Output Wire 0 (codes "output_data") 1
-    ∷ make_continuous_assignment 3 2
-    ∷ add_member_continuous_assignment 0 4
+    ∷ artifact_call (MakeContinuousAssignment 3 2)
+    ∷ artifact_call (AddMemberContinuousAssignment 0 4)
     ∷ []
 
 unfoldable pub cases_calls : List Call
 cases_calls =
     add_module (codes "encoder")
-    ∷ make_bit_vector_type (pos 4) false
-    ∷ make_bit_vector_type (pos 2) false
+    ∷ type_call (MakeBitVectorType (pos 4) false)
+    ∷ type_call (MakeBitVectorType (pos 2) false)
     ∷ add_port Input Wire 0 (codes "s") 1
     ∷ add_port Output Wire 0 (codes "y") 2
     ∷ add_function 0 (codes "f") 2
     ∷ function_add_variable false Reg (codes "input") 5 (codes "s") 1
-    ∷ function_body 5
-    ∷ function_result 5
+    ∷ statement_call (FunctionBody 5)
+    ∷ statement_call (FunctionResult 5)
     ∷ block_add_case CaseZ 7 6
-    ∷ case_set_unique 9 true
+    ∷ statement_call (CaseSetUnique 9 true)
     ∷ make_binary_pattern (codes "1???")
     ∷ make_leaf (decimal_literal (pos 2))
-    ∷ case_add_item 9 11
+    ∷ statement_call (CaseAddItem 9 11)
     ∷ block_add_assignment false 13 8 12
     ∷ make_leaf (decimal_literal (pos 0))
-    ∷ case_add_default 9
+    ∷ statement_call (CaseAddDefault 9)
     ∷ block_add (CommentStatement (codes "none")) 16
     ∷ block_add_assignment false 16 8 15
     ∷ make_function_call (codes "f") (3 ∷ [])
-    ∷ make_continuous_assignment 4 19
-    ∷ add_member_continuous_assignment 0 20
+    ∷ artifact_call (MakeContinuousAssignment 4 19)
+    ∷ artifact_call (AddMemberContinuousAssignment 0 20)
     ∷ []

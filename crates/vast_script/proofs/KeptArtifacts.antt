@@ -1,6 +1,5 @@
 -- What calls of parts keep.
 use Rattle.std.specs.Prelude.{ℕ, Bool, true, false, nat_eq, ◌&&◌, List, length, map, Option, string_bytes}
-use Rattle.vast_literal.specs.declared.kind.DataKind.{DataKind}
 use Rattle.vast_core.specs.Records.{BlankLineRecord, CommentRecord, InlineRecord, MacroRecord, AssignmentEntry, BlankEntry, CommentEntry, InlineEntry, MacroEntry, InstanceEntry}
 use Rattle.vast_core.specs.Growth.{with_member, next_continuous, with_assignment}
 use Rattle.vast_core.specs.Artifacts.{next_def, with_definition, next_macro_statement, with_artifact, next_instantiation, with_instance, next_statement}
@@ -12,25 +11,7 @@ use Rattle.vast_script.specs.Kinds.{an_expr, a_type, a_module, a_macro_ref, an_i
 use Rattle.vast_script.specs.Arguments.{one, two, many_and_open}
 use Rattle.vast_script.proofs.KeptOutcomes.{CallKeeps, given-keeps, provided-keeps}
 use Rattle.xlsynth_vast.proofs.KeptWords.{artifact-kept, assignment-kept, definition-kept, instance-kept, member-kept}
-use Rattle.vast_script.specs.Artifacts.{instance, make_def, make_blank_line, make_comment, make_inline_verilog_statement, make_macro_statement, make_continuous_assignment, make_assignment, make_instantiation, add_member_instantiation, add_member_continuous_assignment, add_member_blank_line, add_member_comment, add_member_inline_statement, add_member_macro_statement, artifact_call}
-
-make_def-keeps : (name : List ℕ) (kind : DataKind) (type : ℕ) → CallKeeps (make_def name kind type)
-make_def-keeps name kind type b answers = given-keeps b (one a_type b answers type) (λ type. Made (Def (next_def b)) (with_definition (record { name = name; kind = kind; data_type = type }) b)) (λ type. definition-kept (record { name = name; kind = kind; data_type = type }) b)
-
-make_blank_line-keeps : CallKeeps make_blank_line
-make_blank_line-keeps b answers = artifact-kept BlankLineRecord b
-
-make_comment-keeps : (text : List ℕ) → CallKeeps (make_comment text)
-make_comment-keeps text b answers = artifact-kept (CommentRecord text) b
-
-make_inline_verilog_statement-keeps : (text : List ℕ) → CallKeeps (make_inline_verilog_statement text)
-make_inline_verilog_statement-keeps text b answers = artifact-kept (InlineRecord text) b
-
-make_macro_statement-keeps : (use_of : ℕ) (semicolon : Bool) → CallKeeps (make_macro_statement use_of semicolon)
-make_macro_statement-keeps use_of semicolon b answers = given-keeps b (one a_macro_ref b answers use_of) (λ use_of. Made (MacroStatement (next_macro_statement b)) (with_artifact (MacroRecord use_of semicolon) b)) (λ use_of. artifact-kept (MacroRecord use_of semicolon) b)
-
-make_continuous_assignment-keeps : (left : ℕ) (right : ℕ) → CallKeeps (make_continuous_assignment left right)
-make_continuous_assignment-keeps left right b answers = given-keeps b (two an_expr an_expr b answers left right) (λ (left, right). Made (ContinuousAssignment (next_continuous b)) (with_assignment (record { lhs = left; rhs = right; nonblocking = false }) b)) (λ (left, right). assignment-kept (record { lhs = left; rhs = right; nonblocking = false }) b)
+use Rattle.vast_script.specs.Artifacts.{instance, make_assignment, make_instantiation, artifact_call}
 
 make_assignment-keeps : (nonblocking : Bool) (left : ℕ) (right : ℕ) → CallKeeps (make_assignment nonblocking left right)
 make_assignment-keeps nonblocking left right b answers = given-keeps b (two an_expr an_expr b answers left right) (λ (left, right). Made (VastStatement (next_statement b)) (with_assignment (record { lhs = left; rhs = right; nonblocking = nonblocking }) b)) (λ (left, right). assignment-kept (record { lhs = left; rhs = right; nonblocking = nonblocking }) b)
@@ -38,37 +19,19 @@ make_assignment-keeps nonblocking left right b answers = given-keeps b (two an_e
 make_instantiation-keeps : (module_name : List ℕ) (instance_name : List ℕ) (parameters : List (List ℕ)) (values : List ℕ) (ports : List (List ℕ)) (wires : List (Option ℕ)) → CallKeeps (make_instantiation module_name instance_name parameters values ports wires)
 make_instantiation-keeps module_name instance_name parameters values ports wires b answers = given-keeps b (many_and_open an_expr b answers values wires) (λ (values, wires). provided (nat_eq (length parameters) (length values) && nat_eq (length ports) (length wires)) (Made (Instantiation (next_instantiation b)) (with_instance (instance module_name instance_name parameters values ports wires) b))) (λ (values, wires). provided-keeps b (nat_eq (length parameters) (length values) && nat_eq (length ports) (length wires)) (Made (Instantiation (next_instantiation b)) (with_instance (instance module_name instance_name parameters values ports wires) b)) (instance-kept (instance module_name instance_name parameters values ports wires) b))
 
-add_member_instantiation-keeps : (owner : ℕ) (part : ℕ) → CallKeeps (add_member_instantiation owner part)
-add_member_instantiation-keeps owner part b answers = given-keeps b (two a_module an_instantiation b answers owner part) (λ (owner, part). Made Nothing (with_member owner (InstanceEntry part) b)) (λ (owner, part). member-kept owner (InstanceEntry part) b)
-
-add_member_continuous_assignment-keeps : (owner : ℕ) (part : ℕ) → CallKeeps (add_member_continuous_assignment owner part)
-add_member_continuous_assignment-keeps owner part b answers = given-keeps b (two a_module a_continuous b answers owner part) (λ (owner, part). Made Nothing (with_member owner (AssignmentEntry part) b)) (λ (owner, part). member-kept owner (AssignmentEntry part) b)
-
-add_member_blank_line-keeps : (owner : ℕ) (part : ℕ) → CallKeeps (add_member_blank_line owner part)
-add_member_blank_line-keeps owner part b answers = given-keeps b (two a_module a_blank_line b answers owner part) (λ (owner, part). Made Nothing (with_member owner BlankEntry b)) (λ (owner, part). member-kept owner BlankEntry b)
-
-add_member_comment-keeps : (owner : ℕ) (part : ℕ) → CallKeeps (add_member_comment owner part)
-add_member_comment-keeps owner part b answers = given-keeps b (two a_module a_comment b answers owner part) (λ (owner, part). Made Nothing (with_member owner (CommentEntry part) b)) (λ (owner, part). member-kept owner (CommentEntry part) b)
-
-add_member_inline_statement-keeps : (owner : ℕ) (part : ℕ) → CallKeeps (add_member_inline_statement owner part)
-add_member_inline_statement-keeps owner part b answers = given-keeps b (two a_module an_inline b answers owner part) (λ (owner, part). Made Nothing (with_member owner (InlineEntry part) b)) (λ (owner, part). member-kept owner (InlineEntry part) b)
-
-add_member_macro_statement-keeps : (owner : ℕ) (part : ℕ) → CallKeeps (add_member_macro_statement owner part)
-add_member_macro_statement-keeps owner part b answers = given-keeps b (two a_module a_macro_statement b answers owner part) (λ (owner, part). Made Nothing (with_member owner (MacroEntry part) b)) (λ (owner, part). member-kept owner (MacroEntry part) b)
-
 pub artifact-keeps : (step : ArtifactStep) → CallKeeps (artifact_call step)
-artifact-keeps (MakeDef name kind type) = make_def-keeps (string_bytes name) kind type
-artifact-keeps MakeBlankLine = make_blank_line-keeps
-artifact-keeps (MakeComment text) = make_comment-keeps (string_bytes text)
-artifact-keeps (MakeInlineVerilogStatement text) = make_inline_verilog_statement-keeps (string_bytes text)
-artifact-keeps (MakeMacroStatement use_of semicolon) = make_macro_statement-keeps use_of semicolon
-artifact-keeps (MakeContinuousAssignment left right) = make_continuous_assignment-keeps left right
+artifact-keeps (MakeDef name kind type) = λ b answers. given-keeps b (one a_type b answers type) (λ type. Made (Def (next_def b)) (with_definition (record { name = (string_bytes name); kind = kind; data_type = type }) b)) (λ type. definition-kept (record { name = (string_bytes name); kind = kind; data_type = type }) b)
+artifact-keeps MakeBlankLine = λ b answers. artifact-kept BlankLineRecord b
+artifact-keeps (MakeComment text) = λ b answers. artifact-kept (CommentRecord (string_bytes text)) b
+artifact-keeps (MakeInlineVerilogStatement text) = λ b answers. artifact-kept (InlineRecord (string_bytes text)) b
+artifact-keeps (MakeMacroStatement use_of semicolon) = λ b answers. given-keeps b (one a_macro_ref b answers use_of) (λ use_of. Made (MacroStatement (next_macro_statement b)) (with_artifact (MacroRecord use_of semicolon) b)) (λ use_of. artifact-kept (MacroRecord use_of semicolon) b)
+artifact-keeps (MakeContinuousAssignment left right) = λ b answers. given-keeps b (two an_expr an_expr b answers left right) (λ (left, right). Made (ContinuousAssignment (next_continuous b)) (with_assignment (record { lhs = left; rhs = right; nonblocking = false }) b)) (λ (left, right). assignment-kept (record { lhs = left; rhs = right; nonblocking = false }) b)
 artifact-keeps (MakeNonblockingAssignment left right) = make_assignment-keeps true left right
 artifact-keeps (MakeBlockingAssignment left right) = make_assignment-keeps false left right
 artifact-keeps (MakeInstantiation module_name instance_name parameters values ports wires) = make_instantiation-keeps (string_bytes module_name) (string_bytes instance_name) (map string_bytes parameters.items) values.items (map string_bytes ports.items) wires.items
-artifact-keeps (AddMemberInstantiation owner part) = add_member_instantiation-keeps owner part
-artifact-keeps (AddMemberContinuousAssignment owner part) = add_member_continuous_assignment-keeps owner part
-artifact-keeps (AddMemberBlankLine owner part) = add_member_blank_line-keeps owner part
-artifact-keeps (AddMemberComment owner part) = add_member_comment-keeps owner part
-artifact-keeps (AddMemberInlineStatement owner part) = add_member_inline_statement-keeps owner part
-artifact-keeps (AddMemberMacroStatement owner part) = add_member_macro_statement-keeps owner part
+artifact-keeps (AddMemberInstantiation owner part) = λ b answers. given-keeps b (two a_module an_instantiation b answers owner part) (λ (owner, part). Made Nothing (with_member owner (InstanceEntry part) b)) (λ (owner, part). member-kept owner (InstanceEntry part) b)
+artifact-keeps (AddMemberContinuousAssignment owner part) = λ b answers. given-keeps b (two a_module a_continuous b answers owner part) (λ (owner, part). Made Nothing (with_member owner (AssignmentEntry part) b)) (λ (owner, part). member-kept owner (AssignmentEntry part) b)
+artifact-keeps (AddMemberBlankLine owner part) = λ b answers. given-keeps b (two a_module a_blank_line b answers owner part) (λ (owner, part). Made Nothing (with_member owner BlankEntry b)) (λ (owner, part). member-kept owner BlankEntry b)
+artifact-keeps (AddMemberComment owner part) = λ b answers. given-keeps b (two a_module a_comment b answers owner part) (λ (owner, part). Made Nothing (with_member owner (CommentEntry part) b)) (λ (owner, part). member-kept owner (CommentEntry part) b)
+artifact-keeps (AddMemberInlineStatement owner part) = λ b answers. given-keeps b (two a_module an_inline b answers owner part) (λ (owner, part). Made Nothing (with_member owner (InlineEntry part) b)) (λ (owner, part). member-kept owner (InlineEntry part) b)
+artifact-keeps (AddMemberMacroStatement owner part) = λ b answers. given-keeps b (two a_module a_macro_statement b answers owner part) (λ (owner, part). Made Nothing (with_member owner (MacroEntry part) b)) (λ (owner, part). member-kept owner (MacroEntry part) b)

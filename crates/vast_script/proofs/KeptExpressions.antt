@@ -1,6 +1,5 @@
 -- What calls that make other expressions keep.
 use Rattle.std.specs.Prelude.{ℕ, ℤ, pos, int_le, ◌&&◌, List, Some, None, codes, string_bytes}
-use Rattle.vast_literal.specs.declared.literal.LiteralFormat.{LiteralFormat}
 use Rattle.vast_literal.specs.Tree.{ExprTree, NameTree, LiteralTree, Untyped}
 use Rattle.vast_literal.specs.Pattern.{pattern}
 use Rattle.vast_core.specs.Types.{is_castable}
@@ -19,34 +18,13 @@ use Rattle.vast_script.specs.Conditions.{is_named}
 use Rattle.xlsynth_vast.proofs.Kept.{keeps-root, keeps-same}
 use Rattle.vast_script.proofs.KeptOutcomes.{CallKeeps, given-keeps, provided-keeps, allowed-keeps}
 use Rattle.xlsynth_vast.proofs.KeptWords.{fixed_index-kept, fixed_replication-kept, fixed_slice-kept}
-use Rattle.vast_script.specs.Expressions.{make_literal, make_binary_pattern, make_leaf, make_indexable_expression, make_slice, make_index, make_slice_expr, make_index_expr, make_indexed_part_select, make_function_call, make_concat, make_replicated_concat, make_replicated_concat_i64, make_array_assignment_pattern, make_macro_ref, make_macro_ref_with_args, make_ternary, make_width_cast, make_type_cast, make_pos_edge, make_neg_edge, expression_call}
-
-make_literal-keeps : (text : List ℕ) (format : LiteralFormat) → CallKeeps (make_literal text format)
-make_literal-keeps text format b answers = allowed-keeps b (literal_in format text) (λ tree. Made (Expr (next_expr b)) (with_expr tree b)) (λ tree. keeps-root b _)
+use Rattle.vast_script.specs.Expressions.{make_binary_pattern, make_leaf, make_function_call, make_concat, make_replicated_concat, make_replicated_concat_i64, make_array_assignment_pattern, make_macro_ref_with_args, expression_call}
 
 make_binary_pattern-keeps : (bits : List ℕ) → CallKeeps (make_binary_pattern bits)
 make_binary_pattern-keeps bits b answers = allowed-keeps b (pattern bits) (λ text. Made (Expr (next_expr b)) (with_expr (pattern_literal text) b)) (λ text. keeps-root b _)
 
 make_leaf-keeps : (tree : ExprTree) → CallKeeps (make_leaf tree)
 make_leaf-keeps tree b answers = keeps-root b _
-
-make_indexable_expression-keeps : (e : ℕ) → CallKeeps (make_indexable_expression e)
-make_indexable_expression-keeps e b answers = given-keeps b (one an_expr b answers e) (λ e. Made (IndexableExpr (expr_to_indexable_expr e)) b) (λ e. keeps-same b)
-
-make_slice-keeps : (subject : ℕ) (high : ℤ) (low : ℤ) → CallKeeps (make_slice subject high low)
-make_slice-keeps subject high low b answers = given-keeps b (one an_indexable b answers subject) (λ subject. provided (int_le (pos 0) high && int_le (pos 0) low) (Made (Slice (next_fixed_slice (selector_text high) high (selector_text low) low b)) (with_fixed_slice subject (selector_text high) high (selector_text low) low b))) (λ subject. provided-keeps b (int_le (pos 0) high && int_le (pos 0) low) (Made (Slice (next_fixed_slice (selector_text high) high (selector_text low) low b)) (with_fixed_slice subject (selector_text high) high (selector_text low) low b)) (fixed_slice-kept subject (selector_text high) high (selector_text low) low b))
-
-make_index-keeps : (subject : ℕ) (index : ℤ) → CallKeeps (make_index subject index)
-make_index-keeps subject index b answers = given-keeps b (one an_indexable b answers subject) (λ subject. provided (int_le (pos 0) index) (Made (Index (next_fixed_index (selector_text index) index b)) (with_fixed_index subject (selector_text index) index b))) (λ subject. provided-keeps b (int_le (pos 0) index) (Made (Index (next_fixed_index (selector_text index) index b)) (with_fixed_index subject (selector_text index) index b)) (fixed_index-kept subject (selector_text index) index b))
-
-make_slice_expr-keeps : (subject : ℕ) (high : ℕ) (low : ℕ) → CallKeeps (make_slice_expr subject high low)
-make_slice_expr-keeps subject high low b answers = given-keeps b (three an_indexable an_expr an_expr b answers subject high low) (λ (subject, high, low). Made (Slice (next_slice b)) (with_slice subject high low b)) (λ (subject, high, low). keeps-root b _)
-
-make_index_expr-keeps : (subject : ℕ) (index : ℕ) → CallKeeps (make_index_expr subject index)
-make_index_expr-keeps subject index b answers = given-keeps b (two an_indexable an_expr b answers subject index) (λ (subject, index). Made (Index (next_index b)) (with_index subject index b)) (λ (subject, index). keeps-root b _)
-
-make_indexed_part_select-keeps : (subject : ℕ) (start : ℕ) (width : ℤ) → CallKeeps (make_indexed_part_select subject start width)
-make_indexed_part_select-keeps subject start width b answers = given-keeps b (two an_indexable an_expr b answers subject start) (λ (subject, start). provided (int_le (pos 1) width) (Made (Expr (next_expr b)) (with_part_select subject start width b))) (λ (subject, start). provided-keeps b (int_le (pos 1) width) (Made (Expr (next_expr b)) (with_part_select subject start width b)) (keeps-root b _))
 
 make_function_call-keeps : (name : List ℕ) (arguments : List ℕ) → CallKeeps (make_function_call name arguments)
 make_function_call-keeps name arguments b answers = given-keeps b (many an_expr b answers arguments) (λ arguments. provided (is_named name) (Made (Expr (next_expr b)) (with_call name arguments b))) (λ arguments. provided-keeps b (is_named name) (Made (Expr (next_expr b)) (with_call name arguments b)) (keeps-root b _))
@@ -63,29 +41,11 @@ make_replicated_concat_i64-keeps count parts b answers = given-keeps b (many an_
 make_array_assignment_pattern-keeps : (parts : List ℕ) → CallKeeps (make_array_assignment_pattern parts)
 make_array_assignment_pattern-keeps parts b answers = given-keeps b (many an_expr b answers parts) (λ parts. Made (Expr (next_expr b)) (with_pattern parts b)) (λ parts. keeps-root b _)
 
-make_macro_ref-keeps : (name : List ℕ) → CallKeeps (make_macro_ref name)
-make_macro_ref-keeps name b answers = keeps-root b _
-
 make_macro_ref_with_args-keeps : (name : List ℕ) (arguments : List ℕ) → CallKeeps (make_macro_ref_with_args name arguments)
 make_macro_ref_with_args-keeps name arguments b answers = given-keeps b (many an_expr b answers arguments) (λ arguments. Made (MacroRef (next_macro_ref b)) (with_macro_call name arguments b)) (λ arguments. keeps-root b _)
 
-make_ternary-keeps : (condition : ℕ) (consequent : ℕ) (alternate : ℕ) → CallKeeps (make_ternary condition consequent alternate)
-make_ternary-keeps condition consequent alternate b answers = given-keeps b (three an_expr an_expr an_expr b answers condition consequent alternate) (λ (condition, consequent, alternate). Made (Expr (next_expr b)) (with_ternary condition consequent alternate b)) (λ (condition, consequent, alternate). keeps-root b _)
-
-make_width_cast-keeps : (width : ℕ) (value : ℕ) → CallKeeps (make_width_cast width value)
-make_width_cast-keeps width value b answers = given-keeps b (two an_expr an_expr b answers width value) (λ (width, value). Made (Expr (next_expr b)) (with_width_cast width value b)) (λ (width, value). keeps-root b _)
-
-make_type_cast-keeps : (type : ℕ) (value : ℕ) → CallKeeps (make_type_cast type value)
-make_type_cast-keeps type value b answers = given-keeps b (two a_type an_expr b answers type value) (λ (type, value). provided (is_castable (type_of b type)) (Made (Expr (next_expr b)) (with_type_cast type value b))) (λ (type, value). provided-keeps b (is_castable (type_of b type)) (Made (Expr (next_expr b)) (with_type_cast type value b)) (keeps-root b _))
-
-make_pos_edge-keeps : (e : ℕ) → CallKeeps (make_pos_edge e)
-make_pos_edge-keeps e b answers = given-keeps b (one an_expr b answers e) (λ e. Made (Expr (next_expr b)) (with_pos_edge e b)) (λ e. keeps-root b _)
-
-make_neg_edge-keeps : (e : ℕ) → CallKeeps (make_neg_edge e)
-make_neg_edge-keeps e b answers = given-keeps b (one an_expr b answers e) (λ e. Made (Expr (next_expr b)) (with_neg_edge e b)) (λ e. keeps-root b _)
-
 pub expression-keeps : (step : ExpressionStep) → CallKeeps (expression_call step)
-expression-keeps (MakeLiteral text format) = make_literal-keeps (string_bytes text) format
+expression-keeps (MakeLiteral text format) = λ b answers. allowed-keeps b (literal_in format (string_bytes text)) (λ tree. Made (Expr (next_expr b)) (with_expr tree b)) (λ tree. keeps-root b _)
 expression-keeps (MakeBinaryPattern bits) = make_binary_pattern-keeps (string_bytes bits)
 expression-keeps (MakeUnsizedDecimalLiteral value) = make_leaf-keeps (decimal_literal value)
 expression-keeps (MakeStringLiteral value) = make_leaf-keeps (string_literal (string_bytes value))
@@ -93,21 +53,21 @@ expression-keeps MakeUnsizedOneLiteral = make_leaf-keeps (LiteralTree (codes "'1
 expression-keeps MakeUnsizedZeroLiteral = make_leaf-keeps (LiteralTree (codes "'0") (Some (pos 0)))
 expression-keeps MakeUnsizedXLiteral = make_leaf-keeps (LiteralTree (codes "'X") None)
 expression-keeps (MakeName name) = make_leaf-keeps (NameTree (string_bytes name) Untyped)
-expression-keeps (MakeIndexableExpression e) = make_indexable_expression-keeps e
-expression-keeps (MakeSlice subject high low) = make_slice-keeps subject high low
-expression-keeps (MakeIndex subject index) = make_index-keeps subject index
-expression-keeps (MakeSliceExpr subject high low) = make_slice_expr-keeps subject high low
-expression-keeps (MakeIndexExpr subject index) = make_index_expr-keeps subject index
-expression-keeps (MakeIndexedPartSelect subject start width) = make_indexed_part_select-keeps subject start width
+expression-keeps (MakeIndexableExpression e) = λ b answers. given-keeps b (one an_expr b answers e) (λ e. Made (IndexableExpr (expr_to_indexable_expr e)) b) (λ e. keeps-same b)
+expression-keeps (MakeSlice subject high low) = λ b answers. given-keeps b (one an_indexable b answers subject) (λ subject. provided (int_le (pos 0) high && int_le (pos 0) low) (Made (Slice (next_fixed_slice (selector_text high) high (selector_text low) low b)) (with_fixed_slice subject (selector_text high) high (selector_text low) low b))) (λ subject. provided-keeps b (int_le (pos 0) high && int_le (pos 0) low) (Made (Slice (next_fixed_slice (selector_text high) high (selector_text low) low b)) (with_fixed_slice subject (selector_text high) high (selector_text low) low b)) (fixed_slice-kept subject (selector_text high) high (selector_text low) low b))
+expression-keeps (MakeIndex subject index) = λ b answers. given-keeps b (one an_indexable b answers subject) (λ subject. provided (int_le (pos 0) index) (Made (Index (next_fixed_index (selector_text index) index b)) (with_fixed_index subject (selector_text index) index b))) (λ subject. provided-keeps b (int_le (pos 0) index) (Made (Index (next_fixed_index (selector_text index) index b)) (with_fixed_index subject (selector_text index) index b)) (fixed_index-kept subject (selector_text index) index b))
+expression-keeps (MakeSliceExpr subject high low) = λ b answers. given-keeps b (three an_indexable an_expr an_expr b answers subject high low) (λ (subject, high, low). Made (Slice (next_slice b)) (with_slice subject high low b)) (λ (subject, high, low). keeps-root b _)
+expression-keeps (MakeIndexExpr subject index) = λ b answers. given-keeps b (two an_indexable an_expr b answers subject index) (λ (subject, index). Made (Index (next_index b)) (with_index subject index b)) (λ (subject, index). keeps-root b _)
+expression-keeps (MakeIndexedPartSelect subject start width) = λ b answers. given-keeps b (two an_indexable an_expr b answers subject start) (λ (subject, start). provided (int_le (pos 1) width) (Made (Expr (next_expr b)) (with_part_select subject start width b))) (λ (subject, start). provided-keeps b (int_le (pos 1) width) (Made (Expr (next_expr b)) (with_part_select subject start width b)) (keeps-root b _))
 expression-keeps (MakeFunctionCall name arguments) = make_function_call-keeps (string_bytes name) arguments.items
 expression-keeps (MakeConcat parts) = make_concat-keeps parts.items
 expression-keeps (MakeReplicatedConcat count parts) = make_replicated_concat-keeps count parts.items
 expression-keeps (MakeReplicatedConcatI64 count parts) = make_replicated_concat_i64-keeps count parts.items
 expression-keeps (MakeArrayAssignmentPattern parts) = make_array_assignment_pattern-keeps parts.items
-expression-keeps (MakeTernary condition consequent alternate) = make_ternary-keeps condition consequent alternate
-expression-keeps (MakeWidthCast width value) = make_width_cast-keeps width value
-expression-keeps (MakeTypeCast type value) = make_type_cast-keeps type value
-expression-keeps (MakePosEdge e) = make_pos_edge-keeps e
-expression-keeps (MakeNegEdge e) = make_neg_edge-keeps e
-expression-keeps (MakeMacroRef name) = make_macro_ref-keeps (string_bytes name)
+expression-keeps (MakeTernary condition consequent alternate) = λ b answers. given-keeps b (three an_expr an_expr an_expr b answers condition consequent alternate) (λ (condition, consequent, alternate). Made (Expr (next_expr b)) (with_ternary condition consequent alternate b)) (λ (condition, consequent, alternate). keeps-root b _)
+expression-keeps (MakeWidthCast width value) = λ b answers. given-keeps b (two an_expr an_expr b answers width value) (λ (width, value). Made (Expr (next_expr b)) (with_width_cast width value b)) (λ (width, value). keeps-root b _)
+expression-keeps (MakeTypeCast type value) = λ b answers. given-keeps b (two a_type an_expr b answers type value) (λ (type, value). provided (is_castable (type_of b type)) (Made (Expr (next_expr b)) (with_type_cast type value b))) (λ (type, value). provided-keeps b (is_castable (type_of b type)) (Made (Expr (next_expr b)) (with_type_cast type value b)) (keeps-root b _))
+expression-keeps (MakePosEdge e) = λ b answers. given-keeps b (one an_expr b answers e) (λ e. Made (Expr (next_expr b)) (with_pos_edge e b)) (λ e. keeps-root b _)
+expression-keeps (MakeNegEdge e) = λ b answers. given-keeps b (one an_expr b answers e) (λ e. Made (Expr (next_expr b)) (with_neg_edge e b)) (λ e. keeps-root b _)
+expression-keeps (MakeMacroRef name) = λ b answers. keeps-root b _
 expression-keeps (MakeMacroRefWithArgs name arguments) = make_macro_ref_with_args-keeps (string_bytes name) arguments.items

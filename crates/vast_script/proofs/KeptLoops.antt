@@ -1,5 +1,5 @@
 -- What calls of loops keep.
-use Rattle.std.specs.Prelude.{ℕ, false, List, [], Option, codes, string_bytes}
+use Rattle.std.specs.Prelude.{ℕ, false, List, [], codes, string_bytes}
 use Rattle.vast_literal.specs.declared.kind.AlwaysKind.{AlwaysKind}
 use Rattle.vast_literal.specs.declared.kind.AlwaysKind.TheVariants.{AlwaysFF, AlwaysAt, AlwaysComb}
 use Rattle.vast_core.specs.Records.{AssignmentEntry, BlankEntry, CommentEntry, InlineEntry, MacroEntry, InstanceEntry, ConditionalEntry, LoopEntry}
@@ -20,63 +20,24 @@ use Rattle.vast_script.specs.Arguments.{one, two, three, one_and_many}
 use Rattle.xlsynth_vast.proofs.Kept.{keeps-then, keeps-same}
 use Rattle.vast_script.proofs.KeptOutcomes.{CallKeeps, given-keeps, allowed-keeps, holding-keeps}
 use Rattle.xlsynth_vast.proofs.KeptWords.{assignment-kept, conditional-kept, defined_loop_parameter-kept, loop-kept, loop_always-kept, loop_member-kept, member-kept, plain_loop_parameter-kept}
-use Rattle.vast_script.specs.Loops.{add_generate_loop, generate_add_generate_loop, generate_genvar, generate_add_always_comb, generate_add_always, generate_add_localparam, generate_add_typed_localparam, generate_add_continuous_assignment, generate_add_conditional, generate_add_blank_line, generate_add_comment, generate_add_instantiation, generate_add_inline_statement, generate_add_macro_statement, loop_call}
-
-add_generate_loop-keeps : (owner : ℕ) (name : List ℕ) (start : ℕ) (end : ℕ) (label : Option (List ℕ)) → CallKeeps (add_generate_loop owner name start end label)
-add_generate_loop-keeps owner name start end label b answers = given-keeps b (three a_module an_expr an_expr b answers owner start end) (λ (owner, start, end). Made (GenerateLoop (next_loop b)) (with_member owner (LoopEntry (next_loop b)) (with_loop name start end label b))) (λ (owner, start, end). keeps-then b (with_loop name start end label b) _ (loop-kept name start end label b) (member-kept owner (LoopEntry (next_loop b)) (with_loop name start end label b)))
-
-generate_add_generate_loop-keeps : (parent : ℕ) (name : List ℕ) (start : ℕ) (end : ℕ) (label : Option (List ℕ)) → CallKeeps (generate_add_generate_loop parent name start end label)
-generate_add_generate_loop-keeps parent name start end label b answers = given-keeps b (three a_loop an_expr an_expr b answers parent start end) (λ (parent, start, end). Made (GenerateLoop (next_loop b)) (with_loop_member parent (LoopEntry (next_loop b)) (with_loop name start end label b))) (λ (parent, start, end). keeps-then b (with_loop name start end label b) _ (loop-kept name start end label b) (loop_member-kept parent (LoopEntry (next_loop b)) (with_loop name start end label b)))
-
-generate_genvar-keeps : (generate : ℕ) → CallKeeps (generate_genvar generate)
-generate_genvar-keeps generate b answers = given-keeps b (one a_loop b answers generate) (λ generate. holding (genvar_at b generate) (λ name. Made (LogicRef name) b)) (λ generate. holding-keeps b (genvar_at b generate) (λ name. Made (LogicRef name) b) (λ name. keeps-same b))
-
-generate_add_always_comb-keeps : (generate : ℕ) → CallKeeps (generate_add_always_comb generate)
-generate_add_always_comb-keeps generate b answers = given-keeps b (one a_loop b answers generate) (λ generate. Made (VastAlwaysBase (next_always b)) (with_loop_always generate AlwaysComb [] b)) (λ generate. loop_always-kept generate AlwaysComb [] b)
+use Rattle.vast_script.specs.Loops.{generate_add_always, loop_call}
 
 generate_add_always-keeps : (kind : AlwaysKind) (word : List ℕ) (generate : ℕ) (events : List ℕ) → CallKeeps (generate_add_always kind word generate events)
 generate_add_always-keeps kind word generate events b answers = given-keeps b (one_and_many a_loop an_expr b answers generate events) (λ (generate, events). allowed (unless_wrong_event word b events) (λ _. Made (VastAlwaysBase (next_always b)) (with_loop_always generate kind events b))) (λ (generate, events). allowed-keeps b (unless_wrong_event word b events) (λ _. Made (VastAlwaysBase (next_always b)) (with_loop_always generate kind events b)) (λ _. loop_always-kept generate kind events b))
 
-generate_add_localparam-keeps : (generate : ℕ) (name : List ℕ) (value : ℕ) → CallKeeps (generate_add_localparam generate name value)
-generate_add_localparam-keeps generate name value b answers = given-keeps b (two a_loop an_expr b answers generate value) (λ (generate, value). Made (LocalparamRef (next_localparam_ref b)) (with_plain_loop_parameter generate name value b)) (λ (generate, value). plain_loop_parameter-kept generate name value b)
-
-generate_add_typed_localparam-keeps : (generate : ℕ) (definition : ℕ) (value : ℕ) → CallKeeps (generate_add_typed_localparam generate definition value)
-generate_add_typed_localparam-keeps generate definition value b answers = given-keeps b (three a_loop a_definition an_expr b answers generate definition value) (λ (generate, definition, value). Made (LocalparamRef (next_localparam_ref b)) (with_defined_loop_parameter generate definition value b)) (λ (generate, definition, value). defined_loop_parameter-kept generate definition value b)
-
-generate_add_continuous_assignment-keeps : (generate : ℕ) (left : ℕ) (right : ℕ) → CallKeeps (generate_add_continuous_assignment generate left right)
-generate_add_continuous_assignment-keeps generate left right b answers = given-keeps b (three a_loop an_expr an_expr b answers generate left right) (λ (generate, left, right). Made (VastStatement (next_statement b)) (with_loop_member generate (AssignmentEntry (next_continuous b)) (with_assignment (record { lhs = left; rhs = right; nonblocking = false }) b))) (λ (generate, left, right). keeps-then b (with_assignment (record { lhs = left; rhs = right; nonblocking = false }) b) _ (assignment-kept (record { lhs = left; rhs = right; nonblocking = false }) b) (loop_member-kept generate (AssignmentEntry (next_continuous b)) (with_assignment (record { lhs = left; rhs = right; nonblocking = false }) b)))
-
-generate_add_conditional-keeps : (generate : ℕ) (condition : ℕ) → CallKeeps (generate_add_conditional generate condition)
-generate_add_conditional-keeps generate condition b answers = given-keeps b (two a_loop an_expr b answers generate condition) (λ (generate, condition). Made (Conditional (next_conditional b)) (with_loop_member generate (ConditionalEntry (next_conditional b)) (with_conditional condition b))) (λ (generate, condition). keeps-then b (with_conditional condition b) _ (conditional-kept condition b) (loop_member-kept generate (ConditionalEntry (next_conditional b)) (with_conditional condition b)))
-
-generate_add_blank_line-keeps : (generate : ℕ) → CallKeeps (generate_add_blank_line generate)
-generate_add_blank_line-keeps generate b answers = given-keeps b (one a_loop b answers generate) (λ generate. Made Nothing (with_loop_member generate BlankEntry b)) (λ generate. loop_member-kept generate BlankEntry b)
-
-generate_add_comment-keeps : (generate : ℕ) (part : ℕ) → CallKeeps (generate_add_comment generate part)
-generate_add_comment-keeps generate part b answers = given-keeps b (two a_loop a_comment b answers generate part) (λ (generate, part). Made Nothing (with_loop_member generate (CommentEntry part) b)) (λ (generate, part). loop_member-kept generate (CommentEntry part) b)
-
-generate_add_instantiation-keeps : (generate : ℕ) (part : ℕ) → CallKeeps (generate_add_instantiation generate part)
-generate_add_instantiation-keeps generate part b answers = given-keeps b (two a_loop an_instantiation b answers generate part) (λ (generate, part). Made Nothing (with_loop_member generate (InstanceEntry part) b)) (λ (generate, part). loop_member-kept generate (InstanceEntry part) b)
-
-generate_add_inline_statement-keeps : (generate : ℕ) (part : ℕ) → CallKeeps (generate_add_inline_statement generate part)
-generate_add_inline_statement-keeps generate part b answers = given-keeps b (two a_loop an_inline b answers generate part) (λ (generate, part). Made Nothing (with_loop_member generate (InlineEntry part) b)) (λ (generate, part). loop_member-kept generate (InlineEntry part) b)
-
-generate_add_macro_statement-keeps : (generate : ℕ) (part : ℕ) → CallKeeps (generate_add_macro_statement generate part)
-generate_add_macro_statement-keeps generate part b answers = given-keeps b (two a_loop a_macro_statement b answers generate part) (λ (generate, part). Made Nothing (with_loop_member generate (MacroEntry part) b)) (λ (generate, part). loop_member-kept generate (MacroEntry part) b)
-
 pub loop-keeps : (step : LoopStep) → CallKeeps (loop_call step)
-loop-keeps (AddGenerateLoop owner name start end label) = add_generate_loop-keeps owner (string_bytes name) start end (label_bytes label)
-loop-keeps (GenerateAddGenerateLoop parent name start end label) = generate_add_generate_loop-keeps parent (string_bytes name) start end (label_bytes label)
-loop-keeps (GenerateGenvar generate) = generate_genvar-keeps generate
-loop-keeps (GenerateAddAlwaysComb generate) = generate_add_always_comb-keeps generate
+loop-keeps (AddGenerateLoop owner name start end label) = λ b answers. given-keeps b (three a_module an_expr an_expr b answers owner start end) (λ (owner, start, end). Made (GenerateLoop (next_loop b)) (with_member owner (LoopEntry (next_loop b)) (with_loop (string_bytes name) start end (label_bytes label) b))) (λ (owner, start, end). keeps-then b (with_loop (string_bytes name) start end (label_bytes label) b) _ (loop-kept (string_bytes name) start end (label_bytes label) b) (member-kept owner (LoopEntry (next_loop b)) (with_loop (string_bytes name) start end (label_bytes label) b)))
+loop-keeps (GenerateAddGenerateLoop parent name start end label) = λ b answers. given-keeps b (three a_loop an_expr an_expr b answers parent start end) (λ (parent, start, end). Made (GenerateLoop (next_loop b)) (with_loop_member parent (LoopEntry (next_loop b)) (with_loop (string_bytes name) start end (label_bytes label) b))) (λ (parent, start, end). keeps-then b (with_loop (string_bytes name) start end (label_bytes label) b) _ (loop-kept (string_bytes name) start end (label_bytes label) b) (loop_member-kept parent (LoopEntry (next_loop b)) (with_loop (string_bytes name) start end (label_bytes label) b)))
+loop-keeps (GenerateGenvar generate) = λ b answers. given-keeps b (one a_loop b answers generate) (λ generate. holding (genvar_at b generate) (λ name. Made (LogicRef name) b)) (λ generate. holding-keeps b (genvar_at b generate) (λ name. Made (LogicRef name) b) (λ name. keeps-same b))
+loop-keeps (GenerateAddAlwaysComb generate) = λ b answers. given-keeps b (one a_loop b answers generate) (λ generate. Made (VastAlwaysBase (next_always b)) (with_loop_always generate AlwaysComb [] b)) (λ generate. loop_always-kept generate AlwaysComb [] b)
 loop-keeps (GenerateAddAlwaysFf generate events) = generate_add_always-keeps AlwaysFF (codes "always_ff") generate events.items
 loop-keeps (GenerateAddAlwaysAt generate events) = generate_add_always-keeps AlwaysAt (codes "always @") generate events.items
-loop-keeps (GenerateAddLocalparam generate name value) = generate_add_localparam-keeps generate (string_bytes name) value
-loop-keeps (GenerateAddTypedLocalparam generate definition value) = generate_add_typed_localparam-keeps generate definition value
-loop-keeps (GenerateAddContinuousAssignment generate left right) = generate_add_continuous_assignment-keeps generate left right
-loop-keeps (GenerateAddConditional generate condition) = generate_add_conditional-keeps generate condition
-loop-keeps (GenerateAddBlankLine generate) = generate_add_blank_line-keeps generate
-loop-keeps (GenerateAddComment generate part) = generate_add_comment-keeps generate part
-loop-keeps (GenerateAddInstantiation generate part) = generate_add_instantiation-keeps generate part
-loop-keeps (GenerateAddInlineStatement generate part) = generate_add_inline_statement-keeps generate part
-loop-keeps (GenerateAddMacroStatement generate part) = generate_add_macro_statement-keeps generate part
+loop-keeps (GenerateAddLocalparam generate name value) = λ b answers. given-keeps b (two a_loop an_expr b answers generate value) (λ (generate, value). Made (LocalparamRef (next_localparam_ref b)) (with_plain_loop_parameter generate (string_bytes name) value b)) (λ (generate, value). plain_loop_parameter-kept generate (string_bytes name) value b)
+loop-keeps (GenerateAddTypedLocalparam generate definition value) = λ b answers. given-keeps b (three a_loop a_definition an_expr b answers generate definition value) (λ (generate, definition, value). Made (LocalparamRef (next_localparam_ref b)) (with_defined_loop_parameter generate definition value b)) (λ (generate, definition, value). defined_loop_parameter-kept generate definition value b)
+loop-keeps (GenerateAddContinuousAssignment generate left right) = λ b answers. given-keeps b (three a_loop an_expr an_expr b answers generate left right) (λ (generate, left, right). Made (VastStatement (next_statement b)) (with_loop_member generate (AssignmentEntry (next_continuous b)) (with_assignment (record { lhs = left; rhs = right; nonblocking = false }) b))) (λ (generate, left, right). keeps-then b (with_assignment (record { lhs = left; rhs = right; nonblocking = false }) b) _ (assignment-kept (record { lhs = left; rhs = right; nonblocking = false }) b) (loop_member-kept generate (AssignmentEntry (next_continuous b)) (with_assignment (record { lhs = left; rhs = right; nonblocking = false }) b)))
+loop-keeps (GenerateAddConditional generate condition) = λ b answers. given-keeps b (two a_loop an_expr b answers generate condition) (λ (generate, condition). Made (Conditional (next_conditional b)) (with_loop_member generate (ConditionalEntry (next_conditional b)) (with_conditional condition b))) (λ (generate, condition). keeps-then b (with_conditional condition b) _ (conditional-kept condition b) (loop_member-kept generate (ConditionalEntry (next_conditional b)) (with_conditional condition b)))
+loop-keeps (GenerateAddBlankLine generate) = λ b answers. given-keeps b (one a_loop b answers generate) (λ generate. Made Nothing (with_loop_member generate BlankEntry b)) (λ generate. loop_member-kept generate BlankEntry b)
+loop-keeps (GenerateAddComment generate part) = λ b answers. given-keeps b (two a_loop a_comment b answers generate part) (λ (generate, part). Made Nothing (with_loop_member generate (CommentEntry part) b)) (λ (generate, part). loop_member-kept generate (CommentEntry part) b)
+loop-keeps (GenerateAddInstantiation generate part) = λ b answers. given-keeps b (two a_loop an_instantiation b answers generate part) (λ (generate, part). Made Nothing (with_loop_member generate (InstanceEntry part) b)) (λ (generate, part). loop_member-kept generate (InstanceEntry part) b)
+loop-keeps (GenerateAddInlineStatement generate part) = λ b answers. given-keeps b (two a_loop an_inline b answers generate part) (λ (generate, part). Made Nothing (with_loop_member generate (InlineEntry part) b)) (λ (generate, part). loop_member-kept generate (InlineEntry part) b)
+loop-keeps (GenerateAddMacroStatement generate part) = λ b answers. given-keeps b (two a_loop a_macro_statement b answers generate part) (λ (generate, part). Made Nothing (with_loop_member generate (MacroEntry part) b)) (λ (generate, part). loop_member-kept generate (MacroEntry part) b)

@@ -19,13 +19,10 @@ use Rattle.vast_script.specs.Kinds.{a_module, a_type, an_expr, a_definition, a_b
 use Rattle.vast_script.specs.Arguments.{one, two, three}
 use Rattle.vast_script.proofs.KeptOutcomes.{CallKeeps, given-keeps, provided-keeps, allowed-keeps}
 use Rattle.xlsynth_vast.proofs.KeptWords.{declaration-kept, defined_parameter-kept, hoisted-kept, int_parameter-kept, item-kept, module-kept, parameter_port-kept, plain_parameter-kept, port-kept}
-use Rattle.vast_script.specs.Modules.{add_item, add_blank_line, add_module, add_port, add_wire, add_variable, add_parameter_port, add_typed_parameter_port, add_parameter, add_parameter_with_def, add_localparam, add_int_localparam, add_typed_localparam, hoist_module_declarations, module_call}
+use Rattle.vast_script.specs.Modules.{add_item, add_module, add_port, add_wire, add_variable, module_call}
 
 add_item-keeps : (entry : FileEntry) → CallKeeps (add_item entry)
 add_item-keeps entry b answers = item-kept entry b
-
-add_blank_line-keeps : (blank : ℕ) → CallKeeps (add_blank_line blank)
-add_blank_line-keeps blank b answers = given-keeps b (one a_blank_line b answers blank) (λ blank. Made Nothing (with_item FileBlankEntry b)) (λ blank. item-kept FileBlankEntry b)
 
 add_module-keeps : (name : List ℕ) → CallKeeps (add_module name)
 add_module-keeps name b answers = module-kept name b
@@ -39,33 +36,9 @@ add_wire-keeps owner name type b answers = given-keeps b (two a_module a_type b 
 add_variable-keeps : (kind : DataKind) (word : List ℕ) (owner : ℕ) (name : List ℕ) (type : ℕ) → CallKeeps (add_variable kind word owner name type)
 add_variable-keeps kind word owner name type b answers = given-keeps b (two a_module a_type b answers owner type) (λ (owner, type). allowed (unless_taken word name (names_in b owner)) (λ _. Made (LogicRef (next_logic_ref b)) (with_declaration owner kind name type b))) (λ (owner, type). allowed-keeps b (unless_taken word name (names_in b owner)) (λ _. Made (LogicRef (next_logic_ref b)) (with_declaration owner kind name type b)) (λ _. declaration-kept owner kind name type b))
 
-add_parameter_port-keeps : (owner : ℕ) (name : List ℕ) (value : ℕ) → CallKeeps (add_parameter_port owner name value)
-add_parameter_port-keeps owner name value b answers = given-keeps b (two a_module an_expr b answers owner value) (λ (owner, value). Made (LogicRef (next_logic_ref b)) (with_parameter_port owner name None value b)) (λ (owner, value). parameter_port-kept owner name None value b)
-
-add_typed_parameter_port-keeps : (owner : ℕ) (name : List ℕ) (type : ℕ) (value : ℕ) → CallKeeps (add_typed_parameter_port owner name type value)
-add_typed_parameter_port-keeps owner name type value b answers = given-keeps b (three a_module a_type an_expr b answers owner type value) (λ (owner, type, value). Made (LogicRef (next_logic_ref b)) (with_parameter_port owner name (Some type) value b)) (λ (owner, type, value). parameter_port-kept owner name (Some type) value b)
-
-add_parameter-keeps : (owner : ℕ) (name : List ℕ) (value : ℕ) → CallKeeps (add_parameter owner name value)
-add_parameter-keeps owner name value b answers = given-keeps b (two a_module an_expr b answers owner value) (λ (owner, value). Made (ParameterRef (next_parameter_ref b)) (with_plain_parameter owner false name value b)) (λ (owner, value). plain_parameter-kept owner false name value b)
-
-add_parameter_with_def-keeps : (owner : ℕ) (definition : ℕ) (value : ℕ) → CallKeeps (add_parameter_with_def owner definition value)
-add_parameter_with_def-keeps owner definition value b answers = given-keeps b (three a_module a_definition an_expr b answers owner definition value) (λ (owner, definition, value). Made (ParameterRef (next_parameter_ref b)) (with_defined_parameter owner false definition value b)) (λ (owner, definition, value). defined_parameter-kept owner false definition value b)
-
-add_localparam-keeps : (owner : ℕ) (name : List ℕ) (value : ℕ) → CallKeeps (add_localparam owner name value)
-add_localparam-keeps owner name value b answers = given-keeps b (two a_module an_expr b answers owner value) (λ (owner, value). Made (LocalparamRef (next_localparam_ref b)) (with_plain_parameter owner true name value b)) (λ (owner, value). plain_parameter-kept owner true name value b)
-
-add_int_localparam-keeps : (owner : ℕ) (name : List ℕ) (value : ℕ) → CallKeeps (add_int_localparam owner name value)
-add_int_localparam-keeps owner name value b answers = given-keeps b (two a_module an_expr b answers owner value) (λ (owner, value). Made (LocalparamRef (next_localparam_ref b)) (with_int_parameter owner true name value b)) (λ (owner, value). int_parameter-kept owner true name value b)
-
-add_typed_localparam-keeps : (owner : ℕ) (definition : ℕ) (value : ℕ) → CallKeeps (add_typed_localparam owner definition value)
-add_typed_localparam-keeps owner definition value b answers = given-keeps b (three a_module a_definition an_expr b answers owner definition value) (λ (owner, definition, value). Made (LocalparamRef (next_localparam_ref b)) (with_defined_parameter owner true definition value b)) (λ (owner, definition, value). defined_parameter-kept owner true definition value b)
-
-hoist_module_declarations-keeps : (owner : ℕ) (start : ℕ) → CallKeeps (hoist_module_declarations owner start)
-hoist_module_declarations-keeps owner start b answers = given-keeps b (one a_module b answers owner) (λ owner. provided (nat_le start (length (members_in b owner))) (Made Nothing (with_hoisted owner start b))) (λ owner. provided-keeps b (nat_le start (length (members_in b owner))) (Made Nothing (with_hoisted owner start b)) (hoisted-kept owner start b))
-
 pub module-keeps : (step : ModuleStep) → CallKeeps (module_call step)
 module-keeps (AddInclude path) = add_item-keeps (IncludeEntry (string_bytes path))
-module-keeps (AddBlankLine blank) = add_blank_line-keeps blank
+module-keeps (AddBlankLine blank) = λ b answers. given-keeps b (one a_blank_line b answers blank) (λ blank. Made Nothing (with_item FileBlankEntry b)) (λ blank. item-kept FileBlankEntry b)
 module-keeps (AddCommentText text) = add_item-keeps (FileCommentEntry (string_bytes text))
 module-keeps (AddModule name) = add_module-keeps (string_bytes name)
 module-keeps (AddInput owner name type) = add_port-keeps Input Wire owner (string_bytes name) type
@@ -76,11 +49,11 @@ module-keeps (AddLogicOutput owner name type) = add_port-keeps Output Logic owne
 module-keeps (AddWire owner name type) = add_wire-keeps owner (string_bytes name) type
 module-keeps (AddReg owner name type) = add_variable-keeps Reg (codes "reg") owner (string_bytes name) type
 module-keeps (AddLogic owner name type) = add_variable-keeps Logic (codes "logic") owner (string_bytes name) type
-module-keeps (AddParameterPort owner name value) = add_parameter_port-keeps owner (string_bytes name) value
-module-keeps (AddTypedParameterPort owner name type value) = add_typed_parameter_port-keeps owner (string_bytes name) type value
-module-keeps (AddParameter owner name value) = add_parameter-keeps owner (string_bytes name) value
-module-keeps (AddParameterWithDef owner definition value) = add_parameter_with_def-keeps owner definition value
-module-keeps (AddLocalparam owner name value) = add_localparam-keeps owner (string_bytes name) value
-module-keeps (AddIntLocalparam owner name value) = add_int_localparam-keeps owner (string_bytes name) value
-module-keeps (AddTypedLocalparam owner definition value) = add_typed_localparam-keeps owner definition value
-module-keeps (HoistModuleDeclarations owner start) = hoist_module_declarations-keeps owner start
+module-keeps (AddParameterPort owner name value) = λ b answers. given-keeps b (two a_module an_expr b answers owner value) (λ (owner, value). Made (LogicRef (next_logic_ref b)) (with_parameter_port owner (string_bytes name) None value b)) (λ (owner, value). parameter_port-kept owner (string_bytes name) None value b)
+module-keeps (AddTypedParameterPort owner name type value) = λ b answers. given-keeps b (three a_module a_type an_expr b answers owner type value) (λ (owner, type, value). Made (LogicRef (next_logic_ref b)) (with_parameter_port owner (string_bytes name) (Some type) value b)) (λ (owner, type, value). parameter_port-kept owner (string_bytes name) (Some type) value b)
+module-keeps (AddParameter owner name value) = λ b answers. given-keeps b (two a_module an_expr b answers owner value) (λ (owner, value). Made (ParameterRef (next_parameter_ref b)) (with_plain_parameter owner false (string_bytes name) value b)) (λ (owner, value). plain_parameter-kept owner false (string_bytes name) value b)
+module-keeps (AddParameterWithDef owner definition value) = λ b answers. given-keeps b (three a_module a_definition an_expr b answers owner definition value) (λ (owner, definition, value). Made (ParameterRef (next_parameter_ref b)) (with_defined_parameter owner false definition value b)) (λ (owner, definition, value). defined_parameter-kept owner false definition value b)
+module-keeps (AddLocalparam owner name value) = λ b answers. given-keeps b (two a_module an_expr b answers owner value) (λ (owner, value). Made (LocalparamRef (next_localparam_ref b)) (with_plain_parameter owner true (string_bytes name) value b)) (λ (owner, value). plain_parameter-kept owner true (string_bytes name) value b)
+module-keeps (AddIntLocalparam owner name value) = λ b answers. given-keeps b (two a_module an_expr b answers owner value) (λ (owner, value). Made (LocalparamRef (next_localparam_ref b)) (with_int_parameter owner true (string_bytes name) value b)) (λ (owner, value). int_parameter-kept owner true (string_bytes name) value b)
+module-keeps (AddTypedLocalparam owner definition value) = λ b answers. given-keeps b (three a_module a_definition an_expr b answers owner definition value) (λ (owner, definition, value). Made (LocalparamRef (next_localparam_ref b)) (with_defined_parameter owner true definition value b)) (λ (owner, definition, value). defined_parameter-kept owner true definition value b)
+module-keeps (HoistModuleDeclarations owner start) = λ b answers. given-keeps b (one a_module b answers owner) (λ owner. provided (nat_le start (length (members_in b owner))) (Made Nothing (with_hoisted owner start b))) (λ owner. provided-keeps b (nat_le start (length (members_in b owner))) (Made Nothing (with_hoisted owner start b)) (hoisted-kept owner start b))

@@ -29,7 +29,7 @@ use Rattle.vast_script.specs.Arguments.{one, two, three, one_and_many}
 use Rattle.xlsynth_vast.proofs.Kept.{keeps-then, keeps-same}
 use Rattle.vast_script.proofs.KeptOutcomes.{CallKeeps, given-keeps, provided-keeps, allowed-keeps, holding-keeps}
 use Rattle.xlsynth_vast.proofs.KeptWords.{always_member-kept, assignment-kept, case-kept, case_arm-kept, case_unique-kept, conditional-kept, else-kept, else_if-kept, function_member-kept, member-kept, statement-kept, variable-kept}
-use Rattle.vast_script.specs.Statements.{add_function, function_add_variable, function_body, function_result, add_always, add_always_comb, statement_block, block_add_assignment, block_add_continuous_assignment, block_add, add_conditional, block_add_cond, conditional_then_block, conditional_add_else_if, conditional_add_else, block_add_case, case_add_item, case_add_default, case_set_unique, statement_call}
+use Rattle.vast_script.specs.Statements.{add_function, function_add_variable, add_always, block_add_assignment, block_add, block_add_case, statement_call}
 
 add_function-keeps : (owner : ℕ) (name : List ℕ) (type : ℕ) → CallKeeps (add_function owner name type)
 add_function-keeps owner name type b answers = given-keeps b (two a_module a_type b answers owner type) (λ (owner, type). allowed (may_be_function (type_of b type) name (names_in b owner)) (λ _. Made (VastFunction (next_function b)) (with_function_member owner name type b))) (λ (owner, type). allowed-keeps b (may_be_function (type_of b type) name (names_in b owner)) (λ _. Made (VastFunction (next_function b)) (with_function_member owner name type b)) (λ _. function_member-kept owner name type b))
@@ -37,56 +37,17 @@ add_function-keeps owner name type b answers = given-keeps b (two a_module a_typ
 function_add_variable-keeps : (local : Bool) (kind : DataKind) (word : List ℕ) (function : ℕ) (name : List ℕ) (type : ℕ) → CallKeeps (function_add_variable local kind word function name type)
 function_add_variable-keeps local kind word function name type b answers = given-keeps b (two a_function a_type b answers function type) (λ (function, type). allowed (unless_taken_in_function word name b function) (λ _. Made (LogicRef (next_logic_ref b)) (with_variable function local (record { kind = kind; name = name; data_type = type }) b))) (λ (function, type). allowed-keeps b (unless_taken_in_function word name b function) (λ _. Made (LogicRef (next_logic_ref b)) (with_variable function local (record { kind = kind; name = name; data_type = type }) b)) (λ _. variable-kept function local (record { kind = kind; name = name; data_type = type }) b))
 
-function_body-keeps : (function : ℕ) → CallKeeps (function_body function)
-function_body-keeps function b answers = given-keeps b (one a_function b answers function) (λ function. holding (body_at b function) (λ block. Made (VastStatementBlock block) b)) (λ function. holding-keeps b (body_at b function) (λ block. Made (VastStatementBlock block) b) (λ block. keeps-same b))
-
-function_result-keeps : (function : ℕ) → CallKeeps (function_result function)
-function_result-keeps function b answers = given-keeps b (one a_function b answers function) (λ function. holding (result_at b function) (λ name. Made (LogicRef name) b)) (λ function. holding-keeps b (result_at b function) (λ name. Made (LogicRef name) b) (λ name. keeps-same b))
-
 add_always-keeps : (kind : AlwaysKind) (word : List ℕ) (owner : ℕ) (events : List ℕ) → CallKeeps (add_always kind word owner events)
 add_always-keeps kind word owner events b answers = given-keeps b (one_and_many a_module an_expr b answers owner events) (λ (owner, events). allowed (unless_wrong_event word b events) (λ _. Made (VastAlwaysBase (next_always b)) (with_always_member owner kind events b))) (λ (owner, events). allowed-keeps b (unless_wrong_event word b events) (λ _. Made (VastAlwaysBase (next_always b)) (with_always_member owner kind events b)) (λ _. always_member-kept owner kind events b))
-
-add_always_comb-keeps : (owner : ℕ) → CallKeeps (add_always_comb owner)
-add_always_comb-keeps owner b answers = given-keeps b (one a_module b answers owner) (λ owner. Made (VastAlwaysBase (next_always b)) (with_always_member owner AlwaysComb [] b)) (λ owner. always_member-kept owner AlwaysComb [] b)
-
-statement_block-keeps : (always : ℕ) → CallKeeps (statement_block always)
-statement_block-keeps always b answers = given-keeps b (one an_always b answers always) (λ always. holding (block_at b always) (λ block. Made (VastStatementBlock block) b)) (λ always. holding-keeps b (block_at b always) (λ block. Made (VastStatementBlock block) b) (λ block. keeps-same b))
 
 block_add_assignment-keeps : (nonblocking : Bool) (block : ℕ) (left : ℕ) (right : ℕ) → CallKeeps (block_add_assignment nonblocking block left right)
 block_add_assignment-keeps nonblocking block left right b answers = given-keeps b (three a_block an_expr an_expr b answers block left right) (λ (block, left, right). Made (VastStatement (next_statement b)) (with_statement block (AssignStatement (next_statement b)) (with_assignment (record { lhs = left; rhs = right; nonblocking = nonblocking }) b))) (λ (block, left, right). keeps-then b (with_assignment (record { lhs = left; rhs = right; nonblocking = nonblocking }) b) _ (assignment-kept (record { lhs = left; rhs = right; nonblocking = nonblocking }) b) (statement-kept block (AssignStatement (next_statement b)) (with_assignment (record { lhs = left; rhs = right; nonblocking = nonblocking }) b)))
 
-block_add_continuous_assignment-keeps : (block : ℕ) (left : ℕ) (right : ℕ) → CallKeeps (block_add_continuous_assignment block left right)
-block_add_continuous_assignment-keeps block left right b answers = given-keeps b (three a_block an_expr an_expr b answers block left right) (λ (block, left, right). Made (VastStatement (next_statement b)) (with_statement block (ContinuousStatement (next_statement b)) (with_assignment (record { lhs = left; rhs = right; nonblocking = false }) b))) (λ (block, left, right). keeps-then b (with_assignment (record { lhs = left; rhs = right; nonblocking = false }) b) _ (assignment-kept (record { lhs = left; rhs = right; nonblocking = false }) b) (statement-kept block (ContinuousStatement (next_statement b)) (with_assignment (record { lhs = left; rhs = right; nonblocking = false }) b)))
-
 block_add-keeps : (entry : StatementEntry) (block : ℕ) → CallKeeps (block_add entry block)
 block_add-keeps entry block b answers = given-keeps b (one a_block b answers block) (λ block. Made Nothing (with_statement block entry b)) (λ block. statement-kept block entry b)
 
-add_conditional-keeps : (owner : ℕ) (condition : ℕ) → CallKeeps (add_conditional owner condition)
-add_conditional-keeps owner condition b answers = given-keeps b (two a_module an_expr b answers owner condition) (λ (owner, condition). Made (Conditional (next_conditional b)) (with_member owner (ConditionalEntry (next_conditional b)) (with_conditional condition b))) (λ (owner, condition). keeps-then b (with_conditional condition b) _ (conditional-kept condition b) (member-kept owner (ConditionalEntry (next_conditional b)) (with_conditional condition b)))
-
-block_add_cond-keeps : (block : ℕ) (condition : ℕ) → CallKeeps (block_add_cond block condition)
-block_add_cond-keeps block condition b answers = given-keeps b (two a_block an_expr b answers block condition) (λ (block, condition). Made (Conditional (next_conditional b)) (with_statement block (ConditionalStatement (next_conditional b)) (with_conditional condition b))) (λ (block, condition). keeps-then b (with_conditional condition b) _ (conditional-kept condition b) (statement-kept block (ConditionalStatement (next_conditional b)) (with_conditional condition b)))
-
-conditional_then_block-keeps : (conditional : ℕ) → CallKeeps (conditional_then_block conditional)
-conditional_then_block-keeps conditional b answers = given-keeps b (one a_conditional b answers conditional) (λ conditional. holding (then_block_at b conditional) (λ block. Made (VastStatementBlock block) b)) (λ conditional. holding-keeps b (then_block_at b conditional) (λ block. Made (VastStatementBlock block) b) (λ block. keeps-same b))
-
-conditional_add_else_if-keeps : (conditional : ℕ) (condition : ℕ) → CallKeeps (conditional_add_else_if conditional condition)
-conditional_add_else_if-keeps conditional condition b answers = given-keeps b (two a_conditional an_expr b answers conditional condition) (λ (conditional, condition). provided (not (has_else (slice_get b.nests (conditional_index conditional)))) (Made (VastStatementBlock (next_block b)) (with_else_if conditional condition b))) (λ (conditional, condition). provided-keeps b (not (has_else (slice_get b.nests (conditional_index conditional)))) (Made (VastStatementBlock (next_block b)) (with_else_if conditional condition b)) (else_if-kept conditional condition b))
-
-conditional_add_else-keeps : (conditional : ℕ) → CallKeeps (conditional_add_else conditional)
-conditional_add_else-keeps conditional b answers = given-keeps b (one a_conditional b answers conditional) (λ conditional. provided (not (has_else (slice_get b.nests (conditional_index conditional)))) (Made (VastStatementBlock (next_block b)) (with_else conditional b))) (λ conditional. provided-keeps b (not (has_else (slice_get b.nests (conditional_index conditional)))) (Made (VastStatementBlock (next_block b)) (with_else conditional b)) (else-kept conditional b))
-
 block_add_case-keeps : (kind : CaseKind) (block : ℕ) (selector : ℕ) → CallKeeps (block_add_case kind block selector)
 block_add_case-keeps kind block selector b answers = given-keeps b (two a_block an_expr b answers block selector) (λ (block, selector). Made (CaseStatement (next_case b)) (with_statement block (CasesStatement (next_case b)) (with_case kind selector b))) (λ (block, selector). keeps-then b (with_case kind selector b) _ (case-kept kind selector b) (statement-kept block (CasesStatement (next_case b)) (with_case kind selector b)))
-
-case_add_item-keeps : (case_number : ℕ) (value : ℕ) → CallKeeps (case_add_item case_number value)
-case_add_item-keeps case_number value b answers = given-keeps b (two a_case an_expr b answers case_number value) (λ (cases, value). Made (VastStatementBlock (next_block b)) (with_case_arm cases (Some value) b)) (λ (cases, value). case_arm-kept cases (Some value) b)
-
-case_add_default-keeps : (case_number : ℕ) → CallKeeps (case_add_default case_number)
-case_add_default-keeps case_number b answers = given-keeps b (one a_case b answers case_number) (λ cases. Made (VastStatementBlock (next_block b)) (with_case_arm cases None b)) (λ cases. case_arm-kept cases None b)
-
-case_set_unique-keeps : (case_number : ℕ) (unique : Bool) → CallKeeps (case_set_unique case_number unique)
-case_set_unique-keeps case_number unique b answers = given-keeps b (one a_case b answers case_number) (λ cases. allowed (may_be_unique b.file_type unique) (λ _. Made Nothing (with_case_unique cases unique b))) (λ cases. allowed-keeps b (may_be_unique b.file_type unique) (λ _. Made Nothing (with_case_unique cases unique b)) (λ _. case_unique-kept cases unique b))
 
 pub statement-keeps : (step : StatementStep) → CallKeeps (statement_call step)
 statement-keeps (AddFunction owner name type) = add_function-keeps owner (string_bytes name) type
@@ -94,26 +55,26 @@ statement-keeps (FunctionAddInput function name type) = function_add_variable-ke
 statement-keeps (FunctionAddLogicInput function name type) = function_add_variable-keeps false Logic (codes "input") function (string_bytes name) type
 statement-keeps (FunctionAddReg function name type) = function_add_variable-keeps true Reg (codes "reg") function (string_bytes name) type
 statement-keeps (FunctionAddLogic function name type) = function_add_variable-keeps true Logic (codes "logic") function (string_bytes name) type
-statement-keeps (FunctionBody function) = function_body-keeps function
-statement-keeps (FunctionResult function) = function_result-keeps function
+statement-keeps (FunctionBody function) = λ b answers. given-keeps b (one a_function b answers function) (λ function. holding (body_at b function) (λ block. Made (VastStatementBlock block) b)) (λ function. holding-keeps b (body_at b function) (λ block. Made (VastStatementBlock block) b) (λ block. keeps-same b))
+statement-keeps (FunctionResult function) = λ b answers. given-keeps b (one a_function b answers function) (λ function. holding (result_at b function) (λ name. Made (LogicRef name) b)) (λ function. holding-keeps b (result_at b function) (λ name. Made (LogicRef name) b) (λ name. keeps-same b))
 statement-keeps (AddAlwaysFf owner events) = add_always-keeps AlwaysFF (codes "always_ff") owner events.items
 statement-keeps (AddAlwaysAt owner events) = add_always-keeps AlwaysAt (codes "always @") owner events.items
-statement-keeps (AddAlwaysComb owner) = add_always_comb-keeps owner
-statement-keeps (StatementBlock always) = statement_block-keeps always
+statement-keeps (AddAlwaysComb owner) = λ b answers. given-keeps b (one a_module b answers owner) (λ owner. Made (VastAlwaysBase (next_always b)) (with_always_member owner AlwaysComb [] b)) (λ owner. always_member-kept owner AlwaysComb [] b)
+statement-keeps (StatementBlock always) = λ b answers. given-keeps b (one an_always b answers always) (λ always. holding (block_at b always) (λ block. Made (VastStatementBlock block) b)) (λ always. holding-keeps b (block_at b always) (λ block. Made (VastStatementBlock block) b) (λ block. keeps-same b))
 statement-keeps (BlockAddBlockingAssignment block left right) = block_add_assignment-keeps false block left right
 statement-keeps (BlockAddNonblockingAssignment block left right) = block_add_assignment-keeps true block left right
-statement-keeps (BlockAddContinuousAssignment block left right) = block_add_continuous_assignment-keeps block left right
+statement-keeps (BlockAddContinuousAssignment block left right) = λ b answers. given-keeps b (three a_block an_expr an_expr b answers block left right) (λ (block, left, right). Made (VastStatement (next_statement b)) (with_statement block (ContinuousStatement (next_statement b)) (with_assignment (record { lhs = left; rhs = right; nonblocking = false }) b))) (λ (block, left, right). keeps-then b (with_assignment (record { lhs = left; rhs = right; nonblocking = false }) b) _ (assignment-kept (record { lhs = left; rhs = right; nonblocking = false }) b) (statement-kept block (ContinuousStatement (next_statement b)) (with_assignment (record { lhs = left; rhs = right; nonblocking = false }) b)))
 statement-keeps (BlockAddCommentText block text) = block_add-keeps (CommentStatement (string_bytes text)) block
 statement-keeps (BlockAddInlineText block text) = block_add-keeps (InlineStatement (string_bytes text)) block
 statement-keeps (BlockAddBlankLine block) = block_add-keeps BlankStatement block
-statement-keeps (AddConditional owner condition) = add_conditional-keeps owner condition
-statement-keeps (BlockAddCond block condition) = block_add_cond-keeps block condition
-statement-keeps (ConditionalThenBlock conditional) = conditional_then_block-keeps conditional
-statement-keeps (ConditionalAddElseIf conditional condition) = conditional_add_else_if-keeps conditional condition
-statement-keeps (ConditionalAddElse conditional) = conditional_add_else-keeps conditional
+statement-keeps (AddConditional owner condition) = λ b answers. given-keeps b (two a_module an_expr b answers owner condition) (λ (owner, condition). Made (Conditional (next_conditional b)) (with_member owner (ConditionalEntry (next_conditional b)) (with_conditional condition b))) (λ (owner, condition). keeps-then b (with_conditional condition b) _ (conditional-kept condition b) (member-kept owner (ConditionalEntry (next_conditional b)) (with_conditional condition b)))
+statement-keeps (BlockAddCond block condition) = λ b answers. given-keeps b (two a_block an_expr b answers block condition) (λ (block, condition). Made (Conditional (next_conditional b)) (with_statement block (ConditionalStatement (next_conditional b)) (with_conditional condition b))) (λ (block, condition). keeps-then b (with_conditional condition b) _ (conditional-kept condition b) (statement-kept block (ConditionalStatement (next_conditional b)) (with_conditional condition b)))
+statement-keeps (ConditionalThenBlock conditional) = λ b answers. given-keeps b (one a_conditional b answers conditional) (λ conditional. holding (then_block_at b conditional) (λ block. Made (VastStatementBlock block) b)) (λ conditional. holding-keeps b (then_block_at b conditional) (λ block. Made (VastStatementBlock block) b) (λ block. keeps-same b))
+statement-keeps (ConditionalAddElseIf conditional condition) = λ b answers. given-keeps b (two a_conditional an_expr b answers conditional condition) (λ (conditional, condition). provided (not (has_else (slice_get b.nests (conditional_index conditional)))) (Made (VastStatementBlock (next_block b)) (with_else_if conditional condition b))) (λ (conditional, condition). provided-keeps b (not (has_else (slice_get b.nests (conditional_index conditional)))) (Made (VastStatementBlock (next_block b)) (with_else_if conditional condition b)) (else_if-kept conditional condition b))
+statement-keeps (ConditionalAddElse conditional) = λ b answers. given-keeps b (one a_conditional b answers conditional) (λ conditional. provided (not (has_else (slice_get b.nests (conditional_index conditional)))) (Made (VastStatementBlock (next_block b)) (with_else conditional b))) (λ conditional. provided-keeps b (not (has_else (slice_get b.nests (conditional_index conditional)))) (Made (VastStatementBlock (next_block b)) (with_else conditional b)) (else-kept conditional b))
 statement-keeps (BlockAddCase block selector) = block_add_case-keeps Case block selector
 statement-keeps (BlockAddCasez block selector) = block_add_case-keeps CaseZ block selector
 statement-keeps (BlockAddCasex block selector) = block_add_case-keeps CaseX block selector
-statement-keeps (CaseAddItem cases value) = case_add_item-keeps cases value
-statement-keeps (CaseAddDefault cases) = case_add_default-keeps cases
-statement-keeps (CaseSetUnique cases unique) = case_set_unique-keeps cases unique
+statement-keeps (CaseAddItem cases value) = λ b answers. given-keeps b (two a_case an_expr b answers cases value) (λ (cases, value). Made (VastStatementBlock (next_block b)) (with_case_arm cases (Some value) b)) (λ (cases, value). case_arm-kept cases (Some value) b)
+statement-keeps (CaseAddDefault cases) = λ b answers. given-keeps b (one a_case b answers cases) (λ cases. Made (VastStatementBlock (next_block b)) (with_case_arm cases None b)) (λ cases. case_arm-kept cases None b)
+statement-keeps (CaseSetUnique cases unique) = λ b answers. given-keeps b (one a_case b answers cases) (λ cases. allowed (may_be_unique b.file_type unique) (λ _. Made Nothing (with_case_unique cases unique b))) (λ cases. allowed-keeps b (may_be_unique b.file_type unique) (λ _. Made Nothing (with_case_unique cases unique b)) (λ _. case_unique-kept cases unique b))

@@ -1,5 +1,5 @@
 -- What calls that make types keep.
-use Rattle.std.specs.Prelude.{ℕ, ℤ, pos, int_le, Bool, false, ◌&&◌, List, string_bytes}
+use Rattle.std.specs.Prelude.{ℕ, ℤ, pos, int_le, false, ◌&&◌, List, string_bytes}
 use Rattle.vast_literal.specs.Tree.{TypeTree, ScalarTree, IntegerTree, IntTree, ExternalTree, PackageTree}
 use Rattle.vast_core.specs.Types.{is_packable}
 use Rattle.vast_core.specs.Bench.{tree_of, type_of}
@@ -17,16 +17,10 @@ use Rattle.vast_script.specs.Conditions.{are_dimensions}
 use Rattle.xlsynth_vast.proofs.Kept.{keeps-root}
 use Rattle.vast_script.proofs.KeptOutcomes.{CallKeeps, given-keeps, provided-keeps}
 use Rattle.xlsynth_vast.proofs.KeptWords.{bit_vector-kept}
-use Rattle.vast_script.specs.Types.{make_type, make_bit_vector_type, make_bit_vector_type_expr, make_packed_array_type, make_unpacked_array_type, type_call}
+use Rattle.vast_script.specs.Types.{make_type, make_packed_array_type, make_unpacked_array_type, type_call}
 
 make_type-keeps : (tree : TypeTree) → CallKeeps (make_type tree)
 make_type-keeps tree b answers = keeps-root b _
-
-make_bit_vector_type-keeps : (bits : ℤ) (signed : Bool) → CallKeeps (make_bit_vector_type bits signed)
-make_bit_vector_type-keeps bits signed b answers = provided-keeps b (int_le (pos 1) bits) (Made (VastDataType (next_bit_vector bits b)) (with_bit_vector bits signed b)) (bit_vector-kept bits signed b)
-
-make_bit_vector_type_expr-keeps : (width : ℕ) (signed : Bool) → CallKeeps (make_bit_vector_type_expr width signed)
-make_bit_vector_type_expr-keeps width signed b answers = given-keeps b (one an_expr b answers width) (λ width. provided (is_usable_width (tree_of b width)) (Made (VastDataType (next_type b)) (with_vector_expr width signed b))) (λ width. provided-keeps b (is_usable_width (tree_of b width)) (Made (VastDataType (next_type b)) (with_vector_expr width signed b)) (keeps-root b _))
 
 make_packed_array_type-keeps : (element : ℕ) (dimensions : List ℤ) → CallKeeps (make_packed_array_type element dimensions)
 make_packed_array_type-keeps element dimensions b answers = given-keeps b (one a_type b answers element) (λ element. provided (is_packable (type_of b element) && are_dimensions dimensions) (Made (VastDataType (next_type b)) (with_packed element dimensions b))) (λ element. provided-keeps b (is_packable (type_of b element) && are_dimensions dimensions) (Made (VastDataType (next_type b)) (with_packed element dimensions b)) (keeps-root b _))
@@ -40,7 +34,7 @@ type-keeps (MakeIntegerType signed) = make_type-keeps (IntegerTree signed)
 type-keeps (MakeIntType signed) = make_type-keeps (IntTree signed)
 type-keeps (MakeExternType name) = make_type-keeps (ExternalTree (string_bytes name))
 type-keeps (MakeExternPackageType package_name name) = make_type-keeps (PackageTree (string_bytes package_name) (string_bytes name))
-type-keeps (MakeBitVectorType bits signed) = make_bit_vector_type-keeps bits signed
-type-keeps (MakeBitVectorTypeExpr width signed) = make_bit_vector_type_expr-keeps width signed
+type-keeps (MakeBitVectorType bits signed) = λ b answers. provided-keeps b (int_le (pos 1) bits) (Made (VastDataType (next_bit_vector bits b)) (with_bit_vector bits signed b)) (bit_vector-kept bits signed b)
+type-keeps (MakeBitVectorTypeExpr width signed) = λ b answers. given-keeps b (one an_expr b answers width) (λ width. provided (is_usable_width (tree_of b width)) (Made (VastDataType (next_type b)) (with_vector_expr width signed b))) (λ width. provided-keeps b (is_usable_width (tree_of b width)) (Made (VastDataType (next_type b)) (with_vector_expr width signed b)) (keeps-root b _))
 type-keeps (MakePackedArrayType element dimensions) = make_packed_array_type-keeps element dimensions.items
 type-keeps (MakeUnpackedArrayType element dimensions) = make_unpacked_array_type-keeps element dimensions.items

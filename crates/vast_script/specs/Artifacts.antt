@@ -1,7 +1,6 @@
 -- What becomes of a call of parts that are made beforehand, or that adds one to a module.
 use Rattle.std.specs.Prelude.{ℕ, Bool, true, false, nat_eq, ◌&&◌, List, length, map, Option, Some, string_bytes}
 use Rattle.vast_core.specs.declared.handle.Expr.{Expr}
-use Rattle.vast_literal.specs.declared.kind.DataKind.{DataKind}
 use Rattle.vast_core.specs.Records.{BlankLineRecord, CommentRecord, InlineRecord, MacroRecord, AssignmentEntry, BlankEntry, CommentEntry, InlineEntry, MacroEntry, InstanceEntry, InstanceRecord}
 use Rattle.vast_core.specs.Growth.{with_member, next_continuous, with_assignment}
 use Rattle.vast_core.specs.Artifacts.{next_def, with_definition, next_blank_line, next_comment, next_inline, next_macro_statement, with_artifact, next_instantiation, with_instance, next_statement}
@@ -14,28 +13,6 @@ use Rattle.vast_script.specs.Kinds.{an_expr, a_type, a_module, a_macro_ref, an_i
 use Rattle.vast_script.specs.Arguments.{one, two, many_and_open}
 
 -- Parts.
-
-abbrev pub make_def : List ℕ → DataKind → ℕ → Call
-make_def name kind type b answers =
-    given (one a_type b answers type) (λ type. Made (Def (next_def b)) (with_definition (record { name = name; kind = kind; data_type = type }) b))
-
-abbrev pub make_blank_line : Call
-make_blank_line b answers = Made (BlankLine (next_blank_line b)) (with_artifact BlankLineRecord b)
-
-abbrev pub make_comment : List ℕ → Call
-make_comment text b answers = Made (Comment (next_comment b)) (with_artifact (CommentRecord text) b)
-
-abbrev pub make_inline_verilog_statement : List ℕ → Call
-make_inline_verilog_statement text b answers = Made (InlineVerilogStatement (next_inline b)) (with_artifact (InlineRecord text) b)
-
-abbrev pub make_macro_statement : ℕ → (semicolon : Bool) → Call
-make_macro_statement use_of semicolon b answers =
-    given (one a_macro_ref b answers use_of) (λ use_of. Made (MacroStatement (next_macro_statement b)) (with_artifact (MacroRecord use_of semicolon) b))
-
-abbrev pub make_continuous_assignment : (left right : ℕ) → Call
-make_continuous_assignment left right b answers =
-    given (two an_expr an_expr b answers left right) (λ (left, right).
-    Made (ContinuousAssignment (next_continuous b)) (with_assignment (record { lhs = left; rhs = right; nonblocking = false }) b))
 
 abbrev pub make_assignment : (nonblocking : Bool) → (left right : ℕ) → Call
 make_assignment nonblocking left right b answers =
@@ -52,46 +29,29 @@ make_instantiation module_name instance_name parameters values ports wires b ans
     given (many_and_open an_expr b answers values wires) (λ (values, wires). provided (nat_eq (length parameters) (length values) && nat_eq (length ports) (length wires))
     (Made (Instantiation (next_instantiation b)) (with_instance (instance module_name instance_name parameters values ports wires) b)))
 
--- Members.
-
-abbrev pub add_member_instantiation : (owner part : ℕ) → Call
-add_member_instantiation owner part b answers =
-    given (two a_module an_instantiation b answers owner part) (λ (owner, part). Made Nothing (with_member owner (InstanceEntry part) b))
-
-abbrev pub add_member_continuous_assignment : (owner part : ℕ) → Call
-add_member_continuous_assignment owner part b answers =
-    given (two a_module a_continuous b answers owner part) (λ (owner, part). Made Nothing (with_member owner (AssignmentEntry part) b))
-
-abbrev pub add_member_blank_line : (owner part : ℕ) → Call
-add_member_blank_line owner part b answers =
-    given (two a_module a_blank_line b answers owner part) (λ (owner, part). Made Nothing (with_member owner BlankEntry b))
-
-abbrev pub add_member_comment : (owner part : ℕ) → Call
-add_member_comment owner part b answers =
-    given (two a_module a_comment b answers owner part) (λ (owner, part). Made Nothing (with_member owner (CommentEntry part) b))
-
-abbrev pub add_member_inline_statement : (owner part : ℕ) → Call
-add_member_inline_statement owner part b answers =
-    given (two a_module an_inline b answers owner part) (λ (owner, part). Made Nothing (with_member owner (InlineEntry part) b))
-
-abbrev pub add_member_macro_statement : (owner part : ℕ) → Call
-add_member_macro_statement owner part b answers =
-    given (two a_module a_macro_statement b answers owner part) (λ (owner, part). Made Nothing (with_member owner (MacroEntry part) b))
-
 abbrev pub artifact_call : ArtifactStep → Call
-artifact_call (MakeDef name kind type) = make_def (string_bytes name) kind type
-artifact_call MakeBlankLine = make_blank_line
-artifact_call (MakeComment text) = make_comment (string_bytes text)
-artifact_call (MakeInlineVerilogStatement text) = make_inline_verilog_statement (string_bytes text)
-artifact_call (MakeMacroStatement use_of semicolon) = make_macro_statement use_of semicolon
-artifact_call (MakeContinuousAssignment left right) = make_continuous_assignment left right
+artifact_call (MakeDef name kind type) = λ b answers.
+    given (one a_type b answers type) (λ type. Made (Def (next_def b)) (with_definition (record { name = (string_bytes name); kind = kind; data_type = type }) b))
+artifact_call MakeBlankLine = λ b answers. Made (BlankLine (next_blank_line b)) (with_artifact BlankLineRecord b)
+artifact_call (MakeComment text) = λ b answers. Made (Comment (next_comment b)) (with_artifact (CommentRecord (string_bytes text)) b)
+artifact_call (MakeInlineVerilogStatement text) = λ b answers. Made (InlineVerilogStatement (next_inline b)) (with_artifact (InlineRecord (string_bytes text)) b)
+artifact_call (MakeMacroStatement use_of semicolon) = λ b answers.
+    given (one a_macro_ref b answers use_of) (λ use_of. Made (MacroStatement (next_macro_statement b)) (with_artifact (MacroRecord use_of semicolon) b))
+artifact_call (MakeContinuousAssignment left right) = λ b answers.
+    given (two an_expr an_expr b answers left right) (λ (left, right).
+    Made (ContinuousAssignment (next_continuous b)) (with_assignment (record { lhs = left; rhs = right; nonblocking = false }) b))
 artifact_call (MakeNonblockingAssignment left right) = make_assignment true left right
 artifact_call (MakeBlockingAssignment left right) = make_assignment false left right
-artifact_call (MakeInstantiation module_name instance_name parameters values ports wires) =
-    make_instantiation (string_bytes module_name) (string_bytes instance_name) (map string_bytes parameters.items) values.items (map string_bytes ports.items) wires.items
-artifact_call (AddMemberInstantiation owner part) = add_member_instantiation owner part
-artifact_call (AddMemberContinuousAssignment owner part) = add_member_continuous_assignment owner part
-artifact_call (AddMemberBlankLine owner part) = add_member_blank_line owner part
-artifact_call (AddMemberComment owner part) = add_member_comment owner part
-artifact_call (AddMemberInlineStatement owner part) = add_member_inline_statement owner part
-artifact_call (AddMemberMacroStatement owner part) = add_member_macro_statement owner part
+artifact_call (MakeInstantiation module_name instance_name parameters values ports wires) = make_instantiation (string_bytes module_name) (string_bytes instance_name) (map string_bytes parameters.items) values.items (map string_bytes ports.items) wires.items
+artifact_call (AddMemberInstantiation owner part) = λ b answers.
+    given (two a_module an_instantiation b answers owner part) (λ (owner, part). Made Nothing (with_member owner (InstanceEntry part) b))
+artifact_call (AddMemberContinuousAssignment owner part) = λ b answers.
+    given (two a_module a_continuous b answers owner part) (λ (owner, part). Made Nothing (with_member owner (AssignmentEntry part) b))
+artifact_call (AddMemberBlankLine owner part) = λ b answers.
+    given (two a_module a_blank_line b answers owner part) (λ (owner, part). Made Nothing (with_member owner BlankEntry b))
+artifact_call (AddMemberComment owner part) = λ b answers.
+    given (two a_module a_comment b answers owner part) (λ (owner, part). Made Nothing (with_member owner (CommentEntry part) b))
+artifact_call (AddMemberInlineStatement owner part) = λ b answers.
+    given (two a_module an_inline b answers owner part) (λ (owner, part). Made Nothing (with_member owner (InlineEntry part) b))
+artifact_call (AddMemberMacroStatement owner part) = λ b answers.
+    given (two a_module a_macro_statement b answers owner part) (λ (owner, part). Made Nothing (with_member owner (MacroEntry part) b))

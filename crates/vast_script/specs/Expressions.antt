@@ -1,6 +1,5 @@
 -- What becomes of a call that makes any other expression.
 use Rattle.std.specs.Prelude.{ℕ, ℤ, pos, int_le, ◌&&◌, List, Some, None, codes, string_bytes}
-use Rattle.vast_literal.specs.declared.literal.LiteralFormat.{LiteralFormat}
 use Rattle.vast_literal.specs.Tree.{ExprTree, NameTree, LiteralTree, Untyped}
 use Rattle.vast_literal.specs.Pattern.{pattern}
 use Rattle.vast_core.specs.Types.{is_castable}
@@ -17,47 +16,12 @@ use Rattle.vast_script.specs.Kinds.{an_expr, an_indexable, a_type}
 use Rattle.vast_script.specs.Arguments.{one, two, three, many, one_and_many}
 use Rattle.vast_script.specs.Conditions.{is_named}
 
--- Literals.
-
-abbrev pub make_literal : List ℕ → LiteralFormat → Call
-make_literal text format b answers = allowed (literal_in format text) (λ tree. Made (Expr (next_expr b)) (with_expr tree b))
-
 abbrev pub make_binary_pattern : List ℕ → Call
 make_binary_pattern bits b answers = allowed (pattern bits) (λ text. Made (Expr (next_expr b)) (with_expr (pattern_literal text) b))
 
 -- An expression that is made of no other.
 abbrev pub make_leaf : ExprTree → Call
 make_leaf tree b answers = Made (Expr (next_expr b)) (with_expr tree b)
-
--- Selects.
-
-abbrev pub make_indexable_expression : ℕ → Call
-make_indexable_expression e b answers = given (one an_expr b answers e) (λ e. Made (IndexableExpr (expr_to_indexable_expr e)) b)
-
-abbrev pub make_slice : ℕ → (high low : ℤ) → Call
-make_slice subject high low b answers =
-    given (one an_indexable b answers subject) (λ subject. provided (int_le (pos 0) high && int_le (pos 0) low)
-    (Made (Slice (next_fixed_slice (selector_text high) high (selector_text low) low b)) (with_fixed_slice subject (selector_text high) high (selector_text low) low b)))
-
-abbrev pub make_index : ℕ → ℤ → Call
-make_index subject index b answers =
-    given (one an_indexable b answers subject) (λ subject. provided (int_le (pos 0) index)
-    (Made (Index (next_fixed_index (selector_text index) index b)) (with_fixed_index subject (selector_text index) index b)))
-
-abbrev pub make_slice_expr : (subject high low : ℕ) → Call
-make_slice_expr subject high low b answers =
-    given (three an_indexable an_expr an_expr b answers subject high low) (λ (subject, high, low). Made (Slice (next_slice b)) (with_slice subject high low b))
-
-abbrev pub make_index_expr : (subject index : ℕ) → Call
-make_index_expr subject index b answers =
-    given (two an_indexable an_expr b answers subject index) (λ (subject, index). Made (Index (next_index b)) (with_index subject index b))
-
-abbrev pub make_indexed_part_select : (subject start : ℕ) → ℤ → Call
-make_indexed_part_select subject start width b answers =
-    given (two an_indexable an_expr b answers subject start) (λ (subject, start). provided (int_le (pos 1) width)
-    (Made (Expr (next_expr b)) (with_part_select subject start width b)))
-
--- Lists of expressions.
 
 abbrev pub make_function_call : List ℕ → List ℕ → Call
 make_function_call name arguments b answers =
@@ -77,37 +41,12 @@ make_replicated_concat_i64 count parts b answers =
 abbrev pub make_array_assignment_pattern : List ℕ → Call
 make_array_assignment_pattern parts b answers = given (many an_expr b answers parts) (λ parts. Made (Expr (next_expr b)) (with_pattern parts b))
 
-abbrev pub make_macro_ref : List ℕ → Call
-make_macro_ref name b answers = Made (MacroRef (next_macro_ref b)) (with_macro name b)
-
 abbrev pub make_macro_ref_with_args : List ℕ → List ℕ → Call
 make_macro_ref_with_args name arguments b answers =
     given (many an_expr b answers arguments) (λ arguments. Made (MacroRef (next_macro_ref b)) (with_macro_call name arguments b))
 
--- Choices, casts and edges.
-
-abbrev pub make_ternary : (condition consequent alternate : ℕ) → Call
-make_ternary condition consequent alternate b answers =
-    given (three an_expr an_expr an_expr b answers condition consequent alternate) (λ (condition, consequent, alternate).
-    Made (Expr (next_expr b)) (with_ternary condition consequent alternate b))
-
-abbrev pub make_width_cast : (width value : ℕ) → Call
-make_width_cast width value b answers =
-    given (two an_expr an_expr b answers width value) (λ (width, value). Made (Expr (next_expr b)) (with_width_cast width value b))
-
-abbrev pub make_type_cast : (type value : ℕ) → Call
-make_type_cast type value b answers =
-    given (two a_type an_expr b answers type value) (λ (type, value). provided (is_castable (type_of b type))
-    (Made (Expr (next_expr b)) (with_type_cast type value b)))
-
-abbrev pub make_pos_edge : ℕ → Call
-make_pos_edge e b answers = given (one an_expr b answers e) (λ e. Made (Expr (next_expr b)) (with_pos_edge e b))
-
-abbrev pub make_neg_edge : ℕ → Call
-make_neg_edge e b answers = given (one an_expr b answers e) (λ e. Made (Expr (next_expr b)) (with_neg_edge e b))
-
 abbrev pub expression_call : ExpressionStep → Call
-expression_call (MakeLiteral text format) = make_literal (string_bytes text) format
+expression_call (MakeLiteral text format) = λ b answers. allowed (literal_in format (string_bytes text)) (λ tree. Made (Expr (next_expr b)) (with_expr tree b))
 expression_call (MakeBinaryPattern bits) = make_binary_pattern (string_bytes bits)
 expression_call (MakeUnsizedDecimalLiteral value) = make_leaf (decimal_literal value)
 expression_call (MakeStringLiteral value) = make_leaf (string_literal (string_bytes value))
@@ -115,21 +54,34 @@ expression_call MakeUnsizedOneLiteral = make_leaf (LiteralTree (codes "'1") (Som
 expression_call MakeUnsizedZeroLiteral = make_leaf (LiteralTree (codes "'0") (Some (pos 0)))
 expression_call MakeUnsizedXLiteral = make_leaf (LiteralTree (codes "'X") None)
 expression_call (MakeName name) = make_leaf (NameTree (string_bytes name) Untyped)
-expression_call (MakeIndexableExpression e) = make_indexable_expression e
-expression_call (MakeSlice subject high low) = make_slice subject high low
-expression_call (MakeIndex subject index) = make_index subject index
-expression_call (MakeSliceExpr subject high low) = make_slice_expr subject high low
-expression_call (MakeIndexExpr subject index) = make_index_expr subject index
-expression_call (MakeIndexedPartSelect subject start width) = make_indexed_part_select subject start width
+expression_call (MakeIndexableExpression e) = λ b answers. given (one an_expr b answers e) (λ e. Made (IndexableExpr (expr_to_indexable_expr e)) b)
+expression_call (MakeSlice subject high low) = λ b answers.
+    given (one an_indexable b answers subject) (λ subject. provided (int_le (pos 0) high && int_le (pos 0) low)
+    (Made (Slice (next_fixed_slice (selector_text high) high (selector_text low) low b)) (with_fixed_slice subject (selector_text high) high (selector_text low) low b)))
+expression_call (MakeIndex subject index) = λ b answers.
+    given (one an_indexable b answers subject) (λ subject. provided (int_le (pos 0) index)
+    (Made (Index (next_fixed_index (selector_text index) index b)) (with_fixed_index subject (selector_text index) index b)))
+expression_call (MakeSliceExpr subject high low) = λ b answers.
+    given (three an_indexable an_expr an_expr b answers subject high low) (λ (subject, high, low). Made (Slice (next_slice b)) (with_slice subject high low b))
+expression_call (MakeIndexExpr subject index) = λ b answers.
+    given (two an_indexable an_expr b answers subject index) (λ (subject, index). Made (Index (next_index b)) (with_index subject index b))
+expression_call (MakeIndexedPartSelect subject start width) = λ b answers.
+    given (two an_indexable an_expr b answers subject start) (λ (subject, start). provided (int_le (pos 1) width)
+    (Made (Expr (next_expr b)) (with_part_select subject start width b)))
 expression_call (MakeFunctionCall name arguments) = make_function_call (string_bytes name) arguments.items
 expression_call (MakeConcat parts) = make_concat parts.items
 expression_call (MakeReplicatedConcat count parts) = make_replicated_concat count parts.items
 expression_call (MakeReplicatedConcatI64 count parts) = make_replicated_concat_i64 count parts.items
 expression_call (MakeArrayAssignmentPattern parts) = make_array_assignment_pattern parts.items
-expression_call (MakeTernary condition consequent alternate) = make_ternary condition consequent alternate
-expression_call (MakeWidthCast width value) = make_width_cast width value
-expression_call (MakeTypeCast type value) = make_type_cast type value
-expression_call (MakePosEdge e) = make_pos_edge e
-expression_call (MakeNegEdge e) = make_neg_edge e
-expression_call (MakeMacroRef name) = make_macro_ref (string_bytes name)
+expression_call (MakeTernary condition consequent alternate) = λ b answers.
+    given (three an_expr an_expr an_expr b answers condition consequent alternate) (λ (condition, consequent, alternate).
+    Made (Expr (next_expr b)) (with_ternary condition consequent alternate b))
+expression_call (MakeWidthCast width value) = λ b answers.
+    given (two an_expr an_expr b answers width value) (λ (width, value). Made (Expr (next_expr b)) (with_width_cast width value b))
+expression_call (MakeTypeCast type value) = λ b answers.
+    given (two a_type an_expr b answers type value) (λ (type, value). provided (is_castable (type_of b type))
+    (Made (Expr (next_expr b)) (with_type_cast type value b)))
+expression_call (MakePosEdge e) = λ b answers. given (one an_expr b answers e) (λ e. Made (Expr (next_expr b)) (with_pos_edge e b))
+expression_call (MakeNegEdge e) = λ b answers. given (one an_expr b answers e) (λ e. Made (Expr (next_expr b)) (with_neg_edge e b))
+expression_call (MakeMacroRef name) = λ b answers. Made (MacroRef (next_macro_ref b)) (with_macro (string_bytes name) b)
 expression_call (MakeMacroRefWithArgs name arguments) = make_macro_ref_with_args (string_bytes name) arguments.items

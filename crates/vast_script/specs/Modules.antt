@@ -18,18 +18,11 @@ use Rattle.vast_script.specs.Outcome.{Call, Made, given, provided, allowed}
 use Rattle.vast_script.specs.Kinds.{a_module, a_type, an_expr, a_definition, a_blank_line}
 use Rattle.vast_script.specs.Arguments.{one, two, three}
 
--- Items of the file.
-
 abbrev pub add_item : FileEntry → Call
 add_item entry b answers = Made Nothing (with_item entry b)
 
-abbrev pub add_blank_line : ℕ → Call
-add_blank_line blank b answers = given (one a_blank_line b answers blank) (λ blank. Made Nothing (with_item FileBlankEntry b))
-
 abbrev pub add_module : List ℕ → Call
 add_module name b answers = Made (VastModule (next_module b)) (with_module name b)
-
--- Ports and declarations.
 
 abbrev pub add_port : ModulePortDirection → DataKind → ℕ → List ℕ → ℕ → Call
 add_port direction kind owner name type b answers =
@@ -46,46 +39,9 @@ add_variable kind word owner name type b answers =
     given (two a_module a_type b answers owner type) (λ (owner, type). allowed (unless_taken word name (names_in b owner)) (λ _.
     Made (LogicRef (next_logic_ref b)) (with_declaration owner kind name type b)))
 
--- Parameters.
-
-abbrev pub add_parameter_port : ℕ → List ℕ → ℕ → Call
-add_parameter_port owner name value b answers =
-    given (two a_module an_expr b answers owner value) (λ (owner, value). Made (LogicRef (next_logic_ref b)) (with_parameter_port owner name None value b))
-
-abbrev pub add_typed_parameter_port : ℕ → List ℕ → ℕ → ℕ → Call
-add_typed_parameter_port owner name type value b answers =
-    given (three a_module a_type an_expr b answers owner type value) (λ (owner, type, value).
-    Made (LogicRef (next_logic_ref b)) (with_parameter_port owner name (Some type) value b))
-
-abbrev pub add_parameter : ℕ → List ℕ → ℕ → Call
-add_parameter owner name value b answers =
-    given (two a_module an_expr b answers owner value) (λ (owner, value). Made (ParameterRef (next_parameter_ref b)) (with_plain_parameter owner false name value b))
-
-abbrev pub add_parameter_with_def : (owner definition value : ℕ) → Call
-add_parameter_with_def owner definition value b answers =
-    given (three a_module a_definition an_expr b answers owner definition value) (λ (owner, definition, value).
-    Made (ParameterRef (next_parameter_ref b)) (with_defined_parameter owner false definition value b))
-
-abbrev pub add_localparam : ℕ → List ℕ → ℕ → Call
-add_localparam owner name value b answers =
-    given (two a_module an_expr b answers owner value) (λ (owner, value). Made (LocalparamRef (next_localparam_ref b)) (with_plain_parameter owner true name value b))
-
-abbrev pub add_int_localparam : ℕ → List ℕ → ℕ → Call
-add_int_localparam owner name value b answers =
-    given (two a_module an_expr b answers owner value) (λ (owner, value). Made (LocalparamRef (next_localparam_ref b)) (with_int_parameter owner true name value b))
-
-abbrev pub add_typed_localparam : (owner definition value : ℕ) → Call
-add_typed_localparam owner definition value b answers =
-    given (three a_module a_definition an_expr b answers owner definition value) (λ (owner, definition, value).
-    Made (LocalparamRef (next_localparam_ref b)) (with_defined_parameter owner true definition value b))
-
-abbrev pub hoist_module_declarations : (owner start : ℕ) → Call
-hoist_module_declarations owner start b answers =
-    given (one a_module b answers owner) (λ owner. provided (nat_le start (length (members_in b owner))) (Made Nothing (with_hoisted owner start b)))
-
 abbrev pub module_call : ModuleStep → Call
 module_call (AddInclude path) = add_item (IncludeEntry (string_bytes path))
-module_call (AddBlankLine blank) = add_blank_line blank
+module_call (AddBlankLine blank) = λ b answers. given (one a_blank_line b answers blank) (λ blank. Made Nothing (with_item FileBlankEntry b))
 module_call (AddCommentText text) = add_item (FileCommentEntry (string_bytes text))
 module_call (AddModule name) = add_module (string_bytes name)
 module_call (AddInput owner name type) = add_port Input Wire owner (string_bytes name) type
@@ -96,11 +52,22 @@ module_call (AddLogicOutput owner name type) = add_port Output Logic owner (stri
 module_call (AddWire owner name type) = add_wire owner (string_bytes name) type
 module_call (AddReg owner name type) = add_variable Reg (codes "reg") owner (string_bytes name) type
 module_call (AddLogic owner name type) = add_variable Logic (codes "logic") owner (string_bytes name) type
-module_call (AddParameterPort owner name value) = add_parameter_port owner (string_bytes name) value
-module_call (AddTypedParameterPort owner name type value) = add_typed_parameter_port owner (string_bytes name) type value
-module_call (AddParameter owner name value) = add_parameter owner (string_bytes name) value
-module_call (AddParameterWithDef owner definition value) = add_parameter_with_def owner definition value
-module_call (AddLocalparam owner name value) = add_localparam owner (string_bytes name) value
-module_call (AddIntLocalparam owner name value) = add_int_localparam owner (string_bytes name) value
-module_call (AddTypedLocalparam owner definition value) = add_typed_localparam owner definition value
-module_call (HoistModuleDeclarations owner start) = hoist_module_declarations owner start
+module_call (AddParameterPort owner name value) = λ b answers.
+    given (two a_module an_expr b answers owner value) (λ (owner, value). Made (LogicRef (next_logic_ref b)) (with_parameter_port owner (string_bytes name) None value b))
+module_call (AddTypedParameterPort owner name type value) = λ b answers.
+    given (three a_module a_type an_expr b answers owner type value) (λ (owner, type, value).
+    Made (LogicRef (next_logic_ref b)) (with_parameter_port owner (string_bytes name) (Some type) value b))
+module_call (AddParameter owner name value) = λ b answers.
+    given (two a_module an_expr b answers owner value) (λ (owner, value). Made (ParameterRef (next_parameter_ref b)) (with_plain_parameter owner false (string_bytes name) value b))
+module_call (AddParameterWithDef owner definition value) = λ b answers.
+    given (three a_module a_definition an_expr b answers owner definition value) (λ (owner, definition, value).
+    Made (ParameterRef (next_parameter_ref b)) (with_defined_parameter owner false definition value b))
+module_call (AddLocalparam owner name value) = λ b answers.
+    given (two a_module an_expr b answers owner value) (λ (owner, value). Made (LocalparamRef (next_localparam_ref b)) (with_plain_parameter owner true (string_bytes name) value b))
+module_call (AddIntLocalparam owner name value) = λ b answers.
+    given (two a_module an_expr b answers owner value) (λ (owner, value). Made (LocalparamRef (next_localparam_ref b)) (with_int_parameter owner true (string_bytes name) value b))
+module_call (AddTypedLocalparam owner definition value) = λ b answers.
+    given (three a_module a_definition an_expr b answers owner definition value) (λ (owner, definition, value).
+    Made (LocalparamRef (next_localparam_ref b)) (with_defined_parameter owner true definition value b))
+module_call (HoistModuleDeclarations owner start) = λ b answers.
+    given (one a_module b answers owner) (λ owner. provided (nat_le start (length (members_in b owner))) (Made Nothing (with_hoisted owner start b)))

@@ -27,8 +27,6 @@ use Rattle.vast_script.specs.Outcome.{Call, Made, given, provided, allowed, hold
 use Rattle.vast_script.specs.Kinds.{a_module, a_function, a_type, an_expr, an_always, a_block, a_conditional, a_case}
 use Rattle.vast_script.specs.Arguments.{one, two, three, one_and_many}
 
--- Functions.
-
 abbrev pub add_function : ℕ → List ℕ → ℕ → Call
 add_function owner name type b answers =
     given (two a_module a_type b answers owner type) (λ (owner, type). allowed (may_be_function (type_of b type) name (names_in b owner)) (λ _.
@@ -39,86 +37,24 @@ function_add_variable local kind word function name type b answers =
     given (two a_function a_type b answers function type) (λ (function, type). allowed (unless_taken_in_function word name b function) (λ _.
     Made (LogicRef (next_logic_ref b)) (with_variable function local (record { kind = kind; name = name; data_type = type }) b)))
 
-abbrev pub function_body : ℕ → Call
-function_body function b answers =
-    given (one a_function b answers function) (λ function. holding (body_at b function) (λ block. Made (VastStatementBlock block) b))
-
-abbrev pub function_result : ℕ → Call
-function_result function b answers = given (one a_function b answers function) (λ function. holding (result_at b function) (λ name. Made (LogicRef name) b))
-
--- Always blocks.
-
 abbrev pub add_always : AlwaysKind → (word : List ℕ) → ℕ → List ℕ → Call
 add_always kind word owner events b answers =
     given (one_and_many a_module an_expr b answers owner events) (λ (owner, events). allowed (unless_wrong_event word b events) (λ _.
     Made (VastAlwaysBase (next_always b)) (with_always_member owner kind events b)))
-
-abbrev pub add_always_comb : ℕ → Call
-add_always_comb owner b answers = given (one a_module b answers owner) (λ owner. Made (VastAlwaysBase (next_always b)) (with_always_member owner AlwaysComb [] b))
-
-abbrev pub statement_block : ℕ → Call
-statement_block always b answers = given (one an_always b answers always) (λ always. holding (block_at b always) (λ block. Made (VastStatementBlock block) b))
-
--- Statements.
 
 abbrev pub block_add_assignment : (nonblocking : Bool) → (block left right : ℕ) → Call
 block_add_assignment nonblocking block left right b answers =
     given (three a_block an_expr an_expr b answers block left right) (λ (block, left, right).
     Made (VastStatement (next_statement b)) (with_statement block (AssignStatement (next_statement b)) (with_assignment (record { lhs = left; rhs = right; nonblocking = nonblocking }) b)))
 
-abbrev pub block_add_continuous_assignment : (block left right : ℕ) → Call
-block_add_continuous_assignment block left right b answers =
-    given (three a_block an_expr an_expr b answers block left right) (λ (block, left, right).
-    Made (VastStatement (next_statement b)) (with_statement block (ContinuousStatement (next_statement b)) (with_assignment (record { lhs = left; rhs = right; nonblocking = false }) b)))
-
 -- A statement that holds no handle.
 abbrev pub block_add : StatementEntry → ℕ → Call
 block_add entry block b answers = given (one a_block b answers block) (λ block. Made Nothing (with_statement block entry b))
-
--- Conditionals.
-
-abbrev pub add_conditional : (owner condition : ℕ) → Call
-add_conditional owner condition b answers =
-    given (two a_module an_expr b answers owner condition) (λ (owner, condition).
-    Made (Conditional (next_conditional b)) (with_member owner (ConditionalEntry (next_conditional b)) (with_conditional condition b)))
-
-abbrev pub block_add_cond : (block condition : ℕ) → Call
-block_add_cond block condition b answers =
-    given (two a_block an_expr b answers block condition) (λ (block, condition).
-    Made (Conditional (next_conditional b)) (with_statement block (ConditionalStatement (next_conditional b)) (with_conditional condition b)))
-
-abbrev pub conditional_then_block : ℕ → Call
-conditional_then_block conditional b answers =
-    given (one a_conditional b answers conditional) (λ conditional. holding (then_block_at b conditional) (λ block. Made (VastStatementBlock block) b))
-
-abbrev pub conditional_add_else_if : (conditional condition : ℕ) → Call
-conditional_add_else_if conditional condition b answers =
-    given (two a_conditional an_expr b answers conditional condition) (λ (conditional, condition).
-    provided (not (has_else (slice_get b.nests (conditional_index conditional))))
-    (Made (VastStatementBlock (next_block b)) (with_else_if conditional condition b)))
-
-abbrev pub conditional_add_else : ℕ → Call
-conditional_add_else conditional b answers =
-    given (one a_conditional b answers conditional) (λ conditional. provided (not (has_else (slice_get b.nests (conditional_index conditional))))
-    (Made (VastStatementBlock (next_block b)) (with_else conditional b)))
-
--- Case statements.
 
 abbrev pub block_add_case : CaseKind → (block selector : ℕ) → Call
 block_add_case kind block selector b answers =
     given (two a_block an_expr b answers block selector) (λ (block, selector).
     Made (CaseStatement (next_case b)) (with_statement block (CasesStatement (next_case b)) (with_case kind selector b)))
-
-abbrev pub case_add_item : (case_number value : ℕ) → Call
-case_add_item case_number value b answers =
-    given (two a_case an_expr b answers case_number value) (λ (cases, value). Made (VastStatementBlock (next_block b)) (with_case_arm cases (Some value) b))
-
-abbrev pub case_add_default : ℕ → Call
-case_add_default case_number b answers = given (one a_case b answers case_number) (λ cases. Made (VastStatementBlock (next_block b)) (with_case_arm cases None b))
-
-abbrev pub case_set_unique : ℕ → Bool → Call
-case_set_unique case_number unique b answers =
-    given (one a_case b answers case_number) (λ cases. allowed (may_be_unique b.file_type unique) (λ _. Made Nothing (with_case_unique cases unique b)))
 
 abbrev pub statement_call : StatementStep → Call
 statement_call (AddFunction owner name type) = add_function owner (string_bytes name) type
@@ -126,26 +62,45 @@ statement_call (FunctionAddInput function name type) = function_add_variable fal
 statement_call (FunctionAddLogicInput function name type) = function_add_variable false Logic (codes "input") function (string_bytes name) type
 statement_call (FunctionAddReg function name type) = function_add_variable true Reg (codes "reg") function (string_bytes name) type
 statement_call (FunctionAddLogic function name type) = function_add_variable true Logic (codes "logic") function (string_bytes name) type
-statement_call (FunctionBody function) = function_body function
-statement_call (FunctionResult function) = function_result function
+statement_call (FunctionBody function) = λ b answers.
+    given (one a_function b answers function) (λ function. holding (body_at b function) (λ block. Made (VastStatementBlock block) b))
+statement_call (FunctionResult function) = λ b answers.
+    given (one a_function b answers function) (λ function. holding (result_at b function) (λ name. Made (LogicRef name) b))
 statement_call (AddAlwaysFf owner events) = add_always AlwaysFF (codes "always_ff") owner events.items
 statement_call (AddAlwaysAt owner events) = add_always AlwaysAt (codes "always @") owner events.items
-statement_call (AddAlwaysComb owner) = add_always_comb owner
-statement_call (StatementBlock always) = statement_block always
+statement_call (AddAlwaysComb owner) = λ b answers.
+    given (one a_module b answers owner) (λ owner. Made (VastAlwaysBase (next_always b)) (with_always_member owner AlwaysComb [] b))
+statement_call (StatementBlock always) = λ b answers.
+    given (one an_always b answers always) (λ always. holding (block_at b always) (λ block. Made (VastStatementBlock block) b))
 statement_call (BlockAddBlockingAssignment block left right) = block_add_assignment false block left right
 statement_call (BlockAddNonblockingAssignment block left right) = block_add_assignment true block left right
-statement_call (BlockAddContinuousAssignment block left right) = block_add_continuous_assignment block left right
+statement_call (BlockAddContinuousAssignment block left right) = λ b answers.
+    given (three a_block an_expr an_expr b answers block left right) (λ (block, left, right).
+    Made (VastStatement (next_statement b)) (with_statement block (ContinuousStatement (next_statement b)) (with_assignment (record { lhs = left; rhs = right; nonblocking = false }) b)))
 statement_call (BlockAddCommentText block text) = block_add (CommentStatement (string_bytes text)) block
 statement_call (BlockAddInlineText block text) = block_add (InlineStatement (string_bytes text)) block
 statement_call (BlockAddBlankLine block) = block_add BlankStatement block
-statement_call (AddConditional owner condition) = add_conditional owner condition
-statement_call (BlockAddCond block condition) = block_add_cond block condition
-statement_call (ConditionalThenBlock conditional) = conditional_then_block conditional
-statement_call (ConditionalAddElseIf conditional condition) = conditional_add_else_if conditional condition
-statement_call (ConditionalAddElse conditional) = conditional_add_else conditional
+statement_call (AddConditional owner condition) = λ b answers.
+    given (two a_module an_expr b answers owner condition) (λ (owner, condition).
+    Made (Conditional (next_conditional b)) (with_member owner (ConditionalEntry (next_conditional b)) (with_conditional condition b)))
+statement_call (BlockAddCond block condition) = λ b answers.
+    given (two a_block an_expr b answers block condition) (λ (block, condition).
+    Made (Conditional (next_conditional b)) (with_statement block (ConditionalStatement (next_conditional b)) (with_conditional condition b)))
+statement_call (ConditionalThenBlock conditional) = λ b answers.
+    given (one a_conditional b answers conditional) (λ conditional. holding (then_block_at b conditional) (λ block. Made (VastStatementBlock block) b))
+statement_call (ConditionalAddElseIf conditional condition) = λ b answers.
+    given (two a_conditional an_expr b answers conditional condition) (λ (conditional, condition).
+    provided (not (has_else (slice_get b.nests (conditional_index conditional))))
+    (Made (VastStatementBlock (next_block b)) (with_else_if conditional condition b)))
+statement_call (ConditionalAddElse conditional) = λ b answers.
+    given (one a_conditional b answers conditional) (λ conditional. provided (not (has_else (slice_get b.nests (conditional_index conditional))))
+    (Made (VastStatementBlock (next_block b)) (with_else conditional b)))
 statement_call (BlockAddCase block selector) = block_add_case Case block selector
 statement_call (BlockAddCasez block selector) = block_add_case CaseZ block selector
 statement_call (BlockAddCasex block selector) = block_add_case CaseX block selector
-statement_call (CaseAddItem cases value) = case_add_item cases value
-statement_call (CaseAddDefault cases) = case_add_default cases
-statement_call (CaseSetUnique cases unique) = case_set_unique cases unique
+statement_call (CaseAddItem cases value) = λ b answers.
+    given (two a_case an_expr b answers cases value) (λ (cases, value). Made (VastStatementBlock (next_block b)) (with_case_arm cases (Some value) b))
+statement_call (CaseAddDefault cases) = λ b answers.
+    given (one a_case b answers cases) (λ cases. Made (VastStatementBlock (next_block b)) (with_case_arm cases None b))
+statement_call (CaseSetUnique cases unique) = λ b answers.
+    given (one a_case b answers cases) (λ cases. allowed (may_be_unique b.file_type unique) (λ _. Made Nothing (with_case_unique cases unique b)))

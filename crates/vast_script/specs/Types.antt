@@ -1,5 +1,5 @@
 -- What becomes of a call that makes a type.
-use Rattle.std.specs.Prelude.{ℕ, ℤ, pos, int_le, Bool, false, ◌&&◌, List, string_bytes}
+use Rattle.std.specs.Prelude.{ℕ, ℤ, pos, int_le, false, ◌&&◌, List, string_bytes}
 use Rattle.vast_literal.specs.Tree.{TypeTree, ScalarTree, IntegerTree, IntTree, ExternalTree, PackageTree}
 use Rattle.vast_core.specs.Types.{is_packable}
 use Rattle.vast_core.specs.Bench.{tree_of, type_of}
@@ -19,14 +19,6 @@ use Rattle.vast_script.specs.Conditions.{are_dimensions}
 abbrev pub make_type : TypeTree → Call
 make_type tree b answers = Made (VastDataType (next_type b)) (with_type tree b)
 
-abbrev pub make_bit_vector_type : ℤ → Bool → Call
-make_bit_vector_type bits signed b answers = provided (int_le (pos 1) bits) (Made (VastDataType (next_bit_vector bits b)) (with_bit_vector bits signed b))
-
-abbrev pub make_bit_vector_type_expr : ℕ → Bool → Call
-make_bit_vector_type_expr width signed b answers =
-    given (one an_expr b answers width) (λ width. provided (is_usable_width (tree_of b width))
-    (Made (VastDataType (next_type b)) (with_vector_expr width signed b)))
-
 abbrev pub make_packed_array_type : ℕ → List ℤ → Call
 make_packed_array_type element dimensions b answers =
     given (one a_type b answers element) (λ element. provided (is_packable (type_of b element) && are_dimensions dimensions)
@@ -43,7 +35,9 @@ type_call (MakeIntegerType signed) = make_type (IntegerTree signed)
 type_call (MakeIntType signed) = make_type (IntTree signed)
 type_call (MakeExternType name) = make_type (ExternalTree (string_bytes name))
 type_call (MakeExternPackageType package_name name) = make_type (PackageTree (string_bytes package_name) (string_bytes name))
-type_call (MakeBitVectorType bits signed) = make_bit_vector_type bits signed
-type_call (MakeBitVectorTypeExpr width signed) = make_bit_vector_type_expr width signed
+type_call (MakeBitVectorType bits signed) = λ b answers. provided (int_le (pos 1) bits) (Made (VastDataType (next_bit_vector bits b)) (with_bit_vector bits signed b))
+type_call (MakeBitVectorTypeExpr width signed) = λ b answers.
+    given (one an_expr b answers width) (λ width. provided (is_usable_width (tree_of b width))
+    (Made (VastDataType (next_type b)) (with_vector_expr width signed b)))
 type_call (MakePackedArrayType element dimensions) = make_packed_array_type element dimensions.items
 type_call (MakeUnpackedArrayType element dimensions) = make_unpacked_array_type element dimensions.items

@@ -1,7 +1,8 @@
 //! Calls that make any other expression.
 
 ghost use Rattle.vast_script.specs.Outcome.{Replays};
-ghost use Rattle.vast_script.specs.Expressions.{make_slice, make_index, make_indexed_part_select, make_type_cast, expression_call};
+ghost use Rattle.vast_script.specs.declared.step.ExpressionStep.TheVariants.{MakeSlice, MakeIndex, MakeIndexedPartSelect, MakeTypeCast};
+ghost use Rattle.vast_script.specs.Expressions.{expression_call};
 
 use crate::answer::Answer;
 use crate::answers::{expression, index, macro_ref, refusable_expression, slice};
@@ -21,7 +22,7 @@ fn slice_of(
     high: i64,
     low: i64,
 ) -> Result<Answer, StepFault>
-    ensures { Replays file.old file.new answers.now result (make_slice subject high low) }
+    ensures { Replays file.old file.new answers.now result (expression_call (MakeSlice subject high low)) }
 {
     let subject: IndexableExpr = one(file, answers, subject)?;
     if !(high >= 0 && low >= 0) {
@@ -36,7 +37,7 @@ fn index_of(
     subject: usize,
     place: i64,
 ) -> Result<Answer, StepFault>
-    ensures { Replays file.old file.new answers.now result (make_index subject place) }
+    ensures { Replays file.old file.new answers.now result (expression_call (MakeIndex subject place)) }
 {
     let subject: IndexableExpr = one(file, answers, subject)?;
     if place < 0 {
@@ -53,7 +54,7 @@ fn part_select(
     width: i64,
 ) -> Result<Answer, StepFault>
     ensures { Replays file.old file.new answers.now result
-        (make_indexed_part_select subject start width) }
+        (expression_call (MakeIndexedPartSelect subject start width)) }
 {
     let (subject, start): (IndexableExpr, Expr) = two(file, answers, subject, start)?;
     if width < 1 {
@@ -68,7 +69,7 @@ fn type_cast(
     data_type: usize,
     value: usize,
 ) -> Result<Answer, StepFault>
-    ensures { Replays file.old file.new answers.now result (make_type_cast data_type value) }
+    ensures { Replays file.old file.new answers.now result (expression_call (MakeTypeCast data_type value)) }
 {
     let (data_type, value): (VastDataType, Expr) = two(file, answers, data_type, value)?;
     if !file.type_can_be_cast(data_type) {

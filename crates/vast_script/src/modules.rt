@@ -3,7 +3,8 @@
 ghost use Rattle.vast_literal.specs.declared.kind.ModulePortDirection.TheVariants.{Input, Output, InOut};
 ghost use Rattle.vast_literal.specs.declared.kind.DataKind.TheVariants.{Wire, Logic};
 ghost use Rattle.vast_script.specs.Outcome.{Replays};
-ghost use Rattle.vast_script.specs.Modules.{add_port, add_wire, hoist_module_declarations, module_call};
+ghost use Rattle.vast_script.specs.declared.step.ModuleStep.TheVariants.{HoistModuleDeclarations};
+ghost use Rattle.vast_script.specs.Modules.{add_port, add_wire, module_call};
 
 use crate::answer::Answer;
 use crate::answers::{localparam, logic_ref, module, nothing, parameter, refusable_logic_ref};
@@ -119,7 +120,7 @@ fn hoist_declarations(
     owner: usize,
     start: usize,
 ) -> Result<Answer, StepFault>
-    ensures { Replays file.old file.new answers.now result (hoist_module_declarations owner start) }
+    ensures { Replays file.old file.new answers.now result (module_call (HoistModuleDeclarations owner start)) }
 {
     let owner: VastModule = one(file, answers, owner)?;
     if start > file.module_member_count(owner) {

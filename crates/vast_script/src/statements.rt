@@ -3,7 +3,8 @@
 ghost use Rattle.std.specs.Prelude.{codes};
 ghost use Rattle.vast_literal.specs.declared.kind.AlwaysKind.TheVariants.{AlwaysFF, AlwaysAt};
 ghost use Rattle.vast_script.specs.Outcome.{Replays};
-ghost use Rattle.vast_script.specs.Statements.{add_always, conditional_add_else_if, conditional_add_else, statement_call};
+ghost use Rattle.vast_script.specs.declared.step.StatementStep.TheVariants.{ConditionalAddElseIf, ConditionalAddElse};
+ghost use Rattle.vast_script.specs.Statements.{add_always, statement_call};
 
 use crate::answer::Answer;
 use crate::answers::{
@@ -54,7 +55,7 @@ fn add_else_if(
     condition: usize,
 ) -> Result<Answer, StepFault>
     ensures { Replays file.old file.new answers.now result
-        (conditional_add_else_if conditional condition) }
+        (statement_call (ConditionalAddElseIf conditional condition)) }
 {
     let (conditional, condition): (Conditional, Expr) = two(file, answers, conditional, condition)?;
     if file.conditional_has_else(conditional) {
@@ -68,7 +69,7 @@ fn add_else(
     answers: &[Answer],
     conditional: usize,
 ) -> Result<Answer, StepFault>
-    ensures { Replays file.old file.new answers.now result (conditional_add_else conditional) }
+    ensures { Replays file.old file.new answers.now result (statement_call (ConditionalAddElse conditional)) }
 {
     let conditional: Conditional = one(file, answers, conditional)?;
     if file.conditional_has_else(conditional) {

@@ -1,7 +1,8 @@
 //! Calls that make a type.
 
 ghost use Rattle.vast_script.specs.Outcome.{Replays};
-ghost use Rattle.vast_script.specs.Types.{make_bit_vector_type_expr, make_packed_array_type, make_unpacked_array_type, type_call};
+ghost use Rattle.vast_script.specs.declared.step.TypeStep.TheVariants.{MakeBitVectorTypeExpr};
+ghost use Rattle.vast_script.specs.Types.{make_packed_array_type, make_unpacked_array_type, type_call};
 
 use crate::answer::Answer;
 use crate::answers::data_type;
@@ -18,7 +19,7 @@ fn vector_of(
     signed: bool,
 ) -> Result<Answer, StepFault>
     ensures { Replays file.old file.new answers.now result
-        (make_bit_vector_type_expr width signed) }
+        (type_call (MakeBitVectorTypeExpr width signed)) }
 {
     let width: Expr = one(file, answers, width)?;
     if !file.width_is_usable(&width) {
