@@ -37,7 +37,7 @@ pub fn underived_at(alloc: Global, text: &str) -> Result<Option<usize>, AllocErr
 
 /// The file that the tokens of this text spell, or the place of the token before which the reader stays.
 #[tactic(auto, using(crate::proofs::TextDecides::files))]
-fn file_or_place<'t, B: BuildFiles<'t>>(
+pub(crate) fn file_or_place<'t, B: BuildFiles<'t>>(
     alloc: Global,
     text: &'t str,
 ) -> Result<Result<B::File, usize>, AllocError>
