@@ -1,5 +1,5 @@
 -- Lists that are alike, part by part.
-use Rattle.std.proofs.Common.{◌≡◌, ◌↔◌, List, [], ◌∷◌, map, refl, ap, ◌∙◌}
+use Rattle.std.proofs.Common.{◌≡◌, List, [], ◌∷◌, map, refl, ap, ◌∙◌}
 use Rattle.vast_read.specs.Internal.Comparison.{AreAlike}
 
 pub mapped : {A B : Type 0} (f : A → B) (xs ys : List A) → AreAlike (λ a b. f a ≡ f b) xs ys → map f xs ≡ map f ys

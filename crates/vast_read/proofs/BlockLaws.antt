@@ -1,21 +1,17 @@
 -- A conditional that is read tells its arms, and a statement is told by its level.
-use Rattle.std.proofs.Common.{◌≡◌, ◌≢◌, ◌↔◌, ℕ, ◌<◌, Bool, true, false, List, [], ◌∷◌, length, Option, Some, None, map, option_map, refl, sym, ap, ◌∙◌, arith}
+use Rattle.std.proofs.Common.{◌≡◌, ◌≢◌, ◌↔◌, ◌<◌, true, false, List, [], ◌∷◌, length, Option, Some, None, map, option_map, refl, sym, ap, ◌∙◌, arith}
 use Rattle.vast_literal.specs.NormalExpr.{NormalExpr, Name}
 use Rattle.vast_literal.specs.NormalFile as normal
 use Rattle.vast_literal.specs.NormalFile.{NormalStatement, NormalStatements, Done, Arms, Only, Otherwise, Or, Labels}
-use Rattle.vast_literal.specs.Tokens.{Key, key_text}
 use Rattle.vast_read.specs.Texts.{key_of}
 use Rattle.vast_read.specs.StatementParts.{ChoicePart, arms_of, last_arm}
-use Rattle.vast_read.specs.StatementView.{block_view, statement_view}
+use Rattle.vast_read.specs.StatementView.{block_view}
 use Rattle.vast_read.specs.Internal.StatementView.{arm_view}
-use Rattle.vast_read.specs.Internal.Blocks.{Side, Choices, blank, last_block, choice_view, choices_of}
+use Rattle.vast_read.specs.Internal.Blocks.{Choices, last_block, choice_view, choices_of}
 use Rattle.vast_read.specs.declared.same.choice.Choice.{Choice}
 use Rattle.vast_read.specs.declared.same.statement_level.StatementKind.{StatementKind}
 use Rattle.vast_read.specs.declared.same.statement_level.StatementKind.TheVariants as kind
-use Rattle.vast_read.specs.declared.tree.statement.Arm.{Arm}
-use Rattle.vast_read.specs.declared.tree.statement.NormalStatement.{NormalStatement as Tree}
-use Rattle.vast_read.specs.declared.same.statement_level.StatementLevel.{StatementLevel as CodeLevel}
-use Rattle.vast_read.specs.Internal.StatementLevels.{Level, level_of, level_view, head_of, blocks_of}
+use Rattle.vast_read.specs.Internal.StatementLevels.{Level, level_of, head_of, blocks_of}
 use Rattle.vast_read.proofs.LevelLaws.{key_again}
 
 both : {A B : Type 0} (p q : A × B) → p.0 ≡ q.0 → p.1 ≡ q.1 → p ≡ q

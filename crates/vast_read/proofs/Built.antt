@@ -1,7 +1,7 @@
 -- Lists behind their closing mark.
-use Rattle.std.proofs.Common.{◌≡◌, ℕ, List, Some, None, refl}
+use Rattle.std.proofs.Common.{◌≡◌, List, Some, refl}
 use Rattle.vast_literal.specs.Tokens.{Token, CloseBrace}
-use Rattle.vast_literal.specs.NormalExpr.{NormalExpr, Concat, Pattern, Replicated, Call, MacroCall, NormalExprs}
+use Rattle.vast_literal.specs.NormalExpr.{Concat, Pattern, Replicated, Call, MacroCall, NormalExprs}
 use Rattle.vast_literal.specs.Internal.Parser.{◌>>=◌, after}
 use Rattle.vast_read.specs.Internal.Reading.{Reading}
 use Rattle.vast_read.specs.declared.machine.Head.TheVariants as head

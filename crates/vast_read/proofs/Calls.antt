@@ -1,5 +1,5 @@
 -- Calls by a name, of a macro and of a system function.
-use Rattle.std.proofs.Common.{◌≡◌, ℕ, List, Option, Some, None, refl, ap, ◌∙◌}
+use Rattle.std.proofs.Common.{◌≡◌, ℕ, List, Some, None, ◌∙◌}
 use Rattle.vast_literal.specs.Tokens.{Token, OpenParen, CloseParen}
 use Rattle.vast_literal.specs.NormalExpr.{Call, MacroCall}
 use Rattle.vast_literal.specs.Internal.Parser.{after, lead, applied_at, word_on, macro_on}

@@ -1,10 +1,10 @@
 -- Casts by a name, a number, a package's type and a keyword.
-use Rattle.std.proofs.Common.{◌≡◌, ℕ, true, false, List, Option, Some, None, refl, ap, ◌∙◌}
-use Rattle.vast_literal.specs.Tokens.{Token, Key, OpenParen, Apostrophe, DoubleColon}
-use Rattle.vast_literal.specs.NormalExpr.{NormalExpr, Name, Literal, Call, Cast, PackageCast, WordCast}
-use Rattle.vast_literal.specs.Internal.Parser.{◌>>=◌, after, lead, word_at, cast, word_on, number_on}
+use Rattle.std.proofs.Common.{◌≡◌, ℕ, true, List, Some, None, ap, ◌∙◌}
+use Rattle.vast_literal.specs.Tokens.{Token, Key, OpenParen, Apostrophe}
+use Rattle.vast_literal.specs.NormalExpr.{NormalExpr, Name, Literal, Cast, PackageCast}
+use Rattle.vast_literal.specs.Internal.Parser.{after, lead, word_at, cast, word_on, number_on}
 use Rattle.vast_literal.specs.Grammar.{is_cast_word}
-use Rattle.vast_literal.specs.Internal.Settled.{either, settled}
+use Rattle.vast_literal.specs.Internal.Settled.{settled}
 use Rattle.vast_read.specs.Internal.Reading.{Reading}
 use Rattle.vast_read.specs.Internal.Steps.{package_at, key_cast}
 use Rattle.vast_read.specs.TokenView.{key_view}

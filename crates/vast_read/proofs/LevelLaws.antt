@@ -1,16 +1,13 @@
 -- An expression is told by its level.
-use Rattle.std.proofs.Common.{◌≡◌, ℕ, List, [], ◌∷◌, Option, Some, None, map, refl, sym, ap, ◌∙◌}
+use Rattle.std.proofs.Common.{◌≡◌, [], Option, Some, None, refl, sym, ap, ◌∙◌}
 use Rattle.vast_literal.specs.NormalExpr.{NormalExpr, NormalExprs, NoNormals, MoreNormals}
 use Rattle.vast_literal.specs.NormalExpr as normal
 use Rattle.vast_literal.specs.Spelling.{op_text}
 use Rattle.vast_literal.specs.Tokens.{Op, LogicOr, Key, IfKey, key_text, reserved_keys}
 use Rattle.vast_read.specs.Texts.{prefix_of, infix_of, key_of}
-use Rattle.vast_read.specs.View.{view}
-use Rattle.vast_read.specs.declared.tree.expression.NormalExpr.{NormalExpr as Tree}
-use Rattle.vast_read.specs.declared.same.level.Level.{Level as CodeLevel}
 use Rattle.vast_read.specs.declared.same.level.Kind.{Kind}
 use Rattle.vast_read.specs.declared.same.level.Kind.TheVariants as kind
-use Rattle.vast_read.specs.Internal.Levels.{Level, level_of, level_view, words_in, parts_in}
+use Rattle.vast_read.specs.Internal.Levels.{Level, level_of, words_in, parts_in}
 
 prefix_again : (op : Op) → prefix_of (op_text op) ≡ op
 unfolding prefix_of

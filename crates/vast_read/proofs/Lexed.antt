@@ -1,5 +1,5 @@
 -- The tokens of any text beside those that the scan of the text gives, where it gives some.
-use Rattle.std.proofs.Common.{◌≡◌, ℕ, List, [], ◌∷◌, ◌++◌, Bool, true, false, ◌&&◌, Option, Some, None, refl, sym, ap, ◌∙◌, append-nil}
+use Rattle.std.proofs.Common.{◌≡◌, ℕ, List, [], ◌∷◌, ◌++◌, Bool, true, false, ◌&&◌, Option, Some, None, refl, ap, ◌∙◌, append-nil}
 use Rattle.vast_literal.specs.Tokens.{Token}
 use Rattle.vast_literal.specs.Scan.{State, Gap, cons_token, add_tokens, join_tokens, step, flush, scan, tokens}
 use Rattle.vast_read.specs.Lexed.{unspelled, whole, lex_on, lex}

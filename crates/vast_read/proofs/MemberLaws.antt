@@ -1,16 +1,12 @@
 -- A member is told by its level.
-use Rattle.std.proofs.Common.{◌≡◌, ℕ, Bool, true, false, List, [], ◌∷◌, Option, Some, None, option_map, refl, sym, ap, ◌∙◌}
-use Rattle.vast_literal.specs.NormalExpr.{NormalExpr, NormalExprs, Name}
+use Rattle.std.proofs.Common.{◌≡◌, true, false, [], Option, Some, None, refl, sym, ap, ◌∙◌}
+use Rattle.vast_literal.specs.NormalExpr.{NormalExpr, Name}
 use Rattle.vast_literal.specs.NormalFile as normal
 use Rattle.vast_literal.specs.NormalFile.{NormalDeclaration, NormalMember}
-use Rattle.vast_literal.specs.Tokens.{Key, key_text}
 use Rattle.vast_read.specs.Texts.{key_of}
 use Rattle.vast_read.specs.declared.same.member_level.MemberKind.{MemberKind}
 use Rattle.vast_read.specs.declared.same.member_level.MemberKind.TheVariants as kind
-use Rattle.vast_read.specs.Internal.MemberLevels.{Level, level_of, level_view, head_of, blocks_of}
-use Rattle.vast_read.specs.MemberView.{member_view}
-use Rattle.vast_read.specs.declared.tree.member.NormalMember.{NormalMember as Tree}
-use Rattle.vast_read.specs.declared.same.member_level.MemberLevel.{MemberLevel as CodeLevel}
+use Rattle.vast_read.specs.Internal.MemberLevels.{Level, level_of, head_of, blocks_of}
 use Rattle.vast_read.proofs.LevelLaws.{key_again}
 
 part : Option NormalExpr → NormalExpr

@@ -1,8 +1,8 @@
 -- The settled parser of members as the reader goes through it.
 use Rattle.std.proofs.Common.{◌≡◌, ℕ, Bool, true, false, List, [], ◌∷◌, Option, Some, None, refl, sym, ap, ◌∙◌}
-use Rattle.vast_literal.specs.Tokens.{Op, Punct, OpenParen, CloseParen, Colon, Semicolon, Dot, Hash, At, Assign, Key, IfKey, CasezKey, UniqueKey, BeginKey, EndKey, AssignKey, GenvarKey, AlwaysCombKey, FunctionKey, AutomaticKey, EndFunctionKey, InputKey, ForKey, Token, Reserved, Word, Keyword, SystemWord, MacroWord, Number, Based, Quoted, Operator, Mark}
-use Rattle.vast_literal.specs.NormalExpr.{NormalExpr, NormalExprs}
-use Rattle.vast_literal.specs.NormalFile.{Done, Then, NormalDeclaration, EdgeEvent, NameEvent, NormalConnection, NormalMember, DeclarationPart, AssignPart, ParameterPart, MacroPart, InstancePart, AlwaysPart, ConditionalPart, FunctionPart, LoopPart, NormalMembers, NoParts, MoreParts}
+use Rattle.vast_literal.specs.Tokens.{Op, Punct, OpenParen, CloseParen, Colon, Semicolon, Dot, Hash, At, Assign, Key, IfKey, CasezKey, UniqueKey, BeginKey, AssignKey, GenvarKey, AlwaysCombKey, FunctionKey, AutomaticKey, EndFunctionKey, InputKey, ForKey, Token, Reserved, Word, Keyword, SystemWord, MacroWord, Number, Based, Quoted, Operator, Mark}
+use Rattle.vast_literal.specs.NormalExpr.{NormalExprs}
+use Rattle.vast_literal.specs.NormalFile.{Done, Then, NormalDeclaration, EdgeEvent, NameEvent, NormalConnection, NormalMember, DeclarationPart, AssignPart, ParameterPart, MacroPart, InstancePart, AlwaysPart, ConditionalPart, FunctionPart, NormalMembers, NoParts, MoreParts}
 use Rattle.vast_literal.specs.FileGrammar.{is_member_kind, is_parameter_word, is_clocked, is_edge}
 use Rattle.vast_literal.specs.Internal.Parser.{◌>>=◌, after, word_at, number_at, enclosed_at, arguments, selected_at}
 use Rattle.vast_literal.specs.Internal.StatementParser.{ReadOf, after_key, block_at}
@@ -11,7 +11,7 @@ use Rattle.vast_literal.specs.Internal.Settled.{either, settled, settled_reader}
 use Rattle.vast_literal.specs.Internal.Nexts.{key_in, key_with, begins_with, sign_with, is_plus}
 use Rattle.vast_literal.specs.Internal.SettledDeclarations.{settled_declaration}
 use Rattle.vast_literal.specs.Internal.SettledMembers.{settled_members, settled_event, settled_events, connection_value, settled_connection, settled_given, settled_connections, settled_givens, instance_end, given_parameters, settled_instance, macro_ending, settled_macro, plain_part, loop_start, loop_bound, number_one, loop_step, loop_label, settled_input, settled_inputs, settled_local, settled_locals, lone_case, function_block, function_ending, settled_function, assign_part, combinational_part, conditional_part, parameter_part, clocked_part, declaration_part}
-use Rattle.vast_literal.proofs.SettledMembersWords.{loop_block, loop_end, settled_loop, settled_member}
+use Rattle.vast_literal.proofs.SettledMembersWords.{settled_loop, settled_member}
 use Rattle.vast_literal.proofs.Agree.{chained}
 use Rattle.vast_literal.proofs.SettledMembers.{members_settled}
 use Rattle.vast_read.specs.StatementParts.{arms_in}

@@ -11,7 +11,7 @@ use Rattle.vast_read.specs.Internal.Steps.{in_parens}
 use Rattle.vast_read.specs.StatementParts.{ChoicePart, LabelPart, arms_of}
 use Rattle.vast_read.specs.Internal.StatementParts.{join_block, join_labels}
 use Rattle.vast_read.specs.Internal.StatementReading.{StatementReading}
-use Rattle.vast_read.specs.Internal.StatementSteps.{is_casez, cases_of, choice_statement, choice_behind, else_if, block, with_block, with_labels, label_at, bare_body}
+use Rattle.vast_read.specs.Internal.StatementSteps.{is_casez, cases_of, choice_statement, choice_behind, else_if, with_block, with_labels, label_at, bare_body}
 use Rattle.vast_read.specs.TokenView.{key_view}
 use Rattle.vast_read.specs.declared.open.Case.{Case}
 use Rattle.vast_read.specs.declared.open.Owner.{Owner}

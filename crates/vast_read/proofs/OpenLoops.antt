@@ -1,8 +1,8 @@
 -- What is read from each step of a list of members on.
-use Rattle.std.proofs.Common.{◌≡◌, List, [], ◌∷◌, Option, Some, None, refl, sym, ap, ◌∙◌}
+use Rattle.std.proofs.Common.{◌≡◌, List, [], ◌∷◌, Some, None, refl, sym, ap, ◌∙◌}
 use Rattle.vast_literal.specs.Tokens.{Key, EndKey, BeginKey, AssignKey, AlwaysCombKey, IfKey, ForKey, FunctionKey, Token, Reserved}
 use Rattle.vast_literal.specs.NormalExpr.{NormalExpr}
-use Rattle.vast_literal.specs.NormalFile.{NormalMember, LoopPart, NormalMembers, NoParts, MoreParts}
+use Rattle.vast_literal.specs.NormalFile.{NormalMember, NormalMembers, NoParts, MoreParts}
 use Rattle.vast_literal.specs.Internal.Parser.{◌>>=◌, key_at}
 use Rattle.vast_literal.specs.Internal.StatementParser.{ReadOf, after_key, after_key_on, key_code}
 use Rattle.vast_literal.specs.Internal.Settled.{either}

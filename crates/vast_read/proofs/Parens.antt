@@ -1,14 +1,12 @@
 -- Behind an expression in parentheses.
-use Rattle.std.proofs.Common.{◌≡◌, List, Option, Some, None, refl, ap, ◌∙◌}
+use Rattle.std.proofs.Common.{◌≡◌, List, Some, None, ap, ◌∙◌}
 use Rattle.vast_literal.specs.Tokens.{Token, CloseParen, Apostrophe}
-use Rattle.vast_literal.specs.NormalExpr.{NormalExpr, Cast}
-use Rattle.vast_literal.specs.Internal.Parser.{◌>>=◌, after, cast}
-use Rattle.vast_literal.specs.Internal.Settled.{either, settled}
+use Rattle.vast_literal.specs.NormalExpr.{NormalExpr}
+use Rattle.vast_literal.specs.Internal.Parser.{after}
 use Rattle.vast_read.specs.Internal.Reading.{Reading}
 use Rattle.vast_read.specs.declared.machine.Waiting.{Waiting}
 use Rattle.vast_read.specs.declared.machine.Waiting.TheVariants as wait
-use Rattle.vast_read.specs.declared.machine.State.TheVariants as state
-use Rattle.vast_read.specs.Internal.Machine.{finished, then_primary, opened_then, meaning}
+use Rattle.vast_read.specs.Internal.Machine.{finished, then_primary, opened_then}
 use Rattle.vast_read.proofs.Steps.{then_some, then_none, either_some, either_none}
 use Rattle.vast_read.proofs.Waits.{paren_ends, cast_waits, primary_stands, then_nothing, then_stands}
 

@@ -1,8 +1,8 @@
 -- Behind a part of a list.
-use Rattle.std.proofs.Common.{◌≡◌, List, ◌∷◌, Option, Some, None, refl, ◌∙◌}
+use Rattle.std.proofs.Common.{◌≡◌, List, Some, None, ◌∙◌}
 use Rattle.vast_literal.specs.Tokens.{Token, Comma}
 use Rattle.vast_literal.specs.NormalExpr.{NormalExpr, NoNormals, MoreNormals}
-use Rattle.vast_literal.specs.Internal.Parser.{◌>>=◌, after}
+use Rattle.vast_literal.specs.Internal.Parser.{after}
 use Rattle.vast_read.specs.Internal.Reading.{Reading}
 use Rattle.vast_read.specs.Internal.Steps.{join}
 use Rattle.vast_read.specs.declared.machine.Head.{Head}

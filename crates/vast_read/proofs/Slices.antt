@@ -1,9 +1,9 @@
 -- Behind the first expression in brackets.
-use Rattle.std.proofs.Common.{◌≡◌, List, ◌∷◌, Option, Some, None, refl, ap, ◌∙◌}
+use Rattle.std.proofs.Common.{◌≡◌, List, ◌∷◌, Some, None, ap, ◌∙◌}
 use Rattle.vast_literal.specs.Tokens.{Token, CloseBracket, Colon}
 use Rattle.vast_literal.specs.NormalExpr.{NormalExpr, Index, Slice}
 use Rattle.vast_literal.specs.Internal.Parser.{◌>>=◌, after, enclosed_at}
-use Rattle.vast_literal.specs.Internal.Settled.{either, settled}
+use Rattle.vast_literal.specs.Internal.Settled.{settled}
 use Rattle.vast_read.specs.Internal.Reading.{Reading}
 use Rattle.vast_read.specs.Internal.Steps.{select_end, part_at}
 use Rattle.vast_read.specs.declared.machine.Waiting.{Waiting}

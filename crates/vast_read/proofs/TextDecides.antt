@@ -1,8 +1,7 @@
 -- What is decided of a text: whether the grammar derives a file from it, and which.
-use Rattle.std.proofs.Common.{◌≡◌, ℕ, Bool, List, [], Option, Some, None, Result, Ok, Err, IfOk, IfSome, option_map, refl, sym, ap, subst, arith, ◌∙◌}
-use Rattle.std.specs.Bool.{MatchBool}
-use Rattle.std.specs.Option.{is_some, MatchOption}
-use Rattle.std.specs.Result.{MatchResult}
+use Rattle.std.proofs.Common.{◌≡◌, ℕ, List, [], Option, Some, None, Result, Ok, Err, IfOk, IfSome, option_map, sym, ap, subst, arith, ◌∙◌}
+use Rattle.std.specs.Option.{MatchOption}
+use Rattle.std.specs.Result.{MatchResult, result_ok}
 use Rattle.vast_literal.specs.Tokens.{Token}
 use Rattle.vast_literal.specs.Scan.{Gap}
 use Rattle.vast_read.specs.Lexed.{lex}
@@ -27,42 +26,25 @@ text_derives text x d = record { parts = lex Gap text; lexed = scan_lexes text (
 pub text_without_file : (text : List ℕ) → ((x : NormalFile) → IsFile (lex Gap text) x → ⊥) → (x : NormalFile) → DerivesFile text x → ⊥
 text_without_file text n x d = n x (subst (λ us. IsFile us x) (sym (tokens_lexed text d.parts (lexes_scan text d.parts d.lexed))) d.spelled)
 
--- What is derived is what was read: there is no other.
-
-module _ {E : Type 0} (text : List ℕ) where
-  abbrev pub Spelled : Result (Option code.NormalFile) E → Type 0
-  Spelled answer = IfOk answer (λ o. IfSome o (λ x. IsFile (lex Gap text) (file_view x)))
-
-  abbrev pub Unspelled : Result (Option code.NormalFile) E → Type 0
-  Unspelled answer = IfOk answer (λ o. o ≡ None → (t : NormalFile) → IsFile (lex Gap text) t → ⊥)
-
-  pub answer_derived : (answer : Result (Option code.NormalFile) E) → Spelled answer → IfOk answer (λ o. IfSome o (λ x. DerivesFile text (file_view x)))
-  answer_derived (Ok (Some x)) d = text_derives text (file_view x) d
-  answer_derived (Ok None) d = tt
-  answer_derived (Err _) d = tt
-
-  pub answer_none : (answer : Result (Option code.NormalFile) E) → Unspelled answer → IfOk answer (λ o. o ≡ None → (t : NormalFile) → DerivesFile text t → ⊥)
-  answer_none (Ok o) n = λ none. text_without_file text (n none)
-  answer_none (Err _) n = tt
-
-  pub answer_read_back : (answer : Result (Option code.NormalFile) E) → Spelled answer → Unspelled answer → IfOk answer (λ o. (t : NormalFile) → DerivesFile text t → option_map file_view o ≡ Some t)
-  answer_read_back (Ok (Some x)) d n = λ t y. ap (λ (u : NormalFile). Some u) (file_once text (file_view x) t (text_derives text (file_view x) d) y)
-  answer_read_back (Ok None) d n = λ t y. absurd (text_without_file text (n refl) t y)
-  answer_read_back (Err _) d n = tt
-
--- Whether a file is derived, by what was read.
-
-pub text_decides :
-    {F : Type 0} (text : List ℕ) (see : F → NormalFile) (o : Option F) (answer : Bool) → answer ≡ is_some o → IfSome o (λ x. IsFile (lex Gap text) (see x)) →
-    (o ≡ None → (t : NormalFile) → IsFile (lex Gap text) t → ⊥) → MatchBool answer ((t : NormalFile) × DerivesFile text t) ((t : NormalFile) → DerivesFile text t → ⊥)
-text_decides text see (Some x) answer e d n = rw e (see x, text_derives text (see x) d)
-text_decides text see None answer e d n = rw e (text_without_file text (n refl))
-
--- Where no file is derived, by what was read.
-
+-- What was read of a text: a file that its tokens spell, or the place at which they spell none.
 abbrev pub Spells : {F : Type 0} → List ℕ → (F → NormalFile) → Result F ℕ → Type 0
 Spells text see read = MatchResult read (λ x. IsFile (lex Gap text) (see x)) (λ _. (t : NormalFile) → IsFile (lex Gap text) t → ⊥)
 
+-- What is derived is what was read: there is no other.
+module _ (text : List ℕ) (found : Option code.NormalFile) where
+  pub file_derives : (read : Result code.NormalFile ℕ) → found ≡ result_ok read → Spells text file_view read → IfSome found (λ x. DerivesFile text (file_view x))
+  file_derives (Ok x) e d = rw e (text_derives text (file_view x) d)
+  file_derives (Err place) e n = rw e tt
+
+  pub none_derives : (read : Result code.NormalFile ℕ) → found ≡ result_ok read → Spells text file_view read → found ≡ None → (t : NormalFile) → DerivesFile text t → ⊥
+  none_derives (Ok x) e d none = absurd (let f : Some x ≡ None = sym e ∙ none in cc)
+  none_derives (Err place) e n none = text_without_file text n
+
+  pub file_read_back : (read : Result code.NormalFile ℕ) → found ≡ result_ok read → Spells text file_view read → (t : NormalFile) → DerivesFile text t → option_map file_view found ≡ Some t
+  file_read_back (Ok x) e d t y = rw e (ap (λ (u : NormalFile). Some u) (file_once text (file_view x) t (text_derives text (file_view x) d) y))
+  file_read_back (Err place) e n t y = absurd (text_without_file text n t y)
+
+-- Where no file is derived, by what was read.
 abbrev pub Decides : {E : Type 0} → List ℕ → Result (Option ℕ) E → Type 0
 Decides text answer = IfOk answer (λ o. MatchOption o ((t : NormalFile) × DerivesFile text t) (λ _. (t : NormalFile) → DerivesFile text t → ⊥))
 

@@ -1,7 +1,7 @@
 -- What is read from each state on, one step at a time.
 use Rattle.std.proofs.Common.{◌≡◌, ℕ, suc, List, [], ◌∷◌, Some, None, refl, sym, ◌∙◌}
 use Rattle.vast_literal.specs.Tokens.{Op, level, Token, OpenParen, CloseParen, OpenBracket, CloseBracket, Colon, Question, Apostrophe}
-use Rattle.vast_literal.specs.NormalExpr.{NormalExpr, Unary, Binary, Ternary, Index, Slice, Cast, PackageCast, WordCast}
+use Rattle.vast_literal.specs.NormalExpr.{NormalExpr, Unary, Binary, Ternary, Slice, Cast, PackageCast, WordCast}
 use Rattle.vast_literal.specs.Internal.Parser.{◌>>=◌, Read, after, prefix, enclosed_at, cast, primary, selected_at}
 use Rattle.vast_literal.specs.Internal.Settled.{either, settled}
 use Rattle.vast_literal.proofs.Agree.{chained}

@@ -1,7 +1,7 @@
 -- The tokens of any text, one after the other: where none fits, one stands for what is left that no rule of the grammar takes.
 use Rattle.std.specs.Prelude.{ℕ, List, [], ◌∷◌, ◌++◌, Option, Some, None}
 use Rattle.vast_literal.specs.Tokens.{Token, Keyword}
-use Rattle.vast_literal.specs.Scan.{State, Gap, AfterTick, before_tick, step, flush}
+use Rattle.vast_literal.specs.Scan.{State, AfterTick, before_tick, step, flush}
 
 -- What stands for a text that no token fits: a keyword of no letters, which no text has.
 abbrev pub unspelled : Token

@@ -1,17 +1,16 @@
 -- The longest lexeme at the front of a text, by places: the test that what stands behind a place must pass to be in it.
-use Rattle.std.proofs.Common.{◌≡◌, ◌≤◌, ◌<◌, ◌+◌, ◌⊎◌, inl, inr, ⊎_elim, ℕ, suc, zero-le, List, [], ◌∷◌, ◌++◌, length, take, drop, get_or, Bool, true, false, cond, refl, sym, ap, ◌∙◌, append_assoc, append-nil, arith, lt_of_not-le}
+use Rattle.std.proofs.Common.{◌≡◌, ◌≤◌, ◌<◌, ◌+◌, inl, inr, ⊎_elim, ℕ, zero-le, List, [], ◌∷◌, ◌++◌, length, take, drop, get_or, Bool, true, false, cond, refl, sym, ap, ◌∙◌, append_assoc, arith}
 use Rattle.std.specs.List.{prefix_len}
 use Rattle.std.proofs.Math.Seq.{take-add, drop-append_seam}
 use Rattle.std.proofs.lemmas.Bool.{cases_lt}
 use Rattle.std.proofs.lemmas.List.{take-append-drop, take-append-le, drop-append-le, length-take-le, length-drop, take_more}
 use Rattle.std.proofs.lemmas.List.Sums.{prefix_len-le-length}
-use Rattle.vast_literal.specs.Tokens.{Token}
 use Rattle.vast_literal.specs.Scan.{Gap}
 use Rattle.vast_literal.specs.LiteralToken.{every, is_done}
 use Rattle.vast_literal.specs.Lexemes.{IsLongest}
 use Rattle.vast_literal.proofs.ScanLaws.{and_left, and_right}
 use Rattle.vast_literal.proofs.LexemeShapes.{one, lexeme_one}
-use Rattle.vast_literal.proofs.LexemeFronts.{Ahead, Ends}
+use Rattle.vast_literal.proofs.LexemeFronts.{Ends}
 use Rattle.vast_literal.proofs.LexemeStarts.{front}
 use Rattle.vast_read.specs.Behind.{Behind, none_before, lexeme, apostrophe}
 use Rattle.vast_read.specs.Internal.Scanner.{GoesOn}

@@ -3,11 +3,10 @@ use Rattle.std.proofs.Common.{◌≡◌, zero, suc, ℕ, ◌<◌, List, [], ◌�
 use Rattle.std.proofs.lemmas.Slice.Eq.{bytes_eq-Decides}
 use Rattle.std.proofs.lemmas.Bool.Decides.{nat_tests}
 use Rattle.vast_literal.specs.Keyword.{keywords, is_among, is_keyword}
-use Rattle.vast_literal.specs.Tokens.{Key, key_text, reserved_keys, key_written, Token, Reserved, Word, Keyword, keyword_token, word_token}
+use Rattle.vast_literal.specs.Tokens.{Key, key_text, reserved_keys, key_written, Reserved, Word, Keyword, keyword_token, word_token}
 use Rattle.vast_literal.proofs.ScanLaws.{and_left, and_right}
 use Rattle.vast_read.specs.Internal.KeywordSlots.{slot_of}
 use Rattle.vast_read.specs.TokenView.{key_view}
-use Rattle.vast_read.specs.declared.token.Key.{Key as CodeKey}
 use Rattle.vast_read.specs.declared.scanner.keyword.TheConstants.{KEYS, PLACES, MOVES}
 
 -- all numbers of a list are below a bound

@@ -1,17 +1,17 @@
 -- The lexemes at the front of a text that are words, numbers, strings and what an apostrophe begins, by places.
-use Rattle.std.proofs.Common.{◌≡◌, ◌≤◌, ◌<◌, ◌+◌, ⊎_elim, inl, inr, ℕ, suc, List, [], ◌∷◌, ◌++◌, length, take, drop, get_or, Bool, true, false, cond, not, ◌&&◌, ◌||◌, eqb, eqb-true, refl, sym, ap, subst, ◌∙◌, arith}
+use Rattle.std.proofs.Common.{◌≡◌, ◌≤◌, ◌<◌, ◌+◌, ℕ, List, [], ◌∷◌, ◌++◌, length, take, drop, get_or, Bool, true, false, cond, ◌&&◌, ◌||◌, eqb, eqb-true, refl, sym, ap, subst, ◌∙◌, arith}
 use Rattle.std.specs.List.{prefix_len}
 use Rattle.std.proofs.lemmas.List.{drop-drop, get_or-drop, length-drop}
 use Rattle.std.proofs.lemmas.List.Sums.{prefix_len-le-length}
 use Rattle.std.proofs.lemmas.Bool.Decides.{nat_tests}
-use Rattle.vast_literal.specs.Scan.{is_letter, is_word_byte, is_digit, is_radix, is_based_digit, is_filler}
+use Rattle.vast_literal.specs.Scan.{is_letter, is_word_byte, is_digit, is_radix, is_filler}
 use Rattle.vast_literal.specs.LiteralToken.{every, is_done, is_based_number, is_radix_tail, is_based_tail, is_based, is_string_rest}
 use Rattle.vast_literal.specs.Lexemes.IsLexeme.{cast, pattern}
 use Rattle.vast_literal.proofs.ScanLaws.{digit_letter, and_left, and_right}
 use Rattle.vast_literal.proofs.TokenTexts.{no_tick}
 use Rattle.vast_literal.proofs.LexemeShapes.{one, digit_goes}
 use Rattle.vast_read.specs.Behind.{Behind, none_before, apostrophe}
-use Rattle.vast_read.specs.Internal.Scanner.{GoesOn, opens_based, opens_mark, is_based_tick, radix_place, string_part, IsTick}
+use Rattle.vast_read.specs.Internal.Scanner.{GoesOn, opens_based, opens_mark, is_based_tick, string_part}
 use Rattle.vast_read.proofs.scanner.Lexemes.{head_at, one_more}
 use Rattle.vast_read.proofs.scanner.Fronts.{goes_behind, done_behind, every_taken, every_bound, run_behind, goes_more}
 use Rattle.vast_read.proofs.scanner.Words.{passed_within}

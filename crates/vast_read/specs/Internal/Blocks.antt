@@ -1,8 +1,8 @@
 -- Blocks that wait to be compared.
-use Rattle.std.specs.Prelude.{◌≡◌, ◌≢◌, ◌↔◌, ℕ, ◌+◌, ◌*◌, Bool, List, [], ◌∷◌, Option, Some, None, option_map, map}
+use Rattle.std.specs.Prelude.{◌≡◌, ◌≢◌, ◌↔◌, ℕ, ◌+◌, ◌*◌, Bool, List, [], ◌∷◌, Option, option_map, map}
 use Rattle.std.specs.Bool.{MatchBool}
 use Rattle.std.specs.Borrow.{Bor}
-use Rattle.vast_literal.specs.NormalExpr.{NormalExpr, Name}
+use Rattle.vast_literal.specs.NormalExpr.{Name}
 use Rattle.vast_literal.specs.NormalFile.{NormalStatements, Done, Arms, Only, Labels}
 use Rattle.vast_read.specs.Internal.Release.{rounds_each}
 use Rattle.vast_read.specs.StatementParts.{ChoicePart}

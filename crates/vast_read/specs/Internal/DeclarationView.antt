@@ -5,8 +5,6 @@ use Rattle.vast_literal.specs.NormalFile as normal
 use Rattle.vast_literal.specs.Internal.StatementParser.{ReadOf}
 use Rattle.vast_literal.specs.Internal.SettledDeclarations.{named_end}
 use Rattle.vast_read.specs.TokenView.{key_view}
-use Rattle.vast_read.specs.declared.tree.declaration.Group.{Group}
-use Rattle.vast_read.specs.declared.tree.declaration.NormalDeclaration.{NormalDeclaration}
 use Rattle.vast_read.specs.declared.tree.declaration.Head.{Head}
 
 -- A kind, a package, a type and a sign, each where it is written.

@@ -4,9 +4,6 @@ use Rattle.vast_literal.specs.NormalExpr.{NormalExpr}
 use Rattle.vast_literal.specs.NormalFile as normal
 use Rattle.vast_literal.specs.NormalFile.{NormalMembers}
 use Rattle.vast_literal.specs.Tokens.{Key}
-use Rattle.vast_read.specs.declared.tree.file.NormalModule.{NormalModule}
-use Rattle.vast_read.specs.declared.tree.file.NormalItem.{NormalItem}
-use Rattle.vast_read.specs.declared.tree.file.NormalFile.{NormalFile}
 
 -- A parameter, a port, a module and a file of these parts.
 abbrev pub parameter_of : normal.NormalDeclaration → NormalExpr → normal.NormalParameter

@@ -1,5 +1,5 @@
 -- What waits for an expression, as what is read from the expression on.
-use Rattle.std.specs.Prelude.{◌≡◌, ℕ, suc, ◌+◌, ◌*◌, ◌<◌, ◌≤◌, List, [], ◌∷◌, ◌++◌, length, Option, Some, None, Result, Ok, Err}
+use Rattle.std.specs.Prelude.{◌≡◌, ℕ, suc, ◌+◌, ◌*◌, ◌<◌, ◌≤◌, List, [], ◌∷◌, length, Option, Some, None, Result, Ok, Err}
 use Rattle.vast_literal.specs.Tokens.{level, Punct, Token, OpenParen, CloseParen, CloseBracket, OpenBrace, CloseBrace, Colon, Question}
 use Rattle.vast_literal.specs.NormalExpr.{NormalExpr, Unary, Binary, Ternary, Slice, Concat, Pattern, Replicated, Call, MacroCall, Cast, PackageCast, WordCast, NormalExprs, NoNormals, MoreNormals}
 use Rattle.vast_literal.specs.Internal.Parser.{◌>>=◌, Read, after, lead, paren_on}

@@ -1,5 +1,5 @@
 -- The outermost level of a member: what it is, its words, what it declares, its lists and blocks.
-use Rattle.std.specs.Prelude.{ℕ, ◌+◌, ◌*◌, Bool, true, false, List, [], Option, Some, None, option_map, map}
+use Rattle.std.specs.Prelude.{ℕ, ◌+◌, ◌*◌, Bool, true, false, List, [], Option, Some, None, option_map}
 use Rattle.std.specs.Borrow.{Bor}
 use Rattle.vast_literal.specs.NormalExpr.{NormalExpr, NormalExprs}
 use Rattle.vast_literal.specs.NormalFile as normal
@@ -11,7 +11,6 @@ use Rattle.vast_read.specs.Internal.Levels.{part_view, list_view}
 use Rattle.vast_read.specs.Internal.MemberRelease.{members_beside}
 use Rattle.vast_read.specs.MemberView.{events_view, connections_view, members_view}
 use Rattle.vast_read.specs.StatementView.{block_view}
-use Rattle.vast_read.specs.View.{view}
 use Rattle.vast_read.specs.declared.same.member_level.MemberKind.{MemberKind}
 use Rattle.vast_read.specs.declared.same.member_level.MemberKind.TheVariants as kind
 use Rattle.vast_read.specs.declared.same.member_level.Words.{Words as CodeWords}

@@ -6,7 +6,6 @@ use Rattle.vast_literal.specs.NormalFile.{NormalMember, LoopPart, NormalMembers,
 use Rattle.vast_literal.specs.Internal.Parser.{◌>>=◌}
 use Rattle.vast_literal.specs.Internal.StatementParser.{ReadOf, after_key}
 use Rattle.vast_literal.specs.Internal.SettledMembers.{settled_members, loop_start, loop_bound, loop_step, loop_label}
-use Rattle.vast_read.specs.Internal.MemberReading.{MemberReading}
 use Rattle.vast_read.specs.Internal.MemberSteps.{join_members, with_members}
 use Rattle.vast_read.specs.declared.fault.Fault.{Fault}
 use Rattle.vast_read.specs.declared.fault.Fault.TheVariants.{Underived}

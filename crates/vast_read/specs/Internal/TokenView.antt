@@ -1,6 +1,5 @@
 -- Beside `specs/TokenView.antt`: what private contracts and proofs say, and no public one.
 use Rattle.vast_literal.specs.Tokens as to
-use Rattle.vast_read.specs.declared.token.Mark.{Mark}
 use Rattle.vast_read.specs.declared.token.Token.{Token}
 use Rattle.vast_read.specs.declared.token.Token.TheVariants as token
 use Rattle.vast_read.specs.TokenView.{sign_view, mark_view, key_view}

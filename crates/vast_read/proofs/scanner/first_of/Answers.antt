@@ -1,5 +1,4 @@
 use Rattle.std.proofs.Common.{◌≡◌, length, eqb-true, sym, ◌∙◌}
-use Rattle.vast_literal.specs.Scan.{Gap}
 use Rattle.vast_read.specs.Lexed.{lex}
 use Rattle.vast_read.proofs.scanner.Lexemes.{none_left}
 use Rattle.vast_read.proofs.scanner.first_of.Goals as goal

@@ -1,4 +1,4 @@
-use Rattle.std.proofs.Common.{◌≡◌, Some}
+use Rattle.std.proofs.Common.{◌≡◌}
 use Rattle.vast_literal.specs.NormalExpr.{Literal}
 use Rattle.vast_read.proofs.Casts.{number_casts}
 use Rattle.vast_read.proofs.reader.Reader.numbered.Goals as goal

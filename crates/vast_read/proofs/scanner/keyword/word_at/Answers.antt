@@ -1,4 +1,4 @@
-use Rattle.std.proofs.Common.{◌≡◌, ℕ, List, get_or, [], ap, ◌∙◌, arith}
+use Rattle.std.proofs.Common.{ℕ, List, get_or, [], ap, ◌∙◌, arith}
 use Rattle.vast_read.proofs.scanner.Keywords.{mapped_at}
 use Rattle.vast_read.proofs.scanner.keyword.word_at.Goals as goal
 

@@ -1,4 +1,4 @@
-use Rattle.std.proofs.Common.{rules, arith}
+use Rattle.std.proofs.Common.{rules}
 use Rattle.vast_read.proofs.scanner.Places.{behind_unspelled, behind_at_end}
 use Rattle.vast_read.proofs.scanner.place.first_and_behind.Goals as goal
 
