@@ -42,7 +42,8 @@ artifact_call (MakeContinuousAssignment left right) = λ b answers.
     Made (ContinuousAssignment (next_continuous b)) (with_assignment (record { lhs = left; rhs = right; nonblocking = false }) b))
 artifact_call (MakeNonblockingAssignment left right) = make_assignment true left right
 artifact_call (MakeBlockingAssignment left right) = make_assignment false left right
-artifact_call (MakeInstantiation module_name instance_name parameters values ports wires) = make_instantiation (string_bytes module_name) (string_bytes instance_name) (map string_bytes parameters.items) values.items (map string_bytes ports.items) wires.items
+artifact_call (MakeInstantiation module_name instance_name parameters values ports wires) =
+    make_instantiation (string_bytes module_name) (string_bytes instance_name) (map string_bytes parameters.items) values.items (map string_bytes ports.items) wires.items
 artifact_call (AddMemberInstantiation owner part) = λ b answers.
     given (two a_module an_instantiation b answers owner part) (λ (owner, part). Made Nothing (with_member owner (InstanceEntry part) b))
 artifact_call (AddMemberContinuousAssignment owner part) = λ b answers.
