@@ -1,7 +1,6 @@
 //! The word `check`, run on texts and on readers. `tools/hostile/inputs` has more texts, for the built program.
 
 mod deep;
-mod deep_texts;
 mod designs;
 
 use crate::program::run;
