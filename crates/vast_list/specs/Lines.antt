@@ -115,6 +115,7 @@ abbrev pub BeginsWithDialect : (lines : List (List ℕ)) → VastFileType → (b
 BeginsWithDialect lines dialect behind =
     (passed : List (List ℕ)) × (line : List ℕ) × All (λ l. line_kind l ≡ Passed) passed × (without_return line ≡ dialect_word dialect) × (lines ≡ passed ++ line ∷ behind)
 
+-- The byte is a line feed.
 abbrev pub is_line_feed : ℕ → Bool
 is_line_feed byte = eqb byte 10
 

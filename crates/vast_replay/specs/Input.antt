@@ -13,6 +13,7 @@ use Rattle.vast_replay.specs.declared.program.Manner.{Manner}
 use Rattle.vast_replay.specs.declared.words.Form.TheVariants.{Text}
 use Rattle.vast_replay.specs.declared.words.Linting.TheVariants.{Off}
 
+-- The text begins so.
 abbrev pub begins_with : (front text : List ℕ) → Bool
 begins_with front text = starts_with (λ b c. b == c) text front
 
