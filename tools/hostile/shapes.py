@@ -85,6 +85,7 @@ STATEMENTS = [
     nest("conditionals in a block", BLOCK, "if(a)begin ", "end ", "a=a;"),
     nest("last branches", MODULE, "if(a)begin end else begin ", "end "),
     flat("branches", ("module m;if(a)begin end ", "endmodule"), "else if(a)begin end "),
+    nest("branches in branches", MODULE, "if(a)begin end else if(a)begin ", "end else begin end "),
     nest("conditionals between statements", BLOCK, "a=a;if(a)begin a<=a;", "a=a;end a<=a;"),
     nest("cases", BLOCK, "case(a)a:begin ", "end endcase "),
     nest("cases in the last arm", BLOCK, "unique casez(a)a:a=a;default:begin ", "end endcase "),
