@@ -2,7 +2,8 @@
 
 use std::alloc::{AllocError, Global};
 use std::fmt::Write;
-use vast_list::{LineWarning, ListLines, list_warnings};
+use vast_list::ListLines;
+use vast_talk::{LineWarning, list_warnings};
 use xlsynth_vast::VastFileType;
 
 /// What the calls of these lines print that is no SystemVerilog or Verilog, or that a tool refuses: a line for each, in

@@ -5,7 +5,7 @@ use Rattle.std.proofs.lemmas.List.Sums.{sum_by-append}
 use Rattle.vast_core.specs.Records.{changed_at}
 use Rattle.vast_core.specs.Internal.Containers.{added, read_off}
 use Rattle.vast_core.specs.Hoisting.{parted, hoisted, is_declaration}
-use Rattle.vast_core.specs.Records.{MemberEntry}
+use Rattle.vast_core.specs.Records.{Member}
 
 pub count-append : {A : Type 0} (t : A → Bool) (xs ys : List A) → count_by t (xs ++ ys) ≡ count_by t xs + count_by t ys
 count-append t xs ys = sum_by-append (λ x. cond (t x) 1 0) xs ys
@@ -60,13 +60,13 @@ over-parts :
 over-parts t test g [] = refl
 over-parts t test g (x ∷ xs) = parted-case t test g x xs (test x) refl (over-parts t test g xs)
 
-pub over-hoisted : {A : Type 0} (t : A → Bool) (g : MemberEntry → List A) (start : ℕ) (ms : List MemberEntry) → count_by t (flat_map g (hoisted start ms)) ≡ count_by t (flat_map g ms)
+pub over-hoisted : {A : Type 0} (t : A → Bool) (g : Member → List A) (start : ℕ) (ms : List Member) → count_by t (flat_map g (hoisted start ms)) ≡ count_by t (flat_map g ms)
 over-hoisted t g start ms =
     let rest = drop start ms in
-    let others : List MemberEntry = filter (λ m. not (is_declaration m)) rest in
+    let others : List Member = filter (λ m. not (is_declaration m)) rest in
     let outer = over-append t g (take start ms) (parted is_declaration rest) in
     let inner = over-append t g (filter is_declaration rest) others in
     let parts = over-parts t is_declaration g rest in
     let whole = over-append t g (take start ms) rest in
-    let back = ap (λ (xs : List MemberEntry). count_by t (flat_map g xs)) (take-append-drop start ms) in
+    let back = ap (λ (xs : List Member). count_by t (flat_map g xs)) (take-append-drop start ms) in
     omega (arith, outer, inner, parts, whole, back)

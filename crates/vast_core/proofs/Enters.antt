@@ -8,7 +8,6 @@ use Rattle.vast_core.specs.declared.handle.CaseStatement.{CaseStatement}
 use Rattle.vast_core.specs.declared.handle.GenerateLoop.{GenerateLoop}
 use Rattle.vast_literal.specs.declared.kind.CaseKind.{CaseKind}
 use Rattle.vast_core.specs.declared.node.Assignment.{Assignment}
-use Rattle.vast_core.specs.Handles.{block_index, conditional_index, case_index, loop_index}
 use Rattle.vast_core.specs.Nests.{StatementEntry, AssignStatement, ContinuousStatement, ConditionalStatement, CasesStatement, BlockRecord, is_block_kind, is_conditional_kind, is_case_kind, is_loop_kind}
 use Rattle.vast_core.specs.Bench.{Bench, OwnsExpr, OwnsBlock, OwnsConditional, OwnsCase, OwnsLoop, OwnsStatement}
 use Rattle.vast_core.specs.Growth.{with_assignment, next_id}
@@ -29,16 +28,16 @@ nothing-comes b c = record { terms = tt; port = tt; fresh_module = tt; definitio
 pub a-block-comes : (b c : Bench) → FreshSound b c fresh_block
 a-block-comes b c = record { terms = tt; port = tt; fresh_module = tt; definition = tt; artifact = tt; instance = tt; assignment = tt; container = tt; function = tt; always_block = tt }
 
-pub block-place : (b : Bench) (x : VastStatementBlock) → OwnsBlock b x → block_index x < length b.nests
+pub block-place : (b : Bench) (x : VastStatementBlock) → OwnsBlock b x → x.id.index < length b.nests
 block-place b x h = kind-there is_block_kind b.nests x.id.index never h.of_kind
 
-pub conditional-place : (b : Bench) (x : Conditional) → OwnsConditional b x → conditional_index x < length b.nests
+pub conditional-place : (b : Bench) (x : Conditional) → OwnsConditional b x → x.id.index < length b.nests
 conditional-place b x h = kind-there is_conditional_kind b.nests x.id.index never h.of_kind
 
-pub case-place : (b : Bench) (x : CaseStatement) → OwnsCase b x → case_index x < length b.nests
+pub case-place : (b : Bench) (x : CaseStatement) → OwnsCase b x → x.id.index < length b.nests
 case-place b x h = kind-there is_case_kind b.nests x.id.index never h.of_kind
 
-pub loop-place : (b : Bench) (x : GenerateLoop) → OwnsLoop b x → loop_index x < length b.nests
+pub loop-place : (b : Bench) (x : GenerateLoop) → OwnsLoop b x → x.id.index < length b.nests
 loop-place b x h = kind-there is_loop_kind b.nests x.id.index never h.of_kind
 
 -- The element behind the last one but one.
@@ -82,7 +81,7 @@ case-comes b kind selector h = record { terms = tt; port = tt; fresh_module = tt
 
 -- Statements of blocks.
 
-pub statement-enters : (b : Bench) (owner : VastStatementBlock) (s : StatementEntry) → OwnsBlock b owner → StatementSound b (block_index owner) s → held_by_statement s ≡ [] → GrowthSound b (InNest (block_index owner) (StatementEnters s)) no_fresh
+pub statement-enters : (b : Bench) (owner : VastStatementBlock) (s : StatementEntry) → OwnsBlock b owner → StatementSound b owner.id.index s → held_by_statement s ≡ [] → GrowthSound b (InNest owner.id.index (StatementEnters s)) no_fresh
 statement-enters b owner s h k none = record { fresh = nothing-comes b b; listing = (block-place b owner h, k); placed = rw none refl }
 
 assignment-comes : (b : Bench) (a : Assignment) → AssignmentSound b a → FreshSound b (with_assignment a b) (fresh_assignment a)
@@ -93,32 +92,32 @@ next_statement_owned b a = record { of_file = refl; of_kind = rw (length-append 
 
 pub assignment-enters :
     (b : Bench) (owner : VastStatementBlock) (a : Assignment) → OwnsBlock b owner → AssignmentSound b a →
-    GrowthSound b (InNest (block_index owner) (StatementEnters (AssignStatement (next_statement b)))) (fresh_assignment a)
+    GrowthSound b (InNest owner.id.index (StatementEnters (AssignStatement (next_statement b)))) (fresh_assignment a)
 assignment-enters b owner a h k = record { fresh = assignment-comes b a k; listing = (block-place b owner h, next_statement_owned b a); placed = refl }
 
 pub continuous-enters :
     (b : Bench) (owner : VastStatementBlock) (a : Assignment) → OwnsBlock b owner → AssignmentSound b a →
-    GrowthSound b (InNest (block_index owner) (StatementEnters (ContinuousStatement (next_statement b)))) (fresh_assignment a)
+    GrowthSound b (InNest owner.id.index (StatementEnters (ContinuousStatement (next_statement b)))) (fresh_assignment a)
 continuous-enters b owner a h k = record { fresh = assignment-comes b a k; listing = (block-place b owner h, next_statement_owned b a); placed = refl }
 
 pub conditional-enters :
     (b : Bench) (owner : VastStatementBlock) (condition : Expr) → OwnsBlock b owner → OwnsExpr b condition →
-    GrowthSound b (InNest (block_index owner) (StatementEnters (ConditionalStatement (next_conditional b)))) (fresh_container (new_conditional b condition) true)
+    GrowthSound b (InNest owner.id.index (StatementEnters (ConditionalStatement (next_conditional b)))) (fresh_container (new_conditional b condition) true)
 conditional-enters b owner condition h k = record { fresh = conditional-comes b condition k; listing = (block-place b owner h, (next_conditional_owned b condition, block-place b owner h)); placed = refl }
 
 pub case-enters :
     (b : Bench) (owner : VastStatementBlock) (kind : CaseKind) (selector : Expr) → OwnsBlock b owner → OwnsExpr b selector →
-    GrowthSound b (InNest (block_index owner) (StatementEnters (CasesStatement (next_case b)))) (fresh_container (new_case kind selector) false)
+    GrowthSound b (InNest owner.id.index (StatementEnters (CasesStatement (next_case b)))) (fresh_container (new_case kind selector) false)
 case-enters b owner kind selector h k = record { fresh = case-comes b kind selector k; listing = (block-place b owner h, (next_case_owned b kind selector, block-place b owner h)); placed = refl }
 
 -- Arms.
 
 pub else_if-enters :
     (b : Bench) (owner : Conditional) (condition : Expr) → OwnsConditional b owner → OwnsExpr b condition →
-    GrowthSound b (InNest (conditional_index owner) (ElseIfEnters (record { condition = condition; block = next_block b }))) fresh_block
+    GrowthSound b (InNest owner.id.index (ElseIfEnters (record { condition = condition; block = next_block b }))) fresh_block
 else_if-enters b owner condition h k = record { fresh = a-block-comes b (with_block b); listing = (conditional-place b owner h, (k, (next_block_owned b, conditional-place b owner h))); placed = refl }
 
-pub else-enters : (b : Bench) (owner : Conditional) → OwnsConditional b owner → GrowthSound b (InNest (conditional_index owner) (ElseEnters (next_block b))) fresh_block
+pub else-enters : (b : Bench) (owner : Conditional) → OwnsConditional b owner → GrowthSound b (InNest owner.id.index (ElseEnters (next_block b))) fresh_block
 else-enters b owner h = record { fresh = a-block-comes b (with_block b); listing = (conditional-place b owner h, (next_block_owned b, conditional-place b owner h)); placed = refl }
 
 maybe-same : (b : Bench) (label : Option Expr) → IfSome label (OwnsExpr b) → IfSome label (OwnsExpr (with_block b))
@@ -127,7 +126,7 @@ maybe-same b (Some e) h = h
 
 pub case_arm-enters :
     (b : Bench) (owner : CaseStatement) (label : Option Expr) → OwnsCase b owner → IfSome label (OwnsExpr b) →
-    GrowthSound b (InNest (case_index owner) (CaseArmEnters (record { label = label; block = next_block b }))) fresh_block
+    GrowthSound b (InNest owner.id.index (CaseArmEnters (record { label = label; block = next_block b }))) fresh_block
 case_arm-enters b owner label h k = record { fresh = a-block-comes b (with_block b); listing = (case-place b owner h, (maybe-same b label k, (next_block_owned b, case-place b owner h))); placed = refl }
 
 pub ruleset enters = (statement-enters, case-enters, else_if-enters, else-enters, case_arm-enters)

@@ -1,6 +1,6 @@
 -- What calls that add always blocks, loops, conditionals and functions know: what comes, and the member that names it,
 -- are the file's.
-use Rattle.std.proofs.Common.{◌≡◌, ℕ, false, List, [], ◌∷◌, length, Option, Some, All, String, string_bytes, refl, arith, length-append}
+use Rattle.std.proofs.Common.{◌≡◌, ℕ, false, List, [], ◌∷◌, length, Option, Some, All, refl, arith, length-append}
 use Rattle.std.specs.Prelude.{IfSome}
 use Rattle.vast_literal.specs.Tree.{NameTree, MaybeType, Untyped, Typed}
 use Rattle.vast_core.specs.declared.handle.Expr.{Expr}
@@ -12,7 +12,7 @@ use Rattle.vast_core.specs.declared.handle.VastStatementBlock.{VastStatementBloc
 use Rattle.vast_literal.specs.declared.kind.AlwaysKind.{AlwaysKind}
 use Rattle.vast_core.specs.Nodes.{Root, ExprRoot, with_root as with_node}
 use Rattle.vast_core.specs.Records.{FunctionEntry}
-use Rattle.vast_core.specs.Nests.{BlockRecord, VariableRecord}
+use Rattle.vast_core.specs.Nests.{BlockRecord, FunctionVariable}
 use Rattle.vast_core.specs.Bench.{Bench, NameIsFree, OwnsExpr, OwnsType, OwnsBlock, OwnsModule, OwnsLoop, OwnsAlways, OwnsFunction, OwnsLogicRef, OwnsContinuous, type_of}
 use Rattle.vast_core.specs.Growth.{with_named_member, next_logic_ref, next_continuous, with_assignment}
 use Rattle.vast_core.specs.Sound.{EventSound}
@@ -124,14 +124,14 @@ function-enters b owner variable name type h k free =
 
 -- The same, of a node that is known to be this.
 pub function-enters-as :
-    (b : Bench) (owner : VastModule) (h : VastFunction) (variable : List ℕ) (taken name : List ℕ) (type : VastDataType) (g : LogicRef) (inputs locals : List VariableRecord) (body : VastStatementBlock) (names : List (List ℕ)) →
+    (b : Bench) (owner : VastModule) (h : VastFunction) (variable : List ℕ) (taken name : List ℕ) (type : VastDataType) (g : LogicRef) (inputs locals : List FunctionVariable) (body : VastStatementBlock) (names : List (List ℕ)) →
     h ≡ next_function b → g ≡ next_logic_ref b → inputs ≡ [] → locals ≡ [] → body ≡ next_block b → names ≡ name ∷ [] → taken ≡ name → OwnsModule b owner → OwnsType b type → NameIsFree b owner name →
     GrowthSound b (InModule owner (FunctionEntry h) (Some taken)) (fresh_function variable type (record { name = name; result_type = type; result_name = g; inputs = inputs; locals = locals; body = body; names = names }))
 function-enters-as b owner h variable taken name type g inputs locals body names e f i l x n t o k free = rw (e, f, i, l, x, n, t) (function-enters b owner variable name type o k free)
 
 -- What the file is behind this growth.
 pub function-grown :
-    (b : Bench) (owner : VastModule) (h : VastFunction) (variable : List ℕ) (n taken name : List ℕ) (type : VastDataType) (g : LogicRef) (inputs locals : List VariableRecord) (body : VastStatementBlock) (names : List (List ℕ)) →
+    (b : Bench) (owner : VastModule) (h : VastFunction) (variable : List ℕ) (n taken name : List ℕ) (type : VastDataType) (g : LogicRef) (inputs locals : List FunctionVariable) (body : VastStatementBlock) (names : List (List ℕ)) →
     h ≡ next_function b → g ≡ next_logic_ref b → inputs ≡ [] → locals ≡ [] → body ≡ next_block b → names ≡ n ∷ [] → taken ≡ n → name ≡ n → variable ≡ n →
     after_growth (InModule owner (FunctionEntry h) (Some taken)) (fresh_function variable type (record { name = name; result_type = type; result_name = g; inputs = inputs; locals = locals; body = body; names = names })) b
     ≡ with_named_member owner (FunctionEntry (next_function b)) n (with_function n type b)

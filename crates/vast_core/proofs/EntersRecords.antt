@@ -1,6 +1,6 @@
 -- What calls know that make a record, or that add to a file, a module's lists or a function's: what comes, and the entry
 -- that names it, are the file's.
-use Rattle.std.proofs.Common.{◌≡◌, ℕ, Bool, List, [], ◌∷◌, length, Option, Some, String, string_bytes, refl, length-append}
+use Rattle.std.proofs.Common.{◌≡◌, ℕ, Bool, List, [], ◌∷◌, length, Option, Some, refl, length-append}
 use Rattle.std.specs.Prelude.{IfSome}
 use Rattle.vast_literal.specs.Tree.{NameTree, Typed}
 use Rattle.vast_core.specs.declared.handle.LogicRef.{LogicRef}
@@ -12,8 +12,8 @@ use Rattle.vast_literal.specs.declared.kind.DataKind.{DataKind}
 use Rattle.vast_literal.specs.declared.kind.ModulePortDirection.{ModulePortDirection}
 use Rattle.vast_core.specs.declared.node.Assignment.{Assignment}
 use Rattle.vast_core.specs.Nodes.{Root, ExprRoot, with_root as with_node}
-use Rattle.vast_core.specs.Records.{PortRecord, ParameterPortRecord, DeclarationEntry, FileEntry, DefinitionRecord, ArtifactRecord, InstanceRecord}
-use Rattle.vast_core.specs.Nests.{VariableRecord}
+use Rattle.vast_core.specs.Records.{Port, ParameterPortRecord, DeclarationEntry, FileEntry, DefinitionRecord, ArtifactRecord, InstanceRecord}
+use Rattle.vast_core.specs.Nests.{FunctionVariable}
 use Rattle.vast_core.specs.Bench.{Bench, OwnsExpr, OwnsType, OwnsModule, OwnsFunction, NameIsFree, IsFreeInFunction, type_of}
 use Rattle.vast_core.specs.Growth.{next_port, next_logic_ref}
 use Rattle.vast_core.specs.Sound.{AssignmentSound, EntrySound, DefinitionSound, ArtifactSound, InstanceSound, GivesValues}
@@ -88,17 +88,17 @@ header-enters b owner p name type h k l m =
     let f : Fresh = fresh_name name type in
     record { fresh = name-comes b name type m; listing = (h, ParameterPortSound-kept b (with_fresh f b) (Grows-fresh b f) p (k, l)); placed = refl }
 
-abbrev fresh_port : List ℕ → VastDataType → PortRecord → Fresh
+abbrev fresh_port : List ℕ → VastDataType → Port → Fresh
 fresh_port name t p = record no_fresh { terms = name_term name (Some t) ∷ []; port = Some p }
 
-abbrev new_port : Bench → ModulePortDirection → DataKind → List ℕ → VastDataType → PortRecord
+abbrev new_port : Bench → ModulePortDirection → DataKind → List ℕ → VastDataType → Port
 new_port b direction kind name t = record { direction = direction; kind = kind; name = name; data_type = t; logic_ref = next_logic_ref b }
 
 pub port-enters :
     (b : Bench) (owner : VastModule) (direction : ModulePortDirection) (kind : DataKind) (taken : List ℕ) (name : List ℕ) (t : VastDataType) → OwnsModule b owner → OwnsType b t → NameIsFree b owner taken →
     GrowthSound b (InPorts owner (next_port b) taken) (fresh_port name t (new_port b direction kind taken t))
 port-enters b owner direction kind taken name t h k free =
-    let p : PortRecord = new_port b direction kind taken t in
+    let p : Port = new_port b direction kind taken t in
     let r : Root = ExprRoot (NameTree name (Typed (type_of b t))) in
     record {
       fresh = record {
@@ -126,7 +126,7 @@ port-enters-as b owner q g direction kind n own taken name t e f i j h k free = 
 -- Inputs and locals of a function.
 
 pub variable-enters :
-    (b : Bench) (owner : VastFunction) (local : Bool) (v : VariableRecord) (name : List ℕ) (t : VastDataType) → OwnsFunction b owner → IsVariableKind local v.kind → OwnsType b v.data_type → OwnsType b t → IsFreeInFunction b owner v.name →
+    (b : Bench) (owner : VastFunction) (local : Bool) (v : FunctionVariable) (name : List ℕ) (t : VastDataType) → OwnsFunction b owner → IsVariableKind local v.kind → OwnsType b v.data_type → OwnsType b t → IsFreeInFunction b owner v.name →
     GrowthSound b (InFunction owner local v) (fresh_name name (Some t))
 variable-enters b owner local v name t h kind k l free =
     let r : Root = ExprRoot (NameTree name (Typed (type_of b t))) in

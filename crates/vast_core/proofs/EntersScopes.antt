@@ -1,5 +1,5 @@
 -- What calls know that add a member to a scope: what comes, and the entry that names it, are the file's.
-use Rattle.std.proofs.Common.{◌≡◌, ℕ, ◌<◌, Bool, true, false, List, [], ◌++◌, length, Option, Some, All, String, string_bytes, refl, ap}
+use Rattle.std.proofs.Common.{◌≡◌, ℕ, ◌<◌, Bool, true, false, List, [], ◌++◌, length, Option, Some, All, refl, ap}
 use Rattle.std.specs.Prelude.{IfSome}
 use Rattle.vast_core.specs.declared.ast.scope.Scope.{Scope}
 use Rattle.vast_core.specs.declared.ast.scope.Scope.TheVariants.{Module as ScopeModule, Loop as ScopeLoop}
@@ -9,8 +9,7 @@ use Rattle.vast_core.specs.declared.handle.GenerateLoop.{GenerateLoop}
 use Rattle.vast_core.specs.declared.handle.VastDataType.{VastDataType}
 use Rattle.vast_core.specs.declared.handle.VastStatementBlock.{VastStatementBlock}
 use Rattle.vast_literal.specs.declared.kind.AlwaysKind.{AlwaysKind}
-use Rattle.vast_core.specs.Handles.{loop_index}
-use Rattle.vast_core.specs.Records.{MemberEntry, DeclarationEntry, AssignmentEntry, ParameterEntry, BlankEntry, CommentEntry, InlineEntry, MacroEntry, InstanceEntry, FunctionEntry, AlwaysEntry, ConditionalEntry, LoopEntry, FormEntry}
+use Rattle.vast_core.specs.Records.{Member, DeclarationEntry, AssignmentEntry, ParameterEntry, BlankEntry, CommentEntry, InlineEntry, MacroEntry, InstanceEntry, FunctionEntry, AlwaysEntry, ConditionalEntry, LoopEntry, ParameterForm}
 use Rattle.vast_core.specs.Nests.{LoopNestRecord, FunctionRecord}
 use Rattle.vast_core.specs.Bench.{Bench, OwnsExpr, OwnsType, OwnsBlock}
 use Rattle.vast_core.specs.DeclaredNames.{names_by_member}
@@ -35,12 +34,12 @@ use Rattle.vast_core.proofs.EntersMembers.{always-comes, next_always_owned, loop
 use Rattle.vast_core.proofs.Unattached.{fresh_over, over-comes, next_over_owned}
 
 -- A member without a name of its own.
-abbrev IsUnnamed : MemberEntry → Type 0
+abbrev IsUnnamed : Member → Type 0
 IsUnnamed (DeclarationEntry kind name data_type) = ⊥
 IsUnnamed (FunctionEntry f) = ⊥
 IsUnnamed _ = Unit {0}
 
-no-names : (fs : List FunctionRecord) (m : MemberEntry) → IsUnnamed m → names_by_member fs m ≡ []
+no-names : (fs : List FunctionRecord) (m : Member) → IsUnnamed m → names_by_member fs m ≡ []
 no-names fs (DeclarationEntry kind name data_type) h = absurd h
 no-names fs (AssignmentEntry a) h = refl
 no-names fs (ParameterEntry local form value) h = refl
@@ -54,7 +53,7 @@ no-names fs (AlwaysEntry a) h = refl
 no-names fs (ConditionalEntry c) h = refl
 no-names fs (LoopEntry l) h = refl
 
-own-kind : (m : MemberEntry) → IsUnnamed m → HasOwnKind m
+own-kind : (m : Member) → IsUnnamed m → HasOwnKind m
 own-kind (DeclarationEntry kind name data_type) h = absurd h
 own-kind (AssignmentEntry a) h = tt
 own-kind (ParameterEntry local form value) h = tt
@@ -69,26 +68,26 @@ own-kind (ConditionalEntry c) h = tt
 own-kind (LoopEntry l) h = tt
 
 -- What the member holds is newer than the loop that holds it.
-abbrev NewerIn : Scope → Bench → MemberEntry → Type 0
+abbrev NewerIn : Scope → Bench → Member → Type 0
 NewerIn (ScopeModule m) c entry = Unit {0}
-NewerIn (ScopeLoop l) c entry = MemberNewer c (loop_index l) entry
+NewerIn (ScopeLoop l) c entry = MemberNewer c l.id.index entry
 
 -- The entry of a scope is sound where the member is, and places what is made.
 scope-enters :
-    (b : Bench) (scope : Scope) (m : MemberEntry) (f : Fresh) → OwnsScope b scope → FreshSound b (with_fresh f b) f → MemberSound (with_fresh f b) m → IsUnnamed m → NewerIn scope (with_fresh f b) m →
+    (b : Bench) (scope : Scope) (m : Member) (f : Fresh) → OwnsScope b scope → FreshSound b (with_fresh f b) f → MemberSound (with_fresh f b) m → IsUnnamed m → NewerIn scope (with_fresh f b) m →
     held_by_member m ++ held_by_fresh f ≡ made b f ++ spare_used f.takes_spare b.spare → GrowthSound b (listing_in scope m) f
 scope-enters b (ScopeModule owner) m f o h k unnamed newer placed =
     record { fresh = h; listing = record { owner_there = o; member = k; kind = own-kind m unnamed; declares = no-names (with_fresh f b).functions m unnamed; free = tt }; placed = placed }
 scope-enters b (ScopeLoop owner) m f o h k unnamed newer placed = record { fresh = h; listing = (loop-place b owner o, (k, newer)); placed = placed }
 
 -- What is newer than each loop there was.
-newer-in : (b c : Bench) (scope : Scope) (m : MemberEntry) → OwnsScope b scope → ((i : ℕ) → i < length b.nests → MemberNewer c i m) → NewerIn scope c m
+newer-in : (b c : Bench) (scope : Scope) (m : Member) → OwnsScope b scope → ((i : ℕ) → i < length b.nests → MemberNewer c i m) → NewerIn scope c m
 newer-in b c (ScopeModule owner) m o h = tt
-newer-in b c (ScopeLoop owner) m o h = h (loop_index owner) (loop-place b owner o)
+newer-in b c (ScopeLoop owner) m o h = h owner.id.index (loop-place b owner o)
 
 -- Members that any number of scopes may hold.
 
-shared-unnamed : (m : MemberEntry) → IsShared m → IsUnnamed m
+shared-unnamed : (m : Member) → IsShared m → IsUnnamed m
 shared-unnamed (DeclarationEntry kind name data_type) h = h
 shared-unnamed (AssignmentEntry a) h = tt
 shared-unnamed (ParameterEntry local form value) h = tt
@@ -102,7 +101,7 @@ shared-unnamed (AlwaysEntry a) h = tt
 shared-unnamed (ConditionalEntry c) h = tt
 shared-unnamed (LoopEntry l) h = tt
 
-shared-newer : (c : Bench) (i : ℕ) (m : MemberEntry) → IsShared m → MemberNewer c i m
+shared-newer : (c : Bench) (i : ℕ) (m : Member) → IsShared m → MemberNewer c i m
 shared-newer c i (DeclarationEntry kind name data_type) h = h
 shared-newer c i (AssignmentEntry a) h = tt
 shared-newer c i (ParameterEntry local form value) h = tt
@@ -116,7 +115,7 @@ shared-newer c i (AlwaysEntry a) h = absurd h
 shared-newer c i (ConditionalEntry x) h = absurd h
 shared-newer c i (LoopEntry l) h = absurd h
 
-shared-alone : (m : MemberEntry) → IsShared m → held_by_member m ≡ []
+shared-alone : (m : Member) → IsShared m → held_by_member m ≡ []
 shared-alone (DeclarationEntry kind name data_type) h = absurd h
 shared-alone (AssignmentEntry a) h = refl
 shared-alone (ParameterEntry local form value) h = refl
@@ -130,7 +129,7 @@ shared-alone (AlwaysEntry a) h = absurd h
 shared-alone (ConditionalEntry c) h = absurd h
 shared-alone (LoopEntry l) h = absurd h
 
-pub shared-enters : (b : Bench) (scope : Scope) (m : MemberEntry) → OwnsScope b scope → MemberSound b m → IsShared m → GrowthSound b (listing_in scope m) no_fresh
+pub shared-enters : (b : Bench) (scope : Scope) (m : Member) → OwnsScope b scope → MemberSound b m → IsShared m → GrowthSound b (listing_in scope m) no_fresh
 shared-enters b scope m o k shared =
     scope-enters b scope m no_fresh o (nothing-comes b b) k (shared-unnamed m shared) (newer-in b b scope m o (λ i below. shared-newer b i m shared)) (rw (shared-alone m shared) refl)
 
@@ -144,7 +143,7 @@ assignment-enters b scope lhs rhs o h k =
     (next_continuous_owned b lhs rhs) tt (newer-in b (with_fresh f b) scope (AssignmentEntry (next_continuous b)) o (λ i below. tt)) refl
 
 pub parameter-enters :
-    (b : Bench) (scope : Scope) (local : Bool) (form : FormEntry) (value : Expr) (name : List ℕ) (type : Option VastDataType) → OwnsScope b scope → FormSound b form → OwnsExpr b value →
+    (b : Bench) (scope : Scope) (local : Bool) (form : ParameterForm) (value : Expr) (name : List ℕ) (type : Option VastDataType) → OwnsScope b scope → FormSound b form → OwnsExpr b value →
     IfSome type (OwnsType b) → GrowthSound b (listing_in scope (ParameterEntry local form value)) (fresh_name name type)
 parameter-enters b scope local form value name type o h k m =
     let f : Fresh = fresh_name name type in
@@ -192,19 +191,19 @@ loop-enters b scope variable name start end label o h k =
 
 -- The same, of nodes that are known to be these.
 pub loop-enters-as :
-    (b : Bench) (scope : Scope) (h : GenerateLoop) (variable : List ℕ) (g : LogicRef) (name : List ℕ) (start end : Expr) (label : Option (List ℕ)) (ms : List MemberEntry) →
+    (b : Bench) (scope : Scope) (h : GenerateLoop) (variable : List ℕ) (g : LogicRef) (name : List ℕ) (start end : Expr) (label : Option (List ℕ)) (ms : List Member) →
     h ≡ next_loop b → g ≡ next_logic_ref b → ms ≡ [] → OwnsScope b scope → OwnsExpr b start → OwnsExpr b end →
     GrowthSound b (listing_in scope (LoopEntry h)) (fresh_loop variable (LoopNestRecord (record { genvar = g; name = name; start = start; end = end; label = label; members = ms })))
 loop-enters-as b scope h variable g name start end label ms e f m o k l = rw (e, f, m) (loop-enters b scope variable name start end label o k l)
 
 -- What the file is behind these growths.
 
-pub scope-grown : (b : Bench) (scope : Scope) (m : MemberEntry) (f : Fresh) → after_growth (listing_in scope m) f b ≡ with_scope_member scope m (with_fresh f b)
+pub scope-grown : (b : Bench) (scope : Scope) (m : Member) (f : Fresh) → after_growth (listing_in scope m) f b ≡ with_scope_member scope m (with_fresh f b)
 scope-grown b (ScopeModule owner) m f = refl
 scope-grown b (ScopeLoop owner) m f = refl
 
 pub loop-grown :
-    (b : Bench) (scope : Scope) (h : GenerateLoop) (variable : List ℕ) (n : List ℕ) (g : LogicRef) (name : List ℕ) (start end : Expr) (label : Option (List ℕ)) (ms : List MemberEntry) →
+    (b : Bench) (scope : Scope) (h : GenerateLoop) (variable : List ℕ) (n : List ℕ) (g : LogicRef) (name : List ℕ) (start end : Expr) (label : Option (List ℕ)) (ms : List Member) →
     h ≡ next_loop b → g ≡ next_logic_ref b → ms ≡ [] → variable ≡ n → name ≡ n →
     with_scope_member scope (LoopEntry h) (with_fresh (fresh_loop variable (LoopNestRecord (record { genvar = g; name = name; start = start; end = end; label = label; members = ms }))) b)
     ≡ with_scope_member scope (LoopEntry (next_loop b)) (with_loop n start end label b)
@@ -212,7 +211,7 @@ loop-grown b scope h variable n g name start end label ms e f m v o = rw (e, f, 
 
 -- A name may come before the member or after it.
 pub parameter-grown :
-    (b : Bench) (scope : Scope) (local : Bool) (form : FormEntry) (value : Expr) (name : List ℕ) (type : Option VastDataType) → IsDeclaredBy b form (name, type) →
+    (b : Bench) (scope : Scope) (local : Bool) (form : ParameterForm) (value : Expr) (name : List ℕ) (type : Option VastDataType) → IsDeclaredBy b form (name, type) →
     with_scope_member scope (ParameterEntry local form value) (with_fresh (fresh_name name type) b) ≡ with_scope_parameter scope local form value b
 parameter-grown b (ScopeModule owner) local form value name type h = ap (λ t. with_expr t (with_scope_member (ScopeModule owner) (ParameterEntry local form value) b)) h.0
 parameter-grown b (ScopeLoop owner) local form value name type h = ap (λ t. with_expr t (with_scope_member (ScopeLoop owner) (ParameterEntry local form value) b)) h.0

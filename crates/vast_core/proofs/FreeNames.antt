@@ -2,7 +2,7 @@
 use Rattle.std.proofs.Common.{◌≡◌, ◌≢◌, ◌↔◌, ℕ, Bool, true, false, List, [], ◌∷◌, ◌++◌, All, sym, append_assoc}
 use Rattle.std.proofs.lemmas.List.{map-append, append-nil}
 use Rattle.vast_core.specs.Records.{IsFree, with_name}
-use Rattle.vast_core.specs.Nests.{VariableRecord, FunctionRecord, variable_names, declared_names}
+use Rattle.vast_core.specs.Nests.{FunctionVariable, FunctionRecord, variable_names, declared_names}
 use Rattle.vast_core.specs.Functions.{with_listed_variable}
 use Rattle.vast_core.specs.Sound.{AreDistinct}
 use Rattle.vast_core.proofs.Lists.{All-cons, All-head, All-tail}
@@ -48,24 +48,24 @@ gains-last name xs = rw append-nil at (gains-between name xs [])
 
 -- A variable more.
 
-names-more : (xs : List VariableRecord) (v : VariableRecord) → variable_names (xs ++ v ∷ []) ≡ variable_names xs ++ v.name ∷ []
-names-more xs v = map-append (λ (x : VariableRecord). x.name) xs (v ∷ [])
+names-more : (xs : List FunctionVariable) (v : FunctionVariable) → variable_names (xs ++ v ∷ []) ≡ variable_names xs ++ v.name ∷ []
+names-more xs v = map-append (λ (x : FunctionVariable). x.name) xs (v ∷ [])
 
-gains-input : (f : FunctionRecord) (v : VariableRecord) → Gains v.name (declared_names f) (declared_names (with_listed_variable false v f))
+gains-input : (f : FunctionRecord) (v : FunctionVariable) → Gains v.name (declared_names f) (declared_names (with_listed_variable false v f))
 gains-input f v =
     let xs : List (List ℕ) = variable_names f.inputs in
     let ys : List (List ℕ) = variable_names f.locals in
     let more : variable_names (f.inputs ++ v ∷ []) ++ ys ≡ xs ++ v.name ∷ ys = rw (names-more f.inputs v) (append_assoc xs (v.name ∷ []) ys) in
     rw more (gains-between v.name (f.name ∷ xs) ys)
 
-gains-local : (f : FunctionRecord) (v : VariableRecord) → Gains v.name (declared_names f) (declared_names (with_listed_variable true v f))
+gains-local : (f : FunctionRecord) (v : FunctionVariable) → Gains v.name (declared_names f) (declared_names (with_listed_variable true v f))
 gains-local f v =
     let xs : List (List ℕ) = variable_names f.inputs in
     let ys : List (List ℕ) = variable_names f.locals in
     let more : xs ++ variable_names (f.locals ++ v ∷ []) ≡ (xs ++ ys) ++ v.name ∷ [] = rw (names-more f.locals v) (sym (append_assoc xs ys (v.name ∷ []))) in
     rw more (gains-last v.name (f.name ∷ (xs ++ ys)))
 
-pub gains-variable : (local : Bool) (f : FunctionRecord) (v : VariableRecord) → Gains v.name (declared_names f) (declared_names (with_listed_variable local v f))
+pub gains-variable : (local : Bool) (f : FunctionRecord) (v : FunctionVariable) → Gains v.name (declared_names f) (declared_names (with_listed_variable local v f))
 gains-variable false f v = gains-input f v
 gains-variable true f v = gains-local f v
 

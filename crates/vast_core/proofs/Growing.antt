@@ -8,11 +8,10 @@ use Rattle.vast_core.specs.declared.node.Nest.{Nest}
 use Rattle.vast_core.specs.declared.node.Module.{Module}
 use Rattle.vast_core.specs.declared.node.Function.{Function}
 use Rattle.vast_core.specs.Raw.{Raw}
-use Rattle.vast_core.specs.Handles.{module_index, function_index}
 use Rattle.vast_core.specs.Nodes.{no_nodes}
 use Rattle.vast_core.specs.Internal.Nodes.{TermsSound}
-use Rattle.vast_core.specs.Records.{ParameterPortRecord, ModuleRecord, MemberEntry, InstanceRecord, changed_at, with_port, with_parameter_port, port_record, module_record, definition_record, artifact_record, instance_record, file_entry}
-use Rattle.vast_core.specs.Nests.{NestRecord, BlockRecord, ConditionalNestRecord, CaseNestRecord, LoopNestRecord, VariableRecord, FunctionRecord, nest_kind, is_block_kind, nest_record, function_record, always_record}
+use Rattle.vast_core.specs.Records.{ParameterPortRecord, ModuleRecord, Member, InstanceRecord, changed_at, with_port, with_parameter_port, module_record, definition_record, artifact_record, instance_record, file_entry}
+use Rattle.vast_core.specs.Nests.{NestRecord, BlockRecord, ConditionalNestRecord, CaseNestRecord, LoopNestRecord, FunctionVariable, FunctionRecord, nest_kind, is_block_kind, nest_record, function_record, always_record}
 use Rattle.vast_core.specs.Functions.{with_listed_variable}
 use Rattle.vast_core.specs.Bench.{Bench, OwnsBlock, OwnsPort, function_names}
 use Rattle.vast_core.specs.View.{bench}
@@ -140,9 +139,9 @@ EntersSound-kept b c g i (MemberEnters m) h = LoopMemberSound-kept b c g i m h
 -- The lists that gain an entry.
 
 modules-count : (l : Listing) (ms : List ModuleRecord) → length (listed_modules l ms) ≡ length ms
-modules-count (InHeader owner p) ms = length-changed_at (with_parameter_port p) ms (module_index owner)
-modules-count (InPorts owner port name) ms = length-changed_at (with_port port name) ms (module_index owner)
-modules-count (InModule owner entry name) ms = length-changed_at (with_listed entry name) ms (module_index owner)
+modules-count (InHeader owner p) ms = length-changed_at (with_parameter_port p) ms owner.id.index
+modules-count (InPorts owner port name) ms = length-changed_at (with_port port name) ms owner.id.index
+modules-count (InModule owner entry name) ms = length-changed_at (with_listed entry name) ms owner.id.index
 modules-count Nowhere ms = refl
 modules-count (InFile entry) ms = refl
 modules-count (InFunction f local v) ms = refl
@@ -177,15 +176,15 @@ Grows-listing b l =
 header-sound : (b : Bench) (p : ParameterPortRecord) → ParameterPortSound b p → (x : ModuleRecord) → ModuleSound b x → ModuleSound b (with_parameter_port p x)
 header-sound b p h x k = record { parameters = Each-push (ParameterPortSound b) x.parameters p k.parameters h; ports = k.ports; members = k.members }
 
-member-sound : (b : Bench) (entry : MemberEntry) (name : Option (List ℕ)) → MemberSound b entry → (x : ModuleRecord) → ModuleSound b x → ModuleSound b (with_listed entry name x)
+member-sound : (b : Bench) (entry : Member) (name : Option (List ℕ)) → MemberSound b entry → (x : ModuleRecord) → ModuleSound b x → ModuleSound b (with_listed entry name x)
 member-sound b entry None h x k = record { parameters = k.parameters; ports = k.ports; members = Each-push (MemberSound b) x.members entry k.members h }
 member-sound b entry (Some name) h x k = record { parameters = k.parameters; ports = k.ports; members = Each-push (MemberSound b) x.members entry k.members h }
 
 listing-modules : (b c d : Bench) (l : Listing) → Grows c d → ListingSound b c l → (ms : List ModuleRecord) → Each (ModuleSound d) ms → Each (ModuleSound d) (listed_modules l ms)
-listing-modules b c d (InHeader owner p) g h ms k = Each-changed_at (ModuleSound d) (with_parameter_port p) (header-sound d p (ParameterPortSound-kept c d g p h.1)) ms (module_index owner) k
+listing-modules b c d (InHeader owner p) g h ms k = Each-changed_at (ModuleSound d) (with_parameter_port p) (header-sound d p (ParameterPortSound-kept c d g p h.1)) ms owner.id.index k
 listing-modules b c d (InPorts owner port name) g h ms k =
-    Each-changed_at (ModuleSound d) (with_port port name) (λ x e. record { parameters = e.parameters; ports = Each-push (OwnsPort d) x.ports port e.ports (port_stays c d g port h.port_there); members = e.members }) ms (module_index owner) k
-listing-modules b c d (InModule owner entry name) g h ms k = Each-changed_at (ModuleSound d) (with_listed entry name) (member-sound d entry name (MemberSound-kept c d g entry h.member)) ms (module_index owner) k
+    Each-changed_at (ModuleSound d) (with_port port name) (λ x e. record { parameters = e.parameters; ports = Each-push (OwnsPort d) x.ports port e.ports (port_stays c d g port h.port_there); members = e.members }) ms owner.id.index k
+listing-modules b c d (InModule owner entry name) g h ms k = Each-changed_at (ModuleSound d) (with_listed entry name) (member-sound d entry name (MemberSound-kept c d g entry h.member)) ms owner.id.index k
 listing-modules b c d Nowhere g h ms k = k
 listing-modules b c d (InFile entry) g h ms k = k
 listing-modules b c d (InFunction f local v) g h ms k = k
@@ -202,10 +201,10 @@ listing-nests b c d (InModule owner entry name) g h ns k = k
 listing-nests b c d (InFunction f local v) g h ns k = k
 listing-nests b c d (AsSpare block) g h ns k = k
 
-distinct-listed : (b : Bench) (local : Bool) (v : VariableRecord) (x : FunctionRecord) → IsFree v.name x.names → FunctionSound b x → AreDistinct (declared_names (with_listed_variable local v x))
+distinct-listed : (b : Bench) (local : Bool) (v : FunctionVariable) (x : FunctionRecord) → IsFree v.name x.names → FunctionSound b x → AreDistinct (declared_names (with_listed_variable local v x))
 distinct-listed b local v x n k = (gains-variable local x v).distinct ((k.taken v.name).0 n) k.distinct
 
-variable-listed : (b : Bench) (local : Bool) (v : VariableRecord) → VariableSound b v → (x : FunctionRecord) → IsFree v.name x.names → FunctionSound b x → FunctionSound b (with_listed_variable local v x)
+variable-listed : (b : Bench) (local : Bool) (v : FunctionVariable) → VariableSound b v → (x : FunctionRecord) → IsFree v.name x.names → FunctionSound b x → FunctionSound b (with_listed_variable local v x)
 variable-listed b false v h x n k =
     record {
       result_type = k.result_type;
@@ -232,8 +231,8 @@ free-there name o x e h = rw e at h
 
 listing-functions : (b c d : Bench) (l : Listing) → Grows c d → ListingSound b c l → Each (FunctionSound d) c.functions → Each (FunctionSound d) (listed_functions l c.functions)
 listing-functions b c d (InFunction f local v) g h k =
-    Each-changed_there (FunctionSound d) (with_listed_variable local v) c.functions (function_index f)
-    (λ x e. variable-listed d local v (VariableSound-kept c d g v h.variable) x (free-there v.name (slice_get c.functions (function_index f)) x e h.free)) k
+    Each-changed_there (FunctionSound d) (with_listed_variable local v) c.functions f.id.index
+    (λ x e. variable-listed d local v (VariableSound-kept c d g v h.variable) x (free-there v.name (slice_get c.functions f.id.index) x e h.free)) k
 listing-functions b c d Nowhere g h k = k
 listing-functions b c d (InFile entry) g h k = k
 listing-functions b c d (InHeader owner p) g h k = k
@@ -334,9 +333,9 @@ swapped-nests (InFunction f local v) m k ns o block h = refl
 swapped-nests (AsSpare x) m k ns o block h = refl
 
 swapped-modules : (l : Listing) (n k : ℕ) (ms : List ModuleRecord) (o : Option ModuleRecord) → ListingThere (length ms) n k l → added (listed_modules l ms) o ≡ listed_modules l (added ms o)
-swapped-modules (InHeader owner p) n k ms o h = before-added (with_parameter_port p) ms o (module_index owner) h
-swapped-modules (InPorts owner port name) n k ms o h = before-added (with_port port name) ms o (module_index owner) h
-swapped-modules (InModule owner entry name) n k ms o h = before-added (with_listed entry name) ms o (module_index owner) h
+swapped-modules (InHeader owner p) n k ms o h = before-added (with_parameter_port p) ms o owner.id.index h
+swapped-modules (InPorts owner port name) n k ms o h = before-added (with_port port name) ms o owner.id.index h
+swapped-modules (InModule owner entry name) n k ms o h = before-added (with_listed entry name) ms o owner.id.index h
 swapped-modules Nowhere n k ms o h = refl
 swapped-modules (InFile entry) n k ms o h = refl
 swapped-modules (InFunction f local v) n k ms o h = refl
@@ -344,7 +343,7 @@ swapped-modules (InNest place entry) n k ms o h = refl
 swapped-modules (AsSpare x) n k ms o h = refl
 
 swapped-functions : (l : Listing) (m n : ℕ) (fs : List FunctionRecord) (o : Option FunctionRecord) → ListingThere m n (length fs) l → added (listed_functions l fs) o ≡ listed_functions l (added fs o)
-swapped-functions (InFunction f local v) m n fs o h = before-added (with_listed_variable local v) fs o (function_index f) h
+swapped-functions (InFunction f local v) m n fs o h = before-added (with_listed_variable local v) fs o f.id.index h
 swapped-functions Nowhere m n fs o h = refl
 swapped-functions (InFile entry) m n fs o h = refl
 swapped-functions (InHeader owner p) m n fs o h = refl
@@ -361,7 +360,7 @@ pub record Admitted (b z : Raw) (l : Listing) (f : Fresh) : Type 0 where
   pub terms : z.terms ≡ b.terms ++ f.terms
   pub assignments : z.assignments ≡ added b.assignments f.assignment
   pub nests : map nest_record z.nests ≡ with_empty_block f.block (added (listed_nests l (map nest_record b.nests)) f.container)
-  pub ports : map port_record z.ports ≡ added (map port_record b.ports) f.port
+  pub ports : z.ports ≡ added b.ports f.port
   pub modules : map module_record z.modules ≡ added (listed_modules l (map module_record b.modules)) f.fresh_module
   pub functions : map function_record z.functions ≡ added (listed_functions l (map function_record b.functions)) f.function
   pub definitions : map definition_record z.definitions ≡ added (map definition_record b.definitions) f.definition
@@ -445,7 +444,7 @@ pub admitted :
     ListingThere (length b.modules) (length b.nests) (length b.functions) l → z.file_type ≡ b.file_type → z.id ≡ b.id →
     z.terms ≡ b.terms ++ terms_of y.terms → z.assignments ≡ added b.assignments (fresh_node y.node).assignment →
     map nest_record n1 ≡ listed_nests l (map nest_record b.nests) → map nest_record n2 ≡ added (map nest_record n1) (fresh_node y.node).container → map nest_record z.nests ≡ with_empty_block y.block (map nest_record n2) →
-    map port_record z.ports ≡ added (map port_record b.ports) (fresh_node y.node).port →
+    z.ports ≡ added b.ports (fresh_node y.node).port →
     map module_record m1 ≡ listed_modules l (map module_record b.modules) → map module_record z.modules ≡ added (map module_record m1) (fresh_node y.node).fresh_module →
     map function_record f1 ≡ listed_functions l (map function_record b.functions) → map function_record z.functions ≡ added (map function_record f1) (fresh_node y.node).function →
     map definition_record z.definitions ≡ added (map definition_record b.definitions) (fresh_node y.node).definition →

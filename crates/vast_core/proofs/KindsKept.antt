@@ -2,9 +2,8 @@
 use Rattle.std.proofs.Common.{ℕ, Bool, true, false, List, Option, Some, None}
 use Rattle.std.specs.Prelude.{IfSome}
 use Rattle.vast_core.specs.declared.handle.VastModule.{VastModule}
-use Rattle.vast_core.specs.Handles.{module_index, function_index}
-use Rattle.vast_core.specs.Records.{ModuleRecord, MemberEntry, InstanceRecord, changed_at, with_port, with_parameter_port}
-use Rattle.vast_core.specs.Nests.{FunctionRecord, VariableRecord}
+use Rattle.vast_core.specs.Records.{ModuleRecord, Member, InstanceRecord, changed_at, with_port, with_parameter_port}
+use Rattle.vast_core.specs.Nests.{FunctionRecord, FunctionVariable}
 use Rattle.vast_core.specs.Bench.{Bench}
 use Rattle.vast_core.specs.Functions.{with_listed_variable}
 use Rattle.vast_core.specs.Hoisting.{with_members_hoisted, with_hoisted}
@@ -42,18 +41,18 @@ KindsSound-fresh b f h s =
 
 -- A new entry.
 
-listed-kinds : (entry : MemberEntry) (name : Option (List ℕ)) → HasOwnKind entry → (m : ModuleRecord) → DeclaresOwnKinds m → DeclaresOwnKinds (with_listed entry name m)
+listed-kinds : (entry : Member) (name : Option (List ℕ)) → HasOwnKind entry → (m : ModuleRecord) → DeclaresOwnKinds m → DeclaresOwnKinds (with_listed entry name m)
 listed-kinds entry None k m h = Each-push HasOwnKind m.members entry h k
 listed-kinds entry (Some name) k m h = Each-push HasOwnKind m.members entry h k
 
-variable-kinds : (local : Bool) (v : VariableRecord) → IsVariableKind local v.kind → (f : FunctionRecord) → HasLocalKinds f → HasLocalKinds (with_listed_variable local v f)
+variable-kinds : (local : Bool) (v : FunctionVariable) → IsVariableKind local v.kind → (f : FunctionRecord) → HasLocalKinds f → HasLocalKinds (with_listed_variable local v f)
 variable-kinds false v k f h = h
 variable-kinds true v k f h = Each-push HasLocalKind f.locals v h k
 
 modules-listed :
     (b : Bench) (owner : VastModule) (change : ModuleRecord → ModuleRecord) → ((m : ModuleRecord) → DeclaresOwnKinds m → DeclaresOwnKinds (change m)) → Each DeclaresOwnKinds b.modules →
-    Each DeclaresOwnKinds (changed_at (module_index owner) change b.modules)
-modules-listed b owner change k h = Each-changed_at DeclaresOwnKinds change k b.modules (module_index owner) h
+    Each DeclaresOwnKinds (changed_at owner.id.index change b.modules)
+modules-listed b owner change k h = Each-changed_at DeclaresOwnKinds change k b.modules owner.id.index h
 
 pub KindsSound-listing :
     (b c : Bench) (l : Listing) → ListingSound b c l → KindsSound c.modules c.functions c.instances →
@@ -64,7 +63,7 @@ KindsSound-listing b c (InHeader owner p) k s = record { declarations = modules-
 KindsSound-listing b c (InPorts owner port name) k s = record { declarations = modules-listed c owner (with_port port name) (λ m h. h) s.declarations; locals = s.locals; values = s.values }
 KindsSound-listing b c (InModule owner entry name) k s = record { declarations = modules-listed c owner (with_listed entry name) (listed-kinds entry name k.kind) s.declarations; locals = s.locals; values = s.values }
 KindsSound-listing b c (InFunction f local v) k s =
-    record { declarations = s.declarations; locals = Each-changed_at HasLocalKinds (with_listed_variable local v) (variable-kinds local v k.kind) c.functions (function_index f) s.locals; values = s.values }
+    record { declarations = s.declarations; locals = Each-changed_at HasLocalKinds (with_listed_variable local v) (variable-kinds local v k.kind) c.functions f.id.index s.locals; values = s.values }
 KindsSound-listing b c (InNest place entry) k s = s
 KindsSound-listing b c (AsSpare block) k s = s
 

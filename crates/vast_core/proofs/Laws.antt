@@ -11,7 +11,6 @@ use Rattle.vast_core.specs.declared.handle.LogicRef.{LogicRef}
 use Rattle.vast_core.specs.declared.handle.ParameterRef.{ParameterRef}
 use Rattle.vast_core.specs.declared.handle.LocalparamRef.{LocalparamRef}
 use Rattle.vast_core.specs.declared.handle.VastDataType.{VastDataType}
-use Rattle.vast_core.specs.Handles.{logic_ref_to_expr, indexable_expr_to_expr, slice_to_expr, index_to_expr, parameter_ref_to_expr, localparam_ref_to_expr, macro_ref_to_expr, logic_ref_to_indexable_expr, index_to_indexable_expr, parameter_ref_to_indexable_expr, expr_to_indexable_expr}
 use Rattle.vast_core.specs.Nodes.{Root, ExprRoot, TypeRoot, IsOwned, is_name, is_index, is_slice, is_macro, expr_in, type_in}
 use Rattle.vast_core.specs.Bench.{Bench, OwnsExpr, OwnsIndexable, OwnsType, OwnsIndex, OwnsSlice, OwnsMacroRef, OwnsLogicRef, OwnsParameterRef, OwnsLocalparamRef, has_root, tree_of, trees_of, type_of}
 use Rattle.vast_core.specs.Growth.{with_root, with_expr, with_type, next_expr, next_type}
@@ -61,37 +60,37 @@ pub ruleset older_terms = (old_owned, old_tree, old_type_owned, old_type, all_ol
 as_expr : (shape : ExprTree → Bool) (b : Bench) (id : Id) → IsOwned b.nodes.id id (has_root shape b id.index) → OwnsExpr b (record { id = id })
 as_expr shape b id h = record { of_file = h.of_file; of_kind = some_expr shape (slice_get b.nodes.roots id.index) h.of_kind }
 
-pub indexable_is_expr : (b : Bench) (r : IndexableExpr) → OwnsIndexable b r → OwnsExpr b (indexable_expr_to_expr r)
+pub indexable_is_expr : (b : Bench) (r : IndexableExpr) → OwnsIndexable b r → OwnsExpr b (record { id = r.id })
 indexable_is_expr b r h = h
 
-pub expr_is_indexable : (b : Bench) (e : Expr) → OwnsExpr b e → OwnsIndexable b (expr_to_indexable_expr e)
+pub expr_is_indexable : (b : Bench) (e : Expr) → OwnsExpr b e → OwnsIndexable b (record { id = e.id })
 expr_is_indexable b e h = h
 
-pub index_is_expr : (b : Bench) (r : Index) → OwnsIndex b r → OwnsExpr b (index_to_expr r)
+pub index_is_expr : (b : Bench) (r : Index) → OwnsIndex b r → OwnsExpr b (record { id = r.id })
 index_is_expr b r h = as_expr is_index b r.id h
 
-pub slice_is_expr : (b : Bench) (r : Slice) → OwnsSlice b r → OwnsExpr b (slice_to_expr r)
+pub slice_is_expr : (b : Bench) (r : Slice) → OwnsSlice b r → OwnsExpr b (record { id = r.id })
 slice_is_expr b r h = as_expr is_slice b r.id h
 
-pub macro_ref_is_expr : (b : Bench) (r : MacroRef) → OwnsMacroRef b r → OwnsExpr b (macro_ref_to_expr r)
+pub macro_ref_is_expr : (b : Bench) (r : MacroRef) → OwnsMacroRef b r → OwnsExpr b (record { id = r.id })
 macro_ref_is_expr b r h = as_expr is_macro b r.id h
 
-pub logic_ref_is_expr : (b : Bench) (r : LogicRef) → OwnsLogicRef b r → OwnsExpr b (logic_ref_to_expr r)
+pub logic_ref_is_expr : (b : Bench) (r : LogicRef) → OwnsLogicRef b r → OwnsExpr b (record { id = r.id })
 logic_ref_is_expr b r h = as_expr is_name b r.id h
 
-pub parameter_ref_is_expr : (b : Bench) (r : ParameterRef) → OwnsParameterRef b r → OwnsExpr b (parameter_ref_to_expr r)
+pub parameter_ref_is_expr : (b : Bench) (r : ParameterRef) → OwnsParameterRef b r → OwnsExpr b (record { id = r.id })
 parameter_ref_is_expr b r h = as_expr is_name b r.id h
 
-pub localparam_ref_is_expr : (b : Bench) (r : LocalparamRef) → OwnsLocalparamRef b r → OwnsExpr b (localparam_ref_to_expr r)
+pub localparam_ref_is_expr : (b : Bench) (r : LocalparamRef) → OwnsLocalparamRef b r → OwnsExpr b (record { id = r.id })
 localparam_ref_is_expr b r h = as_expr is_name b r.id h
 
-pub index_is_indexable : (b : Bench) (r : Index) → OwnsIndex b r → OwnsIndexable b (index_to_indexable_expr r)
+pub index_is_indexable : (b : Bench) (r : Index) → OwnsIndex b r → OwnsIndexable b (record { id = r.id })
 index_is_indexable b r h = as_expr is_index b r.id h
 
-pub logic_ref_is_indexable : (b : Bench) (r : LogicRef) → OwnsLogicRef b r → OwnsIndexable b (logic_ref_to_indexable_expr r)
+pub logic_ref_is_indexable : (b : Bench) (r : LogicRef) → OwnsLogicRef b r → OwnsIndexable b (record { id = r.id })
 logic_ref_is_indexable b r h = as_expr is_name b r.id h
 
-pub parameter_ref_is_indexable : (b : Bench) (r : ParameterRef) → OwnsParameterRef b r → OwnsIndexable b (parameter_ref_to_indexable_expr r)
+pub parameter_ref_is_indexable : (b : Bench) (r : ParameterRef) → OwnsParameterRef b r → OwnsIndexable b (record { id = r.id })
 parameter_ref_is_indexable b r h = as_expr is_name b r.id h
 
 pub ruleset conversions = (indexable_is_expr, expr_is_indexable, index_is_expr, slice_is_expr, macro_ref_is_expr, logic_ref_is_expr, parameter_ref_is_expr, localparam_ref_is_expr, index_is_indexable, logic_ref_is_indexable, parameter_ref_is_indexable)

@@ -9,9 +9,8 @@ use Rattle.std.specs.Str.{bytes_eq}
 use Rattle.std.proofs.lemmas.Slice.Eq.{bytes_eq-Decides}
 use Rattle.vast_core.specs.declared.handle.ModulePort.{ModulePort}
 use Rattle.vast_core.specs.declared.handle.VastModule.{VastModule}
-use Rattle.vast_core.specs.Handles.{module_index, function_index, port_index}
-use Rattle.vast_core.specs.Records.{PortRecord, ModuleRecord, MemberEntry, DeclarationEntry, AssignmentEntry, ParameterEntry, BlankEntry, CommentEntry, InlineEntry, MacroEntry, InstanceEntry, FunctionEntry, AlwaysEntry, ConditionalEntry, LoopEntry, IsFree, with_name, changed_at, with_port, with_named_member, with_parameter_port}
-use Rattle.vast_core.specs.Nests.{VariableRecord, FunctionRecord}
+use Rattle.vast_core.specs.Records.{Port, ModuleRecord, Member, DeclarationEntry, AssignmentEntry, ParameterEntry, BlankEntry, CommentEntry, InlineEntry, MacroEntry, InstanceEntry, FunctionEntry, AlwaysEntry, ConditionalEntry, LoopEntry, IsFree, with_name, changed_at, with_port, with_named_member, with_parameter_port}
+use Rattle.vast_core.specs.Nests.{FunctionVariable, FunctionRecord}
 use Rattle.vast_core.specs.Bench.{Bench, OwnsPort, names_of}
 use Rattle.vast_core.specs.Functions.{with_listed_variable}
 use Rattle.vast_core.specs.Hoisting.{with_members_hoisted, with_hoisted}
@@ -66,7 +65,7 @@ once-with n new names free h =
 
 -- A module that declares a name more, and takes it.
 gained :
-    (ports : List PortRecord) (functions : List FunctionRecord) (x y : ModuleRecord) (name : List ℕ) →
+    (ports : List Port) (functions : List FunctionRecord) (x y : ModuleRecord) (name : List ℕ) →
     ((n : List ℕ) → times n (names_declared ports functions y) ≡ times n (names_declared ports functions x) + times n (name ∷ [])) → y.names ≡ with_name name x.names →
     IsFree name x.names → NamesSound ports functions x → NamesSound ports functions y
 gained ports functions x y name more is free h =
@@ -83,14 +82,14 @@ gained ports functions x y name more is free h =
 -- Other records in which the module's ports and functions have the same names.
 
 ports-read :
-    (b : Bench) (more : List PortRecord) → ((i : ℕ) → i < length b.ports → slice_get more i ≡ slice_get b.ports i) → (ps : List ModulePort) → Each (OwnsPort b) ps →
+    (b : Bench) (more : List Port) → ((i : ℕ) → i < length b.ports → slice_get more i ≡ slice_get b.ports i) → (ps : List ModulePort) → Each (OwnsPort b) ps →
     flat_map (names_by_port more) ps ≡ flat_map (names_by_port b.ports) ps
 ports-read b more same [] h = refl
 ports-read b more same (p ∷ ps) h =
-    rw (same (port_index p) (below-of (port_index p) (length b.ports) h.0.of_kind)) (ap (λ r. name_of_port (slice_get b.ports (port_index p)) ∷ r) (ports-read b more same ps h.1))
+    rw (same p.id.index (below-of p.id.index (length b.ports) h.0.of_kind)) (ap (λ r. name_of_port (slice_get b.ports p.id.index) ∷ r) (ports-read b more same ps h.1))
 
 members-read :
-    (b : Bench) (more : List FunctionRecord) → ((i : ℕ) → i < length b.functions → name_of_function (slice_get more i) ≡ name_of_function (slice_get b.functions i)) → (ms : List MemberEntry) →
+    (b : Bench) (more : List FunctionRecord) → ((i : ℕ) → i < length b.functions → name_of_function (slice_get more i) ≡ name_of_function (slice_get b.functions i)) → (ms : List Member) →
     Each (MemberSound b) ms → flat_map (names_by_member more) ms ≡ flat_map (names_by_member b.functions) ms
 members-read b more same [] h = refl
 members-read b more same (DeclarationEntry kind name data_type ∷ ms) h = ap (λ r. name ∷ r) (members-read b more same ms h.1)
@@ -102,7 +101,7 @@ members-read b more same (InlineEntry a ∷ ms) h = members-read b more same ms 
 members-read b more same (MacroEntry a ∷ ms) h = members-read b more same ms h.1
 members-read b more same (InstanceEntry i ∷ ms) h = members-read b more same ms h.1
 members-read b more same (FunctionEntry f ∷ ms) h =
-    rw (same (function_index f) (below-of (function_index f) (length b.functions) h.0.of_kind)) (ap (λ r. name_of_function (slice_get b.functions (function_index f)) ∷ r) (members-read b more same ms h.1))
+    rw (same f.id.index (below-of f.id.index (length b.functions) h.0.of_kind)) (ap (λ r. name_of_function (slice_get b.functions f.id.index) ∷ r) (members-read b more same ms h.1))
 members-read b more same (AlwaysEntry a ∷ ms) h = members-read b more same ms h.1
 members-read b more same (ConditionalEntry c ∷ ms) h = members-read b more same ms h.1
 members-read b more same (LoopEntry l ∷ ms) h = members-read b more same ms h.1
@@ -156,7 +155,7 @@ port-listed b port name e x free h =
     refl free h
 
 member-more :
-    (b : Bench) (entry : MemberEntry) (names : List (List ℕ)) (x : ModuleRecord) (n : List ℕ) → names_by_member b.functions entry ≡ names →
+    (b : Bench) (entry : Member) (names : List (List ℕ)) (x : ModuleRecord) (n : List ℕ) → names_by_member b.functions entry ≡ names →
     times n (flat_map (names_by_port b.ports) x.ports ++ flat_map (names_by_member b.functions) (x.members ++ entry ∷ [])) ≡ times n (names_declared b.ports b.functions x) + times n names
 member-more b entry names x n e =
     let t = bytes_eq n in
@@ -168,7 +167,7 @@ member-more b entry names x n e =
     omega (arith, push, old, new, is)
 
 member-listed :
-    (b : Bench) (entry : MemberEntry) (name : Option (List ℕ)) → names_by_member b.functions entry ≡ listed_name name → (x : ModuleRecord) → IfSome name (λ n. IsFree n x.names) →
+    (b : Bench) (entry : Member) (name : Option (List ℕ)) → names_by_member b.functions entry ≡ listed_name name → (x : ModuleRecord) → IfSome name (λ n. IsFree n x.names) →
     NamesSound b.ports b.functions x → NamesSound b.ports b.functions (with_listed entry name x)
 member-listed b entry None e x free h = record { taken = λ n. let more = member-more b entry [] x n e in let old = h.taken n in omega (arith, more, old); once = h.once }
 member-listed b entry (Some name) e x free h = gained b.ports b.functions x (with_named_member entry name x) name (λ n. member-more b entry (name ∷ []) x n e) refl free h
@@ -177,7 +176,7 @@ maybe-free : (name : Option (List ℕ)) (o : Option ModuleRecord) (x : ModuleRec
 maybe-free None o x e h = tt
 maybe-free (Some name) o x e h = free-there name o x e h
 
-listed-name : (local : Bool) (v : VariableRecord) (r : FunctionRecord) → (with_listed_variable local v r).name ≡ r.name
+listed-name : (local : Bool) (v : FunctionVariable) (r : FunctionRecord) → (with_listed_variable local v r).name ≡ r.name
 listed-name false v r = refl
 listed-name true v r = refl
 
@@ -194,22 +193,22 @@ pub names-listing : (b c : Bench) (l : Listing) → RecordsSound c → ListingSo
 names-listing b c Nowhere s k h = h
 names-listing b c (InFile entry) s k h = h
 names-listing b c (InHeader owner p) s k h =
-    Each-changed_at (NamesSound c.ports c.functions) (with_parameter_port p) (λ x e. record { taken = e.taken; once = e.once }) c.modules (module_index owner) h
+    Each-changed_at (NamesSound c.ports c.functions) (with_parameter_port p) (λ x e. record { taken = e.taken; once = e.once }) c.modules owner.id.index h
 names-listing b c (InPorts owner port name) s k h =
-    Each-changed_there (NamesSound c.ports c.functions) (with_port port name) c.modules (module_index owner)
-    (λ x at e. port-listed c port name k.declares x (free-there name (slice_get c.modules (module_index owner)) x at k.free) e) h
+    Each-changed_there (NamesSound c.ports c.functions) (with_port port name) c.modules owner.id.index
+    (λ x at e. port-listed c port name k.declares x (free-there name (slice_get c.modules owner.id.index) x at k.free) e) h
 names-listing b c (InModule owner entry name) s k h =
-    Each-changed_there (NamesSound c.ports c.functions) (with_listed entry name) c.modules (module_index owner)
-    (λ x at e. member-listed c entry name k.declares x (maybe-free name (slice_get c.modules (module_index owner)) x at k.free) e) h
+    Each-changed_there (NamesSound c.ports c.functions) (with_listed entry name) c.modules owner.id.index
+    (λ x at e. member-listed c entry name k.declares x (maybe-free name (slice_get c.modules owner.id.index) x at k.free) e) h
 names-listing b c (InFunction f local v) s k h =
     let d : Bench = with_listing (InFunction f local v) c in
-    all-kept c d (record { ports = λ i below. refl; functions = λ i below. name-changed (with_listed_variable local v) (listed-name local v) c.functions (function_index f) i }) c.modules s.modules h
+    all-kept c d (record { ports = λ i below. refl; functions = λ i below. name-changed (with_listed_variable local v) (listed-name local v) c.functions f.id.index i }) c.modules s.modules h
 names-listing b c (InNest place entry) s k h = h
 names-listing b c (AsSpare block) s k h = h
 
 -- Hoisting.
 
-hoisted-names : (ports : List PortRecord) (functions : List FunctionRecord) (start : ℕ) (x : ModuleRecord) → NamesSound ports functions x → NamesSound ports functions (with_members_hoisted start x)
+hoisted-names : (ports : List Port) (functions : List FunctionRecord) (start : ℕ) (x : ModuleRecord) → NamesSound ports functions x → NamesSound ports functions (with_members_hoisted start x)
 hoisted-names ports functions start x h =
     record {
       taken = λ n.
@@ -225,7 +224,7 @@ hoisted-names ports functions start x h =
     }
 
 pub names-hoisted : (b : Bench) (owner : VastModule) (start : ℕ) → NamesAreSound b → NamesAreSound (with_hoisted owner start b)
-names-hoisted b owner start h = Each-changed_at (NamesSound b.ports b.functions) (with_members_hoisted start) (hoisted-names b.ports b.functions start) b.modules (module_index owner) h
+names-hoisted b owner start h = Each-changed_at (NamesSound b.ports b.functions) (with_members_hoisted start) (hoisted-names b.ports b.functions start) b.modules owner.id.index h
 
 true-is-not-false : true ≡ false → ⊥
 true-is-not-false h = cc

@@ -4,8 +4,7 @@ use Rattle.std.specs.Prelude.{IfSome}
 use Rattle.vast_core.specs.declared.handle.VastStatementBlock.{VastStatementBlock}
 use Rattle.vast_core.specs.declared.node.ElseIf.{ElseIf}
 use Rattle.vast_core.specs.declared.node.CaseArm.{CaseArm}
-use Rattle.vast_core.specs.Handles.{block_index, conditional_index, case_index, loop_index, always_index}
-use Rattle.vast_core.specs.Records.{MemberEntry, DeclarationEntry, AssignmentEntry, ParameterEntry, BlankEntry, CommentEntry, InlineEntry, MacroEntry, InstanceEntry, FunctionEntry, AlwaysEntry, ConditionalEntry, LoopEntry, changed_at}
+use Rattle.vast_core.specs.Records.{Member, DeclarationEntry, AssignmentEntry, ParameterEntry, BlankEntry, CommentEntry, InlineEntry, MacroEntry, InstanceEntry, FunctionEntry, AlwaysEntry, ConditionalEntry, LoopEntry, changed_at}
 use Rattle.vast_core.specs.Nests.{StatementEntry, AssignStatement, ContinuousStatement, ConditionalStatement, CasesStatement, BlankStatement, CommentStatement, InlineStatement, NestRecord, BlockRecord, ConditionalNestRecord, CaseNestRecord, LoopNestRecord, AlwaysRecord, NestKind, NoKind, nest_kind}
 use Rattle.vast_core.specs.Bench.{Bench, tree_of, maybe_tree_of, trees_of}
 use Rattle.vast_core.specs.Containers.{NestedEntry, StatementEnters, ElseIfEnters, ElseEnters, CaseArmEnters, MemberEnters, with_entry}
@@ -27,8 +26,8 @@ pub record Agree (i : ℕ) (f g : ℕ → Family) : Type 0 where
 statement-same : (b : Bench) (f g : ℕ → Family) (i : ℕ) → Agree i f g → (s : StatementEntry) → StatementSound b i s → statement_in b f s ≡ statement_in b g s
 statement-same b f g i q (AssignStatement s) h = refl
 statement-same b f g i q (ContinuousStatement s) h = refl
-statement-same b f g i q (ConditionalStatement c) h = ap conditional_statement (q.at (conditional_index c) h.1)
-statement-same b f g i q (CasesStatement c) h = ap case_statement (q.at (case_index c) h.1)
+statement-same b f g i q (ConditionalStatement c) h = ap conditional_statement (q.at c.id.index h.1)
+statement-same b f g i q (CasesStatement c) h = ap case_statement (q.at c.id.index h.1)
 statement-same b f g i q BlankStatement h = refl
 statement-same b f g i q (CommentStatement text) h = refl
 statement-same b f g i q (InlineStatement text) h = refl
@@ -41,27 +40,27 @@ statements-same b f g i q (s ∷ ss) h =
 
 otherwise-same : (b : Bench) (f g : ℕ → Family) (i : ℕ) → Agree i f g → (o : Option VastStatementBlock) → IfSome o (HoldsBlock b i) → otherwise_in f o ≡ otherwise_in g o
 otherwise-same b f g i q None h = refl
-otherwise-same b f g i q (Some c) h = ap (λ x. Else (block_in x)) (q.at (block_index c) h.1)
+otherwise-same b f g i q (Some c) h = ap (λ x. Else (block_in x)) (q.at c.id.index h.1)
 
 alternates-same :
     (b : Bench) (f g : ℕ → Family) (i : ℕ) → Agree i f g → (arms : List ElseIf) (o : Option VastStatementBlock) → Each (ElseIfSound b i) arms → IfSome o (HoldsBlock b i) →
     alternates_in b f arms o ≡ alternates_in b g arms o
 alternates-same b f g i q [] o h k = otherwise-same b f g i q o k
 alternates-same b f g i q (a ∷ arms) o h k =
-    ap (λ x. ElseIfTree (tree_of b a.condition) (block_in x) (alternates_in b f arms o)) (q.at (block_index a.block) h.0.1.1)
-    ∙ ap (λ x. ElseIfTree (tree_of b a.condition) (block_in (g (block_index a.block))) x) (alternates-same b f g i q arms o h.1 k)
+    ap (λ x. ElseIfTree (tree_of b a.condition) (block_in x) (alternates_in b f arms o)) (q.at a.block.id.index h.0.1.1)
+    ∙ ap (λ x. ElseIfTree (tree_of b a.condition) (block_in (g a.block.id.index)) x) (alternates-same b f g i q arms o h.1 k)
 
 arms-same : (b : Bench) (f g : ℕ → Family) (i : ℕ) → Agree i f g → (arms : List CaseArm) → Each (CaseArmSound b i) arms → arms_in b f arms ≡ arms_in b g arms
 arms-same b f g i q [] h = refl
 arms-same b f g i q (a ∷ arms) h =
-    ap (λ x. CaseArmTree (maybe_tree_of b a.label) (block_in x) (arms_in b f arms)) (q.at (block_index a.block) h.0.1.1)
-    ∙ ap (λ x. CaseArmTree (maybe_tree_of b a.label) (block_in (g (block_index a.block))) x) (arms-same b f g i q arms h.1)
+    ap (λ x. CaseArmTree (maybe_tree_of b a.label) (block_in x) (arms_in b f arms)) (q.at a.block.id.index h.0.1.1)
+    ∙ ap (λ x. CaseArmTree (maybe_tree_of b a.label) (block_in (g a.block.id.index)) x) (arms-same b f g i q arms h.1)
 
 always-same : (b : Bench) (f g : ℕ → Family) (i : ℕ) → Agree i f g → (o : Option AlwaysRecord) → AlwaysNewer i o → always_in b f o ≡ always_in b g o
 always-same b f g i q None h = refl
-always-same b f g i q (Some a) h = ap (λ x. AlwaysMember a.kind (trees_of b a.events) (block_in x)) (q.at (block_index a.block) h)
+always-same b f g i q (Some a) h = ap (λ x. AlwaysMember a.kind (trees_of b a.events) (block_in x)) (q.at a.block.id.index h)
 
-member-same : (b : Bench) (f g : ℕ → Family) (i : ℕ) → Agree i f g → (m : MemberEntry) → MemberNewer b i m → member_in b f m ≡ member_in b g m
+member-same : (b : Bench) (f g : ℕ → Family) (i : ℕ) → Agree i f g → (m : Member) → MemberNewer b i m → member_in b f m ≡ member_in b g m
 member-same b f g i q (DeclarationEntry kind name t) h = absurd h
 member-same b f g i q (AssignmentEntry a) h = refl
 member-same b f g i q (ParameterEntry local form value) h = refl
@@ -71,11 +70,11 @@ member-same b f g i q (InlineEntry a) h = refl
 member-same b f g i q (MacroEntry a) h = refl
 member-same b f g i q (InstanceEntry x) h = refl
 member-same b f g i q (FunctionEntry x) h = absurd h
-member-same b f g i q (AlwaysEntry a) h = always-same b f g i q (slice_get b.always_blocks (always_index a)) h
-member-same b f g i q (ConditionalEntry c) h = ap conditional_member (q.at (conditional_index c) h)
-member-same b f g i q (LoopEntry l) h = ap loop_member (q.at (loop_index l) h)
+member-same b f g i q (AlwaysEntry a) h = always-same b f g i q (slice_get b.always_blocks a.id.index) h
+member-same b f g i q (ConditionalEntry c) h = ap conditional_member (q.at c.id.index h)
+member-same b f g i q (LoopEntry l) h = ap loop_member (q.at l.id.index h)
 
-members-same : (b : Bench) (f g : ℕ → Family) (i : ℕ) → Agree i f g → (ms : List MemberEntry) → Each (LoopMemberSound b i) ms → members_in b f ms ≡ members_in b g ms
+members-same : (b : Bench) (f g : ℕ → Family) (i : ℕ) → Agree i f g → (ms : List Member) → Each (LoopMemberSound b i) ms → members_in b f ms ≡ members_in b g ms
 members-same b f g i q [] h = refl
 members-same b f g i q (m ∷ ms) h =
     ap (λ x. MoreMembers x (members_in b f ms)) (member-same b f g i q m h.0.1)
@@ -84,8 +83,8 @@ members-same b f g i q (m ∷ ms) h =
 family-same : (b : Bench) (f g : ℕ → Family) (i : ℕ) → Agree i f g → (n : NestRecord) → NestSound b i n → family b f (Some n) ≡ family b g (Some n)
 family-same b f g i q (BlockRecord ss) h = ap BlockFamily (statements-same b f g i q ss h)
 family-same b f g i q (ConditionalNestRecord c) h =
-    ap (λ x. ConditionalFamily (tree_of b c.condition) (block_in x) (alternates_in b f c.else_ifs c.otherwise)) (q.at (block_index c.consequent) h.consequent.1)
-    ∙ ap (λ x. ConditionalFamily (tree_of b c.condition) (block_in (g (block_index c.consequent))) x) (alternates-same b f g i q c.else_ifs c.otherwise h.else_ifs h.otherwise)
+    ap (λ x. ConditionalFamily (tree_of b c.condition) (block_in x) (alternates_in b f c.else_ifs c.otherwise)) (q.at c.consequent.id.index h.consequent.1)
+    ∙ ap (λ x. ConditionalFamily (tree_of b c.condition) (block_in (g c.consequent.id.index)) x) (alternates-same b f g i q c.else_ifs c.otherwise h.else_ifs h.otherwise)
 family-same b f g i q (CaseNestRecord c) h = ap (λ x. CaseFamily (CaseTree c.unique c.kind (tree_of b c.selector) x)) (arms-same b f g i q c.arms h.arms)
 family-same b f g i q (LoopNestRecord l) h = ap (λ x. LoopFamily (LoopMember l.name (tree_of b l.start) (tree_of b l.end) l.label x)) (members-same b f g i q l.members h.members)
 

@@ -3,9 +3,8 @@ use Rattle.std.proofs.Common.{◌≡◌, ℕ, suc, ◌+◌, ◌≤◌, Bool, tru
 use Rattle.vast_core.specs.declared.handle.VastModule.{VastModule}
 use Rattle.vast_core.specs.declared.handle.CaseStatement.{CaseStatement}
 use Rattle.vast_core.specs.declared.handle.VastStatementBlock.{VastStatementBlock}
-use Rattle.vast_core.specs.Handles.{module_index, function_index, case_index, block_index}
-use Rattle.vast_core.specs.Records.{ModuleRecord, MemberEntry, with_port, with_parameter_port}
-use Rattle.vast_core.specs.Nests.{ConditionalRecord, NestRecord, BlockRecord, ConditionalNestRecord, CaseNestRecord, LoopNestRecord, VariableRecord, FunctionRecord, AlwaysRecord}
+use Rattle.vast_core.specs.Records.{ModuleRecord, Member, with_port, with_parameter_port}
+use Rattle.vast_core.specs.Nests.{ConditionalRecord, NestRecord, BlockRecord, ConditionalNestRecord, CaseNestRecord, LoopNestRecord, FunctionVariable, FunctionRecord, AlwaysRecord}
 use Rattle.vast_core.specs.Bench.{Bench}
 use Rattle.vast_core.specs.Functions.{with_listed_variable}
 use Rattle.vast_core.specs.Hoisting.{with_hoisted, with_members_hoisted}
@@ -17,9 +16,9 @@ use Rattle.vast_core.proofs.Counts.{count-append, over-push, over-added, over-ch
 
 conditional-places :
     (p : Part) (c : ConditionalRecord) →
-    places p (held_by_conditional c) ≡ places p (ContainerPart (block_index c.consequent) ∷ []) + (places p (flat_map held_by_else_if c.else_ifs) + places p (held_by_block c.otherwise))
+    places p (held_by_conditional c) ≡ places p (ContainerPart c.consequent.id.index ∷ []) + (places p (flat_map held_by_else_if c.else_ifs) + places p (held_by_block c.otherwise))
 conditional-places p c =
-    let outer = count-append (is_same p) (ContainerPart (block_index c.consequent) ∷ []) (flat_map held_by_else_if c.else_ifs ++ held_by_block c.otherwise) in
+    let outer = count-append (is_same p) (ContainerPart c.consequent.id.index ∷ []) (flat_map held_by_else_if c.else_ifs ++ held_by_block c.otherwise) in
     let inner = count-append (is_same p) (flat_map held_by_else_if c.else_ifs) (held_by_block c.otherwise) in
     omega (arith, outer, inner)
 
@@ -53,7 +52,7 @@ entered p (MemberEnters m) (ConditionalNestRecord c) = omega arith
 entered p (MemberEnters m) (CaseNestRecord c) = omega arith
 entered p (MemberEnters m) (LoopNestRecord l) = let e = over-push (is_same p) held_by_member l.members m in omega (arith, e)
 
-listed : (p : Part) (entry : MemberEntry) (name : Option (List ℕ)) (m : ModuleRecord) → places p (held_by_module (with_listed entry name m)) ≤ places p (held_by_module m) + places p (held_by_member entry)
+listed : (p : Part) (entry : Member) (name : Option (List ℕ)) (m : ModuleRecord) → places p (held_by_module (with_listed entry name m)) ≤ places p (held_by_module m) + places p (held_by_member entry)
 listed p entry None m = let e = over-push (is_same p) held_by_member m.members entry in omega (arith, e)
 listed p entry (Some name) m = let e = over-push (is_same p) held_by_member m.members entry in omega (arith, e)
 
@@ -102,7 +101,7 @@ nodes-come p f b none =
 
 -- A new entry.
 
-same-body : (p : Part) (local : Bool) (v : VariableRecord) (f : FunctionRecord) → places p (held_by_function (with_listed_variable local v f)) ≤ places p (held_by_function f) + 0
+same-body : (p : Part) (local : Bool) (v : FunctionVariable) (f : FunctionRecord) → places p (held_by_function (with_listed_variable local v f)) ≤ places p (held_by_function f) + 0
 same-body p false v f = omega arith
 same-body p true v f = omega arith
 
@@ -112,22 +111,22 @@ entry-comes p (InFile entry) b = omega arith
 entry-comes p (InHeader owner x) b =
     let old = file-places p b in
     let new = file-places p (with_listing (InHeader owner x) b) in
-    let same = over-changed (is_same p) held_by_module (with_parameter_port x) 0 (λ m. omega arith) b.modules (module_index owner) in
+    let same = over-changed (is_same p) held_by_module (with_parameter_port x) 0 (λ m. omega arith) b.modules owner.id.index in
     omega (arith, old, new, same)
 entry-comes p (InPorts owner port name) b =
     let old = file-places p b in
     let new = file-places p (with_listing (InPorts owner port name) b) in
-    let same = over-changed (is_same p) held_by_module (with_port port name) 0 (λ m. omega arith) b.modules (module_index owner) in
+    let same = over-changed (is_same p) held_by_module (with_port port name) 0 (λ m. omega arith) b.modules owner.id.index in
     omega (arith, old, new, same)
 entry-comes p (InModule owner entry name) b =
     let old = file-places p b in
     let new = file-places p (with_listing (InModule owner entry name) b) in
-    let more = over-changed (is_same p) held_by_module (with_listed entry name) (places p (held_by_member entry)) (listed p entry name) b.modules (module_index owner) in
+    let more = over-changed (is_same p) held_by_module (with_listed entry name) (places p (held_by_member entry)) (listed p entry name) b.modules owner.id.index in
     omega (arith, old, new, more)
 entry-comes p (InFunction f local v) b =
     let old = file-places p b in
     let new = file-places p (with_listing (InFunction f local v) b) in
-    let same = over-changed (is_same p) held_by_function (with_listed_variable local v) 0 (same-body p local v) b.functions (function_index f) in
+    let same = over-changed (is_same p) held_by_function (with_listed_variable local v) 0 (same-body p local v) b.functions f.id.index in
     omega (arith, old, new, same)
 entry-comes p (InNest place entry) b =
     let old = file-places p b in
@@ -224,7 +223,7 @@ length-nests (InFunction f local v) ns = refl
 length-nests (AsSpare block) ns = refl
 
 pub length-functions : (l : Listing) (fs : List FunctionRecord) → length (listed_functions l fs) ≡ length fs
-length-functions (InFunction f local v) fs = length-changed_at (with_listed_variable local v) fs (function_index f)
+length-functions (InFunction f local v) fs = length-changed_at (with_listed_variable local v) fs f.id.index
 length-functions Nowhere fs = refl
 length-functions (InFile entry) fs = refl
 length-functions (InHeader owner x) fs = refl
@@ -266,7 +265,7 @@ HasOneParent-hoisted b owner start h =
           let old = h.once p in
           let before = file-places p b in
           let after = file-places p (with_hoisted owner start b) in
-          let same = over-changed (is_same p) held_by_module (with_members_hoisted start) 0 (λ m. let e = over-hoisted (is_same p) held_by_member start m.members in omega (arith, e)) b.modules (module_index owner) in
+          let same = over-changed (is_same p) held_by_module (with_members_hoisted start) 0 (λ m. let e = over-hoisted (is_same p) held_by_member start m.members in omega (arith, e)) b.modules owner.id.index in
           omega (arith, old, before, after, same);
     }
 
@@ -277,7 +276,7 @@ same-unique p unique (CaseNestRecord c) = omega arith
 same-unique p unique (LoopNestRecord l) = omega arith
 
 present-unique : (p : Part) (c : CaseStatement) (unique : Bool) (b : Bench) → present (with_case_unique c unique b) p ≡ present b p
-present-unique (ContainerPart i) c unique b = ap (below i) (length-changed_at (with_unique unique) b.nests (case_index c))
+present-unique (ContainerPart i) c unique b = ap (below i) (length-changed_at (with_unique unique) b.nests c.id.index)
 present-unique (FunctionPart i) c unique b = refl
 present-unique (AlwaysPart i) c unique b = refl
 
@@ -289,6 +288,6 @@ HasOneParent-unique b c unique h =
           let before = file-places p b in
           let after = file-places p (with_case_unique c unique b) in
           let there = present-unique p c unique b in
-          let same = over-changed (is_same p) held_by_container (with_unique unique) 0 (same-unique p unique) b.nests (case_index c) in
+          let same = over-changed (is_same p) held_by_container (with_unique unique) 0 (same-unique p unique) b.nests c.id.index in
           omega (arith, old, before, after, there, same);
     }

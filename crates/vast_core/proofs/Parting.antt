@@ -1,5 +1,5 @@
 -- What a stable sort by a test leaves: the elements that pass, in their order, and then the others.
-use Rattle.std.proofs.Common.{suc, ◌≡◌, ◌+◌, Bool, true, false, not, ◌&&◌, List, [], ◌∷◌, map, filter, refl, sym, ap, ◌∙◌, arith}
+use Rattle.std.proofs.Common.{suc, ◌≡◌, ◌+◌, Bool, true, false, not, ◌&&◌, List, [], ◌∷◌, filter, refl, sym, ap, ◌∙◌, arith}
 use Rattle.std.specs.Ordering.{bool_cmp, is_lt}
 use Rattle.std.specs.List.Sorted.{IsSortedByKey, IsStableByKey, ties}
 use Rattle.std.proofs.lemmas.List.{append-nil}
@@ -9,14 +9,6 @@ use Rattle.vast_core.specs.Hoisting.{parted}
 -- The others by a test.
 abbrev pub other : {A : Type 0} → (A → Bool) → A → Bool
 other test x = not (test x)
-
-map-case : {A B : Type 0} (v : A → B) (test : B → Bool) (x : A) (xs : List A) (b : Bool) → test (v x) ≡ b → map v (filter (λ y. test (v y)) xs) ≡ filter test (map v xs) → map v (filter (λ y. test (v y)) (x ∷ xs)) ≡ filter test (map v (x ∷ xs))
-map-case v test x xs true e h = rw e (ap (λ r. v x ∷ r) h)
-map-case v test x xs false e h = rw e h
-
-pub filter-map : {A B : Type 0} (v : A → B) (test : B → Bool) (xs : List A) → map v (filter (λ x. test (v x)) xs) ≡ filter test (map v xs)
-filter-map v test [] = refl
-filter-map v test (x ∷ xs) = map-case v test x xs (test (v x)) refl (filter-map v test xs)
 
 filter-same : {A : Type 0} (p q : A → Bool) → ((x : A) → p x ≡ q x) → (xs : List A) → filter p xs ≡ filter q xs
 filter-same p q h [] = refl

@@ -7,7 +7,7 @@ use Rattle.vast_core.specs.declared.node.Definition.{Definition}
 use Rattle.vast_core.specs.declared.node.Artifact.{Artifact}
 use Rattle.vast_core.specs.declared.node.Instance.{Instance}
 use Rattle.vast_core.specs.Raw.{Raw}
-use Rattle.vast_core.specs.Records.{port_record, module_record, definition_record, artifact_record, instance_record, file_entry}
+use Rattle.vast_core.specs.Records.{module_record, definition_record, artifact_record, instance_record, file_entry}
 use Rattle.vast_core.specs.Bench.{is_continuous}
 use Rattle.vast_core.specs.View.{bench}
 use Rattle.vast_core.specs.Sound.{PortSound, AssignmentSound, ModuleSound, DefinitionSound, ArtifactSound, InstanceSound, EntrySound}
@@ -44,16 +44,16 @@ module-sound a b i x e s below is = let P : Raw → Type 0 = λ r. ModuleSound (
 pub port-below : (a b : Raw) (i : ℕ) → b ≡ a → IsTrue (nat_lt i (length (bench a).ports)) → i < length b.ports
 port-below a b i e h = let k : i < length (bench a).ports = below-of i (length (bench a).ports) h in rw (length-ports a b e) at k
 
-pub port-there : (a b : Raw) (i : ℕ) (x : Port) → b ≡ a → i < length b.ports → x ≡ get_or b.ports i x → slice_get (bench a).ports i ≡ Some (port_record x)
+pub port-there : (a b : Raw) (i : ℕ) (x : Port) → b ≡ a → i < length b.ports → x ≡ get_or b.ports i x → slice_get (bench a).ports i ≡ Some x
 unfolding bench
-port-there a b i x e below is = rw (← e) (slice_get-map port_record b.ports i x below is)
+port-there a b i x e below is = rw (← e) (slice_get-at b.ports i x below is)
 
-port-own : (b : Raw) (i : ℕ) (x : Port) → IsSound b → i < length b.ports → x ≡ get_or b.ports i x → PortSound (bench b) (port_record x)
+port-own : (b : Raw) (i : ℕ) (x : Port) → IsSound b → i < length b.ports → x ≡ get_or b.ports i x → PortSound (bench b) x
 unfolding bench
-port-own b i x s below is = Each-at port_record (PortSound (bench b)) b.ports i x s.file.records.ports below is
+port-own b i x s below is = Each-at (λ y. y) (PortSound (bench b)) b.ports i x (rw map-same s.file.records.ports) below is
 
-pub port-sound : (a b : Raw) (i : ℕ) (x : Port) → b ≡ a → IsSound b → i < length b.ports → x ≡ get_or b.ports i x → PortSound (bench a) (port_record x)
-port-sound a b i x e s below is = let P : Raw → Type 0 = λ r. PortSound (bench r) (port_record x) in subst P e (port-own b i x s below is)
+pub port-sound : (a b : Raw) (i : ℕ) (x : Port) → b ≡ a → IsSound b → i < length b.ports → x ≡ get_or b.ports i x → PortSound (bench a) x
+port-sound a b i x e s below is = let P : Raw → Type 0 = λ r. PortSound (bench r) x in subst P e (port-own b i x s below is)
 
 pub assignment-read : (a b : Raw) (i : ℕ) → b ≡ a → slice_get (bench a).assignments i ≡ slice_get b.assignments i
 unfolding bench

@@ -8,12 +8,12 @@ use Rattle.vast_core.specs.declared.handle.VastDataType.{VastDataType}
 use Rattle.vast_core.specs.declared.handle.ModulePort.{ModulePort}
 use Rattle.vast_core.specs.declared.handle.ContinuousAssignment.{ContinuousAssignment}
 use Rattle.vast_core.specs.Nodes.{IsOwned, is_name, is_macro}
-use Rattle.vast_core.specs.Records.{PortRecord, ParameterPortRecord, ModuleRecord, FormEntry, PlainForm, IntForm, DefinedForm, MemberEntry, DeclarationEntry, AssignmentEntry, ParameterEntry, BlankEntry, CommentEntry, InlineEntry, MacroEntry, InstanceEntry, FunctionEntry, AlwaysEntry, ConditionalEntry, LoopEntry, FileEntry, ModuleEntry, IncludeEntry, FileCommentEntry, FileBlankEntry, DefinitionRecord, ArtifactRecord, BlankLineRecord, CommentRecord, InlineRecord, MacroRecord, ConnectionRecord, InstanceRecord}
+use Rattle.vast_core.specs.Records.{Port, ParameterPortRecord, ModuleRecord, ParameterForm, PlainForm, IntForm, DefinedForm, Member, DeclarationEntry, AssignmentEntry, ParameterEntry, BlankEntry, CommentEntry, InlineEntry, MacroEntry, InstanceEntry, FunctionEntry, AlwaysEntry, ConditionalEntry, LoopEntry, FileEntry, ModuleEntry, IncludeEntry, FileCommentEntry, FileBlankEntry, DefinitionRecord, ArtifactRecord, BlankLineRecord, CommentRecord, InlineRecord, MacroRecord, ConnectionRecord, InstanceRecord}
 use Rattle.vast_core.specs.declared.handle.LogicRef.{LogicRef}
 use Rattle.vast_core.specs.declared.handle.VastStatementBlock.{VastStatementBlock}
 use Rattle.vast_core.specs.declared.node.ElseIf.{ElseIf}
 use Rattle.vast_core.specs.declared.node.CaseArm.{CaseArm}
-use Rattle.vast_core.specs.Nests.{StatementEntry, AssignStatement, ContinuousStatement, ConditionalStatement, CasesStatement, BlankStatement, CommentStatement, InlineStatement, NestRecord, BlockRecord, ConditionalNestRecord, CaseNestRecord, LoopNestRecord, VariableRecord, FunctionRecord, AlwaysRecord, NestKind, NoKind, nest_kind, is_block_kind, is_conditional_kind, is_case_kind, is_loop_kind}
+use Rattle.vast_core.specs.Nests.{StatementEntry, AssignStatement, ContinuousStatement, ConditionalStatement, CasesStatement, BlankStatement, CommentStatement, InlineStatement, NestRecord, BlockRecord, ConditionalNestRecord, CaseNestRecord, LoopNestRecord, FunctionVariable, FunctionRecord, AlwaysRecord, NestKind, NoKind, nest_kind, is_block_kind, is_conditional_kind, is_case_kind, is_loop_kind}
 use Rattle.vast_core.specs.Bench.{Bench, OwnsExpr, OwnsType, OwnsLogicRef, OwnsPort, OwnsContinuous, is_continuous, is_comment, is_inline, is_macro_statement}
 use Rattle.vast_core.specs.Sound.{Each, PortSound, AssignmentSound, DefinitionSound, ArtifactSound, ConnectionSound, InstanceSound, FormSound, MemberSound, ParameterPortSound, ModuleSound, EntrySound, RecordsSound, HoldsBlock, StatementSound, ElseIfSound, CaseArmSound, AlwaysNewer, MemberNewer, LoopMemberSound, NestSound, NestsSound, VariableSound, FunctionSound, EventSound, AlwaysSound}
 use Rattle.vast_core.proofs.Lists.{Each-map, below-of, below-test, none-past}
@@ -84,7 +84,7 @@ maybe-expr-kept : (b c : Bench) → Grows b c → (e : Option Expr) → IfSome e
 maybe-expr-kept b c g None h = tt
 maybe-expr-kept b c g (Some e) h = HasExpr-kept b.nodes c.nodes g.nodes e h
 
-PortSound-kept : (b c : Bench) → Grows b c → (p : PortRecord) → PortSound b p → PortSound c p
+PortSound-kept : (b c : Bench) → Grows b c → (p : Port) → PortSound b p → PortSound c p
 PortSound-kept b c g p h = (
   HasType-kept b.nodes c.nodes g.nodes p.data_type h.0,
   record { of_file = h.1.of_file ∙ sym g.nodes.same_id; of_kind = shape-kept is_name b.nodes c.nodes g.nodes p.logic_ref.id.index h.1.of_kind },
@@ -113,7 +113,7 @@ InstanceSound-kept b c g i h =
       connections = Each-map (ConnectionSound-kept b c g) i.connections h.connections;
     }
 
-FormSound-kept : (b c : Bench) → Grows b c → (f : FormEntry) → FormSound b f → FormSound c f
+FormSound-kept : (b c : Bench) → Grows b c → (f : ParameterForm) → FormSound b f → FormSound c f
 FormSound-kept b c g (PlainForm name) h = tt
 FormSound-kept b c g (IntForm name) h = tt
 FormSound-kept b c g (DefinedForm d) h = index-kept b c d.id (length b.definitions) (length c.definitions) g g.definitions h
@@ -125,7 +125,7 @@ continuous_stays b c g a h =
       of_kind = test-kept is_continuous b.assignments c.assignments a.id.index (slice_get b.assignments a.id.index) refl (g.assignments a.id.index) never h.of_kind;
     }
 
-pub MemberSound-kept : (b c : Bench) → Grows b c → (m : MemberEntry) → MemberSound b m → MemberSound c m
+pub MemberSound-kept : (b c : Bench) → Grows b c → (m : Member) → MemberSound b m → MemberSound c m
 MemberSound-kept b c g (DeclarationEntry kind name t) h = HasType-kept b.nodes c.nodes g.nodes t h
 MemberSound-kept b c g (AssignmentEntry a) h = continuous_stays b c g a h
 MemberSound-kept b c g (ParameterEntry local form value) h = (FormSound-kept b c g form h.0, HasExpr-kept b.nodes c.nodes g.nodes value h.1)
@@ -181,7 +181,7 @@ newer-kept i (Some a) p k n h = rw (k a refl) h
 always-there : (xs : List AlwaysRecord) (i : ℕ) → IsTrue (nat_lt i (length xs)) → slice_get xs i ≡ None → ⊥
 always-there xs i h e = let below : i < length xs = below-of i (length xs) h in absurd (omega (arith, none-past xs i e))
 
-MemberNewer-kept : (b c : Bench) → Grows b c → (i : ℕ) (m : MemberEntry) → MemberSound b m → MemberNewer b i m → MemberNewer c i m
+MemberNewer-kept : (b c : Bench) → Grows b c → (i : ℕ) (m : Member) → MemberSound b m → MemberNewer b i m → MemberNewer c i m
 MemberNewer-kept b c g i (DeclarationEntry kind name t) s h = h
 MemberNewer-kept b c g i (AssignmentEntry a) s h = tt
 MemberNewer-kept b c g i (ParameterEntry local form value) s h = tt
@@ -196,7 +196,7 @@ MemberNewer-kept b c g i (AlwaysEntry a) s h =
 MemberNewer-kept b c g i (ConditionalEntry x) s h = h
 MemberNewer-kept b c g i (LoopEntry l) s h = h
 
-pub LoopMemberSound-kept : (b c : Bench) → Grows b c → (i : ℕ) (m : MemberEntry) → LoopMemberSound b i m → LoopMemberSound c i m
+pub LoopMemberSound-kept : (b c : Bench) → Grows b c → (i : ℕ) (m : Member) → LoopMemberSound b i m → LoopMemberSound c i m
 LoopMemberSound-kept b c g i m h = (MemberSound-kept b c g m h.0, MemberNewer-kept b c g i m h.0 h.1)
 
 pub logic_ref_stays : (b c : Bench) → Grows b c → (r : LogicRef) → OwnsLogicRef b r → OwnsLogicRef c r
@@ -225,7 +225,7 @@ NestsSound-kept : (b c : Bench) → Grows b c → (i : ℕ) (ns : List NestRecor
 NestsSound-kept b c g i [] h = tt
 NestsSound-kept b c g i (n ∷ ns) h = (NestSound-kept b c g i n h.0, NestsSound-kept b c g (suc i) ns h.1)
 
-pub VariableSound-kept : (b c : Bench) → Grows b c → (v : VariableRecord) → VariableSound b v → VariableSound c v
+pub VariableSound-kept : (b c : Bench) → Grows b c → (v : FunctionVariable) → VariableSound b v → VariableSound c v
 VariableSound-kept b c g v h = HasType-kept b.nodes c.nodes g.nodes v.data_type h
 
 pub FunctionSound-kept : (b c : Bench) → Grows b c → (f : FunctionRecord) → FunctionSound b f → FunctionSound c f

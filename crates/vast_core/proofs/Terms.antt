@@ -36,7 +36,7 @@ length-modules a b e = rw (← e) (simp length-map)
 
 pub length-ports : (a b : Raw) → b ≡ a → length (bench a).ports ≡ length b.ports
 unfolding bench
-length-ports a b e = rw (← e) (simp length-map)
+length-ports a b e = rw (← e) refl
 
 pub length-assignments : (a b : Raw) → b ≡ a → length (bench a).assignments ≡ length b.assignments
 unfolding bench

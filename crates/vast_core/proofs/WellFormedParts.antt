@@ -12,7 +12,6 @@ use Rattle.vast_core.specs.declared.handle.VastStatementBlock.{VastStatementBloc
 use Rattle.vast_core.specs.declared.node.ElseIf.{ElseIf}
 use Rattle.vast_core.specs.declared.node.CaseArm.{CaseArm}
 use Rattle.vast_core.specs.declared.node.Assignment.{Assignment}
-use Rattle.vast_core.specs.Handles.{statement_index, block_index, conditional_index, case_index, macro_ref_to_expr}
 use Rattle.vast_core.specs.Nodes.{Root, ExprRoot, TypeRoot, expr_in, expr_of_root, is_expr_root, is_root_of, is_macro as is_macro_root}
 use Rattle.vast_core.specs.Nests.{StatementEntry, AssignStatement, ContinuousStatement, ConditionalStatement, CasesStatement, BlankStatement, CommentStatement, InlineStatement}
 use Rattle.vast_core.specs.Bench.{Bench, OwnsExpr, OwnsType, OwnsMacroRef, AreWellFormed, tree_of, type_of, maybe_tree_of, trees_of}
@@ -70,12 +69,12 @@ macro-root None h = h
 macro-root (Some (ExprRoot e)) h = same-macro e h
 macro-root (Some (TypeRoot t)) h = h
 
-pub macro-is : (b : Bench) (call : MacroRef) → OwnsMacroRef b call → is_macro (tree_of b (macro_ref_to_expr call)) ≡ true
+pub macro-is : (b : Bench) (call : MacroRef) → OwnsMacroRef b call → is_macro (tree_of b (record { id = call.id })) ≡ true
 unfolding expr_in
 macro-is b call h = macro-root (slice_get b.nodes.roots call.id.index) h.of_kind
 
-pub macro-good : (b : Bench) → AreWellFormed b → (call : MacroRef) → OwnsMacroRef b call → is_well_formed (tree_of b (macro_ref_to_expr call)) ≡ true
-macro-good b w call h = expr-good b w (macro_ref_to_expr call) (record { of_file = h.of_file; of_kind = macro-expr (slice_get b.nodes.roots call.id.index) h.of_kind })
+pub macro-good : (b : Bench) → AreWellFormed b → (call : MacroRef) → OwnsMacroRef b call → is_well_formed (tree_of b (record { id = call.id })) ≡ true
+macro-good b w call h = expr-good b w (record { id = call.id }) (record { of_file = h.of_file; of_kind = macro-expr (slice_get b.nodes.roots call.id.index) h.of_kind })
 
 -- Events.
 
@@ -159,10 +158,10 @@ continuous-good b w (Some a) h = both_true (expr-good b w a.lhs h.0) (expr-good 
 
 statement-good :
     (b : Bench) → AreWellFormed b → RecordsSound b → (f : ℕ → Family) → ((i : ℕ) → IsGood (f i)) → (s : StatementEntry) → is_well_formed_statement (statement_in b f s) ≡ true
-statement-good b w r f g (AssignStatement s) = assigned-good b w (slice_get b.assignments (statement_index s)) (Each-read (AssignmentSound b) b.assignments (statement_index s) r.assignments)
-statement-good b w r f g (ContinuousStatement s) = continuous-good b w (slice_get b.assignments (statement_index s)) (Each-read (AssignmentSound b) b.assignments (statement_index s) r.assignments)
-statement-good b w r f g (ConditionalStatement c) = conditional-good (f (conditional_index c)) (g (conditional_index c))
-statement-good b w r f g (CasesStatement c) = case-good (f (case_index c)) (g (case_index c))
+statement-good b w r f g (AssignStatement s) = assigned-good b w (slice_get b.assignments s.id.index) (Each-read (AssignmentSound b) b.assignments s.id.index r.assignments)
+statement-good b w r f g (ContinuousStatement s) = continuous-good b w (slice_get b.assignments s.id.index) (Each-read (AssignmentSound b) b.assignments s.id.index r.assignments)
+statement-good b w r f g (ConditionalStatement c) = conditional-good (f c.id.index) (g c.id.index)
+statement-good b w r f g (CasesStatement c) = case-good (f c.id.index) (g c.id.index)
 statement-good b w r f g BlankStatement = refl
 statement-good b w r f g (CommentStatement text) = refl
 statement-good b w r f g (InlineStatement text) = refl
@@ -174,14 +173,14 @@ statements-good b w r f g (s ∷ ss) = both_true (statement-good b w r f g s) (s
 
 otherwise-good : (f : ℕ → Family) → ((i : ℕ) → IsGood (f i)) → (o : Option VastStatementBlock) → are_well_formed_alternates (otherwise_in f o) ≡ true
 otherwise-good f g None = refl
-otherwise-good f g (Some c) = block-good (f (block_index c)) (g (block_index c))
+otherwise-good f g (Some c) = block-good (f c.id.index) (g c.id.index)
 
 pub alternates-good :
     (b : Bench) → AreWellFormed b → (f : ℕ → Family) → ((i : ℕ) → IsGood (f i)) → (n : ℕ) (arms : List ElseIf) (o : Option VastStatementBlock) → Each (ElseIfSound b n) arms →
     are_well_formed_alternates (alternates_in b f arms o) ≡ true
 alternates-good b w f g n [] o h = otherwise-good f g o
-alternates-good b w f g n (a ∷ arms) o h = both_true (expr-good b w a.condition h.0.0) (both_true (block-good (f (block_index a.block)) (g (block_index a.block))) (alternates-good b w f g n arms o h.1))
+alternates-good b w f g n (a ∷ arms) o h = both_true (expr-good b w a.condition h.0.0) (both_true (block-good (f a.block.id.index) (g a.block.id.index)) (alternates-good b w f g n arms o h.1))
 
 pub arms-good : (b : Bench) → AreWellFormed b → (f : ℕ → Family) → ((i : ℕ) → IsGood (f i)) → (n : ℕ) (arms : List CaseArm) → Each (CaseArmSound b n) arms → are_well_formed_arms (arms_in b f arms) ≡ true
 arms-good b w f g n [] h = refl
-arms-good b w f g n (a ∷ arms) h = both_true (maybe-good b w a.label h.0.0) (both_true (block-good (f (block_index a.block)) (g (block_index a.block))) (arms-good b w f g n arms h.1))
+arms-good b w f g n (a ∷ arms) h = both_true (maybe-good b w a.label h.0.0) (both_true (block-good (f a.block.id.index) (g a.block.id.index)) (arms-good b w f g n arms h.1))

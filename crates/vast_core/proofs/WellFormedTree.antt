@@ -9,10 +9,9 @@ use Rattle.vast_core.specs.declared.handle.Expr.{Expr}
 use Rattle.vast_core.specs.declared.handle.ModulePort.{ModulePort}
 use Rattle.vast_core.specs.declared.handle.VastDataType.{VastDataType}
 use Rattle.vast_core.specs.declared.node.Assignment.{Assignment}
-use Rattle.vast_core.specs.Handles.{module_index, port_index, continuous_index, comment_index, inline_index, macro_statement_index, instantiation_index, function_index, always_index, definition_index, block_index, conditional_index, loop_index}
 use Rattle.vast_core.specs.Nodes.{maybe_type_in}
-use Rattle.vast_core.specs.Records.{ParameterPortRecord, ModuleRecord, MemberEntry, DeclarationEntry, AssignmentEntry, ParameterEntry, BlankEntry, CommentEntry, InlineEntry, MacroEntry, InstanceEntry, FunctionEntry, AlwaysEntry, ConditionalEntry, LoopEntry, FormEntry, PlainForm, IntForm, DefinedForm, FileEntry, ModuleEntry, IncludeEntry, FileCommentEntry, FileBlankEntry, ArtifactRecord, BlankLineRecord, CommentRecord, InlineRecord, MacroRecord, ConnectionRecord, InstanceRecord}
-use Rattle.vast_core.specs.Nests.{NestRecord, BlockRecord, ConditionalNestRecord, CaseNestRecord, LoopNestRecord, VariableRecord, FunctionRecord, AlwaysRecord}
+use Rattle.vast_core.specs.Records.{ParameterPortRecord, ModuleRecord, Member, DeclarationEntry, AssignmentEntry, ParameterEntry, BlankEntry, CommentEntry, InlineEntry, MacroEntry, InstanceEntry, FunctionEntry, AlwaysEntry, ConditionalEntry, LoopEntry, ParameterForm, PlainForm, IntForm, DefinedForm, FileEntry, ModuleEntry, IncludeEntry, FileCommentEntry, FileBlankEntry, ArtifactRecord, BlankLineRecord, CommentRecord, InlineRecord, MacroRecord, ConnectionRecord, InstanceRecord}
+use Rattle.vast_core.specs.Nests.{NestRecord, BlockRecord, ConditionalNestRecord, CaseNestRecord, LoopNestRecord, FunctionVariable, FunctionRecord, AlwaysRecord}
 use Rattle.vast_core.specs.Bench.{Bench, OwnsExpr, OwnsType, OwnsPort, AreWellFormed, maybe_tree_of}
 use Rattle.vast_core.specs.WrittenKinds.{IsGiven, HasOwnKind, HasLocalKind, HasValue}
 use Rattle.vast_core.specs.Sound.{Each, PortSound, AssignmentSound, DefinitionSound, ArtifactSound, ConnectionSound, InstanceSound, FormSound, MemberSound, LoopMemberSound, MemberNewer, ParameterPortSound, ModuleSound, VariableSound, FunctionSound, AlwaysSound, NestSound, NestsSound, RecordsSound, DeclaresOwnKinds, HasLocalKinds, GivesValues, FileSound}
@@ -30,11 +29,11 @@ Each-there P Q f xs i h there = let below : i < length xs = grind (arith, there)
 
 -- Parts of members.
 
-form-good : (b : Bench) → AreWellFormed b → RecordsSound b → (form : FormEntry) → FormSound b form → is_well_formed_parameter_name (form_tree b form) ≡ true
+form-good : (b : Bench) → AreWellFormed b → RecordsSound b → (form : ParameterForm) → FormSound b form → is_well_formed_parameter_name (form_tree b form) ≡ true
 form-good b w r (PlainForm name) h = refl
 form-good b w r (IntForm name) h = refl
 form-good b w r (DefinedForm d) h =
-    Each-there (DefinitionSound b) (λ o. is_well_formed_type (definition_tree b o).type ≡ true) (λ x k. type-good b w x.data_type k) b.definitions (definition_index d) r.definitions h.of_kind
+    Each-there (DefinitionSound b) (λ o. is_well_formed_type (definition_tree b o).type ≡ true) (λ x k. type-good b w x.data_type k) b.definitions d.id.index r.definitions h.of_kind
 
 assignment-good : (b : Bench) → AreWellFormed b → (o : Option Assignment) → IfSome o (AssignmentSound b) → is_well_formed_member (assignment_member b o) ≡ true
 assignment-good b w None h = refl
@@ -65,13 +64,13 @@ instance-good b w (Some i) h k = both_true (given-good b w i.parameters h.parame
 
 always-good : (b : Bench) → AreWellFormed b → (f : ℕ → Family) → ((i : ℕ) → IsGood (f i)) → (o : Option AlwaysRecord) → IfSome o (AlwaysSound b) → is_well_formed_member (always_in b f o) ≡ true
 always-good b w f g None h = refl
-always-good b w f g (Some a) h = both_true (events-good b w a.events h.events) (block-good (f (block_index a.block)) (g (block_index a.block)))
+always-good b w f g (Some a) h = both_true (events-good b w a.events h.events) (block-good (f a.block.id.index) (g a.block.id.index))
 
-inputs-good : (b : Bench) → AreWellFormed b → (vs : List VariableRecord) → Each (VariableSound b) vs → are_well_formed_inputs (map (variable_tree b) vs) ≡ true
+inputs-good : (b : Bench) → AreWellFormed b → (vs : List FunctionVariable) → Each (VariableSound b) vs → are_well_formed_inputs (map (variable_tree b) vs) ≡ true
 inputs-good b w [] h = refl
 inputs-good b w (v ∷ vs) h = both_true (type-good b w v.data_type h.0) (inputs-good b w vs h.1)
 
-locals-good : (b : Bench) → AreWellFormed b → (vs : List VariableRecord) → Each (VariableSound b) vs → Each HasLocalKind vs → are_well_formed_locals (map (variable_tree b) vs) ≡ true
+locals-good : (b : Bench) → AreWellFormed b → (vs : List FunctionVariable) → Each (VariableSound b) vs → Each HasLocalKind vs → are_well_formed_locals (map (variable_tree b) vs) ≡ true
 locals-good b w [] h k = refl
 locals-good b w (v ∷ vs) h k = both_true (both_true k.0 (type-good b w v.data_type h.0)) (locals-good b w vs h.1 k.1)
 
@@ -81,34 +80,34 @@ function-good :
 function-good b w f g None h k = refl
 function-good b w f g (Some x) h k =
     both_true (type-good b w x.result_type h.result_type)
-    (both_true (inputs-good b w x.inputs h.inputs) (both_true (locals-good b w x.locals h.locals k) (block-good (f (block_index x.body)) (g (block_index x.body)))))
+    (both_true (inputs-good b w x.inputs h.inputs) (both_true (locals-good b w x.locals h.locals k) (block-good (f x.body.id.index) (g x.body.id.index))))
 
 -- Members.
 
 member-good :
-    (b : Bench) → AreWellFormed b → FileSound b → (f : ℕ → Family) → ((i : ℕ) → IsGood (f i)) → (m : MemberEntry) → MemberSound b m → HasOwnKind m → is_well_formed_member (member_in b f m) ≡ true
+    (b : Bench) → AreWellFormed b → FileSound b → (f : ℕ → Family) → ((i : ℕ) → IsGood (f i)) → (m : Member) → MemberSound b m → HasOwnKind m → is_well_formed_member (member_in b f m) ≡ true
 member-good b w s f g (DeclarationEntry kind name t) h k = both_true k (type-good b w t h)
-member-good b w s f g (AssignmentEntry a) h k = assignment-good b w (slice_get b.assignments (continuous_index a)) (Each-read (AssignmentSound b) b.assignments (continuous_index a) s.records.assignments)
+member-good b w s f g (AssignmentEntry a) h k = assignment-good b w (slice_get b.assignments a.id.index) (Each-read (AssignmentSound b) b.assignments a.id.index s.records.assignments)
 member-good b w s f g (ParameterEntry local form value) h k = both_true (form-good b w s.records form h.0) (expr-good b w value h.1)
 member-good b w s f g BlankEntry h k = refl
-member-good b w s f g (CommentEntry a) h k = artifact-good b w (slice_get b.artifacts (comment_index a)) (Each-read (ArtifactSound b) b.artifacts (comment_index a) s.records.artifacts)
-member-good b w s f g (InlineEntry a) h k = artifact-good b w (slice_get b.artifacts (inline_index a)) (Each-read (ArtifactSound b) b.artifacts (inline_index a) s.records.artifacts)
-member-good b w s f g (MacroEntry a) h k = artifact-good b w (slice_get b.artifacts (macro_statement_index a)) (Each-read (ArtifactSound b) b.artifacts (macro_statement_index a) s.records.artifacts)
+member-good b w s f g (CommentEntry a) h k = artifact-good b w (slice_get b.artifacts a.id.index) (Each-read (ArtifactSound b) b.artifacts a.id.index s.records.artifacts)
+member-good b w s f g (InlineEntry a) h k = artifact-good b w (slice_get b.artifacts a.id.index) (Each-read (ArtifactSound b) b.artifacts a.id.index s.records.artifacts)
+member-good b w s f g (MacroEntry a) h k = artifact-good b w (slice_get b.artifacts a.id.index) (Each-read (ArtifactSound b) b.artifacts a.id.index s.records.artifacts)
 member-good b w s f g (InstanceEntry i) h k =
-    instance-good b w (slice_get b.instances (instantiation_index i)) (Each-read (InstanceSound b) b.instances (instantiation_index i) s.records.instances) (Each-read GivesValues b.instances (instantiation_index i) s.kinds.values)
+    instance-good b w (slice_get b.instances i.id.index) (Each-read (InstanceSound b) b.instances i.id.index s.records.instances) (Each-read GivesValues b.instances i.id.index s.kinds.values)
 member-good b w s f g (FunctionEntry x) h k =
-    function-good b w f g (slice_get b.functions (function_index x)) (Each-read (FunctionSound b) b.functions (function_index x) s.records.functions) (Each-read HasLocalKinds b.functions (function_index x) s.kinds.locals)
-member-good b w s f g (AlwaysEntry a) h k = always-good b w f g (slice_get b.always_blocks (always_index a)) (Each-read (AlwaysSound b) b.always_blocks (always_index a) s.records.always_blocks)
-member-good b w s f g (ConditionalEntry c) h k = conditional_member-good (f (conditional_index c)) (g (conditional_index c))
-member-good b w s f g (LoopEntry l) h k = loop_member-good (f (loop_index l)) (g (loop_index l))
+    function-good b w f g (slice_get b.functions x.id.index) (Each-read (FunctionSound b) b.functions x.id.index s.records.functions) (Each-read HasLocalKinds b.functions x.id.index s.kinds.locals)
+member-good b w s f g (AlwaysEntry a) h k = always-good b w f g (slice_get b.always_blocks a.id.index) (Each-read (AlwaysSound b) b.always_blocks a.id.index s.records.always_blocks)
+member-good b w s f g (ConditionalEntry c) h k = conditional_member-good (f c.id.index) (g c.id.index)
+member-good b w s f g (LoopEntry l) h k = loop_member-good (f l.id.index) (g l.id.index)
 
 members-good :
-    (b : Bench) → AreWellFormed b → FileSound b → (f : ℕ → Family) → ((i : ℕ) → IsGood (f i)) → (ms : List MemberEntry) → Each (MemberSound b) ms → Each HasOwnKind ms → are_well_formed_members (members_in b f ms) ≡ true
+    (b : Bench) → AreWellFormed b → FileSound b → (f : ℕ → Family) → ((i : ℕ) → IsGood (f i)) → (ms : List Member) → Each (MemberSound b) ms → Each HasOwnKind ms → are_well_formed_members (members_in b f ms) ≡ true
 members-good b w s f g [] h k = refl
 members-good b w s f g (m ∷ ms) h k = both_true (member-good b w s f g m h.0 k.0) (members-good b w s f g ms h.1 k.1)
 
 -- A loop declares nothing.
-loop-kind : (b : Bench) (i : ℕ) (m : MemberEntry) → MemberNewer b i m → HasOwnKind m
+loop-kind : (b : Bench) (i : ℕ) (m : Member) → MemberNewer b i m → HasOwnKind m
 loop-kind b i (DeclarationEntry kind name t) h = absurd h
 loop-kind b i (AssignmentEntry a) h = tt
 loop-kind b i (ParameterEntry local form value) h = tt
@@ -123,7 +122,7 @@ loop-kind b i (ConditionalEntry c) h = tt
 loop-kind b i (LoopEntry l) h = tt
 
 loop_members-good :
-    (b : Bench) → AreWellFormed b → FileSound b → (f : ℕ → Family) → ((i : ℕ) → IsGood (f i)) → (n : ℕ) (ms : List MemberEntry) → Each (LoopMemberSound b n) ms → are_well_formed_members (members_in b f ms) ≡ true
+    (b : Bench) → AreWellFormed b → FileSound b → (f : ℕ → Family) → ((i : ℕ) → IsGood (f i)) → (n : ℕ) (ms : List Member) → Each (LoopMemberSound b n) ms → are_well_formed_members (members_in b f ms) ≡ true
 loop_members-good b w s f g n [] h = refl
 loop_members-good b w s f g n (m ∷ ms) h = both_true (member-good b w s f g m h.0.0 (loop-kind b n m h.0.1)) (loop_members-good b w s f g n ms h.1)
 
@@ -131,7 +130,7 @@ loop_members-good b w s f g n (m ∷ ms) h = both_true (member-good b w s f g m 
 
 nest-good : (b : Bench) → AreWellFormed b → FileSound b → (f : ℕ → Family) → ((i : ℕ) → IsGood (f i)) → (n : ℕ) (x : NestRecord) → NestSound b n x → IsGood (family b f (Some x))
 nest-good b w s f g n (BlockRecord statements) h = statements-good b w s.records f g statements
-nest-good b w s f g n (ConditionalNestRecord c) h = (expr-good b w c.condition h.condition, block-good (f (block_index c.consequent)) (g (block_index c.consequent)), alternates-good b w f g n c.else_ifs c.otherwise h.else_ifs)
+nest-good b w s f g n (ConditionalNestRecord c) h = (expr-good b w c.condition h.condition, block-good (f c.consequent.id.index) (g c.consequent.id.index), alternates-good b w f g n c.else_ifs c.otherwise h.else_ifs)
 nest-good b w s f g n (CaseNestRecord c) h = both_true (expr-good b w c.selector h.selector) (arms-good b w f g n c.arms h.arms)
 nest-good b w s f g n (LoopNestRecord l) h = both_true (both_true (expr-good b w l.start h.start) (expr-good b w l.end h.end)) (loop_members-good b w s f g n l.members h.members)
 
@@ -161,7 +160,7 @@ parameters-good b w (p ∷ ps) h = both_true (both_true (typed-good b w p.data_t
 ports-good : (b : Bench) → AreWellFormed b → RecordsSound b → (ps : List ModulePort) → Each (OwnsPort b) ps → are_well_formed_ports (map (port_tree b) ps) ≡ true
 ports-good b w r [] h = refl
 ports-good b w r (p ∷ ps) h =
-    both_true (Each-there (PortSound b) (λ o. is_well_formed_type (maybe_port_tree b o).declaration.type ≡ true) (λ x k. type-good b w x.data_type k.0) b.ports (port_index p) r.ports h.0.of_kind) (ports-good b w r ps h.1)
+    both_true (Each-there (PortSound b) (λ o. is_well_formed_type (maybe_port_tree b o).declaration.type ≡ true) (λ x k. type-good b w x.data_type k.0) b.ports p.id.index r.ports h.0.of_kind) (ports-good b w r ps h.1)
 
 module_item-good :
     (b : Bench) → AreWellFormed b → FileSound b → (o : Option ModuleRecord) → IfSome o (ModuleSound b) → IfSome o DeclaresOwnKinds → (items : List FileItemTree) → are_well_formed_items items ≡ true →
@@ -173,7 +172,7 @@ module_item-good b w s (Some m) h k items e =
 items-good : (b : Bench) → AreWellFormed b → FileSound b → (es : List FileEntry) → are_well_formed_items (map (item_tree b) es) ≡ true
 items-good b w s [] = refl
 items-good b w s (ModuleEntry m ∷ es) =
-    module_item-good b w s (slice_get b.modules (module_index m)) (Each-read (ModuleSound b) b.modules (module_index m) s.records.modules) (Each-read DeclaresOwnKinds b.modules (module_index m) s.kinds.declarations) (map (item_tree b) es)
+    module_item-good b w s (slice_get b.modules m.id.index) (Each-read (ModuleSound b) b.modules m.id.index s.records.modules) (Each-read DeclaresOwnKinds b.modules m.id.index s.kinds.declarations) (map (item_tree b) es)
     (items-good b w s es)
 items-good b w s (IncludeEntry path ∷ es) = items-good b w s es
 items-good b w s (FileCommentEntry text ∷ es) = items-good b w s es

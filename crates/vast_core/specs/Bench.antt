@@ -28,17 +28,16 @@ use Rattle.vast_core.specs.declared.handle.CaseStatement.{CaseStatement}
 use Rattle.vast_core.specs.declared.handle.GenerateLoop.{GenerateLoop}
 use Rattle.vast_literal.specs.declared.kind.VastFileType.{VastFileType}
 use Rattle.vast_core.specs.declared.node.Assignment.{Assignment}
-use Rattle.vast_core.specs.Handles.{module_index, function_index}
 use Rattle.vast_core.specs.Nodes.{Nodes, no_nodes, IsOwned, is_expr_root, is_type_root, is_root_of, is_name, is_index, is_slice, is_macro, expr_in, type_in, maybe_expr_in, exprs_in}
 use Rattle.vast_core.specs.Types.{ExprWellFormed, TypeWellFormed}
-use Rattle.vast_core.specs.Records.{PortRecord, ModuleRecord, DefinitionRecord, ArtifactRecord, BlankLineRecord, CommentRecord, InlineRecord, MacroRecord, InstanceRecord, FileEntry, IsFree}
+use Rattle.vast_core.specs.Records.{Port, ModuleRecord, DefinitionRecord, ArtifactRecord, BlankLineRecord, CommentRecord, InlineRecord, MacroRecord, InstanceRecord, FileEntry, IsFree}
 use Rattle.vast_core.specs.Nests.{NestRecord, FunctionRecord, AlwaysRecord, nest_kind, is_block_kind, is_conditional_kind, is_case_kind, is_loop_kind}
 
 pub record Bench : Type 0 where
   pub file_type : VastFileType
   pub nodes : Nodes
   pub nests : List NestRecord
-  pub ports : List PortRecord
+  pub ports : List Port
   pub assignments : List Assignment
   pub modules : List ModuleRecord
   pub functions : List FunctionRecord
@@ -200,7 +199,7 @@ names_of None = []
 names_of (Some m) = m.names
 
 abbrev pub NameIsFree : Bench → VastModule → List ℕ → Type 0
-NameIsFree b m name = IsFree name (names_of (slice_get b.modules (module_index m)))
+NameIsFree b m name = IsFree name (names_of (slice_get b.modules m.id.index))
 
 -- The names that a function's result, inputs and locals have taken.
 abbrev pub function_names : Option FunctionRecord → List (List ℕ)
@@ -208,4 +207,4 @@ function_names None = []
 function_names (Some f) = f.names
 
 abbrev pub IsFreeInFunction : Bench → VastFunction → List ℕ → Type 0
-IsFreeInFunction b f name = IsFree name (function_names (slice_get b.functions (function_index f)))
+IsFreeInFunction b f name = IsFree name (function_names (slice_get b.functions f.id.index))

@@ -1,5 +1,5 @@
 -- What a file holds after a call that adds to a container, or to a module what holds containers.
-use Rattle.std.specs.Prelude.{ℕ, suc, ◌+◌, Bool, true, false, [], ◌∷◌, ◌++◌, length, Option, Some, None}
+use Rattle.std.specs.Prelude.{ℕ, suc, Bool, true, false, [], ◌∷◌, ◌++◌, length, Option, Some, None}
 use Rattle.vast_core.specs.declared.handle.Expr.{Expr}
 use Rattle.vast_core.specs.declared.handle.VastStatementBlock.{VastStatementBlock}
 use Rattle.vast_core.specs.declared.handle.Conditional.{Conditional}
@@ -7,8 +7,7 @@ use Rattle.vast_core.specs.declared.handle.CaseStatement.{CaseStatement}
 use Rattle.vast_literal.specs.declared.kind.CaseKind.{CaseKind}
 use Rattle.vast_core.specs.declared.node.ElseIf.{ElseIf}
 use Rattle.vast_core.specs.declared.node.CaseArm.{CaseArm}
-use Rattle.vast_core.specs.Handles.{block_index, conditional_index, case_index}
-use Rattle.vast_core.specs.Records.{MemberEntry, changed_at}
+use Rattle.vast_core.specs.Records.{Member, changed_at}
 use Rattle.vast_core.specs.Nests.{StatementEntry, NestRecord, BlockRecord, ConditionalNestRecord, CaseNestRecord, LoopNestRecord}
 use Rattle.vast_core.specs.Bench.{Bench}
 use Rattle.vast_core.specs.Growth.{next_id}
@@ -19,30 +18,16 @@ pub data NestedEntry : Type 0 where
   ElseIfEnters : ElseIf → NestedEntry
   ElseEnters : VastStatementBlock → NestedEntry
   CaseArmEnters : CaseArm → NestedEntry
-  MemberEnters : MemberEntry → NestedEntry
+  MemberEnters : Member → NestedEntry
 
 -- The container with the entry at its end; one that holds no such entries stays.
 abbrev pub with_entry : NestedEntry → NestRecord → NestRecord
 with_entry (StatementEnters s) (BlockRecord statements) = BlockRecord (statements ++ s ∷ [])
-with_entry (StatementEnters s) (ConditionalNestRecord c) = ConditionalNestRecord c
-with_entry (StatementEnters s) (CaseNestRecord c) = CaseNestRecord c
-with_entry (StatementEnters s) (LoopNestRecord l) = LoopNestRecord l
-with_entry (ElseIfEnters a) (BlockRecord statements) = BlockRecord statements
 with_entry (ElseIfEnters a) (ConditionalNestRecord c) = ConditionalNestRecord (record c { else_ifs = c.else_ifs ++ a ∷ [] })
-with_entry (ElseIfEnters a) (CaseNestRecord c) = CaseNestRecord c
-with_entry (ElseIfEnters a) (LoopNestRecord l) = LoopNestRecord l
-with_entry (ElseEnters b) (BlockRecord statements) = BlockRecord statements
 with_entry (ElseEnters b) (ConditionalNestRecord c) = ConditionalNestRecord (record c { otherwise = Some b })
-with_entry (ElseEnters b) (CaseNestRecord c) = CaseNestRecord c
-with_entry (ElseEnters b) (LoopNestRecord l) = LoopNestRecord l
-with_entry (CaseArmEnters a) (BlockRecord statements) = BlockRecord statements
-with_entry (CaseArmEnters a) (ConditionalNestRecord c) = ConditionalNestRecord c
 with_entry (CaseArmEnters a) (CaseNestRecord c) = CaseNestRecord (record c { arms = c.arms ++ a ∷ [] })
-with_entry (CaseArmEnters a) (LoopNestRecord l) = LoopNestRecord l
-with_entry (MemberEnters m) (BlockRecord statements) = BlockRecord statements
-with_entry (MemberEnters m) (ConditionalNestRecord c) = ConditionalNestRecord c
-with_entry (MemberEnters m) (CaseNestRecord c) = CaseNestRecord c
 with_entry (MemberEnters m) (LoopNestRecord l) = LoopNestRecord (record l { members = l.members ++ m ∷ [] })
+with_entry entry nest = nest
 
 abbrev pub next_block : Bench → VastStatementBlock
 next_block b = record { id = next_id b (length b.nests) }
@@ -83,17 +68,17 @@ abbrev pub with_nest_entry : ℕ → NestedEntry → Bench → Bench
 with_nest_entry place entry b = record b { nests = changed_at place (with_entry entry) b.nests }
 
 abbrev pub with_statement : VastStatementBlock → StatementEntry → Bench → Bench
-with_statement owner s b = with_nest_entry (block_index owner) (StatementEnters s) b
+with_statement owner s b = with_nest_entry owner.id.index (StatementEnters s) b
 
 -- An arm more, with an empty block.
 abbrev pub with_else_if : Conditional → Expr → Bench → Bench
-with_else_if owner condition b = with_nest_entry (conditional_index owner) (ElseIfEnters (record { condition = condition; block = next_block b })) (with_block b)
+with_else_if owner condition b = with_nest_entry owner.id.index (ElseIfEnters (record { condition = condition; block = next_block b })) (with_block b)
 
 abbrev pub with_else : Conditional → Bench → Bench
-with_else owner b = with_nest_entry (conditional_index owner) (ElseEnters (next_block b)) (with_block b)
+with_else owner b = with_nest_entry owner.id.index (ElseEnters (next_block b)) (with_block b)
 
 abbrev pub with_case_arm : CaseStatement → Option Expr → Bench → Bench
-with_case_arm owner label b = with_nest_entry (case_index owner) (CaseArmEnters (record { label = label; block = next_block b })) (with_block b)
+with_case_arm owner label b = with_nest_entry owner.id.index (CaseArmEnters (record { label = label; block = next_block b })) (with_block b)
 
 -- The conditional has an `else`.
 abbrev pub is_there : {A : Type 0} → Option A → Bool
@@ -101,18 +86,13 @@ is_there None = false
 is_there (Some x) = true
 
 abbrev pub has_else : Option NestRecord → Bool
-has_else None = false
-has_else (Some (BlockRecord statements)) = false
 has_else (Some (ConditionalNestRecord c)) = is_there c.otherwise
-has_else (Some (CaseNestRecord c)) = false
-has_else (Some (LoopNestRecord l)) = false
+has_else _ = false
 
 -- The case statement, `unique` or not.
 abbrev pub with_unique : Bool → NestRecord → NestRecord
-with_unique unique (BlockRecord statements) = BlockRecord statements
-with_unique unique (ConditionalNestRecord c) = ConditionalNestRecord c
 with_unique unique (CaseNestRecord c) = CaseNestRecord (record c { unique = unique })
-with_unique unique (LoopNestRecord l) = LoopNestRecord l
+with_unique unique nest = nest
 
 abbrev pub with_case_unique : CaseStatement → Bool → Bench → Bench
-with_case_unique c unique b = record b { nests = changed_at (case_index c) (with_unique unique) b.nests }
+with_case_unique c unique b = record b { nests = changed_at c.id.index (with_unique unique) b.nests }

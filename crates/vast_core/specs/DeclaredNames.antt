@@ -2,11 +2,10 @@
 use Rattle.std.specs.Prelude.{◌≡◌, ℕ, ◌≤◌, List, [], ◌∷◌, ◌++◌, flat_map, count_by, Option, Some, None, slice_get}
 use Rattle.std.specs.Str.{bytes_eq}
 use Rattle.vast_core.specs.declared.handle.ModulePort.{ModulePort}
-use Rattle.vast_core.specs.Handles.{port_index, function_index}
-use Rattle.vast_core.specs.Records.{PortRecord, ModuleRecord, MemberEntry, DeclarationEntry, FunctionEntry}
+use Rattle.vast_core.specs.Records.{Port, ModuleRecord, Member, DeclarationEntry, FunctionEntry}
 use Rattle.vast_core.specs.Nests.{FunctionRecord}
 
-abbrev pub name_of_port : Option PortRecord → List ℕ
+abbrev pub name_of_port : Option Port → List ℕ
 name_of_port None = []
 name_of_port (Some p) = p.name
 
@@ -14,22 +13,22 @@ abbrev pub name_of_function : Option FunctionRecord → List ℕ
 name_of_function None = []
 name_of_function (Some f) = f.name
 
-abbrev pub names_by_port : List PortRecord → ModulePort → List (List ℕ)
-names_by_port ports p = name_of_port (slice_get ports (port_index p)) ∷ []
+abbrev pub names_by_port : List Port → ModulePort → List (List ℕ)
+names_by_port ports p = name_of_port (slice_get ports p.id.index) ∷ []
 
 -- A wire, reg or logic declares its name, and a function its own.
-abbrev pub names_by_member : List FunctionRecord → MemberEntry → List (List ℕ)
+abbrev pub names_by_member : List FunctionRecord → Member → List (List ℕ)
 names_by_member functions (DeclarationEntry kind name data_type) = name ∷ []
-names_by_member functions (FunctionEntry f) = name_of_function (slice_get functions (function_index f)) ∷ []
+names_by_member functions (FunctionEntry f) = name_of_function (slice_get functions f.id.index) ∷ []
 names_by_member functions _ = []
 
 -- The names of the module's ports, and those of its wires, regs, logics and functions.
-abbrev pub names_declared : List PortRecord → List FunctionRecord → ModuleRecord → List (List ℕ)
+abbrev pub names_declared : List Port → List FunctionRecord → ModuleRecord → List (List ℕ)
 names_declared ports functions m = flat_map (names_by_port ports) m.ports ++ flat_map (names_by_member functions) m.members
 
 abbrev pub times : List ℕ → List (List ℕ) → ℕ
 times name names = count_by (bytes_eq name) names
 
-pub record NamesSound (ports : List PortRecord) (functions : List FunctionRecord) (m : ModuleRecord) : Type 0 where
+pub record NamesSound (ports : List Port) (functions : List FunctionRecord) (m : ModuleRecord) : Type 0 where
   pub taken : (name : List ℕ) → times name (names_declared ports functions m) ≡ times name m.names
   pub once : (name : List ℕ) → times name m.names ≤ 1

@@ -12,10 +12,9 @@ use Rattle.vast_literal.specs.declared.kind.DataKind.{DataKind}
 use Rattle.vast_core.specs.declared.node.ElseIf.{ElseIf as ElseIfNode}
 use Rattle.vast_core.specs.declared.node.CaseArm.{CaseArm as CaseArmNode}
 use Rattle.vast_core.specs.declared.node.Assignment.{Assignment}
-use Rattle.vast_core.specs.Handles.{module_index, port_index, continuous_index, definition_index, comment_index, inline_index, macro_statement_index, instantiation_index, function_index, always_index, statement_index, block_index, conditional_index, case_index, loop_index, macro_ref_to_expr}
 use Rattle.vast_core.specs.Nodes.{maybe_type_in, maybe_expr_in}
-use Rattle.vast_core.specs.Records.{PortRecord, ParameterPortRecord, ModuleRecord, FormEntry, PlainForm, IntForm, DefinedForm, MemberEntry, DeclarationEntry, AssignmentEntry, ParameterEntry, BlankEntry, CommentEntry, InlineEntry, MacroEntry, InstanceEntry, FunctionEntry, AlwaysEntry, ConditionalEntry, LoopEntry, FileEntry, ModuleEntry, IncludeEntry, FileCommentEntry, FileBlankEntry, DefinitionRecord, ArtifactRecord, BlankLineRecord, CommentRecord, InlineRecord, MacroRecord, ConnectionRecord, InstanceRecord}
-use Rattle.vast_core.specs.Nests.{StatementEntry, AssignStatement, ContinuousStatement, ConditionalStatement, CasesStatement, BlankStatement, CommentStatement, InlineStatement, NestRecord, BlockRecord, ConditionalNestRecord, CaseNestRecord, LoopNestRecord, VariableRecord, FunctionRecord, AlwaysRecord}
+use Rattle.vast_core.specs.Records.{Port, ParameterPortRecord, ModuleRecord, ParameterForm, PlainForm, IntForm, DefinedForm, Member, DeclarationEntry, AssignmentEntry, ParameterEntry, BlankEntry, CommentEntry, InlineEntry, MacroEntry, InstanceEntry, FunctionEntry, AlwaysEntry, ConditionalEntry, LoopEntry, FileEntry, ModuleEntry, IncludeEntry, FileCommentEntry, FileBlankEntry, DefinitionRecord, ArtifactRecord, BlankLineRecord, CommentRecord, InlineRecord, MacroRecord, ConnectionRecord, InstanceRecord}
+use Rattle.vast_core.specs.Nests.{StatementEntry, AssignStatement, ContinuousStatement, ConditionalStatement, CasesStatement, BlankStatement, CommentStatement, InlineStatement, NestRecord, BlockRecord, ConditionalNestRecord, CaseNestRecord, LoopNestRecord, FunctionVariable, FunctionRecord, AlwaysRecord}
 use Rattle.vast_core.specs.Bench.{Bench, tree_of, type_of, maybe_tree_of, trees_of}
 
 abbrev pub declared : Bench → DataKind → List ℕ → VastDataType → Declaration
@@ -29,10 +28,10 @@ abbrev pub definition_tree : Bench → Option DefinitionRecord → Declaration
 definition_tree b None = missing_declaration
 definition_tree b (Some d) = declared b d.kind d.name d.data_type
 
-abbrev pub form_tree : Bench → FormEntry → ParameterName
+abbrev pub form_tree : Bench → ParameterForm → ParameterName
 form_tree b (PlainForm name) = PlainParameter name
 form_tree b (IntForm name) = IntParameter name
-form_tree b (DefinedForm d) = DefinedParameter (definition_tree b (slice_get b.definitions (definition_index d)))
+form_tree b (DefinedForm d) = DefinedParameter (definition_tree b (slice_get b.definitions d.id.index))
 
 abbrev pub assignment_member : Bench → Option Assignment → MemberTree
 assignment_member b None = BlankMember
@@ -43,7 +42,7 @@ artifact_member b None = BlankMember
 artifact_member b (Some BlankLineRecord) = BlankMember
 artifact_member b (Some (CommentRecord text)) = CommentMember text
 artifact_member b (Some (InlineRecord text)) = InlineMember text
-artifact_member b (Some (MacroRecord call semicolon)) = MacroMember (tree_of b (macro_ref_to_expr call)) semicolon
+artifact_member b (Some (MacroRecord call semicolon)) = MacroMember (tree_of b (record { id = call.id })) semicolon
 
 abbrev pub connection_tree : Bench → ConnectionRecord → Connection
 connection_tree b c = record { name = c.name; value = maybe_expr_in b.nodes c.value }
@@ -64,38 +63,23 @@ pub data Family : Type 0 where
 
 abbrev pub block_in : Family → Statements
 block_in (BlockFamily held) = held
-block_in (ConditionalFamily condition consequent alternates) = NoStatements
-block_in (CaseFamily s) = NoStatements
-block_in (LoopFamily m) = NoStatements
-block_in NoFamily = NoStatements
+block_in _ = NoStatements
 
 abbrev pub conditional_statement : Family → StatementTree
 conditional_statement (ConditionalFamily condition consequent alternates) = ConditionalTree condition consequent alternates
-conditional_statement (BlockFamily held) = BlankTree
-conditional_statement (CaseFamily s) = BlankTree
-conditional_statement (LoopFamily m) = BlankTree
-conditional_statement NoFamily = BlankTree
+conditional_statement _ = BlankTree
 
 abbrev pub case_statement : Family → StatementTree
 case_statement (CaseFamily s) = s
-case_statement (BlockFamily held) = BlankTree
-case_statement (ConditionalFamily condition consequent alternates) = BlankTree
-case_statement (LoopFamily m) = BlankTree
-case_statement NoFamily = BlankTree
+case_statement _ = BlankTree
 
 abbrev pub conditional_member : Family → MemberTree
 conditional_member (ConditionalFamily condition consequent alternates) = ConditionalMember condition consequent alternates
-conditional_member (BlockFamily held) = BlankMember
-conditional_member (CaseFamily s) = BlankMember
-conditional_member (LoopFamily m) = BlankMember
-conditional_member NoFamily = BlankMember
+conditional_member _ = BlankMember
 
 abbrev pub loop_member : Family → MemberTree
 loop_member (LoopFamily m) = m
-loop_member (BlockFamily held) = BlankMember
-loop_member (ConditionalFamily condition consequent alternates) = BlankMember
-loop_member (CaseFamily s) = BlankMember
-loop_member NoFamily = BlankMember
+loop_member _ = BlankMember
 
 abbrev pub form_of : Bool → AssignForm
 form_of true = Nonblocking
@@ -110,10 +94,10 @@ continuous_tree b None = BlankTree
 continuous_tree b (Some a) = AssignTree Continuous (tree_of b a.lhs) (tree_of b a.rhs)
 
 abbrev pub statement_in : Bench → (ℕ → Family) → StatementEntry → StatementTree
-statement_in b f (AssignStatement s) = assigned_tree b (slice_get b.assignments (statement_index s))
-statement_in b f (ContinuousStatement s) = continuous_tree b (slice_get b.assignments (statement_index s))
-statement_in b f (ConditionalStatement c) = conditional_statement (f (conditional_index c))
-statement_in b f (CasesStatement c) = case_statement (f (case_index c))
+statement_in b f (AssignStatement s) = assigned_tree b (slice_get b.assignments s.id.index)
+statement_in b f (ContinuousStatement s) = continuous_tree b (slice_get b.assignments s.id.index)
+statement_in b f (ConditionalStatement c) = conditional_statement (f c.id.index)
+statement_in b f (CasesStatement c) = case_statement (f c.id.index)
 statement_in b f BlankStatement = BlankTree
 statement_in b f (CommentStatement text) = CommentTree text
 statement_in b f (InlineStatement text) = InlineTree text
@@ -124,50 +108,50 @@ statements_in b f (s ∷ ss) = MoreStatements (statement_in b f s) (statements_i
 
 abbrev pub otherwise_in : (ℕ → Family) → Option VastStatementBlock → Alternates
 otherwise_in f None = NoElse
-otherwise_in f (Some c) = Else (block_in (f (block_index c)))
+otherwise_in f (Some c) = Else (block_in (f c.id.index))
 
 abbrev pub alternates_in : Bench → (ℕ → Family) → List ElseIfNode → Option VastStatementBlock → Alternates
 alternates_in b f [] otherwise = otherwise_in f otherwise
-alternates_in b f (a ∷ arms) otherwise = ElseIf (tree_of b a.condition) (block_in (f (block_index a.block))) (alternates_in b f arms otherwise)
+alternates_in b f (a ∷ arms) otherwise = ElseIf (tree_of b a.condition) (block_in (f a.block.id.index)) (alternates_in b f arms otherwise)
 
 abbrev pub arms_in : Bench → (ℕ → Family) → List CaseArmNode → CaseArms
 arms_in b f [] = NoCaseArms
-arms_in b f (a ∷ arms) = CaseArm (maybe_tree_of b a.label) (block_in (f (block_index a.block))) (arms_in b f arms)
+arms_in b f (a ∷ arms) = CaseArm (maybe_tree_of b a.label) (block_in (f a.block.id.index)) (arms_in b f arms)
 
 abbrev pub always_in : Bench → (ℕ → Family) → Option AlwaysRecord → MemberTree
 always_in b f None = BlankMember
-always_in b f (Some a) = AlwaysMember a.kind (trees_of b a.events) (block_in (f (block_index a.block)))
+always_in b f (Some a) = AlwaysMember a.kind (trees_of b a.events) (block_in (f a.block.id.index))
 
-abbrev pub variable_tree : Bench → VariableRecord → Declaration
+abbrev pub variable_tree : Bench → FunctionVariable → Declaration
 variable_tree b v = declared b v.kind v.name v.data_type
 
 abbrev pub function_in : Bench → (ℕ → Family) → Option FunctionRecord → MemberTree
 function_in b f None = BlankMember
-function_in b f (Some x) = FunctionMember (record { name = x.name; result = type_of b x.result_type; inputs = map (variable_tree b) x.inputs; locals = map (variable_tree b) x.locals; body = block_in (f (block_index x.body)) })
+function_in b f (Some x) = FunctionMember (record { name = x.name; result = type_of b x.result_type; inputs = map (variable_tree b) x.inputs; locals = map (variable_tree b) x.locals; body = block_in (f x.body.id.index) })
 
 -- The tree of a member; what a member names is read where it stands.
-abbrev pub member_in : Bench → (ℕ → Family) → MemberEntry → MemberTree
+abbrev pub member_in : Bench → (ℕ → Family) → Member → MemberTree
 member_in b f (DeclarationEntry kind name data_type) = DeclarationMember (declared b kind name data_type)
-member_in b f (AssignmentEntry a) = assignment_member b (slice_get b.assignments (continuous_index a))
+member_in b f (AssignmentEntry a) = assignment_member b (slice_get b.assignments a.id.index)
 member_in b f (ParameterEntry local form value) = ParameterMember local (form_tree b form) (tree_of b value)
 member_in b f BlankEntry = BlankMember
-member_in b f (CommentEntry a) = artifact_member b (slice_get b.artifacts (comment_index a))
-member_in b f (InlineEntry a) = artifact_member b (slice_get b.artifacts (inline_index a))
-member_in b f (MacroEntry a) = artifact_member b (slice_get b.artifacts (macro_statement_index a))
-member_in b f (InstanceEntry i) = instance_member b (slice_get b.instances (instantiation_index i))
-member_in b f (FunctionEntry x) = function_in b f (slice_get b.functions (function_index x))
-member_in b f (AlwaysEntry a) = always_in b f (slice_get b.always_blocks (always_index a))
-member_in b f (ConditionalEntry c) = conditional_member (f (conditional_index c))
-member_in b f (LoopEntry l) = loop_member (f (loop_index l))
+member_in b f (CommentEntry a) = artifact_member b (slice_get b.artifacts a.id.index)
+member_in b f (InlineEntry a) = artifact_member b (slice_get b.artifacts a.id.index)
+member_in b f (MacroEntry a) = artifact_member b (slice_get b.artifacts a.id.index)
+member_in b f (InstanceEntry i) = instance_member b (slice_get b.instances i.id.index)
+member_in b f (FunctionEntry x) = function_in b f (slice_get b.functions x.id.index)
+member_in b f (AlwaysEntry a) = always_in b f (slice_get b.always_blocks a.id.index)
+member_in b f (ConditionalEntry c) = conditional_member (f c.id.index)
+member_in b f (LoopEntry l) = loop_member (f l.id.index)
 
-abbrev pub members_in : Bench → (ℕ → Family) → List MemberEntry → Members
+abbrev pub members_in : Bench → (ℕ → Family) → List Member → Members
 members_in b f [] = NoMembers
 members_in b f (entry ∷ entries) = MoreMembers (member_in b f entry) (members_in b f entries)
 
 abbrev pub family : Bench → (ℕ → Family) → Option NestRecord → Family
 family b f None = NoFamily
 family b f (Some (BlockRecord statements)) = BlockFamily (statements_in b f statements)
-family b f (Some (ConditionalNestRecord c)) = ConditionalFamily (tree_of b c.condition) (block_in (f (block_index c.consequent))) (alternates_in b f c.else_ifs c.otherwise)
+family b f (Some (ConditionalNestRecord c)) = ConditionalFamily (tree_of b c.condition) (block_in (f c.consequent.id.index)) (alternates_in b f c.else_ifs c.otherwise)
 family b f (Some (CaseNestRecord c)) = CaseFamily (CaseTree c.unique c.kind (tree_of b c.selector) (arms_in b f c.arms))
 family b f (Some (LoopNestRecord l)) = LoopFamily (LoopMember l.name (tree_of b l.start) (tree_of b l.end) l.label (members_in b f l.members))
 
@@ -181,7 +165,7 @@ unfoldable pub families : Bench → ℕ → Family
 families b i = unfolded b (length b.nests) i
 
 abbrev pub block_tree : Bench → VastStatementBlock → Statements
-block_tree b c = block_in (families b (block_index c))
+block_tree b c = block_in (families b c.id.index)
 
 abbrev pub statements_tree : Bench → List StatementEntry → Statements
 statements_tree b statements = statements_in b (families b) statements
@@ -192,24 +176,24 @@ alternates_tree b arms otherwise = alternates_in b (families b) arms otherwise
 abbrev pub case_arms_tree : Bench → List CaseArmNode → CaseArms
 case_arms_tree b arms = arms_in b (families b) arms
 
-abbrev pub member_tree : Bench → MemberEntry → MemberTree
+abbrev pub member_tree : Bench → Member → MemberTree
 member_tree b entry = member_in b (families b) entry
 
-abbrev pub members_tree : Bench → List MemberEntry → Members
+abbrev pub members_tree : Bench → List Member → Members
 members_tree b entries = members_in b (families b) entries
 
-abbrev pub declared_port : Bench → PortRecord → PortTree
+abbrev pub declared_port : Bench → Port → PortTree
 declared_port b p = record { direction = p.direction; declaration = declared b p.kind p.name p.data_type }
 
 abbrev pub missing_port : PortTree
 missing_port = record { direction = InputDirection; declaration = missing_declaration }
 
-abbrev pub maybe_port_tree : Bench → Option PortRecord → PortTree
+abbrev pub maybe_port_tree : Bench → Option Port → PortTree
 maybe_port_tree b None = missing_port
 maybe_port_tree b (Some p) = declared_port b p
 
 abbrev pub port_tree : Bench → ModulePort → PortTree
-port_tree b p = maybe_port_tree b (slice_get b.ports (port_index p))
+port_tree b p = maybe_port_tree b (slice_get b.ports p.id.index)
 
 abbrev pub parameter_port_tree : Bench → ParameterPortRecord → ParameterPortTree
 parameter_port_tree b p = record { name = p.name; type = maybe_type_in b.nodes p.data_type; value = tree_of b p.value }
@@ -222,7 +206,7 @@ maybe_module_tree b None = BlankItem
 maybe_module_tree b (Some m) = ModuleItem (module_tree b m)
 
 abbrev pub item_tree : Bench → FileEntry → FileItemTree
-item_tree b (ModuleEntry m) = maybe_module_tree b (slice_get b.modules (module_index m))
+item_tree b (ModuleEntry m) = maybe_module_tree b (slice_get b.modules m.id.index)
 item_tree b (IncludeEntry path) = IncludeItem path
 item_tree b (FileCommentEntry text) = CommentItem text
 item_tree b FileBlankEntry = BlankItem

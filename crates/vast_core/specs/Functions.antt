@@ -2,20 +2,19 @@
 use Rattle.std.specs.Prelude.{Bool, true, false, [], ◌∷◌, ◌++◌}
 use Rattle.vast_literal.specs.Tree.{NameTree, Typed}
 use Rattle.vast_core.specs.declared.handle.VastFunction.{VastFunction}
-use Rattle.vast_core.specs.Handles.{function_index}
 use Rattle.vast_core.specs.Records.{with_name, changed_at}
-use Rattle.vast_core.specs.Nests.{VariableRecord, FunctionRecord}
+use Rattle.vast_core.specs.Nests.{FunctionVariable, FunctionRecord}
 use Rattle.vast_core.specs.Bench.{Bench, type_of}
 use Rattle.vast_core.specs.Growth.{with_expr}
 
 -- An input or a local more at the end of its list, whose name is taken from then on.
-abbrev pub with_listed_variable : (local : Bool) → VariableRecord → FunctionRecord → FunctionRecord
+abbrev pub with_listed_variable : (local : Bool) → FunctionVariable → FunctionRecord → FunctionRecord
 with_listed_variable false v f = record f { inputs = f.inputs ++ v ∷ []; names = with_name v.name f.names }
 with_listed_variable true v f = record f { locals = f.locals ++ v ∷ []; names = with_name v.name f.names }
 
-abbrev pub with_listed_in : VastFunction → (local : Bool) → VariableRecord → Bench → Bench
-with_listed_in f local v b = record b { functions = changed_at (function_index f) (with_listed_variable local v) b.functions }
+abbrev pub with_listed_in : VastFunction → (local : Bool) → FunctionVariable → Bench → Bench
+with_listed_in f local v b = record b { functions = changed_at f.id.index (with_listed_variable local v) b.functions }
 
 -- The same, with the name as an expression.
-abbrev pub with_variable : VastFunction → (local : Bool) → VariableRecord → Bench → Bench
+abbrev pub with_variable : VastFunction → (local : Bool) → FunctionVariable → Bench → Bench
 with_variable f local v b = with_expr (NameTree v.name (Typed (type_of b v.data_type))) (with_listed_in f local v b)

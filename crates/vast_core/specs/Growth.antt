@@ -17,11 +17,10 @@ use Rattle.vast_core.specs.declared.handle.ContinuousAssignment.{ContinuousAssig
 use Rattle.vast_literal.specs.declared.kind.ModulePortDirection.{ModulePortDirection}
 use Rattle.vast_literal.specs.declared.kind.DataKind.{DataKind}
 use Rattle.vast_core.specs.declared.node.Assignment.{Assignment}
-use Rattle.vast_core.specs.Handles.{module_index, indexable_expr_to_expr}
 use Rattle.vast_core.specs.Raw.{Raw}
 use Rattle.vast_core.specs.View.{bench}
 use Rattle.vast_core.specs.Nodes.{Root, ExprRoot, TypeRoot, with_root as with_node}
-use Rattle.vast_core.specs.Records.{FileEntry, ModuleEntry, MemberEntry, DeclarationEntry, new_module, with_port as with_listed_port, with_member as with_listed_member, with_named_member as with_listed_name, changed_at}
+use Rattle.vast_core.specs.Records.{FileEntry, ModuleEntry, Member, DeclarationEntry, new_module, with_port as with_listed_port, with_member as with_listed_member, with_named_member as with_listed_name, changed_at}
 use Rattle.vast_core.specs.Bench.{Bench, tree_of, trees_of, type_of}
 
 -- The call answers this and leaves this, both of what the file held; or memory was refused and nothing changed.
@@ -90,7 +89,7 @@ decimal_literal value = known_literal (signed_decimal value) value
 -- A bit select by a number: a literal of the index, and the select.
 abbrev pub with_fixed_index : IndexableExpr → List ℕ → ℤ → Bench → Bench
 with_fixed_index subject text index b =
-    with_expr (IndexTree (tree_of b (indexable_expr_to_expr subject)) (known_literal text index)) (with_expr (known_literal text index) b)
+    with_expr (IndexTree (tree_of b (record { id = subject.id })) (known_literal text index)) (with_expr (known_literal text index) b)
 
 abbrev pub next_fixed_index : List ℕ → ℤ → Bench → Index
 next_fixed_index text index b = next_index (with_expr (known_literal text index) b)
@@ -101,7 +100,7 @@ with_bounds high_text high low_text low b = with_expr (known_literal low_text lo
 
 abbrev pub with_fixed_slice : IndexableExpr → List ℕ → ℤ → List ℕ → ℤ → Bench → Bench
 with_fixed_slice subject high_text high low_text low b =
-    with_expr (SliceTree (tree_of b (indexable_expr_to_expr subject)) (known_literal high_text high) (known_literal low_text low)) (with_bounds high_text high low_text low b)
+    with_expr (SliceTree (tree_of b (record { id = subject.id })) (known_literal high_text high) (known_literal low_text low)) (with_bounds high_text high low_text low b)
 
 abbrev pub next_fixed_slice : List ℕ → ℤ → List ℕ → ℤ → Bench → Slice
 next_fixed_slice high_text high low_text low b = next_slice (with_bounds high_text high low_text low b)
@@ -133,19 +132,19 @@ with_port m direction kind name data_type b =
     record b {
       nodes = with_node b.nodes (ExprRoot (NameTree name (Typed (type_of b data_type))));
       ports = b.ports ++ record { direction = direction; kind = kind; name = name; data_type = data_type; logic_ref = next_logic_ref b } ∷ [];
-      modules = changed_at (module_index m) (with_listed_port (next_port b) name) b.modules;
+      modules = changed_at m.id.index (with_listed_port (next_port b) name) b.modules;
     }
 
 abbrev pub with_assignment : Assignment → Bench → Bench
 with_assignment a b = record b { assignments = b.assignments ++ a ∷ [] }
 
 -- A member more at the end of the module's members.
-abbrev pub with_member : VastModule → MemberEntry → Bench → Bench
-with_member m entry b = record b { modules = changed_at (module_index m) (with_listed_member entry) b.modules }
+abbrev pub with_member : VastModule → Member → Bench → Bench
+with_member m entry b = record b { modules = changed_at m.id.index (with_listed_member entry) b.modules }
 
 -- The same, with a name that is taken from then on.
-abbrev pub with_named_member : VastModule → MemberEntry → List ℕ → Bench → Bench
-with_named_member m entry name b = record b { modules = changed_at (module_index m) (with_listed_name entry name) b.modules }
+abbrev pub with_named_member : VastModule → Member → List ℕ → Bench → Bench
+with_named_member m entry name b = record b { modules = changed_at m.id.index (with_listed_name entry name) b.modules }
 
 -- A wire, reg or logic more: its place at the end of the module's members, and its name as an expression.
 abbrev pub with_declaration : VastModule → DataKind → List ℕ → VastDataType → Bench → Bench

@@ -8,8 +8,7 @@ use Rattle.vast_core.specs.declared.handle.VastAlwaysBase.{VastAlwaysBase}
 use Rattle.vast_core.specs.declared.handle.VastFunction.{VastFunction}
 use Rattle.vast_core.specs.declared.handle.GenerateLoop.{GenerateLoop}
 use Rattle.vast_literal.specs.declared.kind.AlwaysKind.{AlwaysKind}
-use Rattle.vast_core.specs.Handles.{loop_index, definition_index}
-use Rattle.vast_core.specs.Records.{FormEntry, PlainForm, DefinedForm, MemberEntry, ParameterEntry, with_name}
+use Rattle.vast_core.specs.Records.{ParameterForm, PlainForm, DefinedForm, Member, ParameterEntry, with_name}
 use Rattle.vast_core.specs.Nests.{NestRecord, LoopNestRecord, AlwaysRecord, FunctionRecord}
 use Rattle.vast_core.specs.Bench.{Bench, type_of}
 use Rattle.vast_core.specs.Growth.{next_id, next_logic_ref, with_expr}
@@ -26,11 +25,11 @@ abbrev pub next_function : Bench → VastFunction
 next_function b = record { id = next_id b (length b.functions) }
 
 -- A loop with a member more at its end.
-abbrev pub with_loop_member : GenerateLoop → MemberEntry → Bench → Bench
-with_loop_member owner entry b = with_nest_entry (loop_index owner) (MemberEnters entry) b
+abbrev pub with_loop_member : GenerateLoop → Member → Bench → Bench
+with_loop_member owner entry b = with_nest_entry owner.id.index (MemberEnters entry) b
 
 -- A local parameter more among the loop's members, and this name as an expression.
-abbrev pub with_loop_parameter : GenerateLoop → FormEntry → Expr → ExprTree → Bench → Bench
+abbrev pub with_loop_parameter : GenerateLoop → ParameterForm → Expr → ExprTree → Bench → Bench
 with_loop_parameter owner form value name b = with_expr name (with_loop_member owner (ParameterEntry true form value) b)
 
 -- One that declares its name alone, and one that declares what the definition does.
@@ -38,7 +37,7 @@ abbrev pub with_plain_loop_parameter : GenerateLoop → List ℕ → Expr → Be
 with_plain_loop_parameter owner name value b = with_loop_parameter owner (PlainForm name) value (NameTree name Untyped) b
 
 abbrev pub with_defined_loop_parameter : GenerateLoop → Def → Expr → Bench → Bench
-with_defined_loop_parameter owner d value b = with_loop_parameter owner (DefinedForm d) value (defined_name b (slice_get b.definitions (definition_index d))) b
+with_defined_loop_parameter owner d value b = with_loop_parameter owner (DefinedForm d) value (defined_name b (slice_get b.definitions d.id.index)) b
 
 -- An always block and its block, which is empty.
 abbrev pub new_always : Bench → AlwaysKind → List Expr → AlwaysRecord

@@ -8,7 +8,6 @@ use Rattle.vast_core.specs.declared.handle.VastStatement.{VastStatement}
 use Rattle.vast_core.specs.declared.handle.VastStatementBlock.{VastStatementBlock}
 use Rattle.vast_core.specs.declared.handle.Conditional.{Conditional}
 use Rattle.vast_core.specs.declared.handle.CaseStatement.{CaseStatement}
-use Rattle.vast_literal.specs.declared.kind.DataKind.{DataKind}
 use Rattle.vast_literal.specs.declared.kind.AlwaysKind.{AlwaysKind}
 use Rattle.vast_literal.specs.declared.kind.CaseKind.{CaseKind}
 use Rattle.vast_core.specs.declared.node.Statement.{Statement}
@@ -20,10 +19,11 @@ use Rattle.vast_core.specs.declared.node.CaseNode.{CaseNode}
 use Rattle.vast_core.specs.declared.node.LoopNode.{LoopNode}
 use Rattle.vast_core.specs.declared.node.Nest.{Nest}
 use Rattle.vast_core.specs.declared.node.Nest.TheVariants.{Block as BlockNode, Conditional as ConditionalNest, Case as CaseNest, Loop as LoopNest}
-use Rattle.vast_core.specs.declared.node.FunctionVariable.{FunctionVariable}
+-- A name that a function declares, an input or a local, is the node itself.
+pub use Rattle.vast_core.specs.declared.node.FunctionVariable.{FunctionVariable}
 use Rattle.vast_core.specs.declared.node.Function.{Function}
 use Rattle.vast_core.specs.declared.node.AlwaysBlock.{AlwaysBlock}
-use Rattle.vast_core.specs.Records.{MemberEntry, member_entry, in_byte_order}
+use Rattle.vast_core.specs.Records.{Member, in_byte_order}
 
 -- A statement of a block. An assignment or a container stays where it is, and its statement names it.
 pub data StatementEntry : Type 0 where
@@ -56,7 +56,7 @@ pub record LoopRecord : Type 0 where
   pub start : Expr
   pub end : Expr
   pub label : Option (List ℕ)
-  pub members : List MemberEntry
+  pub members : List Member
 
 -- A container.
 pub data NestRecord : Type 0 where
@@ -65,23 +65,17 @@ pub data NestRecord : Type 0 where
   CaseNestRecord : CaseRecord → NestRecord
   LoopNestRecord : LoopRecord → NestRecord
 
--- A name that a function declares.
-pub record VariableRecord : Type 0 where
-  pub kind : DataKind
-  pub name : List ℕ
-  pub data_type : VastDataType
-
 -- A function; the names of its result, inputs and locals are in byte order, each once.
 pub record FunctionRecord : Type 0 where
   pub name : List ℕ
   pub result_type : VastDataType
   pub result_name : LogicRef
-  pub inputs : List VariableRecord
-  pub locals : List VariableRecord
+  pub inputs : List FunctionVariable
+  pub locals : List FunctionVariable
   pub body : VastStatementBlock
   pub names : List (List ℕ)
 
-abbrev pub variable_names : List VariableRecord → List (List ℕ)
+abbrev pub variable_names : List FunctionVariable → List (List ℕ)
 variable_names variables = map (λ v. v.name) variables
 
 -- The names of the function's result, inputs and locals.
@@ -115,7 +109,7 @@ label_bytes None = None
 label_bytes (Some text) = Some (string_bytes text)
 
 abbrev pub loop_record : LoopNode → LoopRecord
-loop_record l = record { genvar = l.genvar; name = string_bytes l.name; start = l.start; end = l.end; label = label_bytes l.label; members = map member_entry l.members.items }
+loop_record l = record { genvar = l.genvar; name = string_bytes l.name; start = l.start; end = l.end; label = label_bytes l.label; members = l.members.items }
 
 abbrev pub nest_record : Nest → NestRecord
 nest_record (BlockNode statements) = BlockRecord (map statement_entry statements.items)
@@ -123,22 +117,15 @@ nest_record (ConditionalNest c) = ConditionalNestRecord (conditional_record c)
 nest_record (CaseNest c) = CaseNestRecord (case_record c)
 nest_record (LoopNest l) = LoopNestRecord (loop_record l.value)
 
-abbrev pub variable_record : FunctionVariable → VariableRecord
-variable_record v = record { kind = v.kind; name = v.name; data_type = v.data_type }
-
 abbrev pub function_record : Function → FunctionRecord
-function_record f = record { name = string_bytes f.name; result_type = f.result_type; result_name = f.result; inputs = map variable_record f.inputs.items; locals = map variable_record f.locals.items; body = f.body; names = in_byte_order f.names }
+function_record f = record { name = string_bytes f.name; result_type = f.result_type; result_name = f.result; inputs = f.inputs.items; locals = f.locals.items; body = f.body; names = in_byte_order f.names }
 
 abbrev pub always_record : AlwaysBlock → AlwaysRecord
 always_record a = record { kind = a.kind; events = a.events.items; block = a.block }
 
 -- Which kind of container a record is.
 pub data NestKind : Type 0 where
-  BlockKind : NestKind
-  ConditionalKind : NestKind
-  CaseStatementKind : NestKind
-  LoopKind : NestKind
-  NoKind : NestKind
+  BlockKind ConditionalKind CaseStatementKind LoopKind NoKind : NestKind
 
 abbrev pub nest_kind : Option NestRecord → NestKind
 nest_kind None = NoKind
@@ -149,28 +136,16 @@ nest_kind (Some (LoopNestRecord l)) = LoopKind
 
 abbrev pub is_block_kind : NestKind → Bool
 is_block_kind BlockKind = true
-is_block_kind ConditionalKind = false
-is_block_kind CaseStatementKind = false
-is_block_kind LoopKind = false
-is_block_kind NoKind = false
+is_block_kind _ = false
 
 abbrev pub is_conditional_kind : NestKind → Bool
-is_conditional_kind BlockKind = false
 is_conditional_kind ConditionalKind = true
-is_conditional_kind CaseStatementKind = false
-is_conditional_kind LoopKind = false
-is_conditional_kind NoKind = false
+is_conditional_kind _ = false
 
 abbrev pub is_case_kind : NestKind → Bool
-is_case_kind BlockKind = false
-is_case_kind ConditionalKind = false
 is_case_kind CaseStatementKind = true
-is_case_kind LoopKind = false
-is_case_kind NoKind = false
+is_case_kind _ = false
 
 abbrev pub is_loop_kind : NestKind → Bool
-is_loop_kind BlockKind = false
-is_loop_kind ConditionalKind = false
-is_loop_kind CaseStatementKind = false
 is_loop_kind LoopKind = true
-is_loop_kind NoKind = false
+is_loop_kind _ = false

@@ -29,14 +29,12 @@ with_root b r = record { id = b.id; roots = b.roots ++ r ∷ [] }
 -- Which kinds of node an index names.
 
 abbrev pub is_expr_root : Option Root → Bool
-is_expr_root None = false
 is_expr_root (Some (ExprRoot e)) = true
-is_expr_root (Some (TypeRoot t)) = false
+is_expr_root _ = false
 
 abbrev pub is_type_root : Option Root → Bool
-is_type_root None = false
-is_type_root (Some (ExprRoot e)) = false
 is_type_root (Some (TypeRoot t)) = true
+is_type_root _ = false
 
 abbrev pub is_name : ExprTree → Bool
 is_name (NameTree name type) = true
@@ -56,19 +54,16 @@ is_macro _ = false
 
 -- The root is an expression of this shape.
 abbrev pub is_root_of : (ExprTree → Bool) → Option Root → Bool
-is_root_of shape None = false
 is_root_of shape (Some (ExprRoot e)) = shape e
-is_root_of shape (Some (TypeRoot t)) = false
+is_root_of shape _ = false
 
 abbrev pub expr_of_root : Option Root → ExprTree
-expr_of_root None = MissingExpr
 expr_of_root (Some (ExprRoot e)) = e
-expr_of_root (Some (TypeRoot t)) = MissingExpr
+expr_of_root _ = MissingExpr
 
 abbrev pub type_of_root : Option Root → TypeTree
-type_of_root None = MissingType
-type_of_root (Some (ExprRoot e)) = MissingType
 type_of_root (Some (TypeRoot t)) = t
+type_of_root _ = MissingType
 
 -- The handle is the file's, and its index names a node of its kind.
 pub record IsOwned (file_id : ℕ) (id : Id) (of_its_kind : Bool) : Type 0 where

@@ -7,9 +7,8 @@ use Rattle.vast_core.specs.declared.handle.VastModule.{VastModule}
 use Rattle.vast_core.specs.declared.handle.VastDataType.{VastDataType}
 use Rattle.vast_core.specs.declared.handle.ParameterRef.{ParameterRef}
 use Rattle.vast_core.specs.declared.handle.LocalparamRef.{LocalparamRef}
-use Rattle.vast_core.specs.Handles.{module_index, definition_index}
 use Rattle.vast_core.specs.Nodes.{maybe_type_in}
-use Rattle.vast_core.specs.Records.{ParameterPortRecord, DefinitionRecord, FormEntry, PlainForm, IntForm, DefinedForm, ParameterEntry, with_parameter_port as with_listed_parameter, changed_at}
+use Rattle.vast_core.specs.Records.{ParameterPortRecord, DefinitionRecord, ParameterForm, PlainForm, IntForm, DefinedForm, ParameterEntry, with_parameter_port as with_listed_parameter, changed_at}
 use Rattle.vast_core.specs.Bench.{Bench, type_of}
 use Rattle.vast_core.specs.Growth.{next_id, with_expr, with_member}
 
@@ -21,14 +20,14 @@ next_localparam_ref b = record { id = next_id b (length b.nodes.roots) }
 
 -- A parameter more in the module's header: its place at the end, and its name as an expression.
 abbrev pub with_parameter_listed : VastModule → ParameterPortRecord → Bench → Bench
-with_parameter_listed m p b = record b { modules = changed_at (module_index m) (with_listed_parameter p) b.modules }
+with_parameter_listed m p b = record b { modules = changed_at m.id.index (with_listed_parameter p) b.modules }
 
 abbrev pub with_parameter_port : VastModule → List ℕ → Option VastDataType → Expr → Bench → Bench
 with_parameter_port m name data_type value b =
     with_expr (NameTree name (maybe_type_in b.nodes data_type)) (with_parameter_listed m (record { name = name; data_type = data_type; value = value }) b)
 
 -- A parameter more among the module's members, and this name as an expression.
-abbrev pub with_parameter_named : VastModule → Bool → FormEntry → Expr → ExprTree → Bench → Bench
+abbrev pub with_parameter_named : VastModule → Bool → ParameterForm → Expr → ExprTree → Bench → Bench
 with_parameter_named m local form value name b = with_expr name (with_member m (ParameterEntry local form value) b)
 
 -- A parameter that declares its name alone, or its name of type int.
@@ -45,10 +44,10 @@ defined_name b (Some d) = NameTree d.name (Typed (type_of b d.data_type))
 
 -- A parameter that declares what the definition does.
 abbrev pub with_defined_parameter : VastModule → Bool → Def → Expr → Bench → Bench
-with_defined_parameter m local d value b = with_parameter_named m local (DefinedForm d) value (defined_name b (slice_get b.definitions (definition_index d))) b
+with_defined_parameter m local d value b = with_parameter_named m local (DefinedForm d) value (defined_name b (slice_get b.definitions d.id.index)) b
 
 -- The name of what the form declares, as an expression.
-abbrev pub form_name : Bench → FormEntry → ExprTree
+abbrev pub form_name : Bench → ParameterForm → ExprTree
 form_name b (PlainForm name) = NameTree name Untyped
 form_name b (IntForm name) = NameTree name Untyped
-form_name b (DefinedForm d) = defined_name b (slice_get b.definitions (definition_index d))
+form_name b (DefinedForm d) = defined_name b (slice_get b.definitions d.id.index)

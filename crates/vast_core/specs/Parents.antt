@@ -3,8 +3,7 @@ use Rattle.std.specs.Prelude.{ℕ, ◌≤◌, Bool, false, List, [], ◌∷◌, 
 use Rattle.vast_core.specs.declared.handle.VastStatementBlock.{VastStatementBlock}
 use Rattle.vast_core.specs.declared.node.ElseIf.{ElseIf}
 use Rattle.vast_core.specs.declared.node.CaseArm.{CaseArm}
-use Rattle.vast_core.specs.Handles.{function_index, always_index, block_index, conditional_index, case_index, loop_index}
-use Rattle.vast_core.specs.Records.{MemberEntry, FunctionEntry, AlwaysEntry, ConditionalEntry, LoopEntry, ModuleRecord}
+use Rattle.vast_core.specs.Records.{Member, FunctionEntry, AlwaysEntry, ConditionalEntry, LoopEntry, ModuleRecord}
 use Rattle.vast_core.specs.Nests.{StatementEntry, ConditionalStatement, CasesStatement, ConditionalRecord, NestRecord, BlockRecord, ConditionalNestRecord, CaseNestRecord, LoopNestRecord, FunctionRecord, AlwaysRecord}
 use Rattle.vast_core.specs.Bench.{Bench}
 
@@ -23,29 +22,29 @@ is_same _ _ = false
 -- The parts that each holds directly: a statement, a member, an arm, a container, a function, an always block, a module.
 
 abbrev pub held_by_statement : StatementEntry → List Part
-held_by_statement (ConditionalStatement c) = ContainerPart (conditional_index c) ∷ []
-held_by_statement (CasesStatement c) = ContainerPart (case_index c) ∷ []
+held_by_statement (ConditionalStatement c) = ContainerPart c.id.index ∷ []
+held_by_statement (CasesStatement c) = ContainerPart c.id.index ∷ []
 held_by_statement _ = []
 
-abbrev pub held_by_member : MemberEntry → List Part
-held_by_member (FunctionEntry f) = FunctionPart (function_index f) ∷ []
-held_by_member (AlwaysEntry a) = AlwaysPart (always_index a) ∷ []
-held_by_member (ConditionalEntry c) = ContainerPart (conditional_index c) ∷ []
-held_by_member (LoopEntry l) = ContainerPart (loop_index l) ∷ []
+abbrev pub held_by_member : Member → List Part
+held_by_member (FunctionEntry f) = FunctionPart f.id.index ∷ []
+held_by_member (AlwaysEntry a) = AlwaysPart a.id.index ∷ []
+held_by_member (ConditionalEntry c) = ContainerPart c.id.index ∷ []
+held_by_member (LoopEntry l) = ContainerPart l.id.index ∷ []
 held_by_member _ = []
 
 abbrev pub held_by_else_if : ElseIf → List Part
-held_by_else_if a = ContainerPart (block_index a.block) ∷ []
+held_by_else_if a = ContainerPart a.block.id.index ∷ []
 
 abbrev pub held_by_block : Option VastStatementBlock → List Part
 held_by_block None = []
-held_by_block (Some c) = ContainerPart (block_index c) ∷ []
+held_by_block (Some c) = ContainerPart c.id.index ∷ []
 
 abbrev pub held_by_case_arm : CaseArm → List Part
-held_by_case_arm a = ContainerPart (block_index a.block) ∷ []
+held_by_case_arm a = ContainerPart a.block.id.index ∷ []
 
 abbrev pub held_by_conditional : ConditionalRecord → List Part
-held_by_conditional c = ContainerPart (block_index c.consequent) ∷ (flat_map held_by_else_if c.else_ifs ++ held_by_block c.otherwise)
+held_by_conditional c = ContainerPart c.consequent.id.index ∷ (flat_map held_by_else_if c.else_ifs ++ held_by_block c.otherwise)
 
 abbrev pub held_by_container : NestRecord → List Part
 held_by_container (BlockRecord statements) = flat_map held_by_statement statements
@@ -54,10 +53,10 @@ held_by_container (CaseNestRecord c) = flat_map held_by_case_arm c.arms
 held_by_container (LoopNestRecord l) = flat_map held_by_member l.members
 
 abbrev pub held_by_function : FunctionRecord → List Part
-held_by_function f = ContainerPart (block_index f.body) ∷ []
+held_by_function f = ContainerPart f.body.id.index ∷ []
 
 abbrev pub held_by_always : AlwaysRecord → List Part
-held_by_always a = ContainerPart (block_index a.block) ∷ []
+held_by_always a = ContainerPart a.block.id.index ∷ []
 
 abbrev pub held_by_module : ModuleRecord → List Part
 held_by_module m = flat_map held_by_member m.members

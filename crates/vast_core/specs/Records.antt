@@ -1,5 +1,4 @@
--- The records of ports, modules, definitions, artifacts, instantiations and file items: nodes with the bytes of their
--- texts.
+-- The records of modules, definitions, artifacts, instantiations and file items: nodes with the bytes of their texts.
 use Rattle.std.specs.Prelude.{◌≢◌, ℕ, Bool, Option, zero, suc, List, [], ◌∷◌, ◌++◌, map, fold, All, string_bytes}
 use Rattle.std.specs.Ordering.{nat_cmp}
 use Rattle.std.specs.Cmp.Lexicographic.{slice_cmp}
@@ -7,28 +6,17 @@ use Rattle.std.specs.BTreeSet.{insert_key}
 use Rattle.vast_core.specs.declared.handle.VastModule.{VastModule}
 use Rattle.vast_core.specs.declared.handle.VastDataType.{VastDataType}
 use Rattle.vast_core.specs.declared.handle.Expr.{Expr}
-use Rattle.vast_core.specs.declared.handle.LogicRef.{LogicRef}
 use Rattle.vast_core.specs.declared.handle.MacroRef.{MacroRef}
-use Rattle.vast_core.specs.declared.handle.Def.{Def}
-use Rattle.vast_core.specs.declared.handle.Comment.{Comment}
-use Rattle.vast_core.specs.declared.handle.InlineVerilogStatement.{InlineVerilogStatement}
-use Rattle.vast_core.specs.declared.handle.MacroStatement.{MacroStatement}
-use Rattle.vast_core.specs.declared.handle.Instantiation.{Instantiation}
-use Rattle.vast_core.specs.declared.handle.VastFunction.{VastFunction}
-use Rattle.vast_core.specs.declared.handle.VastAlwaysBase.{VastAlwaysBase}
-use Rattle.vast_core.specs.declared.handle.Conditional.{Conditional}
-use Rattle.vast_core.specs.declared.handle.GenerateLoop.{GenerateLoop}
 use Rattle.vast_core.specs.declared.handle.ModulePort.{ModulePort}
-use Rattle.vast_core.specs.declared.handle.ContinuousAssignment.{ContinuousAssignment}
-use Rattle.vast_literal.specs.declared.kind.ModulePortDirection.{ModulePortDirection}
 use Rattle.vast_literal.specs.declared.kind.DataKind.{DataKind}
-use Rattle.vast_core.specs.declared.node.Port.{Port}
+-- A port, a member of a module or of a generate loop, and what a parameter declares, are the nodes themselves.
+pub use Rattle.vast_core.specs.declared.node.Port.{Port}
+pub use Rattle.vast_core.specs.declared.node.ParameterForm.{ParameterForm}
+pub use Rattle.vast_core.specs.declared.node.ParameterForm.TheVariants.{Plain as PlainForm, Int as IntForm, Defined as DefinedForm}
+pub use Rattle.vast_core.specs.declared.node.Member.{Member}
+pub use Rattle.vast_core.specs.declared.node.Member.TheVariants.{Declaration as DeclarationEntry, ContinuousAssignment as AssignmentEntry, Parameter as ParameterEntry, BlankLine as BlankEntry, Comment as CommentEntry, Inline as InlineEntry, Macro as MacroEntry, Instantiation as InstanceEntry, Function as FunctionEntry, Always as AlwaysEntry, Conditional as ConditionalEntry, Loop as LoopEntry}
 use Rattle.vast_core.specs.declared.node.Module.{Module}
 use Rattle.vast_core.specs.declared.node.ParameterPort.{ParameterPort}
-use Rattle.vast_core.specs.declared.node.ParameterForm.{ParameterForm}
-use Rattle.vast_core.specs.declared.node.ParameterForm.TheVariants.{Plain, Int, Defined}
-use Rattle.vast_core.specs.declared.node.Member.{Member}
-use Rattle.vast_core.specs.declared.node.Member.TheVariants.{Declaration as DeclarationOf, ContinuousAssignment as AssignmentOf, Parameter as ParameterOf, BlankLine as BlankOf, Comment as CommentOf, Inline as InlineOf, Macro as MacroOf, Instantiation as InstanceOf, Function as FunctionOf, Always as AlwaysOf, Conditional as ConditionalOf, Loop as LoopOf}
 use Rattle.vast_core.specs.declared.node.FileItem.{FileItem}
 use Rattle.vast_core.specs.declared.node.FileItem.TheVariants.{Module as ModuleItemOf, Include as IncludeItemOf, Comment as CommentItemOf, BlankLine as BlankItemOf}
 use Rattle.vast_core.specs.declared.node.Definition.{Definition}
@@ -37,46 +25,18 @@ use Rattle.vast_core.specs.declared.node.Artifact.TheVariants.{BlankLine as Blan
 use Rattle.vast_core.specs.declared.node.Connection.{Connection}
 use Rattle.vast_core.specs.declared.node.Instance.{Instance}
 
-pub record PortRecord : Type 0 where
-  pub direction : ModulePortDirection
-  pub kind : DataKind
-  pub name : List ℕ
-  pub data_type : VastDataType
-  pub logic_ref : LogicRef
-
 -- A parameter of a module's header.
 pub record ParameterPortRecord : Type 0 where
   pub name : List ℕ
   pub data_type : Option VastDataType
   pub value : Expr
 
--- What a parameter declares: a name, a name of type int, or a definition's declaration.
-pub data FormEntry : Type 0 where
-  PlainForm : (name : List ℕ) → FormEntry
-  IntForm : (name : List ℕ) → FormEntry
-  DefinedForm : Def → FormEntry
-
--- A member of a module or of a generate loop. What is no declaration stays where it is, and its member names it.
-pub data MemberEntry : Type 0 where
-  DeclarationEntry : (kind : DataKind) (name : List ℕ) (data_type : VastDataType) → MemberEntry
-  AssignmentEntry : ContinuousAssignment → MemberEntry
-  ParameterEntry : (local : Bool) (form : FormEntry) (value : Expr) → MemberEntry
-  BlankEntry : MemberEntry
-  CommentEntry : Comment → MemberEntry
-  InlineEntry : InlineVerilogStatement → MemberEntry
-  MacroEntry : MacroStatement → MemberEntry
-  InstanceEntry : Instantiation → MemberEntry
-  FunctionEntry : VastFunction → MemberEntry
-  AlwaysEntry : VastAlwaysBase → MemberEntry
-  ConditionalEntry : Conditional → MemberEntry
-  LoopEntry : GenerateLoop → MemberEntry
-
 -- A module; its names are in byte order, each once.
 pub record ModuleRecord : Type 0 where
   pub name : List ℕ
   pub parameters : List ParameterPortRecord
   pub ports : List ModulePort
-  pub members : List MemberEntry
+  pub members : List Member
   pub names : List (List ℕ)
 
 pub data FileEntry : Type 0 where
@@ -118,33 +78,11 @@ in_byte_order names = fold (λ sorted name. with_name name sorted) [] names
 
 -- The records of nodes.
 
-abbrev pub port_record : Port → PortRecord
-port_record p = record { direction = p.direction; kind = p.kind; name = p.name; data_type = p.data_type; logic_ref = p.logic_ref }
-
 abbrev pub parameter_port_record : ParameterPort → ParameterPortRecord
 parameter_port_record p = record { name = string_bytes p.name; data_type = p.data_type; value = p.value }
 
-abbrev pub form_entry : ParameterForm → FormEntry
-form_entry (Plain name) = PlainForm name
-form_entry (Int name) = IntForm name
-form_entry (Defined d) = DefinedForm d
-
-abbrev pub member_entry : Member → MemberEntry
-member_entry (DeclarationOf kind name data_type) = DeclarationEntry kind name data_type
-member_entry (AssignmentOf a) = AssignmentEntry a
-member_entry (ParameterOf local form value) = ParameterEntry local (form_entry form) value
-member_entry BlankOf = BlankEntry
-member_entry (CommentOf a) = CommentEntry a
-member_entry (InlineOf a) = InlineEntry a
-member_entry (MacroOf a) = MacroEntry a
-member_entry (InstanceOf i) = InstanceEntry i
-member_entry (FunctionOf f) = FunctionEntry f
-member_entry (AlwaysOf a) = AlwaysEntry a
-member_entry (ConditionalOf c) = ConditionalEntry c
-member_entry (LoopOf l) = LoopEntry l
-
 abbrev pub module_record : Module → ModuleRecord
-module_record m = record { name = string_bytes m.name; parameters = map parameter_port_record m.parameters.items; ports = m.ports.items; members = map member_entry m.members.items; names = in_byte_order m.names }
+module_record m = record { name = string_bytes m.name; parameters = map parameter_port_record m.parameters.items; ports = m.ports.items; members = m.members.items; names = in_byte_order m.names }
 
 abbrev pub file_entry : FileItem → FileEntry
 file_entry (ModuleItemOf m) = ModuleEntry m
@@ -183,11 +121,11 @@ abbrev pub with_parameter_port : ParameterPortRecord → ModuleRecord → Module
 with_parameter_port p m = record m { parameters = m.parameters ++ p ∷ [] }
 
 -- A member more at the end of the module's members.
-abbrev pub with_member : MemberEntry → ModuleRecord → ModuleRecord
+abbrev pub with_member : Member → ModuleRecord → ModuleRecord
 with_member entry m = record m { members = m.members ++ entry ∷ [] }
 
 -- The same, with a name that is taken from then on.
-abbrev pub with_named_member : MemberEntry → List ℕ → ModuleRecord → ModuleRecord
+abbrev pub with_named_member : Member → List ℕ → ModuleRecord → ModuleRecord
 with_named_member entry name m = record m { members = m.members ++ entry ∷ []; names = with_name name m.names }
 
 -- The list with its element i changed by f.

@@ -6,10 +6,9 @@ use Rattle.vast_core.specs.declared.handle.Expr.{Expr}
 use Rattle.vast_core.specs.declared.handle.VastStatementBlock.{VastStatementBlock}
 use Rattle.vast_core.specs.declared.node.ElseIf.{ElseIf}
 use Rattle.vast_core.specs.declared.node.CaseArm.{CaseArm}
-use Rattle.vast_core.specs.Handles.{block_index, conditional_index, case_index, loop_index, always_index}
-use Rattle.vast_core.specs.Nests.{StatementEntry, AssignStatement, ContinuousStatement, ConditionalStatement, CasesStatement, BlankStatement, CommentStatement, InlineStatement, ConditionalRecord, CaseRecord, LoopRecord, NestRecord, BlockRecord, ConditionalNestRecord, CaseNestRecord, LoopNestRecord, VariableRecord, FunctionRecord, AlwaysRecord, declared_names}
+use Rattle.vast_core.specs.Nests.{StatementEntry, AssignStatement, ContinuousStatement, ConditionalStatement, CasesStatement, BlankStatement, CommentStatement, InlineStatement, ConditionalRecord, CaseRecord, LoopRecord, NestRecord, BlockRecord, ConditionalNestRecord, CaseNestRecord, LoopNestRecord, FunctionVariable, FunctionRecord, AlwaysRecord, declared_names}
 use Rattle.vast_core.specs.declared.node.Assignment.{Assignment}
-use Rattle.vast_core.specs.Records.{PortRecord, ParameterPortRecord, ModuleRecord, FormEntry, PlainForm, IntForm, DefinedForm, MemberEntry, DeclarationEntry, AssignmentEntry, ParameterEntry, BlankEntry, CommentEntry, InlineEntry, MacroEntry, InstanceEntry, FunctionEntry, AlwaysEntry, ConditionalEntry, LoopEntry, FileEntry, ModuleEntry, IncludeEntry, FileCommentEntry, FileBlankEntry, DefinitionRecord, ArtifactRecord, BlankLineRecord, CommentRecord, InlineRecord, MacroRecord, ConnectionRecord, InstanceRecord, IsFree}
+use Rattle.vast_core.specs.Records.{Port, ParameterPortRecord, ModuleRecord, ParameterForm, PlainForm, IntForm, DefinedForm, Member, DeclarationEntry, AssignmentEntry, ParameterEntry, BlankEntry, CommentEntry, InlineEntry, MacroEntry, InstanceEntry, FunctionEntry, AlwaysEntry, ConditionalEntry, LoopEntry, FileEntry, ModuleEntry, IncludeEntry, FileCommentEntry, FileBlankEntry, DefinitionRecord, ArtifactRecord, BlankLineRecord, CommentRecord, InlineRecord, MacroRecord, ConnectionRecord, InstanceRecord, IsFree}
 use Rattle.vast_core.specs.Bench.{Bench, OwnsExpr, OwnsType, OwnsLogicRef, OwnsPort, OwnsContinuous, OwnsModule, OwnsDef, OwnsMacroRef, OwnsComment, OwnsInline, OwnsMacroStatement, OwnsInstantiation, OwnsFunction, OwnsAlways, OwnsStatement, OwnsBlock, OwnsConditional, OwnsCase, OwnsLoop, tree_of}
 use Rattle.vast_core.specs.DeclaredNames.{NamesSound}
 use Rattle.vast_core.specs.Parents.{HasOneParent}
@@ -19,7 +18,7 @@ abbrev pub Each : {A : Type 0} (P : A → Type 0) → List A → Type 0
 Each P [] = Unit {0}
 Each P (x ∷ xs) = P x × Each P xs
 
-abbrev pub PortSound : Bench → PortRecord → Type 0
+abbrev pub PortSound : Bench → Port → Type 0
 PortSound b p = OwnsType b p.data_type × OwnsLogicRef b p.logic_ref
 
 abbrev pub AssignmentSound : Bench → Assignment → Type 0
@@ -41,12 +40,12 @@ pub record InstanceSound (b : Bench) (i : InstanceRecord) : Type 0 where
   pub parameters : Each (ConnectionSound b) i.parameters
   pub connections : Each (ConnectionSound b) i.connections
 
-abbrev pub FormSound : Bench → FormEntry → Type 0
+abbrev pub FormSound : Bench → ParameterForm → Type 0
 FormSound b (PlainForm name) = Unit {0}
 FormSound b (IntForm name) = Unit {0}
 FormSound b (DefinedForm d) = OwnsDef b d
 
-abbrev pub MemberSound : Bench → MemberEntry → Type 0
+abbrev pub MemberSound : Bench → Member → Type 0
 MemberSound b (DeclarationEntry kind name data_type) = OwnsType b data_type
 MemberSound b (AssignmentEntry a) = OwnsContinuous b a
 MemberSound b (ParameterEntry local form value) = FormSound b form × OwnsExpr b value
@@ -62,13 +61,13 @@ MemberSound b (LoopEntry l) = OwnsLoop b l
 
 -- The container is the file's, and newer than container i, which holds it.
 abbrev pub HoldsBlock : Bench → ℕ → VastStatementBlock → Type 0
-HoldsBlock b i c = OwnsBlock b c × i < block_index c
+HoldsBlock b i c = OwnsBlock b c × i < c.id.index
 
 abbrev pub StatementSound : Bench → ℕ → StatementEntry → Type 0
 StatementSound b i (AssignStatement s) = OwnsStatement b s
 StatementSound b i (ContinuousStatement s) = OwnsStatement b s
-StatementSound b i (ConditionalStatement c) = OwnsConditional b c × i < conditional_index c
-StatementSound b i (CasesStatement c) = OwnsCase b c × i < case_index c
+StatementSound b i (ConditionalStatement c) = OwnsConditional b c × i < c.id.index
+StatementSound b i (CasesStatement c) = OwnsCase b c × i < c.id.index
 StatementSound b i BlankStatement = Unit {0}
 StatementSound b i (CommentStatement text) = Unit {0}
 StatementSound b i (InlineStatement text) = Unit {0}
@@ -92,10 +91,10 @@ pub record CaseSound (b : Bench) (i : ℕ) (c : CaseRecord) : Type 0 where
 -- The block of an always block, if there is one, is newer than container i.
 abbrev pub AlwaysNewer : ℕ → Option AlwaysRecord → Type 0
 AlwaysNewer i None = Unit {0}
-AlwaysNewer i (Some a) = i < block_index a.block
+AlwaysNewer i (Some a) = i < a.block.id.index
 
 -- What a member of loop i holds is newer than the loop. Loops declare nothing and hold no functions.
-abbrev pub MemberNewer : Bench → ℕ → MemberEntry → Type 0
+abbrev pub MemberNewer : Bench → ℕ → Member → Type 0
 MemberNewer b i (DeclarationEntry kind name data_type) = ⊥
 MemberNewer b i (AssignmentEntry a) = Unit {0}
 MemberNewer b i (ParameterEntry local form value) = Unit {0}
@@ -105,11 +104,11 @@ MemberNewer b i (InlineEntry a) = Unit {0}
 MemberNewer b i (MacroEntry a) = Unit {0}
 MemberNewer b i (InstanceEntry x) = Unit {0}
 MemberNewer b i (FunctionEntry f) = ⊥
-MemberNewer b i (AlwaysEntry a) = AlwaysNewer i (slice_get b.always_blocks (always_index a))
-MemberNewer b i (ConditionalEntry c) = i < conditional_index c
-MemberNewer b i (LoopEntry l) = i < loop_index l
+MemberNewer b i (AlwaysEntry a) = AlwaysNewer i (slice_get b.always_blocks a.id.index)
+MemberNewer b i (ConditionalEntry c) = i < c.id.index
+MemberNewer b i (LoopEntry l) = i < l.id.index
 
-abbrev pub LoopMemberSound : Bench → ℕ → MemberEntry → Type 0
+abbrev pub LoopMemberSound : Bench → ℕ → Member → Type 0
 LoopMemberSound b i entry = MemberSound b entry × MemberNewer b i entry
 
 pub record LoopSound (b : Bench) (i : ℕ) (l : LoopRecord) : Type 0 where
@@ -130,7 +129,7 @@ abbrev pub NestsSound : Bench → ℕ → List NestRecord → Type 0
 NestsSound b i [] = Unit {0}
 NestsSound b i (n ∷ ns) = NestSound b i n × NestsSound b (suc i) ns
 
-abbrev pub VariableSound : Bench → VariableRecord → Type 0
+abbrev pub VariableSound : Bench → FunctionVariable → Type 0
 VariableSound b v = OwnsType b v.data_type
 
 -- No name stands twice.

@@ -2,7 +2,7 @@
 use Rattle.std.specs.Prelude.{map}
 use Rattle.vast_core.specs.Raw.{Raw}
 use Rattle.vast_core.specs.Nodes.{no_nodes, built}
-use Rattle.vast_core.specs.Records.{port_record, module_record, definition_record, artifact_record, instance_record, file_entry}
+use Rattle.vast_core.specs.Records.{module_record, definition_record, artifact_record, instance_record, file_entry}
 use Rattle.vast_core.specs.Nests.{nest_record, function_record, always_record}
 use Rattle.vast_core.specs.Bench.{Bench}
 
@@ -12,7 +12,7 @@ bench a =
       file_type = a.file_type;
       nodes = built (no_nodes a.id) a.terms;
       nests = map nest_record a.nests;
-      ports = map port_record a.ports;
+      ports = a.ports;
       assignments = a.assignments;
       modules = map module_record a.modules;
       functions = map function_record a.functions;

@@ -4,8 +4,8 @@ use Rattle.std.specs.Prelude.{Bool, true, false, IsTrue, Option, Some, None}
 use Rattle.vast_literal.specs.WellFormedFile.{is_own_kind, is_local_word}
 use Rattle.vast_core.specs.declared.handle.Expr.{Expr}
 use Rattle.vast_literal.specs.declared.kind.DataKind.{DataKind}
-use Rattle.vast_core.specs.Records.{MemberEntry, DeclarationEntry, AssignmentEntry, ParameterEntry, BlankEntry, CommentEntry, InlineEntry, MacroEntry, InstanceEntry, FunctionEntry, AlwaysEntry, ConditionalEntry, LoopEntry, ConnectionRecord}
-use Rattle.vast_core.specs.Nests.{VariableRecord}
+use Rattle.vast_core.specs.Records.{Member, DeclarationEntry, AssignmentEntry, ParameterEntry, BlankEntry, CommentEntry, InlineEntry, MacroEntry, InstanceEntry, FunctionEntry, AlwaysEntry, ConditionalEntry, LoopEntry, ConnectionRecord}
+use Rattle.vast_core.specs.Nests.{FunctionVariable}
 
 -- A module declares such: wire, reg or logic.
 abbrev pub IsOwnKind : DataKind → Type 0
@@ -16,7 +16,7 @@ abbrev pub IsVariableKind : (local : Bool) → DataKind → Type 0
 IsVariableKind false kind = Unit {0}
 IsVariableKind true kind = IsTrue (is_local_word kind)
 
-abbrev pub HasOwnKind : MemberEntry → Type 0
+abbrev pub HasOwnKind : Member → Type 0
 HasOwnKind (DeclarationEntry kind name data_type) = IsOwnKind kind
 HasOwnKind (AssignmentEntry a) = Unit {0}
 HasOwnKind (ParameterEntry local form value) = Unit {0}
@@ -30,7 +30,7 @@ HasOwnKind (AlwaysEntry a) = Unit {0}
 HasOwnKind (ConditionalEntry c) = Unit {0}
 HasOwnKind (LoopEntry l) = Unit {0}
 
-abbrev pub HasLocalKind : VariableRecord → Type 0
+abbrev pub HasLocalKind : FunctionVariable → Type 0
 HasLocalKind v = IsVariableKind true v.kind
 
 abbrev pub IsGiven : Option Expr → Type 0

@@ -3,7 +3,6 @@
 //! Handles are equal exactly where their kind, their file's id and their index are, and equal ones hash equally.
 
 ghost use Rattle.std.specs.Prelude.{◌≡◌};
-ghost use Rattle.vast_core.specs.Handles.{logic_ref_to_expr, indexable_expr_to_expr, slice_to_expr, index_to_expr, parameter_ref_to_expr, localparam_ref_to_expr, macro_ref_to_expr, logic_ref_to_indexable_expr, index_to_indexable_expr, parameter_ref_to_indexable_expr};
 
 /// The file that a node belongs to, and the node's place in its arena.
 #[derive(Clone, Copy, Debug, PartialEq, Eq, Hash)]
@@ -165,7 +164,7 @@ pub struct Def {
 impl LogicRef {
     /// The same node as an expression.
     pub fn to_expr(&self) -> Expr
-        ensures { result ≡ logic_ref_to_expr self.now }
+        ensures { result ≡ record { id = self.now.id } }
     {
         let LogicRef { id } = *self;
         Expr { id }
@@ -173,7 +172,7 @@ impl LogicRef {
 
     /// The same node as an expression that may be selected from.
     pub fn to_indexable_expr(&self) -> IndexableExpr
-        ensures { result ≡ logic_ref_to_indexable_expr self.now }
+        ensures { result ≡ record { id = self.now.id } }
     {
         let LogicRef { id } = self;
         IndexableExpr { id: *id }
@@ -183,7 +182,7 @@ impl LogicRef {
 impl IndexableExpr {
     /// The same node as an expression.
     pub fn to_expr(&self) -> Expr
-        ensures { result ≡ indexable_expr_to_expr self.now }
+        ensures { result ≡ record { id = self.now.id } }
     {
         let IndexableExpr { id } = *self;
         Expr { id }
@@ -193,7 +192,7 @@ impl IndexableExpr {
 impl Slice {
     /// The same node as an expression.
     pub fn to_expr(&self) -> Expr
-        ensures { result ≡ slice_to_expr self.now }
+        ensures { result ≡ record { id = self.now.id } }
     {
         let Slice { id } = *self;
         Expr { id }
@@ -203,7 +202,7 @@ impl Slice {
 impl Index {
     /// The same node as an expression.
     pub fn to_expr(&self) -> Expr
-        ensures { result ≡ index_to_expr self.now }
+        ensures { result ≡ record { id = self.now.id } }
     {
         let Index { id } = *self;
         Expr { id }
@@ -211,7 +210,7 @@ impl Index {
 
     /// The same node as an expression that may be selected from.
     pub fn to_indexable_expr(&self) -> IndexableExpr
-        ensures { result ≡ index_to_indexable_expr self.now }
+        ensures { result ≡ record { id = self.now.id } }
     {
         let Index { id } = self;
         IndexableExpr { id: *id }
@@ -221,7 +220,7 @@ impl Index {
 impl ParameterRef {
     /// The same node as an expression.
     pub fn to_expr(&self) -> Expr
-        ensures { result ≡ parameter_ref_to_expr self.now }
+        ensures { result ≡ record { id = self.now.id } }
     {
         let ParameterRef { id } = *self;
         Expr { id }
@@ -229,7 +228,7 @@ impl ParameterRef {
 
     /// The same node as an expression that may be selected from.
     pub fn to_indexable_expr(&self) -> IndexableExpr
-        ensures { result ≡ parameter_ref_to_indexable_expr self.now }
+        ensures { result ≡ record { id = self.now.id } }
     {
         let ParameterRef { id } = self;
         IndexableExpr { id: *id }
@@ -239,7 +238,7 @@ impl ParameterRef {
 impl LocalparamRef {
     /// The same node as an expression.
     pub fn to_expr(&self) -> Expr
-        ensures { result ≡ localparam_ref_to_expr self.now }
+        ensures { result ≡ record { id = self.now.id } }
     {
         let LocalparamRef { id } = *self;
         Expr { id }
@@ -249,7 +248,7 @@ impl LocalparamRef {
 impl MacroRef {
     /// The same node as an expression.
     pub fn to_expr(&self) -> Expr
-        ensures { result ≡ macro_ref_to_expr self.now }
+        ensures { result ≡ record { id = self.now.id } }
     {
         let MacroRef { id } = *self;
         Expr { id }

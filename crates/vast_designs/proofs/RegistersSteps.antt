@@ -14,7 +14,6 @@ use Rattle.vast_core.specs.declared.handle.LogicRef.{LogicRef}
 use Rattle.vast_literal.specs.declared.kind.VastFileType.TheVariants.{SystemVerilog}
 use Rattle.vast_literal.specs.declared.kind.ModulePortDirection.TheVariants.{Input}
 use Rattle.vast_literal.specs.declared.kind.DataKind.TheVariants.{Wire, Logic}
-use Rattle.vast_core.specs.Handles.{logic_ref_to_expr}
 use Rattle.vast_core.specs.Bench.{Bench, start, OwnsModule, OwnsExpr, OwnsType}
 use Rattle.vast_core.specs.Growth.{with_module, with_port, with_declaration, with_expr, with_type, next_module, next_logic_ref, next_expr, next_type}
 use Rattle.xlsynth_vast.specs.declared.helpers.registers.RegisterDefinition.{RegisterDefinition}
@@ -152,11 +151,11 @@ pub owns-owner : (c : Bench) (x : VastModule) → c ≡ values_made → x ≡ th
 unfolding signals_made state_made values_made
 owns-owner c x e ex = rw (e, ex) (record { of_file = refl; of_kind = refl })
 
-pub owns-clock : (c : Bench) (x : Expr) → c ≡ values_made → x ≡ logic_ref_to_expr clock → OwnsExpr c x
+pub owns-clock : (c : Bench) (x : Expr) → c ≡ values_made → x ≡ record { id = clock.id } → OwnsExpr c x
 unfolding signals_made state_made values_made
 owns-clock c x e ex = rw (e, ex) (record { of_file = refl; of_kind = refl })
 
-pub owns-reset : (c : Bench) (x : Expr) → c ≡ values_made → x ≡ logic_ref_to_expr reset → OwnsExpr c x
+pub owns-reset : (c : Bench) (x : Expr) → c ≡ values_made → x ≡ record { id = reset.id } → OwnsExpr c x
 unfolding signals_made state_made values_made
 owns-reset c x e ex = rw (e, ex) (record { of_file = refl; of_kind = refl })
 

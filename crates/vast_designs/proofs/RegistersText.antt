@@ -8,10 +8,10 @@ use Rattle.vast_literal.specs.declared.kind.ModulePortDirection.TheVariants.{Inp
 use Rattle.vast_literal.specs.declared.error.VastFault.{VastFault}
 use Rattle.vast_core.specs.declared.handle.Expr.{Expr}
 use Rattle.vast_core.specs.declared.handle.VastModule.{VastModule}
-use Rattle.vast_core.specs.Handles.{logic_ref_to_expr}
 use Rattle.vast_core.specs.Nodes.{expr_in, type_in}
 use Rattle.vast_core.specs.Bench.{Bench, tree_of}
 use Rattle.vast_core.specs.FileTree.{tree, families}
+use Rattle.vast_literal.specs.NormalExpr.{unary_operator_token}
 use Rattle.vast_print.specs.Printed.{plain_text, ◌⊕◌, spaced, wrapped}
 use Rattle.vast_print.specs.Text.{expr_text}
 use Rattle.vast_print.specs.Statements.{begin_end, statement_page, statements_page, block_page}
@@ -52,28 +52,28 @@ design_with last =
     }
 
 abbrev the_reset : Reset
-the_reset = record { signal = logic_ref_to_expr reset; active_low = true }
+the_reset = record { signal = record { id = reset.id }; active_low = true }
 
 -- The registers' always block, as a tree.
 abbrev the_member : MemberTree
-the_member = registers_member (tree_of values_made (logic_ref_to_expr clock)) (maybe_reset_tree values_made (Some the_reset)) (register_trees values_made (enabled the_signals the_state the_values ∷ plain the_state the_values ∷ []))
+the_member = registers_member (tree_of values_made (record { id = clock.id })) (maybe_reset_tree values_made (Some the_reset)) (register_trees values_made (enabled the_signals the_state the_values ∷ plain the_state the_values ∷ []))
 
-whole : tree (with_registers (logic_ref_to_expr clock) (Some the_reset) (enabled the_signals the_state the_values ∷ plain the_state the_values ∷ []) (ModuleScope the_module) values_made) ≡ design_with the_member
+whole : tree (with_registers (record { id = clock.id }) (Some the_reset) (enabled the_signals the_state the_values ∷ plain the_state the_values ∷ []) (ModuleScope the_module) values_made) ≡ design_with the_member
 unfolding tree families expr_in type_in design_with digits signals_made state_made values_made with_registers with_register_block with_branches with_if with_assigned
 whole = refl
 
 registers_printed : print (layout (design_with the_member)) ≡ registers_text
-unfolding registers_text design_with signals_made state_made values_made expr_in type_in print print_lines layout items_page item_page module_page header_page opening_page ports_page port_text entries_page body_page members_page member_page always_text events_text more_events_text begin_end statement_page statements_page block_page expr_text declaration_text name_text type_text based_text packed_text unpacked_text highest_index_text with_dimensions spaced wrapped inner inner_lines lead lead_lines no_lines line above beside beside_lines written written_lines plain_text ◌⊕◌ digits
+unfolding registers_text design_with signals_made state_made values_made expr_in type_in print print_lines layout items_page item_page module_page header_page opening_page ports_page port_text entries_page body_page members_page member_page always_text events_text more_events_text begin_end statement_page statements_page block_page expr_text unary_operator_token declaration_text name_text type_text based_text packed_text unpacked_text highest_index_text with_dimensions spaced wrapped inner inner_lines lead lead_lines no_lines line above beside beside_lines written written_lines plain_text ◌⊕◌ digits
 registers_printed = refl
 
 -- The text after the registers are added.
 pub registers-added :
     (b c : Bench) (result : Result (Unit {0}) VastFault) (x s : Expr) (r q : RegisterDefinition) (m : VastModule) →
-    b ≡ values_made → x ≡ logic_ref_to_expr clock → s ≡ logic_ref_to_expr reset →
+    b ≡ values_made → x ≡ record { id = clock.id } → s ≡ record { id = reset.id } →
     r ≡ enabled the_signals the_state the_values → q ≡ plain the_state the_values → m ≡ the_module →
     MayAddRegisters b c result x (Some (record { signal = s; active_low = true })) (r ∷ q ∷ []) (ModuleScope m) →
     IfOk result (λ _. print (layout (tree c)) ≡ registers_text)
 registers-added b c (Ok done) x s r q m e ex es er eq em h =
-    let added : AddsRegisters values_made c (logic_ref_to_expr clock) (Some the_reset) (enabled the_signals the_state the_values ∷ plain the_state the_values ∷ []) (ModuleScope the_module) = simp (e, ex, es, er, eq, em) at h in
+    let added : AddsRegisters values_made c (record { id = clock.id }) (Some the_reset) (enabled the_signals the_state the_values ∷ plain the_state the_values ∷ []) (ModuleScope the_module) = simp (e, ex, es, er, eq, em) at h in
     rw (added.after, whole) registers_printed
 registers-added b c (Err fault) x s r q m e ex es er eq em h = tt

@@ -1,7 +1,7 @@
 -- What a lint tells of a list.
 use Rattle.std.specs.Prelude.{ℕ, ◌+◌, ◌++◌, List, [], ◌∷◌, Bool, true, false, not, cond, length}
 use Rattle.vast_literal.specs.declared.kind.VastFileType.{VastFileType}
-use Rattle.vast_literal.specs.declared.kind.VastFileType.TheVariants.{Verilog, SystemVerilog}
+use Rattle.vast_literal.specs.declared.kind.VastFileType.TheVariants.{Verilog}
 use Rattle.vast_lint.specs.declared.facts.Fact.{Fact}
 use Rattle.vast_lint.specs.declared.facts.Fact.TheVariants.{Expression, Function, Case}
 use Rattle.vast_lint.specs.declared.forms.Form.TheVariants.{NoTimes}

@@ -6,5 +6,4 @@ pub mod Session
 pub mod Built
 pub mod JsonLine
 pub mod Origins
-pub mod Linted
 pub mod Untitled

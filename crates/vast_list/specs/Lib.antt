@@ -10,6 +10,5 @@ pub mod Session
 pub mod Built
 pub mod JsonLine
 pub mod Origins
-pub mod Linted
 pub mod Untitled
 pub mod Internal

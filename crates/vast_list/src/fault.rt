@@ -68,7 +68,7 @@ impl fmt::Display for LineFault {
 }
 
 /// Writes the text with an escape for each of its control characters, so that it stands on one line.
-pub(crate) fn write_on_a_line<W: fmt::Write>(text: &str, f: &mut fmt::Formatter<W>) -> fmt::Result {
+pub fn write_on_a_line<W: fmt::Write>(text: &str, f: &mut fmt::Formatter<W>) -> fmt::Result {
     for c in text.chars() {
         if c.is_control() {
             let code = u32::from(c);

@@ -1,7 +1,7 @@
 //! The lines of a list.
 
 ghost use Rattle.std.specs.Prelude.{◌≡◌, [], IfOk, IfSome, IfNone, IsTrue, MatchOption, OnOk, drop, false, option_copied, true};
-ghost use Rattle.vast_list.specs.Lines.{Passed, behind_call, behind_first, behind_word, call_word, dialect_word, first_word, is_equals_front, is_passed, line_kind, text_name, without_return, word_kind};
+ghost use Rattle.vast_list.specs.Lines.{Passed, Stepped, behind_call, behind_first, behind_word, call_word, dialect_word, first_word, is_equals_front, is_passed, line_kind, text_name, without_return, word_kind};
 ghost use Rattle.vast_list.specs.Internal.Lines.{rest_text};
 ghost use Rattle.vast_list.specs.Names.{IsFree};
 ghost use Rattle.vast_list.specs.Internal.Session.{IsActionOf, IsRead};
@@ -15,6 +15,7 @@ use crate::helpers::{Helper, make_helper};
 use crate::names::is_name;
 use crate::problem::{Misfit, Problem};
 use crate::questions::{Question, make_question};
+use crate::table::row_of;
 use std::alloc::Global;
 use std::str;
 use vast_script::Step;
@@ -222,7 +223,7 @@ pub(crate) fn dialect_missing(alloc: Global, number: usize) -> Fault {
 }
 
 /// Whether the line is blank or a comment.
-pub(crate) fn is_empty_line(line: &[u8]) -> bool
+pub fn is_empty_line(line: &[u8]) -> bool
     ensures { IsTrue result → line_kind line.now ≡ Passed }
 {
     match text_of(line) {
@@ -232,10 +233,20 @@ pub(crate) fn is_empty_line(line: &[u8]) -> bool
 }
 
 /// Whether the line's call is a step, and no helper and no question.
-pub(crate) fn is_step(line: &[u8]) -> bool {
+pub fn is_step(line: &[u8]) -> bool
+    ensures { IsTrue result → line_kind line.now ≡ Stepped }
+{
     let Ok(text) = text_of(line) else {
         return false;
     };
     let (_, call, _) = split_line(text);
     !is_empty(text) && !call.starts_with('?') && !call.starts_with('!')
+}
+
+/// The name of the line's call, its sign included; an empty one where no call has the name.
+pub fn name_of_call(line: &[u8]) -> &'static str {
+    let Ok(text) = text_of(line) else {
+        return "";
+    };
+    row_of(split_line(text).1).map_or("", |row| row.name)
 }

@@ -90,8 +90,11 @@ fn empty_lines(lines: &[(usize, &[u8])]) -> usize
     count
 }
 
-/// The dialect, and the lines behind the one that names it.
-pub(crate) fn dialect_line<'l, 'a>(
+/// The dialect, and the lines behind the one that names it, which is the first that is neither blank nor a comment.
+///
+/// # Errors
+/// Where that line names none or there is no such line, and want of memory.
+pub fn dialect_line<'l, 'a>(
     alloc: Global,
     list: &'l ListLines<'a>,
 ) -> Result<(VastFileType, &'l [(usize, &'a [u8])]), Fault>

@@ -12,7 +12,7 @@ use vast_script::StepFault;
 ///
 /// # Errors
 /// Want of memory.
-pub(crate) fn push_given(
+pub fn push_given(
     text: &mut String,
     session: &Session,
     line: usize,
@@ -41,7 +41,7 @@ pub(crate) fn push_given(
 ///
 /// # Errors
 /// Want of memory.
-pub(crate) fn push_fault(text: &mut String, fault: &LineFault) -> Result<(), AllocError> {
+pub fn push_fault(text: &mut String, fault: &LineFault) -> Result<(), AllocError> {
     write!(text, "{{\"line\":{}", fault.line)?;
     if let Some(column) = fault.column {
         write!(text, ",\"column\":{column}")?;

@@ -22,7 +22,7 @@ use crate::questions::{Question, answer};
 use crate::selects::{Select, keep_select};
 use std::alloc::{AllocError, Global};
 use vast_literal::VastFault;
-use vast_script::{Answer, StepFault, one, replay_step};
+use vast_script::{Answer, Step, StepFault, one, replay_step};
 use xlsynth_vast::{Expr, FileIds, VastFile, VastFileType};
 
 /// A file with the answers so far: the lines of a list are its calls. It keeps no lines.
@@ -246,11 +246,11 @@ impl Session {
         &self.selects
     }
 
-    /// The call that the line makes; `None` where it makes none, or is not in the form.
+    /// The step that the line makes; `None` where it makes none, or is not in the form.
     ///
     /// # Errors
     /// Want of memory.
-    pub(crate) fn call_of(&self, line: &[u8]) -> Result<Option<Call>, AllocError> {
+    pub fn step_of(&self, line: &[u8]) -> Result<Option<Step>, AllocError> {
         let Ok(text) = text_of(line) else {
             return Ok(None);
         };
@@ -259,8 +259,8 @@ impl Session {
         }
         match self.read(0, text) {
             Ok(line) => match line.action {
-                Action::Call(call) => Ok(Some(call)),
-                Action::Ask(_) => Ok(None),
+                Action::Call(Call::Step(step)) => Ok(Some(step)),
+                Action::Call(Call::Helper(_)) | Action::Ask(_) => Ok(None),
             },
             Err(Fault::Memory) => Err(AllocError),
             Err(Fault::Line(_)) => Ok(None),

@@ -1,5 +1,5 @@
 -- The tokens of a declaration's text spell its normal form.
-use Rattle.std.proofs.Common.{◌≡◌, ℕ, ℤ, pos, ◌-ℤ◌, List, [], ◌∷◌, ◌++◌, Bool, true, false, ◌&&◌, codes, Option, Some, None, refl, subst, append_assoc, append-nil, arith}
+use Rattle.std.proofs.Common.{◌≡◌, ℕ, ℤ, pos, ◌-ℤ◌, List, [], ◌∷◌, ◌++◌, map, Bool, true, false, ◌&&◌, codes, Option, Some, None, refl, subst, append_assoc, append-nil, arith}
 use Rattle.std.specs.Fmt.{signed_decimal}
 use Rattle.vast_literal.specs.Tokens.{Minus, level, WireKey, RegKey, LogicKey, IntegerKey, IntKey, GenvarKey, SignedKey, UnsignedKey, Token}
 use Rattle.vast_literal.specs.Tree.{Dialect, VerilogDialect, SystemVerilogDialect, ExprTree, NameTree, IndexTree, SliceTree, PartSelectTree, ConcatTree, TypeTree, ScalarTree, VectorTree, IntegerTree, IntTree, ExternalTree, PackageTree, PackedTree, UnpackedTree, Kind, RegKind, WireKind, LogicKind, IntegerKind, IntKind, UserKind, UntypedEnumKind, GenvarKind, Declaration}
@@ -10,7 +10,7 @@ use Rattle.vast_literal.specs.Plain.{is_plain_name, is_plain, is_plain_type, is_
 use Rattle.vast_literal.specs.Shape.{starts_with_minus, highest_index_wraps, base_of, packed_dimensions, unpacked_dimensions, port_kind}
 use Rattle.vast_literal.proofs.ExprTokens.{expr_tokens}
 use Rattle.vast_literal.specs.WellFormed.{is_well_formed, is_well_formed_type}
-use Rattle.vast_literal.specs.NormalTree.{kind_key, package_of, type_name_of, sign_of, number_expr, zero_expr, highest_index_expr, vector_groups, packed_groups, unpacked_group, unpacked_groups, normal_declaration, normal_declared, normal_port_declaration}
+use Rattle.vast_literal.specs.NormalTree.{kind_key, package_of, type_name_of, sign_of, number_expr, zero_expr, highest_index_expr, vector_groups, packed_groups, unpacked_group, normal_declaration, normal_declared, normal_port_declaration}
 use Rattle.vast_literal.proofs.FileTokens.{maybe_tokens, type_name_tokens, number_tokens, zero_tokens, highest_index_tokens, vector_tokens, packed_tokens, unpacked_dimension_tokens, unpacked_tokens, declaration_tokens, declared_tokens, port_declaration_tokens}
 use Rattle.vast_literal.specs.PlainFile.{is_plain_value, is_left_side, is_plain_declaration, is_plain_declared}
 use Rattle.vast_literal.proofs.ScanLaws.{and_left, and_right}
@@ -72,8 +72,8 @@ unfolding unpacked_dimension_tokens unpacked_group
 dimension_spelled SystemVerilogDialect d = one (number_spelled d)
 dimension_spelled VerilogDialect d = range zero_spelled (number_spelled (d -ℤ pos 1))
 
-unpacked_spelled : (dialect : Dialect) (ds : List ℤ) → IsMany IsGroup (unpacked_tokens dialect ds) (unpacked_groups dialect ds)
-unfolding unpacked_tokens unpacked_groups
+unpacked_spelled : (dialect : Dialect) (ds : List ℤ) → IsMany IsGroup (unpacked_tokens dialect ds) (map (unpacked_group dialect) ds)
+unfolding unpacked_tokens
 unpacked_spelled dialect [] = no_items
 unpacked_spelled dialect (d ∷ ds) = more_items (dimension_spelled dialect d) (unpacked_spelled dialect ds)
 

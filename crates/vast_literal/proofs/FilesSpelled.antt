@@ -1,5 +1,5 @@
 -- The tokens of a file's page spell its normal form.
-use Rattle.std.proofs.Common.{◌≡◌, ℕ, List, [], ◌∷◌, ◌++◌, true, ◌&&◌, IsTrue, refl}
+use Rattle.std.proofs.Common.{◌≡◌, ℕ, List, [], ◌∷◌, ◌++◌, map, true, ◌&&◌, IsTrue, refl}
 use Rattle.vast_literal.specs.Tokens.{Assign, EndModuleKey, ParameterKey, Reserved, Mark}
 use Rattle.vast_literal.specs.Tree.{Dialect, MaybeType, Untyped, Typed, PortDirection, InputDirection, OutputDirection, InOutDirection, PortTree, ParameterPortTree, ModuleTree, FileItemTree, ModuleItem, IncludeItem, CommentItem, BlankItem, FileTree}
 use Rattle.vast_literal.specs.NormalFile.{ModulePart}
@@ -8,7 +8,7 @@ use Rattle.vast_literal.specs.Plain.{is_plain_name}
 use Rattle.vast_literal.proofs.ExprTokens.{expr_tokens}
 use Rattle.vast_literal.specs.WellFormed.{is_well_formed, is_well_formed_type}
 use Rattle.vast_literal.specs.Shape.{base_of, base_kind}
-use Rattle.vast_literal.specs.NormalTree.{direction_key, normal_port, normal_ports, normal_typed, normal_parameter, normal_parameters, normal_module, normal_item_before, normal_items, normal_file}
+use Rattle.vast_literal.specs.NormalTree.{direction_key, normal_port, normal_typed, normal_parameter, normal_module, normal_item_before, normal_items, normal_file}
 use Rattle.vast_literal.proofs.FileTokens.{port_declaration_tokens, each_port, typed_tokens, each_parameter, header_parameter_tokens, header_port_tokens, module_tokens, item_tokens, items_tokens, file_tokens}
 use Rattle.vast_literal.specs.PlainFile.{is_plain_value, is_plain_declared, are_plain_members, are_plain_ports, is_plain_typed, are_plain_parameters, is_plain_module, is_path_byte, are_plain_items, is_plain_file}
 use Rattle.vast_literal.specs.WellFormedFile.{are_well_formed_members, are_well_formed_ports, is_well_formed_typed, are_well_formed_parameters, is_well_formed_module, are_well_formed_items, is_well_formed_file}
@@ -27,14 +27,14 @@ port_spelled : (dialect : Dialect) (p : PortTree) → is_plain_declared p.declar
 unfolding normal_port
 port_spelled dialect p h w = port (direction_key p.direction) (direction_spelled p.direction) (port_declaration_spelled dialect p.declaration h w)
 
-each_port_spelled : (dialect : Dialect) (ps : List PortTree) → are_plain_ports ps ≡ true → are_well_formed_ports ps ≡ true → Each IsPort (each_port dialect ps) (normal_ports dialect ps)
-unfolding each_port normal_ports
+each_port_spelled : (dialect : Dialect) (ps : List PortTree) → are_plain_ports ps ≡ true → are_well_formed_ports ps ≡ true → Each IsPort (each_port dialect ps) (map (normal_port dialect) ps)
+unfolding each_port
 each_port_spelled dialect [] h w = each_none
 each_port_spelled dialect (p ∷ ps) h w = each_more (port_spelled dialect p (and_left _ _ h) (and_left _ _ w))
     (each_port_spelled dialect ps (and_right (is_plain_declared p.declaration) (are_plain_ports ps) h) (and_right (is_well_formed_type p.declaration.type) (are_well_formed_ports ps) w))
 
-ports_spelled : (dialect : Dialect) (ps : List PortTree) → are_plain_ports ps ≡ true → are_well_formed_ports ps ≡ true → IsPorts (header_port_tokens dialect ps) (normal_ports dialect ps)
-unfolding header_port_tokens each_port normal_ports
+ports_spelled : (dialect : Dialect) (ps : List PortTree) → are_plain_ports ps ≡ true → are_well_formed_ports ps ≡ true → IsPorts (header_port_tokens dialect ps) (map (normal_port dialect) ps)
+unfolding header_port_tokens each_port
 ports_spelled dialect [] h w = no_ports
 ports_spelled dialect (p ∷ ps) h w = ports (each_joined _ _ (port_spelled dialect p (and_left _ _ h) (and_left _ _ w))
     (each_port_spelled dialect ps (and_right (is_plain_declared p.declaration) (are_plain_ports ps) h) (and_right (is_well_formed_type p.declaration.type) (are_well_formed_ports ps) w)))
@@ -50,14 +50,14 @@ unfolding normal_parameter
 parameter_spelled dialect p h w = header_parameter (typed_spelled dialect p.type p.name (and_left _ _ h) (and_left _ _ w))
     (value_spelled p.value (and_right (is_plain_typed p.type p.name) (is_plain_value p.value) h) (and_right (is_well_formed_typed p.type) (is_well_formed p.value) w))
 
-each_parameter_spelled : (dialect : Dialect) (ps : List ParameterPortTree) → are_plain_parameters ps ≡ true → are_well_formed_parameters ps ≡ true → Each IsParameter (each_parameter dialect ps) (normal_parameters dialect ps)
-unfolding each_parameter normal_parameters
+each_parameter_spelled : (dialect : Dialect) (ps : List ParameterPortTree) → are_plain_parameters ps ≡ true → are_well_formed_parameters ps ≡ true → Each IsParameter (each_parameter dialect ps) (map (normal_parameter dialect) ps)
+unfolding each_parameter
 each_parameter_spelled dialect [] h w = each_none
 each_parameter_spelled dialect (p ∷ ps) h w = each_more (parameter_spelled dialect p (and_left _ _ h) (and_left _ _ w))
     (each_parameter_spelled dialect ps (and_right (is_plain_typed p.type p.name && is_plain_value p.value) (are_plain_parameters ps) h) (and_right (is_well_formed_typed p.type && is_well_formed p.value) (are_well_formed_parameters ps) w))
 
-parameters_spelled : (dialect : Dialect) (ps : List ParameterPortTree) → are_plain_parameters ps ≡ true → are_well_formed_parameters ps ≡ true → IsParameters (header_parameter_tokens dialect ps) (normal_parameters dialect ps)
-unfolding header_parameter_tokens each_parameter normal_parameters
+parameters_spelled : (dialect : Dialect) (ps : List ParameterPortTree) → are_plain_parameters ps ≡ true → are_well_formed_parameters ps ≡ true → IsParameters (header_parameter_tokens dialect ps) (map (normal_parameter dialect) ps)
+unfolding header_parameter_tokens each_parameter
 parameters_spelled dialect [] h w = no_header_parameters
 parameters_spelled dialect (p ∷ ps) h w = header_parameters (each_joined _ _ (parameter_spelled dialect p (and_left _ _ h) (and_left _ _ w))
     (each_parameter_spelled dialect ps (and_right (is_plain_typed p.type p.name && is_plain_value p.value) (are_plain_parameters ps) h) (and_right (is_well_formed_typed p.type && is_well_formed p.value) (are_well_formed_parameters ps) w)))

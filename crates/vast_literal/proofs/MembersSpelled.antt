@@ -1,5 +1,5 @@
 -- The tokens of a member's page spell its normal form.
-use Rattle.std.proofs.Common.{◌≡◌, ℕ, List, [], ◌∷◌, ◌++◌, Bool, true, false, ◌&&◌, Option, Some, None, IsTrue, refl, append_assoc, append-nil, arith}
+use Rattle.std.proofs.Common.{◌≡◌, ℕ, List, [], ◌∷◌, ◌++◌, map, Bool, true, false, ◌&&◌, Option, Some, None, IsTrue, refl, append_assoc, append-nil, arith}
 use Rattle.vast_literal.specs.Tokens.{Less, level, OpenParen, CloseParen, Comma, Semicolon, Dot, Key, BeginKey, EndKey, WireKey, RegKey, LogicKey, IntKey, AlwaysFFKey, AlwaysKey, PosedgeKey, NegedgeKey, OrKey, Token, Reserved, Word, Operator, Mark}
 use Rattle.vast_literal.specs.Tree.{Dialect, LtOp, ExprTree, NameTree, LiteralTree, StringTree, UnaryTree, BinaryTree, TernaryTree, IndexTree, SliceTree, PartSelectTree, ConcatTree, PatternTree, WidthCastTree, TypeCastTree, PosEdgeTree, NegEdgeTree, MacroTree, CallTree, MissingExpr, MaybeExpr, NoExpr, SomeExpr, Exprs, NoExprs, MoreExprs, NoArguments, SomeArguments, Kind, RegKind, WireKind, LogicKind, Declaration, Continuous, AlwaysWord, AlwaysFFWord, AlwaysAtWord, AlwaysCombWord, ParameterName, PlainParameter, IntParameter, DefinedParameter, Connection, InstanceTree, FunctionTree, MemberTree, DeclarationMember, AssignMember, ParameterMember, CommentMember, BlankMember, InlineMember, MacroMember, InstanceMember, AlwaysMember, ConditionalMember, FunctionMember, LoopMember, Members, NoMembers, MoreMembers}
 use Rattle.vast_literal.specs.NormalExpr.{NormalExpr, Name, Binary, binary_operator_token, normal}
@@ -10,9 +10,9 @@ use Rattle.vast_literal.specs.Plain.{is_plain_name, is_plain, are_plain, is_edge
 use Rattle.vast_literal.specs.Shape.{right_child_wraps, result_kind}
 use Rattle.vast_literal.proofs.ExprTokens.{wrapped_tokens, expr_tokens}
 use Rattle.vast_literal.specs.WellFormed.{is_well_formed, is_well_formed_type}
-use Rattle.vast_literal.specs.NormalTree.{kind_key, normal_declaration, normal_declared, normal_label, parameter_key, normal_parameter_name, normal_arguments, normal_macro, normal_connection, normal_connections, normal_event, normal_events, normal_always, normal_inputs, normal_locals, normal_function, normal_member_before, normal_members}
+use Rattle.vast_literal.specs.NormalTree.{kind_key, normal_declaration, normal_declared, normal_label, parameter_key, normal_parameter_name, normal_arguments, normal_macro, normal_connection, normal_event, normal_events, normal_always, normal_port_declaration, normal_function, normal_member_before, normal_members}
 use Rattle.vast_literal.proofs.FileTokens.{declared_tokens, assignment_tokens, separated, parameter_name_tokens, semicolon_tokens, value_tokens, connection_tokens, each_connection, given_tokens, instance_tokens, more_event_tokens, event_tokens, always_tokens, each_input, local_tokens, function_tokens, loop_label_tokens, member_tokens, members_tokens}
-use Rattle.vast_literal.specs.PlainFile.{is_plain_value, is_plain_maybe, is_left_side, is_plain_declaration, is_plain_declared, are_plain_declared, are_plain_statements, are_plain_alternates, is_plain_event, are_plain_events, are_plain_awaited, is_plain_parameter_name, are_plain_connections, is_plain_instance, is_plain_function, is_plain_label, is_plain_member, are_plain_members}
+use Rattle.vast_literal.specs.PlainFile.{is_plain_value, is_plain_maybe, is_left_side, is_plain_declaration, is_plain_declared, are_plain_statements, are_plain_alternates, is_plain_event, are_plain_events, are_plain_awaited, is_plain_parameter_name, are_plain_connections, is_plain_instance, is_plain_function, is_plain_label, is_plain_member, are_plain_members}
 use Rattle.vast_literal.specs.WellFormedFile.{is_well_formed_maybe, is_own_kind, is_local_word, is_macro, are_well_formed_statements, are_well_formed_alternates, is_well_formed_event, are_well_formed_events, is_well_formed_parameter_name, are_well_formed_connections, is_given, are_given, are_well_formed_inputs, are_well_formed_locals, is_well_formed_function, is_well_formed_member, are_well_formed_members}
 use Rattle.vast_literal.proofs.ScanLaws.{and_left, and_right}
 use Rattle.vast_literal.proofs.Sound.{lower}
@@ -20,6 +20,7 @@ use Rattle.vast_literal.proofs.Precedence.{spelled_level, level_bound, right_bou
 use Rattle.vast_literal.proofs.Spelled.{wrapped_spells, list_spells, spelled, each_spelled}
 use Rattle.vast_literal.proofs.DeclarationSpelled.{value_spelled, left_spelled, declared_spelled, port_declaration_spelled, named_spelled}
 use Rattle.vast_literal.proofs.StatementsSpelled.{statements_spelled, choice_spelled, function_body_spelled}
+use Rattle.vast_literal.specs.LiteralToken.{every}
 
 -- lists of items with commas
 
@@ -48,8 +49,8 @@ connection_spelled : (c : Connection) → is_plain_maybe c.value ≡ true → is
 unfolding connection_tokens normal_connection
 connection_spelled c p w = value_connected c.name c.value p w
 
-connections_spelled : (cs : List Connection) → are_plain_connections cs ≡ true → are_well_formed_connections cs ≡ true → Each IsConnection (each_connection cs) (normal_connections cs)
-unfolding each_connection normal_connections
+connections_spelled : (cs : List Connection) → are_plain_connections cs ≡ true → are_well_formed_connections cs ≡ true → Each IsConnection (each_connection cs) (map normal_connection cs)
+unfolding each_connection
 connections_spelled [] p w = each_none
 connections_spelled (c ∷ cs) p w = each_more (connection_spelled c (and_right (is_plain_name c.name) (is_plain_maybe c.value) (and_left _ _ p)) (and_left _ _ w))
     (connections_spelled cs (and_right (is_plain_name c.name && is_plain_maybe c.value) (are_plain_connections cs) p) (and_right (is_well_formed_maybe c.value) (are_well_formed_connections cs) w))
@@ -63,20 +64,20 @@ given_spelled : (c : Connection) → is_plain_maybe c.value ≡ true → is_give
 unfolding connection_tokens normal_connection
 given_spelled c p w = value_given c.name c.value p w
 
-each_given : (cs : List Connection) → are_plain_connections cs ≡ true → are_given cs ≡ true → Each IsGiven (each_connection cs) (normal_connections cs)
-unfolding each_connection normal_connections
+each_given : (cs : List Connection) → are_plain_connections cs ≡ true → are_given cs ≡ true → Each IsGiven (each_connection cs) (map normal_connection cs)
+unfolding each_connection
 each_given [] p w = each_none
 each_given (c ∷ cs) p w = each_more (given_spelled c (and_right (is_plain_name c.name) (is_plain_maybe c.value) (and_left _ _ p)) (and_left _ _ w))
     (each_given cs (and_right (is_plain_name c.name && is_plain_maybe c.value) (are_plain_connections cs) p) (and_right (is_given c.value) (are_given cs) w))
 
-givens_spelled : (cs : List Connection) → are_plain_connections cs ≡ true → are_given cs ≡ true → IsGivenList (given_tokens cs) (normal_connections cs)
-unfolding given_tokens each_connection normal_connections
+givens_spelled : (cs : List Connection) → are_plain_connections cs ≡ true → are_given cs ≡ true → IsGivenList (given_tokens cs) (map normal_connection cs)
+unfolding given_tokens each_connection
 givens_spelled [] p w = no_parameters
 givens_spelled (c ∷ cs) p w = with_parameters (each_joined _ _ (given_spelled c (and_right (is_plain_name c.name) (is_plain_maybe c.value) (and_left _ _ p)) (and_left _ _ w))
     (each_given cs (and_right (is_plain_name c.name && is_plain_maybe c.value) (are_plain_connections cs) p) (and_right (is_given c.value) (are_given cs) w)))
 
 instance_spelled : (i : InstanceTree) → is_plain_instance i ≡ true → (are_given i.parameters && are_well_formed_connections i.connections) ≡ true →
-    IsMember (instance_tokens i) (InstancePart i.module_name (normal_connections i.parameters) i.instance_name (normal_connections i.connections))
+    IsMember (instance_tokens i) (InstancePart i.module_name (map normal_connection i.parameters) i.instance_name (map normal_connection i.connections))
 unfolding instance_tokens
 instance_spelled i p w =
     let p1 = and_right (is_plain_name i.module_name && is_plain_name i.instance_name) (are_plain_connections i.parameters && are_plain_connections i.connections) p in
@@ -135,25 +136,25 @@ local_spelled : (dialect : Dialect) (d : Declaration) → is_plain_declared d �
 local_spelled dialect d p w = let (k, e, h) = local_kind d.kind (and_left _ _ w) in let f = kind_of dialect d in
     declared k (cc (e, f)) h (declared_spelled dialect d p (and_right (is_local_word d.kind) (is_well_formed_type d.type) w))
 
-locals_spelled : (dialect : Dialect) (ds : List Declaration) → are_plain_declared ds ≡ true → are_well_formed_locals ds ≡ true → IsMany (IsDeclared is_local_kind) (local_tokens dialect ds) (normal_locals dialect ds)
-unfolding local_tokens normal_locals
+locals_spelled : (dialect : Dialect) (ds : List Declaration) → every is_plain_declared ds ≡ true → are_well_formed_locals ds ≡ true → IsMany (IsDeclared is_local_kind) (local_tokens dialect ds) (map (normal_declared dialect) ds)
+unfolding local_tokens
 locals_spelled dialect [] p w = no_items
-locals_spelled dialect (d ∷ ds) p w = more_items (local_spelled dialect d (and_left _ _ p) (and_left _ _ w)) (locals_spelled dialect ds (and_right (is_plain_declared d) (are_plain_declared ds) p) (and_right (is_local_word d.kind && is_well_formed_type d.type) (are_well_formed_locals ds) w))
+locals_spelled dialect (d ∷ ds) p w = more_items (local_spelled dialect d (and_left _ _ p) (and_left _ _ w)) (locals_spelled dialect ds (and_right (is_plain_declared d) (every is_plain_declared ds) p) (and_right (is_local_word d.kind && is_well_formed_type d.type) (are_well_formed_locals ds) w))
 
-inputs_spelled : (dialect : Dialect) (ds : List Declaration) → are_plain_declared ds ≡ true → are_well_formed_inputs ds ≡ true → Each IsInput (each_input dialect ds) (normal_inputs dialect ds)
-unfolding each_input normal_inputs
+inputs_spelled : (dialect : Dialect) (ds : List Declaration) → every is_plain_declared ds ≡ true → are_well_formed_inputs ds ≡ true → Each IsInput (each_input dialect ds) (map (normal_port_declaration dialect) ds)
+unfolding each_input
 inputs_spelled dialect [] p w = each_none
-inputs_spelled dialect (d ∷ ds) p w = each_more (input (port_declaration_spelled dialect d (and_left _ _ p) (and_left _ _ w))) (inputs_spelled dialect ds (and_right (is_plain_declared d) (are_plain_declared ds) p) (and_right (is_well_formed_type d.type) (are_well_formed_inputs ds) w))
+inputs_spelled dialect (d ∷ ds) p w = each_more (input (port_declaration_spelled dialect d (and_left _ _ p) (and_left _ _ w))) (inputs_spelled dialect ds (and_right (is_plain_declared d) (every is_plain_declared ds) p) (and_right (is_well_formed_type d.type) (are_well_formed_inputs ds) w))
 
 function_spelled : (dialect : Dialect) (f : FunctionTree) → is_plain_function f ≡ true → is_well_formed_function f ≡ true → IsMember (function_tokens dialect f) (normal_function dialect f)
 unfolding function_tokens normal_function
 function_spelled dialect f p w =
-    let p1 = and_right (is_plain_declaration f.result f.name) (are_plain_declared f.inputs && (are_plain_declared f.locals && are_plain_statements f.body)) p in
+    let p1 = and_right (is_plain_declaration f.result f.name) (every is_plain_declared f.inputs && (every is_plain_declared f.locals && are_plain_statements f.body)) p in
     let w1 = and_right (is_well_formed_type f.result) (are_well_formed_inputs f.inputs && (are_well_formed_locals f.locals && are_well_formed_statements f.body)) w in
-    let p2 = and_right (are_plain_declared f.inputs) (are_plain_declared f.locals && are_plain_statements f.body) p1 in
+    let p2 = and_right (every is_plain_declared f.inputs) (every is_plain_declared f.locals && are_plain_statements f.body) p1 in
     let w2 = and_right (are_well_formed_inputs f.inputs) (are_well_formed_locals f.locals && are_well_formed_statements f.body) w1 in
     function (named_spelled dialect f.result (result_kind dialect f.result) f.name (and_left _ _ p) (and_left _ _ w)) (each_list (inputs_spelled dialect f.inputs (and_left _ _ p1) (and_left _ _ w1)))
-    (locals_spelled dialect f.locals (and_left _ _ p2) (and_left _ _ w2)) (function_body_spelled f.body (and_right (are_plain_declared f.locals) (are_plain_statements f.body) p2) (and_right (are_well_formed_locals f.locals) (are_well_formed_statements f.body) w2))
+    (locals_spelled dialect f.locals (and_left _ _ p2) (and_left _ _ w2)) (function_body_spelled f.body (and_right (every is_plain_declared f.locals) (are_plain_statements f.body) p2) (and_right (are_well_formed_locals f.locals) (are_well_formed_statements f.body) w2))
 
 -- parameters, macros and loops
 

@@ -2,10 +2,10 @@
 use Rattle.std.specs.Prelude.{ℕ, List, [], ◌∷◌, Bool, true, false, cond, not, ◌&&◌, ◌||◌, eqb}
 use Rattle.vast_literal.specs.Scan.{is_digit, is_radix, is_based_digit, is_filler}
 
--- Each byte passes the test.
-abbrev pub every : (ℕ → Bool) → List ℕ → Bool
+-- Each element passes the test.
+abbrev pub every : {A : Type 0} → (A → Bool) → List A → Bool
 every passes [] = true
-every passes (c ∷ cs) = passes c && every passes cs
+every passes (x ∷ xs) = passes x && every passes xs
 
 -- One or more digits.
 abbrev pub is_number : List ℕ → Bool
@@ -49,7 +49,7 @@ is_literal_text (c ∷ cs) = cond (eqb c 45) (is_bare_literal cs) (is_bare_liter
 -- No bytes.
 abbrev pub is_done : List ℕ → Bool
 is_done [] = true
-is_done (c ∷ cs) = false
+is_done _ = false
 
 -- Behind the opening quote stand bytes other than quote, backslash and line break, or a backslash with any but a line
 -- break, up to the quote that ends the text; `escaped` says that a backslash stands before.

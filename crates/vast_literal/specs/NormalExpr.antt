@@ -6,7 +6,7 @@ use Rattle.vast_literal.specs.Tokens.{Key, LogicKey, IntegerKey, IntKey, SignedK
 use Rattle.vast_literal.specs.Tree.{UnaryOp, NegateOp, BitwiseNotOp, LogicalNotOp, AndReduceOp, OrReduceOp, XorReduceOp}
 use Rattle.vast_literal.specs.Tree.{BinaryOp, AddOp, SubOp, MulOp, DivOp, ModOp, PowerOp, BitwiseAndOp, BitwiseOrOp, BitwiseXorOp, ShllOp, ShraOp, ShrlOp, NeOp, CaseNeOp, EqOp, CaseEqOp, GeOp, GtOp, LeOp, LtOp, LogicalAndOp, LogicalOrOp, NeXOp, EqXOp}
 use Rattle.vast_literal.specs.Tree.{ExprTree, NameTree, LiteralTree, StringTree, UnaryTree, BinaryTree, TernaryTree, IndexTree, SliceTree, PartSelectTree, ConcatTree, PatternTree, WidthCastTree, TypeCastTree, PosEdgeTree, NegEdgeTree, MacroTree, CallTree, MissingExpr}
-use Rattle.vast_literal.specs.Tree.{TypeTree, ScalarTree, VectorTree, IntegerTree, IntTree, ExternalTree, PackageTree, PackedTree, UnpackedTree, MissingType}
+use Rattle.vast_literal.specs.Tree.{TypeTree, ScalarTree, VectorTree, IntegerTree, IntTree, ExternalTree, PackageTree}
 use Rattle.vast_literal.specs.Tree.{NoExpr, SomeExpr, Exprs, NoExprs, MoreExprs, NoArguments, SomeArguments}
 use Rattle.vast_literal.specs.Shape.{is_elided_index, is_elided_slice}
 
@@ -126,10 +126,8 @@ unfoldable mutual
   normal_cast (IntTree signed) operand = normal_word_cast (integer_sign signed) IntKey operand
   normal_cast (ExternalTree name) operand = Cast (Name name) operand
   normal_cast (PackageTree package_name name) operand = PackageCast package_name name operand
-  -- No cast is to an array or to a missing type: these say nothing.
-  normal_cast (PackedTree element dimensions) operand = operand
-  normal_cast (UnpackedTree element dimensions) operand = operand
-  normal_cast MissingType operand = operand
+  -- No cast is to an array or to a missing type: this says nothing.
+  normal_cast _ operand = operand
 
   pub normals : Exprs → NormalExprs
   normals NoExprs = NoNormals

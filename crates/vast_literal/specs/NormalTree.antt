@@ -1,15 +1,15 @@
 -- The normal form of a file's tree: what of it the tokens of its text tell. It tells of plain files alone (`is_plain_file`): in
 -- others an inline text, which may stand for anything, is left out, and a name that is no identifier stands as it is written.
-use Rattle.std.specs.Prelude.{ℕ, ℤ, pos, ◌-ℤ◌, Bool, true, false, List, [], ◌∷◌, ◌++◌, codes, Option, Some, None}
+use Rattle.std.specs.Prelude.{ℕ, ℤ, pos, ◌-ℤ◌, Bool, true, false, List, [], ◌∷◌, ◌++◌, map, codes, Option, Some, None}
 use Rattle.std.specs.Fmt.{signed_decimal}
 use Rattle.vast_literal.specs.Tokens.{Minus, Key, CaseKey, CasezKey, CasexKey, WireKey, RegKey, LogicKey, IntegerKey, IntKey, GenvarKey, ParameterKey, LocalparamKey, AlwaysCombKey, AlwaysFFKey, AlwaysKey, PosedgeKey, NegedgeKey, InputKey, OutputKey, InOutKey}
 use Rattle.vast_literal.specs.Tree.{Dialect, VerilogDialect, SystemVerilogDialect, ExprTree, NameTree, PosEdgeTree, NegEdgeTree, MacroTree, Exprs, NoExprs, MoreExprs, MaybeExpr, NoExpr, SomeExpr, MaybeExprs, NoArguments, SomeArguments, MaybeType, Untyped, Typed}
 use Rattle.vast_literal.specs.Tree.{TypeTree, ScalarTree, VectorTree, IntegerTree, IntTree, ExternalTree, PackageTree}
-use Rattle.vast_literal.specs.Tree.{Kind, RegKind, WireKind, LogicKind, IntegerKind, IntKind, UserKind, UntypedEnumKind, GenvarKind, Declaration}
-use Rattle.vast_literal.specs.Tree.{AssignForm, Blocking, Nonblocking, Continuous, CaseWord, CaseExact, CaseZ, CaseX, StatementTree, AssignTree, CommentTree, BlankTree, InlineTree, ConditionalTree, CaseTree, Statements, NoStatements, MoreStatements, Alternates, NoElse, ElseIf, Else, CaseArms, NoCaseArms, CaseArm}
+use Rattle.vast_literal.specs.Tree.{Kind, RegKind, WireKind, LogicKind, IntegerKind, IntKind, GenvarKind, Declaration}
+use Rattle.vast_literal.specs.Tree.{AssignForm, Blocking, Nonblocking, Continuous, CaseWord, CaseExact, CaseZ, CaseX, StatementTree, AssignTree, ConditionalTree, CaseTree, Statements, NoStatements, MoreStatements, Alternates, NoElse, ElseIf, Else, CaseArms, NoCaseArms, CaseArm}
 use Rattle.vast_literal.specs.Tree.{AlwaysWord, AlwaysFFWord, AlwaysAtWord, AlwaysCombWord, ParameterName, PlainParameter, IntParameter, DefinedParameter, Connection, FunctionTree}
-use Rattle.vast_literal.specs.Tree.{MemberTree, DeclarationMember, AssignMember, ParameterMember, CommentMember, BlankMember, InlineMember, MacroMember, InstanceMember, AlwaysMember, ConditionalMember, FunctionMember, LoopMember, Members, NoMembers, MoreMembers}
-use Rattle.vast_literal.specs.Tree.{PortDirection, InputDirection, OutputDirection, InOutDirection, PortTree, ParameterPortTree, ModuleTree, FileItemTree, ModuleItem, IncludeItem, CommentItem, BlankItem, FileTree}
+use Rattle.vast_literal.specs.Tree.{MemberTree, DeclarationMember, AssignMember, ParameterMember, MacroMember, InstanceMember, AlwaysMember, ConditionalMember, FunctionMember, LoopMember, Members, NoMembers, MoreMembers}
+use Rattle.vast_literal.specs.Tree.{PortDirection, InputDirection, OutputDirection, InOutDirection, PortTree, ParameterPortTree, ModuleTree, FileItemTree, ModuleItem, IncludeItem, FileTree}
 use Rattle.vast_literal.specs.Shape.{base_of, packed_dimensions, unpacked_dimensions, port_kind, base_kind, result_kind}
 use Rattle.vast_literal.specs.NormalExpr.{NormalExpr, Literal, Binary, NormalExprs, normal_literal, scalar_sign, integer_sign, normal, normals}
 use Rattle.vast_literal.specs.NormalFile.{NormalStatement, BlockingStatement, NonblockingStatement, AssignStatement, ChoiceStatement, CaseStatement, NormalStatements, Done, Then, Arms, Only, Otherwise, Or, Labels, NoLabels, Label, Group, One, Range, NormalDeclaration, Event, EdgeEvent, NameEvent, NormalConnection, NormalMember, DeclarationPart, AssignPart, ParameterPart, MacroPart, InstancePart, AlwaysPart, ConditionalPart, FunctionPart, LoopPart, NormalMembers, NoParts, MoreParts, NormalParameter, NormalPort, NormalModule, NormalItem, ModulePart, IncludePart, NormalFile}
@@ -24,8 +24,7 @@ kind_key LogicKind = Some LogicKey
 kind_key IntegerKind = Some IntegerKey
 kind_key IntKind = Some IntKey
 kind_key GenvarKind = Some GenvarKey
-kind_key UserKind = None
-kind_key UntypedEnumKind = None
+kind_key _ = None
 
 unfoldable pub package_of : (base : TypeTree) → Option (List ℕ)
 package_of (PackageTree package_name name) = Some package_name
@@ -62,17 +61,12 @@ vector_groups _ = []
 
 -- [d-1:0] for each dimension
 unfoldable pub packed_groups : List ℤ → List Group
-packed_groups [] = []
-packed_groups (d ∷ ds) = Range (number_expr (d -ℤ pos 1)) zero_expr ∷ packed_groups ds
+packed_groups dimensions = map (λ d. Range (number_expr (d -ℤ pos 1)) zero_expr) dimensions
 
 -- [d] in SystemVerilog, [0:d-1] in Verilog
 unfoldable pub unpacked_group : Dialect → ℤ → Group
 unpacked_group SystemVerilogDialect d = One (number_expr d)
 unpacked_group VerilogDialect d = Range zero_expr (number_expr (d -ℤ pos 1))
-
-unfoldable pub unpacked_groups : Dialect → List ℤ → List Group
-unpacked_groups dialect [] = []
-unpacked_groups dialect (d ∷ ds) = unpacked_group dialect d ∷ unpacked_groups dialect ds
 
 unfoldable pub normal_declaration : Dialect → Kind → TypeTree → (name : List ℕ) → NormalDeclaration
 normal_declaration dialect kind type name = record {
@@ -82,7 +76,7 @@ normal_declaration dialect kind type name = record {
   sign = sign_of (base_of type);
   groups = packed_groups (packed_dimensions type) ++ vector_groups (base_of type);
   name = name;
-  behind = unpacked_groups dialect (unpacked_dimensions type);
+  behind = map (unpacked_group dialect) (unpacked_dimensions type);
 }
 
 -- A name and nothing else.
@@ -115,11 +109,9 @@ unfoldable mutual
   -- A statement before others.
   pub normal_before : StatementTree → NormalStatements → NormalStatements
   normal_before (AssignTree form left right) rest = Then (normal_assignment form (normal left) (normal right)) rest
-  normal_before (CommentTree text) rest = rest
-  normal_before BlankTree rest = rest
-  normal_before (InlineTree text) rest = rest
   normal_before (ConditionalTree condition consequent alternates) rest = Then (ChoiceStatement (normal_choice (normal condition) (normal_statements consequent) alternates)) rest
   normal_before (CaseTree unique word selector arms) rest = Then (CaseStatement unique (case_key word) (normal selector) (normal_arms arms)) rest
+  normal_before _ rest = rest
 
   pub normal_statements : Statements → NormalStatements
   normal_statements NoStatements = Done
@@ -158,10 +150,6 @@ normal_macro _ semicolon = MacroPart [] None semicolon
 unfoldable pub normal_connection : Connection → NormalConnection
 normal_connection c = record { name = c.name; value = normal_label c.value }
 
-unfoldable pub normal_connections : List Connection → List NormalConnection
-normal_connections [] = []
-normal_connections (c ∷ cs) = normal_connection c ∷ normal_connections cs
-
 -- An event is an edge of an expression or a name. No other stands in a well-formed file: a name of no bytes says nothing.
 unfoldable pub normal_event : ExprTree → Event
 normal_event (PosEdgeTree operand) = EdgeEvent PosedgeKey (normal operand)
@@ -179,16 +167,8 @@ normal_always AlwaysFFWord events body = AlwaysPart AlwaysFFKey (normal_events e
 normal_always AlwaysAtWord events body = AlwaysPart AlwaysKey (normal_events events) body
 normal_always AlwaysCombWord events body = AlwaysPart AlwaysCombKey [] body
 
-unfoldable pub normal_inputs : Dialect → List Declaration → List NormalDeclaration
-normal_inputs dialect [] = []
-normal_inputs dialect (d ∷ ds) = normal_port_declaration dialect d ∷ normal_inputs dialect ds
-
-unfoldable pub normal_locals : Dialect → List Declaration → List NormalDeclaration
-normal_locals dialect [] = []
-normal_locals dialect (d ∷ ds) = normal_declared dialect d ∷ normal_locals dialect ds
-
 unfoldable pub normal_function : Dialect → FunctionTree → NormalMember
-normal_function dialect f = FunctionPart (normal_declaration dialect (result_kind dialect f.result) f.result f.name) (normal_inputs dialect f.inputs) (normal_locals dialect f.locals) (normal_statements f.body)
+normal_function dialect f = FunctionPart (normal_declaration dialect (result_kind dialect f.result) f.result f.name) (map (normal_port_declaration dialect) f.inputs) (map (normal_declared dialect) f.locals) (normal_statements f.body)
 
 unfoldable mutual
   -- A member before others.
@@ -196,15 +176,13 @@ unfoldable mutual
   normal_member_before dialect (DeclarationMember d) rest = MoreParts (DeclarationPart (normal_declared dialect d)) rest
   normal_member_before dialect (AssignMember left right) rest = MoreParts (AssignPart (normal left) (normal right)) rest
   normal_member_before dialect (ParameterMember local parameter value) rest = MoreParts (ParameterPart (parameter_key local) (normal_parameter_name dialect parameter) (normal value)) rest
-  normal_member_before dialect (CommentMember text) rest = rest
-  normal_member_before dialect BlankMember rest = rest
-  normal_member_before dialect (InlineMember text) rest = rest
   normal_member_before dialect (MacroMember call semicolon) rest = MoreParts (normal_macro call semicolon) rest
-  normal_member_before dialect (InstanceMember i) rest = MoreParts (InstancePart i.module_name (normal_connections i.parameters) i.instance_name (normal_connections i.connections)) rest
+  normal_member_before dialect (InstanceMember i) rest = MoreParts (InstancePart i.module_name (map normal_connection i.parameters) i.instance_name (map normal_connection i.connections)) rest
   normal_member_before dialect (AlwaysMember word events body) rest = MoreParts (normal_always word events (normal_statements body)) rest
   normal_member_before dialect (ConditionalMember condition consequent alternates) rest = MoreParts (ConditionalPart (normal_choice (normal condition) (normal_statements consequent) alternates)) rest
   normal_member_before dialect (FunctionMember f) rest = MoreParts (normal_function dialect f) rest
   normal_member_before dialect (LoopMember genvar start end label members) rest = MoreParts (LoopPart genvar (normal start) (normal end) label (normal_members dialect members)) rest
+  normal_member_before dialect _ rest = rest
 
   pub normal_members : Dialect → Members → NormalMembers
   normal_members dialect NoMembers = NoParts
@@ -220,10 +198,6 @@ direction_key InOutDirection = InOutKey
 unfoldable pub normal_port : Dialect → PortTree → NormalPort
 normal_port dialect p = record { direction = direction_key p.direction; declaration = normal_port_declaration dialect p.declaration }
 
-unfoldable pub normal_ports : Dialect → List PortTree → List NormalPort
-normal_ports dialect [] = []
-normal_ports dialect (p ∷ ps) = normal_port dialect p ∷ normal_ports dialect ps
-
 -- A typed parameter is a declaration of its type's kind, an untyped one a name.
 unfoldable pub normal_typed : Dialect → MaybeType → (name : List ℕ) → NormalDeclaration
 normal_typed dialect Untyped name = named_declaration None name
@@ -232,19 +206,14 @@ normal_typed dialect (Typed type) name = normal_declaration dialect (base_kind (
 unfoldable pub normal_parameter : Dialect → ParameterPortTree → NormalParameter
 normal_parameter dialect p = record { declaration = normal_typed dialect p.type p.name; value = normal p.value }
 
-unfoldable pub normal_parameters : Dialect → List ParameterPortTree → List NormalParameter
-normal_parameters dialect [] = []
-normal_parameters dialect (p ∷ ps) = normal_parameter dialect p ∷ normal_parameters dialect ps
-
 unfoldable pub normal_module : Dialect → ModuleTree → NormalModule
-normal_module dialect m = record { name = m.name; parameters = normal_parameters dialect m.parameters; ports = normal_ports dialect m.ports; members = normal_members dialect m.members }
+normal_module dialect m = record { name = m.name; parameters = map (normal_parameter dialect) m.parameters; ports = map (normal_port dialect) m.ports; members = normal_members dialect m.members }
 
 -- An item before others.
 unfoldable pub normal_item_before : Dialect → FileItemTree → List NormalItem → List NormalItem
 normal_item_before dialect (ModuleItem m) rest = ModulePart (normal_module dialect m) ∷ rest
 normal_item_before dialect (IncludeItem path) rest = IncludePart path ∷ rest
-normal_item_before dialect (CommentItem text) rest = rest
-normal_item_before dialect BlankItem rest = rest
+normal_item_before dialect _ rest = rest
 
 unfoldable pub normal_items : Dialect → List FileItemTree → List NormalItem
 normal_items dialect [] = []

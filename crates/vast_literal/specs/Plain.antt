@@ -3,8 +3,8 @@ use Rattle.std.specs.Prelude.{ℕ, List, [], ◌∷◌, Bool, true, false, cond,
 use Rattle.vast_literal.specs.Keyword.{is_keyword}
 use Rattle.vast_literal.specs.Scan.{is_letter, is_word_byte}
 use Rattle.vast_literal.specs.LiteralToken.{every}
-use Rattle.vast_literal.specs.Tree.{ExprTree, NameTree, LiteralTree, StringTree, UnaryTree, BinaryTree, TernaryTree, IndexTree, SliceTree, PartSelectTree, ConcatTree, PatternTree, WidthCastTree, TypeCastTree, PosEdgeTree, NegEdgeTree, MacroTree, CallTree, MissingExpr}
-use Rattle.vast_literal.specs.Tree.{TypeTree, ScalarTree, VectorTree, IntegerTree, IntTree, ExternalTree, PackageTree, PackedTree, UnpackedTree, MissingType}
+use Rattle.vast_literal.specs.Tree.{ExprTree, NameTree, UnaryTree, BinaryTree, TernaryTree, IndexTree, SliceTree, PartSelectTree, ConcatTree, PatternTree, WidthCastTree, TypeCastTree, PosEdgeTree, NegEdgeTree, MacroTree, CallTree, MissingExpr}
+use Rattle.vast_literal.specs.Tree.{TypeTree, VectorTree, ExternalTree, PackageTree, PackedTree, UnpackedTree, MissingType}
 use Rattle.vast_literal.specs.Tree.{NoExpr, SomeExpr, Exprs, NoExprs, MoreExprs, NoArguments, SomeArguments}
 
 -- An ASCII letter or `_`, then letters, digits, `_` and `$`.
@@ -25,8 +25,6 @@ abbrev mutual
   -- Each name that the expression prints is plain; the types of names are not printed.
   pub is_plain : ExprTree → Bool
   is_plain (NameTree name type) = is_plain_name name
-  is_plain (LiteralTree text value) = true
-  is_plain (StringTree text) = true
   is_plain (UnaryTree op operand) = is_plain operand
   is_plain (BinaryTree op left right) = is_plain left && is_plain right
   is_plain (TernaryTree condition consequent alternate) = is_plain condition && (is_plain consequent && is_plain alternate)
@@ -44,18 +42,17 @@ abbrev mutual
   is_plain (MacroTree name (SomeArguments arguments)) = is_plain_name name && are_plain arguments
   is_plain (CallTree name arguments) = is_called_name name && are_plain arguments
   is_plain MissingExpr = false
+  is_plain _ = true
 
   -- Each name that the type prints is plain.
   pub is_plain_type : TypeTree → Bool
-  is_plain_type (ScalarTree signed) = true
   is_plain_type (VectorTree width value signed) = is_plain width
-  is_plain_type (IntegerTree signed) = true
-  is_plain_type (IntTree signed) = true
   is_plain_type (ExternalTree name) = is_plain_name name
   is_plain_type (PackageTree package_name name) = is_plain_name package_name && is_plain_name name
   is_plain_type (PackedTree element dimensions) = is_plain_type element
   is_plain_type (UnpackedTree element dimensions) = is_plain_type element
   is_plain_type MissingType = false
+  is_plain_type _ = true
 
   pub are_plain : Exprs → Bool
   are_plain NoExprs = true
@@ -64,9 +61,6 @@ abbrev mutual
 abbrev mutual
   -- No edge stands in the expression.
   pub is_edgeless : ExprTree → Bool
-  is_edgeless (NameTree name type) = true
-  is_edgeless (LiteralTree text value) = true
-  is_edgeless (StringTree text) = true
   is_edgeless (UnaryTree op operand) = is_edgeless operand
   is_edgeless (BinaryTree op left right) = is_edgeless left && is_edgeless right
   is_edgeless (TernaryTree condition consequent alternate) = is_edgeless condition && (is_edgeless consequent && is_edgeless alternate)
@@ -80,22 +74,16 @@ abbrev mutual
   is_edgeless (TypeCastTree type operand) = is_edgeless_type type && is_edgeless operand
   is_edgeless (PosEdgeTree operand) = false
   is_edgeless (NegEdgeTree operand) = false
-  is_edgeless (MacroTree name NoArguments) = true
   is_edgeless (MacroTree name (SomeArguments arguments)) = are_edgeless arguments
   is_edgeless (CallTree name arguments) = are_edgeless arguments
-  is_edgeless MissingExpr = true
+  is_edgeless _ = true
 
   -- No edge stands in the widths of the type.
   pub is_edgeless_type : TypeTree → Bool
   is_edgeless_type (VectorTree width value signed) = is_edgeless width
   is_edgeless_type (PackedTree element dimensions) = is_edgeless_type element
   is_edgeless_type (UnpackedTree element dimensions) = is_edgeless_type element
-  is_edgeless_type (ScalarTree signed) = true
-  is_edgeless_type (IntegerTree signed) = true
-  is_edgeless_type (IntTree signed) = true
-  is_edgeless_type (ExternalTree name) = true
-  is_edgeless_type (PackageTree package_name name) = true
-  is_edgeless_type MissingType = true
+  is_edgeless_type _ = true
 
   pub are_edgeless : Exprs → Bool
   are_edgeless NoExprs = true

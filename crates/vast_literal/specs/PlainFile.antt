@@ -2,10 +2,10 @@
 use Rattle.std.specs.Prelude.{ℕ, List, [], ◌∷◌, Bool, true, false, not, ◌&&◌, ◌||◌, eqb, Option, Some, None}
 use Rattle.vast_literal.specs.Tree.{ExprTree, NameTree, IndexTree, SliceTree, PartSelectTree, ConcatTree, PosEdgeTree, NegEdgeTree, TypeTree}
 use Rattle.vast_literal.specs.Tree.{MaybeExpr, NoExpr, SomeExpr, Exprs, NoExprs, MoreExprs, MaybeType, Untyped, Typed, Declaration}
-use Rattle.vast_literal.specs.Tree.{StatementTree, AssignTree, CommentTree, BlankTree, InlineTree, ConditionalTree, CaseTree, Statements, NoStatements, MoreStatements, Alternates, NoElse, ElseIf, Else, CaseArms, NoCaseArms, CaseArm}
-use Rattle.vast_literal.specs.Tree.{AlwaysWord, AlwaysFFWord, AlwaysAtWord, AlwaysCombWord, ParameterName, PlainParameter, IntParameter, DefinedParameter, Connection, InstanceTree, FunctionTree}
-use Rattle.vast_literal.specs.Tree.{MemberTree, DeclarationMember, AssignMember, ParameterMember, CommentMember, BlankMember, InlineMember, MacroMember, InstanceMember, AlwaysMember, ConditionalMember, FunctionMember, LoopMember, Members, NoMembers, MoreMembers}
-use Rattle.vast_literal.specs.Tree.{PortTree, ParameterPortTree, ModuleTree, FileItemTree, ModuleItem, IncludeItem, CommentItem, BlankItem, FileTree}
+use Rattle.vast_literal.specs.Tree.{StatementTree, AssignTree, InlineTree, ConditionalTree, CaseTree, Statements, NoStatements, MoreStatements, Alternates, NoElse, ElseIf, Else, CaseArms, NoCaseArms, CaseArm}
+use Rattle.vast_literal.specs.Tree.{AlwaysWord, AlwaysCombWord, ParameterName, PlainParameter, IntParameter, DefinedParameter, Connection, InstanceTree, FunctionTree}
+use Rattle.vast_literal.specs.Tree.{MemberTree, DeclarationMember, AssignMember, ParameterMember, InlineMember, MacroMember, InstanceMember, AlwaysMember, ConditionalMember, FunctionMember, LoopMember, Members, NoMembers, MoreMembers}
+use Rattle.vast_literal.specs.Tree.{PortTree, ParameterPortTree, ModuleTree, FileItemTree, ModuleItem, IncludeItem, FileTree}
 use Rattle.vast_literal.specs.LiteralToken.{every}
 use Rattle.vast_literal.specs.Plain.{is_plain_name, is_plain, is_plain_type, is_edgeless, is_edgeless_type}
 
@@ -35,19 +35,14 @@ is_plain_declaration type name = is_plain_name name && (is_plain_type type && is
 abbrev pub is_plain_declared : Declaration → Bool
 is_plain_declared d = is_plain_declaration d.type d.name
 
-abbrev pub are_plain_declared : List Declaration → Bool
-are_plain_declared [] = true
-are_plain_declared (d ∷ ds) = is_plain_declared d && are_plain_declared ds
-
 abbrev mutual
   -- No inline text stands in the statement, and its names are plain.
   pub is_plain_statement : StatementTree → Bool
   is_plain_statement (AssignTree form left right) = is_plain_assignment left right
-  is_plain_statement (CommentTree text) = true
-  is_plain_statement BlankTree = true
   is_plain_statement (InlineTree text) = false
   is_plain_statement (ConditionalTree condition consequent alternates) = is_plain_value condition && (are_plain_statements consequent && are_plain_alternates alternates)
   is_plain_statement (CaseTree unique word selector arms) = is_plain_value selector && are_plain_arms arms
+  is_plain_statement _ = true
 
   pub are_plain_statements : Statements → Bool
   are_plain_statements NoStatements = true
@@ -74,9 +69,8 @@ are_plain_events (MoreExprs event events) = is_plain_event event && are_plain_ev
 
 -- The events that are printed are plain; a combinational block prints none.
 abbrev pub are_plain_awaited : AlwaysWord → Exprs → Bool
-are_plain_awaited AlwaysFFWord events = are_plain_events events
-are_plain_awaited AlwaysAtWord events = are_plain_events events
 are_plain_awaited AlwaysCombWord events = true
+are_plain_awaited _ events = are_plain_events events
 
 abbrev pub is_plain_parameter_name : ParameterName → Bool
 is_plain_parameter_name (PlainParameter name) = is_plain_name name
@@ -84,14 +78,13 @@ is_plain_parameter_name (IntParameter name) = is_plain_name name
 is_plain_parameter_name (DefinedParameter d) = is_plain_declared d
 
 abbrev pub are_plain_connections : List Connection → Bool
-are_plain_connections [] = true
-are_plain_connections (c ∷ cs) = (is_plain_name c.name && is_plain_maybe c.value) && are_plain_connections cs
+are_plain_connections connections = every (λ c. is_plain_name c.name && is_plain_maybe c.value) connections
 
 abbrev pub is_plain_instance : InstanceTree → Bool
 is_plain_instance i = (is_plain_name i.module_name && is_plain_name i.instance_name) && (are_plain_connections i.parameters && are_plain_connections i.connections)
 
 abbrev pub is_plain_function : FunctionTree → Bool
-is_plain_function f = is_plain_declaration f.result f.name && (are_plain_declared f.inputs && (are_plain_declared f.locals && are_plain_statements f.body))
+is_plain_function f = is_plain_declaration f.result f.name && (every is_plain_declared f.inputs && (every is_plain_declared f.locals && are_plain_statements f.body))
 
 abbrev pub is_plain_label : Option (List ℕ) → Bool
 is_plain_label None = true
@@ -102,8 +95,6 @@ abbrev mutual
   is_plain_member (DeclarationMember d) = is_plain_declared d
   is_plain_member (AssignMember left right) = is_plain_assignment left right
   is_plain_member (ParameterMember local parameter value) = is_plain_parameter_name parameter && is_plain_value value
-  is_plain_member (CommentMember text) = true
-  is_plain_member BlankMember = true
   is_plain_member (InlineMember text) = false
   is_plain_member (MacroMember call semicolon) = is_plain_value call
   is_plain_member (InstanceMember i) = is_plain_instance i
@@ -111,22 +102,21 @@ abbrev mutual
   is_plain_member (ConditionalMember condition consequent alternates) = is_plain_value condition && (are_plain_statements consequent && are_plain_alternates alternates)
   is_plain_member (FunctionMember f) = is_plain_function f
   is_plain_member (LoopMember genvar start end label members) = (is_plain_name genvar && is_plain_label label) && ((is_plain_value start && is_plain_value end) && are_plain_members members)
+  is_plain_member _ = true
 
   pub are_plain_members : Members → Bool
   are_plain_members NoMembers = true
   are_plain_members (MoreMembers member members) = is_plain_member member && are_plain_members members
 
 abbrev pub are_plain_ports : List PortTree → Bool
-are_plain_ports [] = true
-are_plain_ports (p ∷ ps) = is_plain_declared p.declaration && are_plain_ports ps
+are_plain_ports ports = every (λ p. is_plain_declared p.declaration) ports
 
 abbrev pub is_plain_typed : MaybeType → (name : List ℕ) → Bool
 is_plain_typed Untyped name = is_plain_name name
 is_plain_typed (Typed type) name = is_plain_declaration type name
 
 abbrev pub are_plain_parameters : List ParameterPortTree → Bool
-are_plain_parameters [] = true
-are_plain_parameters (p ∷ ps) = (is_plain_typed p.type p.name && is_plain_value p.value) && are_plain_parameters ps
+are_plain_parameters parameters = every (λ p. is_plain_typed p.type p.name && is_plain_value p.value) parameters
 
 abbrev pub is_plain_module : ModuleTree → Bool
 is_plain_module m = is_plain_name m.name && (are_plain_parameters m.parameters && (are_plain_ports m.ports && are_plain_members m.members))
@@ -139,8 +129,7 @@ abbrev pub are_plain_items : List FileItemTree → Bool
 are_plain_items [] = true
 are_plain_items (ModuleItem m ∷ items) = is_plain_module m && are_plain_items items
 are_plain_items (IncludeItem path ∷ items) = every is_path_byte path && are_plain_items items
-are_plain_items (CommentItem text ∷ items) = are_plain_items items
-are_plain_items (BlankItem ∷ items) = are_plain_items items
+are_plain_items (_ ∷ items) = are_plain_items items
 
 -- The names of the file's modules, instances, ports, connections, parameters, labels, packages, types and macros are plain, no
 -- inline text stands in it, edges stand only in the lists of events, and left sides are names, selects and concatenations. What

@@ -1,12 +1,12 @@
 -- What the shape of a tree decides: where parentheses stand, which selects are left out, which dimensions an
 -- array has, with which kind something is declared, and which arms stand bare. The layout, the tokens of its text and the normal form go by these.
 use Rattle.std.specs.Prelude.{ℕ, ℤ, pos, Bool, true, false, cond, ◌&&◌, ◌||◌, ◌==◌, List, [], ◌∷◌, ◌++◌, Option, Some, None, nat_lt, nat_le}
-use Rattle.vast_literal.specs.Tree.{UnaryOp, NegateOp, BitwiseNotOp, LogicalNotOp, AndReduceOp, OrReduceOp, XorReduceOp}
+use Rattle.vast_literal.specs.Tree.{UnaryOp, NegateOp, BitwiseNotOp, LogicalNotOp}
 use Rattle.vast_literal.specs.Tree.{BinaryOp, AddOp, SubOp, MulOp, DivOp, ModOp, PowerOp, BitwiseAndOp, BitwiseOrOp, BitwiseXorOp, ShllOp, ShraOp, ShrlOp, NeOp, CaseNeOp, EqOp, CaseEqOp, GeOp, GtOp, LeOp, LtOp, LogicalAndOp, LogicalOrOp, NeXOp, EqXOp}
 use Rattle.vast_literal.specs.Tree.{ExprTree, NameTree, LiteralTree, UnaryTree, BinaryTree, TernaryTree, WidthCastTree}
-use Rattle.vast_literal.specs.Tree.{TypeTree, ScalarTree, VectorTree, IntegerTree, IntTree, ExternalTree, PackageTree, PackedTree, UnpackedTree, MissingType, MaybeType, Untyped, Typed}
+use Rattle.vast_literal.specs.Tree.{TypeTree, ScalarTree, VectorTree, IntegerTree, IntTree, ExternalTree, PackageTree, PackedTree, UnpackedTree, MaybeType, Untyped, Typed}
 use Rattle.vast_literal.specs.Tree.{Dialect, VerilogDialect, SystemVerilogDialect, Kind, LogicKind, IntegerKind, IntKind, UserKind}
-use Rattle.vast_literal.specs.Tree.{StatementTree, AssignTree, CaseTree, Statements, NoStatements, MoreStatements, Blocking, Nonblocking, CaseWord, CaseExact, CaseZ, CaseX}
+use Rattle.vast_literal.specs.Tree.{StatementTree, AssignTree, CaseTree, Statements, NoStatements, MoreStatements, Blocking, Nonblocking, CaseWord, CaseZ}
 
 -- Precedence: an operator of a higher one binds its operands more tightly (IEEE 1800-2017, table 11-2).
 abbrev pub binary_precedence : BinaryOp → ℕ
@@ -46,9 +46,7 @@ abbrev pub is_reduction_operator : UnaryOp → Bool
 is_reduction_operator NegateOp = false
 is_reduction_operator BitwiseNotOp = false
 is_reduction_operator LogicalNotOp = false
-is_reduction_operator AndReduceOp = true
-is_reduction_operator OrReduceOp = true
-is_reduction_operator XorReduceOp = true
+is_reduction_operator _ = true
 
 abbrev pub is_reduction : ExprTree → Bool
 is_reduction (UnaryTree o e) = is_reduction_operator o
@@ -129,13 +127,7 @@ highest_index_wraps e = nat_lt (precedence e) 9
 abbrev pub base_of : TypeTree → TypeTree
 base_of (PackedTree element dimensions) = base_of element
 base_of (UnpackedTree element dimensions) = base_of element
-base_of (ScalarTree signed) = ScalarTree signed
-base_of (VectorTree width value signed) = VectorTree width value signed
-base_of (IntegerTree signed) = IntegerTree signed
-base_of (IntTree signed) = IntTree signed
-base_of (ExternalTree name) = ExternalTree name
-base_of (PackageTree package_name name) = PackageTree package_name name
-base_of MissingType = MissingType
+base_of base = base
 
 -- The dimensions of the arrays around it, packed and unpacked, the outermost array's first.
 abbrev pub packed_dimensions : TypeTree → List ℤ
@@ -186,9 +178,8 @@ is_one_assignment _ = false
 
 -- An arm of a casez that is one assignment stands without `begin` and `end`.
 abbrev pub is_bare_arm : CaseWord → Statements → Bool
-is_bare_arm CaseExact block = false
 is_bare_arm CaseZ block = is_one_assignment block
-is_bare_arm CaseX block = false
+is_bare_arm _ block = false
 
 -- One casez, which stands without `begin` and `end` as the body of a function.
 abbrev pub is_casez : StatementTree → Bool

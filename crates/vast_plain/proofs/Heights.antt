@@ -1,7 +1,7 @@
 -- How much is still to look at: less for newer containers, so that the test ends.
 use Rattle.std.proofs.Common.{ℕ, ◌+◌, ◌-◌, ◌*◌, ◌^◌}
-use Rattle.vast_core.specs.Handles.{conditional_index, case_index, loop_index}
-use Rattle.vast_core.specs.Records.{MemberEntry, DeclarationEntry, AssignmentEntry, ParameterEntry, BlankEntry, CommentEntry, InlineEntry, MacroEntry, InstanceEntry, FunctionEntry, AlwaysEntry, ConditionalEntry, LoopEntry}
+use Rattle.vast_core.specs.declared.node.Member.{Member}
+use Rattle.vast_core.specs.declared.node.Member.TheVariants.{Declaration as DeclarationEntry, ContinuousAssignment as AssignmentEntry, Parameter as ParameterEntry, BlankLine as BlankEntry, Comment as CommentEntry, Inline as InlineEntry, Macro as MacroEntry, Instantiation as InstanceEntry, Function as FunctionEntry, Always as AlwaysEntry, Conditional as ConditionalEntry, Loop as LoopEntry}
 use Rattle.vast_core.specs.Nests.{StatementEntry, AssignStatement, ContinuousStatement, ConditionalStatement, CasesStatement, BlankStatement, CommentStatement, InlineStatement}
 
 abbrev pub height : ℕ → ℕ
@@ -11,14 +11,14 @@ height i = 8 * (2 ^ 64 - i)
 abbrev pub statement_height : StatementEntry → ℕ
 statement_height (AssignStatement s) = 0
 statement_height (ContinuousStatement s) = 0
-statement_height (ConditionalStatement c) = height (conditional_index c) + 4
-statement_height (CasesStatement c) = height (case_index c) + 4
+statement_height (ConditionalStatement c) = height c.id.index + 4
+statement_height (CasesStatement c) = height c.id.index + 4
 statement_height BlankStatement = 0
 statement_height (CommentStatement text) = 0
 statement_height (InlineStatement text) = 0
 
 -- of a member, by the loop that it is
-abbrev pub member_height : MemberEntry → ℕ
+abbrev pub member_height : Member → ℕ
 member_height (DeclarationEntry kind name data_type) = 0
 member_height (AssignmentEntry a) = 0
 member_height (ParameterEntry local form value) = 0
@@ -30,4 +30,4 @@ member_height (InstanceEntry x) = 0
 member_height (FunctionEntry f) = 0
 member_height (AlwaysEntry a) = 0
 member_height (ConditionalEntry c) = 0
-member_height (LoopEntry l) = height (loop_index l) + 1
+member_height (LoopEntry l) = height l.id.index + 1

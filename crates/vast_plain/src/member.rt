@@ -1,11 +1,9 @@
 //! Members of modules and loops.
 
-ghost use Rattle.std.specs.Prelude.{◌≡◌, ◌&&◌, All, map, string_bytes};
+ghost use Rattle.std.specs.Prelude.{◌≡◌, ◌&&◌, All, string_bytes};
 ghost use Rattle.vast_literal.specs.Plain.{is_plain_name};
 ghost use Rattle.vast_literal.specs.PlainFile.{is_plain_value, is_plain_label, is_plain_member, are_plain_members};
 ghost use Rattle.vast_core.specs.Bench.{OwnsExpr, OwnsLoop, tree_of};
-ghost use Rattle.vast_core.specs.Handles.{loop_index};
-ghost use Rattle.vast_core.specs.Records.{member_entry};
 ghost use Rattle.vast_core.specs.Nests.{label_bytes};
 ghost use Rattle.vast_core.specs.Sound.{MemberSound};
 ghost use Rattle.vast_core.specs.FileTree.{families, loop_member, member_tree, members_tree};
@@ -24,9 +22,9 @@ use vast_core::{Ast, GenerateLoop, LoopNode, Member};
 #[cycle(members)]
 #[tactic(auto, using(crate::proofs::Members::members, vast_core::proofs::Laws::conversions))]
 fn is_plain_member(ast: &Ast, member: &Member) -> Result<bool, AllocError>
-    requires { MemberSound (bench ast.now) (member_entry member.now) }
+    requires { MemberSound (bench ast.now) member.now }
     ensures { Answers
-        (is_plain_member (member_tree (bench ast.now) (member_entry member.now))) result }
+        (is_plain_member (member_tree (bench ast.now) member.now)) result }
 {
     match member {
         Member::Declaration(_, name, t) => is_plain_declaration(ast, *t, name.as_str()),
@@ -52,7 +50,7 @@ fn is_plain_member(ast: &Ast, member: &Member) -> Result<bool, AllocError>
 fn is_plain_loop(ast: &Ast, l: GenerateLoop) -> Result<bool, AllocError>
     requires { OwnsLoop (bench ast.now) l }
     ensures { Answers
-        (is_plain_member (loop_member (families (bench ast.now) (loop_index l)))) result }
+        (is_plain_member (loop_member (families (bench ast.now) l.id.index))) result }
 {
     let node = ast.generate_loop(l);
     if !is_plain_header(ast, node)? {
@@ -85,9 +83,9 @@ fn is_plain_header(ast: &Ast, node: &LoopNode) -> Result<bool, AllocError>
 
 /// Whether each member of a module is plain.
 pub(crate) fn are_plain_members(ast: &Ast, members: &[Member]) -> Result<bool, AllocError>
-    requires { All (λ m. MemberSound (bench ast.now) (member_entry m)) members.now }
+    requires { All (MemberSound (bench ast.now)) members.now }
     ensures { Answers
-        (are_plain_members (members_tree (bench ast.now) (map member_entry members.now)))
+        (are_plain_members (members_tree (bench ast.now) members.now))
         result }
 {
     for member in members {

@@ -4,7 +4,7 @@ ghost use Rattle.std.specs.Prelude.{◌≡◌, ◌&&◌, All, map};
 ghost use Rattle.vast_literal.specs.PlainFile.{is_plain_value, is_plain_typed, is_plain_declared, are_plain_parameters, are_plain_ports, is_plain_module};
 ghost use Rattle.vast_core.specs.Bench.{OwnsPort, tree_of};
 ghost use Rattle.vast_core.specs.Nodes.{maybe_type_in};
-ghost use Rattle.vast_core.specs.Records.{module_record, parameter_port_record, member_entry};
+ghost use Rattle.vast_core.specs.Records.{module_record, parameter_port_record};
 ghost use Rattle.vast_core.specs.Sound.{MemberSound, ParameterPortSound};
 ghost use Rattle.vast_core.specs.FileTree.{parameter_port_tree, port_tree, module_tree};
 ghost use Rattle.vast_core.specs.View.{bench};
@@ -76,7 +76,7 @@ pub(crate) fn is_plain_module(ast: &Ast, node: &Module) -> Result<bool, AllocErr
     requires parameters { All (λ p. ParameterPortSound (bench ast.now) (parameter_port_record p))
         node.now.parameters.items }
     requires ports { All (OwnsPort (bench ast.now)) node.now.ports.items }
-    requires members { All (λ m. MemberSound (bench ast.now) (member_entry m))
+    requires members { All (MemberSound (bench ast.now))
         node.now.members.items }
     ensures { Answers (is_plain_module (module_tree (bench ast.now) (module_record node.now)))
         result }

@@ -2,15 +2,15 @@
 
 ghost use Rattle.std.specs.Prelude.{◌≡◌, ◌&&◌, All, map, slice_get};
 ghost use Rattle.vast_literal.specs.Plain.{is_plain_name};
-ghost use Rattle.vast_literal.specs.PlainFile.{is_plain_maybe, are_plain_connections, is_plain_declared, are_plain_declared, are_plain_events, are_plain_awaited, is_plain_parameter_name, is_plain_value, is_plain_member};
+ghost use Rattle.vast_literal.specs.PlainFile.{is_plain_maybe, are_plain_connections, is_plain_declared, are_plain_events, are_plain_awaited, is_plain_parameter_name, is_plain_value, is_plain_member};
 ghost use Rattle.vast_core.specs.Bench.{OwnsExpr, OwnsInstantiation, OwnsAlways, OwnsFunction, tree_of, trees_of, maybe_tree_of};
-ghost use Rattle.vast_core.specs.Handles.{always_index, function_index};
-ghost use Rattle.vast_core.specs.Records.{InstanceEntry, connection_record, form_entry};
-ghost use Rattle.vast_core.specs.Nests.{variable_record};
+ghost use Rattle.vast_core.specs.Records.{connection_record};
+ghost use Rattle.vast_core.specs.declared.node.Member.TheVariants.{Instantiation as InstanceEntry};
 ghost use Rattle.vast_core.specs.Sound.{FormSound, ConnectionSound, VariableSound, EventSound};
 ghost use Rattle.vast_core.specs.FileTree.{families, form_tree, connection_tree, variable_tree, always_in, function_in, member_tree};
 ghost use Rattle.vast_core.specs.View.{bench};
 ghost use Rattle.vast_plain.specs.Internal.Values.{Answers};
+ghost use Rattle.vast_literal.specs.LiteralToken.{every};
 
 use crate::expression::{is_plain_event, is_plain_maybe, is_plain_value};
 use crate::names::is_plain_name;
@@ -24,9 +24,9 @@ use vast_core::{
 
 /// Whether what a parameter declares is plain.
 fn is_plain_form(ast: &Ast, form: &ParameterForm) -> Result<bool, AllocError>
-    requires { FormSound (bench ast.now) (form_entry form.now) }
+    requires { FormSound (bench ast.now) form.now }
     ensures { Answers
-        (is_plain_parameter_name (form_tree (bench ast.now) (form_entry form.now))) result }
+        (is_plain_parameter_name (form_tree (bench ast.now) form.now)) result }
 {
     match form {
         ParameterForm::Plain(name) => Ok(is_plain_name(name.as_str())),
@@ -44,10 +44,10 @@ pub(crate) fn is_plain_parameter(
     form: &ParameterForm,
     value: Expr,
 ) -> Result<bool, AllocError>
-    requires form { FormSound (bench ast.now) (form_entry form.now) }
+    requires form { FormSound (bench ast.now) form.now }
     requires value { OwnsExpr (bench ast.now) value }
     ensures { Answers
-        (is_plain_parameter_name (form_tree (bench ast.now) (form_entry form.now))
+        (is_plain_parameter_name (form_tree (bench ast.now) form.now)
         && is_plain_value (tree_of (bench ast.now) value)) result }
 {
     Ok(is_plain_form(ast, form)? && is_plain_value(ast, value)?)
@@ -124,7 +124,7 @@ pub(crate) fn is_plain_always(ast: &Ast, a: VastAlwaysBase) -> Result<bool, Allo
     ensures { Answers
         (is_plain_member
         (always_in (bench ast.now) (families (bench ast.now))
-        (slice_get (bench ast.now).always_blocks (always_index a)))) result }
+        (slice_get (bench ast.now).always_blocks a.id.index))) result }
 {
     let node = ast.always_block(a);
     Ok(are_plain_awaited(ast, node.kind, &node.events)? && is_plain_block(ast, node.block)?)
@@ -132,9 +132,9 @@ pub(crate) fn is_plain_always(ast: &Ast, a: VastAlwaysBase) -> Result<bool, Allo
 
 /// Whether the name and the type of a function's input or local are plain.
 fn is_plain_variable(ast: &Ast, variable: &FunctionVariable) -> Result<bool, AllocError>
-    requires { VariableSound (bench ast.now) (variable_record variable.now) }
+    requires { VariableSound (bench ast.now) variable.now }
     ensures { Answers
-        (is_plain_declared (variable_tree (bench ast.now) (variable_record variable.now)))
+        (is_plain_declared (variable_tree (bench ast.now) variable.now))
         result }
 {
     is_plain_declaration(ast, variable.data_type, variable.name.as_str())
@@ -142,10 +142,10 @@ fn is_plain_variable(ast: &Ast, variable: &FunctionVariable) -> Result<bool, All
 
 /// Whether the declarations of a function's inputs or locals are plain.
 fn are_plain_variables(ast: &Ast, variables: &[FunctionVariable]) -> Result<bool, AllocError>
-    requires { All (λ v. VariableSound (bench ast.now) (variable_record v)) variables.now }
+    requires { All (VariableSound (bench ast.now)) variables.now }
     ensures { Answers
-        (are_plain_declared
-        (map (variable_tree (bench ast.now)) (map variable_record variables.now))) result }
+        (every is_plain_declared
+        (map (variable_tree (bench ast.now)) variables.now)) result }
 {
     for variable in variables {
         if !is_plain_variable(ast, variable)? {
@@ -161,7 +161,7 @@ pub(crate) fn is_plain_function(ast: &Ast, f: VastFunction) -> Result<bool, Allo
     ensures { Answers
         (is_plain_member
         (function_in (bench ast.now) (families (bench ast.now))
-        (slice_get (bench ast.now).functions (function_index f)))) result }
+        (slice_get (bench ast.now).functions f.id.index))) result }
 {
     let function = ast.function(f);
     Ok(

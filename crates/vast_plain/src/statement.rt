@@ -3,7 +3,6 @@
 ghost use Rattle.std.specs.Prelude.{◌≡◌, ◌&&◌, IfSome};
 ghost use Rattle.vast_literal.specs.PlainFile.{is_plain_value, is_plain_maybe, is_plain_assignment, is_plain_statement, are_plain_statements};
 ghost use Rattle.vast_core.specs.Bench.{OwnsExpr, OwnsBlock, OwnsConditional, OwnsCase, tree_of, maybe_tree_of};
-ghost use Rattle.vast_core.specs.Handles.{conditional_index, case_index};
 ghost use Rattle.vast_core.specs.Nests.{statement_entry};
 ghost use Rattle.vast_core.specs.FileTree.{families, statement_in, conditional_statement, case_statement, block_tree};
 ghost use Rattle.vast_core.specs.View.{bench};
@@ -71,7 +70,7 @@ pub(crate) fn is_plain_conditional(ast: &Ast, c: Conditional) -> Result<bool, Al
     requires { OwnsConditional (bench ast.now) c }
     ensures { Answers
         (is_plain_statement
-        (conditional_statement (families (bench ast.now) (conditional_index c)))) result }
+        (conditional_statement (families (bench ast.now) c.id.index))) result }
 {
     let node = ast.conditional(c);
     if !is_plain_arm(ast, node.condition, node.consequent)? {
@@ -105,7 +104,7 @@ fn is_plain_arm(ast: &Ast, condition: Expr, b: VastStatementBlock) -> Result<boo
 fn is_plain_case(ast: &Ast, c: CaseStatement) -> Result<bool, AllocError>
     requires { OwnsCase (bench ast.now) c }
     ensures { Answers
-        (is_plain_statement (case_statement (families (bench ast.now) (case_index c)))) result }
+        (is_plain_statement (case_statement (families (bench ast.now) c.id.index))) result }
 {
     let node = ast.case(c);
     if !is_plain_value(ast, node.selector)? {

@@ -11,7 +11,7 @@ use Rattle.vast_core.specs.declared.node.ParameterPort.{ParameterPort}
 use Rattle.vast_core.specs.declared.node.Connection.{Connection}
 use Rattle.vast_core.specs.declared.node.FileItem.{FileItem}
 use Rattle.vast_core.specs.Bench.{Bench}
-use Rattle.vast_core.specs.Records.{member_entry, parameter_port_record, connection_record, file_entry}
+use Rattle.vast_core.specs.Records.{parameter_port_record, connection_record, file_entry}
 use Rattle.vast_core.specs.FileTree.{member_tree, members_tree, parameter_port_tree, connection_tree, item_tree, tree}
 use Rattle.vast_print.specs.Printed.{Printed, plain_text}
 use Rattle.vast_print.specs.Page.{Page, written, print}
@@ -41,21 +41,21 @@ pub ruleset declarations = (pour-declaration, pour-port, pour-untyped-parameter,
 
 -- modules
 
-pub members-end : (dialect : Dialect) (b : Bench) (d : ℕ) (k : Ink) (ms : List Member) (i : ℕ) → length ms ≤ i → hang d k (members_page dialect (members_tree b (map member_entry (drop i ms)))) ≡ k
-members-end dialect b d k ms i h = ap (λ x. hang d k (members_page dialect (members_tree b (map member_entry x)))) (drop_all i ms h) ∙ hang-members-none d k dialect
+pub members-end : (dialect : Dialect) (b : Bench) (d : ℕ) (k : Ink) (ms : List Member) (i : ℕ) → length ms ≤ i → hang d k (members_page dialect (members_tree b (drop i ms))) ≡ k
+members-end dialect b d k ms i h = ap (λ x. hang d k (members_page dialect (members_tree b x))) (drop_all i ms h) ∙ hang-members-none d k dialect
 
 pub members-step :
     (dialect : Dialect) (b : Bench) (d : ℕ) (k : Ink) (ms : List Member) (i : ℕ) (m : Member) → i < length ms → m ≡ get_or ms i m →
-    hang d k (members_page dialect (members_tree b (map member_entry (drop i ms)))) ≡ hang d (hang d k (member_page dialect (member_tree b (member_entry m)))) (members_page dialect (members_tree b (map member_entry (drop (i + 1) ms))))
+    hang d k (members_page dialect (members_tree b (drop i ms))) ≡ hang d (hang d k (member_page dialect (member_tree b m))) (members_page dialect (members_tree b (drop (i + 1) ms)))
 members-step dialect b d k [] i m h e = absurd (omega arith)
-members-step dialect b d k (x ∷ ms) zero m h e = rw e (hang-members d k dialect (member_tree b (member_entry x)) (members_tree b (map member_entry ms)))
+members-step dialect b d k (x ∷ ms) zero m h e = rw e (hang-members d k dialect (member_tree b x) (members_tree b ms))
 members-step dialect b d k (x ∷ ms) (suc i) m h e = rw add-one (rw add-one at (members-step dialect b d k ms i m (omega arith) e))
 
-pub hang-body-some : (dialect : Dialect) (b : Bench) (d : ℕ) (k : Ink) (ms : List Member) → 0 < length ms → hang d k (body_page dialect (members_tree b (map member_entry ms))) ≡ hang (d + 1) k (members_page dialect (members_tree b (map member_entry ms)))
+pub hang-body-some : (dialect : Dialect) (b : Bench) (d : ℕ) (k : Ink) (ms : List Member) → 0 < length ms → hang d k (body_page dialect (members_tree b ms)) ≡ hang (d + 1) k (members_page dialect (members_tree b ms))
 hang-body-some dialect b d k [] h = absurd (omega arith)
-hang-body-some dialect b d k (m ∷ ms) h = hang-body d k dialect (member_tree b (member_entry m)) (members_tree b (map member_entry ms))
+hang-body-some dialect b d k (m ∷ ms) h = hang-body d k dialect (member_tree b m) (members_tree b ms)
 
-pub hang-body-empty : (dialect : Dialect) (b : Bench) (d : ℕ) (k : Ink) (ms : List Member) → length ms ≡ 0 → hang d k (body_page dialect (members_tree b (map member_entry ms))) ≡ next d k
+pub hang-body-empty : (dialect : Dialect) (b : Bench) (d : ℕ) (k : Ink) (ms : List Member) → length ms ≡ 0 → hang d k (body_page dialect (members_tree b ms)) ≡ next d k
 hang-body-empty dialect b d k [] h = hang-body-none d k dialect
 hang-body-empty dialect b d k (m ∷ ms) h = absurd (omega arith)
 

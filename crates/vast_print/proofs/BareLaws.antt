@@ -20,6 +20,7 @@ use Rattle.vast_print.specs.Bare.{is_number, begins_word, continues_word, is_wor
 use Rattle.vast_print.specs.Internal.Bare.{is_bare_head}
 use Rattle.vast_print.specs.Text.{elided, cast_to, width_cast, expr_text, type_cast}
 use Rattle.vast_print.proofs.FaultLaws.{elided_text}
+use Rattle.vast_literal.specs.NormalExpr.{unary_operator_token, binary_operator_token}
 
 -- a text with a byte that no word has isn't bare
 
@@ -90,6 +91,7 @@ unfolding cast_to
 broken-cast head p = broken-ends (head ⊕ plain_text (codes "'(") ⊕ p) (codes ")") (record { broken = refl })
 
 broken-unary : (o : UnaryOp) → Broken (unary_operator_text o)
+unfolding unary_operator_token
 broken-unary NegateOp = record { broken = refl }
 broken-unary BitwiseNotOp = record { broken = refl }
 broken-unary LogicalNotOp = record { broken = refl }
@@ -98,6 +100,7 @@ broken-unary OrReduceOp = record { broken = refl }
 broken-unary XorReduceOp = record { broken = refl }
 
 broken-binary : (o : BinaryOp) → Broken (binary_operator_text o)
+unfolding binary_operator_token
 broken-binary AddOp = record { broken = refl }
 broken-binary SubOp = record { broken = refl }
 broken-binary MulOp = record { broken = refl }

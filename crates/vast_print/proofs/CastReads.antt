@@ -4,30 +4,24 @@ use Rattle.std.proofs.lemmas.Bool.{and_left as false_and}
 use Rattle.std.proofs.lemmas.Bool.Decides.{nat_tests}
 use Rattle.std.specs.Prelude.{negsuc, if◌then◌else◌}
 use Rattle.std.specs.Fmt.{signed_decimal}
-use Rattle.vast_literal.specs.Tokens.{Token, Operator, Mark, OpenParen, Apostrophe, DoubleColon, Word}
-use Rattle.vast_literal.specs.declared.operator.UnaryOperator.{UnaryOperator as UnaryOp}
-use Rattle.vast_literal.specs.declared.operator.UnaryOperator.TheVariants.{Negate as NegateOp}
+use Rattle.vast_literal.specs.Tokens.{Token, Mark, OpenParen, Apostrophe, DoubleColon, Word}
 use Rattle.vast_literal.specs.declared.operator.BinaryOperator.{BinaryOperator as BinaryOp}
 use Rattle.vast_literal.specs.declared.operator.BinaryOperator.TheVariants.{Add as AddOp}
 use Rattle.vast_literal.specs.Tree.{ExprTree, NameTree, LiteralTree, StringTree, IndexTree, SliceTree, UnaryTree, BinaryTree, TernaryTree}
 use Rattle.vast_literal.specs.Scan.{is_letter, is_digit, is_word_byte}
-use Rattle.vast_literal.specs.Spelling.{op_text}
 use Rattle.vast_literal.specs.LiteralToken.{every, is_number, is_bare_literal, is_literal_text, is_string_text}
-use Rattle.vast_literal.specs.NormalExpr.{unary_operator_token, binary_operator_token}
 use Rattle.vast_literal.specs.Plain.{is_identifier, is_plain_name}
-use Rattle.vast_literal.proofs.ExprTokens.{expr_tokens, cast_tokens, each_tokens, comma_tokens, comma_tail_tokens, argument_tokens, called_token, cast_operand, wrapped_tokens, word_cast_tokens}
 use Rattle.vast_literal.proofs.ExprTokens as Tokens
 use Rattle.vast_literal.specs.WellFormed.{is_well_formed, is_positive}
 use Rattle.vast_literal.proofs.ScanLaws.{and_left}
-use Rattle.vast_literal.proofs.TokenReads.{opens, Free, Divides, Reads}
-use Rattle.vast_literal.proofs.Pieces.{free_free, reads_end, sign_reads, operator_divides, head_wrapped}
+use Rattle.vast_literal.proofs.TokenReads.{Free, Reads}
+use Rattle.vast_literal.proofs.Pieces.{free_free, reads_end, head_wrapped}
 use Rattle.vast_literal.proofs.NumberLaws.{decimal_number}
 use Rattle.vast_literal.proofs.Words.{name_reads, name_cast_free, double_colon}
 use Rattle.vast_literal.specs.Shape.{is_scalar_name, is_zero, select_wraps, unary_wraps, binary_precedence}
 use Rattle.vast_print.specs.declared.refusal.Refusal.{Refusal}
 use Rattle.vast_print.specs.declared.refusal.Refusal.TheVariants.{ScalarIndex, ScalarSlice}
 use Rattle.vast_print.specs.Printed.{Printed}
-use Rattle.vast_print.specs.Levels.{unary_operator_text, binary_operator_text}
 use Rattle.vast_print.specs.Bare.{is_bare}
 use Rattle.vast_print.specs.Internal.Bare as BareInternal
 use Rattle.vast_print.specs.Text.{elided, expr_text}
@@ -37,22 +31,6 @@ use Rattle.vast_print.proofs.FaultLaws.{elided_fine, elided_text}
 use Rattle.vast_print.proofs.ExprOpens.{is_tight, literal_first}
 
 -- operators
-
-pub unary_same : (o : UnaryOp) → unary_operator_text o ≡ op_text (unary_operator_token o)
-unfolding unary_operator_token
-unary_same NegateOp = refl
-unary_same _ = refl
-
-pub binary_same : (o : BinaryOp) → binary_operator_text o ≡ (32 ∷ (op_text (binary_operator_token o) ++ (32 ∷ [])))
-unfolding binary_operator_token
-binary_same AddOp = refl
-binary_same _ = refl
-
-pub binary_divides : (o : BinaryOp) → Divides (binary_operator_text o) (Operator (binary_operator_token o) ∷ [])
-binary_divides o = subst (λ (a : List ℕ). Divides a (Operator (binary_operator_token o) ∷ [])) (sym (binary_same o)) (operator_divides (binary_operator_token o))
-
-pub unary_reads : (o : UnaryOp) (a : List ℕ) {ts : List Token} → opens true a ≡ true → Reads a ts → Reads (unary_operator_text o ++ a) (Operator (unary_operator_token o) ∷ ts)
-unary_reads o a {ts = ts} h f = subst (λ (s : List ℕ). Reads (s ++ a) (Operator (unary_operator_token o) ∷ ts)) (sym (unary_same o)) (sign_reads o a h f)
 
 binary_never : (o : BinaryOp) → nat_le (binary_precedence o) 12 ≡ true
 binary_never AddOp = refl

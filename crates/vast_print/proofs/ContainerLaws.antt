@@ -14,11 +14,10 @@ use Rattle.vast_core.specs.declared.node.Statement.{Statement}
 use Rattle.vast_core.specs.declared.node.ElseIf.{ElseIf}
 use Rattle.vast_core.specs.declared.node.CaseArm.{CaseArm}
 use Rattle.vast_core.specs.declared.node.FunctionVariable.{FunctionVariable}
-use Rattle.vast_core.specs.Handles.{statement_index, conditional_index, case_index}
 use Rattle.vast_core.specs.Sound.{StatementSound}
 use Rattle.vast_core.proofs.Lists.{below-of}
 use Rattle.vast_core.specs.Bench.{Bench, OwnsStatement, tree_of, maybe_tree_of, trees_of}
-use Rattle.vast_core.specs.Nests.{StatementEntry, AssignStatement, ContinuousStatement, ConditionalStatement, CasesStatement, BlankStatement, CommentStatement, InlineStatement, NestRecord, BlockRecord, ConditionalNestRecord, CaseNestRecord, LoopNestRecord, statement_entry, variable_record}
+use Rattle.vast_core.specs.Nests.{StatementEntry, AssignStatement, ContinuousStatement, ConditionalStatement, CasesStatement, BlankStatement, CommentStatement, InlineStatement, NestRecord, BlockRecord, ConditionalNestRecord, CaseNestRecord, LoopNestRecord, statement_entry}
 use Rattle.vast_core.specs.FileTree.{Family, BlockFamily, ConditionalFamily, CaseFamily, LoopFamily, NoFamily, family, unfolded, families, conditional_statement, case_statement, conditional_member, loop_member, form_of, assigned_tree, continuous_tree, statement_in, statements_tree, block_tree, alternates_tree, case_arms_tree, variable_tree}
 use Rattle.vast_print.specs.Internal.Bodies.{assignment_of, bare_assignment}
 use Rattle.vast_print.specs.Printed.{plain_text, ◌⊕◌}
@@ -36,7 +35,7 @@ use Rattle.vast_print.proofs.StatementLaws.{hang-assign, pour-assign, hang-arm, 
 use Rattle.vast_print.proofs.ListLaws.{statements-end, statements-step, locals-end, locals-step, alternates-end, alternates-step, arms-end, arms-step}
 use Rattle.vast_print.proofs.SeparatedLaws.{rest_events, events-end, events-step, rest_inputs, inputs-end, inputs-step}
 use Rattle.vast_print.proofs.MemberLaws.{hang-always, pour-always-ff, pour-always-at, pour-always-comb, hang-declaration, hang-comment-member, hang-blank-member, hang-inline-member, hang-macro, hang-local, hang-function, hang-function-member, hang-body-block, hang-body-casez, hang-loop, pour-loop, pour-label-text, pour-no-label, pour-input-text}
-use Rattle.vast_print.proofs.ArenaLaws.{stops, declarations, map-map}
+use Rattle.vast_print.proofs.ArenaLaws.{stops, declarations}
 
 -- assignments
 
@@ -131,8 +130,8 @@ there-at [] i h = absurd (omega arith)
 there-at (y ∷ xs) zero h = (y, refl)
 there-at (y ∷ xs) (suc i) h = there-at xs i (omega arith)
 
-assigned-there : (b : Bench) (s : VastStatement) → OwnsStatement b s → (a : Assignment) × (slice_get b.assignments (statement_index s) ≡ Some a)
-assigned-there b s h = there-at b.assignments (statement_index s) (below-of (statement_index s) (length b.assignments) h.of_kind)
+assigned-there : (b : Bench) (s : VastStatement) → OwnsStatement b s → (a : Assignment) × (slice_get b.assignments s.id.index ≡ Some a)
+assigned-there b s h = there-at b.assignments s.id.index (below-of s.id.index (length b.assignments) h.of_kind)
 
 pour-bare : (d : ℕ) (k : Ink) (nonblocking : Bool) (l r : ExprTree) →
     pour d k (arm_body_page CaseZ (MoreStatements (AssignTree (form_of nonblocking) l r) NoStatements)) ≡ pour d k (statement_page (AssignTree (form_of nonblocking) l r))
@@ -141,14 +140,14 @@ pour-bare d k true l r = pour-above-none d k _
 pour-bare d k false l r = pour-above-none d k _
 
 pour-bare-assigned : (b : Bench) (d : ℕ) (k : Ink) (s : VastStatement) → OwnsStatement b s →
-    pour d k (arm_body_page CaseZ (MoreStatements (assigned_tree b (slice_get b.assignments (statement_index s))) NoStatements))
-    ≡ pour d k (statement_page (assigned_tree b (slice_get b.assignments (statement_index s))))
+    pour d k (arm_body_page CaseZ (MoreStatements (assigned_tree b (slice_get b.assignments s.id.index)) NoStatements))
+    ≡ pour d k (statement_page (assigned_tree b (slice_get b.assignments s.id.index)))
 pour-bare-assigned b d k s h =
     let t = assigned-there b s h in rw t.1 (pour-bare d k t.0.nonblocking (tree_of b t.0.lhs) (tree_of b t.0.rhs))
 
 pour-bare-entry : (b : Bench) (i d : ℕ) (k : Ink) (e : StatementEntry) (s : VastStatement) → Some s ≡ assignment_of e → StatementSound b i e →
     pour d k (arm_body_page CaseZ (MoreStatements (statement_in b (families b) e) NoStatements))
-    ≡ pour d k (statement_page (assigned_tree b (slice_get b.assignments (statement_index s))))
+    ≡ pour d k (statement_page (assigned_tree b (slice_get b.assignments s.id.index)))
 pour-bare-entry b i d k (AssignStatement t) s h own = let same : s ≡ t = cc in rw same (pour-bare-assigned b d k t own)
 pour-bare-entry b i d k (ContinuousStatement t) s h own = cc
 pour-bare-entry b i d k (ConditionalStatement c) s h own = cc
@@ -158,7 +157,7 @@ pour-bare-entry b i d k (CommentStatement text) s h own = cc
 pour-bare-entry b i d k (InlineStatement text) s h own = cc
 
 pub pour-arm-bare : (b : Bench) (i d : ℕ) (k : Ink) (w : CaseWord) (xs : List Statement) (s : VastStatement) → Some s ≡ bare_assignment w (map statement_entry xs) → All (λ x. StatementSound b i (statement_entry x)) xs →
-    pour d k (arm_body_page w (statements_tree b (map statement_entry xs))) ≡ pour d k (statement_page (assigned_tree b (slice_get b.assignments (statement_index s))))
+    pour d k (arm_body_page w (statements_tree b (map statement_entry xs))) ≡ pour d k (statement_page (assigned_tree b (slice_get b.assignments s.id.index)))
 pour-arm-bare b i d k CaseExact xs s h sound = cc
 pour-arm-bare b i d k CaseZ [] s h sound = cc
 pour-arm-bare b i d k CaseZ (x ∷ []) s h sound = pour-bare-entry b i d k (statement_entry x) s h (sound 0 x (omega arith))
@@ -197,9 +196,9 @@ other-case b i = other-unfolded b (length b.nests) i
 
 not-bare-entry : (b : Bench) (e : StatementEntry) → None ≡ assignment_of e → IsOther (statement_in b (families b) e)
 not-bare-entry b (AssignStatement t) h = cc
-not-bare-entry b (ContinuousStatement t) h = other-continuous b (slice_get b.assignments (statement_index t))
-not-bare-entry b (ConditionalStatement c) h = other-conditional (families b (conditional_index c))
-not-bare-entry b (CasesStatement c) h = other-case b (case_index c)
+not-bare-entry b (ContinuousStatement t) h = other-continuous b (slice_get b.assignments t.id.index)
+not-bare-entry b (ConditionalStatement c) h = other-conditional (families b c.id.index)
+not-bare-entry b (CasesStatement c) h = other-case b c.id.index
 not-bare-entry b BlankStatement h = refl
 not-bare-entry b (CommentStatement text) h = refl
 not-bare-entry b (InlineStatement text) h = refl
@@ -240,32 +239,27 @@ pub ruleset always = (hang-always, pour-always-ff, pour-always-at, pour-always-c
 
 -- functions
 
-variables-map : (b : Bench) (xs : List FunctionVariable) → map (variable_tree b) (map variable_record xs) ≡ map (λ x. variable_tree b (variable_record x)) xs
-variables-map b xs = map-map variable_record (variable_tree b) xs
-
 pub variables-step :
     (dialect : Dialect) (b : Bench) (d : ℕ) (k : Ink) (xs : List FunctionVariable) (i : ℕ) (x : FunctionVariable) → i < length xs → x ≡ get_or xs i x →
-    pour d k (written (rest_inputs i dialect (map (variable_tree b) (map variable_record (drop i xs)))))
-    ≡ pour d (pour d (word k (separator i (codes ", "))) (written (input_text dialect (variable_tree b (variable_record x))))) (written (rest_inputs (i + 1) dialect (map (variable_tree b) (map variable_record (drop (i + 1) xs)))))
-variables-step dialect b d k xs i x h e =
-    rw (variables-map b (drop i xs), variables-map b (drop (i + 1) xs)) (inputs-step dialect (λ y. variable_tree b (variable_record y)) d k xs i x h e)
+    pour d k (written (rest_inputs i dialect (map (variable_tree b) (drop i xs))))
+    ≡ pour d (pour d (word k (separator i (codes ", "))) (written (input_text dialect (variable_tree b x)))) (written (rest_inputs (i + 1) dialect (map (variable_tree b) (drop (i + 1) xs))))
+variables-step dialect b d k xs i x h e = inputs-step dialect (variable_tree b) d k xs i x h e
 
 pub variables-end :
     (dialect : Dialect) (b : Bench) (d : ℕ) (k : Ink) (xs : List FunctionVariable) (i : ℕ) → length xs ≤ i →
-    pour d k (written (rest_inputs i dialect (map (variable_tree b) (map variable_record (drop i xs))))) ≡ k
-variables-end dialect b d k xs i h = rw (variables-map b (drop i xs)) (inputs-end dialect (λ y. variable_tree b (variable_record y)) d k xs i h)
+    pour d k (written (rest_inputs i dialect (map (variable_tree b) (drop i xs)))) ≡ k
+variables-end dialect b d k xs i h = inputs-end dialect (variable_tree b) d k xs i h
 
 pub locals-left :
     (dialect : Dialect) (b : Bench) (d : ℕ) (k : Ink) (xs : List FunctionVariable) (i : ℕ) (x : FunctionVariable) → i < length xs → x ≡ get_or xs i x →
-    hang d k (locals_page dialect (map (variable_tree b) (map variable_record (drop i xs))))
-    ≡ hang d (hang d k (local_page dialect (variable_tree b (variable_record x)))) (locals_page dialect (map (variable_tree b) (map variable_record (drop (i + 1) xs))))
-locals-left dialect b d k xs i x h e =
-    rw (variables-map b (drop i xs), variables-map b (drop (i + 1) xs)) (locals-step dialect (λ y. variable_tree b (variable_record y)) d k xs i x h e)
+    hang d k (locals_page dialect (map (variable_tree b) (drop i xs)))
+    ≡ hang d (hang d k (local_page dialect (variable_tree b x))) (locals_page dialect (map (variable_tree b) (drop (i + 1) xs)))
+locals-left dialect b d k xs i x h e = locals-step dialect (variable_tree b) d k xs i x h e
 
 pub no-locals-left :
     (dialect : Dialect) (b : Bench) (d : ℕ) (k : Ink) (xs : List FunctionVariable) (i : ℕ) → length xs ≤ i →
-    hang d k (locals_page dialect (map (variable_tree b) (map variable_record (drop i xs)))) ≡ k
-no-locals-left dialect b d k xs i h = rw (variables-map b (drop i xs)) (locals-end dialect (λ y. variable_tree b (variable_record y)) d k xs i h)
+    hang d k (locals_page dialect (map (variable_tree b) (drop i xs))) ≡ k
+no-locals-left dialect b d k xs i h = locals-end dialect (variable_tree b) d k xs i h
 
 -- blocks that are one casez
 

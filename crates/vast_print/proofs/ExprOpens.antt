@@ -23,6 +23,7 @@ use Rattle.vast_print.specs.Bare.{is_bare}
 use Rattle.vast_print.specs.Text.{elided, cast_to, width_cast, package_text, expr_text, type_cast}
 use Rattle.vast_print.proofs.FaultLaws.{elided_text}
 use Rattle.vast_print.proofs.TestLaws.{bare_same}
+use Rattle.vast_literal.specs.NormalExpr.{unary_operator_token}
 
 -- an expression that may stand bare behind a unary operator
 abbrev pub is_tight : ExprTree → Bool
@@ -113,7 +114,7 @@ low AddOp = refl
 low _ = refl
 
 sign_opens : (o : UnaryOp) (p : Printed) → opens false (plain_text (unary_operator_text o) ⊕ p).text ≡ true
-unfolding ◌⊕◌ plain_text
+unfolding ◌⊕◌ plain_text unary_operator_token
 sign_opens NegateOp p = refl
 sign_opens _ p = refl
 

@@ -7,12 +7,11 @@ use Rattle.vast_literal.specs.declared.operator.BinaryOperator.{BinaryOperator a
 use Rattle.vast_literal.specs.Tree.{ExprTree, NameTree, LiteralTree, StringTree, UnaryTree, BinaryTree, TernaryTree, IndexTree, SliceTree, PartSelectTree, ConcatTree, PatternTree, WidthCastTree, TypeCastTree, PosEdgeTree, NegEdgeTree, MacroTree, CallTree, MissingExpr}
 use Rattle.vast_literal.specs.Tree.{TypeTree, ScalarTree, VectorTree, IntegerTree, IntTree, ExternalTree, PackageTree, PackedTree, UnpackedTree, MissingType}
 use Rattle.vast_literal.specs.Tree.{NoExpr, SomeExpr, Exprs, NoExprs, MoreExprs, NoArguments, SomeArguments}
-use Rattle.vast_literal.specs.Scan.{is_letter, is_digit, is_word_byte}
 use Rattle.vast_literal.specs.Scan as Scan
 use Rattle.vast_literal.specs.Scan.{tokens}
 use Rattle.vast_literal.specs.Grammar.{DerivesExpression}
-use Rattle.vast_literal.specs.NormalExpr.{normal, signing_key, scalar_sign, integer_sign}
-use Rattle.vast_literal.proofs.Pieces.{add_tokens-nil}
+use Rattle.vast_literal.specs.NormalExpr.{normal, signing_key, scalar_sign, integer_sign, binary_operator_token}
+use Rattle.vast_literal.proofs.Pieces.{add_tokens-nil, sign_reads, operator_divides}
 use Rattle.vast_literal.proofs.Spelled.{spelled, low}
 use Rattle.vast_literal.proofs.Longest.{scan_lexes}
 use Rattle.vast_literal.specs.LiteralToken.{is_literal_text, is_string_text}
@@ -33,7 +32,7 @@ use Rattle.vast_print.specs.Text.{cast_to, width_cast, sign_cast, scalar_cast, n
 use Rattle.vast_print.proofs.FaultLaws.{first_none, wrapped_fine}
 use Rattle.vast_print.proofs.ExprOpens.{opens_text, wrapped_opens}
 use Rattle.vast_print.proofs.Shapes.{sep_left, closed_left, cast_left, head_reads, ternary_left, part_left, slice_left, replicated_left, nil_left, wrapped_reads}
-use Rattle.vast_print.proofs.CastReads.{binary_divides, unary_reads, operand_tight, positive_number, pick_reads, package_free, head_of_text, head_of_tree}
+use Rattle.vast_print.proofs.CastReads.{operand_tight, positive_number, pick_reads, package_free, head_of_text, head_of_tree}
 
 -- each form of expression over its parts
 
@@ -61,11 +60,11 @@ string_told t h f = string_reads t h
 
 unary_told : (o : UnaryOp) (e : ExprTree) → is_plain e ≡ true → is_well_formed e ≡ true → Told e → Told (UnaryTree o e)
 unfolding expr_text expr_tokens ◌⊕◌ plain_text
-unary_told o e p w r f = unary_reads o _ (wrapped_opens true (unary_wraps e) (expr_text e) (λ h. opens_text true e p w (λ _. operand_tight e h))) (side (unary_wraps e) e r f)
+unary_told o e p w r f = sign_reads o _ (wrapped_opens true (unary_wraps e) (expr_text e) (λ h. opens_text true e p w (λ _. operand_tight e h))) (side (unary_wraps e) e r f)
 
 binary_told : (o : BinaryOp) (a b : ExprTree) → Told a → Told b → Told (BinaryTree o a b)
 unfolding expr_text expr_tokens ◌⊕◌ plain_text
-binary_told o a b r q f = let (x, y) = first_none _ _ f in sep_left (side (left_child_wraps o a) a r ((first_none _ _ x).0)) (binary_divides o) (side (right_child_wraps o b) b q y)
+binary_told o a b r q f = let (x, y) = first_none _ _ f in sep_left (side (left_child_wraps o a) a r ((first_none _ _ x).0)) (operator_divides (binary_operator_token o)) (side (right_child_wraps o b) b q y)
 
 ternary_told : (c a b : ExprTree) → Told c → Told a → Told b → Told (TernaryTree c a b)
 unfolding expr_text expr_tokens ◌⊕◌ plain_text

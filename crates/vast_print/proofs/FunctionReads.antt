@@ -5,7 +5,7 @@ use Rattle.vast_literal.specs.Tree.{Declaration, TypeTree}
 use Rattle.vast_literal.specs.declared.kind.VastFileType.{VastFileType as Dialect}
 use Rattle.vast_literal.specs.Tree.{FunctionTree}
 use Rattle.vast_literal.specs.Tree.{Statements}
-use Rattle.vast_literal.specs.PlainFile.{is_plain_declaration, is_plain_declared, are_plain_declared, are_plain_statements, is_plain_function}
+use Rattle.vast_literal.specs.PlainFile.{is_plain_declaration, is_plain_declared, are_plain_statements, is_plain_function}
 use Rattle.vast_literal.specs.WellFormed.{is_well_formed_type}
 use Rattle.vast_literal.specs.WellFormedFile.{are_well_formed_statements, are_well_formed_inputs, are_well_formed_locals, is_well_formed_function, is_local_word}
 use Rattle.vast_literal.proofs.FileTokens.{declaration_tokens, declared_tokens, port_declaration_tokens, block_tokens, statements_tokens, separated, each_input, local_tokens, body_tokens, function_tokens}
@@ -27,6 +27,7 @@ use Rattle.vast_print.proofs.PageReads.{above_fine, inner_fine, written_fine, Wh
 use Rattle.vast_print.proofs.StatementReads.{cond_fine}
 use Rattle.vast_print.proofs.EntryReads.{same_reads, close_semicolon}
 use Rattle.vast_print.proofs.InstanceReads.{Rest, rest_none, rest_more}
+use Rattle.vast_literal.specs.LiteralToken.{every}
 
 pub declared_told : (dialect : Dialect) (d : Declaration) → is_plain_declared d ≡ true → is_well_formed_type d.type ≡ true → (declared_text dialect d).fault ≡ None → Reads (declared_text dialect d).text (declared_tokens dialect d)
 unfolding declared_tokens
@@ -76,11 +77,11 @@ no_input_told : (dialect : Dialect) → Rest (more_inputs_text dialect []).text 
 unfolding more_inputs_text after_first plain_text
 no_input_told dialect = rest_none
 
-more_inputs_told : (dialect : Dialect) (ds : List Declaration) → are_plain_declared ds ≡ true → are_well_formed_inputs ds ≡ true → (more_inputs_text dialect ds).fault ≡ None → Rest (more_inputs_text dialect ds).text (after_first (each_input dialect ds))
+more_inputs_told : (dialect : Dialect) (ds : List Declaration) → every is_plain_declared ds ≡ true → are_well_formed_inputs ds ≡ true → (more_inputs_text dialect ds).fault ≡ None → Rest (more_inputs_text dialect ds).text (after_first (each_input dialect ds))
 unfolding each_input
 more_inputs_told dialect [] p w f = no_input_told dialect
 more_inputs_told dialect (d ∷ ds) p w f = let (x, y) = more_inputs_fine dialect d ds f in
-    more_input_told dialect d ds _ _ (input_told dialect d (and_left _ _ p) (and_left _ _ w) x) (more_inputs_told dialect ds (and_right (is_plain_declared d) (are_plain_declared ds) p) (and_right (is_well_formed_type d.type) (are_well_formed_inputs ds) w) y)
+    more_input_told dialect d ds _ _ (input_told dialect d (and_left _ _ p) (and_left _ _ w) x) (more_inputs_told dialect ds (and_right (is_plain_declared d) (every is_plain_declared ds) p) (and_right (is_well_formed_type d.type) (are_well_formed_inputs ds) w) y)
 
 inputs_fine : (dialect : Dialect) (d : Declaration) (ds : List Declaration) → (inputs_text dialect (d ∷ ds)).fault ≡ None → ((input_text dialect d).fault ≡ None) × ((more_inputs_text dialect ds).fault ≡ None)
 unfolding inputs_text
@@ -94,11 +95,11 @@ no_inputs_shape : (dialect : Dialect) → Reads (inputs_text dialect []).text (s
 unfolding inputs_text separated plain_text
 no_inputs_shape dialect = record { at = λ rest h. refl }
 
-inputs_told : (dialect : Dialect) (ds : List Declaration) → are_plain_declared ds ≡ true → are_well_formed_inputs ds ≡ true → (inputs_text dialect ds).fault ≡ None → Reads (inputs_text dialect ds).text (separated (each_input dialect ds))
+inputs_told : (dialect : Dialect) (ds : List Declaration) → every is_plain_declared ds ≡ true → are_well_formed_inputs ds ≡ true → (inputs_text dialect ds).fault ≡ None → Reads (inputs_text dialect ds).text (separated (each_input dialect ds))
 unfolding each_input
 inputs_told dialect [] p w f = no_inputs_shape dialect
 inputs_told dialect (d ∷ ds) p w f = let (x, y) = inputs_fine dialect d ds f in
-    inputs_shape dialect d ds _ _ (input_told dialect d (and_left _ _ p) (and_left _ _ w) x) (more_inputs_told dialect ds (and_right (is_plain_declared d) (are_plain_declared ds) p) (and_right (is_well_formed_type d.type) (are_well_formed_inputs ds) w) y)
+    inputs_shape dialect d ds _ _ (input_told dialect d (and_left _ _ p) (and_left _ _ w) x) (more_inputs_told dialect ds (and_right (is_plain_declared d) (every is_plain_declared ds) p) (and_right (is_well_formed_type d.type) (are_well_formed_inputs ds) w) y)
 
 -- locals and bodies
 
@@ -117,12 +118,12 @@ locals_fine : (dialect : Dialect) (d : Declaration) (ds : List Declaration) → 
 unfolding locals_page
 locals_fine dialect d ds f = above_fine (local_page dialect d) (locals_page dialect ds) f
 
-locals_whole : (dialect : Dialect) (ds : List Declaration) → are_plain_declared ds ≡ true → are_well_formed_locals ds ≡ true → (locals_page dialect ds).fault ≡ None → Whole (locals_page dialect ds) (local_tokens dialect ds)
+locals_whole : (dialect : Dialect) (ds : List Declaration) → every is_plain_declared ds ≡ true → are_well_formed_locals ds ≡ true → (locals_page dialect ds).fault ≡ None → Whole (locals_page dialect ds) (local_tokens dialect ds)
 unfolding locals_page local_tokens
 locals_whole dialect [] p w f = whole_none
 locals_whole dialect (d ∷ ds) p w f = let (x, y) = locals_fine dialect d ds f in
     whole_above (local_whole dialect d (declared_told dialect d (and_left _ _ p) (and_right (is_local_word d.kind) (is_well_formed_type d.type) (and_left _ _ w)) (local_fine dialect d x)))
-    (locals_whole dialect ds (and_right (is_plain_declared d) (are_plain_declared ds) p) (and_right (is_local_word d.kind && is_well_formed_type d.type) (are_well_formed_locals ds) w) y)
+    (locals_whole dialect ds (and_right (is_plain_declared d) (every is_plain_declared ds) p) (and_right (is_local_word d.kind && is_well_formed_type d.type) (are_well_formed_locals ds) w) y)
 
 body_fine : (b : Statements) → (function_body_page b).fault ≡ None → (statements_page b).fault ≡ None
 unfolding function_body_page
@@ -167,10 +168,10 @@ function_shape dialect f r i l b = same_whole (regroup_function (declaration_tok
 pub function_whole : (dialect : Dialect) (f : FunctionTree) → is_plain_function f ≡ true → is_well_formed_function f ≡ true → (function_page dialect f).fault ≡ None → Whole (function_page dialect f) (function_tokens dialect f)
 function_whole dialect f p w e =
     let (x, y, u, v) = function_fine dialect f e in
-    let p1 = and_right (is_plain_declaration f.result f.name) (are_plain_declared f.inputs && (are_plain_declared f.locals && are_plain_statements f.body)) p in
+    let p1 = and_right (is_plain_declaration f.result f.name) (every is_plain_declared f.inputs && (every is_plain_declared f.locals && are_plain_statements f.body)) p in
     let w1 = and_right (is_well_formed_type f.result) (are_well_formed_inputs f.inputs && (are_well_formed_locals f.locals && are_well_formed_statements f.body)) w in
-    let p2 = and_right (are_plain_declared f.inputs) (are_plain_declared f.locals && are_plain_statements f.body) p1 in
+    let p2 = and_right (every is_plain_declared f.inputs) (every is_plain_declared f.locals && are_plain_statements f.body) p1 in
     let w2 = and_right (are_well_formed_inputs f.inputs) (are_well_formed_locals f.locals && are_well_formed_statements f.body) w1 in
     function_shape dialect f (result_told dialect f.result f.name (and_left _ _ p) (and_left _ _ w) x) (inputs_told dialect f.inputs (and_left _ _ p1) (and_left _ _ w1) y)
     (locals_whole dialect f.locals (and_left _ _ p2) (and_left _ _ w2) u)
-    (body_whole f.body (statements_whole f.body (and_right (are_plain_declared f.locals) (are_plain_statements f.body) p2) (and_right (are_well_formed_locals f.locals) (are_well_formed_statements f.body) w2) (body_fine f.body v)))
+    (body_whole f.body (statements_whole f.body (and_right (every is_plain_declared f.locals) (are_plain_statements f.body) p2) (and_right (are_well_formed_locals f.locals) (are_well_formed_statements f.body) w2) (body_fine f.body v)))

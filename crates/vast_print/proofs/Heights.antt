@@ -1,12 +1,12 @@
 -- How much is still to print: less for newer containers, so that printing ends; and depths stay in range.
 use Rattle.std.proofs.Common.{ℕ, ◌+◌, ◌-◌, ◌*◌, ◌^◌, ◌<◌, Option, Some, None, slice_get, All, arith}
 use Rattle.vast_core.specs.declared.node.Function.{Function}
-use Rattle.vast_core.specs.Handles.{conditional_index, case_index, loop_index, always_index}
-use Rattle.vast_core.specs.Records.{MemberEntry, DeclarationEntry, AssignmentEntry, ParameterEntry, BlankEntry, CommentEntry, InlineEntry, MacroEntry, InstanceEntry, FunctionEntry, AlwaysEntry, ConditionalEntry, LoopEntry}
-use Rattle.vast_core.specs.Nests.{StatementEntry, AssignStatement, ContinuousStatement, ConditionalStatement, CasesStatement, BlankStatement, CommentStatement, InlineStatement, AlwaysRecord, variable_record, function_record}
+use Rattle.vast_core.specs.declared.node.Member.{Member}
+use Rattle.vast_core.specs.declared.node.Member.TheVariants.{Declaration as DeclarationEntry, ContinuousAssignment as AssignmentEntry, Parameter as ParameterEntry, BlankLine as BlankEntry, Comment as CommentEntry, Inline as InlineEntry, Macro as MacroEntry, Instantiation as InstanceEntry, Function as FunctionEntry, Always as AlwaysEntry, Conditional as ConditionalEntry, Loop as LoopEntry}
+use Rattle.vast_core.specs.Nests.{StatementEntry, AssignStatement, ContinuousStatement, ConditionalStatement, CasesStatement, BlankStatement, CommentStatement, InlineStatement, AlwaysRecord, function_record}
 use Rattle.vast_core.specs.Bench.{Bench}
 use Rattle.vast_core.specs.Sound.{VariableSound, FunctionSound}
-use Rattle.vast_core.proofs.Lists.{All-Each}
+use Rattle.vast_core.proofs.Lists.{All-own}
 use Rattle.vast_print.specs.Internal.Fits.{AlwaysFits, MemberFits}
 
 abbrev pub height : ℕ → ℕ
@@ -16,14 +16,14 @@ height i = 8 * (2 ^ 64 - i)
 abbrev pub statement_height : StatementEntry → ℕ
 statement_height (AssignStatement s) = 0
 statement_height (ContinuousStatement s) = 0
-statement_height (ConditionalStatement c) = height (conditional_index c) + 5
-statement_height (CasesStatement c) = height (case_index c) + 5
+statement_height (ConditionalStatement c) = height c.id.index + 5
+statement_height (CasesStatement c) = height c.id.index + 5
 statement_height BlankStatement = 0
 statement_height (CommentStatement text) = 0
 statement_height (InlineStatement text) = 0
 
 -- of a member, by the loop that it is
-abbrev pub member_height : MemberEntry → ℕ
+abbrev pub member_height : Member → ℕ
 member_height (DeclarationEntry kind name data_type) = 0
 member_height (AssignmentEntry a) = 0
 member_height (ParameterEntry local form value) = 0
@@ -35,14 +35,14 @@ member_height (InstanceEntry x) = 0
 member_height (FunctionEntry f) = 0
 member_height (AlwaysEntry a) = 0
 member_height (ConditionalEntry c) = 0
-member_height (LoopEntry l) = height (loop_index l) + 1
+member_height (LoopEntry l) = height l.id.index + 1
 
 always-fits : (d : ℕ) (o : Option AlwaysRecord) → d < 2 ^ 62 → AlwaysFits d o
 always-fits d None room = tt
 always-fits d (Some a) room = omega arith
 
 -- a member of a module
-pub member-fits : (b : Bench) (d : ℕ) (e : MemberEntry) → d < 2 ^ 62 → MemberFits b d e
+pub member-fits : (b : Bench) (d : ℕ) (e : Member) → d < 2 ^ 62 → MemberFits b d e
 member-fits b d (DeclarationEntry kind name data_type) room = tt
 member-fits b d (AssignmentEntry a) room = tt
 member-fits b d (ParameterEntry local form value) room = tt
@@ -52,18 +52,18 @@ member-fits b d (InlineEntry a) room = tt
 member-fits b d (MacroEntry a) room = tt
 member-fits b d (InstanceEntry x) room = omega arith
 member-fits b d (FunctionEntry f) room = room
-member-fits b d (AlwaysEntry a) room = always-fits d (slice_get b.always_blocks (always_index a)) room
+member-fits b d (AlwaysEntry a) room = always-fits d (slice_get b.always_blocks a.id.index) room
 member-fits b d (ConditionalEntry c) room = omega arith
 member-fits b d (LoopEntry l) room = omega arith
 
 -- what a list holds, at one of its places
 
 -- the inputs and the locals of a function
-pub inputs-own : (b : Bench) (f : Function) → FunctionSound b (function_record f) → All (λ v. VariableSound b (variable_record v)) f.inputs.items
-inputs-own b f h = All-Each variable_record (VariableSound b) f.inputs.items h.inputs
+pub inputs-own : (b : Bench) (f : Function) → FunctionSound b (function_record f) → All (VariableSound b) f.inputs.items
+inputs-own b f h = All-own (VariableSound b) f.inputs.items h.inputs
 
-pub locals-own : (b : Bench) (f : Function) → FunctionSound b (function_record f) → All (λ v. VariableSound b (variable_record v)) f.locals.items
-locals-own b f h = All-Each variable_record (VariableSound b) f.locals.items h.locals
+pub locals-own : (b : Bench) (f : Function) → FunctionSound b (function_record f) → All (VariableSound b) f.locals.items
+locals-own b f h = All-own (VariableSound b) f.locals.items h.locals
 
 pub ruleset fits = (member-fits)
 

@@ -3,11 +3,12 @@ use Rattle.std.proofs.Common.{refl}
 use Rattle.vast_print.specs.Text.{expr_text, elided, width_cast, cast_to, type_cast}
 use Rattle.vast_print.specs.Printed.{wrapped, plain_text, ◌⊕◌, refused}
 use Rattle.std.specs.Fmt.{digits}
+use Rattle.vast_literal.specs.NormalExpr.{unary_operator_token, binary_operator_token}
 use Rattle.vast_print.specs.Bare.{is_bare}
 use Rattle.vast_print.specs.WorkedTexts.{WorkedTexts}
 
 pub worked_texts : WorkedTexts
-unfolding expr_text wrapped plain_text ◌⊕◌ elided refused digits width_cast cast_to is_bare type_cast
+unfolding expr_text unary_operator_token binary_operator_token wrapped plain_text ◌⊕◌ elided refused digits width_cast cast_to is_bare type_cast
 worked_texts =
     record {
       right_child = refl;

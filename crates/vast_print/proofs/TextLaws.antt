@@ -19,6 +19,7 @@ use Rattle.vast_print.specs.Internal.Words.{cast_sign_word, scalar_cast_opening,
 use Rattle.vast_print.proofs.InkLaws.{pour-then, pour-empty, pour-word, pour-refused}
 use Rattle.vast_print.proofs.Lines.{word-word}
 use Rattle.vast_print.proofs.BareLaws.{bare-head}
+use Rattle.vast_literal.specs.NormalExpr.{unary_operator_token}
 
 -- parentheses
 
@@ -47,6 +48,7 @@ pour-string d k text = refl
 -- operators
 
 pour-unary-sign : (d : ℕ) (k : Ink) (o : UnaryOp) → pour d k (written (plain_text (unary_operator_text o))) ≡ word k (unary_operator_text o)
+unfolding unary_operator_token
 pour-unary-sign d k NegateOp = pour-word d k (codes "-") refl
 pour-unary-sign d k BitwiseNotOp = pour-word d k (codes "~") refl
 pour-unary-sign d k LogicalNotOp = pour-word d k (codes "!") refl

@@ -4,10 +4,10 @@ use Rattle.std.specs.Fmt.{signed_decimal}
 use Rattle.vast_literal.specs.Tree.{ExprTree}
 use Rattle.vast_literal.specs.declared.kind.VastFileType.{VastFileType as Dialect}
 use Rattle.vast_literal.specs.declared.kind.VastFileType.TheVariants.{Verilog as VerilogDialect, SystemVerilog as SystemVerilogDialect}
-use Rattle.vast_literal.specs.Tree.{TypeTree, ScalarTree, VectorTree, IntegerTree, IntTree, ExternalTree, PackageTree, PackedTree, UnpackedTree, MissingType}
+use Rattle.vast_literal.specs.Tree.{TypeTree, ScalarTree, VectorTree, IntegerTree, IntTree, ExternalTree, PackageTree}
 use Rattle.vast_literal.specs.Tree.{Declaration}
 use Rattle.vast_literal.specs.declared.kind.DataKind.{DataKind as Kind}
-use Rattle.vast_literal.specs.declared.kind.DataKind.TheVariants.{Reg as RegKind, Wire as WireKind, Logic as LogicKind, Integer as IntegerKind, Int as IntKind, User as UserKind, UntypedEnum as UntypedEnumKind, Genvar as GenvarKind}
+use Rattle.vast_literal.specs.declared.kind.DataKind.TheVariants.{Reg as RegKind, Wire as WireKind, Logic as LogicKind, Integer as IntegerKind, Int as IntKind, Genvar as GenvarKind}
 use Rattle.vast_literal.specs.Shape.{highest_index_wraps, base_of, packed_dimensions, unpacked_dimensions, port_kind}
 use Rattle.vast_print.specs.Printed.{Printed, plain_text, ◌⊕◌, wrapped, spaced}
 use Rattle.vast_print.specs.Text.{expr_text, package_text}
@@ -54,9 +54,7 @@ based_text (IntegerTree signed) ds = with_dimensions (plain_text (unsigned_word 
 based_text (IntTree signed) ds = with_dimensions (plain_text (unsigned_word signed)) ds
 based_text (ExternalTree name) ds = with_dimensions (plain_text name) ds
 based_text (PackageTree scope name) ds = with_dimensions (package_text scope name) ds
-based_text (PackedTree t own) ds = plain_text ds
-based_text (UnpackedTree t own) ds = plain_text ds
-based_text MissingType ds = plain_text ds
+based_text _ ds = plain_text ds
 
 unfoldable pub type_text : TypeTree → Printed
 type_text t = based_text (base_of t) (packed_text (packed_dimensions t))
@@ -72,8 +70,7 @@ kind_word LogicKind = codes "logic"
 kind_word IntegerKind = codes "integer"
 kind_word IntKind = codes "int"
 kind_word GenvarKind = codes "genvar"
-kind_word UserKind = []
-kind_word UntypedEnumKind = []
+kind_word _ = []
 
 -- parts that aren't empty are joined by a space; the name always stands
 unfoldable pub declaration_text : Dialect → Kind → TypeTree → List ℕ → Printed

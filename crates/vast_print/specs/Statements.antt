@@ -2,7 +2,7 @@
 use Rattle.std.specs.Prelude.{ℕ, Bool, true, false, List, [], codes, cond}
 use Rattle.vast_literal.specs.Tree.{MaybeExpr, NoExpr, SomeExpr}
 use Rattle.vast_literal.specs.declared.kind.AssignmentForm.{AssignmentForm as AssignForm}
-use Rattle.vast_literal.specs.declared.kind.AssignmentForm.TheVariants.{Blocking, Nonblocking, Continuous}
+use Rattle.vast_literal.specs.declared.kind.AssignmentForm.TheVariants.{Nonblocking, Continuous}
 use Rattle.vast_literal.specs.declared.kind.CaseKind.{CaseKind as CaseWord}
 use Rattle.vast_literal.specs.declared.kind.CaseKind.TheVariants.{Case as CaseExact, CaseZ, CaseX}
 use Rattle.vast_literal.specs.Tree.{StatementTree, AssignTree, CommentTree, BlankTree, InlineTree, ConditionalTree, CaseTree, Statements, NoStatements, MoreStatements, Alternates, NoElse, ElseIf, Else, CaseArms, NoCaseArms, CaseArm}
@@ -12,14 +12,12 @@ use Rattle.vast_print.specs.Text.{expr_text}
 use Rattle.vast_print.specs.Page.{Page, no_lines, line, inner, above, beside, written, commented}
 
 abbrev pub assign_opening : AssignForm → List ℕ
-assign_opening Blocking = []
-assign_opening Nonblocking = []
 assign_opening Continuous = codes "assign "
+assign_opening _ = []
 
 abbrev pub assignment_operator : AssignForm → List ℕ
-assignment_operator Blocking = codes " = "
 assignment_operator Nonblocking = codes " <= "
-assignment_operator Continuous = codes " = "
+assignment_operator _ = codes " = "
 
 abbrev pub assign_text : AssignForm → (left right : Printed) → Printed
 assign_text form left right = plain_text (assign_opening form) ⊕ left ⊕ plain_text (assignment_operator form) ⊕ right ⊕ plain_text (codes ";")

@@ -2,7 +2,7 @@
 use Rattle.std.specs.Prelude.{ℕ, Bool, true, false, not, ◌&&◌, List, [], codes, if◌then◌else◌}
 use Rattle.std.specs.Fmt.{signed_decimal}
 use Rattle.vast_literal.specs.Tree.{ExprTree, NameTree, LiteralTree, StringTree, UnaryTree, BinaryTree, TernaryTree, IndexTree, SliceTree, PartSelectTree, ConcatTree, PatternTree, WidthCastTree, TypeCastTree, PosEdgeTree, NegEdgeTree, MacroTree, CallTree, MissingExpr}
-use Rattle.vast_literal.specs.Tree.{TypeTree, ScalarTree, VectorTree, IntegerTree, IntTree, ExternalTree, PackageTree, PackedTree, UnpackedTree, MissingType}
+use Rattle.vast_literal.specs.Tree.{TypeTree, ScalarTree, VectorTree, IntegerTree, IntTree, ExternalTree, PackageTree}
 use Rattle.vast_literal.specs.Tree.{MaybeExpr, NoExpr, SomeExpr, Exprs, NoExprs, MoreExprs, MaybeExprs, NoArguments, SomeArguments}
 use Rattle.vast_literal.specs.Shape.{is_scalar_name, is_zero, left_child_wraps, right_child_wraps, select_wraps, ternary_wraps, unary_wraps}
 use Rattle.vast_print.specs.declared.refusal.Refusal.{Refusal}
@@ -92,7 +92,7 @@ unfoldable mutual
   more_text NoExprs = plain_text []
   more_text (MoreExprs e es) = plain_text (codes ", ") ⊕ expr_text e ⊕ more_text es
 
-  -- a cast to an array is never made: it would have no head
+  -- no cast is to an array or to a missing type: it would have no head
   pub type_cast : TypeTree → Printed → Printed
   type_cast (ScalarTree signed) p = scalar_cast signed p
   type_cast (VectorTree w v signed) p = cast_to (sign_cast signed) (width_cast (expr_text w) p)
@@ -100,6 +100,4 @@ unfoldable mutual
   type_cast (IntTree signed) p = number_cast (codes "int") signed p
   type_cast (ExternalTree name) p = cast_to (plain_text name) p
   type_cast (PackageTree scope name) p = cast_to (package_text scope name) p
-  type_cast (PackedTree t ds) p = cast_to (plain_text []) p
-  type_cast (UnpackedTree t ds) p = cast_to (plain_text []) p
-  type_cast MissingType p = cast_to (plain_text []) p
+  type_cast _ p = cast_to (plain_text []) p

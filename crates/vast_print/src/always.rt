@@ -2,7 +2,6 @@
 
 ghost use Rattle.std.specs.Prelude.{◌≡◌, All, slice_get};
 ghost use Rattle.vast_core.specs.Bench.{OwnsAlways, trees_of};
-ghost use Rattle.vast_core.specs.Handles.{always_index};
 ghost use Rattle.vast_core.specs.Sound.{EventSound};
 ghost use Rattle.vast_core.specs.FileTree.{families, always_in};
 ghost use Rattle.vast_core.specs.View.{bench};
@@ -77,12 +76,12 @@ pub(crate) fn print_always(
     out: &mut Writer,
 ) -> Result<(), PrintFault>
     requires owned { OwnsAlways (bench ast.now) a }
-    requires room { AlwaysFits depth (slice_get (bench ast.now).always_blocks (always_index a)) }
+    requires room { AlwaysFits depth (slice_get (bench ast.now).always_blocks a.id.index) }
     ensures { Writes
         (hang depth (Wet out.old)
         (member_page (bench ast.now).file_type
         (always_in (bench ast.now) (families (bench ast.now))
-        (slice_get (bench ast.now).always_blocks (always_index a))))) out.new result }
+        (slice_get (bench ast.now).always_blocks a.id.index)))) out.new result }
 {
     let node = ast.always_block(a);
     out.next(depth)?;

@@ -4,7 +4,6 @@ ghost use Rattle.std.specs.Prelude.{◌≡◌, codes, slice_get};
 ghost use Rattle.vast_literal.specs.Tree.{AssignTree};
 ghost use Rattle.vast_literal.specs.declared.kind.AssignmentForm.TheVariants.{Continuous};
 ghost use Rattle.vast_core.specs.Bench.{OwnsExpr, OwnsStatement, tree_of};
-ghost use Rattle.vast_core.specs.Handles.{statement_index};
 ghost use Rattle.vast_core.specs.FileTree.{assigned_tree};
 ghost use Rattle.vast_core.specs.View.{bench};
 ghost use Rattle.vast_print.specs.Ink.{Wet, word, hang, pour};
@@ -78,7 +77,7 @@ pub(crate) fn print_assigned(
         (pour depth (Wet out.old)
         (statement_page
         (assigned_tree (bench ast.now)
-        (slice_get (bench ast.now).assignments (statement_index s))))) out.new result }
+        (slice_get (bench ast.now).assignments s.id.index)))) out.new result }
 {
     let assignment = ast.assignment(s);
     print_sides(

@@ -2,7 +2,6 @@
 
 ghost use Rattle.std.specs.Prelude.{◌≡◌, codes, map, IfSome};
 ghost use Rattle.vast_core.specs.Bench.{OwnsExpr, OwnsBlock, OwnsCase, tree_of, maybe_tree_of};
-ghost use Rattle.vast_core.specs.Handles.{block_index, case_index};
 ghost use Rattle.vast_core.specs.Nests.{statement_entry};
 ghost use Rattle.vast_core.specs.FileTree.{families, case_statement, block_tree};
 ghost use Rattle.vast_core.specs.View.{bench};
@@ -34,10 +33,10 @@ pub(crate) fn print_case(
     out: &mut Writer,
 ) -> Result<(), PrintFault>
     requires owned { OwnsCase (bench ast.now) c }
-    requires room { HasRoom depth (case_index c) }
+    requires room { HasRoom depth c.id.index }
     ensures { Writes
         (hang depth (Wet out.old)
-        (statement_page (case_statement (families (bench ast.now) (case_index c))))) out.new
+        (statement_page (case_statement (families (bench ast.now) c.id.index)))) out.new
         result }
 {
     let node = ast.case(c);
@@ -62,7 +61,7 @@ fn print_arm(
 ) -> Result<(), PrintFault>
     requires label { IfSome arm.label (OwnsExpr (bench ast.now)) }
     requires block { OwnsBlock (bench ast.now) arm.block }
-    requires room { HasRoom depth (block_index arm.block) }
+    requires room { HasRoom depth arm.block.id.index }
     ensures { Writes
         (hang depth (Wet out.old)
         (arm_page kind (maybe_tree_of (bench ast.now) arm.label)

@@ -2,7 +2,6 @@
 
 ghost use Rattle.std.specs.Prelude.{◌≡◌, codes};
 ghost use Rattle.vast_core.specs.Bench.{OwnsExpr, OwnsConditional, tree_of};
-ghost use Rattle.vast_core.specs.Handles.{conditional_index};
 ghost use Rattle.vast_core.specs.FileTree.{families, conditional_statement};
 ghost use Rattle.vast_core.specs.View.{bench};
 ghost use Rattle.vast_print.specs.Internal.Fits.{HasRoom};
@@ -28,10 +27,10 @@ pub(crate) fn print_conditional(
     out: &mut Writer,
 ) -> Result<(), PrintFault>
     requires owned { OwnsConditional (bench ast.now) c }
-    requires room { HasRoom depth (conditional_index c) }
+    requires room { HasRoom depth c.id.index }
     ensures { Writes
         (hang depth (Wet out.old)
-        (statement_page (conditional_statement (families (bench ast.now) (conditional_index c)))))
+        (statement_page (conditional_statement (families (bench ast.now) c.id.index))))
         out.new result }
 {
     let node = ast.conditional(c);

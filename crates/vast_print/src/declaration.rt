@@ -4,7 +4,6 @@ ghost use Rattle.std.specs.Prelude.{◌≡◌};
 ghost use Rattle.vast_literal.specs.Shape.{port_kind};
 ghost use Rattle.vast_core.specs.Bench.{OwnsType, type_of};
 ghost use Rattle.vast_core.specs.FileTree.{declared_port};
-ghost use Rattle.vast_core.specs.Records.{port_record};
 ghost use Rattle.vast_core.specs.View.{bench};
 ghost use Rattle.vast_print.specs.Internal.Words.{kind_opening};
 ghost use Rattle.vast_print.specs.Ink.{Wet, pour};
@@ -89,7 +88,7 @@ pub(crate) fn print_port(
     ensures { Writes
         (pour depth (Wet out.old)
         (written (port_text (bench ast.now).file_type
-        (declared_port (bench ast.now) (port_record port.now))))) out.new result }
+        (declared_port (bench ast.now) port.now)))) out.new result }
 {
     let kind = port_kind(ast, port.kind, port.data_type);
     out.word(direction_word(port.direction))?;

@@ -3,8 +3,6 @@
 ghost use Rattle.std.specs.Prelude.{◌≡◌, ◌<◌, ◌^◌, All, map, slice_get};
 ghost use Rattle.vast_literal.specs.Shape.{dialect_kind, result_kind};
 ghost use Rattle.vast_core.specs.Bench.{OwnsType, OwnsBlock, OwnsFunction, type_of};
-ghost use Rattle.vast_core.specs.Handles.{block_index, function_index};
-ghost use Rattle.vast_core.specs.Nests.{variable_record};
 ghost use Rattle.vast_core.specs.Sound.{VariableSound};
 ghost use Rattle.vast_core.specs.FileTree.{families, variable_tree, function_in, block_tree};
 ghost use Rattle.vast_core.specs.View.{bench};
@@ -59,11 +57,11 @@ fn print_input(
     depth: usize,
     out: &mut Writer,
 ) -> Result<(), PrintFault>
-    requires { VariableSound (bench ast.now) (variable_record input.now) }
+    requires { VariableSound (bench ast.now) input.now }
     ensures { Writes
         (pour depth (Wet out.old)
         (written (input_text (bench ast.now).file_type
-        (variable_tree (bench ast.now) (variable_record input.now))))) out.new result }
+        (variable_tree (bench ast.now) input.now)))) out.new result }
 {
     let kind = port_kind(ast, input.kind, input.data_type);
     out.word("input ")?;
@@ -77,11 +75,11 @@ fn print_inputs(
     depth: usize,
     out: &mut Writer,
 ) -> Result<(), PrintFault>
-    requires { All (λ v. VariableSound (bench ast.now) (variable_record v)) inputs.now }
+    requires { All (VariableSound (bench ast.now)) inputs.now }
     ensures { Writes
         (pour depth (Wet out.old)
         (written (inputs_text (bench ast.now).file_type
-        (map (variable_tree (bench ast.now)) (map variable_record inputs.now))))) out.new
+        (map (variable_tree (bench ast.now)) inputs.now)))) out.new
         result }
 {
     for (i, input) in inputs.iter().enumerate() {
@@ -99,11 +97,11 @@ fn print_local(
     depth: usize,
     out: &mut Writer,
 ) -> Result<(), PrintFault>
-    requires { VariableSound (bench ast.now) (variable_record local.now) }
+    requires { VariableSound (bench ast.now) local.now }
     ensures { Writes
         (hang depth (Wet out.old)
         (local_page (bench ast.now).file_type
-        (variable_tree (bench ast.now) (variable_record local.now)))) out.new result }
+        (variable_tree (bench ast.now) local.now))) out.new result }
 {
     out.next(depth)?;
     print_declaration(
@@ -125,11 +123,11 @@ fn print_locals(
     depth: usize,
     out: &mut Writer,
 ) -> Result<(), PrintFault>
-    requires { All (λ v. VariableSound (bench ast.now) (variable_record v)) locals.now }
+    requires { All (VariableSound (bench ast.now)) locals.now }
     ensures { Writes
         (hang depth (Wet out.old)
         (locals_page (bench ast.now).file_type
-        (map (variable_tree (bench ast.now)) (map variable_record locals.now)))) out.new
+        (map (variable_tree (bench ast.now)) locals.now))) out.new
         result }
 {
     for local in locals {
@@ -170,7 +168,7 @@ fn print_body(
     out: &mut Writer,
 ) -> Result<(), PrintFault>
     requires owned { OwnsBlock (bench ast.now) b }
-    requires room { HasRoom depth (block_index b) }
+    requires room { HasRoom depth b.id.index }
     ensures { Writes (hang depth (Wet out.old) (function_body_page (block_tree (bench ast.now) b)))
         out.new result }
 {
@@ -213,7 +211,7 @@ pub(crate) fn print_function(
         (hang depth (Wet out.old)
         (member_page (bench ast.now).file_type
         (function_in (bench ast.now) (families (bench ast.now))
-        (slice_get (bench ast.now).functions (function_index f))))) out.new result }
+        (slice_get (bench ast.now).functions f.id.index)))) out.new result }
 {
     let function = ast.function(f);
     out.next(depth)?;

@@ -2,7 +2,6 @@
 
 ghost use Rattle.std.specs.Prelude.{◌≡◌, string_bytes};
 ghost use Rattle.vast_core.specs.Bench.{OwnsExpr, OwnsLoop, tree_of};
-ghost use Rattle.vast_core.specs.Handles.{loop_index};
 ghost use Rattle.vast_core.specs.Nests.{label_bytes};
 ghost use Rattle.vast_core.specs.FileTree.{families, loop_member};
 ghost use Rattle.vast_core.specs.View.{bench};
@@ -30,11 +29,11 @@ pub(crate) fn print_loop(
     out: &mut Writer,
 ) -> Result<(), PrintFault>
     requires owned { OwnsLoop (bench ast.now) l }
-    requires room { HasRoom depth (loop_index l) }
+    requires room { HasRoom depth l.id.index }
     ensures { Writes
         (hang depth (Wet out.old)
         (member_page (bench ast.now).file_type
-        (loop_member (families (bench ast.now) (loop_index l))))) out.new result }
+        (loop_member (families (bench ast.now) l.id.index)))) out.new result }
 {
     let node = ast.generate_loop(l);
     out.next(depth)?;

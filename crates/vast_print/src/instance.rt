@@ -4,7 +4,7 @@ ghost use Rattle.std.specs.Prelude.{◌≡◌, ◌<◌, ◌+◌, ◌^◌, All, m
 ghost use Rattle.vast_core.specs.Records.{connection_record, instance_record};
 ghost use Rattle.vast_core.specs.Bench.{OwnsInstantiation};
 ghost use Rattle.vast_core.specs.Sound.{ConnectionSound};
-ghost use Rattle.vast_core.specs.Records.{InstanceEntry};
+ghost use Rattle.vast_core.specs.declared.node.Member.TheVariants.{Instantiation as InstanceEntry};
 ghost use Rattle.vast_core.specs.FileTree.{connection_tree, member_tree};
 ghost use Rattle.vast_core.specs.View.{bench};
 ghost use Rattle.vast_print.specs.Ink.{Wet, hang, pour};

@@ -11,6 +11,7 @@ use crate::bare::is_bare;
 use vast_core::{Ast, BinaryOperator, Expr, ExprNode, TypeNode, UnaryOperator, VastDataType};
 
 /// The operator before an operand.
+#[tactic(auto, unfolding(vast_literal::specs::NormalExpr::unary_operator_token))]
 pub(crate) fn unary_operator_text(operator: UnaryOperator) -> &'static str
     ensures { result.now ≡ unary_operator_text operator }
 {
@@ -25,6 +26,7 @@ pub(crate) fn unary_operator_text(operator: UnaryOperator) -> &'static str
 }
 
 /// The operator between two operands, with its spaces.
+#[tactic(auto, unfolding(vast_literal::specs::NormalExpr::binary_operator_token))]
 pub(crate) fn binary_operator_text(operator: BinaryOperator) -> &'static str
     ensures { result.now ≡ binary_operator_text operator }
 {

@@ -1,9 +1,7 @@
 //! Members of modules and loops.
 
-ghost use Rattle.std.specs.Prelude.{◌≡◌, ◌<◌, ◌^◌, All, map};
+ghost use Rattle.std.specs.Prelude.{◌≡◌, ◌<◌, ◌^◌, All};
 ghost use Rattle.vast_core.specs.Bench.{OwnsType, OwnsMacroRef, tree_of};
-ghost use Rattle.vast_core.specs.Handles.{macro_ref_to_expr};
-ghost use Rattle.vast_core.specs.Records.{member_entry};
 ghost use Rattle.vast_core.specs.Sound.{MemberSound};
 ghost use Rattle.vast_core.specs.FileTree.{declared, member_tree, members_tree};
 ghost use Rattle.vast_core.specs.View.{bench};
@@ -63,7 +61,7 @@ fn print_macro(
     ensures { Writes
         (hang depth (Wet out.old)
         (member_page (bench ast.now).file_type
-        (MacroMember (tree_of (bench ast.now) (macro_ref_to_expr call)) semicolon))) out.new
+        (MacroMember (tree_of (bench ast.now) (record { id = call.id })) semicolon))) out.new
         result }
 {
     out.next(depth)?;
@@ -81,12 +79,12 @@ pub(crate) fn print_member(
     depth: usize,
     out: &mut Writer,
 ) -> Result<(), PrintFault>
-    requires owned { MemberSound (bench ast.now) (member_entry member.now) }
-    requires room { MemberFits (bench ast.now) depth (member_entry member.now) }
+    requires owned { MemberSound (bench ast.now) member.now }
+    requires room { MemberFits (bench ast.now) depth member.now }
     ensures { Writes
         (hang depth (Wet out.old)
         (member_page (bench ast.now).file_type
-        (member_tree (bench ast.now) (member_entry member.now)))) out.new result }
+        (member_tree (bench ast.now) member.now))) out.new result }
 {
     match member {
         Member::Declaration(kind, name, t) => {
@@ -119,12 +117,12 @@ pub(crate) fn print_members(
     depth: usize,
     out: &mut Writer,
 ) -> Result<(), PrintFault>
-    requires owned { All (λ m. MemberSound (bench ast.now) (member_entry m)) members.now }
+    requires owned { All (MemberSound (bench ast.now)) members.now }
     requires room { depth < 2 ^ 62 }
     ensures { Writes
         (hang depth (Wet out.old)
         (members_page (bench ast.now).file_type
-        (members_tree (bench ast.now) (map member_entry members.now)))) out.new result }
+        (members_tree (bench ast.now) members.now))) out.new result }
 {
     for member in members {
         print_member(ast, member, depth, out)?;

@@ -2,7 +2,7 @@
 
 ghost use Rattle.std.specs.Prelude.{◌≡◌, ◌<◌, ◌^◌, All, map, codes};
 ghost use Rattle.vast_core.specs.Bench.{OwnsModule, OwnsPort};
-ghost use Rattle.vast_core.specs.Records.{module_record, parameter_port_record, member_entry, ModuleEntry};
+ghost use Rattle.vast_core.specs.Records.{module_record, parameter_port_record, ModuleEntry};
 ghost use Rattle.vast_core.specs.Sound.{MemberSound, ParameterPortSound};
 ghost use Rattle.vast_core.specs.FileTree.{parameter_port_tree, port_tree, members_tree, module_tree, item_tree};
 ghost use Rattle.vast_core.specs.View.{bench};
@@ -110,11 +110,11 @@ fn print_header(ast: &Ast, node: &Module, out: &mut Writer) -> Result<(), PrintF
 /// Writes the members one deeper, or one empty line where there are none.
 #[tactic(auto, using(crate::proofs::ArenaLaws::modules))]
 fn print_body(ast: &Ast, members: &[Member], out: &mut Writer) -> Result<(), PrintFault>
-    requires { All (λ m. MemberSound (bench ast.now) (member_entry m)) members.now }
+    requires { All (MemberSound (bench ast.now)) members.now }
     ensures { Writes
         (hang 0 (Wet out.old)
         (body_page (bench ast.now).file_type
-        (members_tree (bench ast.now) (map member_entry members.now)))) out.new result }
+        (members_tree (bench ast.now) members.now))) out.new result }
 {
     if members.is_empty() {
         out.next(0)?;
@@ -130,7 +130,7 @@ fn print_parts(ast: &Ast, node: &Module, out: &mut Writer) -> Result<(), PrintFa
     requires parameters { All (λ p. ParameterPortSound (bench ast.now) (parameter_port_record p))
         node.now.parameters.items }
     requires ports { All (OwnsPort (bench ast.now)) node.now.ports.items }
-    requires members { All (λ m. MemberSound (bench ast.now) (member_entry m))
+    requires members { All (MemberSound (bench ast.now))
         node.now.members.items }
     ensures { Writes
         (hang 0 (Wet out.old)

@@ -4,7 +4,7 @@ ghost use Rattle.std.specs.Prelude.{◌≡◌, ◌<◌, ◌^◌, All, map};
 ghost use Rattle.vast_literal.specs.Tree.{ParameterMember};
 ghost use Rattle.vast_literal.specs.Shape.{base_kind, base_of};
 ghost use Rattle.vast_core.specs.Bench.{OwnsExpr, OwnsType, tree_of, type_of};
-ghost use Rattle.vast_core.specs.Records.{parameter_port_record, form_entry};
+ghost use Rattle.vast_core.specs.Records.{parameter_port_record};
 ghost use Rattle.vast_core.specs.Sound.{FormSound, ParameterPortSound};
 ghost use Rattle.vast_core.specs.FileTree.{form_tree, parameter_port_tree};
 ghost use Rattle.vast_core.specs.View.{bench};
@@ -95,11 +95,11 @@ fn print_form(
     depth: usize,
     out: &mut Writer,
 ) -> Result<(), PrintFault>
-    requires { FormSound (bench ast.now) (form_entry form.now) }
+    requires { FormSound (bench ast.now) form.now }
     ensures { Writes
         (pour depth (Wet out.old)
         (written (parameter_text (bench ast.now).file_type
-        (form_tree (bench ast.now) (form_entry form.now))))) out.new result }
+        (form_tree (bench ast.now) form.now)))) out.new result }
 {
     match form {
         ParameterForm::Plain(name) => out.written(depth, name.as_str())?,
@@ -126,12 +126,12 @@ pub(crate) fn print_parameter(
     depth: usize,
     out: &mut Writer,
 ) -> Result<(), PrintFault>
-    requires form { FormSound (bench ast.now) (form_entry form.now) }
+    requires form { FormSound (bench ast.now) form.now }
     requires value { OwnsExpr (bench ast.now) value }
     ensures { Writes
         (hang depth (Wet out.old)
         (member_page (bench ast.now).file_type
-        (ParameterMember local (form_tree (bench ast.now) (form_entry form.now))
+        (ParameterMember local (form_tree (bench ast.now) form.now)
         (tree_of (bench ast.now) value)))) out.new result }
 {
     out.next(depth)?;

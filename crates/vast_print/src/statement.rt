@@ -2,7 +2,6 @@
 
 ghost use Rattle.std.specs.Prelude.{◌≡◌, ◌+◌};
 ghost use Rattle.vast_core.specs.Bench.{OwnsBlock};
-ghost use Rattle.vast_core.specs.Handles.{block_index};
 ghost use Rattle.vast_core.specs.Nests.{statement_entry};
 ghost use Rattle.vast_core.specs.FileTree.{families, statement_in, block_tree};
 ghost use Rattle.vast_core.specs.View.{bench};
@@ -30,7 +29,7 @@ pub(crate) fn print_block(
     out: &mut Writer,
 ) -> Result<(), PrintFault>
     requires owned { OwnsBlock (bench ast.now) b }
-    requires room { HasRoom depth (block_index b) }
+    requires room { HasRoom depth b.id.index }
     ensures { Writes (pour depth (Wet out.old) (block_page (block_tree (bench ast.now) b))) out.new
         result }
 {
@@ -55,7 +54,7 @@ pub(crate) fn print_statements(
     out: &mut Writer,
 ) -> Result<(), PrintFault>
     requires owned { OwnsBlock (bench ast.now) b }
-    requires room { HasRoom depth (block_index b + 1) }
+    requires room { HasRoom depth (b.id.index + 1) }
     ensures { Writes (hang depth (Wet out.old) (statements_page (block_tree (bench ast.now) b)))
         out.new result }
 {

@@ -17,9 +17,10 @@ use std::fmt::Write as _;
 use std::io;
 use std::io::{ErrorKind, Read, Write};
 use vast_list::{
-    LineWarning, ListLines, ListOutput, Plainness, Tries, Verdict, json_with_map,
-    json_with_warnings, list_json, list_origins, list_output, list_plainness, list_warnings, tried,
+    ListLines, ListOutput, Plainness, Tries, Verdict, json_with_map, list_json, list_origins,
+    list_output, list_plainness, tried,
 };
+use vast_talk::{LineWarning, json_with_warnings, list_warnings};
 
 /// How lists are answered.
 #[derive(Clone, Copy)]

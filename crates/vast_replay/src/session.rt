@@ -7,7 +7,7 @@ use crate::outcome::Outcome;
 use std::alloc::Global;
 use std::io;
 use std::io::{BufRead, ErrorKind, Write};
-use vast_list::Talk;
+use vast_talk::Talk;
 
 /// Answers each line of `input` by a line of JSON on `out`, written through at once, to the end of the input; with `lint`
 /// each tells too what its call prints that is no SystemVerilog or Verilog, or that a tool refuses.

@@ -1,6 +1,7 @@
 -- What calls of parts keep.
 use Rattle.std.specs.Prelude.{ℕ, Bool, true, false, nat_eq, ◌&&◌, List, length, map, Option, string_bytes}
-use Rattle.vast_core.specs.Records.{BlankLineRecord, CommentRecord, InlineRecord, MacroRecord, AssignmentEntry, BlankEntry, CommentEntry, InlineEntry, MacroEntry, InstanceEntry}
+use Rattle.vast_core.specs.Records.{BlankLineRecord, CommentRecord, InlineRecord, MacroRecord}
+use Rattle.vast_core.specs.declared.node.Member.TheVariants.{ContinuousAssignment as AssignmentEntry, BlankLine as BlankEntry, Comment as CommentEntry, Inline as InlineEntry, Macro as MacroEntry, Instantiation as InstanceEntry}
 use Rattle.vast_core.specs.Growth.{with_member, next_continuous, with_assignment}
 use Rattle.vast_core.specs.Artifacts.{next_def, with_definition, next_macro_statement, with_artifact, next_instantiation, with_instance, next_statement}
 use Rattle.vast_script.specs.declared.answer.Answer.TheVariants.{Def, MacroStatement, ContinuousAssignment, VastStatement, Instantiation, Nothing}

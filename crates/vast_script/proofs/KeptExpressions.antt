@@ -4,7 +4,6 @@ use Rattle.vast_literal.specs.Tree.{ExprTree, NameTree, LiteralTree, Untyped}
 use Rattle.vast_literal.specs.Pattern.{pattern}
 use Rattle.vast_core.specs.Types.{is_castable}
 use Rattle.vast_core.specs.Bench.{type_of}
-use Rattle.vast_core.specs.Handles.{expr_to_indexable_expr}
 use Rattle.vast_core.specs.Growth.{next_expr, with_expr, decimal_literal, next_index, next_fixed_index, with_fixed_index, next_slice, next_fixed_slice, with_fixed_slice, next_macro_ref, next_fixed_replication, with_fixed_replication}
 use Rattle.xlsynth_vast.specs.Expressions.{with_index, with_slice, with_part_select, with_ternary, with_width_cast, with_type_cast, with_pos_edge, with_neg_edge, with_concat, with_replication, with_pattern, with_call, with_macro_call}
 use Rattle.xlsynth_vast.specs.Literals.{literal_in, pattern_literal, string_literal, selector_text}
@@ -53,7 +52,7 @@ expression-keeps MakeUnsizedOneLiteral = make_leaf-keeps (LiteralTree (codes "'1
 expression-keeps MakeUnsizedZeroLiteral = make_leaf-keeps (LiteralTree (codes "'0") (Some (pos 0)))
 expression-keeps MakeUnsizedXLiteral = make_leaf-keeps (LiteralTree (codes "'X") None)
 expression-keeps (MakeName name) = make_leaf-keeps (NameTree (string_bytes name) Untyped)
-expression-keeps (MakeIndexableExpression e) = λ b answers. given-keeps b (one an_expr b answers e) (λ e. Made (IndexableExpr (expr_to_indexable_expr e)) b) (λ e. keeps-same b)
+expression-keeps (MakeIndexableExpression e) = λ b answers. given-keeps b (one an_expr b answers e) (λ e. Made (IndexableExpr (record { id = e.id })) b) (λ e. keeps-same b)
 expression-keeps (MakeSlice subject high low) = λ b answers. given-keeps b (one an_indexable b answers subject) (λ subject. provided (int_le (pos 0) high && int_le (pos 0) low) (Made (Slice (next_fixed_slice (selector_text high) high (selector_text low) low b)) (with_fixed_slice subject (selector_text high) high (selector_text low) low b))) (λ subject. provided-keeps b (int_le (pos 0) high && int_le (pos 0) low) (Made (Slice (next_fixed_slice (selector_text high) high (selector_text low) low b)) (with_fixed_slice subject (selector_text high) high (selector_text low) low b)) (fixed_slice-kept subject (selector_text high) high (selector_text low) low b))
 expression-keeps (MakeIndex subject index) = λ b answers. given-keeps b (one an_indexable b answers subject) (λ subject. provided (int_le (pos 0) index) (Made (Index (next_fixed_index (selector_text index) index b)) (with_fixed_index subject (selector_text index) index b))) (λ subject. provided-keeps b (int_le (pos 0) index) (Made (Index (next_fixed_index (selector_text index) index b)) (with_fixed_index subject (selector_text index) index b)) (fixed_index-kept subject (selector_text index) index b))
 expression-keeps (MakeSliceExpr subject high low) = λ b answers. given-keeps b (three an_indexable an_expr an_expr b answers subject high low) (λ (subject, high, low). Made (Slice (next_slice b)) (with_slice subject high low b)) (λ (subject, high, low). keeps-root b _)

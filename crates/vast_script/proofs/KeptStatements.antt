@@ -6,8 +6,7 @@ use Rattle.vast_literal.specs.declared.kind.AlwaysKind.{AlwaysKind}
 use Rattle.vast_literal.specs.declared.kind.AlwaysKind.TheVariants.{AlwaysFF, AlwaysAt, AlwaysComb}
 use Rattle.vast_literal.specs.declared.kind.CaseKind.{CaseKind}
 use Rattle.vast_literal.specs.declared.kind.CaseKind.TheVariants.{Case, CaseZ, CaseX}
-use Rattle.vast_core.specs.Handles.{conditional_index}
-use Rattle.vast_core.specs.Records.{ConditionalEntry}
+use Rattle.vast_core.specs.declared.node.Member.TheVariants.{Conditional as ConditionalEntry}
 use Rattle.vast_core.specs.Nests.{StatementEntry, AssignStatement, ContinuousStatement, ConditionalStatement, CasesStatement, BlankStatement, CommentStatement, InlineStatement}
 use Rattle.vast_core.specs.Bench.{type_of}
 use Rattle.vast_core.specs.Growth.{next_logic_ref, with_member, with_assignment}
@@ -70,8 +69,8 @@ statement-keeps (BlockAddBlankLine block) = block_add-keeps BlankStatement block
 statement-keeps (AddConditional owner condition) = λ b answers. given-keeps b (two a_module an_expr b answers owner condition) (λ (owner, condition). Made (Conditional (next_conditional b)) (with_member owner (ConditionalEntry (next_conditional b)) (with_conditional condition b))) (λ (owner, condition). keeps-then b (with_conditional condition b) _ (conditional-kept condition b) (member-kept owner (ConditionalEntry (next_conditional b)) (with_conditional condition b)))
 statement-keeps (BlockAddCond block condition) = λ b answers. given-keeps b (two a_block an_expr b answers block condition) (λ (block, condition). Made (Conditional (next_conditional b)) (with_statement block (ConditionalStatement (next_conditional b)) (with_conditional condition b))) (λ (block, condition). keeps-then b (with_conditional condition b) _ (conditional-kept condition b) (statement-kept block (ConditionalStatement (next_conditional b)) (with_conditional condition b)))
 statement-keeps (ConditionalThenBlock conditional) = λ b answers. given-keeps b (one a_conditional b answers conditional) (λ conditional. holding (then_block_at b conditional) (λ block. Made (VastStatementBlock block) b)) (λ conditional. holding-keeps b (then_block_at b conditional) (λ block. Made (VastStatementBlock block) b) (λ block. keeps-same b))
-statement-keeps (ConditionalAddElseIf conditional condition) = λ b answers. given-keeps b (two a_conditional an_expr b answers conditional condition) (λ (conditional, condition). provided (not (has_else (slice_get b.nests (conditional_index conditional)))) (Made (VastStatementBlock (next_block b)) (with_else_if conditional condition b))) (λ (conditional, condition). provided-keeps b (not (has_else (slice_get b.nests (conditional_index conditional)))) (Made (VastStatementBlock (next_block b)) (with_else_if conditional condition b)) (else_if-kept conditional condition b))
-statement-keeps (ConditionalAddElse conditional) = λ b answers. given-keeps b (one a_conditional b answers conditional) (λ conditional. provided (not (has_else (slice_get b.nests (conditional_index conditional)))) (Made (VastStatementBlock (next_block b)) (with_else conditional b))) (λ conditional. provided-keeps b (not (has_else (slice_get b.nests (conditional_index conditional)))) (Made (VastStatementBlock (next_block b)) (with_else conditional b)) (else-kept conditional b))
+statement-keeps (ConditionalAddElseIf conditional condition) = λ b answers. given-keeps b (two a_conditional an_expr b answers conditional condition) (λ (conditional, condition). provided (not (has_else (slice_get b.nests conditional.id.index))) (Made (VastStatementBlock (next_block b)) (with_else_if conditional condition b))) (λ (conditional, condition). provided-keeps b (not (has_else (slice_get b.nests conditional.id.index))) (Made (VastStatementBlock (next_block b)) (with_else_if conditional condition b)) (else_if-kept conditional condition b))
+statement-keeps (ConditionalAddElse conditional) = λ b answers. given-keeps b (one a_conditional b answers conditional) (λ conditional. provided (not (has_else (slice_get b.nests conditional.id.index))) (Made (VastStatementBlock (next_block b)) (with_else conditional b))) (λ conditional. provided-keeps b (not (has_else (slice_get b.nests conditional.id.index))) (Made (VastStatementBlock (next_block b)) (with_else conditional b)) (else-kept conditional b))
 statement-keeps (BlockAddCase block selector) = block_add_case-keeps Case block selector
 statement-keeps (BlockAddCasez block selector) = block_add_case-keeps CaseZ block selector
 statement-keeps (BlockAddCasex block selector) = block_add_case-keeps CaseX block selector

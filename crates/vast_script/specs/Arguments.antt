@@ -50,13 +50,9 @@ three i j k b answers n m o =
     if_own (i.is_own b x && (j.is_own b y && k.is_own b z)) (x, y, z))))
 
 -- The answers of these numbers, looked at in their order.
-abbrev pub put_first : {A : Type 0} → A → Result (List A) Cause → Result (List A) Cause
-put_first x (Err cause) = Err cause
-put_first x (Ok xs) = Ok (x ∷ xs)
-
 abbrev pub all_found : {H : Type 0} → Kind H → List Answer → List ℕ → Result (List H) Cause
 all_found k answers [] = Ok []
-all_found k answers (n ∷ ns) = then_look (found k answers n) (λ x. put_first x (all_found k answers ns))
+all_found k answers (n ∷ ns) = then_look (found k answers n) (λ x. then_look (all_found k answers ns) (λ xs. Ok (x ∷ xs)))
 
 -- A list of arguments, and an argument with a list of them.
 unfoldable pub many : {A : Type 0} → Kind A → Bench → List Answer → List ℕ → Result (List A) Cause
@@ -77,7 +73,7 @@ found_if k answers (Some n) = then_look (found k answers n) (λ x. Ok (Some x))
 
 abbrev pub all_found_if : {H : Type 0} → Kind H → List Answer → List (Option ℕ) → Result (List (Option H)) Cause
 all_found_if k answers [] = Ok []
-all_found_if k answers (n ∷ ns) = then_look (found_if k answers n) (λ x. put_first x (all_found_if k answers ns))
+all_found_if k answers (n ∷ ns) = then_look (found_if k answers n) (λ x. then_look (all_found_if k answers ns) (λ xs. Ok (x ∷ xs)))
 
 abbrev pub is_own_if : {H : Type 0} → Kind H → Bench → Option H → Bool
 is_own_if k b None = true

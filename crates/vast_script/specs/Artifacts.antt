@@ -1,7 +1,8 @@
 -- What becomes of a call of parts that are made beforehand, or that adds one to a module.
 use Rattle.std.specs.Prelude.{ℕ, Bool, true, false, nat_eq, ◌&&◌, List, length, map, Option, Some, string_bytes}
 use Rattle.vast_core.specs.declared.handle.Expr.{Expr}
-use Rattle.vast_core.specs.Records.{BlankLineRecord, CommentRecord, InlineRecord, MacroRecord, AssignmentEntry, BlankEntry, CommentEntry, InlineEntry, MacroEntry, InstanceEntry, InstanceRecord}
+use Rattle.vast_core.specs.Records.{BlankLineRecord, CommentRecord, InlineRecord, MacroRecord, InstanceRecord}
+use Rattle.vast_core.specs.declared.node.Member.TheVariants.{ContinuousAssignment as AssignmentEntry, BlankLine as BlankEntry, Comment as CommentEntry, Inline as InlineEntry, Macro as MacroEntry, Instantiation as InstanceEntry}
 use Rattle.vast_core.specs.Growth.{with_member, next_continuous, with_assignment}
 use Rattle.vast_core.specs.Artifacts.{next_def, with_definition, next_blank_line, next_comment, next_inline, next_macro_statement, with_artifact, next_instantiation, with_instance, next_statement}
 use Rattle.xlsynth_vast.specs.Instances.{connected}
@@ -31,7 +32,7 @@ make_instantiation module_name instance_name parameters values ports wires b ans
 
 abbrev pub artifact_call : ArtifactStep → Call
 artifact_call (MakeDef name kind type) = λ b answers.
-    given (one a_type b answers type) (λ type. Made (Def (next_def b)) (with_definition (record { name = (string_bytes name); kind = kind; data_type = type }) b))
+    given (one a_type b answers type) (λ type. Made (Def (next_def b)) (with_definition (record { name = string_bytes name; kind = kind; data_type = type }) b))
 artifact_call MakeBlankLine = λ b answers. Made (BlankLine (next_blank_line b)) (with_artifact BlankLineRecord b)
 artifact_call (MakeComment text) = λ b answers. Made (Comment (next_comment b)) (with_artifact (CommentRecord (string_bytes text)) b)
 artifact_call (MakeInlineVerilogStatement text) = λ b answers. Made (InlineVerilogStatement (next_inline b)) (with_artifact (InlineRecord (string_bytes text)) b)

@@ -4,7 +4,6 @@ use Rattle.vast_literal.specs.Tree.{ExprTree, NameTree, LiteralTree, Untyped}
 use Rattle.vast_literal.specs.Pattern.{pattern}
 use Rattle.vast_core.specs.Types.{is_castable}
 use Rattle.vast_core.specs.Bench.{type_of}
-use Rattle.vast_core.specs.Handles.{expr_to_indexable_expr}
 use Rattle.vast_core.specs.Growth.{next_expr, with_expr, decimal_literal, next_index, next_fixed_index, with_fixed_index, next_slice, next_fixed_slice, with_fixed_slice, next_macro_ref, next_fixed_replication, with_fixed_replication}
 use Rattle.xlsynth_vast.specs.Expressions.{with_index, with_slice, with_part_select, with_ternary, with_width_cast, with_type_cast, with_pos_edge, with_neg_edge, with_concat, with_replication, with_pattern, with_call, with_macro, with_macro_call}
 use Rattle.xlsynth_vast.specs.Literals.{literal_in, pattern_literal, string_literal, selector_text}
@@ -54,7 +53,7 @@ expression_call MakeUnsizedOneLiteral = make_leaf (LiteralTree (codes "'1") (Som
 expression_call MakeUnsizedZeroLiteral = make_leaf (LiteralTree (codes "'0") (Some (pos 0)))
 expression_call MakeUnsizedXLiteral = make_leaf (LiteralTree (codes "'X") None)
 expression_call (MakeName name) = make_leaf (NameTree (string_bytes name) Untyped)
-expression_call (MakeIndexableExpression e) = λ b answers. given (one an_expr b answers e) (λ e. Made (IndexableExpr (expr_to_indexable_expr e)) b)
+expression_call (MakeIndexableExpression e) = λ b answers. given (one an_expr b answers e) (λ e. Made (IndexableExpr (record { id = e.id })) b)
 expression_call (MakeSlice subject high low) = λ b answers.
     given (one an_indexable b answers subject) (λ subject. provided (int_le (pos 0) high && int_le (pos 0) low)
     (Made (Slice (next_fixed_slice (selector_text high) high (selector_text low) low b)) (with_fixed_slice subject (selector_text high) high (selector_text low) low b)))

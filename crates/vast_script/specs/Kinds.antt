@@ -19,7 +19,6 @@ use Rattle.vast_core.specs.declared.handle.VastStatementBlock.{VastStatementBloc
 use Rattle.vast_core.specs.declared.handle.Conditional.{Conditional as ConditionalHandle}
 use Rattle.vast_core.specs.declared.handle.CaseStatement.{CaseStatement as CaseHandle}
 use Rattle.vast_core.specs.declared.handle.GenerateLoop.{GenerateLoop as LoopHandle}
-use Rattle.vast_core.specs.Handles.{logic_ref_to_expr, indexable_expr_to_expr, slice_to_expr, index_to_expr, parameter_ref_to_expr, localparam_ref_to_expr, macro_ref_to_expr, logic_ref_to_indexable_expr, index_to_indexable_expr, parameter_ref_to_indexable_expr}
 use Rattle.vast_core.specs.Nodes.{is_expr_root, is_type_root, is_macro}
 use Rattle.vast_core.specs.Bench.{Bench, has_root, is_continuous, is_blank_line, is_comment, is_inline, is_macro_statement, is_block, is_conditional, is_case, is_loop}
 use Rattle.vast_script.specs.declared.answer.Answer.{Answer}
@@ -37,20 +36,20 @@ is_own_id b id of_its_kind = (id.file_id == b.nodes.id) && of_its_kind
 -- Where an expression is wanted, all that converts to one is taken.
 abbrev pub expr_of : Answer → Option ExprHandle
 expr_of (Expr e) = Some e
-expr_of (LogicRef r) = Some (logic_ref_to_expr r)
-expr_of (IndexableExpr r) = Some (indexable_expr_to_expr r)
-expr_of (Slice r) = Some (slice_to_expr r)
-expr_of (Index r) = Some (index_to_expr r)
-expr_of (ParameterRef r) = Some (parameter_ref_to_expr r)
-expr_of (LocalparamRef r) = Some (localparam_ref_to_expr r)
-expr_of (MacroRef r) = Some (macro_ref_to_expr r)
+expr_of (LogicRef r) = Some (record { id = r.id })
+expr_of (IndexableExpr r) = Some (record { id = r.id })
+expr_of (Slice r) = Some (record { id = r.id })
+expr_of (Index r) = Some (record { id = r.id })
+expr_of (ParameterRef r) = Some (record { id = r.id })
+expr_of (LocalparamRef r) = Some (record { id = r.id })
+expr_of (MacroRef r) = Some (record { id = r.id })
 expr_of _ = None
 
 abbrev pub indexable_of : Answer → Option IndexableHandle
 indexable_of (IndexableExpr r) = Some r
-indexable_of (LogicRef r) = Some (logic_ref_to_indexable_expr r)
-indexable_of (Index r) = Some (index_to_indexable_expr r)
-indexable_of (ParameterRef r) = Some (parameter_ref_to_indexable_expr r)
+indexable_of (LogicRef r) = Some (record { id = r.id })
+indexable_of (Index r) = Some (record { id = r.id })
+indexable_of (ParameterRef r) = Some (record { id = r.id })
 indexable_of _ = None
 
 abbrev pub an_expr : Kind ExprHandle

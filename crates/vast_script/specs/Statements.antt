@@ -6,8 +6,7 @@ use Rattle.vast_literal.specs.declared.kind.AlwaysKind.{AlwaysKind}
 use Rattle.vast_literal.specs.declared.kind.AlwaysKind.TheVariants.{AlwaysFF, AlwaysAt, AlwaysComb}
 use Rattle.vast_literal.specs.declared.kind.CaseKind.{CaseKind}
 use Rattle.vast_literal.specs.declared.kind.CaseKind.TheVariants.{Case, CaseZ, CaseX}
-use Rattle.vast_core.specs.Handles.{conditional_index}
-use Rattle.vast_core.specs.Records.{ConditionalEntry}
+use Rattle.vast_core.specs.declared.node.Member.TheVariants.{Conditional as ConditionalEntry}
 use Rattle.vast_core.specs.Nests.{StatementEntry, AssignStatement, ContinuousStatement, ConditionalStatement, CasesStatement, BlankStatement, CommentStatement, InlineStatement}
 use Rattle.vast_core.specs.Bench.{type_of}
 use Rattle.vast_core.specs.Growth.{next_logic_ref, with_member, with_assignment}
@@ -90,10 +89,10 @@ statement_call (ConditionalThenBlock conditional) = λ b answers.
     given (one a_conditional b answers conditional) (λ conditional. holding (then_block_at b conditional) (λ block. Made (VastStatementBlock block) b))
 statement_call (ConditionalAddElseIf conditional condition) = λ b answers.
     given (two a_conditional an_expr b answers conditional condition) (λ (conditional, condition).
-    provided (not (has_else (slice_get b.nests (conditional_index conditional))))
+    provided (not (has_else (slice_get b.nests conditional.id.index)))
     (Made (VastStatementBlock (next_block b)) (with_else_if conditional condition b)))
 statement_call (ConditionalAddElse conditional) = λ b answers.
-    given (one a_conditional b answers conditional) (λ conditional. provided (not (has_else (slice_get b.nests (conditional_index conditional))))
+    given (one a_conditional b answers conditional) (λ conditional. provided (not (has_else (slice_get b.nests conditional.id.index)))
     (Made (VastStatementBlock (next_block b)) (with_else conditional b)))
 statement_call (BlockAddCase block selector) = block_add_case Case block selector
 statement_call (BlockAddCasez block selector) = block_add_case CaseZ block selector

@@ -22,7 +22,8 @@ fn slice_of(
     high: i64,
     low: i64,
 ) -> Result<Answer, StepFault>
-    ensures { Replays file.old file.new answers.now result (expression_call (MakeSlice subject high low)) }
+    ensures { Replays file.old file.new answers.now result
+        (expression_call (MakeSlice subject high low)) }
 {
     let subject: IndexableExpr = one(file, answers, subject)?;
     if !(high >= 0 && low >= 0) {
@@ -37,7 +38,8 @@ fn index_of(
     subject: usize,
     place: i64,
 ) -> Result<Answer, StepFault>
-    ensures { Replays file.old file.new answers.now result (expression_call (MakeIndex subject place)) }
+    ensures { Replays file.old file.new answers.now result
+        (expression_call (MakeIndex subject place)) }
 {
     let subject: IndexableExpr = one(file, answers, subject)?;
     if place < 0 {
@@ -69,7 +71,8 @@ fn type_cast(
     data_type: usize,
     value: usize,
 ) -> Result<Answer, StepFault>
-    ensures { Replays file.old file.new answers.now result (expression_call (MakeTypeCast data_type value)) }
+    ensures { Replays file.old file.new answers.now result
+        (expression_call (MakeTypeCast data_type value)) }
 {
     let (data_type, value): (VastDataType, Expr) = two(file, answers, data_type, value)?;
     if !file.type_can_be_cast(data_type) {

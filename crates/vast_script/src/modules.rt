@@ -120,7 +120,8 @@ fn hoist_declarations(
     owner: usize,
     start: usize,
 ) -> Result<Answer, StepFault>
-    ensures { Replays file.old file.new answers.now result (module_call (HoistModuleDeclarations owner start)) }
+    ensures { Replays file.old file.new answers.now result
+        (module_call (HoistModuleDeclarations owner start)) }
 {
     let owner: VastModule = one(file, answers, owner)?;
     if start > file.module_member_count(owner) {

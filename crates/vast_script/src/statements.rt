@@ -69,7 +69,8 @@ fn add_else(
     answers: &[Answer],
     conditional: usize,
 ) -> Result<Answer, StepFault>
-    ensures { Replays file.old file.new answers.now result (statement_call (ConditionalAddElse conditional)) }
+    ensures { Replays file.old file.new answers.now result
+        (statement_call (ConditionalAddElse conditional)) }
 {
     let conditional: Conditional = one(file, answers, conditional)?;
     if file.conditional_has_else(conditional) {

@@ -18,7 +18,6 @@ use Rattle.vast_core.specs.Nodes.{ExprRoot}
 use Rattle.vast_core.specs.declared.handle.Index.{Index}
 use Rattle.vast_core.specs.declared.handle.Expr.{Expr}
 use Rattle.vast_core.specs.declared.handle.IndexableExpr.{IndexableExpr}
-use Rattle.vast_core.specs.Handles.{expr_to_indexable_expr, index_to_expr}
 use Rattle.vast_core.specs.Bench.{Bench, OwnsExpr, tree_of}
 use Rattle.vast_core.specs.Growth.{with_expr, next_expr, with_fixed_index, next_fixed_index, known_literal}
 use Rattle.vast_core.proofs.Lists.{All-cons}
@@ -154,8 +153,8 @@ slot-subject start now array dimension index before made s h = more_owned start 
 pub slotted-step :
     (start now after : Bench) (array : Expr) (dimension index next : ℤ) (before made longer : List Expr) (slot : Index) →
     Slotted start now array dimension index before made → OwnsExpr start array → index <ℤ dimension → next ≡ index +ℤ pos 1 →
-    (slot ≡ next_fixed_index (selector_text index) index now) × (after ≡ with_fixed_index (expr_to_indexable_expr array) (selector_text index) index now) →
-    longer ≡ made ++ index_to_expr slot ∷ [] →
+    (slot ≡ next_fixed_index (selector_text index) index now) × (after ≡ with_fixed_index (record { id = array.id }) (selector_text index) index now) →
+    longer ≡ made ++ record { id = slot.id } ∷ [] →
     Slotted start after array dimension next before longer
 slotted-step start now after array dimension index next before made longer slot s h below is built grown =
     let text : List ℕ = selector_text index in

@@ -14,7 +14,9 @@ use Rattle.vast_core.specs.declared.node.Assignment.{Assignment}
 use Rattle.vast_core.specs.declared.node.ElseIf.{ElseIf}
 use Rattle.vast_core.specs.declared.node.CaseArm.{CaseArm}
 use Rattle.vast_core.specs.Nodes.{Root, expr_in, type_in, expr_of_root, type_of_root, is_expr_root, is_type_root, is_root_of, is_name, is_index, is_slice, is_macro}
-use Rattle.vast_core.specs.Records.{ModuleRecord, MemberEntry, PortRecord, ParameterPortRecord, DefinitionRecord, ArtifactRecord, InstanceRecord, changed_at, with_name, with_port, with_parameter_port, with_member, with_named_member}
+use Rattle.vast_core.specs.Records.{ModuleRecord, ParameterPortRecord, DefinitionRecord, ArtifactRecord, InstanceRecord, changed_at, with_name, with_port, with_parameter_port, with_member, with_named_member}
+use Rattle.vast_core.specs.declared.node.Member.{Member}
+use Rattle.vast_core.specs.declared.node.Port.{Port}
 use Rattle.vast_core.specs.Nests.{StatementEntry, NestRecord, BlockRecord, ConditionalNestRecord, CaseNestRecord, LoopNestRecord, FunctionRecord, AlwaysRecord, nest_kind, is_block_kind, is_conditional_kind, is_case_kind, is_loop_kind}
 use Rattle.vast_core.specs.Bench.{is_continuous, is_blank_line, is_comment, is_inline, is_macro_statement, names_of}
 use Rattle.vast_core.specs.Containers.{StatementEnters, ElseIfEnters, ElseEnters, CaseArmEnters, MemberEnters, with_entry, has_else}
@@ -94,7 +96,7 @@ more_modules xs x = length-push xs x
 pub more_functions : (xs : List FunctionRecord) (x : FunctionRecord) → length (xs ++ x ∷ []) ≡ suc (length xs)
 more_functions xs x = length-push xs x
 
-pub more_ports : (xs : List PortRecord) (x : PortRecord) → length (xs ++ x ∷ []) ≡ suc (length xs)
+pub more_ports : (xs : List Port) (x : Port) → length (xs ++ x ∷ []) ≡ suc (length xs)
 more_ports xs x = length-push xs x
 
 pub more_instances : (xs : List InstanceRecord) (x : InstanceRecord) → length (xs ++ x ∷ []) ≡ suc (length xs)
@@ -152,7 +154,7 @@ kind_after_else x xs place i = kind-changed (with_entry (ElseEnters x)) (entry-k
 pub kind_after_case_arm : (a : CaseArm) (xs : List NestRecord) (place i : ℕ) → nest_kind (slice_get (changed_at place (with_entry (CaseArmEnters a)) xs) i) ≡ nest_kind (slice_get xs i)
 kind_after_case_arm a xs place i = kind-changed (with_entry (CaseArmEnters a)) (entry-kind (CaseArmEnters a)) xs place i
 
-pub kind_after_member : (m : MemberEntry) (xs : List NestRecord) (place i : ℕ) → nest_kind (slice_get (changed_at place (with_entry (MemberEnters m)) xs) i) ≡ nest_kind (slice_get xs i)
+pub kind_after_member : (m : Member) (xs : List NestRecord) (place i : ℕ) → nest_kind (slice_get (changed_at place (with_entry (MemberEnters m)) xs) i) ≡ nest_kind (slice_get xs i)
 kind_after_member m xs place i = kind-changed (with_entry (MemberEnters m)) (entry-kind (MemberEnters m)) xs place i
 
 pub block_stays : (xs ys : List NestRecord) (i : ℕ) → IsTrue (is_block_kind (nest_kind (slice_get xs i))) → IsTrue (is_block_kind (nest_kind (slice_get (xs ++ ys) i)))
@@ -218,13 +220,13 @@ case_arm-else a (LoopNestRecord l) = refl
 pub else_after_case_arm : (a : CaseArm) (xs : List NestRecord) (place i : ℕ) → has_else (slice_get (changed_at place (with_entry (CaseArmEnters a)) xs) i) ≡ has_else (slice_get xs i)
 else_after_case_arm a xs place i = else-changed (with_entry (CaseArmEnters a)) (case_arm-else a) xs place i
 
-member-else : (m : MemberEntry) (n : NestRecord) → has_else (Some (with_entry (MemberEnters m) n)) ≡ has_else (Some n)
+member-else : (m : Member) (n : NestRecord) → has_else (Some (with_entry (MemberEnters m) n)) ≡ has_else (Some n)
 member-else m (BlockRecord ss) = refl
 member-else m (ConditionalNestRecord c) = refl
 member-else m (CaseNestRecord c) = refl
 member-else m (LoopNestRecord l) = refl
 
-pub else_after_member : (m : MemberEntry) (xs : List NestRecord) (place i : ℕ) → has_else (slice_get (changed_at place (with_entry (MemberEnters m)) xs) i) ≡ has_else (slice_get xs i)
+pub else_after_member : (m : Member) (xs : List NestRecord) (place i : ℕ) → has_else (slice_get (changed_at place (with_entry (MemberEnters m)) xs) i) ≡ has_else (slice_get xs i)
 else_after_member m xs place i = else-changed (with_entry (MemberEnters m)) (member-else m) xs place i
 
 pub ruleset containers = (kind_after_statement, kind_after_else_if, kind_after_else, kind_after_case_arm, kind_after_member, block_stays, conditional_stays, case_stays, loop_stays, last_nest, nest_kind_there, more_nests, else_stays, else_after_statement, else_after_else_if, else_after_case_arm, else_after_member)
@@ -240,7 +242,7 @@ names-changed f h (x ∷ xs) zero (suc j) = refl
 names-changed f h (x ∷ xs) (suc i) zero = refl
 names-changed f h (x ∷ xs) (suc i) (suc j) = names-changed f h xs i j
 
-pub names_after_member : (e : MemberEntry) (xs : List ModuleRecord) (i j : ℕ) → names_of (slice_get (changed_at i (with_member e) xs) j) ≡ names_of (slice_get xs j)
+pub names_after_member : (e : Member) (xs : List ModuleRecord) (i j : ℕ) → names_of (slice_get (changed_at i (with_member e) xs) j) ≡ names_of (slice_get xs j)
 names_after_member e xs i j = names-changed (with_member e) (λ m. refl) xs i j
 
 pub names_after_parameter : (p : ParameterPortRecord) (xs : List ModuleRecord) (i j : ℕ) → names_of (slice_get (changed_at i (with_parameter_port p) xs) j) ≡ names_of (slice_get xs j)
@@ -256,7 +258,7 @@ names-there f name h (x ∷ xs) (suc i) below = names-there f name h xs i (omega
 pub names_after_port : (p : ModulePort) (name : List ℕ) (xs : List ModuleRecord) (i : ℕ) → i < length xs → names_of (slice_get (changed_at i (with_port p name) xs) i) ≡ with_name name (names_of (slice_get xs i))
 names_after_port p name xs i below = names-there (with_port p name) name (λ m. refl) xs i below
 
-pub names_after_declaration : (e : MemberEntry) (name : List ℕ) (xs : List ModuleRecord) (i : ℕ) → i < length xs → names_of (slice_get (changed_at i (with_named_member e name) xs) i) ≡ with_name name (names_of (slice_get xs i))
+pub names_after_declaration : (e : Member) (name : List ℕ) (xs : List ModuleRecord) (i : ℕ) → i < length xs → names_of (slice_get (changed_at i (with_named_member e name) xs) i) ≡ with_name name (names_of (slice_get xs i))
 names_after_declaration e name xs i below = names-there (with_named_member e name) name (λ m. refl) xs i below
 
 pub last_module : (xs : List ModuleRecord) (m : ModuleRecord) → slice_get (xs ++ m ∷ []) (length xs) ≡ Some m

@@ -1,11 +1,11 @@
 -- What a file keeps where registers are added, also where memory was refused in the midst.
-use Rattle.std.proofs.Common.{ℕ, List, [], ◌∷◌, Option, Result, Ok, Err, refl, sym, ap, subst, arith}
+use Rattle.std.proofs.Common.{List, [], ◌∷◌, Option, Result, Ok, Err, refl, sym, ap, subst, arith}
 use Rattle.vast_literal.specs.declared.error.VastFault.{VastFault}
 use Rattle.vast_literal.specs.declared.error.VastFault.TheVariants.{Refused, Memory}
 use Rattle.vast_literal.specs.declared.kind.AlwaysKind.TheVariants.{AlwaysFF}
 use Rattle.vast_core.specs.declared.handle.Expr.{Expr}
 use Rattle.vast_core.specs.declared.handle.VastStatementBlock.{VastStatementBlock}
-use Rattle.vast_core.specs.Records.{AlwaysEntry}
+use Rattle.vast_core.specs.declared.node.Member.TheVariants.{Always as AlwaysEntry}
 use Rattle.vast_core.specs.Nests.{nest_kind}
 use Rattle.vast_core.specs.Bench.{Bench}
 use Rattle.vast_core.specs.Growth.{with_member}

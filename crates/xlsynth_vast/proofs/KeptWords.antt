@@ -17,9 +17,11 @@ use Rattle.vast_literal.specs.declared.kind.ModulePortDirection.{ModulePortDirec
 use Rattle.vast_literal.specs.declared.kind.DataKind.{DataKind}
 use Rattle.vast_literal.specs.declared.kind.AlwaysKind.{AlwaysKind}
 use Rattle.vast_literal.specs.declared.kind.CaseKind.{CaseKind}
-use Rattle.vast_core.specs.Handles.{conditional_index, case_index, loop_index, block_index, module_index}
-use Rattle.vast_core.specs.Records.{FileEntry, ModuleEntry, MemberEntry, AlwaysEntry, ArtifactRecord, DefinitionRecord, InstanceRecord, new_module}
-use Rattle.vast_core.specs.Nests.{StatementEntry, VariableRecord}
+use Rattle.vast_core.specs.Records.{FileEntry, ModuleEntry, ArtifactRecord, DefinitionRecord, InstanceRecord, new_module}
+use Rattle.vast_core.specs.declared.node.Member.{Member}
+use Rattle.vast_core.specs.declared.node.Member.TheVariants.{Always as AlwaysEntry}
+use Rattle.vast_core.specs.Nests.{StatementEntry}
+use Rattle.vast_core.specs.declared.node.FunctionVariable.{FunctionVariable}
 use Rattle.vast_core.specs.Bench.{Bench}
 use Rattle.vast_core.specs.Growth.{with_item, next_module, with_module, with_port, with_declaration, with_member, with_assignment, with_fixed_index, with_fixed_slice, with_fixed_replication}
 use Rattle.vast_core.specs.Artifacts.{with_artifact, with_definition, with_instance}
@@ -63,42 +65,42 @@ pub port-kept : (owner : VastModule) (direction : ModulePortDirection) (kind : D
 port-kept owner direction kind name type b =
     keeps-then b _ _ (keeps-root b _) (keeps-then _ _ _ (keeps-fresh _ (record no_fresh { port = Some _ })) (keeps-listing _ (InPorts owner _ name)))
 
-pub member-kept : (owner : VastModule) (entry : MemberEntry) (b : Bench) → Keeps b (with_member owner entry b)
-member-kept owner entry b = keeps-changed b (module_index owner) _
+pub member-kept : (owner : VastModule) (entry : Member) (b : Bench) → Keeps b (with_member owner entry b)
+member-kept owner entry b = keeps-changed b owner.id.index _
 
 pub declaration-kept : (owner : VastModule) (kind : DataKind) (name : List ℕ) (type : VastDataType) (b : Bench) → Keeps b (with_declaration owner kind name type b)
-declaration-kept owner kind name type b = keeps-then b _ _ (keeps-changed b (module_index owner) _) (keeps-root _ _)
+declaration-kept owner kind name type b = keeps-then b _ _ (keeps-changed b owner.id.index _) (keeps-root _ _)
 
 pub parameter_port-kept : (owner : VastModule) (name : List ℕ) (type : Option VastDataType) (value : Expr) (b : Bench) → Keeps b (with_parameter_port owner name type value b)
-parameter_port-kept owner name type value b = keeps-then b _ _ (keeps-changed b (module_index owner) _) (keeps-root _ _)
+parameter_port-kept owner name type value b = keeps-then b _ _ (keeps-changed b owner.id.index _) (keeps-root _ _)
 
 pub plain_parameter-kept : (owner : VastModule) (local : Bool) (name : List ℕ) (value : Expr) (b : Bench) → Keeps b (with_plain_parameter owner local name value b)
-plain_parameter-kept owner local name value b = keeps-then b _ _ (keeps-changed b (module_index owner) _) (keeps-root _ _)
+plain_parameter-kept owner local name value b = keeps-then b _ _ (keeps-changed b owner.id.index _) (keeps-root _ _)
 
 pub int_parameter-kept : (owner : VastModule) (local : Bool) (name : List ℕ) (value : Expr) (b : Bench) → Keeps b (with_int_parameter owner local name value b)
-int_parameter-kept owner local name value b = keeps-then b _ _ (keeps-changed b (module_index owner) _) (keeps-root _ _)
+int_parameter-kept owner local name value b = keeps-then b _ _ (keeps-changed b owner.id.index _) (keeps-root _ _)
 
 pub defined_parameter-kept : (owner : VastModule) (local : Bool) (definition : Def) (value : Expr) (b : Bench) → Keeps b (with_defined_parameter owner local definition value b)
-defined_parameter-kept owner local definition value b = keeps-then b _ _ (keeps-changed b (module_index owner) _) (keeps-root _ _)
+defined_parameter-kept owner local definition value b = keeps-then b _ _ (keeps-changed b owner.id.index _) (keeps-root _ _)
 
 pub hoisted-kept : (owner : VastModule) (start : ℕ) (b : Bench) → Keeps b (with_hoisted owner start b)
-hoisted-kept owner start b = keeps-changed b (module_index owner) _
+hoisted-kept owner start b = keeps-changed b owner.id.index _
 
 pub function_member-kept : (owner : VastModule) (name : List ℕ) (type : VastDataType) (b : Bench) → Keeps b (with_function_member owner name type b)
 function_member-kept owner name type b =
-    keeps-then b _ _ (keeps-then b _ _ (keeps-fresh b (record fresh_block { function = Some _ })) (keeps-root _ _)) (keeps-changed _ (module_index owner) _)
+    keeps-then b _ _ (keeps-then b _ _ (keeps-fresh b (record fresh_block { function = Some _ })) (keeps-root _ _)) (keeps-changed _ owner.id.index _)
 
-pub variable-kept : (function : VastFunction) (local : Bool) (variable : VariableRecord) (b : Bench) → Keeps b (with_variable function local variable b)
+pub variable-kept : (function : VastFunction) (local : Bool) (variable : FunctionVariable) (b : Bench) → Keeps b (with_variable function local variable b)
 variable-kept function local variable b = keeps-then b _ _ (keeps-listing b (InFunction function local variable)) (keeps-root _ _)
 
 -- Always blocks and parts.
 
 pub always_member-kept : (owner : VastModule) (kind : AlwaysKind) (events : List Expr) (b : Bench) → Keeps b (with_always_member owner kind events b)
-always_member-kept owner kind events b = keeps-then b _ _ (keeps-fresh b (record fresh_block { always_block = Some _ })) (keeps-changed _ (module_index owner) _)
+always_member-kept owner kind events b = keeps-then b _ _ (keeps-fresh b (record fresh_block { always_block = Some _ })) (keeps-changed _ owner.id.index _)
 
 pub loop_always-kept : (owner : GenerateLoop) (kind : AlwaysKind) (events : List Expr) (b : Bench) → Keeps b (with_loop_always owner kind events b)
 loop_always-kept owner kind events b =
-    keeps-then b _ _ (keeps-fresh b (record fresh_block { always_block = Some _ })) (keeps-listing (with_always kind events b) (InNest (loop_index owner) (MemberEnters (AlwaysEntry (next_always b)))))
+    keeps-then b _ _ (keeps-fresh b (record fresh_block { always_block = Some _ })) (keeps-listing (with_always kind events b) (InNest owner.id.index (MemberEnters (AlwaysEntry (next_always b)))))
 
 pub artifact-kept : (part : ArtifactRecord) (b : Bench) → Keeps b (with_artifact part b)
 artifact-kept part b = keeps-fresh b (record no_fresh { artifact = Some part })
@@ -115,33 +117,33 @@ assignment-kept assignment b = keeps-fresh b (fresh_assignment assignment)
 -- Containers.
 
 pub statement-kept : (owner : VastStatementBlock) (statement : StatementEntry) (b : Bench) → Keeps b (with_statement owner statement b)
-statement-kept owner statement b = keeps-listing b (InNest (block_index owner) (StatementEnters statement))
+statement-kept owner statement b = keeps-listing b (InNest owner.id.index (StatementEnters statement))
 
 pub conditional-kept : (condition : Expr) (b : Bench) → Keeps b (with_conditional condition b)
 conditional-kept condition b = keeps-fresh b (fresh_container (new_conditional b condition) true)
 
 pub else_if-kept : (owner : Conditional) (condition : Expr) (b : Bench) → Keeps b (with_else_if owner condition b)
 else_if-kept owner condition b =
-    keeps-then b (with_block b) _ (keeps-fresh b fresh_block) (keeps-listing (with_block b) (InNest (conditional_index owner) (ElseIfEnters (record { condition = condition; block = next_block b }))))
+    keeps-then b (with_block b) _ (keeps-fresh b fresh_block) (keeps-listing (with_block b) (InNest owner.id.index (ElseIfEnters (record { condition = condition; block = next_block b }))))
 
 pub else-kept : (owner : Conditional) (b : Bench) → Keeps b (with_else owner b)
-else-kept owner b = keeps-then b (with_block b) _ (keeps-fresh b fresh_block) (keeps-listing (with_block b) (InNest (conditional_index owner) (ElseEnters (next_block b))))
+else-kept owner b = keeps-then b (with_block b) _ (keeps-fresh b fresh_block) (keeps-listing (with_block b) (InNest owner.id.index (ElseEnters (next_block b))))
 
 pub case-kept : (kind : CaseKind) (selector : Expr) (b : Bench) → Keeps b (with_case kind selector b)
 case-kept kind selector b = keeps-fresh b (fresh_container (new_case kind selector) false)
 
 pub case_arm-kept : (owner : CaseStatement) (label : Option Expr) (b : Bench) → Keeps b (with_case_arm owner label b)
 case_arm-kept owner label b =
-    keeps-then b (with_block b) _ (keeps-fresh b fresh_block) (keeps-listing (with_block b) (InNest (case_index owner) (CaseArmEnters (record { label = label; block = next_block b }))))
+    keeps-then b (with_block b) _ (keeps-fresh b fresh_block) (keeps-listing (with_block b) (InNest owner.id.index (CaseArmEnters (record { label = label; block = next_block b }))))
 
 pub case_unique-kept : (owner : CaseStatement) (unique : Bool) (b : Bench) → Keeps b (with_case_unique owner unique b)
-case_unique-kept owner unique b = keeps-unique b (case_index owner) unique
+case_unique-kept owner unique b = keeps-unique b owner.id.index unique
 
 pub loop-kept : (name : List ℕ) (start end : Expr) (label : Option (List ℕ)) (b : Bench) → Keeps b (with_loop name start end label b)
 loop-kept name start end label b = keeps-then b _ _ (keeps-fresh b (fresh_container (new_loop b name start end label) false)) (keeps-root _ _)
 
-pub loop_member-kept : (owner : GenerateLoop) (entry : MemberEntry) (b : Bench) → Keeps b (with_loop_member owner entry b)
-loop_member-kept owner entry b = keeps-listing b (InNest (loop_index owner) (MemberEnters entry))
+pub loop_member-kept : (owner : GenerateLoop) (entry : Member) (b : Bench) → Keeps b (with_loop_member owner entry b)
+loop_member-kept owner entry b = keeps-listing b (InNest owner.id.index (MemberEnters entry))
 
 pub plain_loop_parameter-kept : (owner : GenerateLoop) (name : List ℕ) (value : Expr) (b : Bench) → Keeps b (with_plain_loop_parameter owner name value b)
 plain_loop_parameter-kept owner name value b = keeps-then b (with_loop_member owner _ b) _ (loop_member-kept owner _ b) (keeps-root _ _)
@@ -149,6 +151,6 @@ plain_loop_parameter-kept owner name value b = keeps-then b (with_loop_member ow
 pub defined_loop_parameter-kept : (owner : GenerateLoop) (definition : Def) (value : Expr) (b : Bench) → Keeps b (with_defined_loop_parameter owner definition value b)
 defined_loop_parameter-kept owner definition value b = keeps-then b (with_loop_member owner _ b) _ (loop_member-kept owner _ b) (keeps-root _ _)
 
-pub scope_member-kept : (scope : Scope) (entry : MemberEntry) (b : Bench) → Keeps b (with_scope_member scope entry b)
+pub scope_member-kept : (scope : Scope) (entry : Member) (b : Bench) → Keeps b (with_scope_member scope entry b)
 scope_member-kept (ModuleScope owner) entry b = member-kept owner entry b
 scope_member-kept (LoopScope owner) entry b = loop_member-kept owner entry b

@@ -3,8 +3,8 @@ use Rattle.std.proofs.Common.{◌≡◌, ◌≢◌, ◌↔◌, ℕ, Bool, true, 
 use Rattle.std.specs.Str.{bytes_eq}
 use Rattle.std.proofs.lemmas.Slice.Eq.{bytes_eq-Decides}
 use Rattle.vast_core.specs.declared.handle.VastModule.{VastModule}
-use Rattle.vast_core.specs.Handles.{module_index}
-use Rattle.vast_core.specs.Records.{PortRecord, ModuleRecord, IsFree}
+use Rattle.vast_core.specs.Records.{ModuleRecord, IsFree}
+use Rattle.vast_core.specs.declared.node.Port.{Port}
 use Rattle.vast_core.specs.Nests.{FunctionRecord}
 use Rattle.vast_core.specs.Bench.{Bench}
 use Rattle.vast_core.specs.DeclaredNames.{names_declared, times, NamesSound}
@@ -40,16 +40,16 @@ free-alike name xs ys e =
     let left = free-counted name xs in
     let right = free-counted name ys in (λ k. right.1 (e ∙ left.0 k), λ k. left.1 (sym e ∙ right.0 k))
 
-declares-distinctly : (ports : List PortRecord) (functions : List FunctionRecord) (m : ModuleRecord) → NamesSound ports functions m → ModuleDeclaresDistinctly ports functions m
+declares-distinctly : (ports : List Port) (functions : List FunctionRecord) (m : ModuleRecord) → NamesSound ports functions m → ModuleDeclaresDistinctly ports functions m
 declares-distinctly ports functions m h =
     record {
       distinct = distinct-of (names_declared ports functions m) (λ name. let same = h.taken name in let once = h.once name in omega (arith, same, once));
       taken = λ name. free-alike name m.names (names_declared ports functions m) (h.taken name);
     }
 
-there : (b : Bench) (o : Option ModuleRecord) (m : VastModule) → NamesAreSound b → slice_get b.modules (module_index m) ≡ o → IfSome o (ModuleDeclaresDistinctly b.ports b.functions)
+there : (b : Bench) (o : Option ModuleRecord) (m : VastModule) → NamesAreSound b → slice_get b.modules m.id.index ≡ o → IfSome o (ModuleDeclaresDistinctly b.ports b.functions)
 there b None m h e = tt
-there b (Some r) m h e = declares-distinctly b.ports b.functions r (Each-get (NamesSound b.ports b.functions) b.modules (module_index m) r h e)
+there b (Some r) m h e = declares-distinctly b.ports b.functions r (Each-get (NamesSound b.ports b.functions) b.modules m.id.index r h e)
 
 pub module-names-are-distinct : (b : Bench) (m : VastModule) → NamesAreSound b → ModuleNamesAreDistinct b m
-module-names-are-distinct b m h = there b (slice_get b.modules (module_index m)) m h refl
+module-names-are-distinct b m h = there b (slice_get b.modules m.id.index) m h refl

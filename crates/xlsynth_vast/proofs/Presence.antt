@@ -4,8 +4,10 @@ use Rattle.vast_literal.specs.Tree.{BlankMember, BlankTree, BlankItem}
 use Rattle.vast_core.specs.declared.handle.ModulePort.{ModulePort}
 use Rattle.vast_core.specs.declared.handle.VastStatementBlock.{VastStatementBlock}
 use Rattle.vast_core.specs.declared.node.Assignment.{Assignment}
-use Rattle.vast_core.specs.Handles.{block_index, conditional_index, case_index, loop_index, continuous_index, statement_index, comment_index, inline_index, macro_statement_index, instantiation_index, function_index, always_index, module_index, definition_index, port_index}
-use Rattle.vast_core.specs.Records.{PlainForm, IntForm, DefinedForm, MemberEntry, DeclarationEntry, AssignmentEntry, ParameterEntry, BlankEntry, CommentEntry, InlineEntry, MacroEntry, InstanceEntry, FunctionEntry, AlwaysEntry, ConditionalEntry, LoopEntry, ModuleRecord, FileEntry, ModuleEntry, IncludeEntry, FileCommentEntry, FileBlankEntry, ArtifactRecord, BlankLineRecord, CommentRecord, InlineRecord, MacroRecord, InstanceRecord}
+use Rattle.vast_core.specs.Records.{ModuleRecord, FileEntry, ModuleEntry, IncludeEntry, FileCommentEntry, FileBlankEntry, ArtifactRecord, BlankLineRecord, CommentRecord, InlineRecord, MacroRecord, InstanceRecord}
+use Rattle.vast_core.specs.declared.node.Member.{Member}
+use Rattle.vast_core.specs.declared.node.Member.TheVariants.{Declaration as DeclarationEntry, ContinuousAssignment as AssignmentEntry, Parameter as ParameterEntry, BlankLine as BlankEntry, Comment as CommentEntry, Inline as InlineEntry, Macro as MacroEntry, Instantiation as InstanceEntry, Function as FunctionEntry, Always as AlwaysEntry, Conditional as ConditionalEntry, Loop as LoopEntry}
+use Rattle.vast_core.specs.declared.node.ParameterForm.TheVariants.{Plain as PlainForm, Int as IntForm, Defined as DefinedForm}
 use Rattle.vast_core.specs.Nests.{StatementEntry, AssignStatement, ContinuousStatement, ConditionalStatement, CasesStatement, BlankStatement, CommentStatement, InlineStatement, NestRecord, BlockRecord, ConditionalNestRecord, CaseNestRecord, LoopNestRecord, FunctionRecord, AlwaysRecord}
 use Rattle.vast_core.specs.Bench.{Bench, OwnsBlock, OwnsPort, is_continuous, is_comment, is_inline, is_macro_statement, is_block, is_conditional, is_case, is_loop}
 use Rattle.vast_core.specs.FileTree.{Family, family, families, block_in, conditional_statement, case_statement, conditional_member, loop_member, assignment_member, artifact_member, instance_member, assigned_tree, continuous_tree, function_in, always_in, member_tree, maybe_module_tree}
@@ -108,18 +110,18 @@ block_at b i (Some (LoopNestRecord l)) s e h = absurd (never h)
 
 module _ (b : Bench) (s : NestsSound b 0 b.nests) where
   block_is_there : (c : VastStatementBlock) → OwnsBlock b c → BlockIsThere b c
-  block_is_there c h = block_at b (block_index c) (slice_get b.nests (block_index c)) s refl h.of_kind
+  block_is_there c h = block_at b c.id.index (slice_get b.nests c.id.index) s refl h.of_kind
 
-  maybe_block_is_there : (i : ℕ) (o : Option VastStatementBlock) → IfSome o (λ c. OwnsBlock b c × i < block_index c) → IfSome o (BlockIsThere b)
+  maybe_block_is_there : (i : ℕ) (o : Option VastStatementBlock) → IfSome o (λ c. OwnsBlock b c × i < c.id.index) → IfSome o (BlockIsThere b)
   maybe_block_is_there i None h = tt
   maybe_block_is_there i (Some c) h = block_is_there c h.0
 
-  definition_is_there : (entry : MemberEntry) → MemberSound b entry → DefinitionIsThere b entry
+  definition_is_there : (entry : Member) → MemberSound b entry → DefinitionIsThere b entry
   definition_is_there (DeclarationEntry kind name data_type) h = tt
   definition_is_there (AssignmentEntry a) h = tt
   definition_is_there (ParameterEntry local (PlainForm name) value) h = tt
   definition_is_there (ParameterEntry local (IntForm name) value) h = tt
-  definition_is_there (ParameterEntry local (DefinedForm d) value) h = found b.definitions (definition_index d) (slice_get b.definitions (definition_index d)) h.0.of_kind refl
+  definition_is_there (ParameterEntry local (DefinedForm d) value) h = found b.definitions d.id.index (slice_get b.definitions d.id.index) h.0.of_kind refl
   definition_is_there BlankEntry h = tt
   definition_is_there (CommentEntry a) h = tt
   definition_is_there (InlineEntry a) h = tt
@@ -130,28 +132,28 @@ module _ (b : Bench) (s : NestsSound b 0 b.nests) where
   definition_is_there (ConditionalEntry c) h = tt
   definition_is_there (LoopEntry l) h = tt
 
-  member_shows : (entry : MemberEntry) → MemberSound b entry → member_tree b entry ≡ BlankMember → entry ≡ BlankEntry
+  member_shows : (entry : Member) → MemberSound b entry → member_tree b entry ≡ BlankMember → entry ≡ BlankEntry
   member_shows (DeclarationEntry kind name data_type) h e = cc
-  member_shows (AssignmentEntry a) h e = absurd (assigned b (slice_get b.assignments (continuous_index a)) h.of_kind e)
+  member_shows (AssignmentEntry a) h e = absurd (assigned b (slice_get b.assignments a.id.index) h.of_kind e)
   member_shows (ParameterEntry local form value) h e = cc
   member_shows BlankEntry h e = refl
-  member_shows (CommentEntry a) h e = absurd (commented b (slice_get b.artifacts (comment_index a)) h.of_kind e)
-  member_shows (InlineEntry a) h e = absurd (inlined b (slice_get b.artifacts (inline_index a)) h.of_kind e)
-  member_shows (MacroEntry a) h e = absurd (called b (slice_get b.artifacts (macro_statement_index a)) h.of_kind e)
-  member_shows (InstanceEntry i) h e = absurd (instanced b (slice_get b.instances (instantiation_index i)) (present b.instances (instantiation_index i) h.of_kind) e)
-  member_shows (FunctionEntry f) h e = absurd (declared b (families b) (slice_get b.functions (function_index f)) (present b.functions (function_index f) h.of_kind) e)
-  member_shows (AlwaysEntry a) h e = absurd (waiting b (families b) (slice_get b.always_blocks (always_index a)) (present b.always_blocks (always_index a) h.of_kind) e)
-  member_shows (ConditionalEntry c) h e = absurd (chosen b (families b) (slice_get b.nests (conditional_index c)) h.of_kind (sym (ap conditional_member (family-at b (conditional_index c) s)) ∙ e))
-  member_shows (LoopEntry l) h e = absurd (looped b (families b) (slice_get b.nests (loop_index l)) h.of_kind (sym (ap loop_member (family-at b (loop_index l) s)) ∙ e))
+  member_shows (CommentEntry a) h e = absurd (commented b (slice_get b.artifacts a.id.index) h.of_kind e)
+  member_shows (InlineEntry a) h e = absurd (inlined b (slice_get b.artifacts a.id.index) h.of_kind e)
+  member_shows (MacroEntry a) h e = absurd (called b (slice_get b.artifacts a.id.index) h.of_kind e)
+  member_shows (InstanceEntry i) h e = absurd (instanced b (slice_get b.instances i.id.index) (present b.instances i.id.index h.of_kind) e)
+  member_shows (FunctionEntry f) h e = absurd (declared b (families b) (slice_get b.functions f.id.index) (present b.functions f.id.index h.of_kind) e)
+  member_shows (AlwaysEntry a) h e = absurd (waiting b (families b) (slice_get b.always_blocks a.id.index) (present b.always_blocks a.id.index h.of_kind) e)
+  member_shows (ConditionalEntry c) h e = absurd (chosen b (families b) (slice_get b.nests c.id.index) h.of_kind (sym (ap conditional_member (family-at b c.id.index s)) ∙ e))
+  member_shows (LoopEntry l) h e = absurd (looped b (families b) (slice_get b.nests l.id.index) h.of_kind (sym (ap loop_member (family-at b l.id.index s)) ∙ e))
 
-  member_is_there : (entry : MemberEntry) → MemberSound b entry → MemberIsThere b entry
+  member_is_there : (entry : Member) → MemberSound b entry → MemberIsThere b entry
   member_is_there entry h = (member_shows entry h, definition_is_there entry h)
 
   statement_is_there : (i : ℕ) (entry : StatementEntry) → StatementSound b i entry → StatementIsThere b entry
-  statement_is_there i (AssignStatement a) h e = absurd (set b (slice_get b.assignments (statement_index a)) (present b.assignments (statement_index a) h.of_kind) e)
-  statement_is_there i (ContinuousStatement a) h e = absurd (driven b (slice_get b.assignments (statement_index a)) (present b.assignments (statement_index a) h.of_kind) e)
-  statement_is_there i (ConditionalStatement c) h e = absurd (chosen_between b (families b) (slice_get b.nests (conditional_index c)) h.0.of_kind (sym (ap conditional_statement (family-at b (conditional_index c) s)) ∙ e))
-  statement_is_there i (CasesStatement c) h e = absurd (selected b (families b) (slice_get b.nests (case_index c)) h.0.of_kind (sym (ap case_statement (family-at b (case_index c) s)) ∙ e))
+  statement_is_there i (AssignStatement a) h e = absurd (set b (slice_get b.assignments a.id.index) (present b.assignments a.id.index h.of_kind) e)
+  statement_is_there i (ContinuousStatement a) h e = absurd (driven b (slice_get b.assignments a.id.index) (present b.assignments a.id.index h.of_kind) e)
+  statement_is_there i (ConditionalStatement c) h e = absurd (chosen_between b (families b) (slice_get b.nests c.id.index) h.0.of_kind (sym (ap conditional_statement (family-at b c.id.index s)) ∙ e))
+  statement_is_there i (CasesStatement c) h e = absurd (selected b (families b) (slice_get b.nests c.id.index) h.0.of_kind (sym (ap case_statement (family-at b c.id.index s)) ∙ e))
   statement_is_there i BlankStatement h e = refl
   statement_is_there i (CommentStatement text) h e = cc
   statement_is_there i (InlineStatement text) h e = cc
@@ -171,7 +173,7 @@ module _ (b : Bench) (s : NestsSound b 0 b.nests) where
   containers_are_there i (n ∷ ns) h = (container_is_there i n h.0, containers_are_there (suc i) ns h.1)
 
   port_is_there : (p : ModulePort) → OwnsPort b p → PortIsThere b p
-  port_is_there p h = found b.ports (port_index p) (slice_get b.ports (port_index p)) h.of_kind refl
+  port_is_there p h = found b.ports p.id.index (slice_get b.ports p.id.index) h.of_kind refl
 
   module_is_there : (m : ModuleRecord) → ModuleSound b m → ModuleIsThere b m
   module_is_there m h = (Each-map port_is_there m.ports h.ports, Each-map member_is_there m.members h.members)
@@ -181,7 +183,7 @@ module _ (b : Bench) (s : NestsSound b 0 b.nests) where
   maybe_module (Some m) h e = cc
 
   item_is_there : (entry : FileEntry) → EntrySound b entry → ItemIsThere b entry
-  item_is_there (ModuleEntry m) h e = absurd (maybe_module (slice_get b.modules (module_index m)) (present b.modules (module_index m) h.of_kind) e)
+  item_is_there (ModuleEntry m) h e = absurd (maybe_module (slice_get b.modules m.id.index) (present b.modules m.id.index h.of_kind) e)
   item_is_there (IncludeEntry path) h e = cc
   item_is_there (FileCommentEntry text) h e = cc
   item_is_there FileBlankEntry h e = refl

@@ -8,7 +8,6 @@ use Rattle.vast_literal.specs.declared.kind.AssignmentForm.TheVariants.{Nonblock
 use Rattle.vast_core.specs.declared.handle.Expr.{Expr}
 use Rattle.vast_core.specs.declared.handle.VastStatementBlock.{VastStatementBlock}
 use Rattle.vast_core.specs.declared.node.Assignment.{Assignment}
-use Rattle.vast_core.specs.Handles.{block_index}
 use Rattle.vast_core.specs.Nodes.{ExprRoot}
 use Rattle.vast_core.specs.Nests.{StatementEntry, AssignStatement, BlockRecord}
 use Rattle.vast_core.specs.Bench.{Bench, OwnsExpr, tree_of}
@@ -99,29 +98,29 @@ value-made share r b h = value-case share r b r.reset_value refl h.2 h.1
 
 -- Assignments.
 
-given-changes : (block : VastStatementBlock) (target : Expr) (o : Option Expr) (b : Bench) → Changes (block_index block) b (with_given block target o b)
-given-changes block target None b = changes-none (block_index block) b
+given-changes : (block : VastStatementBlock) (target : Expr) (o : Option Expr) (b : Bench) → Changes block.id.index b (with_given block target o b)
+given-changes block target None b = changes-none block.id.index b
 given-changes block target (Some value) b =
     let a : Assignment = record { lhs = target; rhs = value; nonblocking = true } in
-    let i : ℕ = block_index block in
+    let i : ℕ = block.id.index in
     changes-then i i b (with_assignment a b) (with_given block target (Some value) b) (changes-assignment i b a) (changes-entry i (with_assignment a b) (StatementEnters (AssignStatement (next_statement b)))) (inl refl)
 
-pub assigned-changes : (share : Share) (block : VastStatementBlock) (r : RegisterDefinition) (b : Bench) → Changes (block_index block) b (with_assigned share block r b)
+pub assigned-changes : (share : Share) (block : VastStatementBlock) (r : RegisterDefinition) (b : Bench) → Changes block.id.index b (with_assigned share block r b)
 unfolding with_assigned
 assigned-changes share block r b =
-    let i : ℕ = block_index block in
+    let i : ℕ = block.id.index in
     changes-then i i b (with_value share r b) (with_assigned share block r b) (value-changes i share r b) (given-changes block r.reg (value_expr share r b) (with_value share r b)) (inl refl)
 
-pub all-assigned-changes : (share : Share) (block : VastStatementBlock) (rs : List RegisterDefinition) (b : Bench) → Changes (block_index block) b (with_all_assigned share block rs b)
-all-assigned-changes share block [] b = changes-none (block_index block) b
+pub all-assigned-changes : (share : Share) (block : VastStatementBlock) (rs : List RegisterDefinition) (b : Bench) → Changes block.id.index b (with_all_assigned share block rs b)
+all-assigned-changes share block [] b = changes-none block.id.index b
 all-assigned-changes share block (r ∷ rs) b =
-    let i : ℕ = block_index block in
+    let i : ℕ = block.id.index in
     let c : Bench = with_assigned share block r b in
     changes-then i i b c (with_all_assigned share block rs c) (assigned-changes share block r b) (all-assigned-changes share block rs c) (inl refl)
 
 given-stands :
-    (block : VastStatementBlock) (target : Expr) (o : Option Expr) (t : Option ExprTree) (b : Bench) (trees : List StatementTree) → OwnsExpr b target → MaybeTree b o t → Stands b (block_index block) trees →
-    Stands (with_given block target o b) (block_index block) (trees ++ given (tree_of b target) t)
+    (block : VastStatementBlock) (target : Expr) (o : Option Expr) (t : Option ExprTree) (b : Bench) (trees : List StatementTree) → OwnsExpr b target → MaybeTree b o t → Stands b block.id.index trees →
+    Stands (with_given block target o b) block.id.index (trees ++ given (tree_of b target) t)
 given-stands block target None t b trees h k s = rw (k, append-nil trees) s
 given-stands block target (Some value) t b trees h k s =
     let a : Assignment = record { lhs = target; rhs = value; nonblocking = true } in
@@ -132,32 +131,32 @@ given-stands block target (Some value) t b trees h k s =
     λ d v f. rw (v.assignments (length b.assignments) a (slice_get-seam b.assignments a), wider_tree c d v target h, wider_tree c d v value k.0) refl in
     rw k.1 (record {
       statements = s.statements ++ x ∷ [];
-      there = get-changed (with_entry (StatementEnters x)) b.nests (block_index block) (BlockRecord s.statements) s.there;
+      there = get-changed (with_entry (StatementEnters x)) b.nests block.id.index (BlockRecord s.statements) s.there;
       reads = λ d v f. statements-append d f s.statements (x ∷ []) trees (AssignTree Nonblocking (tree_of b target) (tree_of b value) ∷ []) (s.reads d (wider-wider b c d w v) f) (one d v f);
     })
 
 assigned-stands :
-    (share : Share) (block : VastStatementBlock) (r : RegisterDefinition) (b : Bench) (trees : List StatementTree) → OwnsRegister b r → Stands b (block_index block) trees →
-    Stands (with_assigned share block r b) (block_index block) (trees ++ given (tree_of b r.reg) (value_in share (register_tree b r)))
+    (share : Share) (block : VastStatementBlock) (r : RegisterDefinition) (b : Bench) (trees : List StatementTree) → OwnsRegister b r → Stands b block.id.index trees →
+    Stands (with_assigned share block r b) block.id.index (trees ++ given (tree_of b r.reg) (value_in share (register_tree b r)))
 unfolding with_assigned
 assigned-stands share block r b trees h s =
-    let i : ℕ = block_index block in
+    let i : ℕ = block.id.index in
     let c : Bench = with_value share r b in
     let k : Changes (suc i) b c = value-changes (suc i) share r b in
     rw (wider_tree b c k.wider r.reg h.0) at
     (given-stands block r.reg (value_expr share r b) (value_in share (register_tree b r)) c trees (wider_owned b c k.wider r.reg h.0) (value-made share r b h) (stands-kept i (suc i) b c trees k (λ e. absurd (omega (arith, e))) s))
 
 pub all-assigned-stands :
-    (share : Share) (block : VastStatementBlock) (rs : List RegisterDefinition) (b : Bench) (trees : List StatementTree) → All (OwnsRegister b) rs → Stands b (block_index block) trees →
-    Stands (with_all_assigned share block rs b) (block_index block) (trees ++ assigned_all (value_in share) (register_trees b rs))
+    (share : Share) (block : VastStatementBlock) (rs : List RegisterDefinition) (b : Bench) (trees : List StatementTree) → All (OwnsRegister b) rs → Stands b block.id.index trees →
+    Stands (with_all_assigned share block rs b) block.id.index (trees ++ assigned_all (value_in share) (register_trees b rs))
 all-assigned-stands share block [] b trees h s = rw (append-nil trees) s
 all-assigned-stands share block (r ∷ rs) b trees h s =
     let c : Bench = with_assigned share block r b in
     let w : Wider b c = (assigned-changes share block r b).wider in
     let one : List StatementTree = given (tree_of b r.reg) (value_in share (register_tree b r)) in
     let rest : All (OwnsRegister b) rs = All-tail (OwnsRegister b) r rs h in
-    let here : Stands c (block_index block) (trees ++ one) = assigned-stands share block r b trees (All-head (OwnsRegister b) r rs h) s in
-    let all : Stands (with_all_assigned share block rs c) (block_index block) ((trees ++ one) ++ assigned_all (value_in share) (register_trees b rs)) =
+    let here : Stands c block.id.index (trees ++ one) = assigned-stands share block r b trees (All-head (OwnsRegister b) r rs h) s in
+    let all : Stands (with_all_assigned share block rs c) block.id.index ((trees ++ one) ++ assigned_all (value_in share) (register_trees b rs)) =
     rw (← registers-kept b c w rs rest) (all-assigned-stands share block rs c (trees ++ one) (registers-owned b c w rs rest) here) in
     rw (append_assoc trees one (assigned_all (value_in share) (register_trees b rs))) at all
 

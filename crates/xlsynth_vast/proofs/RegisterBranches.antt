@@ -6,7 +6,6 @@ use Rattle.vast_literal.specs.Tree.{StatementTree, ConditionalTree, Else, UnaryT
 use Rattle.vast_literal.specs.declared.operator.UnaryOperator.TheVariants.{LogicalNot as LogicalNotOp}
 use Rattle.vast_core.specs.declared.handle.Expr.{Expr}
 use Rattle.vast_core.specs.declared.handle.VastStatementBlock.{VastStatementBlock}
-use Rattle.vast_core.specs.Handles.{block_index}
 use Rattle.vast_core.specs.Nodes.{ExprRoot}
 use Rattle.vast_core.specs.Nests.{StatementEntry, ConditionalStatement, NestRecord, BlockRecord, ConditionalNestRecord}
 use Rattle.vast_core.specs.Bench.{Bench, OwnsExpr, OwnsBlock, OwnsConditional, tree_of}
@@ -43,23 +42,23 @@ active-made reset b h = active-case reset b reset.active_low refl h
 abbrev entered : Bench → NestedEntry
 entered b = StatementEnters (ConditionalStatement (next_conditional b))
 
-pub opened-changes : (condition : Expr) (block : VastStatementBlock) (b : Bench) → Changes (block_index block) b (with_if condition block b)
+pub opened-changes : (condition : Expr) (block : VastStatementBlock) (b : Bench) → Changes block.id.index b (with_if condition block b)
 unfolding with_if
 opened-changes condition block b =
-    let i : ℕ = block_index block in
+    let i : ℕ = block.id.index in
     let c : Bench = with_nest (new_conditional b condition) b in
     let two : Changes i b (with_block c) = changes-then i i b c (with_block c) (changes-nest i b (new_conditional b condition)) (changes-nest i c (BlockRecord [])) (inl refl) in
     changes-then i i b (with_block c) (with_if condition block b) two (changes-entry i (with_block c) (entered b)) (inl refl)
 
 pub opened-owned : (condition : Expr) (block : VastStatementBlock) (b : Bench) → OwnsConditional (with_if condition block b) (next_conditional b)
 unfolding with_if
-opened-owned condition block b = entered_conditional_owned (with_conditional condition b) (block_index block) (entered b) (next_conditional b) (next_conditional_owned b condition)
+opened-owned condition block b = entered_conditional_owned (with_conditional condition b) block.id.index (entered b) (next_conditional b) (next_conditional_owned b condition)
 
 opened-count : (condition : Expr) (block : VastStatementBlock) (b : Bench) → length (with_if condition block b).nests ≡ suc (suc (length b.nests))
 unfolding with_if
 opened-count condition block b =
     let d : Bench = with_conditional condition b in
-    let all = length-changed_at (with_entry (entered b)) d.nests (block_index block) in
+    let all = length-changed_at (with_entry (entered b)) d.nests block.id.index in
     let one = length-append b.nests (new_conditional b condition ∷ []) in
     let two = length-append (b.nests ++ new_conditional b condition ∷ []) (BlockRecord [] ∷ []) in
     omega (arith, all, one, two)
@@ -68,26 +67,26 @@ opened-there : (condition : Expr) (block : VastStatementBlock) (b : Bench) → O
 unfolding with_if
 opened-there condition block b h =
     let n : ℕ = length b.nests in
-    let below : block_index block < n = block-place b block h in
-    get-unchanged (with_entry (entered b)) (with_conditional condition b).nests n (block_index block) (λ e. absurd (omega (arith, below, e)))
+    let below : block.id.index < n = block-place b block h in
+    get-unchanged (with_entry (entered b)) (with_conditional condition b).nests n block.id.index (λ e. absurd (omega (arith, below, e)))
     ∙ slice_get-append (b.nests ++ new_conditional b condition ∷ []) (BlockRecord [] ∷ []) n (new_conditional b condition) (slice_get-seam b.nests (new_conditional b condition))
 
 opened-first : (condition : Expr) (block : VastStatementBlock) (b : Bench) → OwnsBlock b block → slice_get (with_if condition block b).nests (suc (length b.nests)) ≡ Some (BlockRecord [])
 unfolding with_if
 opened-first condition block b h =
     let n : ℕ = length b.nests in
-    let below : block_index block < n = block-place b block h in
+    let below : block.id.index < n = block-place b block h in
     let c : Bench = with_nest (new_conditional b condition) b in
     let count : length c.nests ≡ suc n = omega (arith, length-append b.nests (new_conditional b condition ∷ [])) in
-    get-unchanged (with_entry (entered b)) (with_conditional condition b).nests (suc n) (block_index block) (λ e. absurd (omega (arith, below, e)))
+    get-unchanged (with_entry (entered b)) (with_conditional condition b).nests (suc n) block.id.index (λ e. absurd (omega (arith, below, e)))
     ∙ rw count at (slice_get-seam c.nests (BlockRecord []))
 
 opened-block :
-    (condition : Expr) (block : VastStatementBlock) (b : Bench) (ss : List StatementEntry) → slice_get b.nests (block_index block) ≡ Some (BlockRecord ss) →
-    slice_get (with_if condition block b).nests (block_index block) ≡ Some (BlockRecord (ss ++ ConditionalStatement (next_conditional b) ∷ []))
+    (condition : Expr) (block : VastStatementBlock) (b : Bench) (ss : List StatementEntry) → slice_get b.nests block.id.index ≡ Some (BlockRecord ss) →
+    slice_get (with_if condition block b).nests block.id.index ≡ Some (BlockRecord (ss ++ ConditionalStatement (next_conditional b) ∷ []))
 unfolding with_if
 opened-block condition block b ss e =
-    let i : ℕ = block_index block in
+    let i : ℕ = block.id.index in
     get-changed (with_entry (entered b)) (with_conditional condition b).nests i (BlockRecord ss)
     (slice_get-append (b.nests ++ new_conditional b condition ∷ []) (BlockRecord [] ∷ []) i (BlockRecord ss) (slice_get-append b.nests (new_conditional b condition ∷ []) i (BlockRecord ss) e))
 
@@ -99,9 +98,9 @@ opened-else condition block b h = rw (opened-there condition block b h) refl
 
 -- Its `else` with the second block.
 
-pub both-changes : (condition : Expr) (block : VastStatementBlock) (b : Bench) → Changes (block_index block) b (with_if_else condition block b)
+pub both-changes : (condition : Expr) (block : VastStatementBlock) (b : Bench) → Changes block.id.index b (with_if_else condition block b)
 both-changes condition block b =
-    let i : ℕ = block_index block in
+    let i : ℕ = block.id.index in
     let c : Bench = with_if condition block b in
     let one : Changes i b (with_block c) = changes-then i i b c (with_block c) (opened-changes condition block b) (changes-nest i c (BlockRecord [])) (inl refl) in
     changes-then i (length b.nests) b (with_block c) (with_if_else condition block b) one (changes-entry (length b.nests) (with_block c) (ElseEnters (next_block c))) (inr (omega arith))
@@ -125,7 +124,7 @@ first-empty : (condition : Expr) (block : VastStatementBlock) (b : Bench) → Ow
 first-empty condition block b h =
     record { statements = []; there = both-else condition block b (suc (length b.nests)) (BlockRecord []) (λ e. absurd (omega (arith, e))) (opened-first condition block b h); reads = λ d w f. refl }
 
-second-empty : (condition : Expr) (block : VastStatementBlock) (b : Bench) → Stands (with_if_else condition block b) (block_index (second_block condition block b)) []
+second-empty : (condition : Expr) (block : VastStatementBlock) (b : Bench) → Stands (with_if_else condition block b) (second_block condition block b).id.index []
 second-empty condition block b =
     let c : Bench = with_if condition block b in
     let count = opened-count condition block b in
@@ -135,7 +134,7 @@ second-empty condition block b =
       reads = λ d w f. refl;
     }
 
-pub second-place : (condition : Expr) (block : VastStatementBlock) (b : Bench) → block_index (second_block condition block b) ≡ suc (suc (length b.nests))
+pub second-place : (condition : Expr) (block : VastStatementBlock) (b : Bench) → (second_block condition block b).id.index ≡ suc (suc (length b.nests))
 second-place condition block b = opened-count condition block b
 
 pub first-owned : (condition : Expr) (block : VastStatementBlock) (b : Bench) → OwnsBlock b block → OwnsBlock (with_if_else condition block b) (first_block b)
@@ -147,17 +146,17 @@ second-owned condition block b = let c : Bench = with_if condition block b in en
 
 -- The blocks are filled.
 
-pub branches-changes : (condition : Expr) (registers : List RegisterDefinition) (block : VastStatementBlock) (b : Bench) → Changes (block_index block) b (with_branches condition registers block b)
+pub branches-changes : (condition : Expr) (registers : List RegisterDefinition) (block : VastStatementBlock) (b : Bench) → Changes block.id.index b (with_branches condition registers block b)
 unfolding with_branches
 branches-changes condition registers block b =
-    let i : ℕ = block_index block in
+    let i : ℕ = block.id.index in
     let first : VastStatementBlock = first_block b in
     let second : VastStatementBlock = second_block condition block b in
     let place = second-place condition block b in
     let c : Bench = with_if_else condition block b in
     let d : Bench = with_all_assigned AtReset first registers c in
-    let one : Changes i b d = changes-then i (block_index first) b c d (both-changes condition block b) (all-assigned-changes AtReset first registers c) (inr (omega arith)) in
-    changes-then i (block_index second) b d (with_branches condition registers block b) one (all-assigned-changes OutsideReset second registers d) (inr (omega (arith, place)))
+    let one : Changes i b d = changes-then i first.id.index b c d (both-changes condition block b) (all-assigned-changes AtReset first registers c) (inr (omega arith)) in
+    changes-then i second.id.index b d (with_branches condition registers block b) one (all-assigned-changes OutsideReset second registers d) (inr (omega (arith, place)))
 
 -- What stands in the bench with both blocks, but not in them, stands there once they are filled.
 branches-keep :
@@ -187,7 +186,7 @@ stands-read b d m i k trees s past w = rw (w.containers k _ past s.there) (s.rea
 branches-stand :
     (condition : Expr) (registers : List RegisterDefinition) (block : VastStatementBlock) (b : Bench) → All (OwnsRegister b) registers → OwnsBlock b block →
     Stands (with_branches condition registers block b) (suc (length b.nests)) (assigned_all value_at_reset (register_trees b registers))
-    × Stands (with_branches condition registers block b) (block_index (second_block condition block b)) (assigned_all value_outside_reset (register_trees b registers))
+    × Stands (with_branches condition registers block b) (second_block condition block b).id.index (assigned_all value_outside_reset (register_trees b registers))
 unfolding with_branches
 branches-stand condition registers block b all own =
     let first : VastStatementBlock = first_block b in
@@ -196,14 +195,14 @@ branches-stand condition registers block b all own =
     let c : Bench = with_if_else condition block b in
     let d : Bench = with_all_assigned AtReset first registers c in
     let v : Wider b c = (both-changes condition block b).wider in
-    let k : Changes (block_index first) c d = all-assigned-changes AtReset first registers c in
+    let k : Changes first.id.index c d = all-assigned-changes AtReset first registers c in
     let l = all-assigned-changes OutsideReset second registers d in
     let in-c : All (OwnsRegister c) registers = registers-owned b c v registers all in
     let trees-c : register_trees c registers ≡ register_trees b registers = registers-kept b c v registers all in
     let trees-d : register_trees d registers ≡ register_trees b registers = registers-kept c d k.wider registers in-c ∙ trees-c in
-    let one : Stands d (block_index first) (assigned_all value_at_reset (register_trees b registers)) = rw trees-c at (all-assigned-stands AtReset first registers c [] in-c (first-empty condition block b own)) in
-    let empty : Stands d (block_index second) [] = stands-kept (block_index second) (block_index first) c d [] k (λ e. absurd (omega (arith, place, e))) (second-empty condition block b) in (
-      stands-kept (block_index first) (block_index second) d _ _ l (λ e. absurd (omega (arith, place, e))) one,
+    let one : Stands d first.id.index (assigned_all value_at_reset (register_trees b registers)) = rw trees-c at (all-assigned-stands AtReset first registers c [] in-c (first-empty condition block b own)) in
+    let empty : Stands d second.id.index [] = stands-kept second.id.index first.id.index c d [] k (λ e. absurd (omega (arith, place, e))) (second-empty condition block b) in (
+      stands-kept first.id.index second.id.index d _ _ l (λ e. absurd (omega (arith, place, e))) one,
       rw trees-d at (all-assigned-stands OutsideReset second registers d [] (registers-owned c d k.wider registers in-c) empty),
     )
 
@@ -222,7 +221,7 @@ branches-read condition registers block b d i m low h all own s =
       there,
       wider_tree b d w condition h,
       stands-read e d m i (suc (length b.nests)) _ both.0 (omega (arith, low)) s,
-      stands-read e d m i (block_index (second_block condition block b)) _ both.1 (omega (arith, low, place)) s,
+      stands-read e d m i (second_block condition block b).id.index _ both.1 (omega (arith, low, place)) s,
     ) refl
 
 -- A block of assignments, and behind them perhaps a conditional.
@@ -235,18 +234,18 @@ plain-read b i trees s d w =
     let depth : length d.nests ≡ suc (length d.nests - 1) = omega (arith, below) in
     rw depth (stands-read b d (length d.nests - 1) i i trees s (omega arith) w)
 
-pub reset-changes : (reset : Reset) (registers : List RegisterDefinition) (block : VastStatementBlock) (b : Bench) → Changes (block_index block) b (with_reset reset registers block b)
+pub reset-changes : (reset : Reset) (registers : List RegisterDefinition) (block : VastStatementBlock) (b : Bench) → Changes block.id.index b (with_reset reset registers block b)
 reset-changes reset registers block b =
-    let i : ℕ = block_index block in
+    let i : ℕ = block.id.index in
     changes-then i i b (with_active reset b) (with_reset reset registers block b) (active-changes i reset b) (branches-changes (active_expr reset b) registers block (with_active reset b)) (inl refl)
 
 reset-read :
     (reset : Reset) (registers : List RegisterDefinition) (block : VastStatementBlock) (b : Bench) (trees : List StatementTree) → list_any is_resettable registers ≡ true →
-    OwnsReset b reset → All (OwnsRegister b) registers → OwnsBlock b block → Stands b (block_index block) trees →
-    IsBlockOf (with_reset reset registers block b) (block_index block) (trees ++ by_reset (Some (reset_tree b reset)) (register_trees b registers))
+    OwnsReset b reset → All (OwnsRegister b) registers → OwnsBlock b block → Stands b block.id.index trees →
+    IsBlockOf (with_reset reset registers block b) block.id.index (trees ++ by_reset (Some (reset_tree b reset)) (register_trees b registers))
 unfolding families
 reset-read reset registers block b trees any h all own s d w =
-    let i : ℕ = block_index block in
+    let i : ℕ = block.id.index in
     let c : Bench = with_active reset b in
     let condition : Expr = active_expr reset b in
     let e : Bench = with_branches condition registers block c in
@@ -259,7 +258,7 @@ reset-read reset registers block b trees any h all own s d w =
     let there = w.containers i _ (omega arith) (branches-keep condition registers block c i _ (omega (arith, below)) (both-else condition block c i _ (λ q. absurd (omega (arith, below, q))) (opened-block condition block c here.statements here.there))) in
     let in-c : All (OwnsRegister c) registers = registers-owned b c k.wider registers all in
     let place = second-place condition block c in
-    let deep = get-within d.nests _ _ (w.containers (block_index (second_block condition block c)) _ (omega (arith, below, place)) (branches-stand condition registers block c in-c owned).1.there) in
+    let deep = get-within d.nests _ _ (w.containers (second_block condition block c).id.index _ (omega (arith, below, place)) (branches-stand condition registers block c in-c owned).1.there) in
     let m : ℕ = length d.nests - 3 in
     let depth : length d.nests ≡ suc (suc (suc m)) = omega (arith, deep, place) in
     let branch = rw (made.1, same) at (branches-read condition registers block c d i m (omega (arith, below)) made.0 in-c owned w) in
@@ -267,19 +266,19 @@ reset-read reset registers block b trees any h all own s d w =
     rw (any-tree b registers, any, branch) refl in
     rw (depth, there) (statements-append d (unfolded d (suc (suc m))) here.statements _ trees _ (here.reads d (wider-wider c e d (branches-changes condition registers block c).wider w.wider) (unfolded d (suc (suc m)))) last)
 
-pub maybe-reset-changes : (reset : Option Reset) (registers : List RegisterDefinition) (block : VastStatementBlock) (b : Bench) → Changes (block_index block) b (with_maybe_reset reset registers block b)
-maybe-reset-changes None registers block b = changes-none (block_index block) b
-maybe-reset-changes (Some reset) registers block b = if-changes (block_index block) b (with_reset reset registers block b) b (list_any is_resettable registers) (reset-changes reset registers block b) (changes-none (block_index block) b)
+pub maybe-reset-changes : (reset : Option Reset) (registers : List RegisterDefinition) (block : VastStatementBlock) (b : Bench) → Changes block.id.index b (with_maybe_reset reset registers block b)
+maybe-reset-changes None registers block b = changes-none block.id.index b
+maybe-reset-changes (Some reset) registers block b = if-changes block.id.index b (with_reset reset registers block b) b (list_any is_resettable registers) (reset-changes reset registers block b) (changes-none block.id.index b)
 
 read-case :
     (reset : Reset) (registers : List RegisterDefinition) (block : VastStatementBlock) (b : Bench) (trees : List StatementTree) (t : Bool) → list_any is_resettable registers ≡ t →
-    OwnsReset b reset → All (OwnsRegister b) registers → OwnsBlock b block → Stands b (block_index block) trees →
-    IsBlockOf (with_maybe_reset (Some reset) registers block b) (block_index block) (trees ++ by_reset (Some (reset_tree b reset)) (register_trees b registers))
+    OwnsReset b reset → All (OwnsRegister b) registers → OwnsBlock b block → Stands b block.id.index trees →
+    IsBlockOf (with_maybe_reset (Some reset) registers block b) block.id.index (trees ++ by_reset (Some (reset_tree b reset)) (register_trees b registers))
 read-case reset registers block b trees true e h all own s = let x = reset-read reset registers block b trees e h all own s in rw e x
-read-case reset registers block b trees false e h all own s = rw (any-tree b registers, e, append-nil trees) (plain-read b (block_index block) trees s)
+read-case reset registers block b trees false e h all own s = rw (any-tree b registers, e, append-nil trees) (plain-read b block.id.index trees s)
 
 pub maybe-reset-read :
     (reset : Option Reset) (registers : List RegisterDefinition) (block : VastStatementBlock) (b : Bench) (trees : List StatementTree) → IfSome reset (OwnsReset b) → All (OwnsRegister b) registers → OwnsBlock b block →
-    Stands b (block_index block) trees → IsBlockOf (with_maybe_reset reset registers block b) (block_index block) (trees ++ by_reset (maybe_reset_tree b reset) (register_trees b registers))
-maybe-reset-read None registers block b trees h all own s = rw (append-nil trees) (plain-read b (block_index block) trees s)
+    Stands b block.id.index trees → IsBlockOf (with_maybe_reset reset registers block b) block.id.index (trees ++ by_reset (maybe_reset_tree b reset) (register_trees b registers))
+maybe-reset-read None registers block b trees h all own s = rw (append-nil trees) (plain-read b block.id.index trees s)
 maybe-reset-read (Some reset) registers block b trees h all own s = read-case reset registers block b trees (list_any is_resettable registers) refl h all own s

@@ -8,9 +8,8 @@ use Rattle.vast_literal.specs.Fault.{RefusedBy}
 use Rattle.vast_core.specs.declared.handle.Expr.{Expr}
 use Rattle.vast_core.specs.declared.handle.VastStatementBlock.{VastStatementBlock}
 use Rattle.vast_literal.specs.declared.kind.AlwaysKind.TheVariants.{AlwaysFF}
-use Rattle.vast_core.specs.Handles.{block_index, loop_index}
 use Rattle.vast_core.specs.Nodes.{ExprRoot}
-use Rattle.vast_core.specs.Records.{AlwaysEntry}
+use Rattle.vast_core.specs.declared.node.Member.TheVariants.{Always as AlwaysEntry}
 use Rattle.vast_core.specs.Nests.{BlockRecord}
 use Rattle.vast_core.specs.Bench.{Bench, OwnsExpr, OwnsBlock, tree_of}
 use Rattle.vast_core.specs.Sound.{EventSound}
@@ -107,7 +106,7 @@ block-spare reset registers b = (block-changes reset registers b).spare
 
 pub scope-owned : (old now : Bench) (scope : RegisterScope) → HasUnused old now → OwnsScope old scope → OwnsScope now scope
 scope-owned old now (ModuleScope owner) h k = rw h.after k
-scope-owned old now (LoopScope owner) h k = rw h.after (record { of_file = k.of_file; of_kind = rw (get-before old.nests h.containers (loop_index owner) (loop-place old owner k)) k.of_kind })
+scope-owned old now (LoopScope owner) h k = rw h.after (record { of_file = k.of_file; of_kind = rw (get-before old.nests h.containers owner.id.index (loop-place old owner k)) k.of_kind })
 
 pub scope-older : (b : Bench) (scope : RegisterScope) → OwnsScope b scope → IsOlderScope scope (next_block b)
 scope-older b (ModuleScope owner) k = tt
@@ -115,14 +114,14 @@ scope-older b (LoopScope owner) k = loop-place b owner k
 
 -- The member.
 
-clocked-stays : (scope : RegisterScope) (clk : Expr) (block : VastStatementBlock) (i : ℕ) (b : Bench) → IsOlderScope scope block → i ≡ block_index block → StaysFrom i b (with_clocked_at clk scope block b)
+clocked-stays : (scope : RegisterScope) (clk : Expr) (block : VastStatementBlock) (i : ℕ) (b : Bench) → IsOlderScope scope block → i ≡ block.id.index → StaysFrom i b (with_clocked_at clk scope block b)
 clocked-stays (ModuleScope owner) clk block i b older is =
     record { wider = record { nodes = Extends-root b.nodes (ExprRoot (PosEdgeTree (tree_of b clk))); assignments = λ k a e. e }; containers = λ k n past e. e }
 clocked-stays (LoopScope owner) clk block i b older is =
     record {
       wider = record { nodes = Extends-root b.nodes (ExprRoot (PosEdgeTree (tree_of b clk))); assignments = λ k a e. e };
       containers = λ k n past e.
-          get-unchanged (with_entry (MemberEnters (AlwaysEntry (next_always b)))) b.nests k (loop_index owner) (λ s. absurd (omega (arith, past, older, is, s))) ∙ e;
+          get-unchanged (with_entry (MemberEnters (AlwaysEntry (next_always b)))) b.nests k owner.id.index (λ s. absurd (omega (arith, past, older, is, s))) ∙ e;
     }
 
 clocked-there :

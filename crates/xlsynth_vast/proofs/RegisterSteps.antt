@@ -5,7 +5,6 @@ use Rattle.std.specs.declared.alloc.AllocError.{AllocError}
 use Rattle.vast_core.specs.declared.handle.Expr.{Expr}
 use Rattle.vast_core.specs.declared.handle.Conditional.{Conditional}
 use Rattle.vast_core.specs.declared.handle.VastStatementBlock.{VastStatementBlock}
-use Rattle.vast_core.specs.Handles.{block_index, conditional_index}
 use Rattle.vast_core.specs.Nests.{AssignStatement, ConditionalStatement}
 use Rattle.vast_core.specs.Bench.{Bench, OwnsExpr, OwnsBlock, OwnsConditional}
 use Rattle.vast_core.specs.Sound.{EventSound}
@@ -37,7 +36,7 @@ pub stays-same : (old new : Bench) (block : VastStatementBlock) → new ≡ old 
 stays-same old new block e = λ start u past. rw e u
 
 -- After changes of the block, this block or one that is newer than the file was filled.
-pub stays-then : (old now new : Bench) (block x : VastStatementBlock) → Changes (block_index block) old now → (block_index x ≡ block_index block) ⊎ (length old.nests ≤ block_index x) → StaysUnused x now new → StaysUnused block old new
+pub stays-then : (old now new : Bench) (block x : VastStatementBlock) → Changes block.id.index old now → (x.id.index ≡ block.id.index) ⊎ (length old.nests ≤ x.id.index) → StaysUnused x now new → StaysUnused block old new
 stays-then old now new block x k (inl same) h = λ start u past. h start (k.unused start u past) (omega (arith, same, past))
 stays-then old now new block x k (inr behind) h = λ start u past. let count = unused-count start old u in h start (k.unused start u past) (omega (arith, behind, count))
 
@@ -47,8 +46,8 @@ pub value-owned : (share : Share) (r : RegisterDefinition) (old now : Bench) (o 
 value-owned share r old now o value h e is =
     let k : value_expr share r old ≡ Some value = sym e.0 ∙ is in rw e.1 ((rw k at (value-made share r old h)).0)
 
-pub value-still : (share : Share) (r : RegisterDefinition) (old now : Bench) (block : VastStatementBlock) → now ≡ with_value share r old → Changes (block_index block) old now
-value-still share r old now block e = rw e (value-changes (block_index block) share r old)
+pub value-still : (share : Share) (r : RegisterDefinition) (old now : Bench) (block : VastStatementBlock) → now ≡ with_value share r old → Changes block.id.index old now
+value-still share r old now block e = rw e (value-changes block.id.index share r old)
 
 pub assigned-value :
     (share : Share) (block : VastStatementBlock) (r : RegisterDefinition) (old now new : Bench) (o : Option Expr) (value : Expr) → (o ≡ value_expr share r old) × (now ≡ with_value share r old) → o ≡ Some value →
@@ -71,12 +70,12 @@ conditional-owned b c condition block x e = rw (e.0, e.1) (opened-owned conditio
 
 pub conditional-open :
     (b c : Bench) (condition : Expr) (block : VastStatementBlock) (x : Conditional) → OwnsBlock b block → (x ≡ next_conditional b) × (c ≡ with_statement block (ConditionalStatement (next_conditional b)) (with_conditional condition b)) →
-    has_else (slice_get c.nests (conditional_index x)) ≡ false
+    has_else (slice_get c.nests x.id.index) ≡ false
 unfolding with_if
 conditional-open b c condition block x own e = rw (e.0, e.1) (opened-else condition block b own)
 
 pub opened-stays :
-    (b c : Bench) (condition : Expr) (block : VastStatementBlock) → c ≡ with_statement block (ConditionalStatement (next_conditional b)) (with_conditional condition b) → Changes (block_index block) b c
+    (b c : Bench) (condition : Expr) (block : VastStatementBlock) → c ≡ with_statement block (ConditionalStatement (next_conditional b)) (with_conditional condition b) → Changes block.id.index b c
 unfolding with_if
 opened-stays b c condition block e = rw e (opened-changes condition block b)
 
@@ -102,8 +101,8 @@ both b c d condition block x first second own opened then closed =
 
 -- The same behind the condition of a reset.
 
-pub condition-changes : (reset : Reset) (block : VastStatementBlock) (old b : Bench) → b ≡ with_active reset old → Changes (block_index block) old b
-condition-changes reset block old b e = rw e (active-changes (block_index block) reset old)
+pub condition-changes : (reset : Reset) (block : VastStatementBlock) (old b : Bench) → b ≡ with_active reset old → Changes block.id.index old b
+condition-changes reset block old b e = rw e (active-changes block.id.index reset old)
 
 pub condition-owned : (reset : Reset) (old b : Bench) (condition : Expr) → OwnsReset old reset → (condition ≡ active_expr reset old) × (b ≡ with_active reset old) → OwnsExpr b condition
 condition-owned reset old b condition h e = rw (e.0, e.1) (active-made reset old h).0
@@ -113,20 +112,20 @@ pub both-behind :
     (condition ≡ active_expr reset old) × (b ≡ with_active reset old) → (x ≡ next_conditional b) × (c ≡ with_statement block (ConditionalStatement (next_conditional b)) (with_conditional condition b)) →
     then_block_at c x ≡ Some first → (second ≡ next_block c) × (d ≡ with_else x c) → Both (with_active reset old) d (active_expr reset old) block first second
 both-behind old b c d reset condition block x first second own e opened then closed =
-    both (with_active reset old) c d (active_expr reset old) block x first second ((active-changes (block_index block) reset old).blocks block own) (rw (e.0, e.1) at opened) then closed
+    both (with_active reset old) c d (active_expr reset old) block x first second ((active-changes block.id.index reset old).blocks block own) (rw (e.0, e.1) at opened) then closed
 
 -- What there was stays, and both blocks are new.
 pub record Ready (old d : Bench) (block first second : VastStatementBlock) : Type 0 where
-  pub changes : Changes (block_index block) old d
+  pub changes : Changes block.id.index old d
   pub first_owned : OwnsBlock d first
   pub second_owned : OwnsBlock d second
-  pub first_past : length old.nests ≤ block_index first
-  pub second_past : length old.nests ≤ block_index second
+  pub first_past : length old.nests ≤ first.id.index
+  pub second_past : length old.nests ≤ second.id.index
 
 pub ready :
     (old d : Bench) (reset : Reset) (block first second : VastStatementBlock) → OwnsBlock old block → Both (with_active reset old) d (active_expr reset old) block first second → Ready old d block first second
 ready old d reset block first second own k =
-    let i : ℕ = block_index block in
+    let i : ℕ = block.id.index in
     let b : Bench = with_active reset old in
     let condition : Expr = active_expr reset old in
     let w : Changes i old b = active-changes i reset old in
@@ -142,9 +141,9 @@ ready old d reset block first second own k =
 
 -- After the first of them is filled.
 pub half-changes :
-    (old d e : Bench) (block first second : VastStatementBlock) (registers : List RegisterDefinition) → Ready old d block first second → e ≡ with_all_assigned AtReset first registers d → Changes (block_index block) old e
+    (old d e : Bench) (block first second : VastStatementBlock) (registers : List RegisterDefinition) → Ready old d block first second → e ≡ with_all_assigned AtReset first registers d → Changes block.id.index old e
 half-changes old d e block first second registers k is =
-    rw is (changes-then (block_index block) (block_index first) old d (with_all_assigned AtReset first registers d) k.changes (all-assigned-changes AtReset first registers d) (inr k.first_past))
+    rw is (changes-then block.id.index first.id.index old d (with_all_assigned AtReset first registers d) k.changes (all-assigned-changes AtReset first registers d) (inr k.first_past))
 
 pub half-owned : (d e : Bench) (first second : VastStatementBlock) (registers : List RegisterDefinition) → OwnsBlock d second → e ≡ with_all_assigned AtReset first registers d → OwnsBlock e second
 half-owned d e first second registers own is = rw is ((all-assigned-changes AtReset first registers d).blocks second own)

@@ -17,7 +17,6 @@ use Rattle.vast_literal.specs.declared.error.VastFault.TheVariants.{Memory}
 use Rattle.vast_literal.specs.Fault.{OnlyRefusedBy}
 use Rattle.vast_core.specs.declared.handle.VastModule.{VastModule}
 use Rattle.vast_core.specs.declared.handle.VastFunction.{VastFunction}
-use Rattle.vast_core.specs.Handles.{module_index, function_index}
 use Rattle.vast_core.specs.Bench.{Bench}
 use Rattle.vast_core.specs.Records.{ModuleRecord, IsFree, with_name, in_byte_order}
 use Rattle.vast_core.specs.Nests.{FunctionRecord}
@@ -99,19 +98,19 @@ taken-refused kind name names h = taken-case (already_declared kind name names) 
 
 -- The same of the record that a module has.
 
-pub allowed_there : (kind name : List ℕ) (b : Bench) (m : VastModule) (r : ModuleRecord) → slice_get b.modules (module_index m) ≡ Some r → IsFree name r.names → unless_taken kind name (names_in b m) ≡ Ok tt
+pub allowed_there : (kind name : List ℕ) (b : Bench) (m : VastModule) (r : ModuleRecord) → slice_get b.modules m.id.index ≡ Some r → IsFree name r.names → unless_taken kind name (names_in b m) ≡ Ok tt
 allowed_there kind name b m r e h = rw e (free-allowed kind name r.names h)
 
-pub refused_there : (kind name : List ℕ) (b : Bench) (m : VastModule) (r : ModuleRecord) → slice_get b.modules (module_index m) ≡ Some r → (IsFree name r.names → ⊥) → unless_taken kind name (names_in b m) ≡ Err (already_declared kind name r.names)
+pub refused_there : (kind name : List ℕ) (b : Bench) (m : VastModule) (r : ModuleRecord) → slice_get b.modules m.id.index ≡ Some r → (IsFree name r.names → ⊥) → unless_taken kind name (names_in b m) ≡ Err (already_declared kind name r.names)
 refused_there kind name b m r e h = rw e (taken-refused kind name r.names h)
 
 -- The same of the record that a function has.
 
-pub allowed_in_function : (kind name : List ℕ) (b : Bench) (f : VastFunction) (r : FunctionRecord) → slice_get b.functions (function_index f) ≡ Some r → IsFree name r.names → unless_taken_in_function kind name b f ≡ Ok tt
+pub allowed_in_function : (kind name : List ℕ) (b : Bench) (f : VastFunction) (r : FunctionRecord) → slice_get b.functions f.id.index ≡ Some r → IsFree name r.names → unless_taken_in_function kind name b f ≡ Ok tt
 allowed_in_function kind name b f r e h = rw e (rw (not-among name r.names h) refl)
 
 pub refused_in_function :
-    (kind name : List ℕ) (b : Bench) (f : VastFunction) (r : FunctionRecord) → slice_get b.functions (function_index f) ≡ Some r → (IsFree name r.names → ⊥) →
+    (kind name : List ℕ) (b : Bench) (f : VastFunction) (r : FunctionRecord) → slice_get b.functions f.id.index ≡ Some r → (IsFree name r.names → ⊥) →
     unless_taken_in_function kind name b f ≡ Err (declared_in_function kind name r.name r.names)
 refused_in_function kind name b f r e h = rw e (taken-case (declared_in_function kind name r.name r.names) name r.names (is_among r.names name) refl h)
 

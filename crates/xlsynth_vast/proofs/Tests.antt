@@ -5,7 +5,6 @@ use lib.Dec.{T}
 use lib.Signed.{le_z_yes}
 use Rattle.vast_literal.specs.Keyword.{is_among}
 use Rattle.vast_core.specs.declared.handle.VastModule.{VastModule}
-use Rattle.vast_core.specs.Handles.{module_index}
 use Rattle.vast_core.specs.Records.{ModuleRecord, IsFree}
 use Rattle.vast_core.specs.Bench.{Bench}
 use Rattle.vast_core.proofs.Sound.{never}
@@ -17,7 +16,7 @@ free-test name names true h = rw (not-among name names (h.0 refl)) refl
 free-test name names false h = rw (among name names (λ free. never (h.1 free))) refl
 
 -- Of the record that a module has.
-pub free_there : (b : Bench) (m : VastModule) (r : ModuleRecord) (name : List ℕ) (t : Bool) → slice_get b.modules (module_index m) ≡ Some r → (IsTrue t ↔ IsFree name r.names) → t ≡ is_free b m name
+pub free_there : (b : Bench) (m : VastModule) (r : ModuleRecord) (name : List ℕ) (t : Bool) → slice_get b.modules m.id.index ≡ Some r → (IsTrue t ↔ IsFree name r.names) → t ≡ is_free b m name
 unfolding is_free
 free_there b m r name t e h = rw e (free-test name r.names t h)
 

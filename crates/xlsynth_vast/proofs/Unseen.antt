@@ -11,10 +11,15 @@ use Rattle.vast_literal.specs.declared.kind.VastFileType.{VastFileType}
 use Rattle.vast_core.specs.declared.node.Assignment.{Assignment}
 use Rattle.vast_core.specs.declared.node.ElseIf.{ElseIf}
 use Rattle.vast_core.specs.declared.node.CaseArm.{CaseArm}
-use Rattle.vast_core.specs.Handles.{module_index, port_index, block_index, conditional_index, case_index, loop_index, always_index, function_index, statement_index, continuous_index, definition_index, comment_index, inline_index, macro_statement_index, instantiation_index, macro_ref_to_expr}
 use Rattle.vast_core.specs.Nodes.{maybe_type_in, maybe_expr_in}
-use Rattle.vast_core.specs.Records.{PortRecord, ParameterPortRecord, ModuleRecord, FormEntry, PlainForm, IntForm, DefinedForm, MemberEntry, DeclarationEntry, AssignmentEntry, ParameterEntry, BlankEntry, CommentEntry, InlineEntry, MacroEntry, InstanceEntry, FunctionEntry, AlwaysEntry, ConditionalEntry, LoopEntry, FileEntry, ModuleEntry, IncludeEntry, FileCommentEntry, FileBlankEntry, DefinitionRecord, ArtifactRecord, BlankLineRecord, CommentRecord, InlineRecord, MacroRecord, ConnectionRecord, InstanceRecord}
-use Rattle.vast_core.specs.Nests.{StatementEntry, AssignStatement, ContinuousStatement, ConditionalStatement, CasesStatement, BlankStatement, CommentStatement, InlineStatement, NestRecord, BlockRecord, ConditionalNestRecord, CaseNestRecord, LoopNestRecord, VariableRecord, FunctionRecord, AlwaysRecord}
+use Rattle.vast_core.specs.Records.{ParameterPortRecord, ModuleRecord, FileEntry, ModuleEntry, IncludeEntry, FileCommentEntry, FileBlankEntry, DefinitionRecord, ArtifactRecord, BlankLineRecord, CommentRecord, InlineRecord, MacroRecord, ConnectionRecord, InstanceRecord}
+use Rattle.vast_core.specs.declared.node.Port.{Port}
+use Rattle.vast_core.specs.declared.node.ParameterForm.{ParameterForm}
+use Rattle.vast_core.specs.declared.node.Member.{Member}
+use Rattle.vast_core.specs.declared.node.Member.TheVariants.{Declaration as DeclarationEntry, ContinuousAssignment as AssignmentEntry, Parameter as ParameterEntry, BlankLine as BlankEntry, Comment as CommentEntry, Inline as InlineEntry, Macro as MacroEntry, Instantiation as InstanceEntry, Function as FunctionEntry, Always as AlwaysEntry, Conditional as ConditionalEntry, Loop as LoopEntry}
+use Rattle.vast_core.specs.declared.node.ParameterForm.TheVariants.{Plain as PlainForm, Int as IntForm, Defined as DefinedForm}
+use Rattle.vast_core.specs.Nests.{StatementEntry, AssignStatement, ContinuousStatement, ConditionalStatement, CasesStatement, BlankStatement, CommentStatement, InlineStatement, NestRecord, BlockRecord, ConditionalNestRecord, CaseNestRecord, LoopNestRecord, FunctionRecord, AlwaysRecord}
+use Rattle.vast_core.specs.declared.node.FunctionVariable.{FunctionVariable}
 use Rattle.vast_core.specs.Bench.{Bench, OwnsExpr, OwnsType, is_continuous, tree_of, type_of, maybe_tree_of, trees_of}
 use Rattle.vast_core.specs.Sound.{Each, HoldsBlock, EventSound, VariableSound, ConnectionSound, PortSound, ParameterPortSound, AssignmentSound, DefinitionSound, ArtifactSound, InstanceSound, MemberSound, StatementSound, ElseIfSound, CaseArmSound, AlwaysNewer, MemberNewer, LoopMemberSound, NestSound, FunctionSound, AlwaysSound, ModuleSound, RecordsSound}
 use Rattle.vast_core.specs.FileTree.{Family, BlockFamily, block_in, conditional_statement, case_statement, conditional_member, loop_member, definition_tree, form_tree, artifact_member, connection_tree, instance_member, statement_in, statements_in, otherwise_in, alternates_in, arms_in, always_in, variable_tree, function_in, member_in, members_in, family, unfolded, families, maybe_port_tree, port_tree, parameter_port_tree, maybe_module_tree, item_tree, tree}
@@ -121,18 +126,18 @@ definition-alike : (b c : Bench) → Alike b c → (o : Option DefinitionRecord)
 definition-alike b c a None h = refl
 definition-alike b c a (Some d) h = rw (type-alike b c a d.data_type h) refl
 
-form-alike : (b c : Bench) → Alike b c → (f : FormEntry) → form_tree c f ≡ form_tree b f
+form-alike : (b c : Bench) → Alike b c → (f : ParameterForm) → form_tree c f ≡ form_tree b f
 form-alike b c a (PlainForm name) = refl
 form-alike b c a (IntForm name) = refl
 form-alike b c a (DefinedForm d) =
-    rw (a.definitions, definition-alike b c a (slice_get b.definitions (definition_index d)) (found (DefinitionSound b) b.definitions (definition_index d) (slice_get b.definitions (definition_index d)) a.sound.definitions refl)) refl
+    rw (a.definitions, definition-alike b c a (slice_get b.definitions d.id.index) (found (DefinitionSound b) b.definitions d.id.index (slice_get b.definitions d.id.index) a.sound.definitions refl)) refl
 
 artifact-alike : (b c : Bench) → Alike b c → (o : Option ArtifactRecord) → IfSome o (ArtifactSound b) → artifact_member c o ≡ artifact_member b o
 artifact-alike b c a None h = refl
 artifact-alike b c a (Some BlankLineRecord) h = refl
 artifact-alike b c a (Some (CommentRecord text)) h = refl
 artifact-alike b c a (Some (InlineRecord text)) h = refl
-artifact-alike b c a (Some (MacroRecord call semicolon)) h = rw (expr-alike b c a (macro_ref_to_expr call) (macro_ref_is_expr b call h)) refl
+artifact-alike b c a (Some (MacroRecord call semicolon)) h = rw (expr-alike b c a (record { id = call.id }) (macro_ref_is_expr b call h)) refl
 
 artifact-at : (b c : Bench) → Alike b c → (i : ℕ) → artifact_member c (slice_get c.artifacts i) ≡ artifact_member b (slice_get b.artifacts i)
 artifact-at b c a i = rw a.artifacts (artifact-alike b c a (slice_get b.artifacts i) (found (ArtifactSound b) b.artifacts i (slice_get b.artifacts i) a.sound.artifacts refl))
@@ -148,7 +153,7 @@ instance-alike b c a (Some x) h = rw (connections-alike b c a x.parameters h.par
 instance-at : (b c : Bench) → Alike b c → (i : ℕ) → instance_member c (slice_get c.instances i) ≡ instance_member b (slice_get b.instances i)
 instance-at b c a i = rw a.instances (instance-alike b c a (slice_get b.instances i) (found (InstanceSound b) b.instances i (slice_get b.instances i) a.sound.instances refl))
 
-variables-alike : (b c : Bench) → Alike b c → (xs : List VariableRecord) → Each (VariableSound b) xs → map (variable_tree c) xs ≡ map (variable_tree b) xs
+variables-alike : (b c : Bench) → Alike b c → (xs : List FunctionVariable) → Each (VariableSound b) xs → map (variable_tree c) xs ≡ map (variable_tree b) xs
 variables-alike b c a [] h = refl
 variables-alike b c a (x ∷ xs) h = rw (type-alike b c a x.data_type h.0, variables-alike b c a xs h.1) refl
 
@@ -158,10 +163,10 @@ pub record Meet (b : Bench) (from : ℕ) (f g : ℕ → Family) : Type 0 where
   pub at : (j : ℕ) → from ≤ j → j < length b.nests → f j ≡ g j
 
 statement-alike : (b c : Bench) → Alike b c → (f g : ℕ → Family) (i : ℕ) → Meet b (suc i) f g → (s : StatementEntry) → StatementSound b i s → statement_in c f s ≡ statement_in b g s
-statement-alike b c a f g i q (AssignStatement s) h = let x = statement-at b c a (statement_index s) h.of_kind in rw (x.here, x.there, x.left, x.right) refl
-statement-alike b c a f g i q (ContinuousStatement s) h = let x = statement-at b c a (statement_index s) h.of_kind in rw (x.here, x.there, x.left, x.right) refl
-statement-alike b c a f g i q (ConditionalStatement x) h = ap conditional_statement (q.at (conditional_index x) h.1 (conditional-place b x h.0))
-statement-alike b c a f g i q (CasesStatement x) h = ap case_statement (q.at (case_index x) h.1 (case-place b x h.0))
+statement-alike b c a f g i q (AssignStatement s) h = let x = statement-at b c a s.id.index h.of_kind in rw (x.here, x.there, x.left, x.right) refl
+statement-alike b c a f g i q (ContinuousStatement s) h = let x = statement-at b c a s.id.index h.of_kind in rw (x.here, x.there, x.left, x.right) refl
+statement-alike b c a f g i q (ConditionalStatement x) h = ap conditional_statement (q.at x.id.index h.1 (conditional-place b x h.0))
+statement-alike b c a f g i q (CasesStatement x) h = ap case_statement (q.at x.id.index h.1 (case-place b x h.0))
 statement-alike b c a f g i q BlankStatement h = refl
 statement-alike b c a f g i q (CommentStatement text) h = refl
 statement-alike b c a f g i q (InlineStatement text) h = refl
@@ -172,8 +177,8 @@ statements-alike b c a f g i q (s ∷ ss) h =
     ap (λ x. MoreStatements x (statements_in c f ss)) (statement-alike b c a f g i q s h.0)
     ∙ ap (λ x. MoreStatements (statement_in b g s) x) (statements-alike b c a f g i q ss h.1)
 
-held-alike : (b : Bench) (f g : ℕ → Family) (i : ℕ) → Meet b (suc i) f g → (x : VastStatementBlock) → HoldsBlock b i x → f (block_index x) ≡ g (block_index x)
-held-alike b f g i q x h = q.at (block_index x) h.1 (block-place b x h.0)
+held-alike : (b : Bench) (f g : ℕ → Family) (i : ℕ) → Meet b (suc i) f g → (x : VastStatementBlock) → HoldsBlock b i x → f x.id.index ≡ g x.id.index
+held-alike b f g i q x h = q.at x.id.index h.1 (block-place b x h.0)
 
 otherwise-alike : (b : Bench) (f g : ℕ → Family) (i : ℕ) → Meet b (suc i) f g → (o : Option VastStatementBlock) → IfSome o (HoldsBlock b i) → otherwise_in f o ≡ otherwise_in g o
 otherwise-alike b f g i q None h = refl
@@ -184,25 +189,25 @@ alternates-alike :
     alternates_in c f arms o ≡ alternates_in b g arms o
 alternates-alike b c a f g i q [] o h k = otherwise-alike b f g i q o k
 alternates-alike b c a f g i q (x ∷ arms) o h k =
-    ap (λ y. ElseIfTree y (block_in (f (block_index x.block))) (alternates_in c f arms o)) (expr-alike b c a x.condition h.0.0)
+    ap (λ y. ElseIfTree y (block_in (f x.block.id.index)) (alternates_in c f arms o)) (expr-alike b c a x.condition h.0.0)
     ∙ ap (λ y. ElseIfTree (tree_of b x.condition) (block_in y) (alternates_in c f arms o)) (held-alike b f g i q x.block h.0.1)
-    ∙ ap (λ y. ElseIfTree (tree_of b x.condition) (block_in (g (block_index x.block))) y) (alternates-alike b c a f g i q arms o h.1 k)
+    ∙ ap (λ y. ElseIfTree (tree_of b x.condition) (block_in (g x.block.id.index)) y) (alternates-alike b c a f g i q arms o h.1 k)
 
 arms-alike : (b c : Bench) → Alike b c → (f g : ℕ → Family) (i : ℕ) → Meet b (suc i) f g → (arms : List CaseArm) → Each (CaseArmSound b i) arms → arms_in c f arms ≡ arms_in b g arms
 arms-alike b c a f g i q [] h = refl
 arms-alike b c a f g i q (x ∷ arms) h =
-    ap (λ y. CaseArmTree y (block_in (f (block_index x.block))) (arms_in c f arms)) (maybe-expr b c a x.label h.0.0)
+    ap (λ y. CaseArmTree y (block_in (f x.block.id.index)) (arms_in c f arms)) (maybe-expr b c a x.label h.0.0)
     ∙ ap (λ y. CaseArmTree (maybe_tree_of b x.label) (block_in y) (arms_in c f arms)) (held-alike b f g i q x.block h.0.1)
-    ∙ ap (λ y. CaseArmTree (maybe_tree_of b x.label) (block_in (g (block_index x.block))) y) (arms-alike b c a f g i q arms h.1)
+    ∙ ap (λ y. CaseArmTree (maybe_tree_of b x.label) (block_in (g x.block.id.index)) y) (arms-alike b c a f g i q arms h.1)
 
 -- Members, of modules and of loops.
 
 -- The containers that a member names are from this number on.
-abbrev From : Bench → ℕ → MemberEntry → Type 0
-From b from (FunctionEntry x) = IfSome (slice_get b.functions (function_index x)) (λ (r : FunctionRecord). from ≤ block_index r.body)
-From b from (AlwaysEntry x) = IfSome (slice_get b.always_blocks (always_index x)) (λ (r : AlwaysRecord). from ≤ block_index r.block)
-From b from (ConditionalEntry x) = from ≤ conditional_index x
-From b from (LoopEntry x) = from ≤ loop_index x
+abbrev From : Bench → ℕ → Member → Type 0
+From b from (FunctionEntry x) = IfSome (slice_get b.functions x.id.index) (λ (r : FunctionRecord). from ≤ r.body.id.index)
+From b from (AlwaysEntry x) = IfSome (slice_get b.always_blocks x.id.index) (λ (r : AlwaysRecord). from ≤ r.block.id.index)
+From b from (ConditionalEntry x) = from ≤ x.id.index
+From b from (LoopEntry x) = from ≤ x.id.index
 From b from (DeclarationEntry kind name t) = Unit {0}
 From b from (AssignmentEntry x) = Unit {0}
 From b from (ParameterEntry local form value) = Unit {0}
@@ -213,42 +218,42 @@ From b from (MacroEntry x) = Unit {0}
 From b from (InstanceEntry x) = Unit {0}
 
 function-alike :
-    (b c : Bench) → Alike b c → (f g : ℕ → Family) (from : ℕ) → Meet b from f g → (o : Option FunctionRecord) → IfSome o (FunctionSound b) → IfSome o (λ (r : FunctionRecord). from ≤ block_index r.body) →
+    (b c : Bench) → Alike b c → (f g : ℕ → Family) (from : ℕ) → Meet b from f g → (o : Option FunctionRecord) → IfSome o (FunctionSound b) → IfSome o (λ (r : FunctionRecord). from ≤ r.body.id.index) →
     function_in c f o ≡ function_in b g o
 function-alike b c a f g from q None h k = refl
 function-alike b c a f g from q (Some x) h k =
-    rw (type-alike b c a x.result_type h.result_type, variables-alike b c a x.inputs h.inputs, variables-alike b c a x.locals h.locals, q.at (block_index x.body) k (block-place b x.body h.body)) refl
+    rw (type-alike b c a x.result_type h.result_type, variables-alike b c a x.inputs h.inputs, variables-alike b c a x.locals h.locals, q.at x.body.id.index k (block-place b x.body h.body)) refl
 
 always-alike :
-    (b c : Bench) → Alike b c → (f g : ℕ → Family) (from : ℕ) → Meet b from f g → (o : Option AlwaysRecord) → IfSome o (AlwaysSound b) → IfSome o (λ (r : AlwaysRecord). from ≤ block_index r.block) →
+    (b c : Bench) → Alike b c → (f g : ℕ → Family) (from : ℕ) → Meet b from f g → (o : Option AlwaysRecord) → IfSome o (AlwaysSound b) → IfSome o (λ (r : AlwaysRecord). from ≤ r.block.id.index) →
     always_in c f o ≡ always_in b g o
 always-alike b c a f g from q None h k = refl
 always-alike b c a f g from q (Some x) h k =
-    ap (λ es. AlwaysMember x.kind es (block_in (f (block_index x.block)))) (events-alike b c a x.events h.events)
-    ∙ ap (λ y. AlwaysMember x.kind (trees_of b x.events) (block_in y)) (q.at (block_index x.block) k (block-place b x.block h.block))
+    ap (λ es. AlwaysMember x.kind es (block_in (f x.block.id.index))) (events-alike b c a x.events h.events)
+    ∙ ap (λ y. AlwaysMember x.kind (trees_of b x.events) (block_in y)) (q.at x.block.id.index k (block-place b x.block h.block))
 
-member-alike : (b c : Bench) → Alike b c → (f g : ℕ → Family) (from : ℕ) → Meet b from f g → (m : MemberEntry) → MemberSound b m → From b from m → member_in c f m ≡ member_in b g m
+member-alike : (b c : Bench) → Alike b c → (f g : ℕ → Family) (from : ℕ) → Meet b from f g → (m : Member) → MemberSound b m → From b from m → member_in c f m ≡ member_in b g m
 member-alike b c a f g from q (DeclarationEntry kind name t) h k = rw (type-alike b c a t h) refl
 member-alike b c a f g from q (AssignmentEntry x) h k =
-    let y = continuous-at b c a (continuous_index x) h.of_kind in rw (y.here, y.there, y.left, y.right) refl
+    let y = continuous-at b c a x.id.index h.of_kind in rw (y.here, y.there, y.left, y.right) refl
 member-alike b c a f g from q (ParameterEntry local form value) h k = rw (form-alike b c a form, expr-alike b c a value h.1) refl
 member-alike b c a f g from q BlankEntry h k = refl
-member-alike b c a f g from q (CommentEntry x) h k = artifact-at b c a (comment_index x)
-member-alike b c a f g from q (InlineEntry x) h k = artifact-at b c a (inline_index x)
-member-alike b c a f g from q (MacroEntry x) h k = artifact-at b c a (macro_statement_index x)
-member-alike b c a f g from q (InstanceEntry x) h k = instance-at b c a (instantiation_index x)
+member-alike b c a f g from q (CommentEntry x) h k = artifact-at b c a x.id.index
+member-alike b c a f g from q (InlineEntry x) h k = artifact-at b c a x.id.index
+member-alike b c a f g from q (MacroEntry x) h k = artifact-at b c a x.id.index
+member-alike b c a f g from q (InstanceEntry x) h k = instance-at b c a x.id.index
 member-alike b c a f g from q (FunctionEntry x) h k =
-    let o = slice_get b.functions (function_index x) in rw a.functions (function-alike b c a f g from q o (found (FunctionSound b) b.functions (function_index x) o a.sound.functions refl) k)
+    let o = slice_get b.functions x.id.index in rw a.functions (function-alike b c a f g from q o (found (FunctionSound b) b.functions x.id.index o a.sound.functions refl) k)
 member-alike b c a f g from q (AlwaysEntry x) h k =
-    let o = slice_get b.always_blocks (always_index x) in rw a.always_blocks (always-alike b c a f g from q o (found (AlwaysSound b) b.always_blocks (always_index x) o a.sound.always_blocks refl) k)
-member-alike b c a f g from q (ConditionalEntry x) h k = ap conditional_member (q.at (conditional_index x) k (conditional-place b x h))
-member-alike b c a f g from q (LoopEntry x) h k = ap loop_member (q.at (loop_index x) k (loop-place b x h))
+    let o = slice_get b.always_blocks x.id.index in rw a.always_blocks (always-alike b c a f g from q o (found (AlwaysSound b) b.always_blocks x.id.index o a.sound.always_blocks refl) k)
+member-alike b c a f g from q (ConditionalEntry x) h k = ap conditional_member (q.at x.id.index k (conditional-place b x h))
+member-alike b c a f g from q (LoopEntry x) h k = ap loop_member (q.at x.id.index k (loop-place b x h))
 
-newer-from : (i : ℕ) (o : Option AlwaysRecord) → AlwaysNewer i o → IfSome o (λ (r : AlwaysRecord). suc i ≤ block_index r.block)
+newer-from : (i : ℕ) (o : Option AlwaysRecord) → AlwaysNewer i o → IfSome o (λ (r : AlwaysRecord). suc i ≤ r.block.id.index)
 newer-from i None h = tt
 newer-from i (Some x) h = h
 
-from-newer : (b : Bench) (i : ℕ) (m : MemberEntry) → MemberNewer b i m → From b (suc i) m
+from-newer : (b : Bench) (i : ℕ) (m : Member) → MemberNewer b i m → From b (suc i) m
 from-newer b i (DeclarationEntry kind name t) h = tt
 from-newer b i (AssignmentEntry x) h = tt
 from-newer b i (ParameterEntry local form value) h = tt
@@ -258,19 +263,19 @@ from-newer b i (InlineEntry x) h = tt
 from-newer b i (MacroEntry x) h = tt
 from-newer b i (InstanceEntry x) h = tt
 from-newer b i (FunctionEntry x) h = absurd h
-from-newer b i (AlwaysEntry x) h = newer-from i (slice_get b.always_blocks (always_index x)) h
+from-newer b i (AlwaysEntry x) h = newer-from i (slice_get b.always_blocks x.id.index) h
 from-newer b i (ConditionalEntry x) h = h
 from-newer b i (LoopEntry x) h = h
 
-function-zero : (o : Option FunctionRecord) → IfSome o (λ (r : FunctionRecord). 0 ≤ block_index r.body)
+function-zero : (o : Option FunctionRecord) → IfSome o (λ (r : FunctionRecord). 0 ≤ r.body.id.index)
 function-zero None = tt
 function-zero (Some x) = zero-le
 
-always-zero : (o : Option AlwaysRecord) → IfSome o (λ (r : AlwaysRecord). 0 ≤ block_index r.block)
+always-zero : (o : Option AlwaysRecord) → IfSome o (λ (r : AlwaysRecord). 0 ≤ r.block.id.index)
 always-zero None = tt
 always-zero (Some x) = zero-le
 
-from-zero : (b : Bench) (m : MemberEntry) → From b 0 m
+from-zero : (b : Bench) (m : Member) → From b 0 m
 from-zero b (DeclarationEntry kind name t) = tt
 from-zero b (AssignmentEntry x) = tt
 from-zero b (ParameterEntry local form value) = tt
@@ -279,18 +284,18 @@ from-zero b (CommentEntry x) = tt
 from-zero b (InlineEntry x) = tt
 from-zero b (MacroEntry x) = tt
 from-zero b (InstanceEntry x) = tt
-from-zero b (FunctionEntry x) = function-zero (slice_get b.functions (function_index x))
-from-zero b (AlwaysEntry x) = always-zero (slice_get b.always_blocks (always_index x))
+from-zero b (FunctionEntry x) = function-zero (slice_get b.functions x.id.index)
+from-zero b (AlwaysEntry x) = always-zero (slice_get b.always_blocks x.id.index)
 from-zero b (ConditionalEntry x) = zero-le
 from-zero b (LoopEntry x) = zero-le
 
-loop-members-alike : (b c : Bench) → Alike b c → (f g : ℕ → Family) (i : ℕ) → Meet b (suc i) f g → (ms : List MemberEntry) → Each (LoopMemberSound b i) ms → members_in c f ms ≡ members_in b g ms
+loop-members-alike : (b c : Bench) → Alike b c → (f g : ℕ → Family) (i : ℕ) → Meet b (suc i) f g → (ms : List Member) → Each (LoopMemberSound b i) ms → members_in c f ms ≡ members_in b g ms
 loop-members-alike b c a f g i q [] h = refl
 loop-members-alike b c a f g i q (m ∷ ms) h =
     ap (λ x. MoreMembers x (members_in c f ms)) (member-alike b c a f g (suc i) q m h.0.0 (from-newer b i m h.0.1))
     ∙ ap (λ x. MoreMembers (member_in b g m) x) (loop-members-alike b c a f g i q ms h.1)
 
-members-alike : (b c : Bench) → Alike b c → (f g : ℕ → Family) → Meet b 0 f g → (ms : List MemberEntry) → Each (MemberSound b) ms → members_in c f ms ≡ members_in b g ms
+members-alike : (b c : Bench) → Alike b c → (f g : ℕ → Family) → Meet b 0 f g → (ms : List Member) → Each (MemberSound b) ms → members_in c f ms ≡ members_in b g ms
 members-alike b c a f g q [] h = refl
 members-alike b c a f g q (m ∷ ms) h =
     ap (λ x. MoreMembers x (members_in c f ms)) (member-alike b c a f g 0 q m h.0 (from-zero b m))
@@ -321,15 +326,15 @@ families-alike b c a i below = let n = a.count in unfolded-alike b c a (length c
 
 -- The file.
 
-port-alike : (b c : Bench) → Alike b c → (o : Option PortRecord) → IfSome o (PortSound b) → maybe_port_tree c o ≡ maybe_port_tree b o
+port-alike : (b c : Bench) → Alike b c → (o : Option Port) → IfSome o (PortSound b) → maybe_port_tree c o ≡ maybe_port_tree b o
 port-alike b c a None h = refl
 port-alike b c a (Some p) h = rw (type-alike b c a p.data_type h.0) refl
 
 ports-alike : (b c : Bench) → Alike b c → (ps : List ModulePort) → map (port_tree c) ps ≡ map (port_tree b) ps
 ports-alike b c a [] = refl
 ports-alike b c a (p ∷ ps) =
-    let o = slice_get b.ports (port_index p) in
-    rw (a.ports, port-alike b c a o (found (PortSound b) b.ports (port_index p) o a.sound.ports refl), ports-alike b c a ps) refl
+    let o = slice_get b.ports p.id.index in
+    rw (a.ports, port-alike b c a o (found (PortSound b) b.ports p.id.index o a.sound.ports refl), ports-alike b c a ps) refl
 
 parameters-alike : (b c : Bench) → Alike b c → (ps : List ParameterPortRecord) → Each (ParameterPortSound b) ps → map (parameter_port_tree c) ps ≡ map (parameter_port_tree b) ps
 parameters-alike b c a [] h = refl
@@ -346,8 +351,8 @@ module-alike b c a (Some m) h =
 
 item-alike : (b c : Bench) → Alike b c → (e : FileEntry) → item_tree c e ≡ item_tree b e
 item-alike b c a (ModuleEntry m) =
-    let o = slice_get b.modules (module_index m) in
-    ap (λ ms. maybe_module_tree c (slice_get ms (module_index m))) a.modules ∙ module-alike b c a o (found (ModuleSound b) b.modules (module_index m) o a.sound.modules refl)
+    let o = slice_get b.modules m.id.index in
+    ap (λ ms. maybe_module_tree c (slice_get ms m.id.index)) a.modules ∙ module-alike b c a o (found (ModuleSound b) b.modules m.id.index o a.sound.modules refl)
 item-alike b c a (IncludeEntry path) = refl
 item-alike b c a (FileCommentEntry text) = refl
 item-alike b c a FileBlankEntry = refl

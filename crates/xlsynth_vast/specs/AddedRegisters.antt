@@ -7,7 +7,8 @@ use Rattle.vast_literal.specs.declared.operator.UnaryOperator.TheVariants.{Logic
 use Rattle.vast_core.specs.declared.handle.Expr.{Expr}
 use Rattle.vast_core.specs.declared.handle.VastStatementBlock.{VastStatementBlock}
 use Rattle.vast_literal.specs.declared.kind.AlwaysKind.TheVariants.{AlwaysFF}
-use Rattle.vast_core.specs.Records.{MemberEntry, AlwaysEntry}
+use Rattle.vast_core.specs.declared.node.Member.{Member}
+use Rattle.vast_core.specs.declared.node.Member.TheVariants.{Always as AlwaysEntry}
 use Rattle.vast_core.specs.Nests.{AssignStatement, ConditionalStatement}
 use Rattle.vast_core.specs.Bench.{Bench, tree_of}
 use Rattle.vast_core.specs.Growth.{next_id, next_expr, with_assignment, with_member}
@@ -111,7 +112,7 @@ with_register_block reset registers b =
     with_maybe_reset reset registers (next_block b) (with_all_assigned Unreset (next_block b) registers (with_spare_block b))
 
 -- A member more at the end of the scope's members.
-abbrev pub with_last_member : RegisterScope → MemberEntry → Bench → Bench
+abbrev pub with_last_member : RegisterScope → Member → Bench → Bench
 with_last_member (ModuleScope owner) entry b = with_member owner entry b
 with_last_member (LoopScope owner) entry b = with_loop_member owner entry b
 

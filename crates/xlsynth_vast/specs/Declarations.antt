@@ -3,12 +3,11 @@ use Rattle.std.specs.Prelude.{ℕ, List, ◌++◌, Result, Ok, Err, codes, slice
 use Rattle.std.specs.List.{join_by}
 use Rattle.vast_literal.specs.Keyword.{is_among}
 use Rattle.vast_core.specs.declared.handle.VastModule.{VastModule}
-use Rattle.vast_core.specs.Handles.{module_index}
 use Rattle.vast_core.specs.Bench.{Bench, names_of}
 
 -- The names of a module's ports, wires, variables and functions, in the order of their bytes.
 abbrev pub names_in : Bench → VastModule → List (List ℕ)
-names_in b m = names_of (slice_get b.modules (module_index m))
+names_in b m = names_of (slice_get b.modules m.id.index)
 
 -- The names, with a comma and a space between each two.
 abbrev pub listed_names : List (List ℕ) → List ℕ

@@ -3,7 +3,6 @@ use Rattle.std.specs.Prelude.{ℕ, ℤ, pos, Bool, false, List, [], Option, Some
 use Rattle.vast_literal.specs.Tree.{ScalarTree}
 use Rattle.vast_core.specs.declared.handle.VastDataType.{VastDataType}
 use Rattle.vast_core.specs.declared.handle.VastModule.{VastModule}
-use Rattle.vast_core.specs.Handles.{module_index}
 use Rattle.vast_core.specs.Records.{ModuleRecord}
 use Rattle.vast_core.specs.Bench.{Bench}
 use Rattle.vast_core.specs.Growth.{next_type, next_vector, with_type, with_vector}
@@ -25,4 +24,4 @@ record_name (Some m) = m.name
 
 -- the name of a module
 abbrev pub name_of : Bench → VastModule → List ℕ
-name_of b m = record_name (slice_get b.modules (module_index m))
+name_of b m = record_name (slice_get b.modules m.id.index)

@@ -6,7 +6,6 @@ use Rattle.vast_literal.specs.declared.operator.BinaryOperator.{BinaryOperator a
 use Rattle.vast_core.specs.declared.handle.Expr.{Expr}
 use Rattle.vast_core.specs.declared.handle.IndexableExpr.{IndexableExpr}
 use Rattle.vast_core.specs.declared.handle.VastDataType.{VastDataType}
-use Rattle.vast_core.specs.Handles.{indexable_expr_to_expr}
 use Rattle.vast_core.specs.Bench.{Bench, tree_of, type_of, trees_of}
 use Rattle.vast_core.specs.Growth.{with_expr}
 
@@ -38,7 +37,7 @@ with_type_cast data_type operand b = with_expr (TypeCastTree (type_of b data_typ
 
 -- selects
 abbrev pub subject_of : Bench → IndexableExpr → ExprTree
-subject_of b subject = tree_of b (indexable_expr_to_expr subject)
+subject_of b subject = tree_of b (record { id = subject.id })
 
 abbrev pub with_index : IndexableExpr → Expr → Bench → Bench
 with_index subject index b = with_expr (IndexTree (subject_of b subject) (tree_of b index)) b

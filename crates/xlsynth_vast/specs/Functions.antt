@@ -5,8 +5,7 @@ use Rattle.vast_literal.specs.Tree.{TypeTree, UnpackedTree}
 use Rattle.vast_core.specs.declared.handle.VastModule.{VastModule}
 use Rattle.vast_core.specs.declared.handle.VastFunction.{VastFunction}
 use Rattle.vast_core.specs.declared.handle.VastDataType.{VastDataType}
-use Rattle.vast_core.specs.Handles.{function_index}
-use Rattle.vast_core.specs.Records.{FunctionEntry}
+use Rattle.vast_core.specs.declared.node.Member.TheVariants.{Function as FunctionEntry}
 use Rattle.vast_core.specs.Nests.{FunctionRecord}
 use Rattle.vast_core.specs.Bench.{Bench, function_names}
 use Rattle.vast_core.specs.Growth.{with_named_member}
@@ -36,10 +35,10 @@ function_name None = []
 function_name (Some f) = f.name
 
 abbrev pub own_name_of : Bench → VastFunction → List ℕ
-own_name_of b f = function_name (slice_get b.functions (function_index f))
+own_name_of b f = function_name (slice_get b.functions f.id.index)
 
 abbrev pub names_of_function : Bench → VastFunction → List (List ℕ)
-names_of_function b f = function_names (slice_get b.functions (function_index f))
+names_of_function b f = function_names (slice_get b.functions f.id.index)
 
 -- The words that refuse a declaration of this kind in a function, and name all that the function has.
 unfoldable pub declared_in_function : (kind name owner : List ℕ) (names : List (List ℕ)) → List ℕ

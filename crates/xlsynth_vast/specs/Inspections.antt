@@ -12,16 +12,17 @@ use Rattle.vast_core.specs.declared.handle.Conditional.{Conditional}
 use Rattle.vast_core.specs.declared.handle.GenerateLoop.{GenerateLoop}
 use Rattle.vast_literal.specs.declared.kind.ModulePortDirection.{ModulePortDirection}
 use Rattle.vast_literal.specs.declared.kind.ModulePortDirection.TheVariants.{Input, Output, InOut}
-use Rattle.vast_core.specs.Handles.{module_index, port_index, function_index, always_index, conditional_index, loop_index, logic_ref_to_expr}
-use Rattle.vast_core.specs.Records.{PortRecord, ModuleRecord, MemberEntry}
-use Rattle.vast_core.specs.Nests.{NestRecord, BlockRecord, ConditionalNestRecord, CaseNestRecord, LoopNestRecord, FunctionRecord, AlwaysRecord}
+use Rattle.vast_core.specs.Records.{ModuleRecord}
+use Rattle.vast_core.specs.declared.node.Port.{Port}
+use Rattle.vast_core.specs.declared.node.Member.{Member}
+use Rattle.vast_core.specs.Nests.{NestRecord, ConditionalNestRecord, LoopNestRecord, FunctionRecord, AlwaysRecord}
 use Rattle.vast_core.specs.BitCount.{bit_count}
 use Rattle.vast_core.specs.Hoisting.{members_of}
 use Rattle.vast_core.specs.Bench.{Bench, tree_of, type_of}
 
 -- The members of a module, in order.
-abbrev pub members_in : Bench → VastModule → List MemberEntry
-members_in b m = members_of (slice_get b.modules (module_index m))
+abbrev pub members_in : Bench → VastModule → List Member
+members_in b m = members_of (slice_get b.modules m.id.index)
 
 -- The ports of a module, in order.
 abbrev pub ports_of : Option ModuleRecord → List ModulePort
@@ -29,23 +30,23 @@ ports_of None = []
 ports_of (Some m) = m.ports
 
 abbrev pub ports_in : Bench → VastModule → List ModulePort
-ports_in b m = ports_of (slice_get b.modules (module_index m))
+ports_in b m = ports_of (slice_get b.modules m.id.index)
 
 -- What the record of a port holds.
-abbrev pub port_at : Bench → ModulePort → Option PortRecord
-port_at b p = slice_get b.ports (port_index p)
+abbrev pub port_at : Bench → ModulePort → Option Port
+port_at b p = slice_get b.ports p.id.index
 
 abbrev pub name_at : Bench → ModulePort → Option (List ℕ)
-name_at b p = option_map (λ (r : PortRecord). r.name) (port_at b p)
+name_at b p = option_map (λ (r : Port). r.name) (port_at b p)
 
 abbrev pub direction_at : Bench → ModulePort → Option ModulePortDirection
-direction_at b p = option_map (λ (r : PortRecord). r.direction) (port_at b p)
+direction_at b p = option_map (λ (r : Port). r.direction) (port_at b p)
 
 abbrev pub type_at : Bench → ModulePort → Option VastDataType
-type_at b p = option_map (λ (r : PortRecord). r.data_type) (port_at b p)
+type_at b p = option_map (λ (r : Port). r.data_type) (port_at b p)
 
 abbrev pub logic_ref_at : Bench → ModulePort → Option LogicRef
-logic_ref_at b p = option_map (λ (r : PortRecord). r.logic_ref) (port_at b p)
+logic_ref_at b p = option_map (λ (r : Port). r.logic_ref) (port_at b p)
 
 -- Whether a port has this direction.
 abbrev pub is_direction : ModulePortDirection → Option ModulePortDirection → Bool
@@ -72,11 +73,11 @@ named (NameTree name type) = Some name
 named _ = None
 
 abbrev pub name_of_ref : Bench → LogicRef → Option (List ℕ)
-name_of_ref b r = named (tree_of b (logic_ref_to_expr r))
+name_of_ref b r = named (tree_of b (record { id = r.id }))
 
 -- The body of a function, and its result's name as an expression.
 abbrev pub function_at : Bench → VastFunction → Option FunctionRecord
-function_at b f = slice_get b.functions (function_index f)
+function_at b f = slice_get b.functions f.id.index
 
 abbrev pub body_at : Bench → VastFunction → Option VastStatementBlock
 body_at b f = option_map (λ (r : FunctionRecord). r.body) (function_at b f)
@@ -86,26 +87,20 @@ result_at b f = option_map (λ (r : FunctionRecord). r.result_name) (function_at
 
 -- The block of an always block.
 abbrev pub block_at : Bench → VastAlwaysBase → Option VastStatementBlock
-block_at b a = option_map (λ (r : AlwaysRecord). r.block) (slice_get b.always_blocks (always_index a))
+block_at b a = option_map (λ (r : AlwaysRecord). r.block) (slice_get b.always_blocks a.id.index)
 
 -- The block of a conditional's first arm.
 abbrev pub first_block : Option NestRecord → Option VastStatementBlock
-first_block None = None
-first_block (Some (BlockRecord statements)) = None
 first_block (Some (ConditionalNestRecord c)) = Some c.consequent
-first_block (Some (CaseNestRecord c)) = None
-first_block (Some (LoopNestRecord l)) = None
+first_block _ = None
 
 abbrev pub then_block_at : Bench → Conditional → Option VastStatementBlock
-then_block_at b c = first_block (slice_get b.nests (conditional_index c))
+then_block_at b c = first_block (slice_get b.nests c.id.index)
 
 -- The variable of a loop, as an expression.
 abbrev pub variable_of : Option NestRecord → Option LogicRef
-variable_of None = None
-variable_of (Some (BlockRecord statements)) = None
-variable_of (Some (ConditionalNestRecord c)) = None
-variable_of (Some (CaseNestRecord c)) = None
 variable_of (Some (LoopNestRecord l)) = Some l.genvar
+variable_of _ = None
 
 abbrev pub genvar_at : Bench → GenerateLoop → Option LogicRef
-genvar_at b l = variable_of (slice_get b.nests (loop_index l))
+genvar_at b l = variable_of (slice_get b.nests l.id.index)

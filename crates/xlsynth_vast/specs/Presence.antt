@@ -5,8 +5,11 @@ use Rattle.vast_core.specs.declared.handle.ModulePort.{ModulePort}
 use Rattle.vast_core.specs.declared.handle.VastStatementBlock.{VastStatementBlock}
 use Rattle.vast_core.specs.declared.node.ElseIf.{ElseIf}
 use Rattle.vast_core.specs.declared.node.CaseArm.{CaseArm}
-use Rattle.vast_core.specs.Handles.{block_index, definition_index, port_index}
-use Rattle.vast_core.specs.Records.{PortRecord, DefinitionRecord, DefinedForm, MemberEntry, ParameterEntry, BlankEntry, ModuleRecord, FileEntry, FileBlankEntry}
+use Rattle.vast_core.specs.Records.{DefinitionRecord, ModuleRecord, FileEntry, FileBlankEntry}
+use Rattle.vast_core.specs.declared.node.Port.{Port}
+use Rattle.vast_core.specs.declared.node.Member.{Member}
+use Rattle.vast_core.specs.declared.node.Member.TheVariants.{Parameter as ParameterEntry, BlankLine as BlankEntry}
+use Rattle.vast_core.specs.declared.node.ParameterForm.TheVariants.{Defined as DefinedForm}
 use Rattle.vast_core.specs.Nests.{StatementEntry, BlankStatement, ConditionalRecord, NestRecord, BlockRecord, ConditionalNestRecord, CaseNestRecord, LoopNestRecord, FunctionRecord, AlwaysRecord}
 use Rattle.vast_core.specs.Bench.{Bench}
 use Rattle.vast_core.specs.FileTree.{families, statement_in, statements_tree, block_tree, member_tree, item_tree}
@@ -18,11 +21,11 @@ abbrev pub ItemIsThere : Bench → FileEntry → Type 0
 ItemIsThere b entry = item_tree b entry ≡ BlankItem → entry ≡ FileBlankEntry
 
 -- A parameter that is made by a definition has one of the file's.
-abbrev pub DefinitionIsThere : Bench → MemberEntry → Type 0
-DefinitionIsThere b (ParameterEntry local (DefinedForm d) value) = (found : DefinitionRecord) × (slice_get b.definitions (definition_index d) ≡ Some found)
+abbrev pub DefinitionIsThere : Bench → Member → Type 0
+DefinitionIsThere b (ParameterEntry local (DefinedForm d) value) = (found : DefinitionRecord) × (slice_get b.definitions d.id.index ≡ Some found)
 DefinitionIsThere b _ = ⊤
 
-abbrev pub MemberIsThere : Bench → MemberEntry → Type 0
+abbrev pub MemberIsThere : Bench → Member → Type 0
 MemberIsThere b entry = (member_tree b entry ≡ BlankMember → entry ≡ BlankEntry) × DefinitionIsThere b entry
 
 abbrev pub StatementIsThere : Bench → StatementEntry → Type 0
@@ -30,10 +33,10 @@ StatementIsThere b entry = statement_in b (families b) entry ≡ BlankTree → e
 
 -- A block has the statements that the file has for it.
 abbrev pub BlockIsThere : Bench → VastStatementBlock → Type 0
-BlockIsThere b block = (statements : List StatementEntry) × (slice_get b.nests (block_index block) ≡ Some (BlockRecord statements)) × (block_tree b block ≡ statements_tree b statements)
+BlockIsThere b block = (statements : List StatementEntry) × (slice_get b.nests block.id.index ≡ Some (BlockRecord statements)) × (block_tree b block ≡ statements_tree b statements)
 
 abbrev pub PortIsThere : Bench → ModulePort → Type 0
-PortIsThere b port = (found : PortRecord) × (slice_get b.ports (port_index port) ≡ Some found)
+PortIsThere b port = (found : Port) × (slice_get b.ports port.id.index ≡ Some found)
 
 abbrev pub ModuleIsThere : Bench → ModuleRecord → Type 0
 ModuleIsThere b m = Each (PortIsThere b) m.ports × Each (MemberIsThere b) m.members

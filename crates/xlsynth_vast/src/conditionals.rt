@@ -1,9 +1,8 @@
 //! Conditionals, among members and in blocks (IEEE 1800-2017, 12.4), as in the crate `xlsynth-vast`.
 
 ghost use Rattle.std.specs.Prelude.{◌≡◌, false, Some, slice_get};
-ghost use Rattle.vast_core.specs.Handles.{conditional_index};
 ghost use Rattle.vast_core.specs.Bench.{OwnsModule, OwnsBlock, OwnsExpr, OwnsConditional};
-ghost use Rattle.vast_core.specs.Records.{ConditionalEntry};
+ghost use Rattle.vast_core.specs.declared.node.Member.TheVariants.{Conditional as ConditionalEntry};
 ghost use Rattle.vast_core.specs.Nests.{ConditionalStatement};
 ghost use Rattle.vast_core.specs.Growth.{Builds, with_member};
 ghost use Rattle.vast_core.specs.Containers.{next_block, next_conditional, with_conditional, with_statement, with_else_if, with_else, has_else};
@@ -67,7 +66,7 @@ impl VastFile {
     pub fn conditional_has_else(&self, conditional: Conditional) -> bool
         requires { OwnsConditional self.now conditional }
         ensures { result
-            ≡ has_else (slice_get self.now.nests (conditional_index conditional)) }
+            ≡ has_else (slice_get self.now.nests conditional.id.index) }
     {
         self.ast.conditional_has_else(conditional)
     }
@@ -85,7 +84,7 @@ impl VastFile {
         requires conditional { OwnsConditional self.old conditional }
         requires condition { OwnsExpr self.old condition.now }
         requires no_else { has_else
-            (slice_get self.old.nests (conditional_index conditional)) ≡ false }
+            (slice_get self.old.nests conditional.id.index) ≡ false }
         ensures built { Builds self.old self.new result next_block
             (with_else_if conditional condition.now) }
         ensures kept { Keeps self.old self.new }
@@ -104,7 +103,7 @@ impl VastFile {
     ) -> Result<VastStatementBlock, AllocError>
         requires conditional { OwnsConditional self.old conditional }
         requires no_else { has_else
-            (slice_get self.old.nests (conditional_index conditional)) ≡ false }
+            (slice_get self.old.nests conditional.id.index) ≡ false }
         ensures built { Builds self.old self.new result next_block (with_else conditional) }
         ensures kept { Keeps self.old self.new }
     {

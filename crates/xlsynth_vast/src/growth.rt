@@ -2,7 +2,6 @@
 
 ghost use Rattle.vast_core.specs.Nodes.{ExprChildrenHold, TypeChildrenHold, expr_tree, type_tree};
 ghost use Rattle.vast_core.specs.Types.{ExprFits, TypeFits};
-ghost use Rattle.vast_core.specs.Records.{member_entry};
 ghost use Rattle.vast_core.specs.Bench.{OwnsExpr, OwnsType};
 ghost use Rattle.vast_core.specs.Scopes.{OwnsScope, IsShared, with_scope_member};
 ghost use Rattle.vast_core.specs.Sound.{MemberSound};
@@ -37,10 +36,10 @@ impl VastFile {
     /// Adds a member that more scopes than one may have to the scope's end.
     pub(crate) fn append_member(&mut self, scope: Scope, member: Member) -> Result<(), AllocError>
         requires scope { OwnsScope self.old scope }
-        requires member { MemberSound self.old (member_entry member) }
-        requires shared { IsShared (member_entry member) }
+        requires member { MemberSound self.old member }
+        requires shared { IsShared member }
         ensures built { Leaves self.old self.new result
-            (with_scope_member scope (member_entry member)) }
+            (with_scope_member scope member) }
         ensures kept { Keeps self.old self.new }
     {
         self.ast.append_member(scope, member)

@@ -2,7 +2,7 @@
 
 ghost use Rattle.std.specs.Prelude.{◌≡◌};
 ghost use Rattle.vast_core.specs.Bench.{OwnsModule, OwnsContinuous, OwnsBlankLine, OwnsComment, OwnsInline, OwnsMacroStatement, OwnsInstantiation};
-ghost use Rattle.vast_core.specs.Records.{AssignmentEntry, BlankEntry, CommentEntry, InlineEntry, MacroEntry, InstanceEntry};
+ghost use Rattle.vast_core.specs.declared.node.Member.TheVariants.{ContinuousAssignment as AssignmentEntry, BlankLine as BlankEntry, Comment as CommentEntry, Inline as InlineEntry, Macro as MacroEntry, Instantiation as InstanceEntry};
 ghost use Rattle.vast_core.specs.Growth.{Leaves, with_member};
 ghost use Rattle.xlsynth_vast.specs.Keeps.{Keeps};
 

@@ -11,9 +11,8 @@ use Rattle.vast_core.specs.declared.ast.arrivals.Terms.TheVariants.{Nothing as N
 use Rattle.vast_core.specs.declared.ast.arrivals.Node.{Node}
 use Rattle.vast_core.specs.declared.ast.arrivals.Node.TheVariants.{Nothing as NoNode, Assignment as AssignmentOf, Container as ContainerOf, Port as PortOf, Module as ModuleNode, Function as FunctionNode, Definition as DefinitionOf, Artifact as ArtifactOf, Instance as InstanceOf, Always as AlwaysOf, AlwaysOverSpare as OverSpareOf}
 use Rattle.vast_core.specs.declared.ast.arrivals.Arrivals.{Arrivals}
-use Rattle.vast_core.specs.Handles.{module_index, function_index}
-use Rattle.vast_core.specs.Records.{member_entry, file_entry, parameter_port_record, port_record, module_record, definition_record, artifact_record, instance_record}
-use Rattle.vast_core.specs.Nests.{statement_entry, nest_record, variable_record, function_record, always_record}
+use Rattle.vast_core.specs.Records.{file_entry, parameter_port_record, module_record, definition_record, artifact_record, instance_record}
+use Rattle.vast_core.specs.Nests.{statement_entry, nest_record, function_record, always_record}
 use Rattle.vast_core.specs.Containers.{NestedEntry, StatementEnters, ElseIfEnters, ElseEnters, CaseArmEnters, MemberEnters}
 use Rattle.vast_core.specs.Internal.Containers.{Listing, Nowhere, InFile, InHeader, InPorts, InModule, InFunction, InNest, AsSpare, Fresh, no_fresh, fresh_assignment}
 
@@ -22,7 +21,7 @@ entry_of (StatementOf s) = StatementEnters (statement_entry s)
 entry_of (ElseIfOf a) = ElseIfEnters a
 entry_of (ElseOf b) = ElseEnters b
 entry_of (CaseArmOf a) = CaseArmEnters a
-entry_of (MemberOf m) = MemberEnters (member_entry m)
+entry_of (MemberOf m) = MemberEnters m
 
 abbrev pub name_of : Option (Bor (List ℕ)) → Option (List ℕ)
 name_of None = None
@@ -33,8 +32,8 @@ listing_of NowhereOf = Nowhere
 listing_of (FileOf item) = InFile (file_entry item)
 listing_of (HeaderOf owner p) = InHeader owner (parameter_port_record p)
 listing_of (PortsOf owner port name) = InPorts owner port name.now
-listing_of (ModuleOf owner member name) = InModule owner (member_entry member) (name_of name)
-listing_of (FunctionOf owner local v) = InFunction owner local (variable_record v)
+listing_of (ModuleOf owner member name) = InModule owner member (name_of name)
+listing_of (FunctionOf owner local v) = InFunction owner local v
 listing_of (NestOf place entry) = InNest place (entry_of entry)
 listing_of (SpareOf block) = AsSpare block
 
@@ -50,7 +49,7 @@ abbrev pub fresh_node : Node → Fresh
 fresh_node NoNode = no_fresh
 fresh_node (AssignmentOf a) = fresh_assignment a
 fresh_node (ContainerOf n) = record no_fresh { container = Some (nest_record n) }
-fresh_node (PortOf p) = record no_fresh { port = Some (port_record p) }
+fresh_node (PortOf p) = record no_fresh { port = Some p }
 fresh_node (ModuleNode m) = record no_fresh { fresh_module = Some (module_record m) }
 fresh_node (FunctionNode f) = record no_fresh { function = Some (function_record f) }
 fresh_node (DefinitionOf d) = record no_fresh { definition = Some (definition_record d) }
@@ -64,10 +63,10 @@ fresh_of a = record (fresh_node a.node) { terms = terms_of a.terms; block = a.bl
 
 -- The list that the entry goes into is there.
 abbrev pub ListingThere : (modules nests functions : ℕ) → Listing → Type 0
-ListingThere modules nests functions (InHeader owner p) = module_index owner < modules
-ListingThere modules nests functions (InPorts owner port name) = module_index owner < modules
-ListingThere modules nests functions (InModule owner entry name) = module_index owner < modules
-ListingThere modules nests functions (InFunction f local v) = function_index f < functions
+ListingThere modules nests functions (InHeader owner p) = owner.id.index < modules
+ListingThere modules nests functions (InPorts owner port name) = owner.id.index < modules
+ListingThere modules nests functions (InModule owner entry name) = owner.id.index < modules
+ListingThere modules nests functions (InFunction f local v) = f.id.index < functions
 ListingThere modules nests functions (InNest place entry) = place < nests
 ListingThere modules nests functions _ = Unit {0}
 

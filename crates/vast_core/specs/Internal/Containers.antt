@@ -6,11 +6,10 @@ use Rattle.vast_core.specs.declared.handle.ModulePort.{ModulePort}
 use Rattle.vast_core.specs.declared.handle.VastFunction.{VastFunction}
 use Rattle.vast_core.specs.declared.node.Assignment.{Assignment}
 use Rattle.vast_core.specs.declared.node.ExprNode.{ExprNode}
-use Rattle.vast_core.specs.Handles.{module_index, function_index}
 use Rattle.vast_core.specs.Nodes.{built}
 use Rattle.vast_core.specs.Internal.Nodes.{TermsSound}
-use Rattle.vast_core.specs.Records.{PortRecord, ParameterPortRecord, ModuleRecord, MemberEntry, FileEntry, DefinitionRecord, ArtifactRecord, InstanceRecord, with_port, with_parameter_port, with_member, with_named_member, changed_at}
-use Rattle.vast_core.specs.Nests.{NestRecord, BlockRecord, VariableRecord, FunctionRecord, AlwaysRecord}
+use Rattle.vast_core.specs.Records.{Port, ParameterPortRecord, ModuleRecord, Member, FileEntry, DefinitionRecord, ArtifactRecord, InstanceRecord, with_port, with_parameter_port, with_member, with_named_member, changed_at}
+use Rattle.vast_core.specs.Nests.{NestRecord, BlockRecord, FunctionVariable, FunctionRecord, AlwaysRecord}
 use Rattle.vast_core.specs.Raw.{Raw}
 use Rattle.vast_core.specs.Bench.{Bench, OwnsModule, OwnsPort, OwnsFunction, OwnsBlock, NameIsFree, IsFreeInFunction}
 use Rattle.vast_core.specs.Functions.{with_listed_variable}
@@ -27,23 +26,23 @@ pub data Listing : Type 0 where
   InFile : FileEntry → Listing
   InHeader : VastModule → ParameterPortRecord → Listing
   InPorts : VastModule → ModulePort → (name : List ℕ) → Listing
-  InModule : VastModule → MemberEntry → (name : Option (List ℕ)) → Listing
-  InFunction : VastFunction → (local : Bool) → VariableRecord → Listing
+  InModule : VastModule → Member → (name : Option (List ℕ)) → Listing
+  InFunction : VastFunction → (local : Bool) → FunctionVariable → Listing
   InNest : (place : ℕ) → NestedEntry → Listing
   AsSpare : VastStatementBlock → Listing
 
-abbrev pub with_listed : MemberEntry → Option (List ℕ) → ModuleRecord → ModuleRecord
+abbrev pub with_listed : Member → Option (List ℕ) → ModuleRecord → ModuleRecord
 with_listed entry None m = with_member entry m
 with_listed entry (Some name) m = with_named_member entry name m
 
 abbrev pub listed_modules : Listing → List ModuleRecord → List ModuleRecord
-listed_modules (InHeader owner p) modules = changed_at (module_index owner) (with_parameter_port p) modules
-listed_modules (InPorts owner port name) modules = changed_at (module_index owner) (with_port port name) modules
-listed_modules (InModule owner entry name) modules = changed_at (module_index owner) (with_listed entry name) modules
+listed_modules (InHeader owner p) modules = changed_at owner.id.index (with_parameter_port p) modules
+listed_modules (InPorts owner port name) modules = changed_at owner.id.index (with_port port name) modules
+listed_modules (InModule owner entry name) modules = changed_at owner.id.index (with_listed entry name) modules
 listed_modules _ modules = modules
 
 abbrev pub listed_functions : Listing → List FunctionRecord → List FunctionRecord
-listed_functions (InFunction f local v) functions = changed_at (function_index f) (with_listed_variable local v) functions
+listed_functions (InFunction f local v) functions = changed_at f.id.index (with_listed_variable local v) functions
 listed_functions _ functions = functions
 
 abbrev pub listed_nests : Listing → List NestRecord → List NestRecord
@@ -80,7 +79,7 @@ pub record Fresh : Type 0 where
   pub assignment : Option Assignment
   pub container : Option NestRecord
   pub block : Bool
-  pub port : Option PortRecord
+  pub port : Option Port
   pub fresh_module : Option ModuleRecord
   pub function : Option FunctionRecord
   pub definition : Option DefinitionRecord
@@ -160,14 +159,14 @@ pub record ListsPort (b c : Bench) (owner : VastModule) (port : ModulePort) (nam
   pub declares : names_by_port c.ports port ≡ name ∷ []
   pub free : NameIsFree c owner name
 
-pub record ListsMember (b c : Bench) (owner : VastModule) (entry : MemberEntry) (name : Option (List ℕ)) : Type 0 where
+pub record ListsMember (b c : Bench) (owner : VastModule) (entry : Member) (name : Option (List ℕ)) : Type 0 where
   pub owner_there : OwnsModule b owner
   pub member : MemberSound c entry
   pub kind : HasOwnKind entry
   pub declares : names_by_member c.functions entry ≡ listed_name name
   pub free : IfSome name (NameIsFree c owner)
 
-pub record ListsVariable (b c : Bench) (f : VastFunction) (local : Bool) (v : VariableRecord) : Type 0 where
+pub record ListsVariable (b c : Bench) (f : VastFunction) (local : Bool) (v : FunctionVariable) : Type 0 where
   pub function_there : OwnsFunction b f
   pub variable : VariableSound c v
   pub kind : IsVariableKind local v.kind

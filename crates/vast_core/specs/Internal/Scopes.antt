@@ -2,12 +2,11 @@
 use Rattle.std.specs.Prelude.{None}
 use Rattle.vast_core.specs.declared.ast.scope.Scope.{Scope}
 use Rattle.vast_core.specs.declared.ast.scope.Scope.TheVariants.{Module as ScopeModule, Loop as ScopeLoop}
-use Rattle.vast_core.specs.Handles.{loop_index}
-use Rattle.vast_core.specs.Records.{MemberEntry}
+use Rattle.vast_core.specs.Records.{Member}
 use Rattle.vast_core.specs.Containers.{MemberEnters}
 use Rattle.vast_core.specs.Internal.Containers.{Listing, InModule, InNest}
 
 -- A member without a name goes to the end of the scope's members.
-abbrev pub listing_in : Scope → MemberEntry → Listing
+abbrev pub listing_in : Scope → Member → Listing
 listing_in (ScopeModule m) entry = InModule m entry None
-listing_in (ScopeLoop l) entry = InNest (loop_index l) (MemberEnters entry)
+listing_in (ScopeLoop l) entry = InNest l.id.index (MemberEnters entry)

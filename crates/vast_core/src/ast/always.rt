@@ -2,7 +2,6 @@
 
 ghost use Rattle.std.specs.Prelude.{◌≡◌, All, Some, [], slice_get};
 ghost use Rattle.vast_literal.specs.declared.kind.AlwaysKind.TheVariants.{AlwaysFF, AlwaysAt, AlwaysComb};
-ghost use Rattle.vast_core.specs.Handles.{always_index};
 ghost use Rattle.vast_core.specs.Records.{AlwaysEntry};
 ghost use Rattle.vast_core.specs.Nests.{always_record};
 ghost use Rattle.vast_core.specs.Bench.{OwnsAlways, OwnsBlock};
@@ -151,7 +150,7 @@ impl Ast {
     /// An always block. Its events and its block are the file's.
     pub fn always_block(&self, a: VastAlwaysBase) -> &AlwaysBlock
         requires { OwnsAlways (bench self.now) a }
-        ensures there { slice_get (bench self.now).always_blocks (always_index a)
+        ensures there { slice_get (bench self.now).always_blocks a.id.index
             ≡ Some (always_record result.now) }
         ensures events { All (EventSound (bench self.now)) result.now.events.items }
         ensures block { OwnsBlock (bench self.now) result.now.block }

@@ -1,7 +1,7 @@
 //! What comes into the arenas at once: expressions and types, another node, an empty block.
 
 ghost use Rattle.std.specs.Prelude.{◌≡◌, ◌+◌, ◌-◌, ◌++◌, ◌≤◌, OnOk, length, map, vec_capacity, vec_len};
-ghost use Rattle.vast_core.specs.Records.{definition_record, artifact_record, instance_record, module_record, port_record};
+ghost use Rattle.vast_core.specs.Records.{definition_record, artifact_record, instance_record, module_record};
 ghost use Rattle.vast_core.specs.Nests.{always_record, function_record, nest_record};
 ghost use Rattle.vast_core.specs.Internal.Containers.{added, with_empty_block, count_of, block_count, HasRoom};
 ghost use Rattle.vast_core.specs.Internal.Arrivals.{fresh_of, fresh_node, no_arrivals, terms_of};
@@ -173,8 +173,8 @@ pub(crate) fn settle_node(
         ≡ added assignments.old.items (fresh_node node).assignment }
     ensures nests { map nest_record nests.new.items
         ≡ added (map nest_record nests.old.items) (fresh_node node).container }
-    ensures ports { map port_record ports.new.items
-        ≡ added (map port_record ports.old.items) (fresh_node node).port }
+    ensures ports { ports.new.items
+        ≡ added ports.old.items (fresh_node node).port }
     ensures modules { map module_record modules.new.items
         ≡ added (map module_record modules.old.items) (fresh_node node).fresh_module }
     ensures functions { map function_record functions.new.items

@@ -1,7 +1,6 @@
 //! Definitions, artifacts and instantiations, which members are made of.
 
 ghost use Rattle.std.specs.Prelude.{◌≡◌, All, Some, slice_get, map};
-ghost use Rattle.vast_core.specs.Handles.{definition_index, comment_index, inline_index, macro_statement_index, instantiation_index};
 ghost use Rattle.vast_core.specs.Records.{artifact_record, definition_record, connection_record, instance_record, BlankLineRecord, CommentRecord, InlineRecord, MacroRecord};
 ghost use Rattle.vast_core.specs.Bench.{OwnsType, OwnsMacroRef, OwnsDef, OwnsComment, OwnsInline, OwnsMacroStatement, OwnsInstantiation};
 ghost use Rattle.vast_core.specs.WrittenKinds.{HasValue};
@@ -175,7 +174,7 @@ impl Ast {
     /// A definition. Its type is the file's.
     pub fn definition(&self, d: Def) -> &Definition
         requires { OwnsDef (bench self.now) d }
-        ensures there { slice_get (bench self.now).definitions (definition_index d)
+        ensures there { slice_get (bench self.now).definitions d.id.index
             ≡ Some (definition_record result.now) }
         ensures data_type { OwnsType (bench self.now) result.now.data_type }
     {
@@ -185,7 +184,7 @@ impl Ast {
     /// The text of a comment.
     pub fn comment_text(&self, a: Comment) -> &str
         requires { OwnsComment (bench self.now) a }
-        ensures { slice_get (bench self.now).artifacts (comment_index a)
+        ensures { slice_get (bench self.now).artifacts a.id.index
             ≡ Some (CommentRecord result.now) }
     {
         match self.artifact_at(a.id.index) {
@@ -200,7 +199,7 @@ impl Ast {
     /// The text that is written as it is.
     pub fn inline_text(&self, a: InlineVerilogStatement) -> &str
         requires { OwnsInline (bench self.now) a }
-        ensures { slice_get (bench self.now).artifacts (inline_index a)
+        ensures { slice_get (bench self.now).artifacts a.id.index
             ≡ Some (InlineRecord result.now) }
     {
         match self.artifact_at(a.id.index) {
@@ -215,7 +214,7 @@ impl Ast {
     /// The macro that is used, and whether a semicolon follows. The macro is the file's.
     pub fn macro_statement(&self, a: MacroStatement) -> (MacroRef, bool)
         requires { OwnsMacroStatement (bench self.now) a }
-        ensures there { slice_get (bench self.now).artifacts (macro_statement_index a)
+        ensures there { slice_get (bench self.now).artifacts a.id.index
             ≡ Some (MacroRecord result.0 result.1) }
         ensures call { OwnsMacroRef (bench self.now) result.0 }
     {
@@ -231,7 +230,7 @@ impl Ast {
     /// An instantiation. What it gives to parameters and ports is the file's.
     pub fn instance(&self, i: Instantiation) -> &Instance
         requires { OwnsInstantiation (bench self.now) i }
-        ensures there { slice_get (bench self.now).instances (instantiation_index i)
+        ensures there { slice_get (bench self.now).instances i.id.index
             ≡ Some (instance_record result.now) }
         ensures parameters { All (λ c. ConnectionSound (bench self.now) (connection_record c))
             result.now.parameters.items }

@@ -1,7 +1,6 @@
 //! Assignments that members and statements are made of.
 
 ghost use Rattle.std.specs.Prelude.{◌≡◌, false, slice_get};
-ghost use Rattle.vast_core.specs.Handles.{continuous_index, statement_index};
 ghost use Rattle.vast_core.specs.Bench.{OwnsContinuous, OwnsStatement, OwnsExpr};
 ghost use Rattle.vast_core.specs.Internal.Containers.{Nowhere, GrowthSound, after_growth, fresh_assignment};
 ghost use Rattle.vast_core.specs.Growth.{Grows, GrowsBy, next_continuous, with_assignment};
@@ -70,7 +69,7 @@ impl Ast {
     /// The sides of an assignment.
     pub fn continuous(&self, a: ContinuousAssignment) -> &Assignment
         requires { OwnsContinuous (bench self.now) a }
-        ensures there { slice_get (bench self.now).assignments (continuous_index a)
+        ensures there { slice_get (bench self.now).assignments a.id.index
             ≡ Some result.now }
         ensures lhs { OwnsExpr (bench self.now) result.now.lhs }
         ensures rhs { OwnsExpr (bench self.now) result.now.rhs }
@@ -81,7 +80,7 @@ impl Ast {
     /// The sides of an assignment of a procedural block, and its form.
     pub fn assignment(&self, s: VastStatement) -> &Assignment
         requires { OwnsStatement (bench self.now) s }
-        ensures there { slice_get (bench self.now).assignments (statement_index s)
+        ensures there { slice_get (bench self.now).assignments s.id.index
             ≡ Some result.now }
         ensures lhs { OwnsExpr (bench self.now) result.now.lhs }
         ensures rhs { OwnsExpr (bench self.now) result.now.rhs }

@@ -1,7 +1,6 @@
 //! Blocks: their statements, and calls that append to them.
 
 ghost use Rattle.std.specs.Prelude.{[], ◌≡◌, ◌<◌, ◌^◌, All, Some, map, slice_get};
-ghost use Rattle.vast_core.specs.Handles.{block_index};
 ghost use Rattle.vast_core.specs.Nests.{statement_entry, BlockRecord};
 ghost use Rattle.vast_core.specs.Parents.{held_by_statement};
 ghost use Rattle.vast_core.specs.Bench.{OwnsBlock};
@@ -30,7 +29,7 @@ impl Ast {
         statement: Statement,
     ) -> Result<(), AllocError>
         requires owner { OwnsBlock (bench self.old) owner }
-        requires statement { StatementSound (bench self.old) (block_index owner)
+        requires statement { StatementSound (bench self.old) owner.id.index
             (statement_entry statement) }
         requires no_part { held_by_statement (statement_entry statement) ≡ [] }
         ensures { GrowsBy self.old self.new result
@@ -45,13 +44,13 @@ impl Ast {
     /// The statements of a block, in order. What they are made of is the file's, and newer than the block.
     pub fn block(&self, b: VastStatementBlock) -> &[Statement]
         requires { OwnsBlock (bench self.now) b }
-        ensures there { slice_get (bench self.now).nests (block_index b)
+        ensures there { slice_get (bench self.now).nests b.id.index
             ≡ Some (BlockRecord (map statement_entry result.now)) }
         ensures tree { block_tree (bench self.now) b
             ≡ statements_tree (bench self.now) (map statement_entry result.now) }
         ensures sound { All
-            (λ s. StatementSound (bench self.now) (block_index b) (statement_entry s)) result.now }
-        ensures small { block_index b < 2 ^ 63 }
+            (λ s. StatementSound (bench self.now) b.id.index (statement_entry s)) result.now }
+        ensures small { b.id.index < 2 ^ 63 }
     {
         match self.nest_at(b.id.index) {
             Some(Nest::Block(statements)) => statements,

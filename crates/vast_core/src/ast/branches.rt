@@ -1,7 +1,6 @@
 //! Conditionals and case statements.
 
 ghost use Rattle.std.specs.Prelude.{◌≡◌, ◌<◌, ◌^◌, false, Some, slice_get, IfSome};
-ghost use Rattle.vast_core.specs.Handles.{conditional_index, case_index};
 ghost use Rattle.vast_core.specs.Nests.{nest_record, conditional_record, case_record, ConditionalNestRecord, CaseNestRecord, CasesStatement};
 ghost use Rattle.vast_core.specs.Bench.{OwnsBlock, OwnsExpr, OwnsConditional, OwnsCase, tree_of};
 ghost use Rattle.vast_core.specs.Sound.{ConditionalSound, CaseSound};
@@ -120,7 +119,7 @@ impl Ast {
     ) -> Result<VastStatementBlock, AllocError>
         requires owner { OwnsConditional (bench self.old) owner }
         requires condition { OwnsExpr (bench self.old) condition }
-        requires no_else { has_else (slice_get (bench self.old).nests (conditional_index owner))
+        requires no_else { has_else (slice_get (bench self.old).nests owner.id.index)
             ≡ false }
         ensures { Grows self.old self.new result next_block (with_else_if owner condition) }
     {
@@ -142,7 +141,7 @@ impl Ast {
         owner: Conditional,
     ) -> Result<VastStatementBlock, AllocError>
         requires owner { OwnsConditional (bench self.old) owner }
-        requires no_else { has_else (slice_get (bench self.old).nests (conditional_index owner))
+        requires no_else { has_else (slice_get (bench self.old).nests owner.id.index)
             ≡ false }
         ensures { Grows self.old self.new result next_block (with_else owner) }
     {
@@ -177,15 +176,15 @@ impl Ast {
     /// The parts of a conditional. They are the file's, and its blocks are newer than it.
     pub fn conditional(&self, c: Conditional) -> &ConditionalNode
         requires { OwnsConditional (bench self.now) c }
-        ensures there { slice_get (bench self.now).nests (conditional_index c)
+        ensures there { slice_get (bench self.now).nests c.id.index
             ≡ Some (ConditionalNestRecord (conditional_record result.now)) }
-        ensures tree { families (bench self.now) (conditional_index c)
+        ensures tree { families (bench self.now) c.id.index
             ≡ ConditionalFamily (tree_of (bench self.now) result.now.condition)
             (block_tree (bench self.now) result.now.consequent)
             (alternates_tree (bench self.now) result.now.else_ifs.items result.now.otherwise) }
-        ensures sound { ConditionalSound (bench self.now) (conditional_index c)
+        ensures sound { ConditionalSound (bench self.now) c.id.index
             (conditional_record result.now) }
-        ensures small { conditional_index c < 2 ^ 63 }
+        ensures small { c.id.index < 2 ^ 63 }
     {
         match self.nest_at(c.id.index) {
             Some(Nest::Conditional(node)) => node,
@@ -199,7 +198,7 @@ impl Ast {
     /// Whether the conditional has an `else`.
     pub fn conditional_has_else(&self, c: Conditional) -> bool
         requires { OwnsConditional (bench self.now) c }
-        ensures { result ≡ has_else (slice_get (bench self.now).nests (conditional_index c)) }
+        ensures { result ≡ has_else (slice_get (bench self.now).nests c.id.index) }
     {
         self.conditional(c).otherwise.is_some()
     }
@@ -207,15 +206,15 @@ impl Ast {
     /// The parts of a case statement. They are the file's, and its blocks are newer than it.
     pub fn case(&self, c: CaseStatement) -> &CaseNode
         requires { OwnsCase (bench self.now) c }
-        ensures there { slice_get (bench self.now).nests (case_index c)
+        ensures there { slice_get (bench self.now).nests c.id.index
             ≡ Some (CaseNestRecord (case_record result.now)) }
-        ensures tree { families (bench self.now) (case_index c)
+        ensures tree { families (bench self.now) c.id.index
             ≡ CaseFamily
             (CaseTree result.now.unique result.now.kind
             (tree_of (bench self.now) result.now.selector)
             (case_arms_tree (bench self.now) result.now.arms.items)) }
-        ensures sound { CaseSound (bench self.now) (case_index c) (case_record result.now) }
-        ensures small { case_index c < 2 ^ 63 }
+        ensures sound { CaseSound (bench self.now) c.id.index (case_record result.now) }
+        ensures small { c.id.index < 2 ^ 63 }
     {
         match self.nest_at(c.id.index) {
             Some(Nest::Case(node)) => node,

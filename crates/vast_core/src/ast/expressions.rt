@@ -1,7 +1,6 @@
 //! Expressions of a file.
 
 ghost use Rattle.std.specs.Prelude.{◌≡◌, IsTrue, All, IfSome, string_bytes};
-ghost use Rattle.vast_core.specs.Handles.{indexable_expr_to_expr, expr_to_indexable_expr};
 ghost use Rattle.vast_core.specs.Nodes.{ExprChildrenHold, expr_tree, maybe_exprs_in};
 ghost use Rattle.vast_core.specs.Types.{ExprFits};
 ghost use Rattle.vast_core.specs.Bench.{OwnsExpr, OwnsIndexable, OwnsType, tree_of};
@@ -22,7 +21,7 @@ impl Ast {
     /// The same node as an expression that may be selected from.
     pub fn indexable(&self, e: Expr) -> IndexableExpr
         requires { OwnsExpr (bench self.now) e }
-        ensures { result ≡ expr_to_indexable_expr e }
+        ensures { result ≡ record { id = e.id } }
     {
         IndexableExpr { id: e.id }
     }
@@ -55,7 +54,7 @@ impl Ast {
         requires index { OwnsExpr (bench self.old) index }
         ensures { Grows self.old self.new result next_index
             (λ b. with_expr
-            (IndexTree (tree_of b (indexable_expr_to_expr subject)) (tree_of b index)) b) }
+            (IndexTree (tree_of b (record { id = subject.id })) (tree_of b index)) b) }
     {
         let select = self.push_expr(ExprNode::Index(subject.to_expr(), index))?;
         Ok(Index { id: select.id })
@@ -106,7 +105,7 @@ impl Ast {
         requires low { OwnsExpr (bench self.old) low }
         ensures { Grows self.old self.new result next_slice
             (λ b. with_expr
-            (SliceTree (tree_of b (indexable_expr_to_expr subject)) (tree_of b high)
+            (SliceTree (tree_of b (record { id = subject.id })) (tree_of b high)
             (tree_of b low)) b) }
     {
         let select = self.push_expr(ExprNode::Slice(subject.to_expr(), high, low))?;

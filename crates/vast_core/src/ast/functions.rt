@@ -1,7 +1,6 @@
 //! Functions of modules.
 
 ghost use Rattle.std.specs.Prelude.{◌≡◌, Some, slice_get};
-ghost use Rattle.vast_core.specs.Handles.{function_index};
 ghost use Rattle.vast_core.specs.Records.{FunctionEntry};
 ghost use Rattle.vast_core.specs.Nests.{function_record};
 ghost use Rattle.vast_core.specs.Bench.{NameIsFree, OwnsModule, OwnsType, OwnsFunction};
@@ -72,7 +71,7 @@ impl Ast {
     /// A function. Its types, its result's name and its body are the file's.
     pub fn function(&self, f: VastFunction) -> &Function
         requires { OwnsFunction (bench self.now) f }
-        ensures there { slice_get (bench self.now).functions (function_index f)
+        ensures there { slice_get (bench self.now).functions f.id.index
             ≡ Some (function_record result.now) }
         ensures sound { FunctionSound (bench self.now) (function_record result.now) }
     {

@@ -1,8 +1,8 @@
 //! The one growth of the arenas: nodes that come, and the entry of a list that names them.
 
 ghost use Rattle.std.specs.Prelude.{◌≡◌, ◌+◌, ◌-◌, ◌≤◌, ◌<◌, OnOk, OnErr, length, map, vec_capacity, vec_len};
-ghost use Rattle.vast_core.specs.Records.{module_record, member_entry, file_entry, parameter_port_record, changed_at, with_port, with_parameter_port, with_member, with_named_member};
-ghost use Rattle.vast_core.specs.Nests.{nest_record, statement_entry, function_record, variable_record};
+ghost use Rattle.vast_core.specs.Records.{module_record, file_entry, parameter_port_record, changed_at, with_port, with_parameter_port, with_member, with_named_member};
+ghost use Rattle.vast_core.specs.Nests.{nest_record, statement_entry, function_record};
 ghost use Rattle.vast_core.specs.Functions.{with_listed_variable};
 ghost use Rattle.vast_core.specs.Containers.{StatementEnters, ElseIfEnters, ElseEnters, CaseArmEnters, MemberEnters, with_entry};
 ghost use Rattle.vast_core.specs.Internal.Containers.{with_listed, listed_modules, listed_nests, listed_functions, listed_items, listed_spare, spare_left, GrowthSound, HasRoom, after_growth};
@@ -95,7 +95,7 @@ impl Nest {
     fn add_member(&mut self, member: Member) -> Result<(), AllocError>
         ensures ok { OnOk result
             (nest_record self.new
-            ≡ with_entry (MemberEnters (member_entry member)) (nest_record self.old)) }
+            ≡ with_entry (MemberEnters member) (nest_record self.old)) }
         ensures err { OnErr result (nest_record self.new ≡ nest_record self.old) }
     {
         if let Nest::Loop(node) = self {
@@ -148,7 +148,7 @@ impl Module {
 
     fn push_member(&mut self, member: Member) -> Result<(), AllocError>
         ensures ok { OnOk result
-            (module_record self.new ≡ with_member (member_entry member) (module_record self.old)) }
+            (module_record self.new ≡ with_member member (module_record self.old)) }
         ensures err { OnErr result (module_record self.new ≡ module_record self.old) }
     {
         self.members.push(member)?;
@@ -159,7 +159,7 @@ impl Module {
     fn enter_member(&mut self, member: Member, name: &str) -> Result<(), AllocError>
         ensures ok { OnOk result
             (module_record self.new
-            ≡ with_named_member (member_entry member) name.now (module_record self.old)) }
+            ≡ with_named_member member name.now (module_record self.old)) }
         ensures err { OnErr result (module_record self.new ≡ module_record self.old) }
     {
         self.members.reserve(1)?;
@@ -172,7 +172,7 @@ impl Module {
     fn enter(&mut self, member: Member, name: Option<&str>) -> Result<(), AllocError>
         ensures ok { OnOk result
             (module_record self.new
-            ≡ with_listed (member_entry member) (name_of name.entry) (module_record self.old)) }
+            ≡ with_listed member (name_of name.entry) (module_record self.old)) }
         ensures err { OnErr result (module_record self.new ≡ module_record self.old) }
     {
         match name {
@@ -243,7 +243,7 @@ pub(crate) fn enter_module(
     requires { owner.id.index < length modules.old.items }
     ensures ok { OnOk result
         (map module_record modules.new.items
-        ≡ changed_at owner.id.index (with_listed (member_entry member) (name_of name.entry))
+        ≡ changed_at owner.id.index (with_listed member (name_of name.entry))
         (map module_record modules.old.items)) }
     ensures err { OnErr result
         (map module_record modules.new.items ≡ map module_record modules.old.items) }
@@ -263,7 +263,7 @@ fn enter_function(
     requires { owner.id.index < length functions.old.items }
     ensures ok { OnOk result
         (map function_record functions.new.items
-        ≡ changed_at owner.id.index (with_listed_variable local (variable_record variable))
+        ≡ changed_at owner.id.index (with_listed_variable local variable)
         (map function_record functions.old.items)) }
     ensures err { OnErr result
         (map function_record functions.new.items ≡ map function_record functions.old.items) }

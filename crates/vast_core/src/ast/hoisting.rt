@@ -1,8 +1,7 @@
 //! Hoisting of declarations.
 
 ghost use Rattle.std.specs.Prelude.{◌≡◌, ◌≤◌, OnOk, OnErr, length, slice_get};
-ghost use Rattle.vast_core.specs.Handles.{module_index};
-ghost use Rattle.vast_core.specs.Records.{module_record, member_entry};
+ghost use Rattle.vast_core.specs.Records.{module_record};
 ghost use Rattle.vast_core.specs.Bench.{OwnsModule};
 ghost use Rattle.vast_core.specs.Hoisting.{is_declaration, members_of, with_members_hoisted, with_hoisted};
 ghost use Rattle.vast_core.specs.Growth.{GrowsBy};
@@ -16,7 +15,7 @@ use std::alloc::AllocError;
 impl Member {
     /// Whether it declares a wire, a reg or a logic.
     fn is_declaration(&self) -> bool
-        ensures { result ≡ is_declaration (member_entry self.now) }
+        ensures { result ≡ is_declaration self.now }
     {
         match self {
             Member::Declaration(_, _, _) => true,
@@ -58,7 +57,7 @@ impl Ast {
     pub fn hoist_declarations(&mut self, owner: VastModule, start: usize) -> Result<(), AllocError>
         requires owner { OwnsModule (bench self.old) owner }
         requires start { start
-            ≤ length (members_of (slice_get (bench self.old).modules (module_index owner))) }
+            ≤ length (members_of (slice_get (bench self.old).modules owner.id.index)) }
         ensures { GrowsBy self.old self.new result (with_hoisted owner start) }
     {
         let target = &mut self.modules[owner.id.index];

@@ -1,8 +1,7 @@
 //! Generate loops.
 
-ghost use Rattle.std.specs.Prelude.{[], ◌≡◌, ◌<◌, ◌^◌, All, None, Some, slice_get, map, string_bytes};
-ghost use Rattle.vast_core.specs.Handles.{loop_index};
-ghost use Rattle.vast_core.specs.Records.{member_entry, LoopEntry};
+ghost use Rattle.std.specs.Prelude.{[], ◌≡◌, ◌<◌, ◌^◌, All, None, Some, slice_get, string_bytes};
+ghost use Rattle.vast_core.specs.Records.{LoopEntry};
 ghost use Rattle.vast_core.specs.Nests.{label_bytes, loop_record, LoopNestRecord};
 ghost use Rattle.vast_core.specs.Bench.{OwnsLoop, OwnsExpr, OwnsLogicRef, tree_of};
 ghost use Rattle.vast_core.specs.Sound.{LoopMemberSound};
@@ -75,20 +74,20 @@ impl Ast {
     /// The parts of a loop. They are the file's, and the containers in its members are newer than it.
     pub fn generate_loop(&self, l: GenerateLoop) -> &LoopNode
         requires { OwnsLoop (bench self.now) l }
-        ensures there { slice_get (bench self.now).nests (loop_index l)
+        ensures there { slice_get (bench self.now).nests l.id.index
             ≡ Some (LoopNestRecord (loop_record result.now)) }
-        ensures tree { families (bench self.now) (loop_index l)
+        ensures tree { families (bench self.now) l.id.index
             ≡ LoopFamily
             (LoopMember (string_bytes result.now.name) (tree_of (bench self.now) result.now.start)
             (tree_of (bench self.now) result.now.end) (label_bytes result.now.label)
-            (members_tree (bench self.now) (map member_entry result.now.members.items))) }
+            (members_tree (bench self.now) result.now.members.items)) }
         ensures genvar { OwnsLogicRef (bench self.now) result.now.genvar }
         ensures start { OwnsExpr (bench self.now) result.now.start }
         ensures end { OwnsExpr (bench self.now) result.now.end }
         ensures members { All
-            (λ m. LoopMemberSound (bench self.now) (loop_index l) (member_entry m))
+            (λ m. LoopMemberSound (bench self.now) l.id.index m)
             result.now.members.items }
-        ensures small { loop_index l < 2 ^ 63 }
+        ensures small { l.id.index < 2 ^ 63 }
     {
         match self.nest_at(l.id.index) {
             Some(Nest::Loop(node)) => node,

@@ -1,8 +1,7 @@
 //! Modules, and the items of the file.
 
 ghost use Rattle.std.specs.Prelude.{◌≡◌, ◌↔◌, IsTrue, All, length, map, slice_get};
-ghost use Rattle.vast_core.specs.Handles.{module_index};
-ghost use Rattle.vast_core.specs.Records.{module_record, parameter_port_record, member_entry, file_entry, IsFree, IncludeEntry, FileCommentEntry, FileBlankEntry};
+ghost use Rattle.vast_core.specs.Records.{module_record, parameter_port_record, file_entry, IsFree, IncludeEntry, FileCommentEntry, FileBlankEntry};
 ghost use Rattle.vast_core.specs.Bench.{OwnsModule, OwnsPort};
 ghost use Rattle.vast_core.specs.Sound.{MemberSound, ParameterPortSound, EntrySound};
 ghost use Rattle.vast_core.specs.Growth.{Grows, GrowsBy, next_module, with_module, with_item};
@@ -98,13 +97,13 @@ impl Ast {
     /// A module's name, lists and names. Its ports and what its members are made of are the file's.
     pub fn module(&self, m: VastModule) -> &Module
         requires { OwnsModule (bench self.now) m }
-        ensures there { slice_get (bench self.now).modules (module_index m)
+        ensures there { slice_get (bench self.now).modules m.id.index
             ≡ Some (module_record result.now) }
         ensures parameters { All
             (λ x. ParameterPortSound (bench self.now) (parameter_port_record x))
             result.now.parameters.items }
         ensures ports { All (OwnsPort (bench self.now)) result.now.ports.items }
-        ensures members { All (λ x. MemberSound (bench self.now) (member_entry x))
+        ensures members { All (MemberSound (bench self.now))
             result.now.members.items }
     {
         &self.modules[m.id.index]
@@ -114,7 +113,7 @@ impl Ast {
     pub fn member_count(&self, m: VastModule) -> usize
         requires { OwnsModule (bench self.now) m }
         ensures { result
-            ≡ length (members_of (slice_get (bench self.now).modules (module_index m))) }
+            ≡ length (members_of (slice_get (bench self.now).modules m.id.index)) }
     {
         self.module(m).members.len()
     }

@@ -2,7 +2,6 @@
 //! several times as much.
 
 ghost use Rattle.std.specs.Prelude.{Some, None};
-ghost use Rattle.vast_core.specs.Records.{member_entry};
 ghost use Rattle.vast_core.specs.Internal.Containers.{InModule, GrowthSound, after_growth, no_fresh};
 ghost use Rattle.vast_core.specs.Internal.Fresh.{fresh_term};
 ghost use Rattle.vast_core.specs.Growth.{GrowsBy};
@@ -26,10 +25,10 @@ impl Ast {
         name: &str,
         node: ExprNode,
     ) -> Result<(), AllocError>
-        requires { GrowthSound (bench self.old) (InModule owner (member_entry member) (Some name.now))
+        requires { GrowthSound (bench self.old) (InModule owner member (Some name.now))
             (fresh_term node) }
         ensures { GrowsBy self.old self.new result
-            (after_growth (InModule owner (member_entry member) (Some name.now))
+            (after_growth (InModule owner member (Some name.now))
             (fresh_term node)) }
     {
         self.terms.reserve(1)?;
@@ -47,9 +46,9 @@ impl Ast {
         owner: VastModule,
         member: Member,
     ) -> Result<(), AllocError>
-        requires { GrowthSound (bench self.old) (InModule owner (member_entry member) None) no_fresh }
+        requires { GrowthSound (bench self.old) (InModule owner member None) no_fresh }
         ensures { GrowsBy self.old self.new result
-            (after_growth (InModule owner (member_entry member) None) no_fresh) }
+            (after_growth (InModule owner member None) no_fresh) }
     {
         enter_module(&mut self.modules, owner, member, None)?;
         Ok(())

@@ -2,7 +2,6 @@
 
 ghost use Rattle.std.specs.Prelude.{◌≡◌, IfOk, false, true, None, IfSome};
 ghost use Rattle.vast_core.specs.declared.ast.scope.Scope.TheVariants.{Module as ScopeModule};
-ghost use Rattle.vast_core.specs.Records.{form_entry};
 ghost use Rattle.vast_core.specs.Bench.{OwnsModule, OwnsExpr, OwnsType};
 ghost use Rattle.vast_core.specs.Sound.{FormSound};
 ghost use Rattle.vast_core.specs.Growth.{Grows, next_expr, next_logic_ref};
@@ -63,8 +62,8 @@ impl Ast {
 
     /// The name of what the form declares, with its type where it has one.
     fn declared_by(&self, form: &ParameterForm) -> Result<(Word, Option<VastDataType>), AllocError>
-        requires { FormSound (bench self.now) (form_entry form.now) }
-        ensures { IfOk result (IsDeclaredBy (bench self.now) (form_entry form.now)) }
+        requires { FormSound (bench self.now) form.now }
+        ensures { IfOk result (IsDeclaredBy (bench self.now) form.now) }
     {
         match form {
             ParameterForm::Plain(name) => Ok((Word::new(self.alloc, name.as_str())?, None)),
@@ -86,10 +85,10 @@ impl Ast {
         value: Expr,
     ) -> Result<Expr, AllocError>
         requires scope { OwnsScope (bench self.old) scope }
-        requires form { FormSound (bench self.old) (form_entry form) }
+        requires form { FormSound (bench self.old) form }
         requires value { OwnsExpr (bench self.old) value }
         ensures { Grows self.old self.new result next_expr
-            (with_scope_parameter scope local (form_entry form) value) }
+            (with_scope_parameter scope local form value) }
     {
         let (name, data_type) = self.declared_by(&form)?;
         let expr = Expr {
@@ -119,10 +118,10 @@ impl Ast {
         value: Expr,
     ) -> Result<ParameterRef, AllocError>
         requires owner { OwnsModule (bench self.old) owner }
-        requires form { FormSound (bench self.old) (form_entry form) }
+        requires form { FormSound (bench self.old) form }
         requires value { OwnsExpr (bench self.old) value }
         ensures { Grows self.old self.new result next_parameter_ref
-            (with_scope_parameter (ScopeModule owner) false (form_entry form) value) }
+            (with_scope_parameter (ScopeModule owner) false form value) }
     {
         let expr = self.push_parameter_member(Scope::Module(owner), false, form, value)?;
         Ok(ParameterRef { id: expr.id })
@@ -140,10 +139,10 @@ impl Ast {
         value: Expr,
     ) -> Result<LocalparamRef, AllocError>
         requires scope { OwnsScope (bench self.old) scope }
-        requires form { FormSound (bench self.old) (form_entry form) }
+        requires form { FormSound (bench self.old) form }
         requires value { OwnsExpr (bench self.old) value }
         ensures { Grows self.old self.new result next_localparam_ref
-            (with_scope_parameter scope true (form_entry form) value) }
+            (with_scope_parameter scope true form value) }
     {
         let expr = self.push_parameter_member(scope, true, form, value)?;
         Ok(LocalparamRef { id: expr.id })

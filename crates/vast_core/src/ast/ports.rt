@@ -1,8 +1,6 @@
 //! Ports of modules.
 
 ghost use Rattle.std.specs.Prelude.{◌≡◌, slice_get};
-ghost use Rattle.vast_core.specs.Handles.{port_index};
-ghost use Rattle.vast_core.specs.Records.{port_record};
 ghost use Rattle.vast_core.specs.Bench.{NameIsFree, OwnsModule, OwnsPort, OwnsType, OwnsLogicRef};
 ghost use Rattle.vast_core.specs.Growth.{Grows, next_logic_ref, with_port};
 ghost use Rattle.vast_core.specs.View.{bench};
@@ -64,8 +62,8 @@ impl Ast {
     /// A port of a module. Its type and its name are the file's.
     pub fn port(&self, p: ModulePort) -> &Port
         requires { OwnsPort (bench self.now) p }
-        ensures there { slice_get (bench self.now).ports (port_index p)
-            ≡ Some (port_record result.now) }
+        ensures there { slice_get (bench self.now).ports p.id.index
+            ≡ Some result.now }
         ensures data_type { OwnsType (bench self.now) result.now.data_type }
         ensures logic_ref { OwnsLogicRef (bench self.now) result.now.logic_ref }
     {

@@ -1,7 +1,6 @@
 //! What has members: modules and generate loops.
 
 ghost use Rattle.std.specs.Prelude.{◌≡◌};
-ghost use Rattle.vast_core.specs.Records.{member_entry};
 ghost use Rattle.vast_core.specs.Scopes.{OwnsScope, IsShared, with_scope_member};
 ghost use Rattle.vast_core.specs.Internal.Scopes.{listing_in};
 ghost use Rattle.vast_core.specs.Internal.Arrivals.{listing_of, fresh_of};
@@ -30,7 +29,7 @@ impl<'a> Place<'a> {
     /// At the end of the scope's members, without a name.
     #[inline(always)]
     pub(crate) fn in_scope(scope: Scope, member: Member) -> Place<'a>
-        ensures { listing_of result ≡ listing_in scope (member_entry member) }
+        ensures { listing_of result ≡ listing_in scope member }
     {
         match scope {
             Scope::Module(owner) => Place::Module(owner, member, None),
@@ -51,10 +50,10 @@ impl Ast {
         member: Member,
         arrivals: Arrivals,
     ) -> Result<(), AllocError>
-        requires { GrowthSound (bench self.old) (listing_in scope (member_entry member))
+        requires { GrowthSound (bench self.old) (listing_in scope member)
             (fresh_of arrivals) }
         ensures { GrowsBy self.old self.new result
-            (λ b. with_scope_member scope (member_entry member)
+            (λ b. with_scope_member scope member
             (with_fresh (fresh_of arrivals) b)) }
     {
         self.grow(Place::in_scope(scope, member), arrivals)
@@ -68,9 +67,9 @@ impl Ast {
     #[tactic(auto, using(crate::proofs::EntersScopes::enters_scopes))]
     pub fn append_member(&mut self, scope: Scope, member: Member) -> Result<(), AllocError>
         requires scope { OwnsScope (bench self.old) scope }
-        requires member { MemberSound (bench self.old) (member_entry member) }
-        requires shared { IsShared (member_entry member) }
-        ensures { GrowsBy self.old self.new result (with_scope_member scope (member_entry member)) }
+        requires member { MemberSound (bench self.old) member }
+        requires shared { IsShared member }
+        ensures { GrowsBy self.old self.new result (with_scope_member scope member) }
     {
         match scope {
             Scope::Module(owner) => self.grow_listed(owner, member),

@@ -2,7 +2,7 @@
 
 ghost use Rattle.std.specs.Prelude.{◌≡◌, ◌↔◌, IsTrue, OnOk, OnErr, false, true};
 ghost use Rattle.vast_core.specs.Records.{IsFree};
-ghost use Rattle.vast_core.specs.Nests.{function_record, variable_record};
+ghost use Rattle.vast_core.specs.Nests.{function_record};
 ghost use Rattle.vast_core.specs.Bench.{OwnsFunction, OwnsType, IsFreeInFunction};
 ghost use Rattle.vast_core.specs.Growth.{Grows, next_logic_ref};
 ghost use Rattle.vast_core.specs.WrittenKinds.{IsVariableKind};
@@ -29,7 +29,7 @@ impl Function {
     fn enter_input(&mut self, variable: FunctionVariable) -> Result<(), AllocError>
         ensures ok { OnOk result
             (function_record self.new
-            ≡ with_listed_variable false (variable_record variable)
+            ≡ with_listed_variable false variable
             (function_record self.old)) }
         ensures err { OnErr result (function_record self.new ≡ function_record self.old) }
     {
@@ -42,7 +42,7 @@ impl Function {
     fn enter_local(&mut self, variable: FunctionVariable) -> Result<(), AllocError>
         ensures ok { OnOk result
             (function_record self.new
-            ≡ with_listed_variable true (variable_record variable) (function_record self.old)) }
+            ≡ with_listed_variable true variable (function_record self.old)) }
         ensures err { OnErr result (function_record self.new ≡ function_record self.old) }
     {
         self.locals.reserve(1)?;
@@ -59,7 +59,7 @@ impl Function {
     ) -> Result<(), AllocError>
         ensures ok { OnOk result
             (function_record self.new
-            ≡ with_listed_variable local (variable_record variable)
+            ≡ with_listed_variable local variable
             (function_record self.old)) }
         ensures err { OnErr result (function_record self.new ≡ function_record self.old) }
     {

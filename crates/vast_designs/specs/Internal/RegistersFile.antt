@@ -9,7 +9,6 @@ use Rattle.vast_core.specs.declared.handle.LogicRef.{LogicRef}
 use Rattle.vast_literal.specs.declared.kind.VastFileType.TheVariants.{SystemVerilog}
 use Rattle.vast_literal.specs.declared.kind.ModulePortDirection.TheVariants.{Input}
 use Rattle.vast_literal.specs.declared.kind.DataKind.TheVariants.{Wire, Logic}
-use Rattle.vast_core.specs.Handles.{logic_ref_to_expr}
 use Rattle.vast_core.specs.Bench.{Bench, start}
 use Rattle.vast_core.specs.Growth.{with_module, with_port, with_declaration, with_expr, with_type}
 use Rattle.xlsynth_vast.specs.declared.helpers.registers.RegisterDefinition.{RegisterDefinition}
@@ -71,10 +70,10 @@ the_values = record { first = first_value; second = second_value }
 -- The two registers.
 
 abbrev pub enabled : Signals → State → Values → RegisterDefinition
-enabled signals state values = record { reg = logic_ref_to_expr state.first; next = logic_ref_to_expr state.first_next; reset_value = Some values.first; enable = Some (logic_ref_to_expr signals.enable) }
+enabled signals state values = record { reg = record { id = state.first.id }; next = record { id = state.first_next.id }; reset_value = Some values.first; enable = Some (record { id = signals.enable.id }) }
 
 abbrev pub plain : State → Values → RegisterDefinition
-plain state values = record { reg = logic_ref_to_expr state.second; next = logic_ref_to_expr state.second_next; reset_value = Some values.second; enable = None }
+plain state values = record { reg = record { id = state.second.id }; next = record { id = state.second_next.id }; reset_value = Some values.second; enable = None }
 
 -- The file behind each part, before the registers are added.
 

@@ -1,5 +1,5 @@
 -- Beside `specs/Literal.antt`: what private contracts and proofs say, and no public one.
-use Rattle.std.specs.Prelude.{◌-◌, ◌^◌, ◌<◌, ◌≤◌}
+use Rattle.std.specs.Prelude.{◌^◌, ◌<◌, ◌≤◌}
 use Rattle.vast_literal.specs.Literal.{Bits}
 
 -- What a literal is: 1 to 1,048,576 bits, and a number below 2 to the power of the width and below 2^128.

@@ -1,8 +1,6 @@
-use Rattle.std.proofs.Common.{◌+◌, map, string_bytes, arith}
+use Rattle.std.proofs.Common.{◌+◌, string_bytes, arith}
 use Rattle.vast_core.specs.declared.node.Member.{Member}
-use Rattle.vast_core.specs.Handles.{loop_index}
 use Rattle.vast_core.specs.Bench.{tree_of}
-use Rattle.vast_core.specs.Records.{member_entry}
 use Rattle.vast_core.specs.Nests.{label_bytes}
 use Rattle.vast_core.specs.FileTree.{members_tree}
 use Rattle.vast_core.specs.View.{bench}
@@ -29,10 +27,10 @@ pub generate_loop::print_loop-loop-member-init : goal.generate_loop::print_loop-
 generate_loop::print_loop-loop-member-init t c =
     let n = c.generate_loop-node.result.now in
     let b = bench c.args.ast.now in
-    grind (arith, hang-held-loop b c.args.depth (Wet c.args.out.now) b.file_type (loop_index c.args.l) (string_bytes n.name) (tree_of b n.start) (tree_of b n.end) (label_bytes n.label) (members_tree b (map member_entry n.members.items)) c.generate_loop-node.ensures.tree)
+    grind (arith, hang-held-loop b c.args.depth (Wet c.args.out.now) b.file_type c.args.l.id.index (string_bytes n.name) (tree_of b n.start) (tree_of b n.end) (label_bytes n.label) (members_tree b n.members.items) c.generate_loop-node.ensures.tree)
 
 pub generate_loop::print_loop-returns-in_err-print_header : goal.generate_loop::print_loop-returns-in_err-print_header
 generate_loop::print_loop-returns-in_err-print_header t c =
     let n = c.generate_loop-node.result.now in
     let b = bench c.args.ast.now in
-    grind (arith, stops, hang-held-loop b c.args.depth (Wet c.args.out.now) b.file_type (loop_index c.args.l) (string_bytes n.name) (tree_of b n.start) (tree_of b n.end) (label_bytes n.label) (members_tree b (map member_entry n.members.items)) c.generate_loop-node.ensures.tree)
+    grind (arith, stops, hang-held-loop b c.args.depth (Wet c.args.out.now) b.file_type c.args.l.id.index (string_bytes n.name) (tree_of b n.start) (tree_of b n.end) (label_bytes n.label) (members_tree b n.members.items) c.generate_loop-node.ensures.tree)

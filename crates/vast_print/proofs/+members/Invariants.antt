@@ -1,6 +1,4 @@
-use Rattle.std.proofs.Common.{◌≡◌, ◌+◌, drop, map, codes}
-use Rattle.vast_core.specs.Handles.{loop_index}
-use Rattle.vast_core.specs.Records.{member_entry}
+use Rattle.std.proofs.Common.{◌≡◌, ◌+◌, drop, codes}
 use Rattle.vast_core.specs.FileTree.{families, loop_member, members_tree}
 use Rattle.vast_core.specs.View.{bench}
 use Rattle.vast_print.specs.Ink.{Wet, word, next, hang}
@@ -9,12 +7,12 @@ use Rattle.vast_print.proofs.Heights.{height, member_height}
 use Rattle.vast_print.proofs.+members.Given as goal
 
 abbrev pub decreases-member::print_member : goal.decreases-member::print_member
-decreases-member::print_member l = member_height (member_entry l.member.now)
+decreases-member::print_member l = member_height l.member.now
 
 abbrev pub decreases-generate_loop::print_loop : goal.decreases-generate_loop::print_loop
-decreases-generate_loop::print_loop l = height (loop_index l.l)
+decreases-generate_loop::print_loop l = height l.l.id.index
 
 abbrev pub invariant-generate_loop::print_loop-loop-member : goal.invariant-generate_loop::print_loop-loop-member
 invariant-generate_loop::print_loop-loop-member l =
-    hang l.depth (Wet l.fn.out) (member_page (bench l.ast).file_type (loop_member (families (bench l.ast) (loop_index l.fn.l))))
-    ≡ word (next l.depth (hang (l.depth + 1) (Wet l.out) (members_page (bench l.ast).file_type (members_tree (bench l.ast) (map member_entry (drop l.member-index l.member-items)))))) (codes "end")
+    hang l.depth (Wet l.fn.out) (member_page (bench l.ast).file_type (loop_member (families (bench l.ast) l.fn.l.id.index)))
+    ≡ word (next l.depth (hang (l.depth + 1) (Wet l.out) (members_page (bench l.ast).file_type (members_tree (bench l.ast) (drop l.member-index l.member-items))))) (codes "end")

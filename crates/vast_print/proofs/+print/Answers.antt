@@ -4,7 +4,6 @@ use Rattle.vast_core.specs.declared.handle.VastStatementBlock.{VastStatementBloc
 use Rattle.vast_core.specs.declared.node.Statement.{Statement}
 use Rattle.vast_core.specs.declared.node.ElseIf.{ElseIf}
 use Rattle.vast_core.specs.declared.node.CaseArm.{CaseArm}
-use Rattle.vast_core.specs.Handles.{block_index, conditional_index, case_index}
 use Rattle.vast_core.specs.Bench.{tree_of}
 use Rattle.vast_core.specs.FileTree.{block_tree, alternates_tree, case_arms_tree}
 use Rattle.vast_core.specs.View.{bench}
@@ -30,34 +29,34 @@ statement::print_statements-returns t c =
 pub case::print_case-returns-in_err-print_selector : goal.case::print_case-returns-in_err-print_selector
 case::print_case-returns-in_err-print_selector t c =
     let n = c.case-node.result.now in
-    grind (arith, stops, hang-held-case (bench c.args.ast.now) c.args.depth (Wet c.args.out.now) (case_index c.args.c) n.unique n.kind (tree_of (bench c.args.ast.now) n.selector) (case_arms_tree (bench c.args.ast.now) n.arms.items) c.case-node.ensures.tree)
+    grind (arith, stops, hang-held-case (bench c.args.ast.now) c.args.depth (Wet c.args.out.now) c.args.c.id.index n.unique n.kind (tree_of (bench c.args.ast.now) n.selector) (case_arms_tree (bench c.args.ast.now) n.arms.items) c.case-node.ensures.tree)
 
 pub case::print_case-loop-arm-init : goal.case::print_case-loop-arm-init
 case::print_case-loop-arm-init t c =
     let n = c.case-node.result.now in
-    grind (arith, hang-held-case (bench c.args.ast.now) c.args.depth (Wet c.args.out.now) (case_index c.args.c) n.unique n.kind (tree_of (bench c.args.ast.now) n.selector) (case_arms_tree (bench c.args.ast.now) n.arms.items) c.case-node.ensures.tree)
+    grind (arith, hang-held-case (bench c.args.ast.now) c.args.depth (Wet c.args.out.now) c.args.c.id.index n.unique n.kind (tree_of (bench c.args.ast.now) n.selector) (case_arms_tree (bench c.args.ast.now) n.arms.items) c.case-node.ensures.tree)
 
 pub conditional::print_conditional-returns-in_err-print_condition : goal.conditional::print_conditional-returns-in_err-print_condition
 conditional::print_conditional-returns-in_err-print_condition t c =
     let n = c.conditional-node.result.now in
-    grind (arith, stops, hang-held-conditional (bench c.args.ast.now) c.args.depth (Wet c.args.out.now) (conditional_index c.args.c) (tree_of (bench c.args.ast.now) n.condition) (block_tree (bench c.args.ast.now) n.consequent) (alternates_tree (bench c.args.ast.now) n.else_ifs.items n.otherwise) c.conditional-node.ensures.tree)
+    grind (arith, stops, hang-held-conditional (bench c.args.ast.now) c.args.depth (Wet c.args.out.now) c.args.c.id.index (tree_of (bench c.args.ast.now) n.condition) (block_tree (bench c.args.ast.now) n.consequent) (alternates_tree (bench c.args.ast.now) n.else_ifs.items n.otherwise) c.conditional-node.ensures.tree)
 
 pub conditional::print_conditional-returns-in_err-print_block : goal.conditional::print_conditional-returns-in_err-print_block
 conditional::print_conditional-returns-in_err-print_block t c =
     let n = c.conditional-node.result.now in
-    grind (arith, stops, hang-held-conditional (bench c.args.ast.now) c.args.depth (Wet c.args.out.now) (conditional_index c.args.c) (tree_of (bench c.args.ast.now) n.condition) (block_tree (bench c.args.ast.now) n.consequent) (alternates_tree (bench c.args.ast.now) n.else_ifs.items n.otherwise) c.conditional-node.ensures.tree)
+    grind (arith, stops, hang-held-conditional (bench c.args.ast.now) c.args.depth (Wet c.args.out.now) c.args.c.id.index (tree_of (bench c.args.ast.now) n.condition) (block_tree (bench c.args.ast.now) n.consequent) (alternates_tree (bench c.args.ast.now) n.else_ifs.items n.otherwise) c.conditional-node.ensures.tree)
 
 pub conditional::print_conditional-loop-arm-init : goal.conditional::print_conditional-loop-arm-init
 conditional::print_conditional-loop-arm-init t c =
     let n = c.conditional-node.result.now in
-    grind (arith, hang-held-conditional (bench c.args.ast.now) c.args.depth (Wet c.args.out.now) (conditional_index c.args.c) (tree_of (bench c.args.ast.now) n.condition) (block_tree (bench c.args.ast.now) n.consequent) (alternates_tree (bench c.args.ast.now) n.else_ifs.items n.otherwise) c.conditional-node.ensures.tree)
+    grind (arith, hang-held-conditional (bench c.args.ast.now) c.args.depth (Wet c.args.out.now) c.args.c.id.index (tree_of (bench c.args.ast.now) n.condition) (block_tree (bench c.args.ast.now) n.consequent) (alternates_tree (bench c.args.ast.now) n.else_ifs.items n.otherwise) c.conditional-node.ensures.tree)
 
 pub case::print_arm-returns-in-Some : goal.case::print_arm-returns-in-Some
 case::print_arm-returns-in-Some t c =
     let b = bench c.args.ast.now in
     let e = c.bare_assignment.ensures in
     let s = c.in-Some.s in
-    grind (arith, cases, c.block.ensures.tree, pour-arm-bare b (block_index c.args.arm.block) c.args.depth (Wet c.print_label.new.out) c.args.kind c.block.result.now s (sym c.in-Some.is ∙ e) c.block.ensures.sound)
+    grind (arith, cases, c.block.ensures.tree, pour-arm-bare b c.args.arm.block.id.index c.args.depth (Wet c.print_label.new.out) c.args.kind c.block.result.now s (sym c.in-Some.is ∙ e) c.block.ensures.sound)
 
 pub case::print_arm-returns-in-None : goal.case::print_arm-returns-in-None
 case::print_arm-returns-in-None t c =

@@ -1,5 +1,4 @@
 use Rattle.std.proofs.Common.{◌≡◌, ◌+◌, drop, map, codes}
-use Rattle.vast_core.specs.Handles.{block_index, conditional_index, case_index}
 use Rattle.vast_core.specs.Nests.{statement_entry}
 use Rattle.vast_core.specs.FileTree.{families, conditional_statement, case_statement, block_tree, statements_tree, alternates_tree, case_arms_tree}
 use Rattle.vast_core.specs.View.{bench}
@@ -9,22 +8,22 @@ use Rattle.vast_print.proofs.Heights.{height, statement_height}
 use Rattle.vast_print.proofs.+print.Given as goal
 
 abbrev pub decreases-statement::print_block : goal.decreases-statement::print_block
-decreases-statement::print_block l = height (block_index l.b) + 2
+decreases-statement::print_block l = height l.b.id.index + 2
 
 abbrev pub decreases-statement::print_statements : goal.decreases-statement::print_statements
-decreases-statement::print_statements l = height (block_index l.b) + 1
+decreases-statement::print_statements l = height l.b.id.index + 1
 
 abbrev pub decreases-statement::print_statement : goal.decreases-statement::print_statement
 decreases-statement::print_statement l = statement_height (statement_entry l.statement.now)
 
 abbrev pub decreases-conditional::print_conditional : goal.decreases-conditional::print_conditional
-decreases-conditional::print_conditional l = height (conditional_index l.c) + 4
+decreases-conditional::print_conditional l = height l.c.id.index + 4
 
 abbrev pub decreases-case::print_case : goal.decreases-case::print_case
-decreases-case::print_case l = height (case_index l.c) + 4
+decreases-case::print_case l = height l.c.id.index + 4
 
 abbrev pub decreases-case::print_arm : goal.decreases-case::print_arm
-decreases-case::print_arm l = height (block_index l.arm.block) + 3
+decreases-case::print_arm l = height l.arm.block.id.index + 3
 
 abbrev pub invariant-statement::print_statements-loop-statement : goal.invariant-statement::print_statements-loop-statement
 invariant-statement::print_statements-loop-statement l =
@@ -33,10 +32,10 @@ invariant-statement::print_statements-loop-statement l =
 
 abbrev pub invariant-conditional::print_conditional-loop-arm : goal.invariant-conditional::print_conditional-loop-arm
 invariant-conditional::print_conditional-loop-arm l =
-    hang l.depth (Wet l.fn.out) (statement_page (conditional_statement (families (bench l.ast) (conditional_index l.fn.c))))
+    hang l.depth (Wet l.fn.out) (statement_page (conditional_statement (families (bench l.ast) l.fn.c.id.index)))
     ≡ pour l.depth (Wet l.out) (alternates_page (alternates_tree (bench l.ast) (drop l.arm-index l.arm-items) l.node.otherwise))
 
 abbrev pub invariant-case::print_case-loop-arm : goal.invariant-case::print_case-loop-arm
 invariant-case::print_case-loop-arm l =
-    hang l.depth (Wet l.fn.out) (statement_page (case_statement (families (bench l.ast) (case_index l.fn.c))))
+    hang l.depth (Wet l.fn.out) (statement_page (case_statement (families (bench l.ast) l.fn.c.id.index)))
     ≡ word (next l.depth (hang (l.depth + 1) (Wet l.out) (arms_page l.node.kind (case_arms_tree (bench l.ast) (drop l.arm-index l.arm-items))))) (codes "endcase")

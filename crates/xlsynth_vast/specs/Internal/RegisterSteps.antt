@@ -2,7 +2,6 @@
 use Rattle.std.specs.Prelude.{◌≡◌, ◌<◌, ◌≤◌, List, length, Option, Result, Ok, Err}
 use Rattle.std.specs.declared.alloc.AllocError.{AllocError}
 use Rattle.vast_core.specs.declared.handle.VastStatementBlock.{VastStatementBlock}
-use Rattle.vast_core.specs.Handles.{block_index, loop_index}
 use Rattle.vast_core.specs.Bench.{Bench}
 use Rattle.vast_core.specs.Containers.{next_block}
 use Rattle.xlsynth_vast.specs.declared.helpers.registers.Reset.{Reset}
@@ -14,7 +13,7 @@ use Rattle.xlsynth_vast.specs.AddedRegisters.{with_register_block}
 
 -- What was unused since a file without the block, as the block itself, still is.
 abbrev pub StaysUnused : VastStatementBlock → (old new : Bench) → Type 0
-StaysUnused block old new = (start : Bench) → HasUnused start old → length start.nests ≤ block_index block → HasUnused start new
+StaysUnused block old new = (start : Bench) → HasUnused start old → length start.nests ≤ block.id.index → HasUnused start new
 
 -- The block is filled so, or memory was refused.
 abbrev pub MayFill : (old new : Bench) → Result (Unit {0}) AllocError → VastStatementBlock → (after : Bench) → Type 0
@@ -28,4 +27,4 @@ MayMakeBlock old new (Err _) reset registers = HasUnused old new
 -- What holds the block is older than it.
 abbrev pub IsOlderScope : RegisterScope → VastStatementBlock → Type 0
 IsOlderScope (ModuleScope owner) block = Unit {0}
-IsOlderScope (LoopScope owner) block = loop_index owner < block_index block
+IsOlderScope (LoopScope owner) block = owner.id.index < block.id.index

@@ -3,7 +3,6 @@
 ghost use Rattle.std.specs.Prelude.{◌≡◌, ◌≤ℤ◌, pos, IfOk, IsTrue, string_bytes};
 ghost use Rattle.vast_literal.specs.LiteralText.{format_text};
 ghost use Rattle.vast_literal.specs.LiteralToken.{is_literal_text};
-ghost use Rattle.vast_core.specs.Handles.{expr_to_indexable_expr};
 ghost use Rattle.vast_core.specs.Bench.{OwnsExpr, OwnsIndexable};
 ghost use Rattle.vast_core.specs.Growth.{Builds, next_expr, next_index, next_fixed_index, with_fixed_index, next_slice, next_fixed_slice, with_fixed_slice};
 ghost use Rattle.xlsynth_vast.specs.Keeps.{Keeps};
@@ -21,7 +20,7 @@ impl VastFile {
     /// Tools commonly take selects of named signals and arrays, and not of other expressions.
     pub fn make_indexable_expression(&self, expression: &Expr) -> IndexableExpr
         requires { OwnsExpr self.now expression.now }
-        ensures { result ≡ expr_to_indexable_expr expression.now }
+        ensures { result ≡ record { id = expression.now.id } }
     {
         self.ast.indexable(*expression)
     }

@@ -16,6 +16,12 @@ no_else_if = record { condition = record { id = record { file_id = 0; index = 0 
 abbrev no_arm : CaseArm
 no_arm = record { label = None; block = no_block }
 
+pub is_plain_case-returns-then-not-branch-2 : goal.is_plain_case-returns-then-not-branch-2
+is_plain_case-returns-then-not-branch-2 t c =
+    let xs = c.deref-arm-items.result.now in
+    let x : CaseArm = get_or xs c.loop-arm.arm-index no_arm in
+    grind (arith, arms-left (bench c.args.ast.now) xs c.loop-arm.arm-index x c.loop-arm-test.true (get_or_default xs c.loop-arm.arm-index no_arm x c.loop-arm-test.true))
+
 pub is_plain_case-loop-arm-preserved : goal.is_plain_case-loop-arm-preserved
 is_plain_case-loop-arm-preserved t c =
     let xs = c.deref-arm-items.result.now in

@@ -1,5 +1,4 @@
 use Rattle.std.proofs.Common.{◌≡◌, drop, map}
-use Rattle.vast_core.specs.Nests.{variable_record}
 use Rattle.vast_core.specs.FileTree.{variable_tree}
 use Rattle.vast_core.specs.View.{bench}
 use Rattle.vast_print.specs.Ink.{Wet, pour}
@@ -10,5 +9,5 @@ use Rattle.vast_print.proofs.function.print_inputs.Given as goal
 
 abbrev pub invariant-loop-i : goal.invariant-loop-i
 invariant-loop-i l =
-    pour l.depth (Wet l.fn.out) (written (inputs_text (bench l.ast).file_type (map (variable_tree (bench l.ast)) (map variable_record l.inputs))))
-    ≡ pour l.depth (Wet l.out) (written (rest_inputs l.i (bench l.ast).file_type (map (variable_tree (bench l.ast)) (map variable_record (drop l.i l.inputs)))))
+    pour l.depth (Wet l.fn.out) (written (inputs_text (bench l.ast).file_type (map (variable_tree (bench l.ast)) l.inputs)))
+    ≡ pour l.depth (Wet l.out) (written (rest_inputs l.i (bench l.ast).file_type (map (variable_tree (bench l.ast)) (drop l.i l.inputs))))

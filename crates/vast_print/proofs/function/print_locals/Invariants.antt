@@ -1,5 +1,4 @@
 use Rattle.std.proofs.Common.{◌≡◌, drop, map}
-use Rattle.vast_core.specs.Nests.{variable_record}
 use Rattle.vast_core.specs.FileTree.{variable_tree}
 use Rattle.vast_core.specs.View.{bench}
 use Rattle.vast_print.specs.Ink.{Wet, hang}
@@ -8,5 +7,5 @@ use Rattle.vast_print.proofs.function.print_locals.Given as goal
 
 abbrev pub invariant-loop-local : goal.invariant-loop-local
 invariant-loop-local l =
-    hang l.depth (Wet l.fn.out) (locals_page (bench l.ast).file_type (map (variable_tree (bench l.ast)) (map variable_record l.locals)))
-    ≡ hang l.depth (Wet l.out) (locals_page (bench l.ast).file_type (map (variable_tree (bench l.ast)) (map variable_record (drop l.local-index l.locals))))
+    hang l.depth (Wet l.fn.out) (locals_page (bench l.ast).file_type (map (variable_tree (bench l.ast)) l.locals))
+    ≡ hang l.depth (Wet l.out) (locals_page (bench l.ast).file_type (map (variable_tree (bench l.ast)) (drop l.local-index l.locals)))

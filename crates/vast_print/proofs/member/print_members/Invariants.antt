@@ -1,5 +1,4 @@
-use Rattle.std.proofs.Common.{◌≡◌, drop, map}
-use Rattle.vast_core.specs.Records.{member_entry}
+use Rattle.std.proofs.Common.{◌≡◌, drop}
 use Rattle.vast_core.specs.FileTree.{members_tree}
 use Rattle.vast_core.specs.View.{bench}
 use Rattle.vast_print.specs.Ink.{Wet, hang}
@@ -8,5 +7,5 @@ use Rattle.vast_print.proofs.member.print_members.Given as goal
 
 abbrev pub invariant-loop-member : goal.invariant-loop-member
 invariant-loop-member l =
-    hang l.depth (Wet l.fn.out) (members_page (bench l.ast).file_type (members_tree (bench l.ast) (map member_entry l.members)))
-    ≡ hang l.depth (Wet l.out) (members_page (bench l.ast).file_type (members_tree (bench l.ast) (map member_entry (drop l.member-index l.members))))
+    hang l.depth (Wet l.fn.out) (members_page (bench l.ast).file_type (members_tree (bench l.ast) l.members))
+    ≡ hang l.depth (Wet l.out) (members_page (bench l.ast).file_type (members_tree (bench l.ast) (drop l.member-index l.members)))

@@ -1,5 +1,5 @@
 -- proofs/ast/Ast/function_add_variable/Answers.antt
-use Rattle.std.proofs.Common.{◌≡◌, rules, string_bytes}
+use Rattle.std.proofs.Common.{◌≡◌, rules}
 use Rattle.vast_core.specs.View.{bench}
 use Rattle.vast_core.proofs.EntersRecords.{variable-enters-as}
 use Rattle.vast_core.proofs.ast.Ast.function_add_variable.Goals as goal

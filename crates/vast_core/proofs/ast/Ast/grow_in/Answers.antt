@@ -1,5 +1,4 @@
 -- proofs/ast/Ast/grow_in/Answers.antt
-use Rattle.vast_core.specs.Records.{member_entry}
 use Rattle.vast_core.specs.Internal.Arrivals.{fresh_of}
 use Rattle.vast_core.specs.View.{bench}
 use Rattle.vast_core.proofs.EntersScopes.{scope-grown}
@@ -11,5 +10,5 @@ grow-requires c = rw c.in_scope.ensures c.requires
 
 pub returns : goal.returns
 returns c =
-    let grown = scope-grown (bench c.args.self.now) c.args.scope (member_entry c.args.member) (fresh_of c.args.arrivals) in
+    let grown = scope-grown (bench c.args.self.now) c.args.scope c.args.member (fresh_of c.args.arrivals) in
     leaves-same _ _ c.grow.result _ _ _ grown (rw c.in_scope.ensures at c.grow.ensures)

@@ -1,14 +1,13 @@
 -- proofs/ast/Ast/grow_listed/Answers.antt
 use Rattle.std.proofs.Common.{None, refl, sym}
 use Rattle.std.proofs.lemmas.List.{append-nil}
-use Rattle.vast_core.specs.Records.{member_entry}
 use Rattle.vast_core.specs.Internal.Containers.{InModule, no_fresh}
 use Rattle.vast_core.proofs.Terms.{refused}
 use Rattle.vast_core.proofs.Growing.{growth-there, bench-still, sound-still, bench-grown, sound-grown}
 use Rattle.vast_core.proofs.ast.Ast.grow_listed.Goals as goal
 
 pub enter_module-requires : goal.enter_module-requires
-enter_module-requires c = growth-there c.args.self.now _ (InModule c.args.owner (member_entry c.args.member) None) no_fresh c.self.view_is c.requires
+enter_module-requires c = growth-there c.args.self.now _ (InModule c.args.owner c.args.member None) no_fresh c.self.view_is c.requires
 
 pub invariant_of-self : goal.invariant_of-self
 invariant_of-self c =
@@ -53,8 +52,8 @@ returns-in_err-enter_module c =
 
 pub invariant_of-self-2 : goal.invariant_of-self-2
 invariant_of-self-2 c =
-    let there = growth-there c.args.self.now _ (InModule c.args.owner (member_entry c.args.member) None) no_fresh c.self.view_is c.requires in
-    sound-grown c.args.self.now _ _ (InModule c.args.owner (member_entry c.args.member) None) no_fresh c.self.view_is
+    let there = growth-there c.args.self.now _ (InModule c.args.owner c.args.member None) no_fresh c.self.view_is c.requires in
+    sound-grown c.args.self.now _ _ (InModule c.args.owner c.args.member None) no_fresh c.self.view_is
     (record {
       there = there;
       file_type = refl;
@@ -75,9 +74,9 @@ invariant_of-self-2 c =
 
 pub returns : goal.returns
 returns c =
-    let there = growth-there c.args.self.now _ (InModule c.args.owner (member_entry c.args.member) None) no_fresh c.self.view_is c.requires in (
+    let there = growth-there c.args.self.now _ (InModule c.args.owner c.args.member None) no_fresh c.self.view_is c.requires in (
       refl,
-      bench-grown c.args.self.now _ _ (InModule c.args.owner (member_entry c.args.member) None) no_fresh c.self.view_is
+      bench-grown c.args.self.now _ _ (InModule c.args.owner c.args.member None) no_fresh c.self.view_is
           (record {
             there = there;
             file_type = refl;

@@ -1,6 +1,5 @@
 -- proofs/ast/Ast/grow_named/Answers.antt
 use Rattle.std.proofs.Common.{◌≡◌, ◌∷◌, ◌++◌, [], Some, rules, refl}
-use Rattle.vast_core.specs.Records.{member_entry}
 use Rattle.vast_core.specs.Internal.Containers.{InModule}
 use Rattle.vast_core.specs.Internal.Fresh.{fresh_term}
 use Rattle.vast_core.proofs.Terms.{refused}
@@ -8,7 +7,7 @@ use Rattle.vast_core.proofs.Growing.{growth-there, bench-still, sound-still, ben
 use Rattle.vast_core.proofs.ast.Ast.grow_named.Goals as goal
 
 pub enter_module-requires : goal.enter_module-requires
-enter_module-requires c = growth-there c.args.self.now _ (InModule c.args.owner (member_entry c.args.member) (Some c.args.name.now)) (fresh_term c.args.node) c.self.view_is c.requires
+enter_module-requires c = growth-there c.args.self.now _ (InModule c.args.owner c.args.member (Some c.args.name.now)) (fresh_term c.args.node) c.self.view_is c.requires
 
 pub invariant_of-self-in_err-enter_module : goal.invariant_of-self-in_err-enter_module
 invariant_of-self-in_err-enter_module c =
@@ -53,9 +52,9 @@ returns-in_err-enter_module c =
 
 pub invariant_of-self-2 : goal.invariant_of-self-2
 invariant_of-self-2 c =
-    let there = growth-there c.args.self.now _ (InModule c.args.owner (member_entry c.args.member) (Some c.args.name.now)) (fresh_term c.args.node) c.self.view_is c.requires in
+    let there = growth-there c.args.self.now _ (InModule c.args.owner c.args.member (Some c.args.name.now)) (fresh_term c.args.node) c.self.view_is c.requires in
     let terms : c.push.new.self.items ≡ c.self.inside.terms.items ++ c.args.node ∷ [] = search rules in
-    sound-grown c.args.self.now _ _ (InModule c.args.owner (member_entry c.args.member) (Some c.args.name.now)) (fresh_term c.args.node) c.self.view_is
+    sound-grown c.args.self.now _ _ (InModule c.args.owner c.args.member (Some c.args.name.now)) (fresh_term c.args.node) c.self.view_is
     (record {
       there = there;
       file_type = refl;
@@ -76,10 +75,10 @@ invariant_of-self-2 c =
 
 pub returns : goal.returns
 returns c =
-    let there = growth-there c.args.self.now _ (InModule c.args.owner (member_entry c.args.member) (Some c.args.name.now)) (fresh_term c.args.node) c.self.view_is c.requires in
+    let there = growth-there c.args.self.now _ (InModule c.args.owner c.args.member (Some c.args.name.now)) (fresh_term c.args.node) c.self.view_is c.requires in
     let terms : c.push.new.self.items ≡ c.self.inside.terms.items ++ c.args.node ∷ [] = search rules in (
       refl,
-      bench-grown c.args.self.now _ _ (InModule c.args.owner (member_entry c.args.member) (Some c.args.name.now)) (fresh_term c.args.node) c.self.view_is
+      bench-grown c.args.self.now _ _ (InModule c.args.owner c.args.member (Some c.args.name.now)) (fresh_term c.args.node) c.self.view_is
           (record {
             there = there;
             file_type = refl;

@@ -1,5 +1,5 @@
 use Rattle.std.proofs.Common.{◌<◌, length, rules}
-use Rattle.vast_core.specs.Records.{member_entry, parameter_port_record}
+use Rattle.vast_core.specs.Records.{parameter_port_record}
 use Rattle.vast_core.specs.Bench.{OwnsPort}
 use Rattle.vast_core.specs.Sound.{MemberSound, ParameterPortSound}
 use Rattle.vast_core.specs.View.{bench}
@@ -25,7 +25,7 @@ returns-clause-ports c =
 pub returns-clause-members : goal.returns-clause-members
 returns-clause-members c =
     let below : c.args.m.id.index < length c.self.inside.modules.items = module-below c.args.self.now _ c.args.m.id.index c.self.view_is c.requires.of_kind
-    in All-Each member_entry (MemberSound (bench c.args.self.now)) c.index.result.now.members.items (module-sound c.args.self.now _ c.args.m.id.index _ c.self.view_is c.self.invariant below c.index.ensures).members
+    in All-own (MemberSound (bench c.args.self.now)) c.index.result.now.members.items (module-sound c.args.self.now _ c.args.m.id.index _ c.self.view_is c.self.invariant below c.index.ensures).members
 
 pub returns-clause-parameters : goal.returns-clause-parameters
 returns-clause-parameters c =

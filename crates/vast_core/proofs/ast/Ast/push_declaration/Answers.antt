@@ -1,5 +1,5 @@
 -- proofs/ast/Ast/push_declaration/Answers.antt
-use Rattle.std.proofs.Common.{◌≡◌, ◌∙◌, rules, refl, string_bytes}
+use Rattle.std.proofs.Common.{◌≡◌, ◌∙◌, rules, refl}
 use Rattle.vast_core.specs.View.{bench}
 use Rattle.vast_core.proofs.EntersRecords.{declaration-enters-as}
 use Rattle.vast_core.proofs.ast.Ast.push_declaration.Goals as goal

@@ -1,4 +1,4 @@
-use Rattle.std.proofs.Common.{◌≡◌, ◌∙◌, rules, string_bytes, to_z, of_z, w64, refl}
+use Rattle.std.proofs.Common.{◌≡◌, ◌∙◌, rules, to_z, of_z, w64, refl}
 use Rattle.vast_core.specs.Growth.{known_literal}
 use Rattle.vast_core.specs.View.{bench}
 use Rattle.vast_core.proofs.Fixed.{second_id, fixed-index}

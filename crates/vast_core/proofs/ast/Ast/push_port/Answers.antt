@@ -1,5 +1,5 @@
 -- proofs/ast/Ast/push_port/Answers.antt
-use Rattle.std.proofs.Common.{◌≡◌, rules, string_bytes, refl}
+use Rattle.std.proofs.Common.{◌≡◌, rules, refl}
 use Rattle.vast_core.specs.View.{bench}
 use Rattle.vast_core.proofs.EntersRecords.{port-enters-as}
 use Rattle.vast_core.proofs.ast.Ast.push_port.Goals as goal

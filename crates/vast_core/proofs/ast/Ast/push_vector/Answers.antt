@@ -1,4 +1,4 @@
-use Rattle.std.proofs.Common.{◌≡◌, ◌∙◌, rules, string_bytes, to_z, of_z, w64, refl}
+use Rattle.std.proofs.Common.{◌≡◌, ◌∙◌, rules, to_z, of_z, w64, refl}
 use Rattle.std.specs.Fmt.{signed_decimal}
 use Rattle.vast_literal.proofs.NumberLaws.{signed_text}
 use Rattle.vast_core.specs.Growth.{width_literal}

@@ -1,5 +1,4 @@
 use Rattle.std.proofs.Common.{◌≡◌, ◌++◌, ◌∷◌, [], rules, refl}
-use Rattle.std.proofs.lemmas.List.{map-append}
 use Rattle.vast_core.specs.Records.{with_name, in_byte_order}
 use Rattle.vast_core.proofs.Names.{entered-one}
 use Rattle.vast_core.proofs.node.Module.enter_member.Goals as goal
@@ -8,4 +7,4 @@ pub returns-clause-ok : goal.returns-clause-ok
 returns-clause-ok c =
     let names : in_byte_order c.enter.new.self ≡ with_name c.args.name.now (in_byte_order c.args.self.now.names) = rw c.in_ok-enter.ensures.ok (entered-one c.args.self.now.names c.args.name.now) in
     let members : c.push.new.self.items ≡ c.args.self.now.members.items ++ c.args.member ∷ [] = search rules in
-    rw (names, members) (simp map-append refl)
+    rw (names, members) refl

@@ -3,7 +3,6 @@ use Rattle.std.proofs.Common.{◌≡◌, List, None, get_or, take, inl, refl}
 use Rattle.std.proofs.lemmas.List.{get_or_default}
 use Rattle.vast_core.specs.declared.handle.Expr.{Expr}
 use Rattle.vast_core.specs.declared.handle.VastStatementBlock.{VastStatementBlock}
-use Rattle.vast_core.specs.Handles.{block_index}
 use Rattle.vast_core.specs.Bench.{Bench}
 use Rattle.xlsynth_vast.specs.declared.helpers.registers.RegisterDefinition.{RegisterDefinition}
 use Rattle.xlsynth_vast.specs.declared.helpers.registers.Share.{Share}
@@ -22,7 +21,7 @@ abbrev none : RegisterDefinition
 none = record { reg = no-expr; next = no-expr; reset_value = None; enable = None }
 
 -- So far only the block changed.
-so-far : (share : Share) (block : VastStatementBlock) (registers : List RegisterDefinition) (b now : Bench) → now ≡ with_all_assigned share block registers b → Changes (block_index block) b now
+so-far : (share : Share) (block : VastStatementBlock) (registers : List RegisterDefinition) (b now : Bench) → now ≡ with_all_assigned share block registers b → Changes block.id.index b now
 so-far share block registers b now e = rw e (all-assigned-changes share block registers b)
 
 pub assign-requires-clause-register : goal.assign-requires-clause-register

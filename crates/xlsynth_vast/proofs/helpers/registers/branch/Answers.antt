@@ -1,6 +1,5 @@
 -- proofs/helpers/registers/branch/Answers.antt
 use Rattle.std.proofs.Common.{inl, inr, refl}
-use Rattle.vast_core.specs.Handles.{block_index}
 use Rattle.xlsynth_vast.proofs.RegisterParts.{registers-owned, changes-then}
 use Rattle.xlsynth_vast.proofs.RegisterSteps.{fill-refused, stays-same, stays-then, conditional-owned, conditional-open, opened-stays, ready, half-changes, half-owned, branch-end, condition-owned, condition-changes, both-behind}
 use Rattle.xlsynth_vast.proofs.helpers.registers.branch.Goals as goal
@@ -32,7 +31,7 @@ conditional_add_else-requires-clause-no_else c =
 pub returns-in_err-outside : goal.returns-in_err-outside
 returns-in_err-outside c =
     let block = c.args.block in
-    let k = changes-then (block_index block) (block_index block) c.args.file.now _ _ (condition-changes c.args.reset block c.args.file.now _ c.in_ok-condition.ensures.1) (opened-stays _ _ c.in_ok-condition.condition block c.in_ok-conditional.ensures.built.1) (inl refl) in
+    let k = changes-then block.id.index block.id.index c.args.file.now _ _ (condition-changes c.args.reset block c.args.file.now _ c.in_ok-condition.ensures.1) (opened-stays _ _ c.in_ok-condition.condition block c.in_ok-conditional.ensures.built.1) (inl refl) in
     fill-refused _ _ c.from_residual-in_err-outside.result block _ c.from_residual-in_err-outside.ensures.0 (stays-then c.args.file.now _ _ block block k (inl refl) (stays-same _ _ block c.in_err-outside.ensures.built))
 
 pub assign_all-requires-clause-registers : goal.assign_all-requires-clause-registers

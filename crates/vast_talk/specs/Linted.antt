@@ -1,9 +1,9 @@
 -- A lint beside a session whose lines are answered one by one.
 use Rattle.std.specs.Prelude.{◌≡◌, ℕ, length, Option, Some, None, Bool, true, false, ⊤}
 use Rattle.vast_lint.specs.Lint.{counted}
-use Rattle.vast_list.specs.declared.linted.SessionLint.{SessionLint}
+use Rattle.vast_talk.specs.declared.linted.SessionLint.{SessionLint}
 use Rattle.vast_list.specs.declared.session.Session.{Session}
-use Rattle.vast_list.specs.declared.talk.Talk.{Talk}
+use Rattle.vast_talk.specs.declared.talk.Talk.{Talk}
 
 -- The lint has counted so many answers, and has a name of a call for each.
 abbrev pub HasCounted : SessionLint → ℕ → Type 0

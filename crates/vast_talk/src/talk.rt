@@ -1,19 +1,17 @@
 //! Lines that are answered one by one, by JSON.
 
 ghost use Rattle.std.specs.Prelude.{◌≡◌, MatchOption, OnOk, false, true};
-ghost use Rattle.vast_list.specs.Linted.{HasCounted, IsLevel, IsTalking};
-ghost use Rattle.vast_list.specs.Internal.Linted.{is_memory};
+ghost use Rattle.vast_talk.specs.Linted.{HasCounted, IsLevel, IsTalking};
+ghost use Rattle.vast_talk.specs.Internal.Linted.{is_memory};
 
-use crate::fault::Fault;
-use crate::json::push_json_text;
-use crate::line::{dialect_of, is_empty_line};
-use crate::lines::HEADER;
-use crate::linted::SessionLint;
-use crate::reply::{push_fault, push_given};
-use crate::session::{Given, Session};
-use crate::warnings::{LineWarning, push_member, push_warnings};
+use crate::LineWarning;
+use crate::linted::{SessionLint, take_linted};
+use crate::warnings::{push_member, push_warnings};
 use std::alloc::{AllocError, Global};
 use std::fmt::Write;
+use vast_list::{
+    Fault, HEADER, Session, dialect_of, is_empty_line, push_fault, push_given, push_json_text,
+};
 use xlsynth_vast::VastFileType;
 
 /// What a session with a lint is asked for what its end would tell.
@@ -184,30 +182,6 @@ fn push_linted(
     push_given(text, session, number, &given)?;
     push_told(text, &warnings)?;
     Ok(())
-}
-
-/// Takes the line, and appends to the warnings what its call prints.
-fn take_linted<'l>(
-    session: &mut Session,
-    lint: &mut SessionLint,
-    number: usize,
-    line: &'l [u8],
-    warnings: &mut Vec<LineWarning>,
-) -> Result<Given<'l>, Fault>
-    ensures { IsLevel lint.old session.old → is_memory result ≡ false
-        → IsLevel lint.new session.new }
-{
-    let call = session.call_of(line)?;
-    let given = session.line(number, line)?;
-    match &given {
-        Given::Nothing | Given::Answer { call: _, value: _ } => Ok(given),
-        Given::Step { number: _, call: _ } | Given::Helper { number: _, call: _ } => {
-            match lint.answered(session, number, line, call.as_ref(), warnings) {
-                Ok(()) => Ok(given),
-                Err(_) => Err(Fault::Memory),
-            }
-        }
-    }
 }
 
 /// Appends the answer of `?Warnings`.

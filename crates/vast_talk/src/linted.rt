@@ -1,17 +1,16 @@
 //! The lint beside a session.
 
-ghost use Rattle.std.specs.Prelude.{◌≡◌, ◌+◌, OnOk, length};
+ghost use Rattle.std.specs.Prelude.{◌≡◌, ◌+◌, OnOk, false, length};
 ghost use Rattle.vast_lint.specs.Lint.{counted};
-ghost use Rattle.vast_list.specs.Linted.{HasCounted};
+ghost use Rattle.vast_talk.specs.Linted.{HasCounted, IsLevel};
+ghost use Rattle.vast_talk.specs.Internal.Linted.{is_memory};
 
-use crate::line::{Call, split_line, text_of};
-use crate::session::Session;
-use crate::table::row_of;
-use crate::warnings::LineWarning;
+use crate::LineWarning;
 use std::alloc::{AllocError, Global};
 use vast_lint::{Lint, Warning};
+use vast_list::{Fault, Given, Session, name_of_call};
 use vast_literal::VastFault;
-use vast_script::one;
+use vast_script::{Step, one};
 use xlsynth_vast::{Expr, VastFileType};
 
 /// What is kept of the calls of a session, to tell what they print that is no SystemVerilog or Verilog, or that a tool
@@ -51,7 +50,7 @@ impl SessionLint {
         session: &Session,
         number: usize,
         line: &[u8],
-        call: Option<&Call>,
+        step: Option<&Step>,
         warnings: &mut Vec<LineWarning>,
     ) -> Result<(), AllocError>
         ensures lint { OnOk result (counted self.new.lint ≡ counted self.old.lint + 1) }
@@ -59,12 +58,12 @@ impl SessionLint {
             (length self.new.calls.items ≡ length self.old.calls.items + 1) }
     {
         self.calls.push(call_in(number, line))?;
-        match call {
-            Some(Call::Step(step)) => {
+        match step {
+            Some(step) => {
                 let told = self.lint.step(step)?;
                 self.tell(session, &told, warnings)
             }
-            _ => self.lint.pass(),
+            None => self.lint.pass(),
         }
     }
 
@@ -104,20 +103,36 @@ impl SessionLint {
     }
 }
 
+/// Takes the line, and appends to the warnings what its call prints.
+pub(crate) fn take_linted<'l>(
+    session: &mut Session,
+    lint: &mut SessionLint,
+    number: usize,
+    line: &'l [u8],
+    warnings: &mut Vec<LineWarning>,
+) -> Result<Given<'l>, Fault>
+    ensures { IsLevel lint.old session.old → is_memory result ≡ false
+        → IsLevel lint.new session.new }
+{
+    let step = session.step_of(line)?;
+    let given = session.line(number, line)?;
+    match &given {
+        Given::Nothing | Given::Answer { call: _, value: _ } => Ok(given),
+        Given::Step { number: _, call: _ } | Given::Helper { number: _, call: _ } => {
+            match lint.answered(session, number, line, step.as_ref(), warnings) {
+                Ok(()) => Ok(given),
+                Err(_) => Err(Fault::Memory),
+            }
+        }
+    }
+}
+
 /// The line's call.
 fn call_in(number: usize, line: &[u8]) -> LintedCall {
     LintedCall {
         line: number,
-        name: name_in(line),
+        name: name_of_call(line),
     }
-}
-
-/// The name of the line's call.
-fn name_in(line: &[u8]) -> &'static str {
-    let Ok(text) = text_of(line) else {
-        return "";
-    };
-    row_of(split_line(text).1).map_or("", |row| row.name)
 }
 
 /// The text of the expression of this number; `None` where its text is refused.

@@ -1,16 +1,16 @@
 //! What the calls of a list print that is no SystemVerilog or Verilog, or that a tool refuses.
 
-use crate::answering::{Answering, Told};
-use crate::fault::{Fault, write_on_a_line};
-use crate::json::push_json_text;
-use crate::lines::ListLines;
-use crate::linted::SessionLint;
-use crate::output::dialect_line;
-use crate::session::Session;
+ghost use Rattle.std.specs.Prelude.{OnOk};
+ghost use Rattle.vast_talk.specs.Linted.{IsLevel};
+
+use crate::linted::{SessionLint, take_linted};
 use std::alloc::{AllocError, Global};
 use std::fmt;
 use std::fmt::Write;
 use vast_lint::Rule;
+use vast_list::{
+    Fault, ListLines, Session, dialect_line, is_step, push_json_text, write_on_a_line,
+};
 
 /// A form that a line's call prints, which is no SystemVerilog or Verilog, or which a tool refuses.
 #[derive(Drop)]
@@ -49,36 +49,53 @@ pub fn list_warnings(alloc: Global, list: &ListLines<'_>) -> Result<Vec<LineWarn
         Err(Fault::Memory) => return Err(AllocError),
         Err(Fault::Line(_)) => return Ok(warnings),
     };
-    let mut lint = SessionLint::new(alloc, dialect);
-    let mut answering = Answering {
+    let mut taking = Taking {
         session: Session::new(alloc, dialect),
-        trial: None,
-        report: list.title.map(|_| Vec::new(alloc)),
+        lint: SessionLint::new(alloc, dialect),
+        has_title: list.title.is_some(),
         is_stopped: false,
-        told: Told::new(alloc),
     };
     for (number, line) in lines {
-        take_linted(&mut lint, &mut answering, *number, line, &mut warnings)?;
+        taking.take(*number, line, &mut warnings)?;
     }
-    lint.end(&answering.session, &mut warnings)?;
+    taking.lint.end(&taking.session, &mut warnings)?;
     Ok(warnings)
 }
 
-/// Takes the line, and appends what its call prints, if it is one that was made.
-fn take_linted(
-    lint: &mut SessionLint,
-    answering: &mut Answering<'_>,
-    number: usize,
-    line: &[u8],
-    warnings: &mut Vec<LineWarning>,
-) -> Result<(), AllocError> {
-    let before = answering.session.answers().len();
-    let call = answering.session.call_of(line)?;
-    answering.take(number, line)?;
-    if answering.session.answers().len() > before {
-        lint.answered(&answering.session, number, line, call.as_ref(), warnings)?;
+/// A list whose lines are taken one by one, with a lint beside it.
+#[derive(Drop)]
+struct Taking {
+    session: Session,
+    lint: SessionLint,
+    has_title: bool,
+    /// Whether a step or a helper was refused.
+    is_stopped: bool,
+}
+
+impl Taking {
+    /// Takes the line, and appends what its call prints, if it is one that was made. Behind a header steps behind the
+    /// first that is refused are not made.
+    fn take(
+        &mut self,
+        number: usize,
+        line: &[u8],
+        warnings: &mut Vec<LineWarning>,
+    ) -> Result<(), AllocError>
+        ensures { IsLevel self.old.lint self.old.session → OnOk result
+            (IsLevel self.new.lint self.new.session) }
+    {
+        if self.is_stopped && self.has_title && is_step(line) {
+            return self.session.skip(line);
+        }
+        match take_linted(&mut self.session, &mut self.lint, number, line, warnings) {
+            Ok(_) => Ok(()),
+            Err(Fault::Memory) => Err(AllocError),
+            Err(Fault::Line(fault)) => {
+                self.is_stopped = self.is_stopped || fault.step.is_some();
+                self.session.skip(line)
+            }
+        }
     }
-    Ok(())
 }
 
 /// The list's line of JSON with the warnings as its last member: `"warnings":[{"line":12,"call":"MakeIndex",
