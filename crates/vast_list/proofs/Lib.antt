@@ -4,6 +4,7 @@ pub mod Words
 pub mod Quoted
 pub mod LineParts
 pub mod Entered
+pub mod Replied
 pub mod Sessions
 pub mod Built
 pub mod JsonLines

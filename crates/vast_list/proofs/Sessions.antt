@@ -1,5 +1,5 @@
 -- What the lines of a session leave.
-use Rattle.std.proofs.Common.{◌≡◌, ℕ, List, [], Result, Ok, Err, String, refl, ap, subst, sym, ◌∙◌, append-nil, string_bytes}
+use Rattle.std.proofs.Common.{◌≡◌, ℕ, Bool, false, if◌then◌else◌, List, [], Result, Ok, Err, Some, None, String, inl, inr, refl, ap, subst, sym, ◌∙◌, append-nil, string_bytes}
 use Rattle.std.specs.declared.alloc.Global.{Global}
 use Rattle.vast_literal.specs.Tree.{FileTree}
 use Rattle.vast_literal.specs.declared.error.VastFault.{VastFault}
@@ -17,6 +17,9 @@ use Rattle.vast_list.specs.declared.fault.Fault.{Fault}
 use Rattle.vast_list.specs.declared.fault.Fault.TheVariants.{Line, Memory}
 use Rattle.vast_list.specs.declared.helpers.Helper.{Helper}
 use Rattle.vast_list.specs.declared.helpers.Helper.TheVariants.{AddRegisters, BitwiseOrReduce, BitwiseOrReduceArrayElements, LogicalAndReduce, LogicalOrReduce}
+use Rattle.vast_script.specs.declared.step.Step.{Step}
+use Rattle.vast_list.specs.declared.line.Action.{Action}
+use Rattle.vast_list.specs.declared.line.Action.TheVariants.{Ask, Call as CallAction}
 use Rattle.vast_list.specs.declared.line.Call.{Call}
 use Rattle.vast_list.specs.declared.line.Call.TheVariants.{Step as StepCall, Helper as HelperCall}
 use Rattle.vast_list.specs.declared.session.Session.{Session}
@@ -24,13 +27,13 @@ use Rattle.vast_list.specs.declared.arguments.Known.{Known}
 use Rattle.vast_list.specs.declared.line.Line.{Line as ReadLine}
 use Rattle.vast_list.specs.declared.names.Named.{Named}
 use Rattle.vast_list.specs.declared.names.Names.{Names}
-use Rattle.std.specs.Prelude.{Option, option_copied}
-use Rattle.vast_list.specs.Lines.{behind_call, line_arguments, line_name, text_name, without_return}
+use Rattle.std.specs.Prelude.{IfSome, Option, option_copied}
+use Rattle.vast_list.specs.Lines.{Asked, Passed, behind_call, is_passed, line_arguments, line_kind, line_name, line_word, text_name, without_return, word_kind}
 use Rattle.vast_list.specs.Names.{IsFree}
 use Rattle.vast_list.specs.Helpers.{Helps, IsKept}
 use Rattle.vast_list.specs.CallNames.{call_name}
-use Rattle.vast_list.specs.Session.{Calls, Enters, HasMade, IsFileLeft, IsLeft, IsMade, IsTextOf, IsWrittenIn}
-use Rattle.vast_list.specs.Internal.Session.{IsRead, IsToldAs}
+use Rattle.vast_list.specs.Session.{Calls, Enters, HasMade, IsCallOf, IsCause, IsCausedBy, IsInForm, IsOfLine, IsStepIn, call_kind, IsFileLeft, IsLeft, IsMade, IsTextOf, IsWrittenIn}
+use Rattle.vast_list.specs.Internal.Session.{IsActionOf, IsCallFault, IsRead, IsToldAs, IsToldOf}
 use Rattle.vast_list.specs.Written.{meaning}
 
 pub nodes-unused : (old new : Bench) → HasMoreNodes old new → HasUnused old new
@@ -85,11 +88,33 @@ unused_call old new answers call fault h = unused_kept old new fault (kept_call 
 pub left_call : (old new : Session) (call : Call) (fault : StepFault) (told : Fault) → Calls old.file new.file old.answers.items (Err fault) call → new.answers.items ≡ old.answers.items → IsToldAs fault told → IsFileLeft old new told
 left_call old new call fault told h a t = left_kept old new fault told (kept_call old.file new.file old.answers.items fault call h) a t
 
+pub call_fault :
+    (old new : Session) (call : Call) (number : ℕ) (cause : StepFault) (told : Fault) →
+    Calls old.file new.file old.answers.items (Err cause) call → IsToldOf number (Some cause) told → IsCallFault old new call told
+call_fault old new call number cause (Line f) h e =
+    subst (λ (found : Option StepFault). IfSome found (λ (c : StepFault). Calls old.file new.file old.answers.items (Err c) call)) (sym e.1) h
+call_fault old new call number cause Memory h e = tt
+
+pub of_line : (number : ℕ) (cause : Option StepFault) (told : Fault) → IsToldOf number cause told → IsOfLine number told
+of_line number cause (Line f) e = e.0
+of_line number cause Memory e = tt
+
+-- Where memory was refused.
+
+pub memory_call : (old new : Session) (call : Call) (told : Fault) → told ≡ Memory → IsCallFault old new call told
+memory_call old new call told e = subst (λ (f : Fault). IsCallFault old new call f) (sym e) tt
+
+pub memory_line : (number : ℕ) (told : Fault) → told ≡ Memory → IsOfLine number told
+memory_line number told e = subst (λ (f : Fault). IsOfLine number f) (sym e) tt
+
+pub memory_cause : (old new : Session) (line : List ℕ) (told : Fault) → told ≡ Memory → IsCausedBy old new line told
+memory_cause old new line told e = subst (λ (f : Fault). IsCausedBy old new line f) (sym e) tt
+
 pub file_same : (old new : Session) (fault : Fault) → new.file ≡ old.file → new.answers.items ≡ old.answers.items → IsFileLeft old new fault
 file_same old new (Line f) e a = (e, a)
 file_same old new Memory e a = (ap tree e, a)
 
-pub ruleset faults = (left_call, file_same, unused_call, same-unused)
+pub ruleset faults = (left_call, file_same, unused_call, same-unused, call_fault, of_line, memory_call, memory_line)
 
 pub has_made :
     (old new : Session) (call : Call) (name text line : List ℕ) → IsMade old new call → call_name call ≡ name → IsWrittenIn old call (behind_call text) → text ≡ without_return line →
@@ -121,7 +146,66 @@ pub enters_read :
     Enters old new (option_copied read.name) meant → Enters old new (line_name line) meant
 enters_read old new text line read meant r e h = subst (λ (name : Option (List ℕ)). Enters old new name meant) (name_read (meaning old.names) old.skipped.items text line read r e) h
 
-pub ruleset lines = (left_same, has_made, same-unused)
+-- What the line is that was read.
+
+line_read : (line word : List ℕ) → is_passed (without_return line) ≡ false → word ≡ line_word line → line_kind line ≡ word_kind word
+line_read line word p w = ap (λ (b : Bool). if b then Passed else word_kind (line_word line)) p ∙ ap word_kind (sym w)
+
+action_read :
+    (session : Session) (line name : List ℕ) (action : Action) → IsActionOf (meaning session.names) session.skipped.items name (line_arguments line) action → line_kind line ≡ word_kind name →
+    name ≡ line_word line → IsFree (meaning session.names) (line_name line) → IsInForm session line
+action_read session line name (Ask question) a k w f = inr (f, inl (k ∙ a))
+action_read session line name (CallAction call) a k w f = inr (f, inr (call, k ∙ a.0, (a.1 ∙ w, a.2)))
+
+read_of :
+    (session : Session) (text line : List ℕ) (read : ReadLine) → IsRead (meaning session.names) session.skipped.items text read → text ≡ without_return line →
+    IsRead (meaning session.names) session.skipped.items (without_return line) read
+read_of session text line read r e = subst (λ (t : List ℕ). IsRead (meaning session.names) session.skipped.items t read) e r
+
+not_passed : (text line : List ℕ) → is_passed text ≡ false → text ≡ without_return line → is_passed (without_return line) ≡ false
+not_passed text line p e = subst (λ (t : List ℕ). is_passed t ≡ false) e p
+
+pub in_form :
+    (session : Session) (text line : List ℕ) (read : ReadLine) → IsRead (meaning session.names) session.skipped.items text read → is_passed text ≡ false → text ≡ without_return line → IsInForm session line
+in_form session text line read r p e =
+    let found = read_of session text line read r e in
+    action_read session line read.call.now read.action found.1 (line_read line read.call.now (not_passed text line p e) found.0) found.0 found.3
+
+pub step_in :
+    (session : Session) (text line : List ℕ) (read : ReadLine) (step : Step) → IsRead (meaning session.names) session.skipped.items text read → read.action ≡ CallAction (StepCall step) →
+    is_passed text ≡ false → text ≡ without_return line → IsStepIn session step line
+step_in session text line read step r a p e =
+    let found = read_of session text line read r e in
+    let acts = subst (λ (action : Action). IsActionOf (meaning session.names) session.skipped.items read.call.now (line_arguments line) action) a found.1 in
+    (line_read line read.call.now (not_passed text line p e) found.0 ∙ acts.0, (acts.1 ∙ found.0, acts.2))
+
+pub ruleset reading = (in_form, step_in)
+
+-- The fault of a line that is not in the form has no cause.
+pub uncaused : (old new : Session) (line : List ℕ) (number : ℕ) (fault : Fault) → IsToldOf number None fault → IsCausedBy old new line fault
+uncaused old new line number (Line f) e = subst (λ (found : Option StepFault). IfSome found (IsCause old new line)) (sym e.1) tt
+uncaused old new line number Memory e = tt
+
+asked_cause : (old new : Session) (line : List ℕ) (found : Option StepFault) → line_kind line ≡ Asked → IfSome found (IsCause old new line)
+asked_cause old new line None k = tt
+asked_cause old new line (Some cause) k = inl k
+
+pub asked : (old new : Session) (line : List ℕ) (fault : Fault) → line_kind line ≡ Asked → IsCausedBy old new line fault
+asked old new line (Line f) k = asked_cause old new line f.cause k
+asked old new line Memory k = tt
+
+call_cause :
+    (old new : Session) (line : List ℕ) (call : Call) (found : Option StepFault) → line_kind line ≡ call_kind call → IsCallOf old call line →
+    IfSome found (λ (cause : StepFault). Calls old.file new.file old.answers.items (Err cause) call) → IfSome found (IsCause old new line)
+call_cause old new line call None k w h = tt
+call_cause old new line call (Some cause) k w h = inr (call, k, w, h)
+
+-- What became of the call that the line is.
+pub caused : (old new : Session) (line : List ℕ) (call : Call) (fault : Fault) → line_kind line ≡ call_kind call → IsCallOf old call line → IsCallFault old new call fault → IsCausedBy old new line fault
+caused old new line call (Line f) k w h = call_cause old new line call f.cause k w h
+caused old new line call Memory k w h = tt
+
+pub ruleset lines = (left_same, has_made, same-unused, uncaused, asked, caused, of_line, memory_line, memory_cause)
 
 pub text_of : (file : FileTree) (text : String Global) (answer : Result (String Global) VastFault) → Emits (layout file) answer → answer ≡ Ok text → IsTextOf file (string_bytes text)
 text_of file text answer h e = let m = subst (λ (r : Result (String Global) VastFault). Emits (layout file) r) e h in (m.0, m.1)

@@ -7,3 +7,4 @@ pub mod Built
 pub mod JsonLine
 pub mod Origins
 pub mod Untitled
+pub mod Replies

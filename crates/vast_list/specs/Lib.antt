@@ -9,6 +9,7 @@ pub mod Names
 pub mod Session
 pub mod Built
 pub mod JsonLine
+pub mod Replies
 pub mod Origins
 pub mod Untitled
 pub mod Internal

@@ -1,6 +1,7 @@
 -- How the lines of a list are told apart: by their front, up to the call's name. A text is a list of bytes.
 use Rattle.std.specs.Prelude.{◌≡◌, ℕ, ◌==◌, ◌||◌, ◌-◌, Bool, true, false, List, [], ◌∷◌, ◌++◌, length, map, take, drop, filter, codes, slice_index, Option, Some, None, if◌then◌else◌, cond, eqb}
 use Rattle.std.specs.List.{All, before_first, after_first, ends_with, starts_with, position_or_len}
+use Rattle.std.specs.Str.{IsUtf8}
 use Rattle.std.specs.Borrow.{Bor}
 use Rattle.vast_literal.specs.declared.kind.VastFileType.{VastFileType}
 use Rattle.vast_literal.specs.declared.kind.VastFileType.TheVariants.{Verilog, SystemVerilog}
@@ -74,6 +75,10 @@ text_kind text = if is_passed text then Passed else word_kind (call_word text)
 
 abbrev pub line_kind : List ℕ → LineKind
 line_kind line = text_kind (without_return line)
+
+-- The line is UTF-8 and of this kind.
+abbrev pub HasKind : List ℕ → LineKind → Type 0
+HasKind line kind = IsUtf8 (without_return line) × (line_kind line ≡ kind)
 
 -- The call's name in the line, its sign included.
 abbrev pub line_word : List ℕ → List ℕ

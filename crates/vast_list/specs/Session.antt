@@ -1,5 +1,5 @@
 -- What a line of a list does to a session: to its file and the answers so far.
-use Rattle.std.specs.Prelude.{◌≡◌, ◌⊎◌, ℕ, List, [], ◌∷◌, ◌++◌, length, Option, None, Result, Ok, Err}
+use Rattle.std.specs.Prelude.{◌≡◌, ◌⊎◌, ℕ, List, [], ◌∷◌, ◌++◌, length, Option, IfSome, None, Result, Ok, Err, ⊤}
 use Rattle.vast_core.specs.Bench.{Bench}
 use Rattle.vast_core.specs.FileTree.{tree}
 use Rattle.vast_literal.specs.Tree.{FileTree}
@@ -7,6 +7,7 @@ use Rattle.vast_print.specs.Layout.{layout}
 use Rattle.vast_print.specs.Page.{print}
 use Rattle.vast_script.specs.declared.answer.Answer.{Answer}
 use Rattle.vast_script.specs.declared.fault.StepFault.{StepFault}
+use Rattle.vast_script.specs.declared.step.Step.{Step as ScriptStep}
 use Rattle.vast_script.specs.Outcome.{Replays}
 use Rattle.vast_script.specs.Script.{call_of}
 use Rattle.vast_list.specs.declared.fault.Fault.{Fault}
@@ -21,9 +22,14 @@ use Rattle.vast_list.specs.declared.names.Named.TheVariants.{Handle, Skipped}
 use Rattle.vast_list.specs.CallArguments.{call_pieces}
 use Rattle.vast_list.specs.CallNames.{call_name}
 use Rattle.vast_list.specs.Helpers.{Helps}
-use Rattle.vast_list.specs.Lines.{Passed, Asked, Helped, Stepped, line_arguments, line_kind, line_name, line_word}
-use Rattle.vast_list.specs.Names.{IsEntered, value_named}
+use Rattle.vast_list.specs.Lines.{LineKind, Passed, Asked, Helped, Stepped, line_arguments, line_kind, line_name, line_word}
+use Rattle.vast_list.specs.Names.{IsEntered, IsFree, value_named}
 use Rattle.vast_list.specs.Written.{AreWritten, meaning}
+
+-- What a line is that is this call.
+abbrev pub call_kind : Call → LineKind
+call_kind (StepCall step) = Stepped
+call_kind (HelperCall helper) = Helped
 
 -- What becomes of a call that is counted: of a step what becomes of it in a replay, of a helper what its equation says.
 abbrev pub Calls : (old new : Bench) → List Answer → Result Answer StepFault → Call → Type 0
@@ -37,6 +43,21 @@ IsMade old new call = (answer : Answer) × Calls old.file new.file old.answers.i
 -- The arguments of the call are written so, over the session's names and the numbers that were passed over.
 abbrev pub IsWrittenIn : Session → Call → (arguments : List ℕ) → Type 0
 IsWrittenIn session call arguments = AreWritten (meaning session.names) session.skipped.items (call_pieces call) arguments
+
+-- The line's call is this one, with its arguments written so.
+abbrev pub IsCallOf : Session → Call → (line : List ℕ) → Type 0
+IsCallOf session call line = (call_name call ≡ line_word line) × IsWrittenIn session call (line_arguments line)
+
+-- The line is this step.
+abbrev pub IsStepIn : Session → ScriptStep → (line : List ℕ) → Type 0
+IsStepIn session step line = (line_kind line ≡ Stepped) × IsCallOf session (StepCall step) line
+
+-- The line is in the form: it is blank or a comment, or the name of its answer stands for nothing so far and it asks, or is
+-- a call of its kind.
+abbrev pub IsInForm : Session → (line : List ℕ) → Type 0
+IsInForm session line =
+    (line_kind line ≡ Passed)
+    ⊎ (IsFree (meaning session.names) (line_name line) × ((line_kind line ≡ Asked) ⊎ ((call : Call) × (line_kind line ≡ call_kind call) × IsCallOf session call line)))
 
 -- A call of this name was made, with these arguments.
 abbrev pub HasMade : (old new : Session) → (name arguments : List ℕ) → Type 0
@@ -89,6 +110,22 @@ IsGivenBy line (Answered name value) = (line_kind line ≡ Asked) × (name.now �
 abbrev pub Takes : (old new : Session) → (line : List ℕ) → Result Given Fault → Type 0
 Takes old new line (Ok given) = Gives old new line given
 Takes old new line (Err fault) = IsLeft old new fault
+
+-- A line's fault is told of the line of this number.
+abbrev pub IsOfLine : ℕ → Fault → Type 0
+IsOfLine number (Line fault) = fault.line ≡ number
+IsOfLine number Memory = ⊤
+
+-- The line is a question, or it is a call of which this becomes.
+abbrev pub IsCause : (old new : Session) → (line : List ℕ) → StepFault → Type 0
+IsCause old new line cause =
+    (line_kind line ≡ Asked)
+    ⊎ ((call : Call) × (line_kind line ≡ call_kind call) × IsCallOf old call line × Calls old.file new.file old.answers.items (Err cause) call)
+
+-- The cause that a line's fault has, if it has one, is true.
+abbrev pub IsCausedBy : (old new : Session) → (line : List ℕ) → Fault → Type 0
+IsCausedBy old new line (Line fault) = IfSome fault.cause (IsCause old new line)
+IsCausedBy old new line Memory = ⊤
 
 -- A line that is passed over changes neither the file nor the answers; names stand for what they did, but that the line's
 -- name, which stood for nothing, may stand for what was passed over.

@@ -1,5 +1,9 @@
 //! Faults of lines.
 
+ghost use Rattle.std.specs.Prelude.{◌≡◌, IfOk, None};
+ghost use Rattle.vast_list.specs.Internal.Session.{IsToldOf};
+ghost use Rattle.vast_list.specs.declared.fault.Fault.TheVariants.{Memory};
+
 use crate::nearest::nearest_call;
 use crate::problem::{Misfit, Problem};
 use crate::session::Session;
@@ -39,12 +43,16 @@ pub struct LineFault {
 }
 
 impl From<AllocError> for Fault {
+    ghost from_gives = { λ _ fault. fault ≡ Memory };
+
     fn from(_error: AllocError) -> Fault {
         Fault::Memory
     }
 }
 
 impl<T: Drop> From<AllocFailed<T>> for Fault {
+    ghost from_gives = { λ _ fault. fault ≡ Memory };
+
     fn from(_failed: AllocFailed<T>) -> Fault {
         Fault::Memory
     }
@@ -81,7 +89,9 @@ pub fn write_on_a_line<W: fmt::Write>(text: &str, f: &mut fmt::Formatter<W>) -> 
 }
 
 /// The fault of a line that is not in the form.
-pub(crate) fn misread(alloc: Global, line: usize, text: &str, call: &str, misfit: Misfit) -> Fault {
+pub(crate) fn misread(alloc: Global, line: usize, text: &str, call: &str, misfit: Misfit) -> Fault
+    ensures { IsToldOf line None result }
+{
     if let Problem::Memory = misfit.problem {
         return Fault::Memory;
     }
@@ -97,7 +107,10 @@ fn told(
     text: &str,
     call: &str,
     misfit: Misfit,
-) -> Result<LineFault, AllocError> {
+) -> Result<LineFault, AllocError>
+    ensures line { IfOk result (λ fault. fault.line ≡ line) }
+    ensures cause { IfOk result (λ fault. fault.cause ≡ None) }
+{
     let before = text.len().saturating_sub(misfit.left);
     Ok(LineFault {
         line,

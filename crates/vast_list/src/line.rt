@@ -1,7 +1,8 @@
 //! The lines of a list.
 
-ghost use Rattle.std.specs.Prelude.{◌≡◌, [], IfOk, IfSome, IfNone, IsTrue, MatchOption, OnOk, drop, false, option_copied, true};
-ghost use Rattle.vast_list.specs.Lines.{Passed, Stepped, behind_call, behind_first, behind_word, call_word, dialect_word, first_word, is_equals_front, is_passed, line_kind, text_name, without_return, word_kind};
+ghost use Rattle.std.specs.Prelude.{◌≡◌, ◌⊎◌, ◌↔◌, [], IfOk, IfSome, IfNone, IsTrue, MatchOption, MatchResult, OnOk, drop, false, option_copied, true};
+ghost use Rattle.std.specs.Str.{IsUtf8};
+ghost use Rattle.vast_list.specs.Lines.{HasKind, Passed, Stepped, behind_call, behind_first, behind_word, call_word, dialect_word, first_word, is_equals_front, is_passed, line_word, text_name, without_return, word_kind};
 ghost use Rattle.vast_list.specs.Internal.Lines.{rest_text};
 ghost use Rattle.vast_list.specs.Names.{IsFree};
 ghost use Rattle.vast_list.specs.Internal.Session.{IsActionOf, IsRead};
@@ -56,7 +57,9 @@ pub(crate) struct Misread<'a> {
 
 /// The line's text, without the `CR` of its end.
 pub(crate) fn text_of(line: &[u8]) -> Result<&str, Misfit>
-    ensures { IfOk result (λ text. text.now ≡ without_return line.now) }
+    ensures text { IfOk result (λ text. text.now ≡ without_return line.now) }
+    ensures utf8 { MatchResult result
+        (λ _. IsUtf8 (without_return line.now)) (λ _. IsUtf8 (without_return line.now) → ⊥) }
 {
     let line = line.strip_suffix(b"\r").unwrap_or(line);
     match str::from_utf8(line) {
@@ -222,9 +225,9 @@ pub(crate) fn dialect_missing(alloc: Global, number: usize) -> Fault {
     misread(alloc, number, "", "", Misfit { left: 0, problem })
 }
 
-/// Whether the line is blank or a comment.
+/// Whether the line is blank or a comment. One that is not UTF-8 is neither.
 pub fn is_empty_line(line: &[u8]) -> bool
-    ensures { IsTrue result → line_kind line.now ≡ Passed }
+    ensures { IsTrue result ↔ HasKind line.now Passed }
 {
     match text_of(line) {
         Ok(text) => is_empty(text),
@@ -232,9 +235,9 @@ pub fn is_empty_line(line: &[u8]) -> bool
     }
 }
 
-/// Whether the line's call is a step, and no helper and no question.
+/// Whether the line's call is a step, and no helper and no question. One that is not UTF-8 has no call.
 pub fn is_step(line: &[u8]) -> bool
-    ensures { IsTrue result → line_kind line.now ≡ Stepped }
+    ensures { IsTrue result ↔ HasKind line.now Stepped }
 {
     let Ok(text) = text_of(line) else {
         return false;
@@ -244,7 +247,9 @@ pub fn is_step(line: &[u8]) -> bool
 }
 
 /// The name of the line's call, its sign included; an empty one where no call has the name.
-pub fn name_of_call(line: &[u8]) -> &'static str {
+pub fn name_of_call(line: &[u8]) -> &'static str
+    ensures { (result.now ≡ line_word line.now) ⊎ (result.now ≡ []) }
+{
     let Ok(text) = text_of(line) else {
         return "";
     };

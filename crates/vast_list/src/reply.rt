@@ -1,5 +1,10 @@
 //! What lines give, as JSON: each an object without a line break.
 
+ghost use Rattle.std.specs.Prelude.{◌≡◌, ◌++◌, OnOk, codes, string_bytes};
+ghost use Rattle.std.specs.List.{join_by};
+ghost use Rattle.vast_list.specs.Replies.{AddsGiven, call_members, cause_word, column_member, fault_members, fault_object, port_end, port_front, port_object, port_type, reason_members, text_member, value_json};
+ghost use Rattle.vast_list.specs.Internal.Replies.{AddsHelper, more_ports};
+
 use crate::fault::LineFault;
 use crate::json::push_json_text;
 use crate::questions::answered::{PortValue, Value};
@@ -17,7 +22,9 @@ pub fn push_given(
     session: &Session,
     line: usize,
     given: &Given<'_>,
-) -> Result<(), AllocError> {
+) -> Result<(), AllocError>
+    ensures { OnOk result (AddsGiven (string_bytes text.old) (string_bytes text.new) line given.now) }
+{
     write!(text, "{{\"line\":{line}")?;
     match given {
         Given::Nothing => {}
@@ -41,22 +48,60 @@ pub fn push_given(
 ///
 /// # Errors
 /// Want of memory.
-pub fn push_fault(text: &mut String, fault: &LineFault) -> Result<(), AllocError> {
+pub fn push_fault(text: &mut String, fault: &LineFault) -> Result<(), AllocError>
+    ensures { OnOk result
+        (string_bytes text.new ≡ string_bytes text.old ++ fault_object fault.now) }
+{
     write!(text, "{{\"line\":{}", fault.line)?;
-    if let Some(column) = fault.column {
-        write!(text, ",\"column\":{column}")?;
-    }
-    if !fault.call.is_empty() {
-        push_call(text, &fault.call, fault.step)?;
-    }
-    text.push_str(",\"cause\":")?;
-    push_json_text(text, cause_word(&fault.cause))?;
-    text.push_str(",\"words\":")?;
-    push_json_text(text, &fault.words)?;
+    push_column(text, fault.column)?;
+    push_fault_call(text, fault)?;
+    push_reason(text, fault)
+}
+
+fn push_reason(text: &mut String, fault: &LineFault) -> Result<(), AllocError>
+    ensures { OnOk result
+        (string_bytes text.new ≡ string_bytes text.old ++ reason_members fault.now) }
+{
+    push_member(text, ",\"cause\":", cause_word(&fault.cause))?;
+    push_member(text, ",\"words\":", &fault.words)?;
     text.push('}')
 }
 
-fn push_call(text: &mut String, call: &str, step: Option<usize>) -> Result<(), AllocError> {
+/// Appends a member whose value is a text; `name` is its name as it stands in the object.
+fn push_member(text: &mut String, name: &str, content: &str) -> Result<(), AllocError>
+    ensures { OnOk result
+        (string_bytes text.new ≡ string_bytes text.old ++ text_member name.now content.now) }
+{
+    text.push_str(name)?;
+    push_json_text(text, content)?;
+    Ok(())
+}
+
+fn push_column(text: &mut String, column: Option<usize>) -> Result<(), AllocError>
+    ensures { OnOk result
+        (string_bytes text.new ≡ string_bytes text.old ++ column_member column) }
+{
+    if let Some(column) = column {
+        write!(text, ",\"column\":{column}")?;
+    }
+    Ok(())
+}
+
+/// Appends the call's name and the step's number, where the fault has a call.
+fn push_fault_call(text: &mut String, fault: &LineFault) -> Result<(), AllocError>
+    ensures { OnOk result
+        (string_bytes text.new ≡ string_bytes text.old ++ fault_members fault.now) }
+{
+    if fault.call.is_empty() {
+        return Ok(());
+    }
+    push_call(text, &fault.call, fault.step)
+}
+
+fn push_call(text: &mut String, call: &str, step: Option<usize>) -> Result<(), AllocError>
+    ensures { OnOk result
+        (string_bytes text.new ≡ string_bytes text.old ++ call_members call.now step) }
+{
     text.push_str(",\"call\":")?;
     push_json_text(text, call)?;
     if let Some(step) = step {
@@ -66,7 +111,9 @@ fn push_call(text: &mut String, call: &str, step: Option<usize>) -> Result<(), A
 }
 
 /// The text of the helper's expression; `null` where it is refused or the helper answers nothing.
-fn push_helper_text(text: &mut String, session: &Session, number: usize) -> Result<(), AllocError> {
+fn push_helper_text(text: &mut String, session: &Session, number: usize) -> Result<(), AllocError>
+    ensures { OnOk result (AddsHelper (string_bytes text.old) (string_bytes text.new)) }
+{
     match session.helper_text(number) {
         Ok(answer) => push_json_text(text, &answer),
         Err(StepFault::Memory) => Err(AllocError),
@@ -75,7 +122,10 @@ fn push_helper_text(text: &mut String, session: &Session, number: usize) -> Resu
 }
 
 /// Appends the value: a text, `null`, a truth, a number or a list of ports.
-fn push_value(text: &mut String, value: &Value) -> Result<(), AllocError> {
+fn push_value(text: &mut String, value: &Value) -> Result<(), AllocError>
+    ensures { OnOk result
+        (string_bytes text.new ≡ string_bytes text.old ++ value_json value.now) }
+{
     match value {
         Value::Text(answer) => push_json_text(text, answer),
         Value::Nothing => text.push_str("null"),
@@ -93,32 +143,69 @@ fn push_value(text: &mut String, value: &Value) -> Result<(), AllocError> {
     }
 }
 
-fn push_ports(text: &mut String, ports: &[PortValue]) -> Result<(), AllocError> {
+fn push_ports(text: &mut String, ports: &[PortValue]) -> Result<(), AllocError>
+    ensures { OnOk result (string_bytes text.new
+        ≡ string_bytes text.old ++ codes "[" ++ join_by port_object (codes ",") ports.now
+        ++ codes "]") }
+{
     text.push('[')?;
-    let mut is_first = true;
-    for port in ports {
-        if !is_first {
-            text.push(',')?;
-        }
-        is_first = false;
-        push_port(text, port)?;
+    if let Some((first, more)) = ports.split_first() {
+        push_port(text, first)?;
+        push_more_ports(text, more)?;
     }
     text.push(']')
 }
 
-fn push_port(text: &mut String, port: &PortValue) -> Result<(), AllocError> {
-    text.push_str("{\"name\":")?;
-    push_json_text(text, &port.name)?;
-    text.push_str(",\"direction\":")?;
-    push_json_text(text, port.direction_word())?;
-    let PortValue { width, signed, .. } = port;
-    write!(text, ",\"width\":{width},\"signed\":{signed}")?;
-    text.push_str(",\"reference\":")?;
-    push_json_text(text, &port.reference)?;
+/// Appends ports behind the first.
+#[tactic(auto, using(crate::proofs::Replied::ports))]
+fn push_more_ports(text: &mut String, ports: &[PortValue]) -> Result<(), AllocError>
+    ensures { OnOk result
+        (string_bytes text.new ≡ string_bytes text.old ++ more_ports ports.now) }
+{
+    for port in ports {
+        text.push(',')?;
+        push_port(text, port)?;
+    }
+    Ok(())
+}
+
+fn push_port(text: &mut String, port: &PortValue) -> Result<(), AllocError>
+    ensures { OnOk result
+        (string_bytes text.new ≡ string_bytes text.old ++ port_object port.now) }
+{
+    push_port_front(text, port)?;
+    push_port_type(text, port.width, port.signed)?;
+    push_port_end(text, port)
+}
+
+fn push_port_front(text: &mut String, port: &PortValue) -> Result<(), AllocError>
+    ensures { OnOk result
+        (string_bytes text.new ≡ string_bytes text.old ++ port_front port.now) }
+{
+    push_member(text, "{\"name\":", &port.name)?;
+    push_member(text, ",\"direction\":", port.direction_word())?;
+    Ok(())
+}
+
+fn push_port_end(text: &mut String, port: &PortValue) -> Result<(), AllocError>
+    ensures { OnOk result
+        (string_bytes text.new ≡ string_bytes text.old ++ port_end port.now) }
+{
+    push_member(text, ",\"reference\":", &port.reference)?;
     text.push('}')
 }
 
-fn cause_word(cause: &Option<StepFault>) -> &'static str {
+fn push_port_type(text: &mut String, width: i64, signed: bool) -> Result<(), AllocError>
+    ensures { OnOk result
+        (string_bytes text.new ≡ string_bytes text.old ++ port_type width signed) }
+{
+    write!(text, ",\"width\":{width},\"signed\":{signed}")?;
+    Ok(())
+}
+
+fn cause_word(cause: &Option<StepFault>) -> &'static str
+    ensures { result.now ≡ cause_word cause.now }
+{
     match cause {
         None => "form",
         Some(StepFault::NoAnswer) => "no answer",

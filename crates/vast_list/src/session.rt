@@ -1,14 +1,14 @@
 //! A file with the answers so far, whose calls are lines.
 
-ghost use Rattle.std.specs.Prelude.{◌≡◌, ℕ, List, [], IfErr, IfOk, None, OnErr, OnOk, length, option_copied, string_bytes};
+ghost use Rattle.std.specs.Prelude.{◌≡◌, ℕ, ◌+◌, ◌-◌, ◌^◌, List, [], IfErr, IfOk, IfSome, MatchResult, None, OnErr, OnOk, Some, length, min, option_copied, string_bytes};
 ghost use Rattle.vast_core.specs.Bench.{start};
 ghost use Rattle.vast_core.specs.FileTree.{tree};
 ghost use Rattle.xlsynth_vast.specs.Registers.{HasUnused};
 ghost use Rattle.vast_list.specs.Lines.{without_return};
 ghost use Rattle.vast_list.specs.Names.{IsFree, entered, value_named};
 ghost use Rattle.vast_list.specs.Internal.Names.{forgotten};
-ghost use Rattle.vast_list.specs.Session.{Calls, IsGivenBy, IsTextOf, Skips, Takes};
-ghost use Rattle.vast_list.specs.Internal.Session.{IsRead, IsToldAs, Makes, MakesName};
+ghost use Rattle.vast_list.specs.Session.{Calls, IsCausedBy, IsGivenBy, IsInForm, IsOfLine, IsStepIn, IsTextOf, Skips, Takes};
+ghost use Rattle.vast_list.specs.Internal.Session.{IsCallFault, IsRead, IsToldAs, IsToldOf, Makes, MakesName};
 ghost use Rattle.vast_list.specs.Written.{meaning};
 
 use crate::arguments::{Known, place_of};
@@ -119,6 +119,8 @@ impl Session {
         ensures takes { Takes self.old self.new line.now result }
         ensures given { IfOk result (IsGivenBy line.now) }
         ensures unseen { IfErr result (λ fault. HasUnused self.old.file self.new.file) }
+        ensures cause { IfErr result (IsCausedBy self.old self.new line.now) }
+        ensures number { IfErr result (IsOfLine number) }
     {
         let text = self.text_of(number, line)?;
         if is_empty(text) {
@@ -146,7 +148,10 @@ impl Session {
     ///
     /// # Errors
     /// Where it is not in the form, and want of memory.
-    pub fn check(&self, number: usize, line: &[u8]) -> Result<(), Fault> {
+    #[tactic(auto, using(crate::proofs::Sessions::reading))]
+    pub fn check(&self, number: usize, line: &[u8]) -> Result<(), Fault>
+        ensures { OnOk result (IsInForm self.now line.now) }
+    {
         let text = self.text_of(number, line)?;
         if is_empty(text) {
             return Ok(());
@@ -216,12 +221,17 @@ impl Session {
     }
 
     /// How many steps and helpers there are so far, those that were passed over included.
-    pub fn counted(&self) -> usize {
+    pub fn counted(&self) -> usize
+        ensures { result ≡ min
+            (length self.now.answers.items + length self.now.skipped.items) (2 ^ 64 - 1) }
+    {
         self.answers.len().saturating_add(self.skipped.len())
     }
 
     /// The file.
-    pub fn file(&self) -> &VastFile {
+    pub fn file(&self) -> &VastFile
+        ensures { result.now ≡ self.now.file }
+    {
         &self.file
     }
 
@@ -250,7 +260,10 @@ impl Session {
     ///
     /// # Errors
     /// Want of memory.
-    pub fn step_of(&self, line: &[u8]) -> Result<Option<Step>, AllocError> {
+    #[tactic(auto, using(crate::proofs::Sessions::reading))]
+    pub fn step_of(&self, line: &[u8]) -> Result<Option<Step>, AllocError>
+        ensures { IfOk result (λ made. IfSome made (λ step. IsStepIn self.now step line.now)) }
+    {
         let Ok(text) = text_of(line) else {
             return Ok(None);
         };
@@ -279,7 +292,8 @@ impl Session {
     }
 
     fn text_of<'a>(&self, number: usize, line: &'a [u8]) -> Result<&'a str, Fault>
-        ensures { IfOk result (λ text. text.now ≡ without_return line.now) }
+        ensures { MatchResult result
+            (λ text. text.now ≡ without_return line.now) (IsToldOf number None) }
     {
         match text_of(line) {
             Ok(text) => Ok(text),
@@ -289,8 +303,9 @@ impl Session {
 
     #[tactic(auto, using(crate::proofs::Sessions::read_known))]
     fn read<'a>(&self, number: usize, text: &'a str) -> Result<Line<'a>, Fault>
-        ensures { IfOk result
-            (λ line. IsRead (meaning self.now.names) self.now.skipped.items text.now line) }
+        ensures { MatchResult result
+            (λ line. IsRead (meaning self.now.names) self.now.skipped.items text.now line)
+            (IsToldOf number None) }
     {
         match read_line(self.known(), text) {
             Ok(line) => Ok(line),
@@ -312,6 +327,8 @@ impl Session {
         ensures name { IsFree (meaning self.old.names) (option_copied name.entry) →
             MakesName self.old self.new (option_copied name.entry) result }
         ensures unseen { IfErr result (λ fault. HasUnused self.old.file self.new.file) }
+        ensures cause { IfErr result (IsCallFault self.old self.new made.now) }
+        ensures number { IfErr result (IsOfLine number) }
     {
         self.answers.reserve(1)?;
         self.selects.reserve(1)?;
@@ -336,7 +353,9 @@ impl Session {
         text: &str,
         call: &str,
         question: &Question,
-    ) -> Result<Value, Fault> {
+    ) -> Result<Value, Fault>
+        ensures { IfErr result (IsOfLine number) }
+    {
         match answer(&self.file, &self.answers, question) {
             Ok(value) => Ok(value),
             Err(fault) => Err(self.told(number, text, call, None, fault)),
@@ -352,7 +371,8 @@ impl Session {
         made: Option<&Call>,
         cause: StepFault,
     ) -> Fault
-        ensures { IsToldAs cause result }
+        ensures memory { IsToldAs cause result }
+        ensures told { IsToldOf line (Some cause) result }
     {
         if let StepFault::Memory = cause {
             return Fault::Memory;
@@ -370,7 +390,10 @@ impl Session {
         call: &str,
         made: Option<&Call>,
         cause: StepFault,
-    ) -> Result<LineFault, AllocError> {
+    ) -> Result<LineFault, AllocError>
+        ensures line { IfOk result (λ fault. fault.line ≡ line) }
+        ensures cause { IfOk result (λ fault. fault.cause ≡ Some cause) }
+    {
         let known = self.known();
         let is_missing = matches!(cause, StepFault::NoAnswer);
         let follows = is_missing && uses_skipped(known, text)?;

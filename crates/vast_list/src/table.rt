@@ -1,5 +1,7 @@
 //! The table of calls: each by its name in lists, with what its arguments are and what it answers.
 
+ghost use Rattle.std.specs.Prelude.{◌≡◌, IfSome};
+
 mod artifacts;
 mod by_name;
 mod described;
@@ -175,10 +177,15 @@ fn group_of(name: &'static str, calls: &'static [CallRow]) -> Group {
 }
 
 /// The call of the name, its sign included.
-pub(crate) fn row_of(name: &str) -> Option<&'static CallRow> {
-    groups()
-        .into_iter()
-        .find_map(|group| group.calls.iter().find(|call| call.name == name))
+pub(crate) fn row_of(name: &str) -> Option<&'static CallRow>
+    ensures { IfSome result (λ row. row.now.name.now ≡ name.now) }
+{
+    for group in groups() {
+        if let Some(row) = group.calls.iter().find(|call| call.name == name) {
+            return Some(row);
+        }
+    }
+    None
 }
 
 /// The parameters of the call of the name, its sign included; `None` where no call has the name.

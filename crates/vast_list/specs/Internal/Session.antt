@@ -1,11 +1,10 @@
 -- Beside `specs/Session.antt`: what private contracts and proofs say, and no public one.
-use Rattle.std.specs.Prelude.{◌≡◌, ℕ, List, length, Option, option_copied, Result, Ok, Err, ⊤}
+use Rattle.std.specs.Prelude.{◌≡◌, ℕ, List, length, Option, IfSome, option_copied, Result, Ok, Err, ⊤}
 use Rattle.vast_script.specs.declared.fault.StepFault.{StepFault}
 use Rattle.vast_script.specs.declared.fault.StepFault.TheVariants.{Memory as OutOfMemory}
 use Rattle.vast_list.specs.declared.fault.Fault.{Fault}
-use Rattle.vast_list.specs.declared.fault.Fault.TheVariants.{Memory}
+use Rattle.vast_list.specs.declared.fault.Fault.TheVariants.{Line, Memory}
 use Rattle.vast_list.specs.declared.line.Call.{Call}
-use Rattle.vast_list.specs.declared.line.Call.TheVariants.{Step as StepCall, Helper as HelperCall}
 use Rattle.vast_list.specs.declared.line.Action.{Action}
 use Rattle.vast_list.specs.declared.line.Action.TheVariants.{Ask, Call as CallAction}
 use Rattle.vast_list.specs.declared.line.Line.{Line as ReadLine}
@@ -14,20 +13,25 @@ use Rattle.vast_list.specs.declared.names.Named.{Named}
 use Rattle.vast_list.specs.declared.names.Named.TheVariants.{Handle}
 use Rattle.vast_list.specs.CallArguments.{call_pieces}
 use Rattle.vast_list.specs.CallNames.{call_name}
-use Rattle.vast_list.specs.Lines.{LineKind, Asked, Helped, Stepped, behind_call, call_word, text_name, word_kind}
+use Rattle.vast_list.specs.Lines.{Asked, behind_call, call_word, text_name, word_kind}
 use Rattle.vast_list.specs.Names.{IsFree}
 use Rattle.vast_list.specs.Written.{AreWritten}
-use Rattle.vast_list.specs.Session.{IsMade, IsSameKnown, Enters, IsFileLeft}
+use Rattle.vast_list.specs.Session.{Calls, IsMade, IsSameKnown, Enters, IsFileLeft, call_kind}
 
 -- Want of memory is told as such; any other fault as a line's, unless memory for its words was refused.
 abbrev pub IsToldAs : StepFault → Fault → Type 0
 IsToldAs OutOfMemory told = told ≡ Memory
 IsToldAs _ told = ⊤
 
--- What a line is that is read as the call.
-abbrev pub call_kind : Call → LineKind
-call_kind (StepCall step) = Stepped
-call_kind (HelperCall helper) = Helped
+-- A line's fault is of the line of this number, and has this cause.
+abbrev pub IsToldOf : (number : ℕ) → (cause : Option StepFault) → Fault → Type 0
+IsToldOf number cause (Line fault) = (fault.line ≡ number) × (fault.cause ≡ cause)
+IsToldOf number cause Memory = ⊤
+
+-- The cause of a line's fault, if it has one, is what became of the call.
+abbrev pub IsCallFault : (old new : Session) → Call → Fault → Type 0
+IsCallFault old new call (Line fault) = IfSome fault.cause (λ cause. Calls old.file new.file old.answers.items (Err cause) call)
+IsCallFault old new call Memory = ⊤
 
 -- What a line does whose call has this name and, over the names so far, these arguments.
 abbrev pub IsActionOf : (named : List ℕ → Option Named) → (skipped name arguments : List ℕ) → Action → Type 0

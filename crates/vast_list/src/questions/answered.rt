@@ -1,5 +1,8 @@
 //! What questions answer.
 
+ghost use Rattle.std.specs.Prelude.{◌≡◌};
+ghost use Rattle.vast_list.specs.Replies.{direction_word};
+
 use std::fmt;
 use std::fmt::Write;
 use xlsynth_vast::ModulePortDirection;
@@ -32,7 +35,9 @@ pub struct PortValue {
 
 impl PortValue {
     /// The word of its direction.
-    pub fn direction_word(&self) -> &'static str {
+    pub fn direction_word(&self) -> &'static str
+        ensures { result.now ≡ direction_word self.now.direction }
+    {
         match self.direction {
             ModulePortDirection::Input => "Input",
             ModulePortDirection::Output => "Output",

@@ -8,5 +8,5 @@ loop-line-preserved c =
     let inside = c.loop-line-test.true in
     record {
       counted = ap (λ (n : ℕ). n + 1) c.loop-line.invariant.counted;
-      passed = passed-more c.args.lines.now c.loop-line.line-index _ inside (get_or_default c.args.lines.now c.loop-line.line-index _ _ inside) c.loop-line.invariant.passed (c.is_empty_line.ensures c.if-not-is_empty_line.false);
+      passed = passed-more c.args.lines.now c.loop-line.line-index _ inside (get_or_default c.args.lines.now c.loop-line.line-index _ _ inside) c.loop-line.invariant.passed (c.is_empty_line.ensures.0 c.if-not-is_empty_line.false).1;
     }

@@ -7,4 +7,4 @@ returns-in-Behind c = taken_behind c.args.self.now _ c.args.line.now c.in-Behind
 
 pub returns-else-not-is_empty_line : goal.returns-else-not-is_empty_line
 returns-else-not-is_empty_line c =
-    taken_before c.args.self.now _ c.args.line.now c.in-Before.is c.in-Before.is (c.is_empty_line.ensures c.if-not-is_empty_line.false)
+    taken_before c.args.self.now _ c.args.line.now c.in-Before.is c.in-Before.is (c.is_empty_line.ensures.0 c.if-not-is_empty_line.false).1

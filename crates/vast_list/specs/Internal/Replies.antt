@@ -1,0 +1,13 @@
+-- Beside `specs/Replies.antt`: what private contracts and proofs say, and no public one.
+use Rattle.std.specs.Prelude.{◌≡◌, ℕ, List, ◌++◌, codes}
+use Rattle.std.specs.List.{flat_map}
+use Rattle.vast_list.specs.declared.questions.answered.PortValue.{PortValue}
+use Rattle.vast_list.specs.Replies.{IsHelperJson, port_object}
+
+-- The text grew by what stands for the answer of a helper.
+abbrev pub AddsHelper : (old new : List ℕ) → Type 0
+AddsHelper old new = (value : List ℕ) × IsHelperJson value × (new ≡ old ++ value)
+
+-- Ports behind the first.
+abbrev pub more_ports : List PortValue → List ℕ
+more_ports ports = flat_map (λ (port : PortValue). codes "," ++ port_object port) ports

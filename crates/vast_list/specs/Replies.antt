@@ -1,0 +1,104 @@
+-- What lines give and what is wrong with them, as JSON: each an object. A text is a list of bytes.
+use Rattle.std.specs.Prelude.{◌≡◌, ◌⊎◌, ◌==◌, ℕ, ℤ, List, [], ◌++◌, length, codes, string_bytes, Bool, if◌then◌else◌, Option, Some, None}
+use Rattle.std.specs.Fmt.{decimal, signed_decimal}
+use Rattle.std.specs.List.{join_by}
+use Rattle.vast_literal.specs.declared.kind.ModulePortDirection.{ModulePortDirection}
+use Rattle.vast_literal.specs.declared.kind.ModulePortDirection.TheVariants.{Input, Output, InOut}
+use Rattle.vast_script.specs.declared.fault.StepFault.{StepFault}
+use Rattle.vast_script.specs.declared.fault.StepFault.TheVariants.{NoAnswer, WrongKind, Condition, Refused, Memory}
+use Rattle.vast_list.specs.declared.fault.LineFault.{LineFault}
+use Rattle.vast_list.specs.declared.questions.answered.PortValue.{PortValue}
+use Rattle.vast_list.specs.declared.questions.answered.Value.{Value}
+use Rattle.vast_list.specs.declared.questions.answered.Value.TheVariants.{Text, Nothing, Truth, Number, Count, Ports}
+use Rattle.vast_list.specs.declared.session.Given.{Given}
+use Rattle.vast_list.specs.declared.session.Given.TheVariants.{Nothing as Blank, Step, Helper, Answer as Answered}
+use Rattle.vast_list.specs.Json.{json_text}
+
+-- A member whose value is a text, behind its name as it stands in the object.
+abbrev pub text_member : (name content : List ℕ) → List ℕ
+text_member name content = name ++ json_text content
+
+-- The number of a step or a helper, if it has one.
+abbrev pub step_member : Option ℕ → List ℕ
+step_member None = []
+step_member (Some step) = codes ",\"step\":" ++ decimal step
+
+abbrev pub call_members : (call : List ℕ) → (step : Option ℕ) → List ℕ
+call_members call step = codes ",\"call\":" ++ json_text call ++ step_member step
+
+abbrev pub column_member : Option ℕ → List ℕ
+column_member None = []
+column_member (Some column) = codes ",\"column\":" ++ decimal column
+
+-- Why a call is not made, in a word.
+abbrev pub cause_word : Option StepFault → List ℕ
+cause_word None = codes "form"
+cause_word (Some NoAnswer) = codes "no answer"
+cause_word (Some WrongKind) = codes "kind"
+cause_word (Some Condition) = codes "condition"
+cause_word (Some (Refused error)) = codes "refused"
+cause_word (Some Memory) = codes "memory"
+
+abbrev pub line_front : ℕ → List ℕ
+line_front line = codes "{\"line\":" ++ decimal line
+
+-- The call of a fault; one of the file's text has none.
+abbrev pub fault_members : LineFault → List ℕ
+fault_members fault = if length (string_bytes fault.call) == 0 then [] else call_members (string_bytes fault.call) fault.step
+
+-- Its cause and its words, and the object's end.
+abbrev pub reason_members : LineFault → List ℕ
+reason_members fault = text_member (codes ",\"cause\":") (cause_word fault.cause) ++ text_member (codes ",\"words\":") (string_bytes fault.words) ++ codes "}"
+
+-- A fault.
+abbrev pub fault_object : LineFault → List ℕ
+fault_object fault =
+    line_front fault.line
+    ++ column_member fault.column
+    ++ fault_members fault
+    ++ reason_members fault
+
+abbrev pub direction_word : ModulePortDirection → List ℕ
+direction_word Input = codes "Input"
+direction_word Output = codes "Output"
+direction_word InOut = codes "InOut"
+
+abbrev pub truth_word : Bool → List ℕ
+truth_word b = if b then codes "true" else codes "false"
+
+abbrev pub port_type : (width : ℤ) → (signed : Bool) → List ℕ
+port_type width signed = codes ",\"width\":" ++ signed_decimal width ++ codes ",\"signed\":" ++ truth_word signed
+
+abbrev pub port_front : PortValue → List ℕ
+port_front port = text_member (codes "{\"name\":") (string_bytes port.name) ++ text_member (codes ",\"direction\":") (direction_word port.direction)
+
+abbrev pub port_end : PortValue → List ℕ
+port_end port = text_member (codes ",\"reference\":") (string_bytes port.reference) ++ codes "}"
+
+abbrev pub port_object : PortValue → List ℕ
+port_object port = port_front port ++ port_type port.width port.signed ++ port_end port
+
+-- What a question answers.
+abbrev pub value_json : Value → List ℕ
+value_json (Text text) = json_text (string_bytes text)
+value_json Nothing = codes "null"
+value_json (Truth truth) = truth_word truth
+value_json (Number number) = signed_decimal number
+value_json (Count count) = decimal count
+value_json (Ports ports) = codes "[" ++ join_by port_object (codes ",") ports.items ++ codes "]"
+
+-- What stands for the answer of a helper: a text, or nothing.
+abbrev pub IsHelperJson : List ℕ → Type 0
+IsHelperJson value = (value ≡ codes "null") ⊎ ((text : List ℕ) × (value ≡ json_text text))
+
+-- What a line gave.
+abbrev pub IsGivenObject : (line : ℕ) → Given → (object : List ℕ) → Type 0
+IsGivenObject line Blank object = object ≡ line_front line ++ codes "}"
+IsGivenObject line (Step number call) object = object ≡ line_front line ++ call_members call.now (Some number) ++ codes "}"
+IsGivenObject line (Helper number call) object =
+    (value : List ℕ) × IsHelperJson value × (object ≡ line_front line ++ call_members call.now (Some number) ++ codes ",\"answer\":" ++ value ++ codes "}")
+IsGivenObject line (Answered call value) object = object ≡ line_front line ++ call_members call.now None ++ codes ",\"answer\":" ++ value_json value ++ codes "}"
+
+-- The text grew by what the line gave.
+abbrev pub AddsGiven : (old new : List ℕ) → (line : ℕ) → Given → Type 0
+AddsGiven old new line given = (object : List ℕ) × IsGivenObject line given object × (new ≡ old ++ object)
