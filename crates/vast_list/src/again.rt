@@ -150,14 +150,27 @@ fn stopped_text(
     lines: &[(usize, &[u8])],
 ) -> Result<Option<String>, AllocError> {
     let mut session = Session::new(alloc, dialect);
+    let text = if is_refused_memory(&mut session, lines) {
+        text_of(session.file()).map(Some)
+    } else {
+        Ok(None)
+    };
+    drop(session);
+    text
+}
+
+/// Makes the calls of the lines up to the first that is refused; whether that is for want of memory.
+fn is_refused_memory(session: &mut Session, lines: &[(usize, &[u8])]) -> bool {
     for (number, line) in lines {
-        match session.line(*number, line) {
-            Err(Fault::Memory) => return Ok(Some(text_of(session.file())?)),
-            Err(Fault::Line(_)) => return Ok(None),
-            Ok(_) => {}
+        let taken = session.line(*number, line);
+        let is_made = taken.is_ok();
+        let is_memory = matches!(taken, Err(Fault::Memory));
+        drop(taken);
+        if !is_made {
+            return is_memory;
         }
     }
-    Ok(None)
+    false
 }
 
 fn names_of<'a>(alloc: Global, lines: &[(usize, &'a [u8])]) -> Result<Vec<&'a str>, AllocError> {

@@ -40,14 +40,32 @@ pub fn list_origins(alloc: Global, list: &ListLines<'_>) -> Result<Option<Origin
         is_stopped: false,
         told: Told::new(alloc),
     };
+    let made = follow_lines(&mut origins, &mut answering, lines);
+    let found = match made {
+        Ok(()) => finished(origins, &answering.session),
+        Err(error) => {
+            drop(origins);
+            Err(error)
+        }
+    };
+    drop(answering);
+    found
+}
+
+/// Makes the calls of the lines.
+fn follow_lines(
+    origins: &mut Origins,
+    answering: &mut Answering<'_>,
+    lines: &[(usize, &[u8])],
+) -> Result<(), AllocError> {
     for (number, line) in lines {
         let before = answering.session.answers().len();
         answering.take(*number, line)?;
         if answering.session.answers().len() > before && may_write(line) {
-            follow(&mut origins, &answering.session, *number)?;
+            follow(origins, &answering.session, *number)?;
         }
     }
-    finished(origins, &answering.session)
+    Ok(())
 }
 
 /// Whether the line's call can change the file's text: what a `Make` call answers stands nowhere yet.

@@ -54,17 +54,28 @@ pub fn list_plainness(
         is_stopped: false,
         told: Told::new(alloc),
     };
+    let told = first_not_plain(alloc, &mut answering, lines);
+    drop(answering);
+    Ok(Some(told?))
+}
+
+/// The first of the lines behind which the file is not plain.
+fn first_not_plain(
+    alloc: Global,
+    answering: &mut Answering<'_>,
+    lines: &[(usize, &[u8])],
+) -> Result<Plainness, AllocError> {
     for (number, line) in lines {
         answering.take(*number, line)?;
         if may_write(line) && !answering.session.file().is_plain()? {
             let call = String::from_str(alloc, call_of(line))?;
-            return Ok(Some(Plainness::NotPlain {
+            return Ok(Plainness::NotPlain {
                 line: *number,
                 call,
-            }));
+            });
         }
     }
-    Ok(Some(Plainness::Plain))
+    Ok(Plainness::Plain)
 }
 
 /// The name of the line's call.

@@ -1,71 +1,90 @@
 //! Why a line is not in the form.
 
 use std::alloc::{AllocError, AllocFailed};
-use thiserror::Error;
+use std::fmt;
 
 /// Why a line is not in the form, or that memory was refused.
-#[derive(Clone, Copy, Debug, PartialEq, Eq, Error)]
+#[derive(Clone, Copy, Debug, PartialEq, Eq)]
 pub(crate) enum Problem {
-    #[error("not UTF-8")]
     NotUtf8,
-    #[error("`verilog` or `systemverilog` expected")]
     NoDialect,
-    #[error("a call expected, not a space")]
     Indented,
-    #[error("unknown call")]
     UnknownCall,
-    #[error("a name expected before `=`: letters, digits and `_`, no digit first")]
     NotAName,
-    #[error("an earlier line has the name")]
     NameTaken,
-    #[error("no earlier line has the name")]
     NameUnknown,
-    #[error("the name is a question's, and stands for no handle; as a number it is written with `?`")]
     NameOfQuestion,
-    #[error("the line that has the name is at fault")]
     Skipped,
-    #[error("the name is no question's")]
     NameOfHandle,
-    #[error("the answer of the question is no number")]
     AnswerNoNumber,
-    #[error("missing")]
     Missing,
-    #[error("an argument too many")]
     TooMany,
-    #[error("a space too many")]
     Space,
-    #[error("a handle expected: the number of an earlier step, or a name")]
     NoHandle,
-    #[error("a number expected, in decimal digits, or `?` and a question's name")]
     NoNumber,
-    #[error("a name stands for a handle, and a number is expected")]
     NameForNumber,
-    #[error("number out of range")]
     OutOfRange,
-    #[error("`true` or `false` expected")]
     NoTruth,
-    #[error("a text expected, between quotes")]
     NoText,
-    #[error("text without its end")]
     OpenText,
-    #[error("unknown escape in a text: they are \\\" \\\\ \\/ \\n \\t \\r \\b \\f \\uXXXX")]
     UnknownEscape,
-    #[error("half of a surrogate pair in a text")]
     LoneSurrogate,
-    #[error("a space expected behind the text")]
     NoSpace,
-    #[error("a list expected: `[`, and a space behind it")]
     NoList,
-    #[error("a list without its end, ` ]`")]
     OpenList,
-    #[error("`-` or `+` expected: `-` for none, `+ ` before a value")]
     NoOption,
-    #[error("one of Binary, Hex, SignedDecimal, UnsignedDecimal, UnsizedBinary, UnsizedDecimal, UnsizedHex expected")]
     NoFormat,
-    #[error("one of Reg, Wire, Logic, Integer, Int, User, UntypedEnum, Genvar expected")]
     NoKind,
-    #[error("out of memory")]
     Memory,
+}
+
+impl Problem {
+    fn words(self) -> &'static str {
+        match self {
+            Problem::NotUtf8 => "not UTF-8",
+            Problem::NoDialect => "`verilog` or `systemverilog` expected",
+            Problem::Indented => "a call expected, not a space",
+            Problem::UnknownCall => "unknown call",
+            Problem::NotAName =>
+                "a name expected before `=`: letters, digits and `_`, no digit first",
+            Problem::NameTaken => "an earlier line has the name",
+            Problem::NameUnknown => "no earlier line has the name",
+            Problem::NameOfQuestion =>
+                "the name is a question's, and stands for no handle; as a number it is written with `?`",
+            Problem::Skipped => "the line that has the name is at fault",
+            Problem::NameOfHandle => "the name is no question's",
+            Problem::AnswerNoNumber => "the answer of the question is no number",
+            Problem::Missing => "missing",
+            Problem::TooMany => "an argument too many",
+            Problem::Space => "a space too many",
+            Problem::NoHandle => "a handle expected: the number of an earlier step, or a name",
+            Problem::NoNumber =>
+                "a number expected, in decimal digits, or `?` and a question's name",
+            Problem::NameForNumber => "a name stands for a handle, and a number is expected",
+            Problem::OutOfRange => "number out of range",
+            Problem::NoTruth => "`true` or `false` expected",
+            Problem::NoText => "a text expected, between quotes",
+            Problem::OpenText => "text without its end",
+            Problem::UnknownEscape =>
+                "unknown escape in a text: they are \\\" \\\\ \\/ \\n \\t \\r \\b \\f \\uXXXX",
+            Problem::LoneSurrogate => "half of a surrogate pair in a text",
+            Problem::NoSpace => "a space expected behind the text",
+            Problem::NoList => "a list expected: `[`, and a space behind it",
+            Problem::OpenList => "a list without its end, ` ]`",
+            Problem::NoOption => "`-` or `+` expected: `-` for none, `+ ` before a value",
+            Problem::NoFormat =>
+                "one of Binary, Hex, SignedDecimal, UnsignedDecimal, UnsizedBinary, UnsizedDecimal, UnsizedHex expected",
+            Problem::NoKind =>
+                "one of Reg, Wire, Logic, Integer, Int, User, UntypedEnum, Genvar expected",
+            Problem::Memory => "out of memory",
+        }
+    }
+}
+
+impl fmt::Display for Problem {
+    fn fmt<W: fmt::Write>(&self, f: &mut fmt::Formatter<W>) -> fmt::Result {
+        f.write_str(self.words())
+    }
 }
 
 /// A problem, and where it is.

@@ -156,7 +156,7 @@ impl Session {
         if is_empty(text) {
             return Ok(());
         }
-        self.read(number, text)?;
+        drop(self.read(number, text)?);
         Ok(())
     }
 

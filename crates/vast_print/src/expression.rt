@@ -132,41 +132,40 @@ fn begin(
         (tree_of (bench ast.now) e) result }
 {
     match ast.expr(e) {
-        ExprNode::Name(text, _) => out.written(depth, text.as_str())?,
-        ExprNode::Literal(text, _) => out.written(depth, text.as_str())?,
-        ExprNode::StringText(text) => out.written(depth, text)?,
+        ExprNode::Name(text, _) => Ok(out.written(depth, text.as_str())?),
+        ExprNode::Literal(text, _) => Ok(out.written(depth, text.as_str())?),
+        ExprNode::StringText(text) => Ok(out.written(depth, text)?),
         ExprNode::Unary(operator, operand) => begin_unary(
             ast, *operator, *operand, depth, out, work,
-        )?,
+        ),
         ExprNode::Binary(operator, left, right) => begin_binary(
             ast, *operator, *left, *right, depth, out, work,
-        )?,
+        ),
         ExprNode::Ternary(condition, consequent, alternate) => {
-            begin_ternary(ast, *condition, *consequent, *alternate, depth, out, work)?;
+            begin_ternary(ast, *condition, *consequent, *alternate, depth, out, work)
         }
-        ExprNode::Index(subject, index) => begin_index(ast, *subject, *index, depth, out, work)?,
+        ExprNode::Index(subject, index) => begin_index(ast, *subject, *index, depth, out, work),
         ExprNode::Slice(subject, high, low) => begin_slice(
             ast, *subject, *high, *low, depth, out, work,
-        )?,
+        ),
         ExprNode::PartSelect(subject, start, width) => {
-            begin_part_select(ast, *subject, *start, *width, depth, out, work)?;
+            begin_part_select(ast, *subject, *start, *width, depth, out, work)
         }
-        ExprNode::Concat(count, parts) => begin_concat(ast, *count, parts, depth, out, work)?,
-        ExprNode::Pattern(parts) => begin_pattern(ast, parts, depth, out, work)?,
+        ExprNode::Concat(count, parts) => begin_concat(ast, *count, parts, depth, out, work),
+        ExprNode::Pattern(parts) => begin_pattern(ast, parts, depth, out, work),
         ExprNode::WidthCast(width, operand) => begin_width_cast(
             ast, *width, *operand, depth, out, work,
-        )?,
+        ),
         ExprNode::TypeCast(data_type, operand) => begin_type_cast(
             ast, *data_type, *operand, depth, out, work,
-        )?,
-        ExprNode::PosEdge(operand) => begin_posedge(ast, *operand, depth, out, work)?,
-        ExprNode::NegEdge(operand) => begin_negedge(ast, *operand, depth, out, work)?,
-        ExprNode::Macro(name) => print_macro(name, depth, out)?,
+        ),
+        ExprNode::PosEdge(operand) => begin_posedge(ast, *operand, depth, out, work),
+        ExprNode::NegEdge(operand) => begin_negedge(ast, *operand, depth, out, work),
+        ExprNode::Macro(name) => print_macro(name, depth, out),
         ExprNode::MacroCall(name, arguments) => begin_macro_call(
             ast, name, arguments, depth, out, work,
-        )?,
-        ExprNode::Call(name, arguments) => begin_call(ast, name, arguments, depth, out, work)?,
+        ),
+        ExprNode::Call(name, arguments) => begin_call(ast, name, arguments, depth, out, work),
         ExprNode::DataType(_) => unreachable!(),
     }
-    Ok(())
 }

@@ -352,14 +352,18 @@ impl Ast {
             (after_growth (listing_of place.entry) (fresh_of arrivals)) }
     {
         let mut spare = spare_left(arrivals.node.takes_spare(), self.spare);
-        enter(
+        let entered = enter(
             &mut self.modules,
             &mut self.nests,
             &mut self.functions,
             &mut self.items,
             &mut spare,
             place,
-        )?;
+        );
+        if let Err(error) = entered {
+            drop(arrivals);
+            return Err(error);
+        }
         self.spare = spare;
         settle_terms(&mut self.terms, arrivals.terms);
         settle_node(
@@ -388,7 +392,13 @@ impl Ast {
         ensures { GrowsBy self.old self.new result
             (after_growth (listing_of place.entry) (fresh_of arrivals)) }
     {
-        self.make_room(&arrivals)?;
-        self.admit(place, arrivals)
+        match self.make_room(&arrivals) {
+            Ok(()) => self.admit(place, arrivals),
+            Err(error) => {
+                drop(place);
+                drop(arrivals);
+                Err(error)
+            }
+        }
     }
 }
