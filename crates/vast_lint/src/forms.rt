@@ -6,7 +6,7 @@ ghost use Rattle.vast_lint.specs.Internal.Forms.{is_left_side, is_selectable};
 use crate::rule::Rule;
 
 /// What an expression is, as far as a rule asks.
-#[derive(Clone, Copy, Debug, PartialEq, Eq)]
+#[derive(Clone, Copy, PartialEq)]
 pub(crate) enum Form {
     /// A net or a variable, or an element of one: how many dimensions can still be selected from, where that is known.
     Signal(Option<usize>),
@@ -140,7 +140,7 @@ impl Form {
 }
 
 /// What a type is made of.
-#[derive(Clone, Copy, Debug, PartialEq, Eq)]
+#[derive(Clone, Copy, PartialEq)]
 pub(crate) enum Base {
     Scalar,
     Vector,
@@ -153,7 +153,7 @@ pub(crate) enum Base {
 }
 
 /// What a type is, as far as a rule asks.
-#[derive(Clone, Copy, Debug, PartialEq, Eq)]
+#[derive(Clone, Copy)]
 pub(crate) struct TypeForm {
     pub(crate) base: Base,
     /// An `integer` or an `int` without a sign.

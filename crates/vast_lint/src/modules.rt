@@ -12,7 +12,7 @@ use std::alloc::AllocError;
 use vast_script::ModuleStep;
 
 /// The word before a declaration's type.
-#[derive(Clone, Copy, Debug, PartialEq, Eq)]
+#[derive(Clone, Copy)]
 pub(crate) enum Word {
     Wire,
     Reg,

@@ -4,7 +4,7 @@ use std::alloc::{AllocError, AllocFailed};
 use std::fmt;
 
 /// Why a line is not in the form, or that memory was refused.
-#[derive(Clone, Copy, Debug, PartialEq, Eq)]
+#[derive(Clone, Copy)]
 pub(crate) enum Problem {
     NotUtf8,
     NoDialect,
@@ -88,7 +88,7 @@ impl fmt::Display for Problem {
 }
 
 /// A problem, and where it is.
-#[derive(Clone, Copy, Debug, PartialEq, Eq)]
+#[derive(Clone, Copy)]
 pub(crate) struct Misfit {
     /// How many bytes of the line stand from there on.
     pub(crate) left: usize,
