@@ -5,8 +5,6 @@ mod failure;
 mod files;
 mod help;
 mod input;
-#[cfg(test)]
-mod mistakes;
 mod outcome;
 mod program;
 mod session;

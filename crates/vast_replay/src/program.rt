@@ -5,9 +5,6 @@ ghost use Rattle.std.specs.Io.KnownBytes.{IsAtEnd};
 ghost use Rattle.vast_list.specs.Output.{is_made};
 ghost use Rattle.vast_replay.specs.Input.{GivesTaken, PrintsInput, PrintsTexts, WritesMade, WritesTaken};
 
-#[cfg(test)]
-mod tests;
-
 use crate::failure::{Failure, fail};
 use crate::input::{Taken, split_lists, take_input};
 use crate::outcome::Outcome;

@@ -35,7 +35,7 @@ pub(crate) enum Request<'a> {
 }
 
 /// What is printed of a list.
-#[derive(Clone, Copy, Debug, PartialEq, Eq)]
+#[derive(Clone, Copy, PartialEq)]
 pub(crate) enum Form {
     /// The file's text; behind a header the answers before it.
     Text,
@@ -48,7 +48,7 @@ pub(crate) enum Form {
 }
 
 /// Whether forms that are no SystemVerilog, or that a tool refuses, are told.
-#[derive(Clone, Copy, Debug, PartialEq, Eq)]
+#[derive(Clone, Copy, PartialEq)]
 pub enum Linting {
     /// None is.
     Off,
@@ -207,115 +207,6 @@ impl<'a> Seen<'a> {
             map: self.map,
             lint: self.lint,
             files: self.files,
-        }
-    }
-}
-
-#[cfg(test)]
-mod tests {
-    use super::{Form, Linting, Request, WordFault, requested};
-    use std::alloc::Global;
-
-    /// What was asked for, in short.
-    fn short(alloc: Global, words: &[&str]) -> String {
-        let told = match requested(alloc, words) {
-            Ok(Request::Help) => String::from_str(alloc, "help"),
-            Ok(Request::Version) => String::from_str(alloc, "version"),
-            Ok(Request::Calls) => String::from_str(alloc, "calls"),
-            Ok(Request::CallsJson) => String::from_str(alloc, "calls as JSON"),
-            Ok(Request::Session { lint: false }) => String::from_str(alloc, "session"),
-            Ok(Request::Session { lint: true }) => String::from_str(alloc, "session lint"),
-            Ok(
-                Request::Lists {
-                    form,
-                    again,
-                    map,
-                    lint,
-                    files,
-                },
-            ) => {
-                let lint = match lint {
-                    Linting::Off => "",
-                    Linting::Told => " lint",
-                    Linting::Strict => " strict",
-                };
-                let map = if map { " map" } else { "" };
-                format!(in alloc; "{form:?} {again} {}{map}{lint}", files.len())
-            }
-            Err(WordFault::Memory) => String::from_str(alloc, "no memory"),
-            Err(fault) => format!(in alloc; "{fault}"),
-        };
-        told.unwrap_or(String::new(alloc))
-    }
-
-    #[test]
-    fn words_ask_for_one_thing(rt: HostRuntime) {
-        let alloc = rt.alloc();
-        let rows: [(&[&str], &str); 37] = [
-            (&[], "Text false 0"),
-            (&["a.list", "-"], "Text false 2"),
-            (&["--again"], "Text true 0"),
-            (&["--check", "a.list"], "Faults false 1"),
-            (&["--json", "--json"], "Json false 0"),
-            (&["--session"], "session"),
-            (&["--calls"], "calls"),
-            (&["--calls", "--json"], "calls as JSON"),
-            (&["--json", "--calls"], "calls as JSON"),
-            (&["--help", "a.list"], "help"),
-            (&["--session", "-h", "--check"], "help"),
-            (&["-V"], "version"),
-            (&["--", "--help"], "Text false 1"),
-            (&["--hepl"], "unknown word --hepl"),
-            (&["-x", "--help"], "unknown word -x"),
-            (&["--agian"], "unknown word --agian"),
-            (
-                &["--check", "--json"],
-                "--check and --json exclude each other",
-            ),
-            (
-                &["--again", "--session"],
-                "--again and --session exclude each other",
-            ),
-            (&["--json", "--again"], "Json true 0"),
-            (
-                &["--check", "--again"],
-                "--again and --check exclude each other",
-            ),
-            (&["--map", "a.list"], "Text false 1 map"),
-            (&["--map", "--again"], "Text true 0 map"),
-            (&["--json", "--map"], "Json false 0 map"),
-            (
-                &["--check", "--map"],
-                "--map and --check exclude each other",
-            ),
-            (
-                &["--map", "--calls"],
-                "--map and --calls exclude each other",
-            ),
-            (&["--lint", "a.list"], "Text false 1 lint"),
-            (&["--strict", "--lint", "--check"], "Faults false 0 strict"),
-            (&["--lint", "--map", "--json"], "Json false 0 map lint"),
-            (&["--lint", "--session"], "session lint"),
-            (&["--session", "--lint", "--lint"], "session lint"),
-            (
-                &["--strict", "--session"],
-                "--strict and --session exclude each other",
-            ),
-            (
-                &["--calls", "--lint"],
-                "--lint and --calls exclude each other",
-            ),
-            (&["--plain", "--lint", "a.list"], "Plain false 1 lint"),
-            (
-                &["--plain", "--json"],
-                "--plain and --json exclude each other",
-            ),
-            (&["--session", "a.list"], "--session takes no file"),
-            (&["--calls", "-"], "--calls takes no file"),
-            (&["--version", "a"], "--version takes no file"),
-        ];
-        for (words, wanted) in rows {
-            assert_eq!(rt; short(alloc, words).as_str(), wanted);
         }
     }
 }
