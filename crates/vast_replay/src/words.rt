@@ -35,7 +35,7 @@ pub(crate) enum Request<'a> {
 }
 
 /// What is printed of a list.
-#[derive(Clone, Copy, PartialEq)]
+#[derive(Clone, Copy)]
 pub(crate) enum Form {
     /// The file's text; behind a header the answers before it.
     Text,

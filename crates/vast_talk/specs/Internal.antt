@@ -1,1 +1,2 @@
 pub mod Linted
+pub mod Replies

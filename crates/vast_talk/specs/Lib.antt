@@ -1,2 +1,3 @@
 pub mod Linted
 pub mod Internal
+pub mod Replies

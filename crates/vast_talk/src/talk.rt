@@ -1,12 +1,16 @@
 //! Lines that are answered one by one, by JSON.
 
-ghost use Rattle.std.specs.Prelude.{◌≡◌, MatchOption, OnOk, false, true};
+ghost use Rattle.std.specs.Prelude.{◌≡◌, ◌+◌, ◌-◌, ◌^◌, ◌++◌, IfOk, MatchOption, OnOk, None, codes, false, min, string_bytes, true};
+ghost use Rattle.std.specs.Str.Lossy.{utf8_lossy};
+ghost use Rattle.vast_list.specs.Lines.{dialect_word};
 ghost use Rattle.vast_talk.specs.Linted.{HasCounted, IsLevel, IsTalking};
+ghost use Rattle.vast_talk.specs.Replies.{IsReply, RepliesTo, RepliesToFirst, RepliesToLine, is_header, text_object};
 ghost use Rattle.vast_talk.specs.Internal.Linted.{is_memory};
+ghost use Rattle.vast_talk.specs.Internal.Replies.{AddsReply, AddsFault};
 
 use crate::LineWarning;
 use crate::linted::{SessionLint, take_linted};
-use crate::warnings::{push_member, push_warnings};
+use crate::warnings::{push_last, push_warnings};
 use std::alloc::{AllocError, Global};
 use std::fmt::Write;
 use vast_list::{
@@ -69,9 +73,13 @@ impl Talk {
     ///
     /// # Errors
     /// Want of memory.
+    #[tactic(auto, using(crate::proofs::Replied::replies))]
     pub fn reply(&mut self, line: &[u8]) -> Result<String, AllocError>
         ensures talking { IsTalking self.old → OnOk result (IsTalking self.new) }
         ensures lint { self.new.has_lint ≡ self.old.has_lint }
+        ensures number { self.new.number ≡ min (self.old.number + 1) (2 ^ 64 - 1) }
+        ensures reply { IsTalking self.old → self.old.has_lint ≡ false
+            → IfOk result (λ text. IsReply self.old self.new line.now (string_bytes text)) }
     {
         self.number = self.number.saturating_add(1);
         let mut text = String::new(self.alloc);
@@ -84,6 +92,10 @@ impl Talk {
     fn take(&mut self, line: &[u8], text: &mut String) -> Result<(), Fault>
         ensures talking { IsTalking self.old → is_memory result ≡ false → IsTalking self.new }
         ensures lint { self.new.has_lint ≡ self.old.has_lint }
+        ensures number { self.new.number ≡ self.old.number }
+        ensures told { IsTalking self.old → self.old.has_lint ≡ false
+            → AddsReply (string_bytes text.old) (string_bytes text.new) result
+            (RepliesTo (is_header line.now) self.old.session self.new.session self.new.number line.now) }
     {
         if let Some(title) = line.strip_prefix(HEADER) {
             return self.begin(title, text);
@@ -101,18 +113,28 @@ impl Talk {
     fn begin(&mut self, title: &[u8], text: &mut String) -> Result<(), Fault>
         ensures talking { IsTalking self.new }
         ensures lint { self.new.has_lint ≡ self.old.has_lint }
+        ensures number { self.new.number ≡ self.old.number }
+        ensures session { self.new.session ≡ None }
+        ensures told { AddsReply (string_bytes text.old) (string_bytes text.new) result
+            (λ object. object
+            ≡ text_object self.new.number (codes ",\"title\":") (utf8_lossy title.now)) }
     {
         self.session = None;
         self.lint = None;
         let title = String::from_utf8_lossy(self.alloc, title)?;
-        push_one(text, self.number, "title", &title)?;
+        push_one(text, self.number, ",\"title\":", &title)?;
         Ok(())
     }
 
     /// Takes a line before there is a session.
+    #[tactic(auto, using(crate::proofs::Replied::replies))]
     fn open(&mut self, line: &[u8], text: &mut String) -> Result<(), Fault>
         ensures talking { IsTalking self.old → is_memory result ≡ false → IsTalking self.new }
         ensures lint { self.new.has_lint ≡ self.old.has_lint }
+        ensures number { self.new.number ≡ self.old.number }
+        ensures told { self.old.session ≡ None
+            → AddsReply (string_bytes text.old) (string_bytes text.new) result
+            (RepliesToFirst self.new.session self.new.number line.now) }
     {
         if is_empty_line(line) {
             write!(text, "{{\"line\":{}}}", self.number)?;
@@ -121,14 +143,16 @@ impl Talk {
         let dialect = dialect_of(self.alloc, self.number, line)?;
         self.session = Some(Session::new(self.alloc, dialect));
         self.lint = lint_of(self.alloc, self.has_lint, dialect);
-        push_one(text, self.number, "dialect", dialect_word(dialect))?;
+        push_one(text, self.number, ",\"dialect\":", dialect_word(dialect))?;
         Ok(())
     }
 }
 
 /// Appends the fault, if the line has one.
 fn push_taken(text: &mut String, taken: Result<(), Fault>) -> Result<(), AllocError>
-    ensures { OnOk result (is_memory taken ≡ false) }
+    ensures memory { OnOk result (is_memory taken ≡ false) }
+    ensures text { OnOk result
+        (AddsFault (string_bytes text.old) (string_bytes text.new) taken) }
 {
     match taken {
         Ok(()) => Ok(()),
@@ -155,7 +179,10 @@ fn push_line(
     session: &mut Session,
     number: usize,
     line: &[u8],
-) -> Result<(), Fault> {
+) -> Result<(), Fault>
+    ensures { AddsReply (string_bytes text.old) (string_bytes text.new) result
+        (RepliesToLine session.old session.new number line.now) }
+{
     let given = session.line(number, line)?;
     push_given(text, session, number, &given)?;
     Ok(())
@@ -200,18 +227,23 @@ fn push_told(text: &mut String, warnings: &[LineWarning]) -> Result<(), AllocErr
         return Ok(());
     }
     text.pop();
-    push_member(text, warnings)?;
+    push_last(text, warnings)?;
     text.push('}')
 }
 
-/// Appends the line's number and one text under a name.
-fn push_one(text: &mut String, line: usize, name: &str, value: &str) -> Result<(), AllocError> {
-    write!(text, "{{\"line\":{line},\"{name}\":")?;
+/// Appends an object of the line's number and a text; `name` is the text's name as it stands in the object.
+fn push_one(text: &mut String, line: usize, name: &str, value: &str) -> Result<(), AllocError>
+    ensures { OnOk result
+        (string_bytes text.new ≡ string_bytes text.old ++ text_object line name.now value.now) }
+{
+    write!(text, "{{\"line\":{line}{name}")?;
     push_json_text(text, value)?;
     text.push('}')
 }
 
-fn dialect_word(dialect: VastFileType) -> &'static str {
+fn dialect_word(dialect: VastFileType) -> &'static str
+    ensures { result.now ≡ dialect_word dialect }
+{
     match dialect {
         VastFileType::Verilog => "verilog",
         VastFileType::SystemVerilog => "systemverilog",

@@ -109,13 +109,13 @@ pub fn json_with_warnings(
     warnings: &[LineWarning],
 ) -> Result<String, AllocError> {
     let mut text = String::from_str(alloc, line.strip_suffix("}\n").unwrap_or(line))?;
-    push_member(&mut text, warnings)?;
+    push_last(&mut text, warnings)?;
     text.push_str("}\n")?;
     Ok(text)
 }
 
 /// Appends the warnings as an object's last member.
-pub(crate) fn push_member(text: &mut String, warnings: &[LineWarning]) -> Result<(), AllocError> {
+pub(crate) fn push_last(text: &mut String, warnings: &[LineWarning]) -> Result<(), AllocError> {
     text.push_str(",\"warnings\":")?;
     push_warnings(text, warnings)
 }

@@ -1,0 +1,17 @@
+-- Beside `specs/Replies.antt`: what private contracts and proofs say, and no public one.
+use Rattle.std.specs.Prelude.{◌≡◌, ℕ, List, ◌++◌, Result, Ok, Err, ⊤}
+use Rattle.vast_list.specs.declared.fault.Fault.{Fault}
+use Rattle.vast_list.specs.declared.fault.Fault.TheVariants.{Line, Memory}
+use Rattle.vast_list.specs.Replies.{fault_object}
+
+-- The text grew by an object that tells this; or it is as before, and the fault's object tells it.
+abbrev pub AddsReply : (old new : List ℕ) → Result (Unit {0}) Fault → (List ℕ → Type 0) → Type 0
+AddsReply old new (Ok done) IsTold = (object : List ℕ) × IsTold object × (new ≡ old ++ object)
+AddsReply old new (Err (Line fault)) IsTold = IsTold (fault_object fault) × (new ≡ old)
+AddsReply old new (Err Memory) IsTold = ⊤
+
+-- The text grew by the fault's object, if there is a fault.
+abbrev pub AddsFault : (old new : List ℕ) → Result (Unit {0}) Fault → Type 0
+AddsFault old new (Ok done) = new ≡ old
+AddsFault old new (Err (Line fault)) = new ≡ old ++ fault_object fault
+AddsFault old new (Err Memory) = ⊥

@@ -1,0 +1,56 @@
+-- What a talk without a lint replies to a line: an object of JSON, and a line break. A text is a list of bytes.
+use Rattle.std.specs.Prelude.{◌≡◌, ◌⊎◌, ℕ, ◌==◌, List, ◌++◌, drop, codes, Bool, true, false, Option, Some, None, Result, Ok, Err, IfOk}
+use Rattle.std.specs.List.{starts_with}
+use Rattle.std.specs.Str.Lossy.{utf8_lossy}
+use Rattle.vast_literal.specs.declared.kind.VastFileType.{VastFileType}
+use Rattle.vast_list.specs.declared.fault.Fault.{Fault}
+use Rattle.vast_list.specs.declared.fault.Fault.TheVariants.{Line, Memory}
+use Rattle.vast_list.specs.declared.fault.LineFault.{LineFault}
+use Rattle.vast_list.specs.declared.session.Given.{Given}
+use Rattle.vast_list.specs.declared.session.Session.{Session}
+use Rattle.vast_list.specs.Lines.{HasKind, Passed, dialect_word, without_return}
+use Rattle.vast_list.specs.Replies.{IsGivenObject, fault_object, line_front, text_member}
+use Rattle.vast_list.specs.Session.{IsGivenBy, Takes}
+use Rattle.vast_talk.specs.declared.talk.Talk.{Talk}
+
+-- A line that begins anew.
+abbrev pub is_header : List ℕ → Bool
+is_header line = starts_with (λ b c. b == c) line (codes "== ")
+
+-- An object of the line's number and a text.
+abbrev pub text_object : (line : ℕ) → (name content : List ℕ) → List ℕ
+text_object line name content = line_front line ++ text_member name content ++ codes "}"
+
+-- What is told of a line that a session took: what it gave, or its fault.
+abbrev pub IsObjectOf : (line : ℕ) → Result Given Fault → (object : List ℕ) → Type 0
+IsObjectOf line (Ok given) object = IsGivenObject line given object
+IsObjectOf line (Err (Line fault)) object = (fault.line ≡ line) × (object ≡ fault_object fault)
+IsObjectOf line (Err Memory) object = ⊥
+
+-- The session took the line, and the object tells what came of it.
+abbrev pub RepliesToLine : (old new : Session) → (number : ℕ) → (line object : List ℕ) → Type 0
+RepliesToLine old new number line object =
+    (taken : Result Given Fault) × Takes old new line taken × IfOk taken (IsGivenBy line) × IsObjectOf number taken object
+
+-- Before a session a blank line and a comment give nothing, a dialect opens one, and any other line is at fault.
+abbrev pub RepliesToFirst : (new : Option Session) → (number : ℕ) → (line object : List ℕ) → Type 0
+RepliesToFirst None number line object =
+    (HasKind line Passed × (object ≡ line_front number ++ codes "}")) ⊎ ((fault : LineFault) × (object ≡ fault_object fault))
+RepliesToFirst (Some new) number line object =
+    (dialect : VastFileType) × (without_return line ≡ dialect_word dialect)
+    × (object ≡ text_object number (codes ",\"dialect\":") (dialect_word dialect))
+
+abbrev pub RepliesToTaken : (old new : Option Session) → (number : ℕ) → (line object : List ℕ) → Type 0
+RepliesToTaken None new number line object = RepliesToFirst new number line object
+RepliesToTaken (Some old) None number line object = ⊥
+RepliesToTaken (Some old) (Some new) number line object = RepliesToLine old new number line object
+
+-- A header begins anew; any other line is taken.
+abbrev pub RepliesTo : (is_header : Bool) → (old new : Option Session) → (number : ℕ) → (line object : List ℕ) → Type 0
+RepliesTo true old new number line object = (new ≡ None) × (object ≡ text_object number (codes ",\"title\":") (utf8_lossy (drop 3 line)))
+RepliesTo false old new number line object = RepliesToTaken old new number line object
+
+-- The reply is the object that tells what came of the line, and a line break.
+abbrev pub IsReply : (old new : Talk) → (line reply : List ℕ) → Type 0
+IsReply old new line reply =
+    (object : List ℕ) × RepliesTo (is_header line) old.session new.session new.number line object × (reply ≡ object ++ codes "\n")
