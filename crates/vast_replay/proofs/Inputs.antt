@@ -23,12 +23,6 @@ none_left left none = nil_from_length left.items (sym left.ok.0 ∙ eqb-true lef
 
 -- Lines that are read.
 
-pub nothing_read : (lines : InputLines) → HasTaken [] lines.list → lines.left.items ≡ [] → HasRead lines []
-nothing_read lines taken left = record {
-  none = subst HasNoFeed (sym left) refl;
-  taken = ([], taken, λ (more : List ℕ). ap (λ (bytes : List ℕ). lines_of (bytes ++ more)) (sym left));
-}
-
 -- The lines behind one that ends with a piece.
 ended_lines :
     (bytes left piece more : List ℕ) (taken : List (List ℕ)) → HasNoFeed (left ++ piece) → ((more : List ℕ) → lines_of (bytes ++ more) ≡ taken ++ lines_of (left ++ more)) →
@@ -79,9 +73,6 @@ keeps_rest old new rest none_of same left bytes h = record {
   );
 }
 
-pub reads_nothing : (lines : InputLines) → ReadsOn lines lines []
-reads_nothing lines bytes h = subst (HasRead lines) (sym (append-nil bytes)) h
-
 pub reads_both : (old between new : InputLines) (front back : List ℕ) → ReadsOn old between front → ReadsOn between new back → ReadsOn old new (front ++ back)
 reads_both old between new front back f b bytes h =
     subst (HasRead new) (append_assoc bytes front back) (b (bytes ++ front) (f bytes h))
@@ -107,10 +98,6 @@ last_more (Ok a) start old new bytes rest (front, is, read) none_of same left =
 last_more (Err e) start old new bytes rest upto none_of same left = tt
 
 -- What a reader gives.
-
-pub none_given : (lines : InputLines) (known : Option (List ℕ)) → ReadsInput lines lines known known
-none_given lines None = ([], tt, reads_nothing lines)
-none_given lines (Some bytes) = ([], refl, reads_nothing lines)
 
 pub more_given :
     (start old new : InputLines) (a b c : Option (List ℕ)) (more : List ℕ) → ReadsInput start old a b → Consumes b c more → ReadsOn old new more → ReadsInput start new a c

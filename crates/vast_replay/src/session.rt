@@ -24,6 +24,21 @@ pub fn answer_lines<R: BufRead, W: Write, E: Write>(
     ensures { result ≡ Outcome.Made → E.contents err.new ≡ E.contents err.old }
 {
     let mut talk = talk_of(alloc, lint);
+    let outcome = answer_each(alloc, &mut talk, input, out, err);
+    drop(talk);
+    outcome
+}
+
+/// Answers each line in this talk.
+fn answer_each<R: BufRead, W: Write, E: Write>(
+    alloc: Global,
+    talk: &mut Talk,
+    input: &mut R,
+    out: &mut W,
+    err: &mut E,
+) -> Outcome
+    ensures { result ≡ Outcome.Made → E.contents err.new ≡ E.contents err.old }
+{
     for _ in 0..u64::MAX {
         let line = match read_line(alloc, input) {
             Ok(None) => return Outcome::Made,

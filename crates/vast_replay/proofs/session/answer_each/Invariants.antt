@@ -1,5 +1,5 @@
 use Rattle.std.proofs.Common.{◌≡◌}
-use Rattle.vast_replay.proofs.session.answer_lines.Given as goal
+use Rattle.vast_replay.proofs.session.answer_each.Given as goal
 
 -- Nothing was told so far.
 abbrev pub invariant-loop : goal.invariant-loop
