@@ -3,7 +3,7 @@ use Rattle.std.proofs.Common.{◌≡◌, ◌≢◌, ℕ, List, [], ◌∷◌, �
 use Rattle.std.proofs.lemmas.Bool.Decides.{nat_tests}
 use Rattle.vast_literal.specs.Tokens.{Op, LogicOr, Punct, Apostrophe, Token}
 use Rattle.vast_literal.specs.Scan.{is_letter, is_digit, is_word_byte, is_radix, is_filler, is_space, State, Gap, InString, InComment, Pending, Step, grown, find_sign, whole_signs, growing_signs}
-use Rattle.vast_literal.specs.Spelling.{op_text}
+use Rattle.vast_literal.specs.Tokens.{op_text}
 use Rattle.vast_literal.specs.LiteralToken.{every, is_number, is_based_number, is_based_tail, is_based, is_done, is_string_rest}
 use Rattle.vast_literal.specs.Plain.{is_identifier}
 use Rattle.vast_literal.specs.Lexemes.{mark_text, is_in_line, is_bare, AreCharacters, IsBase, IsLexeme}

@@ -2,7 +2,7 @@
 use Rattle.std.proofs.Common.{◌≡◌, ◌≢◌, ◌≤◌, inl, inr, ℕ, zero, suc, List, [], ◌∷◌, ◌++◌, length, true, eqb, Option, Some, None, refl, sym, ◌∙◌, ap, append-nil, length-append, arith}
 use Rattle.vast_literal.specs.Tokens.{Op, LogicOr, Punct, Apostrophe, Token, Operator, Mark}
 use Rattle.vast_literal.specs.Scan.{Gap, InComment, cons_token, add_tokens, scan, tokens}
-use Rattle.vast_literal.specs.Spelling.{op_text}
+use Rattle.vast_literal.specs.Tokens.{op_text}
 use Rattle.vast_literal.specs.LiteralToken.{every}
 use Rattle.vast_literal.specs.Lexemes.{mark_text, is_in_line, IsLexeme, IsLongest, Lexes, TakesLongest}
 use Rattle.vast_literal.specs.Lexemes.IsLexeme.{space, comment, word, system_word, macro_word, number, based, filled, string, operator, mark, cast, pattern}

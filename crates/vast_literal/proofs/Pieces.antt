@@ -4,7 +4,7 @@ use Rattle.vast_literal.specs.Tokens.{Op, BitOr, BitXor, BitAnd, Minus, BitNot, 
 use Rattle.vast_literal.specs.Tree.{UnaryOp, NegateOp, BitwiseNotOp, LogicalNotOp, AndReduceOp, OrReduceOp, XorReduceOp}
 use Rattle.vast_literal.specs.Scan.{Gap, cons_token, add_tokens, scan}
 use Rattle.vast_literal.specs.NormalExpr.{unary_operator_token}
-use Rattle.vast_literal.specs.Spelling.{op_text}
+use Rattle.vast_literal.specs.Tokens.{op_text}
 use Rattle.vast_literal.specs.LiteralToken.{is_number}
 use Rattle.vast_literal.specs.Plain.{is_identifier}
 use Rattle.vast_literal.proofs.ExprTokens.{wrapped_tokens}

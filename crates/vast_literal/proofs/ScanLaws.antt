@@ -4,7 +4,7 @@ use Rattle.std.proofs.lemmas.Bool.Decides.{nat_tests}
 use Rattle.vast_literal.specs.Keyword.{is_keyword}
 use Rattle.vast_literal.specs.Tokens.{Op, LogicOr, LogicAnd, BitOr, BitXor, BitAnd, NotEqual, CaseNotEqual, Equal, CaseEqual, GreaterEqual, Greater, LessEqual, Less, ShiftLeft, ShiftRightSigned, ShiftRight, Plus, Minus, Times, Divide, Modulo, Power, BitNot, LogicNot, OpenParen, Colon, Apostrophe, Key, IfKey, key_text, reserved_keys, Token, Reserved, Word, SystemWord, MacroWord, Number, Based, Quoted, Operator, Mark, word_token}
 use Rattle.vast_literal.specs.Scan.{is_letter, is_digit, is_word_byte, is_based_digit, is_radix, is_filler, State, Gap, InWord, InSystemWord, InMacroWord, InNumber, AfterTick, InRadix, InBased, InString, InEscape, Pending, cons_token, add_tokens, join_tokens, keep, follow, start, grown, step, flush, scan}
-use Rattle.vast_literal.specs.Spelling.{op_text}
+use Rattle.vast_literal.specs.Tokens.{op_text}
 use Rattle.vast_literal.specs.LiteralToken.{every, is_number, is_done, is_string_rest, is_string_text}
 use Rattle.vast_literal.specs.Plain.{is_identifier, is_plain_name}
 use Rattle.vast_literal.proofs.TokenReads.{stop, stops, opens}

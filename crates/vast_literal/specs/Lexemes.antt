@@ -4,7 +4,7 @@ use Rattle.std.specs.Prelude.{◌≡◌, ◌≢◌, ◌↔◌, ◌≤◌, ℕ, L
 use Rattle.vast_literal.specs.Tokens.{Op, Punct, OpenParen, CloseParen, OpenBracket, CloseBracket, OpenBrace, CloseBrace, Comma, Colon, Semicolon, Dot, Hash, At, Question, DoubleColon, PlusColon, Assign, Apostrophe}
 use Rattle.vast_literal.specs.Tokens.{Token, SystemWord, MacroWord, Number, Based, Quoted, Operator, Mark, word_token}
 use Rattle.vast_literal.specs.Scan.{is_digit, is_radix, is_filler, is_space, tokens}
-use Rattle.vast_literal.specs.Spelling.{op_text}
+use Rattle.vast_literal.specs.Tokens.{op_text}
 use Rattle.vast_literal.specs.LiteralToken.{every, is_number, is_based_number}
 use Rattle.vast_literal.specs.Plain.{is_identifier}
 

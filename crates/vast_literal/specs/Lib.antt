@@ -13,7 +13,6 @@ pub mod Tokens
 pub mod Scan
 pub mod NormalExpr
 pub mod LiteralToken
-pub mod Spelling
 pub mod Plain
 pub mod WellFormed
 pub mod Grammar

@@ -1,14 +1,14 @@
 -- Normal expressions: what of an expression's tree its tokens tell, and the normal expression of a tree.
 use Rattle.std.specs.Prelude.{ℕ, List, [], ◌∷◌, Bool, true, false, cond, eqb, Option, Some, None}
 use Rattle.std.specs.Fmt.{signed_decimal}
-use Rattle.vast_literal.specs.Tokens.{Op, LogicOr, LogicAnd, BitOr, BitXor, BitAnd, NotEqual, CaseNotEqual, Equal, CaseEqual, GreaterEqual, Greater, LessEqual, Less, ShiftLeft, ShiftRightSigned, ShiftRight, Plus, Minus, Times, Divide, Modulo, Power, BitNot, LogicNot}
+use Rattle.vast_literal.specs.Tokens.{Op, BitOr, BitXor, BitAnd, Minus, BitNot, LogicNot}
 use Rattle.vast_literal.specs.Tokens.{Key, LogicKey, IntegerKey, IntKey, SignedKey, UnsignedKey}
 use Rattle.vast_literal.specs.Tree.{UnaryOp, NegateOp, BitwiseNotOp, LogicalNotOp, AndReduceOp, OrReduceOp, XorReduceOp}
-use Rattle.vast_literal.specs.Tree.{BinaryOp, AddOp, SubOp, MulOp, DivOp, ModOp, PowerOp, BitwiseAndOp, BitwiseOrOp, BitwiseXorOp, ShllOp, ShraOp, ShrlOp, NeOp, CaseNeOp, EqOp, CaseEqOp, GeOp, GtOp, LeOp, LtOp, LogicalAndOp, LogicalOrOp, NeXOp, EqXOp}
+use Rattle.vast_literal.specs.Tree.{BinaryOp}
 use Rattle.vast_literal.specs.Tree.{ExprTree, NameTree, LiteralTree, StringTree, UnaryTree, BinaryTree, TernaryTree, IndexTree, SliceTree, PartSelectTree, ConcatTree, PatternTree, WidthCastTree, TypeCastTree, PosEdgeTree, NegEdgeTree, MacroTree, CallTree, MissingExpr}
 use Rattle.vast_literal.specs.Tree.{TypeTree, ScalarTree, VectorTree, IntegerTree, IntTree, ExternalTree, PackageTree}
 use Rattle.vast_literal.specs.Tree.{NoExpr, SomeExpr, Exprs, NoExprs, MoreExprs, NoArguments, SomeArguments}
-use Rattle.vast_literal.specs.Shape.{is_elided_index, is_elided_slice}
+use Rattle.vast_literal.specs.Shape.{binary_row, is_elided_index, is_elided_slice}
 
 -- A normal expression: names and tokens as they are written, operators and subexpressions; no parentheses and no types of names.
 mutual
@@ -41,32 +41,8 @@ unary_operator_token AndReduceOp = BitAnd
 unary_operator_token OrReduceOp = BitOr
 unary_operator_token XorReduceOp = BitXor
 
--- The token of a binary operator; the comparisons with x are the case comparisons.
 unfoldable pub binary_operator_token : BinaryOp → Op
-binary_operator_token AddOp = Plus
-binary_operator_token SubOp = Minus
-binary_operator_token MulOp = Times
-binary_operator_token DivOp = Divide
-binary_operator_token ModOp = Modulo
-binary_operator_token PowerOp = Power
-binary_operator_token BitwiseAndOp = BitAnd
-binary_operator_token BitwiseOrOp = BitOr
-binary_operator_token BitwiseXorOp = BitXor
-binary_operator_token ShllOp = ShiftLeft
-binary_operator_token ShraOp = ShiftRightSigned
-binary_operator_token ShrlOp = ShiftRight
-binary_operator_token NeOp = NotEqual
-binary_operator_token CaseNeOp = CaseNotEqual
-binary_operator_token EqOp = Equal
-binary_operator_token CaseEqOp = CaseEqual
-binary_operator_token GeOp = GreaterEqual
-binary_operator_token GtOp = Greater
-binary_operator_token LeOp = LessEqual
-binary_operator_token LtOp = Less
-binary_operator_token LogicalAndOp = LogicAnd
-binary_operator_token LogicalOrOp = LogicOr
-binary_operator_token NeXOp = CaseNotEqual
-binary_operator_token EqXOp = CaseEqual
+binary_operator_token op = (binary_row op).0
 
 -- A literal is its token, after a minus the negation of the token that is left.
 unfoldable pub normal_literal : (text : List ℕ) → NormalExpr

@@ -1,6 +1,7 @@
 -- What the shape of a tree decides: where parentheses stand, which selects are left out, which dimensions an
 -- array has, with which kind something is declared, and which arms stand bare. The layout, the tokens of its text and the normal form go by these.
 use Rattle.std.specs.Prelude.{ℕ, ℤ, pos, Bool, true, false, cond, ◌&&◌, ◌||◌, ◌==◌, List, [], ◌∷◌, ◌++◌, Option, Some, None, nat_lt, nat_le}
+use Rattle.vast_literal.specs.Tokens.{Op, LogicOr, LogicAnd, BitOr, BitXor, BitAnd, NotEqual, CaseNotEqual, Equal, CaseEqual, GreaterEqual, Greater, LessEqual, Less, ShiftLeft, ShiftRightSigned, ShiftRight, Plus, Minus, Times, Divide, Modulo, Power}
 use Rattle.vast_literal.specs.Tree.{UnaryOp, NegateOp, BitwiseNotOp, LogicalNotOp}
 use Rattle.vast_literal.specs.Tree.{BinaryOp, AddOp, SubOp, MulOp, DivOp, ModOp, PowerOp, BitwiseAndOp, BitwiseOrOp, BitwiseXorOp, ShllOp, ShraOp, ShrlOp, NeOp, CaseNeOp, EqOp, CaseEqOp, GeOp, GtOp, LeOp, LtOp, LogicalAndOp, LogicalOrOp, NeXOp, EqXOp}
 use Rattle.vast_literal.specs.Tree.{ExprTree, NameTree, LiteralTree, UnaryTree, BinaryTree, TernaryTree, WidthCastTree}
@@ -8,32 +9,36 @@ use Rattle.vast_literal.specs.Tree.{TypeTree, ScalarTree, VectorTree, IntegerTre
 use Rattle.vast_literal.specs.Tree.{Dialect, VerilogDialect, SystemVerilogDialect, Kind, LogicKind, IntegerKind, IntKind, UserKind}
 use Rattle.vast_literal.specs.Tree.{StatementTree, AssignTree, CaseTree, Statements, NoStatements, MoreStatements, Blocking, Nonblocking, CaseWord, CaseZ}
 
--- Precedence: an operator of a higher one binds its operands more tightly (IEEE 1800-2017, table 11-2).
+-- The token of a binary operator and its precedence: one of a higher precedence binds its operands more tightly (IEEE
+-- 1800-2017, table 11-2). The comparisons with x are the case comparisons.
+abbrev pub binary_row : BinaryOp → Op × ℕ
+binary_row LogicalOrOp = (LogicOr, 1)
+binary_row LogicalAndOp = (LogicAnd, 2)
+binary_row BitwiseOrOp = (BitOr, 3)
+binary_row BitwiseXorOp = (BitXor, 4)
+binary_row BitwiseAndOp = (BitAnd, 5)
+binary_row NeOp = (NotEqual, 6)
+binary_row CaseNeOp = (CaseNotEqual, 6)
+binary_row EqOp = (Equal, 6)
+binary_row CaseEqOp = (CaseEqual, 6)
+binary_row NeXOp = (CaseNotEqual, 6)
+binary_row EqXOp = (CaseEqual, 6)
+binary_row GeOp = (GreaterEqual, 7)
+binary_row GtOp = (Greater, 7)
+binary_row LeOp = (LessEqual, 7)
+binary_row LtOp = (Less, 7)
+binary_row ShllOp = (ShiftLeft, 8)
+binary_row ShraOp = (ShiftRightSigned, 8)
+binary_row ShrlOp = (ShiftRight, 8)
+binary_row AddOp = (Plus, 9)
+binary_row SubOp = (Minus, 9)
+binary_row MulOp = (Times, 10)
+binary_row DivOp = (Divide, 10)
+binary_row ModOp = (Modulo, 10)
+binary_row PowerOp = (Power, 11)
+
 abbrev pub binary_precedence : BinaryOp → ℕ
-binary_precedence LogicalOrOp = 1
-binary_precedence LogicalAndOp = 2
-binary_precedence BitwiseOrOp = 3
-binary_precedence BitwiseXorOp = 4
-binary_precedence BitwiseAndOp = 5
-binary_precedence NeOp = 6
-binary_precedence CaseNeOp = 6
-binary_precedence EqOp = 6
-binary_precedence CaseEqOp = 6
-binary_precedence NeXOp = 6
-binary_precedence EqXOp = 6
-binary_precedence GeOp = 7
-binary_precedence GtOp = 7
-binary_precedence LeOp = 7
-binary_precedence LtOp = 7
-binary_precedence ShllOp = 8
-binary_precedence ShraOp = 8
-binary_precedence ShrlOp = 8
-binary_precedence AddOp = 9
-binary_precedence SubOp = 9
-binary_precedence MulOp = 10
-binary_precedence DivOp = 10
-binary_precedence ModOp = 10
-binary_precedence PowerOp = 11
+binary_precedence op = (binary_row op).1
 
 -- The ternary is lowest; what has no operator of its own is highest.
 abbrev pub precedence : ExprTree → ℕ

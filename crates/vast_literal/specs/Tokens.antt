@@ -10,32 +10,39 @@ pub data Op : Type 0 where
   ShiftLeft ShiftRightSigned ShiftRight Plus Minus Times Divide Modulo Power : Op
   BitNot LogicNot : Op
 
--- How tightly an operator binds its two operands (IEEE Std 1800, operator precedence); 0 for one that only stands before.
+-- How an operator is written, and how tightly it binds its two operands (IEEE Std 1800, operator precedence); 0 for one that
+-- only stands before.
+abbrev pub operator_row : Op → List ℕ × ℕ
+operator_row LogicOr = (codes "||", 1)
+operator_row LogicAnd = (codes "&&", 2)
+operator_row BitOr = (codes "|", 3)
+operator_row BitXor = (codes "^", 4)
+operator_row BitAnd = (codes "&", 5)
+operator_row NotEqual = (codes "!=", 6)
+operator_row CaseNotEqual = (codes "!==", 6)
+operator_row Equal = (codes "==", 6)
+operator_row CaseEqual = (codes "===", 6)
+operator_row GreaterEqual = (codes ">=", 7)
+operator_row Greater = (codes ">", 7)
+operator_row LessEqual = (codes "<=", 7)
+operator_row Less = (codes "<", 7)
+operator_row ShiftLeft = (codes "<<", 8)
+operator_row ShiftRightSigned = (codes ">>>", 8)
+operator_row ShiftRight = (codes ">>", 8)
+operator_row Plus = (codes "+", 9)
+operator_row Minus = (codes "-", 9)
+operator_row Times = (codes "*", 10)
+operator_row Divide = (codes "/", 10)
+operator_row Modulo = (codes "%", 10)
+operator_row Power = (codes "**", 11)
+operator_row BitNot = (codes "~", 0)
+operator_row LogicNot = (codes "!", 0)
+
+abbrev pub op_text : Op → List ℕ
+op_text op = (operator_row op).0
+
 unfoldable pub level : Op → ℕ
-level LogicOr = 1
-level LogicAnd = 2
-level BitOr = 3
-level BitXor = 4
-level BitAnd = 5
-level NotEqual = 6
-level CaseNotEqual = 6
-level Equal = 6
-level CaseEqual = 6
-level GreaterEqual = 7
-level Greater = 7
-level LessEqual = 7
-level Less = 7
-level ShiftLeft = 8
-level ShiftRightSigned = 8
-level ShiftRight = 8
-level Plus = 9
-level Minus = 9
-level Times = 10
-level Divide = 10
-level Modulo = 10
-level Power = 11
-level BitNot = 0
-level LogicNot = 0
+level op = (operator_row op).1
 
 -- Whether an operator may stand before an operand.
 unfoldable pub is_unary : Op → Bool

@@ -2,7 +2,7 @@
 use Rattle.std.proofs.Common.{◌≡◌, [], Option, Some, None, refl, sym, ap, ◌∙◌}
 use Rattle.vast_literal.specs.NormalExpr.{NormalExpr, NormalExprs, NoNormals, MoreNormals}
 use Rattle.vast_literal.specs.NormalExpr as normal
-use Rattle.vast_literal.specs.Spelling.{op_text}
+use Rattle.vast_literal.specs.Tokens.{op_text}
 use Rattle.vast_literal.specs.Tokens.{Op, LogicOr, Key, IfKey, key_text, reserved_keys}
 use Rattle.vast_read.specs.Texts.{prefix_of, infix_of, key_of}
 use Rattle.vast_read.specs.declared.same.level.Kind.{Kind}

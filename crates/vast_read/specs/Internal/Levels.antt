@@ -3,7 +3,7 @@ use Rattle.std.specs.Prelude.{ℕ, ◌+◌, ◌*◌, List, [], Option, Some, Non
 use Rattle.std.specs.Borrow.{Bor}
 use Rattle.vast_literal.specs.NormalExpr.{NormalExpr, NormalExprs, NoNormals}
 use Rattle.vast_literal.specs.NormalExpr as normal
-use Rattle.vast_literal.specs.Spelling.{op_text}
+use Rattle.vast_literal.specs.Tokens.{op_text}
 use Rattle.vast_literal.specs.Tokens.{key_text}
 use Rattle.vast_read.specs.View.{view, listed}
 use Rattle.vast_read.specs.Internal.Release.{rounds_each, rounds, rounds_beside}

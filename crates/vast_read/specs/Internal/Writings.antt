@@ -2,7 +2,7 @@
 use Rattle.std.specs.Prelude.{ℕ, List, Bool}
 use Rattle.std.specs.List.{list_any}
 use Rattle.std.specs.Str.{bytes_eq}
-use Rattle.vast_literal.specs.Spelling.{op_text}
+use Rattle.vast_literal.specs.Tokens.{op_text}
 use Rattle.vast_literal.specs.Tokens.{key_text}
 use Rattle.vast_read.specs.Texts.{signs, prefix_of, infix_of, key_of}
 
