@@ -1,5 +1,5 @@
 -- The grammar of files, over that of expressions: which token lists spell which statements, declarations, members, modules and files.
-use Rattle.std.specs.Prelude.{◌≡◌, ℕ, List, [], ◌∷◌, ◌++◌, Bool, true, false, codes, Option, Some, None, IsTrue}
+use Rattle.std.specs.Prelude.{◌≡◌, ℕ, List, [], ◌∷◌, ◌++◌, Bool, true, false, codes, Option, Some, None, IsTrue, if◌then◌else◌}
 use Rattle.vast_literal.specs.Tokens.{Less, LessEqual, Plus, Key, IfKey, ElseKey, CaseKey, CasezKey, CasexKey, EndCaseKey, DefaultKey, UniqueKey, BeginKey, EndKey, AssignKey, WireKey, RegKey, LogicKey, IntegerKey, IntKey, GenvarKey, SignedKey, UnsignedKey, ModuleKey, EndModuleKey, ParameterKey, LocalparamKey, AlwaysCombKey, AlwaysFFKey, AlwaysKey, PosedgeKey, NegedgeKey, OrKey, FunctionKey, AutomaticKey, EndFunctionKey, InputKey, OutputKey, InOutKey, ForKey}
 use Rattle.vast_literal.specs.Tokens.{OpenParen, CloseParen, OpenBracket, CloseBracket, Comma, Colon, Semicolon, Dot, Hash, At, DoubleColon, Assign, Token, Reserved, Word, MacroWord, Number, Quoted, Operator, Mark}
 use Rattle.vast_literal.specs.Lexemes.{Lexes}
@@ -28,12 +28,10 @@ pub data IsList {A : Type 0} (P : List Token → A → Type 0) (between : Token)
 
 -- `=` and `<=`
 unfoldable pub arrow : (blocking : Bool) → Token
-arrow true = Mark Assign
-arrow false = Operator LessEqual
+arrow blocking = if blocking then Mark Assign else Operator LessEqual
 
 unfoldable pub assignment : (blocking : Bool) (left right : NormalExpr) → NormalStatement
-assignment true left right = BlockingStatement left right
-assignment false left right = NonblockingStatement left right
+assignment blocking left right = if blocking then BlockingStatement left right else NonblockingStatement left right
 
 pub data IsUnique : List Token → Bool → Type 0 where
   unique : IsUnique (Reserved UniqueKey ∷ []) true
@@ -96,18 +94,10 @@ mutual
 -- Declarations.
 
 unfoldable pub is_kind : Key → Bool
-is_kind WireKey = true
-is_kind RegKey = true
-is_kind LogicKey = true
-is_kind IntegerKey = true
-is_kind IntKey = true
-is_kind GenvarKey = true
-is_kind _ = false
+is_kind key = elim key [ WireKey ↦ true | RegKey ↦ true | LogicKey ↦ true | IntegerKey ↦ true | IntKey ↦ true | GenvarKey ↦ true | _ ↦ false ]
 
 unfoldable pub is_sign : Key → Bool
-is_sign SignedKey = true
-is_sign UnsignedKey = true
-is_sign _ = false
+is_sign key = elim key [ SignedKey ↦ true | UnsignedKey ↦ true | _ ↦ false ]
 
 -- [ X ] and [ X : X ]
 pub data IsGroup : List Token → Group → Type 0 where
@@ -135,37 +125,23 @@ pub data IsDeclaration : List Token → NormalDeclaration → Type 0 where
 -- Members.
 
 unfoldable pub is_member_kind : Key → Bool
-is_member_kind WireKey = true
-is_member_kind RegKey = true
-is_member_kind LogicKey = true
-is_member_kind _ = false
+is_member_kind key = elim key [ WireKey ↦ true | RegKey ↦ true | LogicKey ↦ true | _ ↦ false ]
 
 unfoldable pub is_local_kind : Key → Bool
-is_local_kind RegKey = true
-is_local_kind LogicKey = true
-is_local_kind _ = false
+is_local_kind key = elim key [ RegKey ↦ true | LogicKey ↦ true | _ ↦ false ]
 
 unfoldable pub is_parameter_word : Key → Bool
-is_parameter_word ParameterKey = true
-is_parameter_word LocalparamKey = true
-is_parameter_word _ = false
+is_parameter_word key = elim key [ ParameterKey ↦ true | LocalparamKey ↦ true | _ ↦ false ]
 
 -- The always blocks that wait for events.
 unfoldable pub is_clocked : Key → Bool
-is_clocked AlwaysFFKey = true
-is_clocked AlwaysKey = true
-is_clocked _ = false
+is_clocked key = elim key [ AlwaysFFKey ↦ true | AlwaysKey ↦ true | _ ↦ false ]
 
 unfoldable pub is_edge : Key → Bool
-is_edge PosedgeKey = true
-is_edge NegedgeKey = true
-is_edge _ = false
+is_edge key = elim key [ PosedgeKey ↦ true | NegedgeKey ↦ true | _ ↦ false ]
 
 unfoldable pub is_direction : Key → Bool
-is_direction InputKey = true
-is_direction OutputKey = true
-is_direction InOutKey = true
-is_direction _ = false
+is_direction key = elim key [ InputKey ↦ true | OutputKey ↦ true | InOutKey ↦ true | _ ↦ false ]
 
 -- posedge X, negedge X or a name
 pub data IsEvent : List Token → Event → Type 0 where

@@ -8,12 +8,7 @@ use Rattle.vast_literal.specs.NormalExpr.{NormalExpr, Name, Literal, Text, Macro
 
 -- The keywords that head a cast.
 unfoldable pub is_cast_word : Key → Bool
-is_cast_word LogicKey = true
-is_cast_word SignedKey = true
-is_cast_word UnsignedKey = true
-is_cast_word IntegerKey = true
-is_cast_word IntKey = true
-is_cast_word _ = false
+is_cast_word key = elim key [ LogicKey ↦ true | SignedKey ↦ true | UnsignedKey ↦ true | IntegerKey ↦ true | IntKey ↦ true | _ ↦ false ]
 
 mutual
   -- The tokens spell the normal expression at the level: 0 a ternary, 1 to 11 an infix operator, 12 a unary operator, 13 a select, 14 a primary.

@@ -1,5 +1,5 @@
 -- Normal expressions: what of an expression's tree its tokens tell, and the normal expression of a tree.
-use Rattle.std.specs.Prelude.{ℕ, List, [], ◌∷◌, Bool, true, false, cond, eqb, Option, Some, None}
+use Rattle.std.specs.Prelude.{ℕ, List, [], ◌∷◌, Bool, true, false, cond, eqb, Option, Some, None, if◌then◌else◌}
 use Rattle.std.specs.Fmt.{signed_decimal}
 use Rattle.vast_literal.specs.Tokens.{Op, BitOr, BitXor, BitAnd, Minus, BitNot, LogicNot}
 use Rattle.vast_literal.specs.Tokens.{Key, LogicKey, IntegerKey, IntKey, SignedKey, UnsignedKey}
@@ -51,8 +51,7 @@ normal_literal (c ∷ cs) = cond (eqb c 45) (Unary Minus (Literal cs)) (Literal 
 
 -- The keyword that makes a value signed or unsigned.
 unfoldable pub signing_key : (signed : Bool) → Key
-signing_key true = SignedKey
-signing_key false = UnsignedKey
+signing_key signed = if signed then SignedKey else UnsignedKey
 
 -- A cast to `logic`, `integer` or `int`, and another by `word` around it where one is written.
 unfoldable pub normal_word_cast : (word : Option Key) (base : Key) (operand : NormalExpr) → NormalExpr
@@ -61,12 +60,10 @@ normal_word_cast (Some word) base operand = WordCast word (WordCast base operand
 
 -- The sign that is written around the cast to a scalar, and around the cast to an integer.
 unfoldable pub scalar_sign : (signed : Bool) → Option Key
-scalar_sign true = Some SignedKey
-scalar_sign false = None
+scalar_sign signed = if signed then Some SignedKey else None
 
 unfoldable pub integer_sign : (signed : Bool) → Option Key
-integer_sign true = None
-integer_sign false = Some UnsignedKey
+integer_sign signed = if signed then None else Some UnsignedKey
 
 unfoldable mutual
   -- The normal expression of a tree. Where the tree's names are plain and it has no edges, the grammar derives it from the

@@ -46,13 +46,7 @@ level op = (operator_row op).1
 
 -- Whether an operator may stand before an operand.
 unfoldable pub is_unary : Op → Bool
-is_unary Minus = true
-is_unary BitNot = true
-is_unary LogicNot = true
-is_unary BitAnd = true
-is_unary BitOr = true
-is_unary BitXor = true
-is_unary _ = false
+is_unary op = elim op [ Minus ↦ true | BitNot ↦ true | LogicNot ↦ true | BitAnd ↦ true | BitOr ↦ true | BitXor ↦ true | _ ↦ false ]
 
 -- The marks of punctuation.
 pub data Punct : Type 0 where
