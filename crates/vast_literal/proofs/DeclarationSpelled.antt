@@ -6,13 +6,13 @@ use Rattle.vast_literal.specs.Tree.{Dialect, VerilogDialect, SystemVerilogDialec
 use Rattle.vast_literal.specs.NormalExpr.{scalar_sign, integer_sign, normal}
 use Rattle.vast_literal.specs.Grammar.{Spells, binary, number}
 use Rattle.vast_literal.specs.FileGrammar.{IsMany, no_items, more_items, is_kind, is_sign, IsGroup, one, range, IsMaybe, absent, present, IsTypeName, no_type, own_type, packaged, IsDeclaration, declares}
-use Rattle.vast_literal.specs.Plain.{is_plain_name, is_plain, is_plain_type, is_edgeless, is_edgeless_type}
+use Rattle.vast_literal.specs.Plain.{is_plain_name, is_plain, is_plain_type}
 use Rattle.vast_literal.specs.Shape.{starts_with_minus, highest_index_wraps, base_of, packed_dimensions, unpacked_dimensions, port_kind}
 use Rattle.vast_literal.proofs.ExprTokens.{expr_tokens}
 use Rattle.vast_literal.specs.WellFormed.{is_well_formed, is_well_formed_type}
 use Rattle.vast_literal.specs.NormalTree.{kind_key, package_of, type_name_of, sign_of, number_expr, zero_expr, highest_index_expr, vector_groups, packed_groups, unpacked_group, normal_declaration, normal_declared, normal_port_declaration}
 use Rattle.vast_literal.proofs.FileTokens.{maybe_tokens, type_name_tokens, number_tokens, zero_tokens, highest_index_tokens, vector_tokens, packed_tokens, unpacked_dimension_tokens, unpacked_tokens, declaration_tokens, declared_tokens, port_declaration_tokens}
-use Rattle.vast_literal.specs.PlainFile.{is_plain_value, is_left_side, is_plain_declaration, is_plain_declared}
+use Rattle.vast_literal.specs.PlainFile.{is_left_side, is_plain_declaration, is_plain_declared}
 use Rattle.vast_literal.proofs.ScanLaws.{and_left, and_right}
 use Rattle.vast_literal.proofs.Sound.{lower}
 use Rattle.vast_literal.proofs.Precedence.{literal_level, spelled_level, literal_bound, level_bound, highest_index_bound}
@@ -27,8 +27,8 @@ many_one {P = P} {ts = ts} {x = x} p = subst (λ (us : List Token). IsMany P us 
 
 -- expressions
 
-pub value_spelled : (e : ExprTree) → is_plain_value e ≡ true → is_well_formed e ≡ true → Spells 0 (expr_tokens e) (normal e)
-value_spelled e p w = low e (spelled e (and_right (is_plain e) (is_edgeless e) p) w)
+pub value_spelled : (e : ExprTree) → is_plain e ≡ true → is_well_formed e ≡ true → Spells 0 (expr_tokens e) (normal e)
+value_spelled e p w = low e (spelled e p w)
 
 left_level : (e : ExprTree) → is_left_side e ≡ true → Spells (spelled_level e) (expr_tokens e) (normal e) → Spells 13 (expr_tokens e) (normal e)
 left_level (NameTree n type) h s = s
@@ -38,8 +38,8 @@ left_level (PartSelectTree s i n) h e = e
 left_level (ConcatTree count parts) h e = e
 left_level _ h s = absurd (cc h)
 
-pub left_spelled : (e : ExprTree) → (is_left_side e && is_plain_value e) ≡ true → is_well_formed e ≡ true → Spells 13 (expr_tokens e) (normal e)
-left_spelled e p w = left_level e (and_left (is_left_side e) (is_plain_value e) p) (spelled e (and_right (is_plain e) (is_edgeless e) (and_right (is_left_side e) (is_plain_value e) p)) w)
+pub left_spelled : (e : ExprTree) → (is_left_side e && is_plain e) ≡ true → is_well_formed e ≡ true → Spells 13 (expr_tokens e) (normal e)
+left_spelled e p w = left_level e (and_left (is_left_side e) (is_plain e) p) (spelled e (and_right (is_left_side e) (is_plain e) p) w)
 
 -- numbers
 
@@ -49,7 +49,7 @@ number_spelled z = let t = signed_decimal z in let b = literal_bound (starts_wit
 zero_spelled : Spells 0 zero_tokens zero_expr
 zero_spelled = lower 14 0 _ _ (omega arith) (omega arith) (number (codes "0"))
 
-highest_index_spelled : (w : ExprTree) (v : Option ℤ) → is_edgeless w ≡ true → is_well_formed w ≡ true → Spells 0 (highest_index_tokens w v) (highest_index_expr w v)
+highest_index_spelled : (w : ExprTree) (v : Option ℤ) → is_plain w ≡ true → is_well_formed w ≡ true → Spells 0 (highest_index_tokens w v) (highest_index_expr w v)
 unfolding highest_index_tokens highest_index_expr level
 highest_index_spelled w (Some v) l f = number_spelled (v -ℤ pos 1)
 highest_index_spelled w None l f = let b = level_bound w in
@@ -57,7 +57,7 @@ highest_index_spelled w None l f = let b = level_bound w in
 
 -- groups
 
-vector_spelled : (base : TypeTree) → is_edgeless_type base ≡ true → is_well_formed_type base ≡ true → IsMany IsGroup (vector_tokens base) (vector_groups base)
+vector_spelled : (base : TypeTree) → is_plain_type base ≡ true → is_well_formed_type base ≡ true → IsMany IsGroup (vector_tokens base) (vector_groups base)
 unfolding vector_tokens vector_groups
 vector_spelled (VectorTree w v signed) l f = many_one (range (highest_index_spelled w v l f) zero_spelled)
 vector_spelled _ l f = no_items
@@ -79,10 +79,10 @@ unpacked_spelled dialect (d ∷ ds) = more_items (dimension_spelled dialect d) (
 
 -- declarations
 
-pub base_edgeless : (t : TypeTree) → is_edgeless_type t ≡ true → is_edgeless_type (base_of t) ≡ true
-base_edgeless (PackedTree t ds) h = base_edgeless t h
-base_edgeless (UnpackedTree t ds) h = base_edgeless t h
-base_edgeless _ h = h
+pub base_plain : (t : TypeTree) → is_plain_type t ≡ true → is_plain_type (base_of t) ≡ true
+base_plain (PackedTree t ds) h = base_plain t h
+base_plain (UnpackedTree t ds) h = base_plain t h
+base_plain _ h = h
 
 pub base_formed : (t : TypeTree) → is_well_formed_type t ≡ true → is_well_formed_type (base_of t) ≡ true
 base_formed (PackedTree t ds) h = base_formed t h
@@ -125,20 +125,20 @@ sign_spelled (IntTree signed) = integer_sign_spelled signed
 sign_spelled _ = absent
 
 -- The tokens of a declaration spell its written parts.
-pub declaration_spelled : (dialect : Dialect) (kind : Kind) (t : TypeTree) (n : List ℕ) → is_edgeless_type t ≡ true → is_well_formed_type t ≡ true → IsDeclaration (declaration_tokens dialect kind t n) (normal_declaration dialect kind t n)
+pub declaration_spelled : (dialect : Dialect) (kind : Kind) (t : TypeTree) (n : List ℕ) → is_plain_type t ≡ true → is_well_formed_type t ≡ true → IsDeclaration (declaration_tokens dialect kind t n) (normal_declaration dialect kind t n)
 unfolding declaration_tokens normal_declaration
-declaration_spelled dialect kind t n l f = declares n (kind_spelled kind) (type_spelled (base_of t)) (sign_spelled (base_of t)) (many_append (packed_spelled (packed_dimensions t)) (vector_spelled (base_of t) (base_edgeless t l) (base_formed t f))) (unpacked_spelled dialect (unpacked_dimensions t))
+declaration_spelled dialect kind t n l f = declares n (kind_spelled kind) (type_spelled (base_of t)) (sign_spelled (base_of t)) (many_append (packed_spelled (packed_dimensions t)) (vector_spelled (base_of t) (base_plain t l) (base_formed t f))) (unpacked_spelled dialect (unpacked_dimensions t))
 
-plain_edgeless : (t : TypeTree) (n : List ℕ) → is_plain_declaration t n ≡ true → is_edgeless_type t ≡ true
-plain_edgeless t n p = and_right (is_plain_type t) (is_edgeless_type t) (and_right (is_plain_name n) (is_plain_type t && is_edgeless_type t) p)
+declared_type : (t : TypeTree) (n : List ℕ) → is_plain_declaration t n ≡ true → is_plain_type t ≡ true
+declared_type t n p = and_right (is_plain_name n) (is_plain_type t) p
 
 pub declared_spelled : (dialect : Dialect) (d : Declaration) → is_plain_declared d ≡ true → is_well_formed_type d.type ≡ true → IsDeclaration (declared_tokens dialect d) (normal_declared dialect d)
 unfolding declared_tokens normal_declared
-declared_spelled dialect d p w = declaration_spelled dialect d.kind d.type d.name (plain_edgeless d.type d.name p) w
+declared_spelled dialect d p w = declaration_spelled dialect d.kind d.type d.name (declared_type d.type d.name p) w
 
 pub port_declaration_spelled : (dialect : Dialect) (d : Declaration) → is_plain_declared d ≡ true → is_well_formed_type d.type ≡ true → IsDeclaration (port_declaration_tokens dialect d) (normal_port_declaration dialect d)
 unfolding port_declaration_tokens normal_port_declaration
-port_declaration_spelled dialect d p w = declaration_spelled dialect (port_kind d.kind d.type) d.type d.name (plain_edgeless d.type d.name p) w
+port_declaration_spelled dialect d p w = declaration_spelled dialect (port_kind d.kind d.type) d.type d.name (declared_type d.type d.name p) w
 
 pub named_spelled : (dialect : Dialect) (t : TypeTree) (kind : Kind) (n : List ℕ) → is_plain_declaration t n ≡ true → is_well_formed_type t ≡ true → IsDeclaration (declaration_tokens dialect kind t n) (normal_declaration dialect kind t n)
-named_spelled dialect t kind n p w = declaration_spelled dialect kind t n (plain_edgeless t n p) w
+named_spelled dialect t kind n p w = declaration_spelled dialect kind t n (declared_type t n p) w

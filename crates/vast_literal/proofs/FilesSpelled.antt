@@ -4,13 +4,13 @@ use Rattle.vast_literal.specs.Tokens.{Assign, EndModuleKey, ParameterKey, Reserv
 use Rattle.vast_literal.specs.Tree.{Dialect, MaybeType, Untyped, Typed, PortDirection, InputDirection, OutputDirection, InOutDirection, PortTree, ParameterPortTree, ModuleTree, FileItemTree, ModuleItem, IncludeItem, CommentItem, BlankItem, FileTree}
 use Rattle.vast_literal.specs.NormalFile.{ModulePart}
 use Rattle.vast_literal.specs.FileGrammar.{IsMany, no_items, more_items, absent, no_type, IsDeclaration, declares, is_direction, IsParameter, header_parameter, IsPort, port, IsParameters, no_header_parameters, header_parameters, IsPorts, no_ports, ports, IsItem, module_item, include_item, IsFile, file}
-use Rattle.vast_literal.specs.Plain.{is_plain_name}
+use Rattle.vast_literal.specs.Plain.{is_plain_name, is_plain}
 use Rattle.vast_literal.proofs.ExprTokens.{expr_tokens}
 use Rattle.vast_literal.specs.WellFormed.{is_well_formed, is_well_formed_type}
 use Rattle.vast_literal.specs.Shape.{base_of, base_kind}
 use Rattle.vast_literal.specs.NormalTree.{direction_key, normal_port, normal_typed, normal_parameter, normal_module, normal_item_before, normal_items, normal_file}
 use Rattle.vast_literal.proofs.FileTokens.{port_declaration_tokens, each_port, typed_tokens, each_parameter, header_parameter_tokens, header_port_tokens, module_tokens, item_tokens, items_tokens, file_tokens}
-use Rattle.vast_literal.specs.PlainFile.{is_plain_value, is_plain_declared, are_plain_members, are_plain_ports, is_plain_typed, are_plain_parameters, is_plain_module, is_path_byte, are_plain_items, is_plain_file}
+use Rattle.vast_literal.specs.PlainFile.{is_plain_declared, are_plain_members, are_plain_ports, is_plain_typed, are_plain_parameters, is_plain_module, is_path_byte, are_plain_items, is_plain_file}
 use Rattle.vast_literal.specs.WellFormedFile.{are_well_formed_members, are_well_formed_ports, is_well_formed_typed, are_well_formed_parameters, is_well_formed_module, are_well_formed_items, is_well_formed_file}
 use Rattle.vast_literal.proofs.ScanLaws.{and_left, and_right}
 use Rattle.vast_literal.proofs.DeclarationSpelled.{value_spelled, port_declaration_spelled, named_spelled}
@@ -44,23 +44,23 @@ unfolding typed_tokens normal_typed
 typed_spelled dialect Untyped n h w = declares n absent no_type absent no_items no_items
 typed_spelled dialect (Typed t) n h w = named_spelled dialect t (base_kind (base_of t)) n h w
 
-parameter_spelled : (dialect : Dialect) (p : ParameterPortTree) → (is_plain_typed p.type p.name && is_plain_value p.value) ≡ true → (is_well_formed_typed p.type && is_well_formed p.value) ≡ true →
+parameter_spelled : (dialect : Dialect) (p : ParameterPortTree) → (is_plain_typed p.type p.name && is_plain p.value) ≡ true → (is_well_formed_typed p.type && is_well_formed p.value) ≡ true →
     IsParameter (Reserved ParameterKey ∷ (typed_tokens dialect p.type p.name ++ (Mark Assign ∷ expr_tokens p.value))) (normal_parameter dialect p)
 unfolding normal_parameter
 parameter_spelled dialect p h w = header_parameter (typed_spelled dialect p.type p.name (and_left _ _ h) (and_left _ _ w))
-    (value_spelled p.value (and_right (is_plain_typed p.type p.name) (is_plain_value p.value) h) (and_right (is_well_formed_typed p.type) (is_well_formed p.value) w))
+    (value_spelled p.value (and_right (is_plain_typed p.type p.name) (is_plain p.value) h) (and_right (is_well_formed_typed p.type) (is_well_formed p.value) w))
 
 each_parameter_spelled : (dialect : Dialect) (ps : List ParameterPortTree) → are_plain_parameters ps ≡ true → are_well_formed_parameters ps ≡ true → Each IsParameter (each_parameter dialect ps) (map (normal_parameter dialect) ps)
 unfolding each_parameter
 each_parameter_spelled dialect [] h w = each_none
 each_parameter_spelled dialect (p ∷ ps) h w = each_more (parameter_spelled dialect p (and_left _ _ h) (and_left _ _ w))
-    (each_parameter_spelled dialect ps (and_right (is_plain_typed p.type p.name && is_plain_value p.value) (are_plain_parameters ps) h) (and_right (is_well_formed_typed p.type && is_well_formed p.value) (are_well_formed_parameters ps) w))
+    (each_parameter_spelled dialect ps (and_right (is_plain_typed p.type p.name && is_plain p.value) (are_plain_parameters ps) h) (and_right (is_well_formed_typed p.type && is_well_formed p.value) (are_well_formed_parameters ps) w))
 
 parameters_spelled : (dialect : Dialect) (ps : List ParameterPortTree) → are_plain_parameters ps ≡ true → are_well_formed_parameters ps ≡ true → IsParameters (header_parameter_tokens dialect ps) (map (normal_parameter dialect) ps)
 unfolding header_parameter_tokens each_parameter
 parameters_spelled dialect [] h w = no_header_parameters
 parameters_spelled dialect (p ∷ ps) h w = header_parameters (each_joined _ _ (parameter_spelled dialect p (and_left _ _ h) (and_left _ _ w))
-    (each_parameter_spelled dialect ps (and_right (is_plain_typed p.type p.name && is_plain_value p.value) (are_plain_parameters ps) h) (and_right (is_well_formed_typed p.type && is_well_formed p.value) (are_well_formed_parameters ps) w)))
+    (each_parameter_spelled dialect ps (and_right (is_plain_typed p.type p.name && is_plain p.value) (are_plain_parameters ps) h) (and_right (is_well_formed_typed p.type && is_well_formed p.value) (are_well_formed_parameters ps) w)))
 
 module_spelled : (dialect : Dialect) (m : ModuleTree) → is_plain_module m ≡ true → is_well_formed_module m ≡ true → IsItem (module_tokens dialect m) (ModulePart (normal_module dialect m))
 unfolding module_tokens normal_module

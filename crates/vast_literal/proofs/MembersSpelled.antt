@@ -6,13 +6,13 @@ use Rattle.vast_literal.specs.NormalExpr.{NormalExpr, Name, Binary, binary_opera
 use Rattle.vast_literal.specs.NormalFile.{NormalStatements, Event, AssignPart, InstancePart, NormalMembers}
 use Rattle.vast_literal.specs.Grammar.{Spells, binary, name}
 use Rattle.vast_literal.specs.FileGrammar.{IsMany, no_items, more_items, IsJoined, last_item, next_item, IsList, empty, full, IsStatements, is_kind, absent, present, no_type, IsDeclaration, declares, is_member_kind, is_local_kind, is_parameter_word, is_clocked, is_edge, IsEvent, edge, plain, IsInput, input, IsDeclared, declared, IsGiven, given, IsConnection, connected, unconnected, IsGivenList, no_parameters, with_parameters, IsSemicolon, with_one, without, IsLabel, no_label, labelled, IsMember, declaration, continuous, parameter, macro, macro_with, instance, combinational, clocked, conditional, function, loop, IsMembers, closed, and_member}
-use Rattle.vast_literal.specs.Plain.{is_plain_name, is_plain, are_plain, is_edgeless, are_edgeless}
+use Rattle.vast_literal.specs.Plain.{is_plain_name, is_plain, are_plain}
 use Rattle.vast_literal.specs.Shape.{right_child_wraps, result_kind}
 use Rattle.vast_literal.proofs.ExprTokens.{wrapped_tokens, expr_tokens}
 use Rattle.vast_literal.specs.WellFormed.{is_well_formed, is_well_formed_type}
 use Rattle.vast_literal.specs.NormalTree.{kind_key, normal_declaration, normal_declared, normal_label, parameter_key, normal_parameter_name, normal_arguments, normal_macro, normal_connection, normal_event, normal_events, normal_always, normal_port_declaration, normal_function, normal_member_before, normal_members}
 use Rattle.vast_literal.proofs.FileTokens.{declared_tokens, assignment_tokens, separated, parameter_name_tokens, semicolon_tokens, value_tokens, connection_tokens, each_connection, given_tokens, instance_tokens, more_event_tokens, event_tokens, always_tokens, each_input, local_tokens, function_tokens, loop_label_tokens, member_tokens, members_tokens}
-use Rattle.vast_literal.specs.PlainFile.{is_plain_value, is_plain_maybe, is_left_side, is_plain_declaration, is_plain_declared, are_plain_statements, are_plain_alternates, is_plain_event, are_plain_events, are_plain_awaited, is_plain_parameter_name, are_plain_connections, is_plain_instance, is_plain_function, is_plain_label, is_plain_member, are_plain_members}
+use Rattle.vast_literal.specs.PlainFile.{is_plain_maybe, is_left_side, is_plain_declaration, is_plain_declared, are_plain_statements, are_plain_alternates, is_plain_event, are_plain_events, are_plain_awaited, is_plain_parameter_name, are_plain_connections, is_plain_instance, is_plain_function, is_plain_label, is_plain_member, are_plain_members}
 use Rattle.vast_literal.specs.WellFormedFile.{is_well_formed_maybe, is_own_kind, is_local_word, is_macro, are_well_formed_statements, are_well_formed_alternates, is_well_formed_event, are_well_formed_events, is_well_formed_parameter_name, are_well_formed_connections, is_given, are_given, are_well_formed_inputs, are_well_formed_locals, is_well_formed_function, is_well_formed_member, are_well_formed_members}
 use Rattle.vast_literal.proofs.ScanLaws.{and_left, and_right}
 use Rattle.vast_literal.proofs.Sound.{lower}
@@ -173,10 +173,10 @@ semicolon_spelled : (s : Bool) → IsSemicolon (semicolon_tokens s) s
 semicolon_spelled true = with_one
 semicolon_spelled false = without
 
-macro_spelled : (call : ExprTree) (s : Bool) → is_plain_value call ≡ true → (is_macro call && is_well_formed call) ≡ true → IsMember (expr_tokens call ++ semicolon_tokens s) (normal_macro call s)
+macro_spelled : (call : ExprTree) (s : Bool) → is_plain call ≡ true → (is_macro call && is_well_formed call) ≡ true → IsMember (expr_tokens call ++ semicolon_tokens s) (normal_macro call s)
 unfolding expr_tokens normal_macro normal_arguments
 macro_spelled (MacroTree m NoArguments) s p w = macro m (semicolon_spelled s)
-macro_spelled (MacroTree m (SomeArguments es)) s p w = simp append_assoc (macro_with m (list_spells (each_spelled es (and_right (is_plain_name m && are_plain es) (are_edgeless es) p) w)) (semicolon_spelled s))
+macro_spelled (MacroTree m (SomeArguments es)) s p w = simp append_assoc (macro_with m (list_spells (each_spelled es (and_right (is_plain_name m) (are_plain es) p) w)) (semicolon_spelled s))
 macro_spelled (NameTree _ _) s p w = absurd (cc w)
 macro_spelled (LiteralTree _ _) s p w = absurd (cc w)
 macro_spelled (StringTree _) s p w = absurd (cc w)
@@ -201,11 +201,11 @@ label_spelled None = no_label
 label_spelled (Some w) = labelled w
 
 -- the test of a loop: the end is the right operand of `<`
-test_spelled : (i : List ℕ) (e : ExprTree) → is_plain_value e ≡ true → is_well_formed e ≡ true → Spells 0 (Word i ∷ (Operator Less ∷ wrapped_tokens (right_child_wraps LtOp e) (expr_tokens e))) (Binary Less (Name i) (normal e))
+test_spelled : (i : List ℕ) (e : ExprTree) → is_plain e ≡ true → is_well_formed e ≡ true → Spells 0 (Word i ∷ (Operator Less ∷ wrapped_tokens (right_child_wraps LtOp e) (expr_tokens e))) (Binary Less (Name i) (normal e))
 unfolding level binary_operator_token
 test_spelled i e p w = let b = level_bound e in
     lower 7 0 _ _ (omega arith) (omega arith) (binary Less (omega arith) (lower 14 7 _ _ (omega arith) (omega arith) (name i))
-    (wrapped_spells (right_child_wraps LtOp e) (spelled_level e) 8 _ _ (omega arith) (omega arith) (right_bound LtOp e) (spelled e (and_right (is_plain e) (is_edgeless e) p) w)))
+    (wrapped_spells (right_child_wraps LtOp e) (spelled_level e) 8 _ _ (omega arith) (omega arith) (right_bound LtOp e) (spelled e p w)))
 
 assign_member : {ls rs : List Token} {l r : NormalExpr} → Spells 13 ls l → Spells 0 rs r → IsMember (assignment_tokens Continuous ls rs) (AssignPart l r)
 unfolding assignment_tokens
@@ -222,9 +222,9 @@ mutual
   before_spelled : (dialect : Dialect) (m : MemberTree) {k : Key} {us : List Token} {xs : NormalMembers} → is_plain_member m ≡ true → is_well_formed_member m ≡ true → IsMembers k us xs → IsMembers k (member_tokens dialect m ++ us) (normal_member_before dialect m xs)
   before_spelled dialect (DeclarationMember d) p w rest = and_member (declaration (own_spelled dialect d p w)) rest
   before_spelled dialect (AssignMember l r) p w rest =
-      and_member (assign_member (left_spelled l (and_left (is_left_side l && is_plain_value l) (is_plain_value r) p) (and_left _ _ w)) (value_spelled r (and_right (is_left_side l && is_plain_value l) (is_plain_value r) p) (and_right (is_well_formed l) (is_well_formed r) w))) rest
+      and_member (assign_member (left_spelled l (and_left (is_left_side l && is_plain l) (is_plain r) p) (and_left _ _ w)) (value_spelled r (and_right (is_left_side l && is_plain l) (is_plain r) p) (and_right (is_well_formed l) (is_well_formed r) w))) rest
   before_spelled dialect (ParameterMember local n v) p w rest =
-      and_member (parameter (parameter_key local) (parameter_word local) (parameter_name_spelled dialect n (and_left _ _ p) (and_left _ _ w)) (value_spelled v (and_right (is_plain_parameter_name n) (is_plain_value v) p) (and_right (is_well_formed_parameter_name n) (is_well_formed v) w))) rest
+      and_member (parameter (parameter_key local) (parameter_word local) (parameter_name_spelled dialect n (and_left _ _ p) (and_left _ _ w)) (value_spelled v (and_right (is_plain_parameter_name n) (is_plain v) p) (and_right (is_well_formed_parameter_name n) (is_well_formed v) w))) rest
   before_spelled dialect (CommentMember text) p w rest = rest
   before_spelled dialect BlankMember p w rest = rest
   before_spelled dialect (InlineMember text) p w rest = rest
@@ -233,14 +233,14 @@ mutual
   before_spelled dialect (AlwaysMember word es b) p w rest =
       and_member (always_spelled word es (and_left _ _ p) (and_left _ _ w) (statements_spelled b (and_right (are_plain_awaited word es) (are_plain_statements b) p) (and_right (are_well_formed_events es) (are_well_formed_statements b) w))) rest
   before_spelled dialect (ConditionalMember c b alternates) p w rest =
-      let p1 = and_right (is_plain_value c) (are_plain_statements b && are_plain_alternates alternates) p in
+      let p1 = and_right (is_plain c) (are_plain_statements b && are_plain_alternates alternates) p in
       let w1 = and_right (is_well_formed c) (are_well_formed_statements b && are_well_formed_alternates alternates) w in
       and_member (conditional (choice_spelled alternates (value_spelled c (and_left _ _ p) (and_left _ _ w)) (statements_spelled b (and_left _ _ p1) (and_left _ _ w1))
       (and_right (are_plain_statements b) (are_plain_alternates alternates) p1) (and_right (are_well_formed_statements b) (are_well_formed_alternates alternates) w1))) rest
   before_spelled dialect (FunctionMember f) p w rest = and_member (function_spelled dialect f p w) rest
   before_spelled dialect (LoopMember i s e l ms) p w rest =
-      let p1 = and_right (is_plain_name i && is_plain_label l) ((is_plain_value s && is_plain_value e) && are_plain_members ms) p in
-      let p2 = and_left (is_plain_value s && is_plain_value e) (are_plain_members ms) p1 in
+      let p1 = and_right (is_plain_name i && is_plain_label l) ((is_plain s && is_plain e) && are_plain_members ms) p in
+      let p2 = and_left (is_plain s && is_plain e) (are_plain_members ms) p1 in
       let w2 = and_left (is_well_formed s && is_well_formed e) (are_well_formed_members ms) w in
-      and_member (loop i (value_spelled s (and_left _ _ p2) (and_left _ _ w2)) (test_spelled i e (and_right (is_plain_value s) (is_plain_value e) p2) (and_right (is_well_formed s) (is_well_formed e) w2)) (label_spelled l)
-      (members_spelled dialect EndKey ms (and_right (is_plain_value s && is_plain_value e) (are_plain_members ms) p1) (and_right (is_well_formed s && is_well_formed e) (are_well_formed_members ms) w))) rest
+      and_member (loop i (value_spelled s (and_left _ _ p2) (and_left _ _ w2)) (test_spelled i e (and_right (is_plain s) (is_plain e) p2) (and_right (is_well_formed s) (is_well_formed e) w2)) (label_spelled l)
+      (members_spelled dialect EndKey ms (and_right (is_plain s && is_plain e) (are_plain_members ms) p1) (and_right (is_well_formed s && is_well_formed e) (are_well_formed_members ms) w))) rest

@@ -8,7 +8,7 @@ use Rattle.vast_literal.specs.NormalExpr.{NormalExpr, Name, Literal, Unary, Call
 use Rattle.vast_literal.specs.Grammar.{is_cast_word, Spells, ternary, binary, unary, index, slice, part_select, name, number, based, quoted, paren, call, system_call, concat, replicated, array_pattern, macro_alone, macro_call, number_cast, name_cast, package_cast, paren_cast, word_cast, SpellsList, none, some, SpellsJoined, last, next}
 use Rattle.vast_literal.specs.LiteralToken.{is_number}
 use Rattle.vast_literal.proofs.LiteralToken.{bare_token, literal_tokens}
-use Rattle.vast_literal.specs.Plain.{is_edgeless, is_edgeless_type, are_edgeless}
+use Rattle.vast_literal.specs.Plain.{is_plain, is_plain_type, are_plain, is_plain_name, is_called_name}
 use Rattle.vast_literal.proofs.ExprTokens.{is_bare_head, wrapped_tokens, cast_operand, comma_tail_tokens, comma_tokens, called_token, word_cast_tokens, expr_tokens, cast_tokens, each_tokens}
 use Rattle.vast_literal.specs.WellFormed.{is_positive, is_cast_type, is_well_formed, is_well_formed_type, are_well_formed}
 use Rattle.vast_literal.proofs.ScanLaws.{and_left, and_right}
@@ -153,7 +153,7 @@ mutual
   unfolding expr_tokens normal is_cast_word
 
   -- The tokens of a well-formed expression's text spell its normal expression.
-  pub spelled : (e : ExprTree) → is_edgeless e ≡ true → is_well_formed e ≡ true → Spells (spelled_level e) (expr_tokens e) (normal e)
+  pub spelled : (e : ExprTree) → is_plain e ≡ true → is_well_formed e ≡ true → Spells (spelled_level e) (expr_tokens e) (normal e)
   spelled (NameTree n type) l w = below (name n)
   spelled (LiteralTree text value) l w = literal_spells text
   spelled (StringTree text) l w = below (quoted text)
@@ -165,43 +165,43 @@ mutual
       let bc = level_bound c in
       binary (binary_operator_token op) (positive op)
       (wrapped_spells (left_child_wraps op a) (spelled_level a) (level (binary_operator_token op)) _ _ (omega arith) (omega arith) (left_bound op a) (spelled a (and_left _ _ l) (and_left _ _ w)))
-      (wrapped_spells (right_child_wraps op c) (spelled_level c) (suc (level (binary_operator_token op))) _ _ (omega arith) (omega arith) (right_bound op c) (spelled c (and_right (is_edgeless a) _ l) (and_right (is_well_formed a) _ w)))
+      (wrapped_spells (right_child_wraps op c) (spelled_level c) (suc (level (binary_operator_token op))) _ _ (omega arith) (omega arith) (right_bound op c) (spelled c (and_right (is_plain a) _ l) (and_right (is_well_formed a) _ w)))
   spelled (TernaryTree c a b) l w =
-      let l1 = and_right (is_edgeless c) (is_edgeless a && is_edgeless b) l in
+      let l1 = and_right (is_plain c) (is_plain a && is_plain b) l in
       let w1 = and_right (is_well_formed c) (is_well_formed a && is_well_formed b) w in
       ternary (part_of_ternary c 1 (omega arith) (spelled c (and_left _ _ l) (and_left _ _ w)))
       (part_of_ternary a 0 (omega arith) (spelled a (and_left _ _ l1) (and_left _ _ w1)))
-      (part_of_ternary b 0 (omega arith) (spelled b (and_right (is_edgeless a) (is_edgeless b) l1) (and_right (is_well_formed a) (is_well_formed b) w1)))
+      (part_of_ternary b 0 (omega arith) (spelled b (and_right (is_plain a) (is_plain b) l1) (and_right (is_well_formed a) (is_well_formed b) w1)))
   spelled (IndexTree s i) l w =
       select_spells (is_elided_index s i) s (elided_index s i)
-      (index (subject_spells s (spelled s (and_left _ _ l) (and_left _ _ w))) (low i (spelled i (and_right (is_edgeless s) (is_edgeless i) l) (and_right (is_well_formed s) (is_well_formed i) w))))
+      (index (subject_spells s (spelled s (and_left _ _ l) (and_left _ _ w))) (low i (spelled i (and_right (is_plain s) (is_plain i) l) (and_right (is_well_formed s) (is_well_formed i) w))))
   spelled (SliceTree s a b) l w =
-      let l1 = and_right (is_edgeless s) (is_edgeless a && is_edgeless b) l in
+      let l1 = and_right (is_plain s) (is_plain a && is_plain b) l in
       let w1 = and_right (is_well_formed s) (is_well_formed a && is_well_formed b) w in
       select_spells (is_elided_slice s a b) s (elided_slice s a b)
       (slice (subject_spells s (spelled s (and_left _ _ l) (and_left _ _ w))) (low a (spelled a (and_left _ _ l1) (and_left _ _ w1)))
-      (low b (spelled b (and_right (is_edgeless a) (is_edgeless b) l1) (and_right (is_well_formed a) (is_well_formed b) w1))))
+      (low b (spelled b (and_right (is_plain a) (is_plain b) l1) (and_right (is_well_formed a) (is_well_formed b) w1))))
   spelled (PartSelectTree s i n) l w =
       let w1 = and_right (is_well_formed s) (is_well_formed i && is_positive n) w in
-      part_select (signed_decimal n) (subject_spells s (spelled s (and_left _ _ l) (and_left _ _ w))) (low i (spelled i (and_right (is_edgeless s) (is_edgeless i) l) (and_left _ _ w1)))
+      part_select (signed_decimal n) (subject_spells s (spelled s (and_left _ _ l) (and_left _ _ w))) (low i (spelled i (and_right (is_plain s) (is_plain i) l) (and_left _ _ w1)))
   spelled (ConcatTree NoExpr es) l w = below (concat (list_spells (each_spelled es l w)))
   spelled (ConcatTree (SomeExpr n) es) l w =
-      below (replicated (low n (spelled n (and_left _ _ l) (and_left _ _ w))) (list_spells (each_spelled es (and_right (is_edgeless n) (are_edgeless es) l) (and_right (is_well_formed n) (are_well_formed es) w))))
+      below (replicated (low n (spelled n (and_left _ _ l) (and_left _ _ w))) (list_spells (each_spelled es (and_right (is_plain n) (are_plain es) l) (and_right (is_well_formed n) (are_well_formed es) w))))
   spelled (PatternTree es) l w = below (array_pattern (list_spells (each_spelled es l w)))
   spelled (WidthCastTree h e) l w =
       let b = level_bound h in
-      below (width_spells h (spelled_level h) (omega arith) (spelled h (and_left _ _ l) (and_left _ _ w)) (low e (spelled e (and_right (is_edgeless h) (is_edgeless e) l) (and_right (is_well_formed h) (is_well_formed e) w))))
+      below (width_spells h (spelled_level h) (omega arith) (spelled h (and_left _ _ l) (and_left _ _ w)) (low e (spelled e (and_right (is_plain h) (is_plain e) l) (and_right (is_well_formed h) (is_well_formed e) w))))
   spelled (TypeCastTree type e) l w =
       let w1 = and_right (is_cast_type type) (is_well_formed_type type && is_well_formed e) w in
-      cast_spelled type (low e (spelled e (and_right (is_edgeless_type type) (is_edgeless e) l) (and_right (is_well_formed_type type) (is_well_formed e) w1))) (and_left _ _ w) (and_left _ _ l) (and_left _ _ w1)
+      cast_spelled type (low e (spelled e (and_right (is_plain_type type) (is_plain e) l) (and_right (is_well_formed_type type) (is_well_formed e) w1))) (and_left _ _ w) (and_left _ _ l) (and_left _ _ w1)
   spelled (PosEdgeTree e) l w = absurd (cc l)
   spelled (NegEdgeTree e) l w = absurd (cc l)
   spelled (MacroTree m NoArguments) l w = below (macro_alone m)
-  spelled (MacroTree m (SomeArguments es)) l w = below (macro_call m (list_spells (each_spelled es l w)))
-  spelled (CallTree f es) l w = below (called_spells f (list_spells (each_spelled es l w)))
+  spelled (MacroTree m (SomeArguments es)) l w = below (macro_call m (list_spells (each_spelled es (and_right (is_plain_name m) (are_plain es) l) w)))
+  spelled (CallTree f es) l w = below (called_spells f (list_spells (each_spelled es (and_right (is_called_name f) (are_plain es) l) w)))
   spelled MissingExpr l w = absurd (cc w)
 
-  pub cast_spelled : (type : TypeTree) {ts : List Token} {x : NormalExpr} → Spells 0 ts x → is_cast_type type ≡ true → is_edgeless_type type ≡ true → is_well_formed_type type ≡ true →
+  pub cast_spelled : (type : TypeTree) {ts : List Token} {x : NormalExpr} → Spells 0 ts x → is_cast_type type ≡ true → is_plain_type type ≡ true → is_well_formed_type type ≡ true →
       Spells 13 (cast_tokens type ts) (normal_cast type x)
   cast_spelled (ScalarTree signed) e c l w = below (scalar_spells_cast signed e)
   cast_spelled (VectorTree h value signed) e c l w =
@@ -215,7 +215,7 @@ mutual
   cast_spelled (UnpackedTree element dimensions) e c l w = absurd (cc c)
   cast_spelled MissingType e c l w = absurd (cc c)
 
-  pub each_spelled : (es : Exprs) → are_edgeless es ≡ true → are_well_formed es ≡ true → EachSpelled (each_tokens es) (normals es)
+  pub each_spelled : (es : Exprs) → are_plain es ≡ true → are_well_formed es ≡ true → EachSpelled (each_tokens es) (normals es)
   each_spelled NoExprs l w = no_parts
   each_spelled (MoreExprs e es) l w =
-      more_parts (low e (spelled e (and_left _ _ l) (and_left _ _ w))) (each_spelled es (and_right (is_edgeless e) (are_edgeless es) l) (and_right (is_well_formed e) (are_well_formed es) w))
+      more_parts (low e (spelled e (and_left _ _ l) (and_left _ _ w))) (each_spelled es (and_right (is_plain e) (are_plain es) l) (and_right (is_well_formed e) (are_well_formed es) w))

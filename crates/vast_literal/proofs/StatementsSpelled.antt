@@ -10,10 +10,11 @@ use Rattle.vast_literal.specs.WellFormed.{is_well_formed}
 use Rattle.vast_literal.specs.NormalTree.{case_key, normal_assignment, normal_label, normal_before, normal_statements, normal_choice, normal_arms}
 use Rattle.vast_literal.specs.Shape.{is_one_assignment, is_bare_arm, is_one_casez}
 use Rattle.vast_literal.proofs.FileTokens.{assignment_tokens, ended, block_tokens, unique_tokens, label_tokens, statement_tokens, statements_tokens, alternates_tokens, arms_tokens, body_tokens}
-use Rattle.vast_literal.specs.PlainFile.{is_plain_value, is_plain_maybe, is_left_side, is_plain_assignment, is_plain_statement, are_plain_statements, are_plain_alternates, are_plain_arms}
+use Rattle.vast_literal.specs.PlainFile.{is_plain_maybe, is_left_side, is_plain_assignment, is_plain_statement, are_plain_statements, are_plain_alternates, are_plain_arms}
 use Rattle.vast_literal.specs.WellFormedFile.{is_well_formed_maybe, is_well_formed_statement, are_well_formed_statements, are_well_formed_alternates, are_well_formed_arms}
 use Rattle.vast_literal.proofs.ScanLaws.{and_left, and_right}
 use Rattle.vast_literal.proofs.DeclarationSpelled.{value_spelled, left_spelled}
+use Rattle.vast_literal.specs.Plain.{is_plain}
 
 -- The cases of a word may have bare arms.
 abbrev pub has_bare_arms : CaseWord → Bool
@@ -44,13 +45,13 @@ unfolding statements_tokens normal_statements assignment_tokens normal_assignmen
 single_spelled (MoreStatements (AssignTree Blocking l r) NoStatements) e p w =
     let p0 = and_left (is_plain_assignment l r) true p in
     let w0 = and_left (is_well_formed l && is_well_formed r) true w in
-    rw append-nil (bare (assigns true (left_spelled l (and_left (is_left_side l && is_plain_value l) (is_plain_value r) p0) (and_left (is_well_formed l) (is_well_formed r) w0))
-    (value_spelled r (and_right (is_left_side l && is_plain_value l) (is_plain_value r) p0) (and_right (is_well_formed l) (is_well_formed r) w0))))
+    rw append-nil (bare (assigns true (left_spelled l (and_left (is_left_side l && is_plain l) (is_plain r) p0) (and_left (is_well_formed l) (is_well_formed r) w0))
+    (value_spelled r (and_right (is_left_side l && is_plain l) (is_plain r) p0) (and_right (is_well_formed l) (is_well_formed r) w0))))
 single_spelled (MoreStatements (AssignTree Nonblocking l r) NoStatements) e p w =
     let p0 = and_left (is_plain_assignment l r) true p in
     let w0 = and_left (is_well_formed l && is_well_formed r) true w in
-    rw append-nil (bare (assigns false (left_spelled l (and_left (is_left_side l && is_plain_value l) (is_plain_value r) p0) (and_left (is_well_formed l) (is_well_formed r) w0))
-    (value_spelled r (and_right (is_left_side l && is_plain_value l) (is_plain_value r) p0) (and_right (is_well_formed l) (is_well_formed r) w0))))
+    rw append-nil (bare (assigns false (left_spelled l (and_left (is_left_side l && is_plain l) (is_plain r) p0) (and_left (is_well_formed l) (is_well_formed r) w0))
+    (value_spelled r (and_right (is_left_side l && is_plain l) (is_plain r) p0) (and_right (is_well_formed l) (is_well_formed r) w0))))
 single_spelled _ e p w = absurd (cc e)
 
 bare_spelled : (word : CaseWord) (block : Statements) → is_bare_arm word block ≡ true → are_plain_statements block ≡ true → are_well_formed_statements block ≡ true → IsBody (has_bare_arms word) (statements_tokens block) (normal_statements block)
@@ -80,17 +81,17 @@ mutual
   statements_spelled (MoreStatements s ss) p w = rw append_assoc (before_spelled s (and_left _ _ p) (and_left _ _ w) (statements_spelled ss (and_right (is_plain_statement s) (are_plain_statements ss) p) (and_right (is_well_formed_statement s) (are_well_formed_statements ss) w)))
 
   before_spelled : (s : StatementTree) {us : List Token} {xs : NormalStatements} → is_plain_statement s ≡ true → is_well_formed_statement s ≡ true → IsStatements us xs → IsStatements (statement_tokens s ++ us) (normal_before s xs)
-  before_spelled (AssignTree form l r) p w rest = then (assignment_spelled form (left_spelled l (and_left (is_left_side l && is_plain_value l) (is_plain_value r) p) (and_left _ _ w)) (value_spelled r (and_right (is_left_side l && is_plain_value l) (is_plain_value r) p) (and_right (is_well_formed l) (is_well_formed r) w))) rest
+  before_spelled (AssignTree form l r) p w rest = then (assignment_spelled form (left_spelled l (and_left (is_left_side l && is_plain l) (is_plain r) p) (and_left _ _ w)) (value_spelled r (and_right (is_left_side l && is_plain l) (is_plain r) p) (and_right (is_well_formed l) (is_well_formed r) w))) rest
   before_spelled (CommentTree text) p w rest = rest
   before_spelled BlankTree p w rest = rest
   before_spelled (InlineTree text) p w rest = rest
   before_spelled (ConditionalTree c b alternates) p w rest =
-      let p1 = and_right (is_plain_value c) (are_plain_statements b && are_plain_alternates alternates) p in
+      let p1 = and_right (is_plain c) (are_plain_statements b && are_plain_alternates alternates) p in
       let w1 = and_right (is_well_formed c) (are_well_formed_statements b && are_well_formed_alternates alternates) w in
       then (choice (choice_spelled alternates (value_spelled c (and_left _ _ p) (and_left _ _ w)) (statements_spelled b (and_left _ _ p1) (and_left _ _ w1))
       (and_right (are_plain_statements b) (are_plain_alternates alternates) p1) (and_right (are_well_formed_statements b) (are_well_formed_alternates alternates) w1))) rest
   before_spelled (CaseTree u word e arms) p w rest =
-      then (cases (case_key word) (case_spelled word) (cased (unique_spelled u) (value_spelled e (and_left _ _ p) (and_left _ _ w)) (arms_spelled word arms (and_right (is_plain_value e) (are_plain_arms arms) p) (and_right (is_well_formed e) (are_well_formed_arms arms) w)))) rest
+      then (cases (case_key word) (case_spelled word) (cased (unique_spelled u) (value_spelled e (and_left _ _ p) (and_left _ _ w)) (arms_spelled word arms (and_right (is_plain e) (are_plain_arms arms) p) (and_right (is_well_formed e) (are_well_formed_arms arms) w)))) rest
 
   -- a condition and its block, with what follows the block
   pub choice_spelled : (alternates : Alternates) {cs bs : List Token} {c : NormalExpr} {b : NormalStatements} → Spells 0 cs c → IsStatements bs b → are_plain_alternates alternates ≡ true → are_well_formed_alternates alternates ≡ true →
@@ -98,7 +99,7 @@ mutual
   choice_spelled NoElse c b p w = rw append-nil (only c b)
   choice_spelled (Else d) c b p w = otherwise c b (statements_spelled d p w)
   choice_spelled (ElseIf e d rest) c b p w =
-      let p1 = and_right (is_plain_value e) (are_plain_statements d && are_plain_alternates rest) p in
+      let p1 = and_right (is_plain e) (are_plain_statements d && are_plain_alternates rest) p in
       let w1 = and_right (is_well_formed e) (are_well_formed_statements d && are_well_formed_alternates rest) w in
       or c b (choice_spelled rest (value_spelled e (and_left _ _ p) (and_left _ _ w)) (statements_spelled d (and_left _ _ p1) (and_left _ _ w1))
       (and_right (are_plain_statements d) (are_plain_alternates rest) p1) (and_right (are_well_formed_statements d) (are_well_formed_alternates rest) w1))
@@ -119,10 +120,10 @@ unfolding statements_tokens normal_statements case_key
 casez_spelled NoStatements h p w = absurd (cc h)
 casez_spelled (MoreStatements statement (MoreStatements next rest)) h p w = absurd (cc h)
 casez_spelled (MoreStatements (CaseTree u CaseZ e arms) NoStatements) h p w =
-    let p0 = and_left (is_plain_value e && are_plain_arms arms) true p in
+    let p0 = and_left (is_plain e && are_plain_arms arms) true p in
     let w0 = and_left (is_well_formed e && are_well_formed_arms arms) true w in
-    rw append-nil (casez_body (cased (unique_spelled u) (value_spelled e (and_left (is_plain_value e) (are_plain_arms arms) p0) (and_left (is_well_formed e) (are_well_formed_arms arms) w0))
-    (arms_spelled CaseZ arms (and_right (is_plain_value e) (are_plain_arms arms) p0) (and_right (is_well_formed e) (are_well_formed_arms arms) w0))))
+    rw append-nil (casez_body (cased (unique_spelled u) (value_spelled e (and_left (is_plain e) (are_plain_arms arms) p0) (and_left (is_well_formed e) (are_well_formed_arms arms) w0))
+    (arms_spelled CaseZ arms (and_right (is_plain e) (are_plain_arms arms) p0) (and_right (is_well_formed e) (are_well_formed_arms arms) w0))))
 casez_spelled _ h p w = absurd (cc h)
 
 pub function_body_spelled : (b : Statements) → are_plain_statements b ≡ true → are_well_formed_statements b ≡ true → IsFunctionBody (body_tokens b) (normal_statements b)

@@ -1,6 +1,6 @@
 -- The normal form of a file's tree: what of it the tokens of its text tell. It tells of plain files alone (`is_plain_file`): in
 -- others an inline text, which may stand for anything, is left out, and a name that is no identifier stands as it is written.
-use Rattle.std.specs.Prelude.{ℕ, ℤ, pos, ◌-ℤ◌, Bool, true, false, List, [], ◌∷◌, ◌++◌, map, codes, Option, Some, None, if◌then◌else◌}
+use Rattle.std.specs.Prelude.{ℕ, ℤ, pos, ◌-ℤ◌, Bool, List, [], ◌∷◌, ◌++◌, map, codes, Option, Some, None, if◌then◌else◌}
 use Rattle.std.specs.Fmt.{signed_decimal}
 use Rattle.vast_literal.specs.Tokens.{Minus, Key, CaseKey, CasezKey, CasexKey, WireKey, RegKey, LogicKey, IntegerKey, IntKey, GenvarKey, ParameterKey, LocalparamKey, AlwaysCombKey, AlwaysFFKey, AlwaysKey, PosedgeKey, NegedgeKey, InputKey, OutputKey, InOutKey}
 use Rattle.vast_literal.specs.Tree.{Dialect, VerilogDialect, SystemVerilogDialect, ExprTree, NameTree, PosEdgeTree, NegEdgeTree, MacroTree, Exprs, NoExprs, MoreExprs, MaybeExpr, NoExpr, SomeExpr, MaybeExprs, NoArguments, SomeArguments, MaybeType, Untyped, Typed}

@@ -1,4 +1,4 @@
--- Plain trees: all names that are printed are identifiers and no keywords.
+-- Plain trees: all names that are printed are identifiers and no keywords, and no edge stands where a value does.
 use Rattle.std.specs.Prelude.{ℕ, List, [], ◌∷◌, Bool, true, false, cond, not, ◌&&◌, eqb}
 use Rattle.vast_literal.specs.Keyword.{is_keyword}
 use Rattle.vast_literal.specs.Scan.{is_letter, is_word_byte}
@@ -22,7 +22,7 @@ is_called_name [] = false
 is_called_name (c ∷ cs) = cond (eqb c 36) (is_identifier cs) (is_plain_name (c ∷ cs))
 
 abbrev mutual
-  -- Each name that the expression prints is plain; the types of names are not printed.
+  -- Each name that the expression prints is plain, and no edge stands in it; the types of names are not printed.
   pub is_plain : ExprTree → Bool
   is_plain (NameTree name type) = is_plain_name name
   is_plain (UnaryTree op operand) = is_plain operand
@@ -36,15 +36,15 @@ abbrev mutual
   is_plain (PatternTree parts) = are_plain parts
   is_plain (WidthCastTree width operand) = is_plain width && is_plain operand
   is_plain (TypeCastTree type operand) = is_plain_type type && is_plain operand
-  is_plain (PosEdgeTree operand) = is_plain operand
-  is_plain (NegEdgeTree operand) = is_plain operand
+  is_plain (PosEdgeTree operand) = false
+  is_plain (NegEdgeTree operand) = false
   is_plain (MacroTree name NoArguments) = is_plain_name name
   is_plain (MacroTree name (SomeArguments arguments)) = is_plain_name name && are_plain arguments
   is_plain (CallTree name arguments) = is_called_name name && are_plain arguments
   is_plain MissingExpr = false
   is_plain _ = true
 
-  -- Each name that the type prints is plain.
+  -- The same of a type.
   pub is_plain_type : TypeTree → Bool
   is_plain_type (VectorTree width value signed) = is_plain width
   is_plain_type (ExternalTree name) = is_plain_name name
@@ -57,34 +57,3 @@ abbrev mutual
   pub are_plain : Exprs → Bool
   are_plain NoExprs = true
   are_plain (MoreExprs part parts) = is_plain part && are_plain parts
-
-abbrev mutual
-  -- No edge stands in the expression.
-  pub is_edgeless : ExprTree → Bool
-  is_edgeless (UnaryTree op operand) = is_edgeless operand
-  is_edgeless (BinaryTree op left right) = is_edgeless left && is_edgeless right
-  is_edgeless (TernaryTree condition consequent alternate) = is_edgeless condition && (is_edgeless consequent && is_edgeless alternate)
-  is_edgeless (IndexTree subject index) = is_edgeless subject && is_edgeless index
-  is_edgeless (SliceTree subject high low) = is_edgeless subject && (is_edgeless high && is_edgeless low)
-  is_edgeless (PartSelectTree subject start width) = is_edgeless subject && is_edgeless start
-  is_edgeless (ConcatTree NoExpr parts) = are_edgeless parts
-  is_edgeless (ConcatTree (SomeExpr count) parts) = is_edgeless count && are_edgeless parts
-  is_edgeless (PatternTree parts) = are_edgeless parts
-  is_edgeless (WidthCastTree width operand) = is_edgeless width && is_edgeless operand
-  is_edgeless (TypeCastTree type operand) = is_edgeless_type type && is_edgeless operand
-  is_edgeless (PosEdgeTree operand) = false
-  is_edgeless (NegEdgeTree operand) = false
-  is_edgeless (MacroTree name (SomeArguments arguments)) = are_edgeless arguments
-  is_edgeless (CallTree name arguments) = are_edgeless arguments
-  is_edgeless _ = true
-
-  -- No edge stands in the widths of the type.
-  pub is_edgeless_type : TypeTree → Bool
-  is_edgeless_type (VectorTree width value signed) = is_edgeless width
-  is_edgeless_type (PackedTree element dimensions) = is_edgeless_type element
-  is_edgeless_type (UnpackedTree element dimensions) = is_edgeless_type element
-  is_edgeless_type _ = true
-
-  pub are_edgeless : Exprs → Bool
-  are_edgeless NoExprs = true
-  are_edgeless (MoreExprs part parts) = is_edgeless part && are_edgeless parts

@@ -7,15 +7,11 @@ use Rattle.vast_literal.specs.Tree.{AlwaysWord, AlwaysCombWord, ParameterName, P
 use Rattle.vast_literal.specs.Tree.{MemberTree, DeclarationMember, AssignMember, ParameterMember, InlineMember, MacroMember, InstanceMember, AlwaysMember, ConditionalMember, FunctionMember, LoopMember, Members, NoMembers, MoreMembers}
 use Rattle.vast_literal.specs.Tree.{PortTree, ParameterPortTree, ModuleTree, FileItemTree, ModuleItem, IncludeItem, FileTree}
 use Rattle.vast_literal.specs.LiteralToken.{every}
-use Rattle.vast_literal.specs.Plain.{is_plain_name, is_plain, is_plain_type, is_edgeless, is_edgeless_type}
-
--- A plain expression without edges.
-abbrev pub is_plain_value : ExprTree → Bool
-is_plain_value value = is_plain value && is_edgeless value
+use Rattle.vast_literal.specs.Plain.{is_plain_name, is_plain, is_plain_type}
 
 abbrev pub is_plain_maybe : MaybeExpr → Bool
 is_plain_maybe NoExpr = true
-is_plain_maybe (SomeExpr value) = is_plain_value value
+is_plain_maybe (SomeExpr value) = is_plain value
 
 -- A name, a select or a concatenation.
 abbrev pub is_left_side : ExprTree → Bool
@@ -27,10 +23,10 @@ is_left_side (ConcatTree count parts) = true
 is_left_side _ = false
 
 abbrev pub is_plain_assignment : (left right : ExprTree) → Bool
-is_plain_assignment left right = (is_left_side left && is_plain_value left) && is_plain_value right
+is_plain_assignment left right = (is_left_side left && is_plain left) && is_plain right
 
 abbrev pub is_plain_declaration : TypeTree → (name : List ℕ) → Bool
-is_plain_declaration type name = is_plain_name name && (is_plain_type type && is_edgeless_type type)
+is_plain_declaration type name = is_plain_name name && is_plain_type type
 
 abbrev pub is_plain_declared : Declaration → Bool
 is_plain_declared d = is_plain_declaration d.type d.name
@@ -40,8 +36,8 @@ abbrev mutual
   pub is_plain_statement : StatementTree → Bool
   is_plain_statement (AssignTree form left right) = is_plain_assignment left right
   is_plain_statement (InlineTree text) = false
-  is_plain_statement (ConditionalTree condition consequent alternates) = is_plain_value condition && (are_plain_statements consequent && are_plain_alternates alternates)
-  is_plain_statement (CaseTree unique word selector arms) = is_plain_value selector && are_plain_arms arms
+  is_plain_statement (ConditionalTree condition consequent alternates) = is_plain condition && (are_plain_statements consequent && are_plain_alternates alternates)
+  is_plain_statement (CaseTree unique word selector arms) = is_plain selector && are_plain_arms arms
   is_plain_statement _ = true
 
   pub are_plain_statements : Statements → Bool
@@ -50,7 +46,7 @@ abbrev mutual
 
   pub are_plain_alternates : Alternates → Bool
   are_plain_alternates NoElse = true
-  are_plain_alternates (ElseIf condition block alternates) = is_plain_value condition && (are_plain_statements block && are_plain_alternates alternates)
+  are_plain_alternates (ElseIf condition block alternates) = is_plain condition && (are_plain_statements block && are_plain_alternates alternates)
   are_plain_alternates (Else block) = are_plain_statements block
 
   pub are_plain_arms : CaseArms → Bool
@@ -59,9 +55,9 @@ abbrev mutual
 
 -- An edge stands directly in the list of what an always block waits for.
 abbrev pub is_plain_event : ExprTree → Bool
-is_plain_event (PosEdgeTree operand) = is_plain_value operand
-is_plain_event (NegEdgeTree operand) = is_plain_value operand
-is_plain_event other = is_plain_value other
+is_plain_event (PosEdgeTree operand) = is_plain operand
+is_plain_event (NegEdgeTree operand) = is_plain operand
+is_plain_event other = is_plain other
 
 abbrev pub are_plain_events : Exprs → Bool
 are_plain_events NoExprs = true
@@ -94,14 +90,14 @@ abbrev mutual
   pub is_plain_member : MemberTree → Bool
   is_plain_member (DeclarationMember d) = is_plain_declared d
   is_plain_member (AssignMember left right) = is_plain_assignment left right
-  is_plain_member (ParameterMember local parameter value) = is_plain_parameter_name parameter && is_plain_value value
+  is_plain_member (ParameterMember local parameter value) = is_plain_parameter_name parameter && is_plain value
   is_plain_member (InlineMember text) = false
-  is_plain_member (MacroMember call semicolon) = is_plain_value call
+  is_plain_member (MacroMember call semicolon) = is_plain call
   is_plain_member (InstanceMember i) = is_plain_instance i
   is_plain_member (AlwaysMember word events body) = are_plain_awaited word events && are_plain_statements body
-  is_plain_member (ConditionalMember condition consequent alternates) = is_plain_value condition && (are_plain_statements consequent && are_plain_alternates alternates)
+  is_plain_member (ConditionalMember condition consequent alternates) = is_plain condition && (are_plain_statements consequent && are_plain_alternates alternates)
   is_plain_member (FunctionMember f) = is_plain_function f
-  is_plain_member (LoopMember genvar start end label members) = (is_plain_name genvar && is_plain_label label) && ((is_plain_value start && is_plain_value end) && are_plain_members members)
+  is_plain_member (LoopMember genvar start end label members) = (is_plain_name genvar && is_plain_label label) && ((is_plain start && is_plain end) && are_plain_members members)
   is_plain_member _ = true
 
   pub are_plain_members : Members → Bool
@@ -116,7 +112,7 @@ is_plain_typed Untyped name = is_plain_name name
 is_plain_typed (Typed type) name = is_plain_declaration type name
 
 abbrev pub are_plain_parameters : List ParameterPortTree → Bool
-are_plain_parameters parameters = every (λ p. is_plain_typed p.type p.name && is_plain_value p.value) parameters
+are_plain_parameters parameters = every (λ p. is_plain_typed p.type p.name && is_plain p.value) parameters
 
 abbrev pub is_plain_module : ModuleTree → Bool
 is_plain_module m = is_plain_name m.name && (are_plain_parameters m.parameters && (are_plain_ports m.ports && are_plain_members m.members))
