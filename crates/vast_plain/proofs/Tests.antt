@@ -17,8 +17,3 @@ and-assoc false b c = refl
 pub and-comm : (a b : Bool) → (a && b) ≡ (b && a)
 and-comm true b = sym (and-true b)
 and-comm false b = sym (and-false b)
-
-pub and-swap : (a b c d : Bool) → ((a && b) && (c && d)) ≡ ((a && c) && (b && d))
-and-swap false b c d = refl
-and-swap true false c d = sym (and-false c)
-and-swap true true c d = refl

@@ -2,26 +2,21 @@
 use Rattle.std.proofs.Common.{◌≡◌, ◌+◌, List, [], ◌∷◌, ◌++◌, sym, ◌∙◌, ap, arith}
 use Rattle.std.specs.Prelude.{◌&&◌}
 use Rattle.vast_literal.specs.Tree.{ExprTree, Exprs, MoreExprs}
-use Rattle.vast_literal.specs.Plain.{is_plain, is_edgeless, are_plain, are_edgeless}
+use Rattle.vast_literal.specs.Plain.{is_plain, are_plain}
 use Rattle.vast_core.specs.declared.handle.Expr.{Expr}
 use Rattle.vast_core.specs.Bench.{Bench, tree_of, trees_of}
-use Rattle.vast_plain.specs.Internal.Values.{are_plain_values, exprs_weight}
-use Rattle.vast_plain.proofs.Tests.{and-true, and-false, and-assoc, and-comm, and-swap}
+use Rattle.vast_plain.specs.Internal.Values.{exprs_weight}
+use Rattle.vast_plain.proofs.Tests.{and-true, and-false, and-assoc, and-comm}
 
 -- lists
 
-more-values : (e : ExprTree) (es : Exprs) → are_plain_values (MoreExprs e es) ≡ ((is_plain e && is_edgeless e) && are_plain_values es)
-more-values e es = and-swap (is_plain e) (are_plain es) (is_edgeless e) (are_edgeless es)
-
-pub values-append : (b : Bench) (xs ys : List Expr) → are_plain_values (trees_of b (xs ++ ys)) ≡ (are_plain_values (trees_of b ys) && are_plain_values (trees_of b xs))
-values-append b [] ys = sym (and-true (are_plain_values (trees_of b ys)))
+pub values-append : (b : Bench) (xs ys : List Expr) → are_plain (trees_of b (xs ++ ys)) ≡ (are_plain (trees_of b ys) && are_plain (trees_of b xs))
+values-append b [] ys = sym (and-true (are_plain (trees_of b ys)))
 values-append b (x ∷ xs) ys =
-    more-values (tree_of b x) (trees_of b (xs ++ ys))
-    ∙ (ap (λ r. (is_plain (tree_of b x) && is_edgeless (tree_of b x)) && r) (values-append b xs ys)
-    ∙ (sym (and-assoc (is_plain (tree_of b x) && is_edgeless (tree_of b x)) (are_plain_values (trees_of b ys)) (are_plain_values (trees_of b xs)))
-    ∙ (ap (λ r. r && are_plain_values (trees_of b xs)) (and-comm (is_plain (tree_of b x) && is_edgeless (tree_of b x)) (are_plain_values (trees_of b ys)))
-    ∙ (and-assoc (are_plain_values (trees_of b ys)) (is_plain (tree_of b x) && is_edgeless (tree_of b x)) (are_plain_values (trees_of b xs))
-    ∙ ap (λ r. are_plain_values (trees_of b ys) && r) (sym (more-values (tree_of b x) (trees_of b xs)))))))
+    ap (λ r. is_plain (tree_of b x) && r) (values-append b xs ys)
+    ∙ (sym (and-assoc (is_plain (tree_of b x)) (are_plain (trees_of b ys)) (are_plain (trees_of b xs)))
+    ∙ (ap (λ r. r && are_plain (trees_of b xs)) (and-comm (is_plain (tree_of b x)) (are_plain (trees_of b ys)))
+    ∙ and-assoc (are_plain (trees_of b ys)) (is_plain (tree_of b x)) (are_plain (trees_of b xs))))
 
 pub weight-append : (b : Bench) (xs ys : List Expr) → exprs_weight (trees_of b (xs ++ ys)) ≡ exprs_weight (trees_of b ys) + exprs_weight (trees_of b xs)
 weight-append b [] ys = omega arith
@@ -29,8 +24,6 @@ weight-append b (x ∷ xs) ys = omega (arith, weight-append b xs ys)
 
 pub ruleset waits = (values-append, weight-append)
 
-pub ruleset heads = (values-append, weight-append, and-assoc, and-true, and-false, and-swap)
-
-pub ruleset rounds = (values-append, weight-append, and-assoc, and-true, and-false)
+pub ruleset heads = (values-append, weight-append, and-assoc, and-true, and-false)
 
 pub ruleset wholes = (and-true, and-false)

@@ -2,10 +2,11 @@
 
 ghost use Rattle.std.specs.Prelude.{◌≡◌, ◌+◌, ◌&&◌, All, IfSome};
 ghost use Rattle.vast_literal.specs.Tree.{ConcatTree, TypeCastTree};
-ghost use Rattle.vast_literal.specs.PlainFile.{is_left_side, is_plain_value, is_plain_maybe, is_plain_event};
+ghost use Rattle.vast_literal.specs.Plain.{are_plain, is_plain};
+ghost use Rattle.vast_literal.specs.PlainFile.{is_left_side, is_plain_maybe, is_plain_event};
 ghost use Rattle.vast_core.specs.Bench.{OwnsExpr, OwnsType, tree_of, trees_of, maybe_tree_of, type_of};
 ghost use Rattle.vast_core.specs.View.{bench};
-ghost use Rattle.vast_plain.specs.Internal.Values.{Answers, Begins, BeginsExpr, are_plain_values, exprs_weight};
+ghost use Rattle.vast_plain.specs.Internal.Values.{Answers, Begins, BeginsExpr, exprs_weight};
 
 use crate::names::{is_called_name, is_plain_name};
 use crate::types::begin_type;
@@ -19,7 +20,7 @@ use vast_core::{Ast, Expr, ExprNode, VastDataType};
 #[tactic(auto, using(crate::proofs::Values::wholes))]
 pub(crate) fn is_plain_value(ast: &Ast, e: Expr) -> Result<bool, AllocError>
     requires { OwnsExpr (bench ast.now) e }
-    ensures { Answers (is_plain_value (tree_of (bench ast.now) e)) result }
+    ensures { Answers (is_plain (tree_of (bench ast.now) e)) result }
 {
     let mut waiting = Vec::new(ast.allocator());
     // A name or a literal lets nothing wait, so it takes no memory.
@@ -27,10 +28,10 @@ pub(crate) fn is_plain_value(ast: &Ast, e: Expr) -> Result<bool, AllocError>
 }
 
 /// Whether all that wait are plain and have no edge.
-#[tactic(auto, using(crate::proofs::Values::rounds))]
+#[tactic(auto, using(crate::proofs::Values::heads))]
 pub(crate) fn are_plain_values(ast: &Ast, mut waiting: Vec<Expr>) -> Result<bool, AllocError>
     requires { All (OwnsExpr (bench ast.now)) waiting.items }
-    ensures { Answers (are_plain_values (trees_of (bench ast.now) waiting.items)) result }
+    ensures { Answers (are_plain (trees_of (bench ast.now) waiting.items)) result }
 {
     while let Some(e) = waiting.pop() {
         if !begin(ast, e, &mut waiting)? {
@@ -46,7 +47,7 @@ pub(crate) fn wait(ast: &Ast, parts: &[Expr], waiting: &mut Vec<Expr>) -> Result
     requires parts { All (OwnsExpr (bench ast.now)) parts.now }
     requires owned { All (OwnsExpr (bench ast.now)) waiting.old.items }
     ensures { Begins (bench ast.now) waiting.old.items waiting.new.items
-        (are_plain_values (trees_of (bench ast.now) parts.now))
+        (are_plain (trees_of (bench ast.now) parts.now))
         (exprs_weight (trees_of (bench ast.now) parts.now) + 1) result }
 {
     waiting.extend_from_slice(parts)?;
@@ -135,17 +136,17 @@ fn begin_cast(
 #[tactic(auto, using(crate::proofs::Values::heads))]
 fn begin_call(
     ast: &Ast,
-    is_plain: bool,
+    has_plain_name: bool,
     arguments: &[Expr],
     waiting: &mut Vec<Expr>,
 ) -> Result<bool, AllocError>
     requires arguments { All (OwnsExpr (bench ast.now)) arguments.now }
     requires owned { All (OwnsExpr (bench ast.now)) waiting.old.items }
     ensures { Begins (bench ast.now) waiting.old.items waiting.new.items
-        (is_plain && are_plain_values (trees_of (bench ast.now) arguments.now))
+        (has_plain_name && are_plain (trees_of (bench ast.now) arguments.now))
         (exprs_weight (trees_of (bench ast.now) arguments.now) + 1) result }
 {
-    if !is_plain {
+    if !has_plain_name {
         return Ok(false);
     }
     wait(ast, arguments, waiting)

@@ -1,8 +1,8 @@
 //! Members of modules and loops.
 
 ghost use Rattle.std.specs.Prelude.{◌≡◌, ◌&&◌, All, string_bytes};
-ghost use Rattle.vast_literal.specs.Plain.{is_plain_name};
-ghost use Rattle.vast_literal.specs.PlainFile.{is_plain_value, is_plain_label, is_plain_member, are_plain_members};
+ghost use Rattle.vast_literal.specs.Plain.{is_plain_name, is_plain};
+ghost use Rattle.vast_literal.specs.PlainFile.{is_plain_label, is_plain_member, are_plain_members};
 ghost use Rattle.vast_core.specs.Bench.{OwnsExpr, OwnsLoop, tree_of};
 ghost use Rattle.vast_core.specs.Nests.{label_bytes};
 ghost use Rattle.vast_core.specs.Sound.{MemberSound};
@@ -70,8 +70,8 @@ fn is_plain_header(ast: &Ast, node: &LoopNode) -> Result<bool, AllocError>
     requires end { OwnsExpr (bench ast.now) node.now.end }
     ensures { Answers
         ((is_plain_name (string_bytes node.now.name) && is_plain_label (label_bytes node.now.label))
-        && (is_plain_value (tree_of (bench ast.now) node.now.start)
-        && is_plain_value (tree_of (bench ast.now) node.now.end))) result }
+        && (is_plain (tree_of (bench ast.now) node.now.start)
+        && is_plain (tree_of (bench ast.now) node.now.end))) result }
 {
     Ok(
         is_plain_name(&node.name)

@@ -1,7 +1,7 @@
 //! Modules: headers and members.
 
 ghost use Rattle.std.specs.Prelude.{◌≡◌, ◌&&◌, All, map};
-ghost use Rattle.vast_literal.specs.PlainFile.{is_plain_value, is_plain_typed, is_plain_declared, are_plain_parameters, are_plain_ports, is_plain_module};
+ghost use Rattle.vast_literal.specs.PlainFile.{is_plain_typed, is_plain_declared, are_plain_parameters, are_plain_ports, is_plain_module};
 ghost use Rattle.vast_core.specs.Bench.{OwnsPort, tree_of};
 ghost use Rattle.vast_core.specs.Nodes.{maybe_type_in};
 ghost use Rattle.vast_core.specs.Records.{module_record, parameter_port_record};
@@ -9,6 +9,7 @@ ghost use Rattle.vast_core.specs.Sound.{MemberSound, ParameterPortSound};
 ghost use Rattle.vast_core.specs.FileTree.{parameter_port_tree, port_tree, module_tree};
 ghost use Rattle.vast_core.specs.View.{bench};
 ghost use Rattle.vast_plain.specs.Internal.Values.{Answers};
+ghost use Rattle.vast_literal.specs.Plain.{is_plain};
 
 use crate::expression::is_plain_value;
 use crate::member::are_plain_members;
@@ -23,7 +24,7 @@ fn is_plain_parameter_port(ast: &Ast, parameter: &ParameterPort) -> Result<bool,
     ensures { Answers
         (is_plain_typed (maybe_type_in (bench ast.now).nodes parameter.now.data_type)
         (parameter_port_record parameter.now).name
-        && is_plain_value (tree_of (bench ast.now) parameter.now.value)) result }
+        && is_plain (tree_of (bench ast.now) parameter.now.value)) result }
 {
     let is_plain = match parameter.data_type {
         Some(t) => is_plain_declaration(ast, t, &parameter.name)?,

@@ -1,8 +1,8 @@
 //! Parameters, instantiations, always blocks and functions.
 
 ghost use Rattle.std.specs.Prelude.{◌≡◌, ◌&&◌, All, map, slice_get};
-ghost use Rattle.vast_literal.specs.Plain.{is_plain_name};
-ghost use Rattle.vast_literal.specs.PlainFile.{is_plain_maybe, are_plain_connections, is_plain_declared, are_plain_events, are_plain_awaited, is_plain_parameter_name, is_plain_value, is_plain_member};
+ghost use Rattle.vast_literal.specs.Plain.{is_plain_name, is_plain};
+ghost use Rattle.vast_literal.specs.PlainFile.{is_plain_maybe, are_plain_connections, is_plain_declared, are_plain_events, are_plain_awaited, is_plain_parameter_name, is_plain_member};
 ghost use Rattle.vast_core.specs.Bench.{OwnsExpr, OwnsInstantiation, OwnsAlways, OwnsFunction, tree_of, trees_of, maybe_tree_of};
 ghost use Rattle.vast_core.specs.Records.{connection_record};
 ghost use Rattle.vast_core.specs.declared.node.Member.TheVariants.{Instantiation as InstanceEntry};
@@ -48,7 +48,7 @@ pub(crate) fn is_plain_parameter(
     requires value { OwnsExpr (bench ast.now) value }
     ensures { Answers
         (is_plain_parameter_name (form_tree (bench ast.now) form.now)
-        && is_plain_value (tree_of (bench ast.now) value)) result }
+        && is_plain (tree_of (bench ast.now) value)) result }
 {
     Ok(is_plain_form(ast, form)? && is_plain_value(ast, value)?)
 }

@@ -1,13 +1,14 @@
 //! Blocks and statements.
 
 ghost use Rattle.std.specs.Prelude.{◌≡◌, ◌&&◌, IfSome};
-ghost use Rattle.vast_literal.specs.PlainFile.{is_plain_value, is_plain_maybe, is_plain_assignment, is_plain_statement, are_plain_statements};
+ghost use Rattle.vast_literal.specs.PlainFile.{is_plain_maybe, is_plain_assignment, is_plain_statement, are_plain_statements};
 ghost use Rattle.vast_core.specs.Bench.{OwnsExpr, OwnsBlock, OwnsConditional, OwnsCase, tree_of, maybe_tree_of};
 ghost use Rattle.vast_core.specs.Nests.{statement_entry};
 ghost use Rattle.vast_core.specs.FileTree.{families, statement_in, conditional_statement, case_statement, block_tree};
 ghost use Rattle.vast_core.specs.View.{bench};
 ghost use Rattle.vast_plain.specs.Internal.Values.{Answers};
 ghost use Rattle.vast_plain.specs.Internal.Statements.{StatementOwned};
+ghost use Rattle.vast_literal.specs.Plain.{is_plain};
 
 use crate::expression::{is_left_side, is_plain_maybe, is_plain_value};
 use std::alloc::AllocError;
@@ -93,7 +94,7 @@ fn is_plain_arm(ast: &Ast, condition: Expr, b: VastStatementBlock) -> Result<boo
     requires condition { OwnsExpr (bench ast.now) condition }
     requires block { OwnsBlock (bench ast.now) b }
     ensures { Answers
-        (is_plain_value (tree_of (bench ast.now) condition)
+        (is_plain (tree_of (bench ast.now) condition)
         && are_plain_statements (block_tree (bench ast.now) b)) result }
 {
     Ok(is_plain_value(ast, condition)? && is_plain_block(ast, b)?)

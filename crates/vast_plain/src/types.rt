@@ -1,7 +1,7 @@
 //! Types and declarations. Arrays of arrays are walked to what they are made of.
 
 ghost use Rattle.std.specs.Prelude.{◌≡◌, ◌+◌, ◌&&◌, All};
-ghost use Rattle.vast_literal.specs.Plain.{is_plain_type, is_edgeless_type};
+ghost use Rattle.vast_literal.specs.Plain.{is_plain_type};
 ghost use Rattle.vast_literal.specs.PlainFile.{is_plain_declaration};
 ghost use Rattle.vast_core.specs.Bench.{OwnsExpr, OwnsType, type_of};
 ghost use Rattle.vast_core.specs.View.{bench};
@@ -22,7 +22,7 @@ pub(crate) fn begin_type(
     requires data_type { OwnsType (bench ast.now) t }
     requires owned { All (OwnsExpr (bench ast.now)) waiting.old.items }
     ensures { Begins (bench ast.now) waiting.old.items waiting.new.items
-        (is_plain_type (type_of (bench ast.now) t) && is_edgeless_type (type_of (bench ast.now) t))
+        (is_plain_type (type_of (bench ast.now) t))
         (type_weight (type_of (bench ast.now) t) + 1) result }
 {
     let mut inner = t;
@@ -46,9 +46,7 @@ pub(crate) fn begin_type(
 #[tactic(auto, using(crate::proofs::Values::wholes))]
 fn is_plain_type(ast: &Ast, t: VastDataType) -> Result<bool, AllocError>
     requires { OwnsType (bench ast.now) t }
-    ensures { Answers
-        (is_plain_type (type_of (bench ast.now) t) && is_edgeless_type (type_of (bench ast.now) t))
-        result }
+    ensures { Answers (is_plain_type (type_of (bench ast.now) t)) result }
 {
     let mut waiting = Vec::new(ast.allocator());
     Ok(begin_type(ast, t, &mut waiting)? && are_plain_values(ast, waiting)?)

@@ -11,12 +11,12 @@ use Rattle.vast_literal.specs.declared.kind.DataKind.{DataKind as Kind}
 use Rattle.vast_literal.specs.declared.kind.DataKind.TheVariants.{Reg as RegKind, Wire as WireKind, Logic as LogicKind, Integer as IntegerKind, Int as IntKind, User as UserKind, UntypedEnum as UntypedEnumKind, Genvar as GenvarKind}
 use Rattle.vast_literal.specs.Scan.{scan, cons_token}
 use Rattle.vast_literal.specs.NormalExpr.{scalar_sign, integer_sign}
-use Rattle.vast_literal.specs.Plain.{is_plain_name, is_plain, is_plain_type, is_edgeless, is_edgeless_type}
+use Rattle.vast_literal.specs.Plain.{is_plain_name, is_plain, is_plain_type}
 use Rattle.vast_literal.specs.PlainFile.{is_plain_declaration}
 use Rattle.vast_literal.specs.WellFormed.{is_well_formed, is_well_formed_type}
 use Rattle.vast_literal.specs.NormalTree.{kind_key, sign_of}
 use Rattle.vast_literal.proofs.FileTokens.{maybe_tokens, type_name_tokens, number_tokens, zero_tokens, range_tokens, highest_index_tokens, vector_tokens, packed_tokens, unpacked_dimension_tokens, unpacked_tokens, declaration_tokens}
-use Rattle.vast_literal.proofs.DeclarationSpelled.{base_edgeless, base_formed}
+use Rattle.vast_literal.proofs.DeclarationSpelled.{base_plain, base_formed}
 use Rattle.vast_literal.proofs.TokenReads.{stops, opens, Free, Divides, Reads}
 use Rattle.vast_literal.proofs.ScanLaws.{and_left, and_right, scan_colon}
 use Rattle.vast_literal.proofs.Pieces.{add_tokens-nil, free_reads, free_free, reads_end, as_reads, reads_reads, reads_sep, divides_free, enclosed, open_bracket, close_bracket, operator_divides, opens-append}
@@ -115,10 +115,10 @@ highest_index_fine w f = wrapped_fine (highest_index_wraps w) (expr_text w) ((bo
 less_one : {a : List ℕ} {ts : List Token} → Reads a ts → Reads (a ++ (32 ∷ 45 ∷ 32 ∷ 49 ∷ [])) (ts ++ (Operator Minus ∷ (Number (codes "1") ∷ [])))
 less_one f = reads_sep f (operator_divides Minus) (number_reads (49 ∷ []) refl)
 
-highest_index_told : (w : ExprTree) (v : Option ℤ) → is_plain w ≡ true → is_edgeless w ≡ true → is_well_formed w ≡ true → (highest_index_text w v).fault ≡ None → Reads (highest_index_text w v).text (highest_index_tokens w v)
+highest_index_told : (w : ExprTree) (v : Option ℤ) → is_plain w ≡ true → is_well_formed w ≡ true → (highest_index_text w v).fault ≡ None → Reads (highest_index_text w v).text (highest_index_tokens w v)
 unfolding highest_index_text highest_index_tokens ◌⊕◌ plain_text
-highest_index_told w (Some v) p l h f = number_told (v -ℤ pos 1)
-highest_index_told w None p l h f = less_one (wrapped_reads (highest_index_wraps w) (highest_index_wraps w) (expr_text w) refl (expr_reads w p l h (highest_index_fine w f)))
+highest_index_told w (Some v) p h f = number_told (v -ℤ pos 1)
+highest_index_told w None p h f = less_one (wrapped_reads (highest_index_wraps w) (highest_index_wraps w) (expr_text w) refl (expr_reads w p h (highest_index_fine w f)))
 
 -- types
 
@@ -178,10 +178,10 @@ package_based : (s n : List ℕ) (ds : List ℕ) {us : List Token} → is_plain_
 unfolding based_text
 package_based s n ds p q g = with_dimensions_told (package_text s n) ds (package_told s n p q) g
 
-vector_based : (w : ExprTree) (v : Option ℤ) (signed : Bool) (ds : List ℕ) {us : List Token} → is_plain w ≡ true → is_edgeless w ≡ true → is_well_formed w ≡ true → (highest_index_text w v).fault ≡ None → Dimensions ds us →
+vector_based : (w : ExprTree) (v : Option ℤ) (signed : Bool) (ds : List ℕ) {us : List Token} → is_plain w ≡ true → is_well_formed w ≡ true → (highest_index_text w v).fault ≡ None → Dimensions ds us →
     Reads (based_text (VectorTree w v signed) ds).text (maybe_tokens (scalar_sign signed) ++ (us ++ range_tokens (highest_index_tokens w v) zero_tokens))
 unfolding based_text ◌⊕◌ plain_text
-vector_based w v signed ds p l h f g = vector_left (spaced_free (plain_text (signed_word signed)) (plain_reads (signed_word signed) (signed_told signed))) g (highest_index_told w v p l h f)
+vector_based w v signed ds p h f g = vector_left (spaced_free (plain_text (signed_word signed)) (plain_reads (signed_word signed) (signed_told signed))) g (highest_index_told w v p h f)
 
 -- a type that is no array
 is_base : TypeTree → Bool
@@ -195,30 +195,25 @@ base_is (PackedTree t ds) = base_is t
 base_is (UnpackedTree t ds) = base_is t
 base_is _ = refl
 
-based_told : (base : TypeTree) (ds : List ℕ) {us : List Token} → is_base base ≡ true → is_plain_type base ≡ true → is_edgeless_type base ≡ true → is_well_formed_type base ≡ true → (based_text base ds).fault ≡ None → Dimensions ds us →
+based_told : (base : TypeTree) (ds : List ℕ) {us : List Token} → is_base base ≡ true → is_plain_type base ≡ true → is_well_formed_type base ≡ true → (based_text base ds).fault ≡ None → Dimensions ds us →
     Reads (based_text base ds).text (type_name_tokens base ++ (maybe_tokens (sign_of base) ++ (us ++ vector_tokens base)))
 unfolding type_name_tokens sign_of vector_tokens is_base
-based_told (ScalarTree signed) ds {us = us} e p l w f g = rw (append-nil us) (scalar_based signed ds g)
-based_told (VectorTree h v signed) ds e p l w f g = vector_based h v signed ds p l w (base_fine h v signed ds f) g
-based_told (IntegerTree signed) ds {us = us} e p l w f g = rw (append-nil us) (integer_based signed ds g)
-based_told (IntTree signed) ds {us = us} e p l w f g = rw (append-nil us) (int_based signed ds g)
-based_told (ExternalTree n) ds {us = us} e p l w f g = rw (append-nil us) (external_based n ds p g)
-based_told (PackageTree s n) ds {us = us} e p l w f g = rw (append-nil us) (package_based s n ds (and_left _ _ p) (and_right (is_plain_name s) (is_plain_name n) p) g)
-based_told (PackedTree t own) ds e p l w f g = absurd (cc e)
-based_told (UnpackedTree t own) ds e p l w f g = absurd (cc e)
-based_told MissingType ds e p l w f g = absurd (cc w)
+based_told (ScalarTree signed) ds {us = us} e p w f g = rw (append-nil us) (scalar_based signed ds g)
+based_told (VectorTree h v signed) ds e p w f g = vector_based h v signed ds p w (base_fine h v signed ds f) g
+based_told (IntegerTree signed) ds {us = us} e p w f g = rw (append-nil us) (integer_based signed ds g)
+based_told (IntTree signed) ds {us = us} e p w f g = rw (append-nil us) (int_based signed ds g)
+based_told (ExternalTree n) ds {us = us} e p w f g = rw (append-nil us) (external_based n ds p g)
+based_told (PackageTree s n) ds {us = us} e p w f g = rw (append-nil us) (package_based s n ds (and_left _ _ p) (and_right (is_plain_name s) (is_plain_name n) p) g)
+based_told (PackedTree t own) ds e p w f g = absurd (cc e)
+based_told (UnpackedTree t own) ds e p w f g = absurd (cc e)
+based_told MissingType ds e p w f g = absurd (cc w)
 
 -- declarations
 
-base_plain : (t : TypeTree) → is_plain_type t ≡ true → is_plain_type (base_of t) ≡ true
-base_plain (PackedTree t ds) h = base_plain t h
-base_plain (UnpackedTree t ds) h = base_plain t h
-base_plain _ h = h
-
-type_told : (t : TypeTree) → is_plain_type t ≡ true → is_edgeless_type t ≡ true → is_well_formed_type t ≡ true → (type_text t).fault ≡ None →
+type_told : (t : TypeTree) → is_plain_type t ≡ true → is_well_formed_type t ≡ true → (type_text t).fault ≡ None →
     Reads (type_text t).text (type_name_tokens (base_of t) ++ (maybe_tokens (sign_of (base_of t)) ++ (packed_tokens (packed_dimensions t) ++ vector_tokens (base_of t))))
 unfolding type_text
-type_told t p l w f = based_told (base_of t) (packed_text (packed_dimensions t)) (base_is t) (base_plain t p) (base_edgeless t l) (base_formed t w) f (packed_told (packed_dimensions t))
+type_told t p w f = based_told (base_of t) (packed_text (packed_dimensions t)) (base_is t) (base_plain t p) (base_formed t w) f (packed_told (packed_dimensions t))
 
 kind_told : (kind : Kind) → Reads (kind_word kind) (maybe_tokens (kind_key kind))
 unfolding kind_key key_text
@@ -250,8 +245,7 @@ declaration_left tn sg gs f g h d = simp append_assoc (simp append_assoc at (fre
 pub declaration_reads : (dialect : Dialect) (kind : Kind) (t : TypeTree) (n : List ℕ) → is_plain_declaration t n ≡ true → is_well_formed_type t ≡ true → (declaration_text dialect kind t n).fault ≡ None → Reads (declaration_text dialect kind t n).text (declaration_tokens dialect kind t n)
 unfolding declaration_text declaration_tokens name_text ◌⊕◌ plain_text
 declaration_reads dialect kind t n p w f =
-    let p1 = and_right (is_plain_name n) (is_plain_type t && is_edgeless_type t) p in
     declaration_left (type_name_tokens (base_of t)) (maybe_tokens (sign_of (base_of t))) (packed_tokens (packed_dimensions t) ++ vector_tokens (base_of t))
     (spaced_free (plain_text (kind_word kind)) (plain_reads (kind_word kind) (kind_told kind)))
-    (spaced_free (type_text t) (type_told t (and_left _ _ p1) (and_right (is_plain_type t) (is_edgeless_type t) p1) w (declaration_fine dialect kind t n f)))
+    (spaced_free (type_text t) (type_told t (and_right (is_plain_name n) (is_plain_type t) p) w (declaration_fine dialect kind t n f)))
     (name_reads n (and_left _ _ p)) (unpacked_told dialect (unpacked_dimensions t))

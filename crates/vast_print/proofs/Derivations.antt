@@ -22,7 +22,7 @@ use Rattle.vast_print.proofs.FileReads.{file_derived}
 
 pub printed-derives : (e : ExprTree) → PrintsPlainly e → DerivesOnly (expr_text e).text e
 printed-derives e p =
-    let d : DerivesExpression (expr_text e).text (normal e) = expr_derived e p.plain p.edgeless p.well_formed p.printed in
+    let d : DerivesExpression (expr_text e).text (normal e) = expr_derived e p.plain p.well_formed p.printed in
     record { derived = d; no_other = λ t o. expression_once (expr_text e).text t (normal e) o d }
 
 pub equal-texts : (a b : ExprTree) → PrintsPlainly a → PrintsPlainly b → (expr_text a).text ≡ (expr_text b).text → normal a ≡ normal b
@@ -31,8 +31,8 @@ equal-texts a b p q e = (printed-derives b q).no_other (normal a) (subst (λ t. 
 pub emitted-derives :
     (b : Bench) (e : Expr) (r : Result (String Global) VastFault) → AreWellFormed b → OwnsExpr b e → EmitsText (expr_text (tree_of b e)) r →
     IfOk r (λ s. DerivesIfPlain (string_bytes s) (tree_of b e))
-emitted-derives b e (Ok s) w o h = λ p l.
-    rw h.1 (printed-derives (tree_of b e) (record { plain = p; edgeless = l; well_formed = well_formed (tree_of b e) (w.exprs e o); printed = h.0 }))
+emitted-derives b e (Ok s) w o h = λ p.
+    rw h.1 (printed-derives (tree_of b e) (record { plain = p; well_formed = well_formed (tree_of b e) (w.exprs e o); printed = h.0 }))
 emitted-derives b e (Err x) w o h = tt
 
 -- files

@@ -15,7 +15,7 @@ use Rattle.vast_literal.proofs.Pieces.{add_tokens-nil, sign_reads, operator_divi
 use Rattle.vast_literal.proofs.Spelled.{spelled, low}
 use Rattle.vast_literal.proofs.Longest.{scan_lexes}
 use Rattle.vast_literal.specs.LiteralToken.{is_literal_text, is_string_text}
-use Rattle.vast_literal.specs.Plain.{is_plain_name, is_called_name, is_plain, is_plain_type, are_plain, is_edgeless, is_edgeless_type, are_edgeless}
+use Rattle.vast_literal.specs.Plain.{is_plain_name, is_called_name, is_plain, is_plain_type, are_plain}
 use Rattle.vast_literal.proofs.ExprTokens.{expr_tokens, cast_tokens, each_tokens, comma_tokens, comma_tail_tokens, wrapped_tokens, cast_operand, word_cast_tokens}
 use Rattle.vast_literal.proofs.ExprTokens as Tokens
 use Rattle.vast_literal.specs.WellFormed.{is_well_formed, is_well_formed_type, is_cast_type, are_well_formed, is_positive}
@@ -180,74 +180,72 @@ width_told w p h r q = cast_told (wrapped (not (is_bare (expr_text w).text)) (ex
 mutual
   unfolding expr_text expr_tokens key_text
 
-  -- The text of a plain, well-formed expression without edges that is printed without a refusal reads as its tokens.
-  pub expr_reads : (e : ExprTree) → is_plain e ≡ true → is_edgeless e ≡ true → is_well_formed e ≡ true → Told e
-  expr_reads (NameTree n type) p l w = name_told n type p
-  expr_reads (LiteralTree t v) p l w = literal_told t v w
-  expr_reads (StringTree t) p l w = string_told t w
-  expr_reads (UnaryTree o e) p l w = unary_told o e p w (expr_reads e p l w)
-  expr_reads (BinaryTree o a b) p l w =
-      binary_told o a b (expr_reads a (and_left _ _ p) (and_left _ _ l) (and_left _ _ w)) (expr_reads b (and_right (is_plain a) (is_plain b) p) (and_right (is_edgeless a) (is_edgeless b) l) (and_right (is_well_formed a) (is_well_formed b) w))
-  expr_reads (TernaryTree c a b) p l w =
+  -- The text of a plain, well-formed expression that is printed without a refusal reads as its tokens.
+  pub expr_reads : (e : ExprTree) → is_plain e ≡ true → is_well_formed e ≡ true → Told e
+  expr_reads (NameTree n type) p w = name_told n type p
+  expr_reads (LiteralTree t v) p w = literal_told t v w
+  expr_reads (StringTree t) p w = string_told t w
+  expr_reads (UnaryTree o e) p w = unary_told o e p w (expr_reads e p w)
+  expr_reads (BinaryTree o a b) p w =
+      binary_told o a b (expr_reads a (and_left _ _ p) (and_left _ _ w)) (expr_reads b (and_right (is_plain a) (is_plain b) p) (and_right (is_well_formed a) (is_well_formed b) w))
+  expr_reads (TernaryTree c a b) p w =
       let p1 = and_right (is_plain c) (is_plain a && is_plain b) p in
-      let l1 = and_right (is_edgeless c) (is_edgeless a && is_edgeless b) l in
       let w1 = and_right (is_well_formed c) (is_well_formed a && is_well_formed b) w in
-      ternary_told c a b (expr_reads c (and_left _ _ p) (and_left _ _ l) (and_left _ _ w)) (expr_reads a (and_left _ _ p1) (and_left _ _ l1) (and_left _ _ w1))
-      (expr_reads b (and_right (is_plain a) (is_plain b) p1) (and_right (is_edgeless a) (is_edgeless b) l1) (and_right (is_well_formed a) (is_well_formed b) w1))
-  expr_reads (IndexTree s i) p l w =
-      index_told s i (expr_reads s (and_left _ _ p) (and_left _ _ l) (and_left _ _ w)) (expr_reads i (and_right (is_plain s) (is_plain i) p) (and_right (is_edgeless s) (is_edgeless i) l) (and_right (is_well_formed s) (is_well_formed i) w))
-  expr_reads (SliceTree s a b) p l w =
+      ternary_told c a b (expr_reads c (and_left _ _ p) (and_left _ _ w)) (expr_reads a (and_left _ _ p1) (and_left _ _ w1))
+      (expr_reads b (and_right (is_plain a) (is_plain b) p1) (and_right (is_well_formed a) (is_well_formed b) w1))
+  expr_reads (IndexTree s i) p w =
+      index_told s i (expr_reads s (and_left _ _ p) (and_left _ _ w)) (expr_reads i (and_right (is_plain s) (is_plain i) p) (and_right (is_well_formed s) (is_well_formed i) w))
+  expr_reads (SliceTree s a b) p w =
       let p1 = and_right (is_plain s) (is_plain a && is_plain b) p in
-      let l1 = and_right (is_edgeless s) (is_edgeless a && is_edgeless b) l in
       let w1 = and_right (is_well_formed s) (is_well_formed a && is_well_formed b) w in
       let pb = and_right (is_plain a) (is_plain b) p1 in
       let wb = and_right (is_well_formed a) (is_well_formed b) w1 in
-      slice_told s a b pb wb (expr_reads s (and_left _ _ p) (and_left _ _ l) (and_left _ _ w)) (expr_reads a (and_left _ _ p1) (and_left _ _ l1) (and_left _ _ w1)) (expr_reads b pb (and_right (is_edgeless a) (is_edgeless b) l1) wb)
-  expr_reads (PartSelectTree s i n) p l w =
+      slice_told s a b pb wb (expr_reads s (and_left _ _ p) (and_left _ _ w)) (expr_reads a (and_left _ _ p1) (and_left _ _ w1)) (expr_reads b pb wb)
+  expr_reads (PartSelectTree s i n) p w =
       let w1 = and_right (is_well_formed s) (is_well_formed i && is_positive n) w in
-      part_told s i n (and_right (is_well_formed i) (is_positive n) w1) (expr_reads s (and_left _ _ p) (and_left _ _ l) (and_left _ _ w)) (expr_reads i (and_right (is_plain s) (is_plain i) p) (and_right (is_edgeless s) (is_edgeless i) l) (and_left _ _ w1))
-  expr_reads (ConcatTree NoExpr es) p l w = concat_told es (list_reads es p l w)
-  expr_reads (ConcatTree (SomeExpr n) es) p l w =
-      replicated_told n es (expr_reads n (and_left _ _ p) (and_left _ _ l) (and_left _ _ w)) (list_reads es (and_right (is_plain n) (are_plain es) p) (and_right (is_edgeless n) (are_edgeless es) l) (and_right (is_well_formed n) (are_well_formed es) w))
-  expr_reads (PatternTree es) p l w = pattern_told es (list_reads es p l w)
-  expr_reads (WidthCastTree h e) p l w =
-      width_told h (expr_text e) (and_left _ _ w) (expr_reads h (and_left _ _ p) (and_left _ _ l) (and_left _ _ w)) (expr_reads e (and_right (is_plain h) (is_plain e) p) (and_right (is_edgeless h) (is_edgeless e) l) (and_right (is_well_formed h) (is_well_formed e) w))
-  expr_reads (TypeCastTree t e) p l w =
+      part_told s i n (and_right (is_well_formed i) (is_positive n) w1) (expr_reads s (and_left _ _ p) (and_left _ _ w)) (expr_reads i (and_right (is_plain s) (is_plain i) p) (and_left _ _ w1))
+  expr_reads (ConcatTree NoExpr es) p w = concat_told es (list_reads es p w)
+  expr_reads (ConcatTree (SomeExpr n) es) p w =
+      replicated_told n es (expr_reads n (and_left _ _ p) (and_left _ _ w)) (list_reads es (and_right (is_plain n) (are_plain es) p) (and_right (is_well_formed n) (are_well_formed es) w))
+  expr_reads (PatternTree es) p w = pattern_told es (list_reads es p w)
+  expr_reads (WidthCastTree h e) p w =
+      width_told h (expr_text e) (and_left _ _ w) (expr_reads h (and_left _ _ p) (and_left _ _ w)) (expr_reads e (and_right (is_plain h) (is_plain e) p) (and_right (is_well_formed h) (is_well_formed e) w))
+  expr_reads (TypeCastTree t e) p w =
       let w1 = and_right (is_cast_type t) (is_well_formed_type t && is_well_formed e) w in
-      type_reads t (expr_text e) (and_left _ _ p) (and_left _ _ l) (and_left _ _ w) (and_left _ _ w1)
-      (expr_reads e (and_right (is_plain_type t) (is_plain e) p) (and_right (is_edgeless_type t) (is_edgeless e) l) (and_right (is_well_formed_type t) (is_well_formed e) w1))
-  expr_reads (PosEdgeTree e) p l w = absurd (cc l)
-  expr_reads (NegEdgeTree e) p l w = absurd (cc l)
-  expr_reads (MacroTree m NoArguments) p l w = macro_told m p
-  expr_reads (MacroTree m (SomeArguments es)) p l w = macro_call_told m es (and_left _ _ p) (list_reads es (and_right (is_plain_name m) (are_plain es) p) l w)
-  expr_reads (CallTree n es) p l w = call_told n es (and_left _ _ p) (list_reads es (and_right (is_called_name n) (are_plain es) p) l w)
-  expr_reads MissingExpr p l w = absurd (cc w)
+      type_reads t (expr_text e) (and_left _ _ p) (and_left _ _ w) (and_left _ _ w1)
+      (expr_reads e (and_right (is_plain_type t) (is_plain e) p) (and_right (is_well_formed_type t) (is_well_formed e) w1))
+  expr_reads (PosEdgeTree e) p w = absurd (cc p)
+  expr_reads (NegEdgeTree e) p w = absurd (cc p)
+  expr_reads (MacroTree m NoArguments) p w = macro_told m p
+  expr_reads (MacroTree m (SomeArguments es)) p w = macro_call_told m es (and_left _ _ p) (list_reads es (and_right (is_plain_name m) (are_plain es) p) w)
+  expr_reads (CallTree n es) p w = call_told n es (and_left _ _ p) (list_reads es (and_right (is_called_name n) (are_plain es) p) w)
+  expr_reads MissingExpr p w = absurd (cc w)
 
-  type_reads : (t : TypeTree) (q : Printed) {ts : List Token} → is_plain_type t ≡ true → is_edgeless_type t ≡ true → is_cast_type t ≡ true → is_well_formed_type t ≡ true → ReadsAs q ts → ReadsAs (type_cast t q) (cast_tokens t ts)
-  type_reads (ScalarTree signed) q p l c w r = scalar_cast_told signed q r
-  type_reads (VectorTree h v signed) q p l c w r = sign_told signed _ (width_told h q w (expr_reads h p l w) r)
-  type_reads (IntegerTree signed) q p l c w r = number_cast_told IntegerKey (codes "integer") signed q refl r
-  type_reads (IntTree signed) q p l c w r = number_cast_told IntKey (codes "int") signed q refl r
-  type_reads (ExternalTree n) q p l c w r = name_cast_told n q p r
-  type_reads (PackageTree s n) q p l c w r = package_cast_told s n q (and_left _ _ p) (and_right (is_plain_name s) (is_plain_name n) p) r
-  type_reads (PackedTree t ds) q p l c w r = absurd (cc c)
-  type_reads (UnpackedTree t ds) q p l c w r = absurd (cc c)
-  type_reads MissingType q p l c w r = absurd (cc c)
+  type_reads : (t : TypeTree) (q : Printed) {ts : List Token} → is_plain_type t ≡ true → is_cast_type t ≡ true → is_well_formed_type t ≡ true → ReadsAs q ts → ReadsAs (type_cast t q) (cast_tokens t ts)
+  type_reads (ScalarTree signed) q p c w r = scalar_cast_told signed q r
+  type_reads (VectorTree h v signed) q p c w r = sign_told signed _ (width_told h q w (expr_reads h p w) r)
+  type_reads (IntegerTree signed) q p c w r = number_cast_told IntegerKey (codes "integer") signed q refl r
+  type_reads (IntTree signed) q p c w r = number_cast_told IntKey (codes "int") signed q refl r
+  type_reads (ExternalTree n) q p c w r = name_cast_told n q p r
+  type_reads (PackageTree s n) q p c w r = package_cast_told s n q (and_left _ _ p) (and_right (is_plain_name s) (is_plain_name n) p) r
+  type_reads (PackedTree t ds) q p c w r = absurd (cc c)
+  type_reads (UnpackedTree t ds) q p c w r = absurd (cc c)
+  type_reads MissingType q p c w r = absurd (cc c)
 
-  list_reads : (es : Exprs) → are_plain es ≡ true → are_edgeless es ≡ true → are_well_formed es ≡ true → ListTold es
-  list_reads NoExprs p l w = list_none
-  list_reads (MoreExprs e es) p l w =
-      list_told e es (expr_reads e (and_left _ _ p) (and_left _ _ l) (and_left _ _ w)) (more_reads es (and_right (is_plain e) (are_plain es) p) (and_right (is_edgeless e) (are_edgeless es) l) (and_right (is_well_formed e) (are_well_formed es) w))
+  list_reads : (es : Exprs) → are_plain es ≡ true → are_well_formed es ≡ true → ListTold es
+  list_reads NoExprs p w = list_none
+  list_reads (MoreExprs e es) p w =
+      list_told e es (expr_reads e (and_left _ _ p) (and_left _ _ w)) (more_reads es (and_right (is_plain e) (are_plain es) p) (and_right (is_well_formed e) (are_well_formed es) w))
 
-  more_reads : (es : Exprs) → are_plain es ≡ true → are_edgeless es ≡ true → are_well_formed es ≡ true → MoreTold es
-  more_reads NoExprs p l w = no_more
-  more_reads (MoreExprs e es) p l w =
-      more_told e es (expr_reads e (and_left _ _ p) (and_left _ _ l) (and_left _ _ w)) (more_reads es (and_right (is_plain e) (are_plain es) p) (and_right (is_edgeless e) (are_edgeless es) l) (and_right (is_well_formed e) (are_well_formed es) w))
+  more_reads : (es : Exprs) → are_plain es ≡ true → are_well_formed es ≡ true → MoreTold es
+  more_reads NoExprs p w = no_more
+  more_reads (MoreExprs e es) p w =
+      more_told e es (expr_reads e (and_left _ _ p) (and_left _ _ w)) (more_reads es (and_right (is_plain e) (are_plain es) p) (and_right (is_well_formed e) (are_well_formed es) w))
 
 tokens_of : (a : List ℕ) (ts : List Token) → Reads a ts → tokens a ≡ Some ts
 unfolding tokens Scan.scan
 tokens_of a ts r = rw append-nil at (r.at [] refl) ∙ add_tokens-nil ts
 
 -- The grammar derives the normal expression from the printed text.
-pub expr_derived : (e : ExprTree) → is_plain e ≡ true → is_edgeless e ≡ true → is_well_formed e ≡ true → (expr_text e).fault ≡ None → DerivesExpression (expr_text e).text (normal e)
-expr_derived e p l w f = record { parts = expr_tokens e; lexed = scan_lexes _ _ (tokens_of _ _ (expr_reads e p l w f)); spelled = low e (spelled e l w) }
+pub expr_derived : (e : ExprTree) → is_plain e ≡ true → is_well_formed e ≡ true → (expr_text e).fault ≡ None → DerivesExpression (expr_text e).text (normal e)
+expr_derived e p w f = record { parts = expr_tokens e; lexed = scan_lexes _ _ (tokens_of _ _ (expr_reads e p w f)); spelled = low e (spelled e p w) }

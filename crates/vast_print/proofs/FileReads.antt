@@ -3,8 +3,8 @@ use Rattle.std.proofs.Common.{◌≡◌, ℕ, List, [], ◌∷◌, ◌++◌, map
 use Rattle.vast_literal.specs.Tokens.{Token, key_text, Reserved, InputKey, ParameterKey, Mark, OpenParen, CloseParen, Semicolon, Assign, Hash, Word}
 use Rattle.vast_literal.specs.declared.kind.VastFileType.{VastFileType as Dialect}
 use Rattle.vast_literal.specs.Scan.{scan}
-use Rattle.vast_literal.specs.Plain.{is_plain_name}
-use Rattle.vast_literal.specs.PlainFile.{is_plain_value, is_plain_declared}
+use Rattle.vast_literal.specs.Plain.{is_plain_name, is_plain}
+use Rattle.vast_literal.specs.PlainFile.{is_plain_declared}
 use Rattle.vast_literal.specs.WellFormed.{is_well_formed, is_well_formed_type}
 use Rattle.vast_literal.proofs.ExprTokens.{expr_tokens}
 use Rattle.vast_literal.proofs.FileTokens.{port_declaration_tokens, separated}
@@ -102,10 +102,10 @@ header_parameters_told : (dialect : Dialect) (ps : List ParameterPortTree) → a
 unfolding each_parameter
 header_parameters_told dialect [] h w fine_none = all_none
 header_parameters_told dialect (p ∷ ps) h w (fine_more f fs) = let (x, y) = header_parameter_fine dialect p f in
-    let h0 = and_left (is_plain_typed p.type p.name && is_plain_value p.value) (are_plain_parameters ps) h in
+    let h0 = and_left (is_plain_typed p.type p.name && is_plain p.value) (are_plain_parameters ps) h in
     let w0 = and_left (is_well_formed_typed p.type && is_well_formed p.value) (are_well_formed_parameters ps) w in
-    all_more (header_parameter_shape dialect p (typed_told dialect p.type p.name (and_left _ _ h0) (and_left _ _ w0) x) (value_reads p.value (and_right (is_plain_typed p.type p.name) (is_plain_value p.value) h0) (and_right (is_well_formed_typed p.type) (is_well_formed p.value) w0) y))
-    (header_parameters_told dialect ps (and_right (is_plain_typed p.type p.name && is_plain_value p.value) (are_plain_parameters ps) h) (and_right (is_well_formed_typed p.type && is_well_formed p.value) (are_well_formed_parameters ps) w) fs)
+    all_more (header_parameter_shape dialect p (typed_told dialect p.type p.name (and_left _ _ h0) (and_left _ _ w0) x) (value_reads p.value (and_right (is_plain_typed p.type p.name) (is_plain p.value) h0) (and_right (is_well_formed_typed p.type) (is_well_formed p.value) w0) y))
+    (header_parameters_told dialect ps (and_right (is_plain_typed p.type p.name && is_plain p.value) (are_plain_parameters ps) h) (and_right (is_well_formed_typed p.type && is_well_formed p.value) (are_well_formed_parameters ps) w) fs)
 
 header_parameters_whole : (dialect : Dialect) (ps : List ParameterPortTree) → are_plain_parameters ps ≡ true → are_well_formed_parameters ps ≡ true → (parameter_ports_page dialect ps).fault ≡ None → Whole (parameter_ports_page dialect ps) (separated (each_parameter dialect ps))
 unfolding parameter_ports_page

@@ -7,8 +7,8 @@ use Rattle.vast_literal.specs.Tree.{ParameterName, PlainParameter, IntParameter,
 use Rattle.vast_literal.specs.declared.kind.AlwaysKind.{AlwaysKind as AlwaysWord}
 use Rattle.vast_literal.specs.Tree.{AssignTree, ConditionalTree, Statements}
 use Rattle.vast_literal.specs.declared.kind.AssignmentForm.TheVariants.{Continuous}
-use Rattle.vast_literal.specs.Plain.{is_plain_name}
-use Rattle.vast_literal.specs.PlainFile.{is_plain_value, are_plain_statements, are_plain_awaited, is_plain_parameter_name, is_plain_label}
+use Rattle.vast_literal.specs.Plain.{is_plain_name, is_plain}
+use Rattle.vast_literal.specs.PlainFile.{are_plain_statements, are_plain_awaited, is_plain_parameter_name, is_plain_label}
 use Rattle.vast_literal.specs.WellFormed.{is_well_formed, is_well_formed_type}
 use Rattle.vast_literal.specs.WellFormedFile.{are_well_formed_statements, are_well_formed_events, is_well_formed_parameter_name}
 use Rattle.vast_literal.proofs.ExprTokens.{expr_tokens}
@@ -178,7 +178,7 @@ mutual
   member_whole dialect (DeclarationMember d) p w f = declaration_told dialect d (declared_told dialect d p (and_right (is_own_kind d.kind) (is_well_formed_type d.type) w) (declaration_fine dialect d f))
   member_whole dialect (AssignMember l r) p w f = assign_same l r (assignment_open Continuous l r p w (assign_fault dialect l r f)) dialect
   member_whole dialect (ParameterMember local n v) p w f = let (x, y) = parameter_fine dialect local n v f in
-      parameter_told dialect local n v (parameter_name_told dialect n (and_left _ _ p) (and_left _ _ w) x) (value_reads v (and_right (is_plain_parameter_name n) (is_plain_value v) p) (and_right (is_well_formed_parameter_name n) (is_well_formed v) w) y)
+      parameter_told dialect local n v (parameter_name_told dialect n (and_left _ _ p) (and_left _ _ w) x) (value_reads v (and_right (is_plain_parameter_name n) (is_plain v) p) (and_right (is_well_formed_parameter_name n) (is_well_formed v) w) y)
   member_whole dialect (CommentMember text) p w f = comment_told dialect text
   member_whole dialect BlankMember p w f = blank_told dialect
   member_whole dialect (InlineMember text) p w f = absurd (cc p)
@@ -191,13 +191,13 @@ mutual
   member_whole dialect (LoopMember i s e l ms) p w f =
       let (x, y) = loop_fault dialect i s e l ms f in
       let (u, v) = loop_fine i s e l x in
-      let p0 = and_left (is_plain_name i && is_plain_label l) ((is_plain_value s && is_plain_value e) && are_plain_members ms) p in
-      let p1 = and_right (is_plain_name i && is_plain_label l) ((is_plain_value s && is_plain_value e) && are_plain_members ms) p in
-      let p2 = and_left (is_plain_value s && is_plain_value e) (are_plain_members ms) p1 in
+      let p0 = and_left (is_plain_name i && is_plain_label l) ((is_plain s && is_plain e) && are_plain_members ms) p in
+      let p1 = and_right (is_plain_name i && is_plain_label l) ((is_plain s && is_plain e) && are_plain_members ms) p in
+      let p2 = and_left (is_plain s && is_plain e) (are_plain_members ms) p1 in
       let w2 = and_left (is_well_formed s && is_well_formed e) (are_well_formed_members ms) w in
       loop_same dialect i s e l ms (loop_shape dialect i s e l ms
-      (loop_told i s e l (and_left _ _ p0) (and_right (is_plain_name i) (is_plain_label l) p0) (value_reads s (and_left _ _ p2) (and_left _ _ w2) u) (value_reads e (and_right (is_plain_value s) (is_plain_value e) p2) (and_right (is_well_formed s) (is_well_formed e) w2) v))
-      (members_whole dialect ms (and_right (is_plain_value s && is_plain_value e) (are_plain_members ms) p1) (and_right (is_well_formed s && is_well_formed e) (are_well_formed_members ms) w) y))
+      (loop_told i s e l (and_left _ _ p0) (and_right (is_plain_name i) (is_plain_label l) p0) (value_reads s (and_left _ _ p2) (and_left _ _ w2) u) (value_reads e (and_right (is_plain s) (is_plain e) p2) (and_right (is_well_formed s) (is_well_formed e) w2) v))
+      (members_whole dialect ms (and_right (is_plain s && is_plain e) (are_plain_members ms) p1) (and_right (is_well_formed s && is_well_formed e) (are_well_formed_members ms) w) y))
 
   pub members_whole : (dialect : Dialect) (ms : Members) → are_plain_members ms ≡ true → are_well_formed_members ms ≡ true → (members_page dialect ms).fault ≡ None → Whole (members_page dialect ms) (members_tokens dialect ms)
   members_whole dialect NoMembers p w f = no_members_told dialect

@@ -7,8 +7,8 @@ use Rattle.vast_literal.specs.declared.kind.AssignmentForm.{AssignmentForm as As
 use Rattle.vast_literal.specs.declared.kind.AssignmentForm.TheVariants.{Blocking, Nonblocking, Continuous}
 use Rattle.vast_literal.specs.declared.kind.CaseKind.{CaseKind as CaseWord}
 use Rattle.vast_literal.specs.declared.kind.CaseKind.TheVariants.{Case as CaseExact, CaseZ, CaseX}
-use Rattle.vast_literal.specs.Plain.{is_plain, is_edgeless}
-use Rattle.vast_literal.specs.PlainFile.{is_plain_value, is_plain_maybe, is_left_side, is_plain_assignment, is_plain_statement, are_plain_statements, are_plain_alternates, are_plain_arms}
+use Rattle.vast_literal.specs.Plain.{is_plain}
+use Rattle.vast_literal.specs.PlainFile.{is_plain_maybe, is_left_side, is_plain_assignment, is_plain_statement, are_plain_statements, are_plain_alternates, are_plain_arms}
 use Rattle.vast_literal.specs.WellFormed.{is_well_formed}
 use Rattle.vast_literal.specs.WellFormedFile.{is_well_formed_maybe, is_well_formed_statement, are_well_formed_statements, are_well_formed_alternates, are_well_formed_arms}
 use Rattle.vast_literal.proofs.ExprTokens.{expr_tokens}
@@ -28,8 +28,8 @@ use Rattle.vast_print.proofs.ExprReads.{expr_reads}
 use Rattle.vast_print.proofs.Shapes.{closed_left}
 use Rattle.vast_print.proofs.PageReads.{above_fine, beside_fine, inner_fine, written_fine, Whole, Open, Follows, whole_above, whole_inner, whole_none, whole, open_line, open_written, open_free, open_follows, follows_none, follows_written, follows_line, same_whole, same_open, whole_blank, whole_comment, equals, semicolon, label_colon, key_space, key_open, else_divides, else_if_divides, condition_free, condition_divides, open_empty, open_block}
 
-pub value_reads : (e : ExprTree) → is_plain_value e ≡ true → is_well_formed e ≡ true → (expr_text e).fault ≡ None → Reads (expr_text e).text (expr_tokens e)
-value_reads e p w f = expr_reads e (and_left (is_plain e) (is_edgeless e) p) (and_right (is_plain e) (is_edgeless e) p) w f
+pub value_reads : (e : ExprTree) → is_plain e ≡ true → is_well_formed e ≡ true → (expr_text e).fault ≡ None → Reads (expr_text e).text (expr_tokens e)
+value_reads e p w f = expr_reads e p w f
 
 -- assignments
 
@@ -57,8 +57,8 @@ unfolding statement_page statement_tokens
 assignment_open form l r p w f =
     let (x, y) = assign_fine form (expr_text l) (expr_text r) (written_fine _ f) in
     open_written (assign_text form (expr_text l) (expr_text r)) (assign_reads form (expr_text l) (expr_text r)
-    (value_reads l (and_right (is_left_side l) (is_plain_value l) (and_left _ _ p)) (and_left _ _ w) x)
-    (value_reads r (and_right (is_left_side l && is_plain_value l) (is_plain_value r) p) (and_right (is_well_formed l) (is_well_formed r) w) y))
+    (value_reads l (and_right (is_left_side l) (is_plain l) (and_left _ _ p)) (and_left _ _ w) x)
+    (value_reads r (and_right (is_left_side l && is_plain l) (is_plain r) p) (and_right (is_well_formed l) (is_well_formed r) w) y))
 
 -- blocks
 
@@ -245,12 +245,12 @@ mutual
   statement_whole BlankTree p w f = blank_told
   statement_whole (InlineTree text) p w f = absurd (cc p)
   statement_whole (ConditionalTree c b rest) p w f = let (x, y, z) = conditional_fine c b rest f in
-      let p1 = and_right (is_plain_value c) (are_plain_statements b && are_plain_alternates rest) p in
+      let p1 = and_right (is_plain c) (are_plain_statements b && are_plain_alternates rest) p in
       let w1 = and_right (is_well_formed c) (are_well_formed_statements b && are_well_formed_alternates rest) w in
       whole (conditional_told c b rest (value_reads c (and_left _ _ p) (and_left _ _ w) x) (block_open b (statements_whole b (and_left _ _ p1) (and_left _ _ w1) y))
       (alternates_follow rest (and_right (are_plain_statements b) (are_plain_alternates rest) p1) (and_right (are_well_formed_statements b) (are_well_formed_alternates rest) w1) z))
   statement_whole (CaseTree u word e arms) p w f = let (x, y) = case_fine u word e arms f in
-      case_told u word e arms (value_reads e (and_left _ _ p) (and_left _ _ w) x) (arms_whole word arms (and_right (is_plain_value e) (are_plain_arms arms) p) (and_right (is_well_formed e) (are_well_formed_arms arms) w) y)
+      case_told u word e arms (value_reads e (and_left _ _ p) (and_left _ _ w) x) (arms_whole word arms (and_right (is_plain e) (are_plain_arms arms) p) (and_right (is_well_formed e) (are_well_formed_arms arms) w) y)
 
   pub statements_whole : (ss : Statements) → are_plain_statements ss ≡ true → are_well_formed_statements ss ≡ true → (statements_page ss).fault ≡ None → Whole (statements_page ss) (statements_tokens ss)
   statements_whole NoStatements p w f = statements_whole_none
@@ -261,7 +261,7 @@ mutual
   alternates_follow NoElse p w f = no_else
   alternates_follow (Else b) p w f = else_told b (block_open b (statements_whole b p w (else_fine b f)))
   alternates_follow (ElseIf c b rest) p w f = let (x, y, z) = else_if_fine c b rest f in
-      let p1 = and_right (is_plain_value c) (are_plain_statements b && are_plain_alternates rest) p in
+      let p1 = and_right (is_plain c) (are_plain_statements b && are_plain_alternates rest) p in
       let w1 = and_right (is_well_formed c) (are_well_formed_statements b && are_well_formed_alternates rest) w in
       else_if_told c b rest (value_reads c (and_left _ _ p) (and_left _ _ w) x) (block_open b (statements_whole b (and_left _ _ p1) (and_left _ _ w1) y))
       (alternates_follow rest (and_right (are_plain_statements b) (are_plain_alternates rest) p1) (and_right (are_well_formed_statements b) (are_well_formed_alternates rest) w1) z)

@@ -1,7 +1,7 @@
 -- What the grammar says of printed texts: each plain tree's text derives its normal form, and no other.
 use Rattle.std.specs.Prelude.{◌≡◌, ℕ, List, true, None}
 use Rattle.vast_literal.specs.Tree.{ExprTree, FileTree}
-use Rattle.vast_literal.specs.Plain.{is_plain, is_edgeless}
+use Rattle.vast_literal.specs.Plain.{is_plain}
 use Rattle.vast_literal.specs.PlainFile.{is_plain_file}
 use Rattle.vast_literal.specs.WellFormed.{is_well_formed}
 use Rattle.vast_literal.specs.WellFormedFile.{is_well_formed_file}
@@ -19,14 +19,13 @@ pub record DerivesOnly (text : List ℕ) (e : ExprTree) : Type 0 where
   pub derived : DerivesExpression text (normal e)
   pub no_other : (t : NormalExpr) → DerivesExpression text t → t ≡ normal e
 
--- That, where the names that the expression prints are plain and it has no edges.
+-- That, where the expression is plain.
 abbrev pub DerivesIfPlain : List ℕ → ExprTree → Type 0
-DerivesIfPlain text e = is_plain e ≡ true → is_edgeless e ≡ true → DerivesOnly text e
+DerivesIfPlain text e = is_plain e ≡ true → DerivesOnly text e
 
--- Nothing refuses the expression, its printed names are plain, it has no edges, and its literals and strings are tokens.
+-- Nothing refuses the expression, it is plain, and its literals and strings are tokens.
 pub record PrintsPlainly (e : ExprTree) : Type 0 where
   pub plain : is_plain e ≡ true
-  pub edgeless : is_edgeless e ≡ true
   pub well_formed : is_well_formed e ≡ true
   pub printed : (expr_text e).fault ≡ None
 

@@ -4,14 +4,9 @@ use Rattle.std.specs.declared.alloc.AllocError.{AllocError}
 use Rattle.vast_literal.specs.Tree.{ExprTree, NameTree, LiteralTree, StringTree, UnaryTree, BinaryTree, TernaryTree, IndexTree, SliceTree, PartSelectTree, ConcatTree, PatternTree, WidthCastTree, TypeCastTree, PosEdgeTree, NegEdgeTree, MacroTree, CallTree, MissingExpr}
 use Rattle.vast_literal.specs.Tree.{TypeTree, ScalarTree, VectorTree, IntegerTree, IntTree, ExternalTree, PackageTree, PackedTree, UnpackedTree, MissingType}
 use Rattle.vast_literal.specs.Tree.{MaybeExpr, NoExpr, SomeExpr, Exprs, NoExprs, MoreExprs, MaybeExprs, NoArguments, SomeArguments}
-use Rattle.vast_literal.specs.Plain.{are_plain, are_edgeless}
-use Rattle.vast_literal.specs.PlainFile.{is_plain_value}
+use Rattle.vast_literal.specs.Plain.{is_plain, are_plain}
 use Rattle.vast_core.specs.declared.handle.Expr.{Expr}
 use Rattle.vast_core.specs.Bench.{Bench, OwnsExpr, trees_of}
-
--- Plain expressions without edges.
-abbrev pub are_plain_values : Exprs → Bool
-are_plain_values values = are_plain values && are_edgeless values
 
 -- The answer is this one, or memory was refused.
 abbrev pub Answers : Bool → Result Bool AllocError → Type 0
@@ -67,11 +62,11 @@ abbrev mutual
 -- is; what waits more is lighter, and the file's.
 abbrev pub Begins : Bench → (before after : List Expr) → (plain : Bool) → (weight : ℕ) → Result Bool AllocError → Type 0
 Begins b before after plain weight (Ok going) =
-    ((going && are_plain_values (trees_of b after)) ≡ (plain && are_plain_values (trees_of b before)))
+    ((going && are_plain (trees_of b after)) ≡ (plain && are_plain (trees_of b before)))
     × (exprs_weight (trees_of b after) < exprs_weight (trees_of b before) + weight)
     × All (OwnsExpr b) after
 Begins b before after plain weight (Err error) = Unit {0}
 
 -- An expression was looked at.
 abbrev pub BeginsExpr : Bench → (before after : List Expr) → ExprTree → Result Bool AllocError → Type 0
-BeginsExpr b before after e result = Begins b before after (is_plain_value e) (expr_weight e) result
+BeginsExpr b before after e result = Begins b before after (is_plain e) (expr_weight e) result

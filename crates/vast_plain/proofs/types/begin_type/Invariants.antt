@@ -1,5 +1,5 @@
 use Rattle.std.proofs.Common.{◌≡◌}
-use Rattle.vast_literal.specs.Plain.{is_plain_type, is_edgeless_type}
+use Rattle.vast_literal.specs.Plain.{is_plain_type}
 use Rattle.vast_core.specs.Handles.{type_rank}
 use Rattle.vast_core.specs.Bench.{OwnsType, type_of}
 use Rattle.vast_core.specs.View.{bench}
@@ -12,7 +12,6 @@ invariant-loop-element l =
       same : l.waiting.items ≡ l.fn.waiting.items;
       owned : OwnsType (bench l.ast) l.inner;
       plain : is_plain_type (type_of (bench l.ast) l.inner) ≡ is_plain_type (type_of (bench l.ast) l.fn.t);
-      edgeless : is_edgeless_type (type_of (bench l.ast) l.inner) ≡ is_edgeless_type (type_of (bench l.ast) l.fn.t);
       weight : type_weight (type_of (bench l.ast) l.inner) ≡ type_weight (type_of (bench l.ast) l.fn.t);
     }
 
