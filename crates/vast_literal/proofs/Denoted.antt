@@ -13,7 +13,7 @@ use Rattle.std.proofs.Common.{MatchResult, IfOk}
 use Rattle.vast_literal.specs.declared.error.VastFault.{VastFault}
 use Rattle.vast_literal.specs.Fault.{OnlyRefusedBy}
 use Rattle.vast_literal.specs.Digits.{is_numeral, number_in, weighted}
-use Rattle.vast_literal.specs.Literal.{Bits, split_at, typed_parts, without_sign, has_minus, marked_radix, radix_or_ten, digits_or_all, radix_and_digits, is_decimal, width_of, fits_in, modulo_width, magnitude_of, fitted, value_of_magnitude, value_of, bits_of_value, bits_of_width, bits_of_parts, literal_of}
+use Rattle.vast_literal.specs.Literal.{Bits, split_at, typed_parts, without_sign, has_minus, marked_radix, radix_or_ten, digits_or_all, radix_and_digits, is_decimal, width_of, fits_in, modulo_width, magnitude_of, fitted, value_of, bits_of_parts, literal_of, and_then}
 use Rattle.vast_literal.specs.Denotes.{IsSign, IsRadixMark, IsModulo, Denotes}
 use Rattle.vast_literal.specs.Denotes.IsSign.{NoSign, PlusSign, MinusSign}
 use Rattle.vast_literal.specs.Denotes.IsRadixMark.{NoMark, LowerHexMark, UpperHexMark, LowerBinaryMark, UpperBinaryMark, LowerOctalMark, UpperOctalMark}
@@ -132,19 +132,16 @@ fitted_facts text n negative m v h =
     (f, subst (IsModulo n negative m) e (is_modulo n negative m f), subst (λ k. k < 2 ^ 128) e (ltb-true _ (2 ^ 128) b.0))
 
 -- each step of the reading, where it answers
-value_facts : (text : List ℕ) (n : ℕ) (negative : Bool) (r : Result ℕ (List ℕ)) (v : ℕ) → value_of_magnitude text n negative r ≡ Ok v → (m : ℕ) × (r ≡ Ok m) × (fitted text n negative m ≡ Ok v)
-value_facts text n negative (Ok m) v h = (m, refl, h)
-value_facts text n negative (Err t) v h = cc
+followed : {A B : Type 0} (r : Result A (List ℕ)) (next : A → Result B (List ℕ)) (y : B) → and_then r next ≡ Ok y → (x : A) × (r ≡ Ok x) × (next x ≡ Ok y)
+followed (Ok x) next y h = (x, refl, h)
+followed (Err t) next y h = cc
 
-bits_value : (n : ℕ) (r : Result ℕ (List ℕ)) (bits : Bits) → bits_of_value n r ≡ Ok bits → (v : ℕ) × (r ≡ Ok v) × (bits ≡ record { width = n; value = v })
-bits_value n (Ok v) bits h = (v, refl, sym (ok_parts _ _ _ refl h))
-bits_value n (Err t) bits h = cc
+-- the literal of a width and of the text of a value
+of_width : (text value : List ℕ) (n : ℕ) → Result Bits (List ℕ)
+of_width text value n = and_then (value_of text value n) (λ v. Ok (record { width = n; value = v }))
 
-bits_width : (text value : List ℕ) (r : Result ℕ (List ℕ)) (bits : Bits) → bits_of_width text value r ≡ Ok bits → (n : ℕ) × (r ≡ Ok n) × (bits_of_value n (value_of text value n) ≡ Ok bits)
-bits_width text value (Ok n) bits h = (n, refl, h)
-bits_width text value (Err t) bits h = cc
-
-bits_parts : (text : List ℕ) (r : Option (List ℕ × List ℕ)) (bits : Bits) → bits_of_parts text r ≡ Ok bits → (parts : List ℕ × List ℕ) × (r ≡ Some parts) × (bits_of_width text parts.1 (width_of text parts.0) ≡ Ok bits)
+bits_parts : (text : List ℕ) (r : Option (List ℕ × List ℕ)) (bits : Bits) → bits_of_parts text r ≡ Ok bits → (parts : List ℕ × List ℕ) × (r ≡ Some parts) × (and_then (width_of text parts.0) (of_width text parts.1) ≡ Ok bits)
+unfolding of_width
 bits_parts text None bits h = cc
 bits_parts text (Some parts) bits h = (parts, refl, h)
 
@@ -153,13 +150,13 @@ whole_text : (text w value sign number mark digits : List ℕ) → text ≡ 98 �
 whole_text text w value sign number mark digits h e f = h ∙ ap (λ t. 98 ∷ 105 ∷ 116 ∷ 115 ∷ 91 ∷ (w ++ (93 ∷ 58 ∷ t))) (e ∙ ap (λ t. sign ++ t) f)
 
 pub denoted : (text : List ℕ) (bits : Bits) → literal_of text ≡ Ok bits → Denotes text bits
-unfolding literal_of value_of
+unfolding literal_of value_of of_width
 denoted text bits h =
     let p = bits_parts text (typed_parts text) bits h in
-    let w = bits_width text p.0.1 (width_of text p.0.0) bits p.2 in
+    let w = followed (width_of text p.0.0) (of_width text p.0.1) bits p.2 in
     let n = w.0 in
-    let b = bits_value n (value_of text p.0.1 n) bits w.2 in
-    let v = value_facts text n (has_minus p.0.1) (magnitude_of text (without_sign p.0.1)) b.0 b.1 in
+    let b = followed (value_of text p.0.1 n) (λ v. Ok (record { width = n; value = v })) bits w.2 in
+    let v = followed (magnitude_of text (without_sign p.0.1)) (fitted text n (has_minus p.0.1)) b.0 b.1 in
     let facts_w = width_facts text p.0.0 n w.1 in
     let facts_m = magnitude_facts text (without_sign p.0.1) v.0 v.1 in
     let facts_v = fitted_facts text n (has_minus p.0.1) v.0 b.0 v.2 in
@@ -186,7 +183,7 @@ denoted text bits h =
       value = rw facts_m.1 facts_v.1;
       small = facts_v.2;
     } in
-    subst (Denotes text) (sym b.2) all
+    subst (Denotes text) (ok_parts _ _ _ refl b.2) all
 
 -- the same of an answer by the checks
 pub denoted_if_ok : (text : List ℕ) (r : Result Bits VastFault) → MatchResult r (λ l. literal_of text ≡ Ok l) (OnlyRefusedBy (literal_of text)) → IfOk r (Denotes text)

@@ -134,29 +134,19 @@ fitted text n negative m =
     ∷ (nat_lt (modulo_width n negative m) (2 ^ 128), large_value_text text) ∷ [])
     (modulo_width n negative m)
 
--- The value of what the digits write, where they are not refused.
-abbrev pub value_of_magnitude : List ℕ → ℕ → Bool → Result ℕ (List ℕ) → Result ℕ (List ℕ)
-value_of_magnitude text n negative (Ok m) = fitted text n negative m
-value_of_magnitude text n negative (Err refusal) = Err refusal
+-- What follows a result, or the refusal that stands in its place.
+abbrev pub and_then : {A B E : Type 0} → Result A E → (A → Result B E) → Result B E
+and_then (Ok x) next = next x
+and_then (Err refusal) next = Err refusal
 
 -- The value of n bits that a text writes, or the refusal of the literal.
 unfoldable pub value_of : List ℕ → List ℕ → ℕ → Result ℕ (List ℕ)
-value_of text value n = value_of_magnitude text n (has_minus value) (magnitude_of text (without_sign value))
-
--- The literal of a value, where it is not refused.
-abbrev pub bits_of_value : ℕ → Result ℕ (List ℕ) → Result Bits (List ℕ)
-bits_of_value n (Ok v) = Ok (record { width = n; value = v })
-bits_of_value n (Err refusal) = Err refusal
-
--- The literal of a width, where it is not refused.
-abbrev pub bits_of_width : List ℕ → List ℕ → Result ℕ (List ℕ) → Result Bits (List ℕ)
-bits_of_width text value (Ok n) = bits_of_value n (value_of text value n)
-bits_of_width text value (Err refusal) = Err refusal
+value_of text value n = and_then (magnitude_of text (without_sign value)) (fitted text n (has_minus value))
 
 -- The literal of the two parts, where the text has them.
 abbrev pub bits_of_parts : List ℕ → Option (List ℕ × List ℕ) → Result Bits (List ℕ)
 bits_of_parts text None = Err (untyped_text text)
-bits_of_parts text (Some parts) = bits_of_width text parts.1 (width_of text parts.0)
+bits_of_parts text (Some parts) = and_then (width_of text parts.0) (λ n. and_then (value_of text parts.1 n) (λ v. Ok (record { width = n; value = v })))
 
 -- The literal of a text, or the refusal of the first check that fails.
 unfoldable pub literal_of : List ℕ → Result Bits (List ℕ)

@@ -16,13 +16,10 @@ within_limit kind most v = if nat_le v most then Ok tt else Err (above_limit_tex
 
 -- Which numbers a format takes: the unsized ones have a limit.
 abbrev pub format_takes : LiteralFormat → ℕ → Result (Unit {0}) (List ℕ)
-format_takes Binary v = Ok tt
-format_takes Hex v = Ok tt
-format_takes SignedDecimal v = Ok tt
-format_takes UnsignedDecimal v = Ok tt
 format_takes UnsizedBinary v = within_limit (codes "binary") 4294967295 v
 format_takes UnsizedDecimal v = within_limit (codes "decimal") 2147483647 v
 format_takes UnsizedHex v = within_limit (codes "hexadecimal") 4294967295 v
+format_takes _ v = Ok tt
 
 -- How many digits of so many bits a number of n bits has: one for a zero of more than 1024 bits.
 abbrev pub padded_count : ℕ → ℕ → ℕ → ℕ

@@ -15,12 +15,7 @@ is_plain_maybe (SomeExpr value) = is_plain value
 
 -- A name, a select or a concatenation.
 abbrev pub is_left_side : ExprTree → Bool
-is_left_side (NameTree name type) = true
-is_left_side (IndexTree subject index) = true
-is_left_side (SliceTree subject high low) = true
-is_left_side (PartSelectTree subject start width) = true
-is_left_side (ConcatTree count parts) = true
-is_left_side _ = false
+is_left_side e = elim e [ NameTree name type ↦ true | IndexTree subject index ↦ true | SliceTree subject high low ↦ true | PartSelectTree subject start width ↦ true | ConcatTree count parts ↦ true | _ ↦ false ]
 
 abbrev pub is_plain_assignment : (left right : ExprTree) → Bool
 is_plain_assignment left right = (is_left_side left && is_plain left) && is_plain right

@@ -48,10 +48,7 @@ precedence (UnaryTree o e) = 12
 precedence _ = 13
 
 abbrev pub is_reduction_operator : UnaryOp → Bool
-is_reduction_operator NegateOp = false
-is_reduction_operator BitwiseNotOp = false
-is_reduction_operator LogicalNotOp = false
-is_reduction_operator _ = true
+is_reduction_operator op = elim op [ NegateOp ↦ false | BitwiseNotOp ↦ false | LogicalNotOp ↦ false | _ ↦ true ]
 
 abbrev pub is_reduction : ExprTree → Bool
 is_reduction (UnaryTree o e) = is_reduction_operator o
@@ -147,9 +144,7 @@ unpacked_dimensions _ = []
 
 -- A type that is declared elsewhere.
 abbrev pub is_external : TypeTree → Bool
-is_external (ExternalTree name) = true
-is_external (PackageTree package_name name) = true
-is_external _ = false
+is_external type = elim type [ ExternalTree name ↦ true | PackageTree package_name name ↦ true | _ ↦ false ]
 
 -- The kind of a port and of a function's input, which stands before no external type.
 abbrev pub port_kind : Kind → TypeTree → Kind

@@ -35,22 +35,18 @@ mutual
     PatternTree : (parts : Exprs) → ExprTree
     WidthCastTree : (width operand : ExprTree) → ExprTree
     TypeCastTree : (type : TypeTree) (operand : ExprTree) → ExprTree
-    PosEdgeTree : (operand : ExprTree) → ExprTree
-    NegEdgeTree : (operand : ExprTree) → ExprTree
+    PosEdgeTree NegEdgeTree : (operand : ExprTree) → ExprTree
     MacroTree : (name : List ℕ) (arguments : MaybeExprs) → ExprTree
     CallTree : (name : List ℕ) (arguments : Exprs) → ExprTree
     -- What a handle that belongs to no expression stands for.
     MissingExpr : ExprTree
 
   pub data TypeTree : Type 0 where
-    ScalarTree : (signed : Bool) → TypeTree
+    ScalarTree IntegerTree IntTree : (signed : Bool) → TypeTree
     VectorTree : (width : ExprTree) (value : Option ℤ) (signed : Bool) → TypeTree
-    IntegerTree : (signed : Bool) → TypeTree
-    IntTree : (signed : Bool) → TypeTree
     ExternalTree : (name : List ℕ) → TypeTree
     PackageTree : (package_name name : List ℕ) → TypeTree
-    PackedTree : (element : TypeTree) (dimensions : List ℤ) → TypeTree
-    UnpackedTree : (element : TypeTree) (dimensions : List ℤ) → TypeTree
+    PackedTree UnpackedTree : (element : TypeTree) (dimensions : List ℤ) → TypeTree
     -- What a handle that belongs to no type stands for.
     MissingType : TypeTree
 
@@ -80,9 +76,8 @@ pub record Declaration : Type 0 where
 mutual
   pub data StatementTree : Type 0 where
     AssignTree : (form : AssignForm) (left right : ExprTree) → StatementTree
-    CommentTree : (text : List ℕ) → StatementTree
+    CommentTree InlineTree : (text : List ℕ) → StatementTree
     BlankTree : StatementTree
-    InlineTree : (text : List ℕ) → StatementTree
     ConditionalTree : (condition : ExprTree) (consequent : Statements) (alternates : Alternates) → StatementTree
     CaseTree : (unique : Bool) (word : CaseWord) (selector : ExprTree) (arms : CaseArms) → StatementTree
 
@@ -103,8 +98,7 @@ mutual
 
 -- What a parameter declares: a name, a name of type int, or a definition's declaration.
 pub data ParameterName : Type 0 where
-  PlainParameter : (name : List ℕ) → ParameterName
-  IntParameter : (name : List ℕ) → ParameterName
+  PlainParameter IntParameter : (name : List ℕ) → ParameterName
   DefinedParameter : Declaration → ParameterName
 
 -- What an instantiation gives to a parameter or to a port, by name; an open port has no expression.
@@ -131,9 +125,8 @@ mutual
     DeclarationMember : Declaration → MemberTree
     AssignMember : (left right : ExprTree) → MemberTree
     ParameterMember : (local : Bool) (parameter : ParameterName) (value : ExprTree) → MemberTree
-    CommentMember : (text : List ℕ) → MemberTree
+    CommentMember InlineMember : (text : List ℕ) → MemberTree
     BlankMember : MemberTree
-    InlineMember : (text : List ℕ) → MemberTree
     MacroMember : (call : ExprTree) (semicolon : Bool) → MemberTree
     InstanceMember : InstanceTree → MemberTree
     AlwaysMember : AlwaysWord → (events : Exprs) (body : Statements) → MemberTree
