@@ -27,14 +27,17 @@ use Rattle.vast_list.specs.declared.arguments.Known.{Known}
 use Rattle.vast_list.specs.declared.line.Line.{Line as ReadLine}
 use Rattle.vast_list.specs.declared.names.Named.{Named}
 use Rattle.vast_list.specs.declared.names.Names.{Names}
-use Rattle.std.specs.Prelude.{IfSome, Option, option_copied}
-use Rattle.vast_list.specs.Lines.{Asked, Passed, behind_call, is_passed, line_arguments, line_kind, line_name, line_word, text_name, without_return, word_kind}
+use Rattle.std.specs.Prelude.{IfSome, Option, option_copied, codes}
+use Rattle.vast_list.specs.Lines.{Asked, Passed, behind_call, is_passed, line_arguments, line_kind, line_name, line_word, text_name, without_return, word_kind, NamesDialect}
 use Rattle.vast_list.specs.Names.{IsFree}
 use Rattle.vast_list.specs.Helpers.{Helps, IsKept}
 use Rattle.vast_list.specs.CallNames.{call_name}
 use Rattle.vast_list.specs.Session.{Calls, Enters, HasMade, IsCallOf, IsCause, IsCausedBy, IsInForm, IsOfLine, IsStepIn, call_kind, IsFileLeft, IsLeft, IsMade, IsTextOf, IsWrittenIn}
 use Rattle.vast_list.specs.Internal.Session.{IsActionOf, IsCallFault, IsRead, IsToldAs, IsToldOf}
 use Rattle.vast_list.specs.Written.{meaning}
+use Rattle.std.specs.Str.{IsUtf8}
+use Rattle.std.proofs.lemmas.Str.{IsUtf8-from_is_utf8}
+use Rattle.vast_literal.specs.declared.kind.VastFileType.TheVariants.{Verilog, SystemVerilog}
 
 pub nodes-unused : (old new : Bench) → HasMoreNodes old new → HasUnused old new
 nodes-unused old new h =
@@ -99,6 +102,11 @@ pub of_line : (number : ℕ) (cause : Option StepFault) (told : Fault) → IsTol
 of_line number cause (Line f) e = e.0
 of_line number cause Memory e = tt
 
+-- The word of a dialect is UTF-8, so a line that isn't names none.
+pub named_dialect : (line : List ℕ) → (IsUtf8 (without_return line) → ⊥) → NamesDialect line → ⊥
+named_dialect line other (Verilog, is) = other (subst IsUtf8 (sym is) (IsUtf8-from_is_utf8 (codes "verilog") refl))
+named_dialect line other (SystemVerilog, is) = other (subst IsUtf8 (sym is) (IsUtf8-from_is_utf8 (codes "systemverilog") refl))
+
 -- Where memory was refused.
 
 pub memory_call : (old new : Session) (call : Call) (told : Fault) → told ≡ Memory → IsCallFault old new call told
@@ -113,6 +121,8 @@ memory_cause old new line told e = subst (λ (f : Fault). IsCausedBy old new lin
 pub file_same : (old new : Session) (fault : Fault) → new.file ≡ old.file → new.answers.items ≡ old.answers.items → IsFileLeft old new fault
 file_same old new (Line f) e a = (e, a)
 file_same old new Memory e a = (ap tree e, a)
+
+pub ruleset dialects = (of_line, named_dialect)
 
 pub ruleset faults = (left_call, file_same, unused_call, same-unused, call_fault, of_line, memory_call, memory_line)
 

@@ -115,6 +115,10 @@ abbrev pub dialect_word : VastFileType → List ℕ
 dialect_word Verilog = codes "verilog"
 dialect_word SystemVerilog = codes "systemverilog"
 
+-- The line is the word of a dialect.
+abbrev pub NamesDialect : List ℕ → Type 0
+NamesDialect line = (dialect : VastFileType) × (without_return line ≡ dialect_word dialect)
+
 -- The first line that is neither blank nor a comment names the dialect, and these stand behind it.
 abbrev pub BeginsWithDialect : (lines : List (List ℕ)) → VastFileType → (behind : List (List ℕ)) → Type 0
 BeginsWithDialect lines dialect behind =

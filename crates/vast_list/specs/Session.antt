@@ -1,6 +1,6 @@
 -- What a line of a list does to a session: to its file and the answers so far.
 use Rattle.std.specs.Prelude.{◌≡◌, ◌⊎◌, ℕ, List, [], ◌∷◌, ◌++◌, length, Option, IfSome, None, Result, Ok, Err, ⊤}
-use Rattle.vast_core.specs.Bench.{Bench}
+use Rattle.vast_core.specs.Bench.{Bench, start}
 use Rattle.vast_core.specs.FileTree.{tree}
 use Rattle.vast_literal.specs.Tree.{FileTree}
 use Rattle.vast_print.specs.Layout.{layout}
@@ -25,6 +25,7 @@ use Rattle.vast_list.specs.Helpers.{Helps}
 use Rattle.vast_list.specs.Lines.{LineKind, Passed, Asked, Helped, Stepped, line_arguments, line_kind, line_name, line_word}
 use Rattle.vast_list.specs.Names.{IsEntered, IsFree, value_named}
 use Rattle.vast_list.specs.Written.{AreWritten, meaning}
+use Rattle.vast_literal.specs.declared.kind.VastFileType.{VastFileType}
 
 -- What a line is that is this call.
 abbrev pub call_kind : Call → LineKind
@@ -110,6 +111,11 @@ IsGivenBy line (Answered name value) = (line_kind line ≡ Asked) × (name.now �
 abbrev pub Takes : (old new : Session) → (line : List ℕ) → Result Given Fault → Type 0
 Takes old new line (Ok given) = Gives old new line given
 Takes old new line (Err fault) = IsLeft old new fault
+
+-- A session of the dialect in which nothing was done.
+abbrev pub IsNew : VastFileType → Session → Type 0
+IsNew dialect session =
+    (session.file ≡ start dialect 1) × (session.answers.items ≡ []) × (meaning session.names ≡ (λ (name : List ℕ). None)) × (session.skipped.items ≡ [])
 
 -- A line's fault is told of the line of this number.
 abbrev pub IsOfLine : ℕ → Fault → Type 0

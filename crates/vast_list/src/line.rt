@@ -1,10 +1,11 @@
 //! The lines of a list.
 
-ghost use Rattle.std.specs.Prelude.{◌≡◌, ◌⊎◌, ◌↔◌, [], IfOk, IfSome, IfNone, IsTrue, MatchOption, MatchResult, OnOk, drop, false, option_copied, true};
+ghost use Rattle.std.specs.Prelude.{◌≡◌, ◌⊎◌, ◌↔◌, [], IfErr, IfOk, IfSome, IfNone, IsTrue, MatchOption, MatchResult, OnOk, drop, false, option_copied, true};
 ghost use Rattle.std.specs.Str.{IsUtf8};
-ghost use Rattle.vast_list.specs.Lines.{HasKind, Passed, Stepped, behind_call, behind_first, behind_word, call_word, dialect_word, first_word, is_equals_front, is_passed, line_word, text_name, without_return, word_kind};
+ghost use Rattle.vast_list.specs.Lines.{HasKind, NamesDialect, Passed, Stepped, behind_call, behind_first, behind_word, call_word, dialect_word, first_word, is_equals_front, is_passed, line_word, text_name, without_return, word_kind};
 ghost use Rattle.vast_list.specs.Internal.Lines.{rest_text};
 ghost use Rattle.vast_list.specs.Names.{IsFree};
+ghost use Rattle.vast_list.specs.Session.{IsOfLine};
 ghost use Rattle.vast_list.specs.Internal.Session.{IsActionOf, IsRead};
 ghost use Rattle.vast_list.specs.Written.{meaning};
 ghost use Rattle.vast_list.specs.Internal.Written.{left};
@@ -203,8 +204,11 @@ fn read_action(known: Known<'_>, call: &str, rest: Option<&str>) -> Result<Actio
 ///
 /// # Errors
 /// Where it names none, and want of memory.
+#[tactic(auto, using(crate::proofs::Sessions::dialects))]
 pub fn dialect_of(alloc: Global, number: usize, line: &[u8]) -> Result<VastFileType, Fault>
-    ensures { IfOk result (λ dialect. without_return line.now ≡ dialect_word dialect) }
+    ensures dialect { IfOk result (λ dialect. without_return line.now ≡ dialect_word dialect) }
+    ensures none { IfErr result (λ fault. NamesDialect line.now → ⊥) }
+    ensures number { IfErr result (IsOfLine number) }
 {
     let text = match text_of(line) {
         Ok(text) => text,

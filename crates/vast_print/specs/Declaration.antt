@@ -1,5 +1,5 @@
 -- The text of a declaration: kind word, type, name with its dimensions.
-use Rattle.std.specs.Prelude.{ℕ, ℤ, pos, ◌-ℤ◌, Bool, true, false, List, [], ◌∷◌, ◌++◌, Option, Some, None, codes}
+use Rattle.std.specs.Prelude.{ℕ, ℤ, pos, ◌-ℤ◌, Bool, true, false, List, [], ◌∷◌, ◌++◌, Option, Some, None, codes, if◌then◌else◌}
 use Rattle.std.specs.Fmt.{signed_decimal}
 use Rattle.vast_literal.specs.Tree.{ExprTree}
 use Rattle.vast_literal.specs.declared.kind.VastFileType.{VastFileType as Dialect}
@@ -35,12 +35,10 @@ highest_index_text w (Some v) = plain_text (signed_decimal (v -ℤ pos 1))
 highest_index_text w None = wrapped (highest_index_wraps w) (expr_text w) ⊕ plain_text (codes " - 1")
 
 abbrev pub signed_word : Bool → List ℕ
-signed_word true = codes "signed"
-signed_word false = []
+signed_word signed = if signed then codes "signed" else []
 
 abbrev pub unsigned_word : Bool → List ℕ
-unsigned_word true = []
-unsigned_word false = codes "unsigned"
+unsigned_word signed = if signed then [] else codes "unsigned"
 
 unfoldable pub with_dimensions : Printed → List ℕ → Printed
 with_dimensions p [] = p

@@ -1,5 +1,5 @@
 -- The pages of the members of modules and loops.
-use Rattle.std.specs.Prelude.{ℕ, Bool, true, false, List, [], ◌∷◌, Option, Some, None, codes, cond, map}
+use Rattle.std.specs.Prelude.{ℕ, Bool, true, false, List, [], ◌∷◌, Option, Some, None, codes, cond, map, if◌then◌else◌}
 use Rattle.vast_literal.specs.Tree.{ExprTree, MaybeExpr, NoExpr, SomeExpr, Exprs, NoExprs, MoreExprs, TypeTree, Declaration}
 use Rattle.vast_literal.specs.declared.kind.VastFileType.{VastFileType as Dialect}
 use Rattle.vast_literal.specs.declared.operator.BinaryOperator.TheVariants.{Lt as LtOp}
@@ -23,8 +23,7 @@ entries_page (p ∷ []) = lead (written p)
 entries_page (p ∷ q ∷ ps) = above (lead (written (p ⊕ plain_text (codes ",")))) (entries_page (q ∷ ps))
 
 abbrev pub parameter_word : Bool → List ℕ
-parameter_word true = codes "localparam "
-parameter_word false = codes "parameter "
+parameter_word local = if local then codes "localparam " else codes "parameter "
 
 abbrev pub parameter_text : Dialect → ParameterName → Printed
 parameter_text dialect (PlainParameter name) = plain_text name
@@ -32,8 +31,7 @@ parameter_text dialect (IntParameter name) = plain_text (codes "int ") ⊕ plain
 parameter_text dialect (DefinedParameter d) = declared_text dialect d
 
 abbrev pub semicolon_text : Bool → List ℕ
-semicolon_text true = codes ";"
-semicolon_text false = []
+semicolon_text semicolon = if semicolon then codes ";" else []
 
 -- an open port has nothing between its parentheses
 abbrev pub value_text : MaybeExpr → Printed

@@ -1,5 +1,5 @@
 -- The pages of statements.
-use Rattle.std.specs.Prelude.{ℕ, Bool, true, false, List, [], codes, cond}
+use Rattle.std.specs.Prelude.{ℕ, Bool, true, false, List, [], codes, cond, if◌then◌else◌}
 use Rattle.vast_literal.specs.Tree.{MaybeExpr, NoExpr, SomeExpr}
 use Rattle.vast_literal.specs.declared.kind.AssignmentForm.{AssignmentForm as AssignForm}
 use Rattle.vast_literal.specs.declared.kind.AssignmentForm.TheVariants.{Nonblocking, Continuous}
@@ -28,8 +28,7 @@ case_word CaseZ = codes "casez ("
 case_word CaseX = codes "casex ("
 
 abbrev pub unique_word : Bool → List ℕ
-unique_word true = codes "unique "
-unique_word false = []
+unique_word unique = if unique then codes "unique " else []
 
 abbrev pub label_text : MaybeExpr → Printed
 label_text NoExpr = plain_text (codes "default")

@@ -25,17 +25,14 @@ unfoldable pub width_cast : Printed → Printed → Printed
 width_cast w p = cast_to (wrapped (not (is_bare w.text)) w) p
 
 abbrev pub sign_cast : Bool → Printed
-sign_cast true = plain_text (codes "signed")
-sign_cast false = plain_text (codes "unsigned")
+sign_cast signed = if signed then plain_text (codes "signed") else plain_text (codes "unsigned")
 
 abbrev pub scalar_cast : Bool → Printed → Printed
-scalar_cast true p = cast_to (plain_text (codes "signed")) (cast_to (plain_text (codes "logic")) p)
-scalar_cast false p = cast_to (plain_text (codes "logic")) p
+scalar_cast signed p = if signed then cast_to (plain_text (codes "signed")) (cast_to (plain_text (codes "logic")) p) else cast_to (plain_text (codes "logic")) p
 
 -- a cast to a type that is signed unless it says otherwise
 abbrev pub number_cast : (word : List ℕ) (signed : Bool) → Printed → Printed
-number_cast word true p = cast_to (plain_text word) p
-number_cast word false p = cast_to (plain_text (codes "unsigned")) (cast_to (plain_text word) p)
+number_cast word signed p = if signed then cast_to (plain_text word) p else cast_to (plain_text (codes "unsigned")) (cast_to (plain_text word) p)
 
 -- a name of a package
 unfoldable pub package_text : (package_name name : List ℕ) → Printed

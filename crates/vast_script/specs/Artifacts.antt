@@ -9,16 +9,15 @@ use Rattle.xlsynth_vast.specs.Instances.{connected}
 use Rattle.vast_script.specs.declared.answer.Answer.TheVariants.{Def, BlankLine, Comment, InlineVerilogStatement, MacroStatement, ContinuousAssignment, VastStatement, Instantiation, Nothing}
 use Rattle.vast_script.specs.declared.step.ArtifactStep.{ArtifactStep}
 use Rattle.vast_script.specs.declared.step.ArtifactStep.TheVariants.{MakeDef, MakeBlankLine, MakeComment, MakeInlineVerilogStatement, MakeMacroStatement, MakeContinuousAssignment, MakeNonblockingAssignment, MakeBlockingAssignment, MakeInstantiation, AddMemberInstantiation, AddMemberContinuousAssignment, AddMemberBlankLine, AddMemberComment, AddMemberInlineStatement, AddMemberMacroStatement}
-use Rattle.vast_script.specs.Outcome.{Call, Made, given, provided}
+use Rattle.vast_script.specs.Outcome.{Call, Made, provided, makes}
 use Rattle.vast_script.specs.Kinds.{an_expr, a_type, a_module, a_macro_ref, an_instantiation, a_continuous, a_blank_line, a_comment, an_inline, a_macro_statement}
-use Rattle.vast_script.specs.Arguments.{one, two, many_and_open}
+use Rattle.vast_script.specs.Arguments.{one, takes_one, takes_two, takes_many_and_open}
 
 -- Parts.
 
 abbrev pub make_assignment : (nonblocking : Bool) → (left right : ℕ) → Call
-make_assignment nonblocking left right b answers =
-    given (two an_expr an_expr b answers left right) (λ (left, right).
-    Made (VastStatement (next_statement b)) (with_assignment (record { lhs = left; rhs = right; nonblocking = nonblocking }) b))
+make_assignment nonblocking left right =
+    takes_two an_expr an_expr left right (λ left right. makes VastStatement next_statement (with_assignment (record { lhs = left; rhs = right; nonblocking = nonblocking })))
 
 -- An instance, each name with the value at its place.
 abbrev pub instance : (module_name instance_name : List ℕ) → (parameters : List (List ℕ)) → List Expr → (ports : List (List ℕ)) → List (Option Expr) → InstanceRecord
@@ -26,34 +25,30 @@ instance module_name instance_name parameters values ports wires =
     record { module_name = module_name; instance_name = instance_name; parameters = connected parameters (map (λ (e : Expr). Some e) values); connections = connected ports wires }
 
 abbrev pub make_instantiation : (module_name instance_name : List ℕ) → (parameters : List (List ℕ)) → List ℕ → (ports : List (List ℕ)) → List (Option ℕ) → Call
-make_instantiation module_name instance_name parameters values ports wires b answers =
-    given (many_and_open an_expr b answers values wires) (λ (values, wires). provided (nat_eq (length parameters) (length values) && nat_eq (length ports) (length wires))
-    (Made (Instantiation (next_instantiation b)) (with_instance (instance module_name instance_name parameters values ports wires) b)))
+make_instantiation module_name instance_name parameters values ports wires =
+    takes_many_and_open an_expr values wires
+    (λ values wires b. provided (nat_eq (length parameters) (length values) && nat_eq (length ports) (length wires)) (Made (Instantiation (next_instantiation b)) (with_instance (instance module_name instance_name parameters values ports wires) b)))
+
+-- A part that was made beforehand enters a module.
+abbrev pub add_part : {H : Type 0} → Kind H → (H → Member) → (owner part : ℕ) → Call
+add_part kind entry owner part = takes_two a_module kind owner part (λ owner part b. Made Nothing (with_member owner (entry part) b))
 
 abbrev pub artifact_call : ArtifactStep → Call
-artifact_call (MakeDef name kind type) = λ b answers.
-    given (one a_type b answers type) (λ type. Made (Def (next_def b)) (with_definition (record { name = string_bytes name; kind = kind; data_type = type }) b))
+artifact_call (MakeDef name kind type) = takes_one a_type type (λ type. makes Def next_def (with_definition (record { name = string_bytes name; kind = kind; data_type = type })))
 artifact_call MakeBlankLine = λ b answers. Made (BlankLine (next_blank_line b)) (with_artifact BlankLineRecord b)
 artifact_call (MakeComment text) = λ b answers. Made (Comment (next_comment b)) (with_artifact (CommentRecord (string_bytes text)) b)
 artifact_call (MakeInlineVerilogStatement text) = λ b answers. Made (InlineVerilogStatement (next_inline b)) (with_artifact (InlineRecord (string_bytes text)) b)
-artifact_call (MakeMacroStatement use_of semicolon) = λ b answers.
-    given (one a_macro_ref b answers use_of) (λ use_of. Made (MacroStatement (next_macro_statement b)) (with_artifact (MacroRecord use_of semicolon) b))
-artifact_call (MakeContinuousAssignment left right) = λ b answers.
-    given (two an_expr an_expr b answers left right) (λ (left, right).
-    Made (ContinuousAssignment (next_continuous b)) (with_assignment (record { lhs = left; rhs = right; nonblocking = false }) b))
+artifact_call (MakeMacroStatement use_of semicolon) = takes_one a_macro_ref use_of
+    (λ use_of. makes MacroStatement next_macro_statement (with_artifact (MacroRecord use_of semicolon)))
+artifact_call (MakeContinuousAssignment left right) = takes_two an_expr an_expr left right
+    (λ left right. makes ContinuousAssignment next_continuous (with_assignment (record { lhs = left; rhs = right; nonblocking = false })))
 artifact_call (MakeNonblockingAssignment left right) = make_assignment true left right
 artifact_call (MakeBlockingAssignment left right) = make_assignment false left right
 artifact_call (MakeInstantiation module_name instance_name parameters values ports wires) =
     make_instantiation (string_bytes module_name) (string_bytes instance_name) (map string_bytes parameters.items) values.items (map string_bytes ports.items) wires.items
-artifact_call (AddMemberInstantiation owner part) = λ b answers.
-    given (two a_module an_instantiation b answers owner part) (λ (owner, part). Made Nothing (with_member owner (InstanceEntry part) b))
-artifact_call (AddMemberContinuousAssignment owner part) = λ b answers.
-    given (two a_module a_continuous b answers owner part) (λ (owner, part). Made Nothing (with_member owner (AssignmentEntry part) b))
-artifact_call (AddMemberBlankLine owner part) = λ b answers.
-    given (two a_module a_blank_line b answers owner part) (λ (owner, part). Made Nothing (with_member owner BlankEntry b))
-artifact_call (AddMemberComment owner part) = λ b answers.
-    given (two a_module a_comment b answers owner part) (λ (owner, part). Made Nothing (with_member owner (CommentEntry part) b))
-artifact_call (AddMemberInlineStatement owner part) = λ b answers.
-    given (two a_module an_inline b answers owner part) (λ (owner, part). Made Nothing (with_member owner (InlineEntry part) b))
-artifact_call (AddMemberMacroStatement owner part) = λ b answers.
-    given (two a_module a_macro_statement b answers owner part) (λ (owner, part). Made Nothing (with_member owner (MacroEntry part) b))
+artifact_call (AddMemberInstantiation owner part) = add_part an_instantiation InstanceEntry owner part
+artifact_call (AddMemberContinuousAssignment owner part) = add_part a_continuous AssignmentEntry owner part
+artifact_call (AddMemberBlankLine owner part) = add_part a_blank_line (λ _. BlankEntry) owner part
+artifact_call (AddMemberComment owner part) = add_part a_comment CommentEntry owner part
+artifact_call (AddMemberInlineStatement owner part) = add_part an_inline InlineEntry owner part
+artifact_call (AddMemberMacroStatement owner part) = add_part a_macro_statement MacroEntry owner part

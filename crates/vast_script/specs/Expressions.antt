@@ -10,9 +10,9 @@ use Rattle.xlsynth_vast.specs.Literals.{literal_in, pattern_literal, string_lite
 use Rattle.vast_script.specs.declared.answer.Answer.TheVariants.{Expr, IndexableExpr, Slice, Index, MacroRef}
 use Rattle.vast_script.specs.declared.step.ExpressionStep.{ExpressionStep}
 use Rattle.vast_script.specs.declared.step.ExpressionStep.TheVariants.{MakeLiteral, MakeBinaryPattern, MakeUnsizedDecimalLiteral, MakeStringLiteral, MakeUnsizedOneLiteral, MakeUnsizedZeroLiteral, MakeUnsizedXLiteral, MakeName, MakeIndexableExpression, MakeSlice, MakeIndex, MakeSliceExpr, MakeIndexExpr, MakeIndexedPartSelect, MakeFunctionCall, MakeConcat, MakeReplicatedConcat, MakeReplicatedConcatI64, MakeArrayAssignmentPattern, MakeTernary, MakeWidthCast, MakeTypeCast, MakePosEdge, MakeNegEdge, MakeMacroRef, MakeMacroRefWithArgs}
-use Rattle.vast_script.specs.Outcome.{Call, Made, given, provided, allowed}
+use Rattle.vast_script.specs.Outcome.{Call, Made, provided, allowed, makes}
 use Rattle.vast_script.specs.Kinds.{an_expr, an_indexable, a_type}
-use Rattle.vast_script.specs.Arguments.{one, two, three, many, one_and_many}
+use Rattle.vast_script.specs.Arguments.{takes_one, takes_two, takes_three, takes_many, takes_one_and_many}
 use Rattle.vast_script.specs.Conditions.{is_named}
 
 abbrev pub make_binary_pattern : List ℕ → Call
@@ -23,26 +23,22 @@ abbrev pub make_leaf : ExprTree → Call
 make_leaf tree b answers = Made (Expr (next_expr b)) (with_expr tree b)
 
 abbrev pub make_function_call : List ℕ → List ℕ → Call
-make_function_call name arguments b answers =
-    given (many an_expr b answers arguments) (λ arguments. provided (is_named name) (Made (Expr (next_expr b)) (with_call name arguments b)))
+make_function_call name arguments = takes_many an_expr arguments (λ arguments b. provided (is_named name) (Made (Expr (next_expr b)) (with_call name arguments b)))
 
 abbrev pub make_concat : List ℕ → Call
-make_concat parts b answers = given (many an_expr b answers parts) (λ parts. Made (Expr (next_expr b)) (with_concat parts b))
+make_concat parts = takes_many an_expr parts (λ parts. makes Expr next_expr (with_concat parts))
 
 abbrev pub make_replicated_concat : ℕ → List ℕ → Call
-make_replicated_concat count parts b answers =
-    given (one_and_many an_expr an_expr b answers count parts) (λ (count, parts). Made (Expr (next_expr b)) (with_replication count parts b))
+make_replicated_concat count parts = takes_one_and_many an_expr an_expr count parts (λ count parts. makes Expr next_expr (with_replication count parts))
 
 abbrev pub make_replicated_concat_i64 : ℤ → List ℕ → Call
-make_replicated_concat_i64 count parts b answers =
-    given (many an_expr b answers parts) (λ parts. Made (Expr (next_fixed_replication count b)) (with_fixed_replication count parts b))
+make_replicated_concat_i64 count parts = takes_many an_expr parts (λ parts. makes Expr (next_fixed_replication count) (with_fixed_replication count parts))
 
 abbrev pub make_array_assignment_pattern : List ℕ → Call
-make_array_assignment_pattern parts b answers = given (many an_expr b answers parts) (λ parts. Made (Expr (next_expr b)) (with_pattern parts b))
+make_array_assignment_pattern parts = takes_many an_expr parts (λ parts. makes Expr next_expr (with_pattern parts))
 
 abbrev pub make_macro_ref_with_args : List ℕ → List ℕ → Call
-make_macro_ref_with_args name arguments b answers =
-    given (many an_expr b answers arguments) (λ arguments. Made (MacroRef (next_macro_ref b)) (with_macro_call name arguments b))
+make_macro_ref_with_args name arguments = takes_many an_expr arguments (λ arguments. makes MacroRef next_macro_ref (with_macro_call name arguments))
 
 abbrev pub expression_call : ExpressionStep → Call
 expression_call (MakeLiteral text format) = λ b answers. allowed (literal_in format (string_bytes text)) (λ tree. Made (Expr (next_expr b)) (with_expr tree b))
@@ -53,34 +49,27 @@ expression_call MakeUnsizedOneLiteral = make_leaf (LiteralTree (codes "'1") (Som
 expression_call MakeUnsizedZeroLiteral = make_leaf (LiteralTree (codes "'0") (Some (pos 0)))
 expression_call MakeUnsizedXLiteral = make_leaf (LiteralTree (codes "'X") None)
 expression_call (MakeName name) = make_leaf (NameTree (string_bytes name) Untyped)
-expression_call (MakeIndexableExpression e) = λ b answers. given (one an_expr b answers e) (λ e. Made (IndexableExpr (record { id = e.id })) b)
-expression_call (MakeSlice subject high low) = λ b answers.
-    given (one an_indexable b answers subject) (λ subject. provided (int_le (pos 0) high && int_le (pos 0) low)
-    (Made (Slice (next_fixed_slice (selector_text high) high (selector_text low) low b)) (with_fixed_slice subject (selector_text high) high (selector_text low) low b)))
-expression_call (MakeIndex subject index) = λ b answers.
-    given (one an_indexable b answers subject) (λ subject. provided (int_le (pos 0) index)
-    (Made (Index (next_fixed_index (selector_text index) index b)) (with_fixed_index subject (selector_text index) index b)))
-expression_call (MakeSliceExpr subject high low) = λ b answers.
-    given (three an_indexable an_expr an_expr b answers subject high low) (λ (subject, high, low). Made (Slice (next_slice b)) (with_slice subject high low b))
-expression_call (MakeIndexExpr subject index) = λ b answers.
-    given (two an_indexable an_expr b answers subject index) (λ (subject, index). Made (Index (next_index b)) (with_index subject index b))
-expression_call (MakeIndexedPartSelect subject start width) = λ b answers.
-    given (two an_indexable an_expr b answers subject start) (λ (subject, start). provided (int_le (pos 1) width)
-    (Made (Expr (next_expr b)) (with_part_select subject start width b)))
+expression_call (MakeIndexableExpression e) = takes_one an_expr e (λ e b. Made (IndexableExpr (record { id = e.id })) b)
+expression_call (MakeSlice subject high low) = takes_one an_indexable subject
+    (λ subject b. provided (int_le (pos 0) high && int_le (pos 0) low) (Made (Slice (next_fixed_slice (selector_text high) high (selector_text low) low b)) (with_fixed_slice subject (selector_text high) high (selector_text low) low b)))
+expression_call (MakeIndex subject index) = takes_one an_indexable subject
+    (λ subject b. provided (int_le (pos 0) index) (Made (Index (next_fixed_index (selector_text index) index b)) (with_fixed_index subject (selector_text index) index b)))
+expression_call (MakeSliceExpr subject high low) = takes_three an_indexable an_expr an_expr subject high low
+    (λ subject high low. makes Slice next_slice (with_slice subject high low))
+expression_call (MakeIndexExpr subject index) = takes_two an_indexable an_expr subject index (λ subject index. makes Index next_index (with_index subject index))
+expression_call (MakeIndexedPartSelect subject start width) = takes_two an_indexable an_expr subject start
+    (λ subject start b. provided (int_le (pos 1) width) (Made (Expr (next_expr b)) (with_part_select subject start width b)))
 expression_call (MakeFunctionCall name arguments) = make_function_call (string_bytes name) arguments.items
 expression_call (MakeConcat parts) = make_concat parts.items
 expression_call (MakeReplicatedConcat count parts) = make_replicated_concat count parts.items
 expression_call (MakeReplicatedConcatI64 count parts) = make_replicated_concat_i64 count parts.items
 expression_call (MakeArrayAssignmentPattern parts) = make_array_assignment_pattern parts.items
-expression_call (MakeTernary condition consequent alternate) = λ b answers.
-    given (three an_expr an_expr an_expr b answers condition consequent alternate) (λ (condition, consequent, alternate).
-    Made (Expr (next_expr b)) (with_ternary condition consequent alternate b))
-expression_call (MakeWidthCast width value) = λ b answers.
-    given (two an_expr an_expr b answers width value) (λ (width, value). Made (Expr (next_expr b)) (with_width_cast width value b))
-expression_call (MakeTypeCast type value) = λ b answers.
-    given (two a_type an_expr b answers type value) (λ (type, value). provided (is_castable (type_of b type))
-    (Made (Expr (next_expr b)) (with_type_cast type value b)))
-expression_call (MakePosEdge e) = λ b answers. given (one an_expr b answers e) (λ e. Made (Expr (next_expr b)) (with_pos_edge e b))
-expression_call (MakeNegEdge e) = λ b answers. given (one an_expr b answers e) (λ e. Made (Expr (next_expr b)) (with_neg_edge e b))
+expression_call (MakeTernary condition consequent alternate) = takes_three an_expr an_expr an_expr condition consequent alternate
+    (λ condition consequent alternate. makes Expr next_expr (with_ternary condition consequent alternate))
+expression_call (MakeWidthCast width value) = takes_two an_expr an_expr width value (λ width value. makes Expr next_expr (with_width_cast width value))
+expression_call (MakeTypeCast type value) = takes_two a_type an_expr type value
+    (λ type value b. provided (is_castable (type_of b type)) (Made (Expr (next_expr b)) (with_type_cast type value b)))
+expression_call (MakePosEdge e) = takes_one an_expr e (λ e. makes Expr next_expr (with_pos_edge e))
+expression_call (MakeNegEdge e) = takes_one an_expr e (λ e. makes Expr next_expr (with_neg_edge e))
 expression_call (MakeMacroRef name) = λ b answers. Made (MacroRef (next_macro_ref b)) (with_macro (string_bytes name) b)
 expression_call (MakeMacroRefWithArgs name arguments) = make_macro_ref_with_args (string_bytes name) arguments.items

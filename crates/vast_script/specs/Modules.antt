@@ -14,9 +14,9 @@ use Rattle.xlsynth_vast.specs.Inspections.{members_in}
 use Rattle.vast_script.specs.declared.answer.Answer.TheVariants.{VastModule, LogicRef, ParameterRef, LocalparamRef, Nothing}
 use Rattle.vast_script.specs.declared.step.ModuleStep.{ModuleStep}
 use Rattle.vast_script.specs.declared.step.ModuleStep.TheVariants.{AddInclude, AddBlankLine, AddCommentText, AddModule, AddInput, AddOutput, AddInout, AddLogicInput, AddLogicOutput, AddWire, AddReg, AddLogic, AddParameterPort, AddTypedParameterPort, AddParameter, AddParameterWithDef, AddLocalparam, AddIntLocalparam, AddTypedLocalparam, HoistModuleDeclarations}
-use Rattle.vast_script.specs.Outcome.{Call, Made, given, provided, allowed}
+use Rattle.vast_script.specs.Outcome.{Call, Made, provided, allowed, makes}
 use Rattle.vast_script.specs.Kinds.{a_module, a_type, an_expr, a_definition, a_blank_line}
-use Rattle.vast_script.specs.Arguments.{one, two, three}
+use Rattle.vast_script.specs.Arguments.{takes_one, takes_two, takes_three}
 
 abbrev pub add_item : FileEntry → Call
 add_item entry b answers = Made Nothing (with_item entry b)
@@ -25,23 +25,21 @@ abbrev pub add_module : List ℕ → Call
 add_module name b answers = Made (VastModule (next_module b)) (with_module name b)
 
 abbrev pub add_port : ModulePortDirection → DataKind → ℕ → List ℕ → ℕ → Call
-add_port direction kind owner name type b answers =
-    given (two a_module a_type b answers owner type) (λ (owner, type). provided (is_free b owner name)
-    (Made (LogicRef (next_logic_ref b)) (with_port owner direction kind name type b)))
+add_port direction kind owner name type =
+    takes_two a_module a_type owner type (λ owner type b. provided (is_free b owner name) (Made (LogicRef (next_logic_ref b)) (with_port owner direction kind name type b)))
 
 abbrev pub add_wire : ℕ → List ℕ → ℕ → Call
-add_wire owner name type b answers =
-    given (two a_module a_type b answers owner type) (λ (owner, type). provided (is_free b owner name)
-    (Made (LogicRef (next_logic_ref b)) (with_declaration owner Wire name type b)))
+add_wire owner name type =
+    takes_two a_module a_type owner type (λ owner type b. provided (is_free b owner name) (Made (LogicRef (next_logic_ref b)) (with_declaration owner Wire name type b)))
 
 abbrev pub add_variable : DataKind → (word : List ℕ) → ℕ → List ℕ → ℕ → Call
-add_variable kind word owner name type b answers =
-    given (two a_module a_type b answers owner type) (λ (owner, type). allowed (unless_taken word name (names_in b owner)) (λ _.
-    Made (LogicRef (next_logic_ref b)) (with_declaration owner kind name type b)))
+add_variable kind word owner name type =
+    takes_two a_module a_type owner type
+    (λ owner type b. allowed (unless_taken word name (names_in b owner)) (λ _. Made (LogicRef (next_logic_ref b)) (with_declaration owner kind name type b)))
 
 abbrev pub module_call : ModuleStep → Call
 module_call (AddInclude path) = add_item (IncludeEntry (string_bytes path))
-module_call (AddBlankLine blank) = λ b answers. given (one a_blank_line b answers blank) (λ blank. Made Nothing (with_item FileBlankEntry b))
+module_call (AddBlankLine blank) = takes_one a_blank_line blank (λ blank b. Made Nothing (with_item FileBlankEntry b))
 module_call (AddCommentText text) = add_item (FileCommentEntry (string_bytes text))
 module_call (AddModule name) = add_module (string_bytes name)
 module_call (AddInput owner name type) = add_port Input Wire owner (string_bytes name) type
@@ -52,22 +50,19 @@ module_call (AddLogicOutput owner name type) = add_port Output Logic owner (stri
 module_call (AddWire owner name type) = add_wire owner (string_bytes name) type
 module_call (AddReg owner name type) = add_variable Reg (codes "reg") owner (string_bytes name) type
 module_call (AddLogic owner name type) = add_variable Logic (codes "logic") owner (string_bytes name) type
-module_call (AddParameterPort owner name value) = λ b answers.
-    given (two a_module an_expr b answers owner value) (λ (owner, value). Made (LogicRef (next_logic_ref b)) (with_parameter_port owner (string_bytes name) None value b))
-module_call (AddTypedParameterPort owner name type value) = λ b answers.
-    given (three a_module a_type an_expr b answers owner type value) (λ (owner, type, value).
-    Made (LogicRef (next_logic_ref b)) (with_parameter_port owner (string_bytes name) (Some type) value b))
-module_call (AddParameter owner name value) = λ b answers.
-    given (two a_module an_expr b answers owner value) (λ (owner, value). Made (ParameterRef (next_parameter_ref b)) (with_plain_parameter owner false (string_bytes name) value b))
-module_call (AddParameterWithDef owner definition value) = λ b answers.
-    given (three a_module a_definition an_expr b answers owner definition value) (λ (owner, definition, value).
-    Made (ParameterRef (next_parameter_ref b)) (with_defined_parameter owner false definition value b))
-module_call (AddLocalparam owner name value) = λ b answers.
-    given (two a_module an_expr b answers owner value) (λ (owner, value). Made (LocalparamRef (next_localparam_ref b)) (with_plain_parameter owner true (string_bytes name) value b))
-module_call (AddIntLocalparam owner name value) = λ b answers.
-    given (two a_module an_expr b answers owner value) (λ (owner, value). Made (LocalparamRef (next_localparam_ref b)) (with_int_parameter owner true (string_bytes name) value b))
-module_call (AddTypedLocalparam owner definition value) = λ b answers.
-    given (three a_module a_definition an_expr b answers owner definition value) (λ (owner, definition, value).
-    Made (LocalparamRef (next_localparam_ref b)) (with_defined_parameter owner true definition value b))
-module_call (HoistModuleDeclarations owner start) = λ b answers.
-    given (one a_module b answers owner) (λ owner. provided (nat_le start (length (members_in b owner))) (Made Nothing (with_hoisted owner start b)))
+module_call (AddParameterPort owner name value) = takes_two a_module an_expr owner value
+    (λ owner value. makes LogicRef next_logic_ref (with_parameter_port owner (string_bytes name) None value))
+module_call (AddTypedParameterPort owner name type value) = takes_three a_module a_type an_expr owner type value
+    (λ owner type value. makes LogicRef next_logic_ref (with_parameter_port owner (string_bytes name) (Some type) value))
+module_call (AddParameter owner name value) = takes_two a_module an_expr owner value
+    (λ owner value. makes ParameterRef next_parameter_ref (with_plain_parameter owner false (string_bytes name) value))
+module_call (AddParameterWithDef owner definition value) = takes_three a_module a_definition an_expr owner definition value
+    (λ owner definition value. makes ParameterRef next_parameter_ref (with_defined_parameter owner false definition value))
+module_call (AddLocalparam owner name value) = takes_two a_module an_expr owner value
+    (λ owner value. makes LocalparamRef next_localparam_ref (with_plain_parameter owner true (string_bytes name) value))
+module_call (AddIntLocalparam owner name value) = takes_two a_module an_expr owner value
+    (λ owner value. makes LocalparamRef next_localparam_ref (with_int_parameter owner true (string_bytes name) value))
+module_call (AddTypedLocalparam owner definition value) = takes_three a_module a_definition an_expr owner definition value
+    (λ owner definition value. makes LocalparamRef next_localparam_ref (with_defined_parameter owner true definition value))
+module_call (HoistModuleDeclarations owner start) = takes_one a_module owner
+    (λ owner b. provided (nat_le start (length (members_in b owner))) (Made Nothing (with_hoisted owner start b)))

@@ -24,6 +24,10 @@ pub data Outcome : Type 0 where
 abbrev pub Call : Type 0
 Call = Bench → List Answer → Outcome
 
+-- The call makes this part of the file, and answers its handle.
+abbrev pub makes : {H : Type 0} → (H → Answer) → (Bench → H) → (Bench → Bench) → Bench → Outcome
+makes answer handle after b = Made (answer (handle b)) (after b)
+
 -- The fault's cause, if it is not memory.
 abbrev pub cause_of : StepFault → Option Cause
 cause_of NoAnswer = Some Missing

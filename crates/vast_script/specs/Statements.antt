@@ -22,38 +22,38 @@ use Rattle.xlsynth_vast.specs.Inspections.{block_at, then_block_at, body_at, res
 use Rattle.vast_script.specs.declared.answer.Answer.TheVariants.{VastFunction, LogicRef, VastAlwaysBase, VastStatementBlock, VastStatement, Conditional, CaseStatement, Nothing}
 use Rattle.vast_script.specs.declared.step.StatementStep.{StatementStep}
 use Rattle.vast_script.specs.declared.step.StatementStep.TheVariants.{AddFunction, FunctionAddInput, FunctionAddLogicInput, FunctionAddReg, FunctionAddLogic, FunctionBody, FunctionResult, AddAlwaysFf, AddAlwaysAt, AddAlwaysComb, StatementBlock, BlockAddBlockingAssignment, BlockAddNonblockingAssignment, BlockAddContinuousAssignment, BlockAddCommentText, BlockAddInlineText, BlockAddBlankLine, AddConditional, BlockAddCond, ConditionalThenBlock, ConditionalAddElseIf, ConditionalAddElse, BlockAddCase, BlockAddCasez, BlockAddCasex, CaseAddItem, CaseAddDefault, CaseSetUnique}
-use Rattle.vast_script.specs.Outcome.{Call, Made, given, provided, allowed, holding}
+use Rattle.vast_script.specs.Outcome.{Call, Made, provided, allowed, holding, makes}
 use Rattle.vast_script.specs.Kinds.{a_module, a_function, a_type, an_expr, an_always, a_block, a_conditional, a_case}
-use Rattle.vast_script.specs.Arguments.{one, two, three, one_and_many}
+use Rattle.vast_script.specs.Arguments.{takes_one, takes_two, takes_three, takes_one_and_many}
 
 abbrev pub add_function : ℕ → List ℕ → ℕ → Call
-add_function owner name type b answers =
-    given (two a_module a_type b answers owner type) (λ (owner, type). allowed (may_be_function (type_of b type) name (names_in b owner)) (λ _.
-    Made (VastFunction (next_function b)) (with_function_member owner name type b)))
+add_function owner name type =
+    takes_two a_module a_type owner type
+    (λ owner type b. allowed (may_be_function (type_of b type) name (names_in b owner)) (λ _. Made (VastFunction (next_function b)) (with_function_member owner name type b)))
 
 abbrev pub function_add_variable : (local : Bool) → DataKind → (word : List ℕ) → ℕ → List ℕ → ℕ → Call
-function_add_variable local kind word function name type b answers =
-    given (two a_function a_type b answers function type) (λ (function, type). allowed (unless_taken_in_function word name b function) (λ _.
-    Made (LogicRef (next_logic_ref b)) (with_variable function local (record { kind = kind; name = name; data_type = type }) b)))
+function_add_variable local kind word function name type =
+    takes_two a_function a_type function type
+    (λ function type b. allowed (unless_taken_in_function word name b function) (λ _. Made (LogicRef (next_logic_ref b)) (with_variable function local (record { kind = kind; name = name; data_type = type }) b)))
 
 abbrev pub add_always : AlwaysKind → (word : List ℕ) → ℕ → List ℕ → Call
-add_always kind word owner events b answers =
-    given (one_and_many a_module an_expr b answers owner events) (λ (owner, events). allowed (unless_wrong_event word b events) (λ _.
-    Made (VastAlwaysBase (next_always b)) (with_always_member owner kind events b)))
+add_always kind word owner events =
+    takes_one_and_many a_module an_expr owner events
+    (λ owner events b. allowed (unless_wrong_event word b events) (λ _. Made (VastAlwaysBase (next_always b)) (with_always_member owner kind events b)))
 
 abbrev pub block_add_assignment : (nonblocking : Bool) → (block left right : ℕ) → Call
-block_add_assignment nonblocking block left right b answers =
-    given (three a_block an_expr an_expr b answers block left right) (λ (block, left, right).
-    Made (VastStatement (next_statement b)) (with_statement block (AssignStatement (next_statement b)) (with_assignment (record { lhs = left; rhs = right; nonblocking = nonblocking }) b)))
+block_add_assignment nonblocking block left right =
+    takes_three a_block an_expr an_expr block left right
+    (λ block left right b. Made (VastStatement (next_statement b)) (with_statement block (AssignStatement (next_statement b)) (with_assignment (record { lhs = left; rhs = right; nonblocking = nonblocking }) b)))
 
 -- A statement that holds no handle.
 abbrev pub block_add : StatementEntry → ℕ → Call
-block_add entry block b answers = given (one a_block b answers block) (λ block. Made Nothing (with_statement block entry b))
+block_add entry block = takes_one a_block block (λ block b. Made Nothing (with_statement block entry b))
 
 abbrev pub block_add_case : CaseKind → (block selector : ℕ) → Call
-block_add_case kind block selector b answers =
-    given (two a_block an_expr b answers block selector) (λ (block, selector).
-    Made (CaseStatement (next_case b)) (with_statement block (CasesStatement (next_case b)) (with_case kind selector b)))
+block_add_case kind block selector =
+    takes_two a_block an_expr block selector
+    (λ block selector b. Made (CaseStatement (next_case b)) (with_statement block (CasesStatement (next_case b)) (with_case kind selector b)))
 
 abbrev pub statement_call : StatementStep → Call
 statement_call (AddFunction owner name type) = add_function owner (string_bytes name) type
@@ -61,45 +61,32 @@ statement_call (FunctionAddInput function name type) = function_add_variable fal
 statement_call (FunctionAddLogicInput function name type) = function_add_variable false Logic (codes "input") function (string_bytes name) type
 statement_call (FunctionAddReg function name type) = function_add_variable true Reg (codes "reg") function (string_bytes name) type
 statement_call (FunctionAddLogic function name type) = function_add_variable true Logic (codes "logic") function (string_bytes name) type
-statement_call (FunctionBody function) = λ b answers.
-    given (one a_function b answers function) (λ function. holding (body_at b function) (λ block. Made (VastStatementBlock block) b))
-statement_call (FunctionResult function) = λ b answers.
-    given (one a_function b answers function) (λ function. holding (result_at b function) (λ name. Made (LogicRef name) b))
+statement_call (FunctionBody function) = takes_one a_function function (λ function b. holding (body_at b function) (λ block. Made (VastStatementBlock block) b))
+statement_call (FunctionResult function) = takes_one a_function function (λ function b. holding (result_at b function) (λ name. Made (LogicRef name) b))
 statement_call (AddAlwaysFf owner events) = add_always AlwaysFF (codes "always_ff") owner events.items
 statement_call (AddAlwaysAt owner events) = add_always AlwaysAt (codes "always @") owner events.items
-statement_call (AddAlwaysComb owner) = λ b answers.
-    given (one a_module b answers owner) (λ owner. Made (VastAlwaysBase (next_always b)) (with_always_member owner AlwaysComb [] b))
-statement_call (StatementBlock always) = λ b answers.
-    given (one an_always b answers always) (λ always. holding (block_at b always) (λ block. Made (VastStatementBlock block) b))
+statement_call (AddAlwaysComb owner) = takes_one a_module owner (λ owner. makes VastAlwaysBase next_always (with_always_member owner AlwaysComb []))
+statement_call (StatementBlock always) = takes_one an_always always (λ always b. holding (block_at b always) (λ block. Made (VastStatementBlock block) b))
 statement_call (BlockAddBlockingAssignment block left right) = block_add_assignment false block left right
 statement_call (BlockAddNonblockingAssignment block left right) = block_add_assignment true block left right
-statement_call (BlockAddContinuousAssignment block left right) = λ b answers.
-    given (three a_block an_expr an_expr b answers block left right) (λ (block, left, right).
-    Made (VastStatement (next_statement b)) (with_statement block (ContinuousStatement (next_statement b)) (with_assignment (record { lhs = left; rhs = right; nonblocking = false }) b)))
+statement_call (BlockAddContinuousAssignment block left right) = takes_three a_block an_expr an_expr block left right
+    (λ block left right b. Made (VastStatement (next_statement b)) (with_statement block (ContinuousStatement (next_statement b)) (with_assignment (record { lhs = left; rhs = right; nonblocking = false }) b)))
 statement_call (BlockAddCommentText block text) = block_add (CommentStatement (string_bytes text)) block
 statement_call (BlockAddInlineText block text) = block_add (InlineStatement (string_bytes text)) block
 statement_call (BlockAddBlankLine block) = block_add BlankStatement block
-statement_call (AddConditional owner condition) = λ b answers.
-    given (two a_module an_expr b answers owner condition) (λ (owner, condition).
-    Made (Conditional (next_conditional b)) (with_member owner (ConditionalEntry (next_conditional b)) (with_conditional condition b)))
-statement_call (BlockAddCond block condition) = λ b answers.
-    given (two a_block an_expr b answers block condition) (λ (block, condition).
-    Made (Conditional (next_conditional b)) (with_statement block (ConditionalStatement (next_conditional b)) (with_conditional condition b)))
-statement_call (ConditionalThenBlock conditional) = λ b answers.
-    given (one a_conditional b answers conditional) (λ conditional. holding (then_block_at b conditional) (λ block. Made (VastStatementBlock block) b))
-statement_call (ConditionalAddElseIf conditional condition) = λ b answers.
-    given (two a_conditional an_expr b answers conditional condition) (λ (conditional, condition).
-    provided (not (has_else (slice_get b.nests conditional.id.index)))
-    (Made (VastStatementBlock (next_block b)) (with_else_if conditional condition b)))
-statement_call (ConditionalAddElse conditional) = λ b answers.
-    given (one a_conditional b answers conditional) (λ conditional. provided (not (has_else (slice_get b.nests conditional.id.index)))
-    (Made (VastStatementBlock (next_block b)) (with_else conditional b)))
+statement_call (AddConditional owner condition) = takes_two a_module an_expr owner condition
+    (λ owner condition b. Made (Conditional (next_conditional b)) (with_member owner (ConditionalEntry (next_conditional b)) (with_conditional condition b)))
+statement_call (BlockAddCond block condition) = takes_two a_block an_expr block condition
+    (λ block condition b. Made (Conditional (next_conditional b)) (with_statement block (ConditionalStatement (next_conditional b)) (with_conditional condition b)))
+statement_call (ConditionalThenBlock conditional) = takes_one a_conditional conditional
+    (λ conditional b. holding (then_block_at b conditional) (λ block. Made (VastStatementBlock block) b))
+statement_call (ConditionalAddElseIf conditional condition) = takes_two a_conditional an_expr conditional condition
+    (λ conditional condition b. provided (not (has_else (slice_get b.nests conditional.id.index))) (Made (VastStatementBlock (next_block b)) (with_else_if conditional condition b)))
+statement_call (ConditionalAddElse conditional) = takes_one a_conditional conditional
+    (λ conditional b. provided (not (has_else (slice_get b.nests conditional.id.index))) (Made (VastStatementBlock (next_block b)) (with_else conditional b)))
 statement_call (BlockAddCase block selector) = block_add_case Case block selector
 statement_call (BlockAddCasez block selector) = block_add_case CaseZ block selector
 statement_call (BlockAddCasex block selector) = block_add_case CaseX block selector
-statement_call (CaseAddItem cases value) = λ b answers.
-    given (two a_case an_expr b answers cases value) (λ (cases, value). Made (VastStatementBlock (next_block b)) (with_case_arm cases (Some value) b))
-statement_call (CaseAddDefault cases) = λ b answers.
-    given (one a_case b answers cases) (λ cases. Made (VastStatementBlock (next_block b)) (with_case_arm cases None b))
-statement_call (CaseSetUnique cases unique) = λ b answers.
-    given (one a_case b answers cases) (λ cases. allowed (may_be_unique b.file_type unique) (λ _. Made Nothing (with_case_unique cases unique b)))
+statement_call (CaseAddItem cases value) = takes_two a_case an_expr cases value (λ cases value. makes VastStatementBlock next_block (with_case_arm cases (Some value)))
+statement_call (CaseAddDefault cases) = takes_one a_case cases (λ cases. makes VastStatementBlock next_block (with_case_arm cases None))
+statement_call (CaseSetUnique cases unique) = takes_one a_case cases (λ cases b. allowed (may_be_unique b.file_type unique) (λ _. Made Nothing (with_case_unique cases unique b)))

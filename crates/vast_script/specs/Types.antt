@@ -10,9 +10,9 @@ use Rattle.xlsynth_vast.specs.Types.{with_vector_expr, with_packed, with_unpacke
 use Rattle.vast_script.specs.declared.answer.Answer.TheVariants.{VastDataType}
 use Rattle.vast_script.specs.declared.step.TypeStep.{TypeStep}
 use Rattle.vast_script.specs.declared.step.TypeStep.TheVariants.{MakeScalarType, MakeIntegerType, MakeIntType, MakeExternType, MakeExternPackageType, MakeBitVectorType, MakeBitVectorTypeExpr, MakePackedArrayType, MakeUnpackedArrayType}
-use Rattle.vast_script.specs.Outcome.{Call, Made, given, provided}
+use Rattle.vast_script.specs.Outcome.{Call, Made, provided, makes}
 use Rattle.vast_script.specs.Kinds.{a_type, an_expr}
-use Rattle.vast_script.specs.Arguments.{one}
+use Rattle.vast_script.specs.Arguments.{takes_one}
 use Rattle.vast_script.specs.Conditions.{are_dimensions}
 
 -- A type that is made of no other.
@@ -20,14 +20,13 @@ abbrev pub make_type : TypeTree → Call
 make_type tree b answers = Made (VastDataType (next_type b)) (with_type tree b)
 
 abbrev pub make_packed_array_type : ℕ → List ℤ → Call
-make_packed_array_type element dimensions b answers =
-    given (one a_type b answers element) (λ element. provided (is_packable (type_of b element) && are_dimensions dimensions)
-    (Made (VastDataType (next_type b)) (with_packed element dimensions b)))
+make_packed_array_type element dimensions =
+    takes_one a_type element
+    (λ element b. provided (is_packable (type_of b element) && are_dimensions dimensions) (Made (VastDataType (next_type b)) (with_packed element dimensions b)))
 
 abbrev pub make_unpacked_array_type : ℕ → List ℤ → Call
-make_unpacked_array_type element dimensions b answers =
-    given (one a_type b answers element) (λ element. provided (are_dimensions dimensions)
-    (Made (VastDataType (next_type b)) (with_unpacked element dimensions b)))
+make_unpacked_array_type element dimensions =
+    takes_one a_type element (λ element b. provided (are_dimensions dimensions) (Made (VastDataType (next_type b)) (with_unpacked element dimensions b)))
 
 abbrev pub type_call : TypeStep → Call
 type_call MakeScalarType = make_type (ScalarTree false)
@@ -36,8 +35,7 @@ type_call (MakeIntType signed) = make_type (IntTree signed)
 type_call (MakeExternType name) = make_type (ExternalTree (string_bytes name))
 type_call (MakeExternPackageType package_name name) = make_type (PackageTree (string_bytes package_name) (string_bytes name))
 type_call (MakeBitVectorType bits signed) = λ b answers. provided (int_le (pos 1) bits) (Made (VastDataType (next_bit_vector bits b)) (with_bit_vector bits signed b))
-type_call (MakeBitVectorTypeExpr width signed) = λ b answers.
-    given (one an_expr b answers width) (λ width. provided (is_usable_width (tree_of b width))
-    (Made (VastDataType (next_type b)) (with_vector_expr width signed b)))
+type_call (MakeBitVectorTypeExpr width signed) = takes_one an_expr width
+    (λ width b. provided (is_usable_width (tree_of b width)) (Made (VastDataType (next_type b)) (with_vector_expr width signed b)))
 type_call (MakePackedArrayType element dimensions) = make_packed_array_type element dimensions.items
 type_call (MakeUnpackedArrayType element dimensions) = make_unpacked_array_type element dimensions.items

@@ -1,10 +1,12 @@
 -- What is replied.
-use Rattle.std.proofs.Common.{◌≡◌, ℕ, List, [], ◌++◌, Option, Some, None, Result, Ok, Err, IsErr, inr, refl, ap, ◌∙◌}
+use Rattle.std.proofs.Common.{◌≡◌, ℕ, List, [], ◌++◌, Option, Some, None, Result, Ok, Err, inr, refl, ap, ◌∙◌}
 use Rattle.std.specs.Prelude.{codes}
 use Rattle.vast_list.specs.declared.fault.Fault.{Fault}
 use Rattle.vast_list.specs.declared.fault.Fault.TheVariants.{Line, Memory}
 use Rattle.vast_list.specs.declared.session.Session.{Session}
+use Rattle.vast_list.specs.Lines.{HasKind, NamesDialect, Passed}
 use Rattle.vast_list.specs.Replies.{fault_object}
+use Rattle.vast_list.specs.Session.{IsOfLine}
 use Rattle.vast_talk.specs.Replies.{RepliesToFirst}
 use Rattle.vast_talk.specs.Internal.Replies.{AddsReply, AddsFault}
 
@@ -19,11 +21,10 @@ replied IsTold (Err Memory) given told reply adds grown ended = absurd grown
 
 -- A line at fault opens no session.
 pub first_fault :
-    (text : List ℕ) (session : Option Session) (number : ℕ) (line : List ℕ) (taken : Result (Unit {0}) Fault) → session ≡ None → IsErr taken →
-    AddsReply text text taken (RepliesToFirst session number line)
-first_fault text None number line (Err (Line fault)) none refused = (inr (fault, refl), refl)
-first_fault text None number line (Err Memory) none refused = tt
-first_fault text None number line (Ok done) none refused = cc
-first_fault text (Some session) number line taken none refused = absurd (cc none)
+    (text : List ℕ) (session : Option Session) (number : ℕ) (line : List ℕ) (fault : Fault) → session ≡ None →
+    IsOfLine number fault → (HasKind line Passed → ⊥) → (NamesDialect line → ⊥) → AddsReply text text (Err fault) (RepliesToFirst session number line)
+first_fault text None number line (Line fault) none of_line not_passed no_dialect = (inr (fault, (of_line, not_passed, no_dialect), refl), refl)
+first_fault text None number line Memory none of_line not_passed no_dialect = tt
+first_fault text (Some session) number line fault none of_line not_passed no_dialect = absurd (cc none)
 
 pub ruleset replies = (replied, first_fault)

@@ -8,9 +8,9 @@ use Rattle.vast_list.specs.declared.fault.Fault.TheVariants.{Line, Memory}
 use Rattle.vast_list.specs.declared.fault.LineFault.{LineFault}
 use Rattle.vast_list.specs.declared.session.Given.{Given}
 use Rattle.vast_list.specs.declared.session.Session.{Session}
-use Rattle.vast_list.specs.Lines.{HasKind, Passed, dialect_word, without_return}
+use Rattle.vast_list.specs.Lines.{HasKind, NamesDialect, Passed, dialect_word, without_return}
 use Rattle.vast_list.specs.Replies.{IsGivenObject, fault_object, line_front, text_member}
-use Rattle.vast_list.specs.Session.{IsGivenBy, Takes}
+use Rattle.vast_list.specs.Session.{IsGivenBy, IsNew, Takes}
 use Rattle.vast_talk.specs.declared.talk.Talk.{Talk}
 
 -- A line that begins anew.
@@ -32,12 +32,17 @@ abbrev pub RepliesToLine : (old new : Session) → (number : ℕ) → (line obje
 RepliesToLine old new number line object =
     (taken : Result Given Fault) × Takes old new line taken × IfOk taken (IsGivenBy line) × IsObjectOf number taken object
 
--- Before a session a blank line and a comment give nothing, a dialect opens one, and any other line is at fault.
+-- The fault of a line that is neither blank nor a comment and names no dialect.
+abbrev pub IsFirstFault : (number : ℕ) → (line : List ℕ) → LineFault → Type 0
+IsFirstFault number line fault = (fault.line ≡ number) × (HasKind line Passed → ⊥) × (NamesDialect line → ⊥)
+
+-- Before a session a blank line and a comment give nothing, a dialect opens a new one, and any other line is at fault.
 abbrev pub RepliesToFirst : (new : Option Session) → (number : ℕ) → (line object : List ℕ) → Type 0
 RepliesToFirst None number line object =
-    (HasKind line Passed × (object ≡ line_front number ++ codes "}")) ⊎ ((fault : LineFault) × (object ≡ fault_object fault))
+    (HasKind line Passed × (object ≡ line_front number ++ codes "}"))
+    ⊎ ((fault : LineFault) × IsFirstFault number line fault × (object ≡ fault_object fault))
 RepliesToFirst (Some new) number line object =
-    (dialect : VastFileType) × (without_return line ≡ dialect_word dialect)
+    (dialect : VastFileType) × (without_return line ≡ dialect_word dialect) × IsNew dialect new
     × (object ≡ text_object number (codes ",\"dialect\":") (dialect_word dialect))
 
 abbrev pub RepliesToTaken : (old new : Option Session) → (number : ℕ) → (line object : List ℕ) → Type 0

@@ -115,11 +115,28 @@ pub(crate) fn take_linted<'l>(
         → IsLevel lint.new session.new }
 {
     let step = session.step_of(line)?;
+    let given = take_step(session, lint, number, line, step.as_ref(), warnings);
+    drop(step);
+    given
+}
+
+/// The same, of a line that is this step, if it is one.
+fn take_step<'l>(
+    session: &mut Session,
+    lint: &mut SessionLint,
+    number: usize,
+    line: &'l [u8],
+    step: Option<&Step>,
+    warnings: &mut Vec<LineWarning>,
+) -> Result<Given<'l>, Fault>
+    ensures { IsLevel lint.old session.old → is_memory result ≡ false
+        → IsLevel lint.new session.new }
+{
     let given = session.line(number, line)?;
     match &given {
         Given::Nothing | Given::Answer { call: _, value: _ } => Ok(given),
         Given::Step { number: _, call: _ } | Given::Helper { number: _, call: _ } => {
-            match lint.answered(session, number, line, step.as_ref(), warnings) {
+            match lint.answered(session, number, line, step, warnings) {
                 Ok(()) => Ok(given),
                 Err(_) => Err(Fault::Memory),
             }

@@ -140,7 +140,10 @@ impl Talk {
             write!(text, "{{\"line\":{}}}", self.number)?;
             return Ok(());
         }
-        let dialect = dialect_of(self.alloc, self.number, line)?;
+        let dialect = match dialect_of(self.alloc, self.number, line) {
+            Ok(dialect) => dialect,
+            Err(fault) => return Err(fault),
+        };
         self.session = Some(Session::new(self.alloc, dialect));
         self.lint = lint_of(self.alloc, self.has_lint, dialect);
         push_one(text, self.number, ",\"dialect\":", dialect_word(dialect))?;

@@ -26,7 +26,7 @@ use Rattle.vast_core.proofs.Products.{≤ℤ_trans, at-least, product-positive, 
 use Rattle.xlsynth_vast.specs.Literals.{selector_text}
 use Rattle.xlsynth_vast.specs.Reductions.{HasMoreNodes}
 use Rattle.xlsynth_vast.specs.Internal.Reductions.{ChecksBy, AddsTrees, MakesTrees}
-use Rattle.xlsynth_vast.specs.Refusals.{and_then}
+use Rattle.vast_literal.specs.Literal.{and_then}
 use Rattle.xlsynth_vast.specs.ArrayReduction.{slots, elements, element_at}
 use Rattle.xlsynth_vast.proofs.Reduced.{more-none, more-root, more-more, more_owned, more_tree, more_trees, all-more, All-at}
 
@@ -75,14 +75,14 @@ count-over ds i d read total below each at is some same over =
 
 -- Checks one behind another.
 
-pub first_refuses : (first second : Result (Unit {0}) (List ℕ)) (fault : VastFault) → RefusedBy first fault → RefusedBy (and_then first second) fault
-first_refuses (Ok _) second (Refused e) h = absurd cc
-first_refuses (Err words) second (Refused e) h = h
-first_refuses first second (Memory e) h = tt
+pub first_refuses : (first : Result (Unit {0}) (List ℕ)) (next : Unit {0} → Result (Unit {0}) (List ℕ)) (fault : VastFault) → RefusedBy first fault → RefusedBy (and_then first next) fault
+first_refuses (Ok _) next (Refused e) h = absurd cc
+first_refuses (Err words) next (Refused e) h = h
+first_refuses first next (Memory e) h = tt
 
-pub first_passes : {A : Type 0} (first second : Result (Unit {0}) (List ℕ)) (r : Result A VastFault) → first ≡ Ok tt → ChecksBy second r → ChecksBy (and_then first second) r
-first_passes (Ok _) second r is h = h
-first_passes (Err words) second r is h = absurd cc
+pub first_passes : {A : Type 0} (first : Result (Unit {0}) (List ℕ)) (next : Unit {0} → Result (Unit {0}) (List ℕ)) (r : Result A VastFault) → first ≡ Ok tt → ChecksBy (next tt) r → ChecksBy (and_then first next) r
+first_passes (Ok _) next r is h = h
+first_passes (Err words) next r is h = absurd cc
 
 pub ruleset checks = (first_refuses, first_passes)
 

@@ -8,7 +8,7 @@ use Rattle.std.specs.Fmt.{signed_decimal}
 use Rattle.vast_literal.specs.Tree.{ExprTree, NameTree, IndexTree, TypeCastTree, TypeTree, PackedTree, MaybeType, Untyped, Typed}
 use Rattle.vast_core.specs.BitCount.{product}
 use Rattle.vast_core.specs.Growth.{known_literal}
-use Rattle.xlsynth_vast.specs.Refusals.{and_then}
+use Rattle.vast_literal.specs.Literal.{and_then}
 use Rattle.xlsynth_vast.specs.Literals.{selector_text}
 use Rattle.xlsynth_vast.specs.Reductions.{bitwise_reduction}
 
@@ -54,7 +54,7 @@ abbrev pub countable : List ℤ → Result (Unit {0}) (List ℕ)
 countable given = if int_lt (product given) (pos (2 ^ 64)) then Ok tt else Err (codes "packed-array element count exceeds usize")
 
 unfoldable pub reducible : ExprTree → List ℤ → Result (Unit {0}) (List ℕ)
-reducible array given = and_then (any_dimension given) (and_then (each_positive given) (and_then (as_known (known_dimensions array) given) (countable given)))
+reducible array given = and_then (any_dimension given) (λ _. and_then (each_positive given) (λ _. and_then (as_known (known_dimensions array) given) (λ _. countable given)))
 
 -- The elements.
 

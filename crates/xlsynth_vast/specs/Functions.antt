@@ -10,7 +10,7 @@ use Rattle.vast_core.specs.Nests.{FunctionRecord}
 use Rattle.vast_core.specs.Bench.{Bench, function_names}
 use Rattle.vast_core.specs.Growth.{with_named_member}
 use Rattle.vast_core.specs.Loops.{next_function, with_function}
-use Rattle.xlsynth_vast.specs.Refusals.{and_then}
+use Rattle.vast_literal.specs.Literal.{and_then}
 use Rattle.xlsynth_vast.specs.Declarations.{listed_names, unless_taken}
 
 -- An unpacked array is no type of a function's result.
@@ -23,7 +23,7 @@ unless_unpacked t = if is_unpacked t then Err (codes "FAILED_PRECONDITION: funct
 
 -- The type of the result is looked at first, then the name.
 abbrev pub may_be_function : TypeTree → (name : List ℕ) (names : List (List ℕ)) → Result (Unit {0}) (List ℕ)
-may_be_function t name names = and_then (unless_unpacked t) (unless_taken (codes "function") name names)
+may_be_function t name names = and_then (unless_unpacked t) (λ _. unless_taken (codes "function") name names)
 
 -- A function more as the module's last member, whose name is taken from then on.
 abbrev pub with_function_member : VastModule → List ℕ → VastDataType → Bench → Bench

@@ -15,11 +15,6 @@ MayBuild old new (Err fault) rule answer after = RefusedBy (rule old) fault × (
 abbrev pub no_refusal : Bench → Result (Unit {0}) (List ℕ)
 no_refusal _ = Ok tt
 
--- The first rule, and where it allows the call the second: of both refusals the first one decides.
-abbrev pub and_then : (first second : Result (Unit {0}) (List ℕ)) → Result (Unit {0}) (List ℕ)
-and_then (Ok _) second = second
-and_then (Err words) second = Err words
-
 -- A call that changes nothing answers what the rule answers; or its refusal, for whose words alone memory was wanted.
 abbrev pub AnswersBy : {A : Type 0} → Result A (List ℕ) → Result A VastFault → Type 0
 AnswersBy rule (Ok x) = rule ≡ Ok x
