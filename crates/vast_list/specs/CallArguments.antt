@@ -9,7 +9,7 @@ use Rattle.vast_literal.specs.declared.literal.LiteralFormat.TheVariants.{Binary
 use Rattle.vast_script.specs.declared.step.Step.{Step}
 use Rattle.vast_script.specs.declared.step.Step.TheVariants.{Operators, Expressions, Types, Modules, Loops, Statements, Artifacts}
 use Rattle.vast_script.specs.declared.step.OperatorStep.{OperatorStep}
-use Rattle.vast_script.specs.declared.step.OperatorStep.TheVariants.{MakeNot, MakeBitwiseNot, MakeNegate, MakeLogicalNot, MakeAndReduce, MakeOrReduce, MakeXorReduce, MakeAdd, MakeSub, MakeMul, MakeDiv, MakeMod, MakePower, MakeBitwiseAnd, MakeBitwiseOr, MakeBitwiseXor, MakeShll, MakeShra, MakeShrl, MakeNe, MakeCaseNe, MakeEq, MakeCaseEq, MakeGe, MakeGt, MakeLe, MakeLt, MakeLogicalAnd, MakeLogicalOr, MakeNeX, MakeEqX}
+use Rattle.vast_script.specs.Operators.{Operation, Before, Between, operation}
 use Rattle.vast_script.specs.declared.step.ExpressionStep.{ExpressionStep}
 use Rattle.vast_script.specs.declared.step.ExpressionStep.TheVariants.{MakeLiteral, MakeBinaryPattern, MakeUnsizedDecimalLiteral, MakeStringLiteral, MakeUnsizedOneLiteral, MakeUnsizedZeroLiteral, MakeUnsizedXLiteral, MakeName, MakeIndexableExpression, MakeSlice, MakeIndex, MakeSliceExpr, MakeIndexExpr, MakeIndexedPartSelect, MakeFunctionCall, MakeConcat, MakeReplicatedConcat, MakeReplicatedConcatI64, MakeArrayAssignmentPattern, MakeTernary, MakeWidthCast, MakeTypeCast, MakePosEdge, MakeNegEdge, MakeMacroRef, MakeMacroRefWithArgs}
 use Rattle.vast_script.specs.declared.step.TypeStep.{TypeStep}
@@ -90,38 +90,12 @@ abbrev pub optional : {A : Type 0} → (A → List Piece) → Option A → List 
 optional pieces None = Word (codes "-") ∷ []
 optional pieces (Some x) = Word (codes "+") ∷ pieces x
 
+abbrev pub operation_pieces : Operation → List Piece
+operation_pieces (Before operator a) = place a
+operation_pieces (Between operator a b) = place a ++ place b
+
 abbrev pub operator_pieces : OperatorStep → List Piece
-operator_pieces (MakeNot a) = place a
-operator_pieces (MakeBitwiseNot a) = place a
-operator_pieces (MakeNegate a) = place a
-operator_pieces (MakeLogicalNot a) = place a
-operator_pieces (MakeAndReduce a) = place a
-operator_pieces (MakeOrReduce a) = place a
-operator_pieces (MakeXorReduce a) = place a
-operator_pieces (MakeAdd a b) = place a ++ place b
-operator_pieces (MakeSub a b) = place a ++ place b
-operator_pieces (MakeMul a b) = place a ++ place b
-operator_pieces (MakeDiv a b) = place a ++ place b
-operator_pieces (MakeMod a b) = place a ++ place b
-operator_pieces (MakePower a b) = place a ++ place b
-operator_pieces (MakeBitwiseAnd a b) = place a ++ place b
-operator_pieces (MakeBitwiseOr a b) = place a ++ place b
-operator_pieces (MakeBitwiseXor a b) = place a ++ place b
-operator_pieces (MakeShll a b) = place a ++ place b
-operator_pieces (MakeShra a b) = place a ++ place b
-operator_pieces (MakeShrl a b) = place a ++ place b
-operator_pieces (MakeNe a b) = place a ++ place b
-operator_pieces (MakeCaseNe a b) = place a ++ place b
-operator_pieces (MakeEq a b) = place a ++ place b
-operator_pieces (MakeCaseEq a b) = place a ++ place b
-operator_pieces (MakeGe a b) = place a ++ place b
-operator_pieces (MakeGt a b) = place a ++ place b
-operator_pieces (MakeLe a b) = place a ++ place b
-operator_pieces (MakeLt a b) = place a ++ place b
-operator_pieces (MakeLogicalAnd a b) = place a ++ place b
-operator_pieces (MakeLogicalOr a b) = place a ++ place b
-operator_pieces (MakeNeX a b) = place a ++ place b
-operator_pieces (MakeEqX a b) = place a ++ place b
+operator_pieces step = operation_pieces (operation step)
 
 abbrev pub expression_pieces : ExpressionStep → List Piece
 expression_pieces (MakeLiteral a b) = text a ++ format b

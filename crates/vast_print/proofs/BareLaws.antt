@@ -100,31 +100,7 @@ broken-unary OrReduceOp = record { broken = refl }
 broken-unary XorReduceOp = record { broken = refl }
 
 broken-binary : (o : BinaryOp) → Broken (binary_operator_text o)
-unfolding binary_operator_token
-broken-binary AddOp = record { broken = refl }
-broken-binary SubOp = record { broken = refl }
-broken-binary MulOp = record { broken = refl }
-broken-binary DivOp = record { broken = refl }
-broken-binary ModOp = record { broken = refl }
-broken-binary PowerOp = record { broken = refl }
-broken-binary BitwiseAndOp = record { broken = refl }
-broken-binary BitwiseOrOp = record { broken = refl }
-broken-binary BitwiseXorOp = record { broken = refl }
-broken-binary ShllOp = record { broken = refl }
-broken-binary ShraOp = record { broken = refl }
-broken-binary ShrlOp = record { broken = refl }
-broken-binary NeOp = record { broken = refl }
-broken-binary CaseNeOp = record { broken = refl }
-broken-binary EqOp = record { broken = refl }
-broken-binary CaseEqOp = record { broken = refl }
-broken-binary GeOp = record { broken = refl }
-broken-binary GtOp = record { broken = refl }
-broken-binary LeOp = record { broken = refl }
-broken-binary LtOp = record { broken = refl }
-broken-binary LogicalAndOp = record { broken = refl }
-broken-binary LogicalOrOp = record { broken = refl }
-broken-binary NeXOp = record { broken = refl }
-broken-binary EqXOp = record { broken = refl }
+broken-binary o = record { broken = refl }
 
 broken-type-cast : (t : TypeTree) (p : Printed) → Broken (type_cast t p).text
 unfolding type_cast
