@@ -23,7 +23,8 @@ entries_page (p ∷ []) = lead (written p)
 entries_page (p ∷ q ∷ ps) = above (lead (written (p ⊕ plain_text (codes ",")))) (entries_page (q ∷ ps))
 
 abbrev pub parameter_word : Bool → List ℕ
-parameter_word local = if local then codes "localparam " else codes "parameter "
+parameter_word true = codes "localparam "
+parameter_word false = codes "parameter "
 
 abbrev pub parameter_text : Dialect → ParameterName → Printed
 parameter_text dialect (PlainParameter name) = plain_text name

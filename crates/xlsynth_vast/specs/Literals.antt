@@ -4,7 +4,7 @@ use Rattle.std.specs.Fmt.{signed_decimal, decimal}
 use Rattle.vast_literal.specs.declared.literal.LiteralFormat.{LiteralFormat}
 use Rattle.vast_literal.specs.declared.literal.LiteralFormat.TheVariants.{Hex}
 use Rattle.vast_literal.specs.Tree.{ExprTree, LiteralTree, StringTree}
-use Rattle.vast_literal.specs.Literal.{Bits, literal_of}
+use Rattle.vast_literal.specs.Literal.{Bits, and_then, literal_of}
 use Rattle.vast_literal.specs.Quoted.{quoted}
 use Rattle.vast_literal.specs.LiteralText.{format_takes, format_text}
 
@@ -16,18 +16,9 @@ known_value v = if nat_lt v (2 ^ 63) then Some (pos v) else None
 abbrev pub formatted : LiteralFormat → Bits → ExprTree
 formatted format bits = LiteralTree (format_text format bits.width bits.value) (known_value bits.value)
 
--- The number, if the format takes it.
-abbrev pub formatted_if : LiteralFormat → Bits → Result (Unit {0}) (List ℕ) → Result ExprTree (List ℕ)
-formatted_if format bits (Ok _) = Ok (formatted format bits)
-formatted_if format bits (Err refusal) = Err refusal
-
-abbrev pub formatted_as : LiteralFormat → Result Bits (List ℕ) → Result ExprTree (List ℕ)
-formatted_as format (Ok bits) = formatted_if format bits (format_takes format bits.value)
-formatted_as format (Err refusal) = Err refusal
-
 -- The literal that a text denotes, written in a format; or the refusal of the text, and then that of the format.
 abbrev pub literal_in : LiteralFormat → List ℕ → Result ExprTree (List ℕ)
-literal_in format text = formatted_as format (literal_of text)
+literal_in format text = and_then (literal_of text) (λ bits. and_then (format_takes format bits.value) (λ _. Ok (formatted format bits)))
 
 -- A pattern, whose value isn't known.
 abbrev pub pattern_literal : List ℕ → ExprTree
