@@ -10,7 +10,7 @@ use Rattle.xlsynth_vast.specs.Types.{with_vector_expr, with_packed, with_unpacke
 use Rattle.vast_script.specs.declared.answer.Answer.TheVariants.{VastDataType}
 use Rattle.vast_script.specs.declared.step.TypeStep.{TypeStep}
 use Rattle.vast_script.specs.declared.step.TypeStep.TheVariants.{MakeScalarType, MakeIntegerType, MakeIntType, MakeExternType, MakeExternPackageType, MakeBitVectorType, MakeBitVectorTypeExpr, MakePackedArrayType, MakeUnpackedArrayType}
-use Rattle.vast_script.specs.Outcome.{Call, Made, provided, makes}
+use Rattle.vast_script.specs.Outcome.{Call, Made, provided}
 use Rattle.vast_script.specs.Kinds.{a_type, an_expr}
 use Rattle.vast_script.specs.Arguments.{takes_one}
 use Rattle.vast_script.specs.Conditions.{are_dimensions}
