@@ -15,8 +15,9 @@ use Rattle.vast_script.specs.declared.answer.Answer.TheVariants.{GenerateLoop, L
 use Rattle.vast_script.specs.declared.step.LoopStep.{LoopStep}
 use Rattle.vast_script.specs.declared.step.LoopStep.TheVariants.{AddGenerateLoop, GenerateAddGenerateLoop, GenerateGenvar, GenerateAddAlwaysComb, GenerateAddAlwaysFf, GenerateAddAlwaysAt, GenerateAddLocalparam, GenerateAddTypedLocalparam, GenerateAddContinuousAssignment, GenerateAddConditional, GenerateAddBlankLine, GenerateAddComment, GenerateAddInstantiation, GenerateAddInlineStatement, GenerateAddMacroStatement}
 use Rattle.vast_script.specs.Outcome.{Call, Made, allowed, holding, makes}
-use Rattle.vast_script.specs.Kinds.{a_module, a_loop, an_expr, a_definition, a_comment, an_instantiation, an_inline, a_macro_statement}
+use Rattle.vast_script.specs.Kinds.{a_module, a_loop, an_expr, a_definition, a_comment, an_instantiation, an_inline, a_macro_statement, Kind}
 use Rattle.vast_script.specs.Arguments.{takes_one, takes_two, takes_three, takes_one_and_many}
+use Rattle.vast_core.specs.declared.node.Member.{Member}
 
 abbrev pub generate_add_always : AlwaysKind → (word : List ℕ) → ℕ → List ℕ → Call
 generate_add_always kind word generate events =
