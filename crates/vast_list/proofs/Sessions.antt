@@ -1,5 +1,5 @@
 -- What the lines of a session leave.
-use Rattle.std.proofs.Common.{◌≡◌, ℕ, Bool, false, if◌then◌else◌, List, [], Result, Ok, Err, Some, None, String, inl, inr, refl, ap, subst, sym, ◌∙◌, append-nil, string_bytes}
+use Rattle.std.proofs.Common.{◌≡◌, ℕ, Bool, false, if◌then◌else◌, List, [], Result, Ok, Err, Some, None, String, inl, inr, refl, ap, subst, sym, ◌∙◌, append-nil, string_bytes, true, ◌∷◌, ◌&&◌, nat_lt, ltb-true}
 use Rattle.std.specs.declared.alloc.Global.{Global}
 use Rattle.vast_literal.specs.Tree.{FileTree}
 use Rattle.vast_literal.specs.declared.error.VastFault.{VastFault}
@@ -35,8 +35,10 @@ use Rattle.vast_list.specs.CallNames.{call_name}
 use Rattle.vast_list.specs.Session.{Calls, Enters, HasMade, IsCallOf, IsCause, IsCausedBy, IsInForm, IsOfLine, IsStepIn, call_kind, IsFileLeft, IsLeft, IsMade, IsTextOf, IsWrittenIn}
 use Rattle.vast_list.specs.Internal.Session.{IsActionOf, IsCallFault, IsRead, IsToldAs, IsToldOf}
 use Rattle.vast_list.specs.Written.{meaning}
-use Rattle.std.specs.Str.{IsUtf8}
-use Rattle.std.proofs.lemmas.Str.{IsUtf8-from_is_utf8}
+use Rattle.std.specs.Str.{IsUtf8, IsAscii}
+use Rattle.std.proofs.lemmas.Bool.{and_parts}
+use Rattle.std.proofs.lemmas.Str.{IsUtf8-from_ascii}
+use Rattle.std.proofs.lemmas.Str.Ascii.{IsAscii-nil, IsAscii-cons}
 use Rattle.vast_literal.specs.declared.kind.VastFileType.TheVariants.{Verilog, SystemVerilog}
 
 pub nodes-unused : (old new : Bench) → HasMoreNodes old new → HasUnused old new
@@ -102,10 +104,18 @@ pub of_line : (number : ℕ) (cause : Option StepFault) (told : Fault) → IsTol
 of_line number cause (Line f) e = e.0
 of_line number cause Memory e = tt
 
+abbrev are_ascii : List ℕ → Bool
+are_ascii [] = true
+are_ascii (b ∷ bs) = nat_lt b 128 && are_ascii bs
+
+ascii : (bs : List ℕ) → are_ascii bs ≡ true → IsAscii bs
+ascii [] e = IsAscii-nil
+ascii (b ∷ bs) e = let parts = and_parts _ _ e in IsAscii-cons b bs (ltb-true b 128 parts.0) (ascii bs parts.1)
+
 -- The word of a dialect is UTF-8, so a line that isn't names none.
 pub named_dialect : (line : List ℕ) → (IsUtf8 (without_return line) → ⊥) → NamesDialect line → ⊥
-named_dialect line other (Verilog, is) = other (subst IsUtf8 (sym is) (IsUtf8-from_is_utf8 (codes "verilog") refl))
-named_dialect line other (SystemVerilog, is) = other (subst IsUtf8 (sym is) (IsUtf8-from_is_utf8 (codes "systemverilog") refl))
+named_dialect line other (Verilog, is) = other (subst IsUtf8 (sym is) (IsUtf8-from_ascii (codes "verilog") (ascii (codes "verilog") refl)))
+named_dialect line other (SystemVerilog, is) = other (subst IsUtf8 (sym is) (IsUtf8-from_ascii (codes "systemverilog") (ascii (codes "systemverilog") refl)))
 
 -- Where memory was refused.
 
