@@ -132,7 +132,7 @@ pub file_same : (old new : Session) (fault : Fault) → new.file ≡ old.file �
 file_same old new (Line f) e a = (e, a)
 file_same old new Memory e a = (ap tree e, a)
 
-pub ruleset dialects = (of_line, named_dialect)
+pub ruleset dialects = (of_line)
 
 pub ruleset faults = (left_call, file_same, unused_call, same-unused, call_fault, of_line, memory_call, memory_line)
 
