@@ -1,5 +1,5 @@
 -- What is replied.
-use Rattle.std.proofs.Common.{◌≡◌, ℕ, List, [], ◌++◌, Option, Some, None, Result, Ok, Err, inr, refl, ap, ◌∙◌}
+use Rattle.std.proofs.Common.{◌≡◌, ℕ, List, [], ◌++◌, Option, Some, None, Result, Ok, Err, inr, refl, ap, ◌∙◌, Bool, false, IsTrue, sym, ◌↔◌}
 use Rattle.std.specs.Prelude.{codes}
 use Rattle.vast_list.specs.declared.fault.Fault.{Fault}
 use Rattle.vast_list.specs.declared.fault.Fault.TheVariants.{Line, Memory}
@@ -19,12 +19,13 @@ replied IsTold (Err (Line fault)) given told reply (is, same) grown ended =
     (fault_object fault, is, ended ∙ ap (λ (text : List ℕ). text ++ codes "\n") (grown ∙ ap (λ (text : List ℕ). text ++ fault_object fault) same))
 replied IsTold (Err Memory) given told reply adds grown ended = absurd grown
 
--- A line at fault opens no session.
+-- A line that is not empty and names no dialect is at fault, and opens no session.
 pub first_fault :
-    (text : List ℕ) (session : Option Session) (number : ℕ) (line : List ℕ) (fault : Fault) → session ≡ None →
-    IsOfLine number fault → (HasKind line Passed → ⊥) → (NamesDialect line → ⊥) → AddsReply text text (Err fault) (RepliesToFirst session number line)
-first_fault text None number line (Line fault) none of_line not_passed no_dialect = (inr (fault, (of_line, not_passed, no_dialect), refl), refl)
-first_fault text None number line Memory none of_line not_passed no_dialect = tt
-first_fault text (Some session) number line fault none of_line not_passed no_dialect = absurd (cc none)
+    (text : List ℕ) (session : Option Session) (number : ℕ) (line : List ℕ) (fault : Fault) (is_empty : Bool) → session ≡ None → is_empty ≡ false →
+    (IsTrue is_empty ↔ HasKind line Passed) → (NamesDialect line → ⊥) → IsOfLine number fault → AddsReply text text (Err fault) (RepliesToFirst session number line)
+first_fault text None number line (Line fault) is_empty none full passes no_dialect of_line =
+    (inr (fault, (of_line, (λ passed. absurd (cc (sym full ∙ passes.1 passed))), no_dialect), refl), refl)
+first_fault text None number line Memory is_empty none full passes no_dialect of_line = tt
+first_fault text (Some session) number line fault is_empty none full passes no_dialect of_line = absurd (cc none)
 
 pub ruleset replies = (replied, first_fault)
