@@ -1,7 +1,6 @@
 -- Laws of expressions that wait to be looked at.
 use Rattle.std.proofs.Common.{◌≡◌, ◌+◌, List, [], ◌∷◌, ◌++◌, sym, ◌∙◌, ap, arith}
 use Rattle.std.specs.Prelude.{◌&&◌}
-use Rattle.vast_literal.specs.Tree.{ExprTree, Exprs, MoreExprs}
 use Rattle.vast_literal.specs.Plain.{is_plain, are_plain}
 use Rattle.vast_core.specs.declared.handle.Expr.{Expr}
 use Rattle.vast_core.specs.Bench.{Bench, tree_of, trees_of}

@@ -1,5 +1,5 @@
 -- The pages of statements.
-use Rattle.std.specs.Prelude.{ℕ, Bool, true, false, List, [], codes, cond, if◌then◌else◌}
+use Rattle.std.specs.Prelude.{ℕ, Bool, List, [], codes, cond, if◌then◌else◌}
 use Rattle.vast_literal.specs.Tree.{MaybeExpr, NoExpr, SomeExpr}
 use Rattle.vast_literal.specs.declared.kind.AssignmentForm.{AssignmentForm as AssignForm}
 use Rattle.vast_literal.specs.declared.kind.AssignmentForm.TheVariants.{Nonblocking, Continuous}

@@ -1,5 +1,5 @@
 -- Literals as expressions: their texts, and their values where these are known.
-use Rattle.std.specs.Prelude.{ℕ, ℤ, pos, ◌^◌, List, nat_lt, nat_le, Option, Some, None, Result, Ok, Err, if◌then◌else◌}
+use Rattle.std.specs.Prelude.{ℕ, ℤ, pos, ◌^◌, List, nat_lt, nat_le, Option, Some, None, Result, Ok, if◌then◌else◌}
 use Rattle.std.specs.Fmt.{signed_decimal, decimal}
 use Rattle.vast_literal.specs.declared.literal.LiteralFormat.{LiteralFormat}
 use Rattle.vast_literal.specs.declared.literal.LiteralFormat.TheVariants.{Hex}
