@@ -3,10 +3,9 @@ use Rattle.std.proofs.Common.{◌≡◌, ℕ, Bool, true, false, cond, bytes_eq,
 use Rattle.std.proofs.lemmas.Slice.Eq.{bytes_eq-Decides}
 use Rattle.vast_literal.specs.Tokens.{op_text}
 use Rattle.vast_literal.specs.Tokens.{Op, Less, LogicNot}
-use Rattle.vast_literal.specs.NormalExpr.{NormalExpr, NormalExprs, Name, Binary}
+use Rattle.vast_literal.specs.NormalExpr.{NormalExpr, Name, Binary}
 use Rattle.vast_literal.specs.Internal.MemberParser.{bound_of}
 use Rattle.vast_read.specs.Texts.{signs, sign_written, infix_of}
-use Rattle.vast_read.specs.View.{with_arguments}
 use Rattle.vast_read.specs.Internal.Bounds.{is_name_of, is_bounded}
 use Rattle.vast_read.proofs.BoundsWords.{is_less}
 
@@ -25,10 +24,6 @@ name_same n w e = (bytes_eq-Decides n w).1 (sym e)
 
 pub name_other : (n w : List ℕ) → (w ≡ n → ⊥) → is_name_of n (Name w) ≡ false
 name_other n w d = differs n w (λ e. d (sym e))
-
-pub macro_no_name : (n w : List ℕ) (xs : Option NormalExprs) → is_name_of n (with_arguments w xs) ≡ false
-macro_no_name n w None = refl
-macro_no_name n w (Some xs) = refl
 
 -- a sign that is not the first one looked for
 pass : (b : Bool) (op rest : Op) → is_less op ≡ false → is_less rest ≡ false → is_less (cond b op rest) ≡ false
@@ -78,12 +73,7 @@ bound_name n w l r e h = rw (less_of w e, less_name n l r, h)
 bound_less : (n w : List ℕ) (l r : NormalExpr) → bytes_eq w (codes "<") ≡ true → is_name_of n l ≡ true → bound_of n (Binary (infix_of w) l r) ≡ Some r
 bound_less n w l r e h = rw (less_of w e, less_name n l r, h)
 
-pub bound_macro : (n w : List ℕ) (xs : Option NormalExprs) → bound_of n (with_arguments w xs) ≡ None
-unfolding bound_of
-bound_macro n w None = refl
-bound_macro n w (Some xs) = refl
-
-pub ruleset names = (name_same, name_other, macro_no_name)
+pub ruleset names = (name_same, name_other)
 
 pub test_sign : (n w : List ℕ) (l : NormalExpr) → bytes_eq w (codes "<") ≡ false → is_bounded n w l ≡ false
 unfolding is_bounded
@@ -109,4 +99,4 @@ bound_missing n w l r e = go (bytes_eq w (codes "<")) refl
 
 pub ruleset tests = (test_sign, test_name)
 
-pub ruleset bounds = (bound_given, bound_missing, bound_macro)
+pub ruleset bounds = (bound_given, bound_missing)

@@ -44,12 +44,12 @@ abbrev pub member_level : NormalMember-F normal.NormalMember → normal.NormalMe
 member_level (NormalMember-F.Declaration d) = normal.DeclarationPart (declaration_view d.value)
 member_level (NormalMember-F.Assign l r) = normal.AssignPart (view l.value) (view r.value)
 member_level (NormalMember-F.Parameter word d x) = normal.ParameterPart (key_of word) (declaration_view d.value) (view x.value)
-member_level (NormalMember-F.Macro name xs semicolon) = normal.MacroPart name (option_map listed xs) semicolon
-member_level (NormalMember-F.Instance m ps i cs) = normal.InstancePart m (connections_view ps) i (connections_view cs)
-member_level (NormalMember-F.Always word es b) = normal.AlwaysPart (key_of word) (events_view es) (block_view b)
+member_level (NormalMember-F.Macro m) = normal.MacroPart m.value.name (option_map listed m.value.arguments) m.value.has_semicolon
+member_level (NormalMember-F.Instance i) = normal.InstancePart i.value.definition (connections_view i.value.parameters) i.value.name (connections_view i.value.connections)
+member_level (NormalMember-F.Always a) = normal.AlwaysPart (key_of a.value.word) (events_view a.value.events) (block_view a.value.body)
 member_level (NormalMember-F.Conditional s) = normal.ConditionalPart (arms_in (statement_view s.value))
-member_level (NormalMember-F.Function d is ls b) = normal.FunctionPart (declaration_view d.value) (declarations_view is) (declarations_view ls) (block_view b)
-member_level (NormalMember-F.Loop i x e l ms) = normal.LoopPart i (view x.value) (view e.value) l (members_of ms)
+member_level (NormalMember-F.Function f) = normal.FunctionPart (declaration_view f.value.output.value) (declarations_view f.value.inputs) (declarations_view f.value.locals) (block_view f.value.body)
+member_level (NormalMember-F.Loop l ms) = normal.LoopPart l.value.variable (view l.value.start.value) (view l.value.end.value) l.value.label (members_of ms)
 
 abbrev pub member_view : NormalMember → normal.NormalMember
 member_view = fold-NormalMember normal.NormalMember member_level

@@ -9,12 +9,12 @@ abbrev pub member_step : NormalMember-F Rounds → Rounds
 member_step (NormalMember-F.Declaration d) = of_nothing
 member_step (NormalMember-F.Assign l r) = of_nothing
 member_step (NormalMember-F.Parameter word d x) = of_nothing
-member_step (NormalMember-F.Macro name xs semicolon) = of_nothing
-member_step (NormalMember-F.Instance m ps i cs) = of_nothing
-member_step (NormalMember-F.Always word es b) = of_nothing
+member_step (NormalMember-F.Macro m) = of_nothing
+member_step (NormalMember-F.Instance i) = of_nothing
+member_step (NormalMember-F.Always a) = of_nothing
 member_step (NormalMember-F.Conditional s) = of_nothing
-member_step (NormalMember-F.Function d is ls b) = of_nothing
-member_step (NormalMember-F.Loop i x e l ms) = of_list ms
+member_step (NormalMember-F.Function f) = of_nothing
+member_step (NormalMember-F.Loop l ms) = of_list ms
 
 abbrev pub member_rounds : NormalMember → Rounds
 member_rounds = fold-NormalMember Rounds member_step

@@ -38,10 +38,6 @@ of_list xs = (rounds_each xs + 2, rounds_first_last xs + 1)
 abbrev pub of_counted : Rounds → List Rounds → Rounds
 of_counted x xs = (x.0 + rounds_each xs + 3, x.1 + rounds_each xs + 2)
 
-abbrev pub of_arguments : Option (List Rounds) → Rounds
-of_arguments None = of_nothing
-of_arguments (Some xs) = of_list xs
-
 -- Of an item, and of a list of items where one waits: its last item is taken first.
 abbrev pub left_with : {A : Type 0} → (A → Rounds) → A → Option (List A) → ℕ
 left_with f x None = (f x).1
@@ -62,7 +58,8 @@ rounds_level (NormalExpr-F.Concat xs) = of_list xs
 rounds_level (NormalExpr-F.Replicated x xs) = of_counted x.value xs
 rounds_level (NormalExpr-F.Pattern xs) = of_list xs
 rounds_level (NormalExpr-F.Call w xs) = of_list xs
-rounds_level (NormalExpr-F.Macro w xs) = of_arguments xs
+rounds_level (NormalExpr-F.MacroAlone w) = of_nothing
+rounds_level (NormalExpr-F.MacroCall w xs) = of_list xs
 rounds_level (NormalExpr-F.Cast x y) = of_two x.value y.value
 rounds_level (NormalExpr-F.PackageCast p w x) = of_one x.value
 rounds_level (NormalExpr-F.WordCast w x) = of_one x.value

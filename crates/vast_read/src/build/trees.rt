@@ -54,43 +54,40 @@ impl<'t> Build<'t> for Trees {
         ensures ok { IfOk result (λ x. view x.value ≡ form_tree trees form.entry) }
         ensures err { IfErr result (λ e. e ≡ Memory) }
     {
-        let tree = formed(alloc, form)?;
-        Ok(Box::new(alloc, tree)?)
+        match form {
+            Form::Name(text) => boxed(alloc, NormalExpr::Name(Word::new(alloc, text)?)),
+            Form::Literal(text) => boxed(alloc, NormalExpr::Literal(Word::new(alloc, text)?)),
+            Form::Text(text) => boxed(alloc, NormalExpr::Text(Word::new(alloc, text)?)),
+            Form::MacroAlone(name) => boxed(alloc, NormalExpr::MacroAlone(Word::new(alloc, name)?)),
+            Form::Unary(sign, operand) => NormalExpr::unary(alloc, sign, operand),
+            Form::Binary(sign, left, right) => NormalExpr::binary(alloc, sign, left, right),
+            Form::Ternary(condition, consequent, alternate) => {
+                boxed(alloc, NormalExpr::Ternary(condition, consequent, alternate))
+            }
+            Form::Index(subject, index) => boxed(alloc, NormalExpr::Index(subject, index)),
+            Form::Slice(subject, high, low) => boxed(alloc, NormalExpr::Slice(subject, high, low)),
+            Form::PartSelect(subject, start, width) => {
+                NormalExpr::part_select(alloc, subject, start, width)
+            }
+            Form::Call(name, parts) => NormalExpr::call(alloc, name, parts),
+            Form::MacroCall(name, parts) => NormalExpr::macro_call(alloc, name, parts),
+            Form::Cast(head, operand) => boxed(alloc, NormalExpr::Cast(head, operand)),
+            Form::PackageCast(scope, name, operand) => {
+                NormalExpr::package_cast(alloc, scope, name, operand)
+            }
+            Form::WordCast(key, operand) => NormalExpr::word_cast(alloc, key, operand),
+            Form::Replicated(count, parts) => boxed(alloc, NormalExpr::Replicated(count, parts)),
+            Form::Concat(parts) => boxed(alloc, NormalExpr::Concat(parts)),
+            Form::Pattern(parts) => boxed(alloc, NormalExpr::Pattern(parts)),
+        }
     }
 }
 
-/// The tree of an expression, of the trees of its parts.
-fn formed<'t>(
-    alloc: Global,
-    form: Form<'t, Box<NormalExpr>, Children<NormalExpr>, Word>,
-) -> Result<NormalExpr, Fault>
-    ensures ok { IfOk result (λ x. view x ≡ form_tree trees form.entry) }
+/// A tree in a box.
+#[inline(always)]
+fn boxed(alloc: Global, tree: NormalExpr) -> Result<Box<NormalExpr>, Fault>
+    ensures ok { IfOk result (λ x. x.value ≡ tree) }
     ensures err { IfErr result (λ e. e ≡ Memory) }
 {
-    match form {
-        Form::Name(text) => Ok(NormalExpr::Name(Word::new(alloc, text)?)),
-        Form::Literal(text) => Ok(NormalExpr::Literal(Word::new(alloc, text)?)),
-        Form::Text(text) => Ok(NormalExpr::Text(Word::new(alloc, text)?)),
-        Form::MacroAlone(name) => Ok(NormalExpr::Macro(Word::new(alloc, name)?, None)),
-        Form::Unary(sign, operand) => NormalExpr::unary(alloc, sign, operand),
-        Form::Binary(sign, left, right) => NormalExpr::binary(alloc, sign, left, right),
-        Form::Ternary(condition, consequent, alternate) => {
-            Ok(NormalExpr::Ternary(condition, consequent, alternate))
-        }
-        Form::Index(subject, index) => Ok(NormalExpr::Index(subject, index)),
-        Form::Slice(subject, high, low) => Ok(NormalExpr::Slice(subject, high, low)),
-        Form::PartSelect(subject, start, width) => {
-            NormalExpr::part_select(alloc, subject, start, width)
-        }
-        Form::Call(name, parts) => Ok(NormalExpr::Call(name, parts)),
-        Form::MacroCall(name, parts) => Ok(NormalExpr::macro_call(name, parts)),
-        Form::Cast(head, operand) => Ok(NormalExpr::Cast(head, operand)),
-        Form::PackageCast(scope, name, operand) => {
-            Ok(NormalExpr::PackageCast(scope, name, operand))
-        }
-        Form::WordCast(key, operand) => NormalExpr::word_cast(alloc, key, operand),
-        Form::Replicated(count, parts) => Ok(NormalExpr::Replicated(count, parts)),
-        Form::Concat(parts) => Ok(NormalExpr::Concat(parts)),
-        Form::Pattern(parts) => Ok(NormalExpr::Pattern(parts)),
-    }
+    Ok(Box::new(alloc, tree)?)
 }

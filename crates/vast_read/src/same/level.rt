@@ -74,10 +74,10 @@ impl<'t> Level<'t> {
             NormalExpr::Replicated(count, parts) => Level::counted(count, parts),
             NormalExpr::Pattern(parts) => Level::list(Kind::Pattern, "", parts),
             NormalExpr::Call(name, arguments) => Level::list(Kind::Call, name.as_str(), arguments),
-            NormalExpr::Macro(name, arguments) => match arguments {
-                None => Level::alone(Kind::MacroAlone, name.as_str()),
-                Some(arguments) => Level::list(Kind::MacroCall, name.as_str(), arguments),
-            },
+            NormalExpr::MacroAlone(name) => Level::alone(Kind::MacroAlone, name.as_str()),
+            NormalExpr::MacroCall(name, arguments) => {
+                Level::list(Kind::MacroCall, name.as_str(), arguments)
+            }
             NormalExpr::Cast(head, operand) => Level::two(Kind::Cast, "", head, operand),
             NormalExpr::PackageCast(scope, name, operand) => {
                 Level::scoped(scope.as_str(), name.as_str(), operand)

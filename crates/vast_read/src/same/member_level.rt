@@ -207,21 +207,21 @@ impl<'t> MemberLevel<'t> {
                 Words::of(keyword_text(word.as_str())),
                 Values::of(Some(declared), Some(value), None),
             ),
-            NormalMember::Macro(name, arguments, has_semicolon) => MemberLevel::plain(
-                macro_kind(*has_semicolon),
-                Words::of(name.as_str()),
-                Values::arguments(arguments),
+            NormalMember::Macro(it) => MemberLevel::plain(
+                macro_kind(it.has_semicolon),
+                Words::of(it.name.as_str()),
+                Values::arguments(&it.arguments),
             ),
-            NormalMember::Instance(definition, parameters, name, connections) => {
-                MemberLevel::instance(definition, parameters, name, connections)
+            NormalMember::Instance(it) => {
+                MemberLevel::instance(&it.definition, &it.parameters, &it.name, &it.connections)
             }
-            NormalMember::Always(word, events, body) => MemberLevel::always(word, events, body),
+            NormalMember::Always(it) => MemberLevel::always(&it.word, &it.events, &it.body),
             NormalMember::Conditional(choice) => MemberLevel::conditional(choice),
-            NormalMember::Function(output, inputs, locals, body) => {
-                MemberLevel::function(output, inputs, locals, body)
+            NormalMember::Function(it) => {
+                MemberLevel::function(&it.output, &it.inputs, &it.locals, &it.body)
             }
-            NormalMember::Loop(variable, start, end, label, members) => {
-                MemberLevel::generate_loop(variable, start, end, label, members)
+            NormalMember::Loop(it, members) => {
+                MemberLevel::generate_loop(&it.variable, &it.start, &it.end, &it.label, members)
             }
         }
     }

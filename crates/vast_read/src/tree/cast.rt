@@ -18,11 +18,12 @@ impl NormalExpr {
         alloc: Global,
         key: Key,
         operand: Box<NormalExpr>,
-    ) -> Result<NormalExpr, Fault>
-        ensures ok { IfOk result (λ x. view x ≡ NormalWordCast (key_view key) (view operand.value)) }
+    ) -> Result<Box<NormalExpr>, Fault>
+        ensures ok { IfOk result (λ x. view x.value
+            ≡ NormalWordCast (key_view key) (view operand.value)) }
         ensures err { IfErr result (λ e. e ≡ Memory) }
     {
         let word = Word::new(alloc, key.text())?;
-        Ok(NormalExpr::WordCast(word, operand))
+        Ok(Box::new(alloc, NormalExpr::WordCast(word, operand))?)
     }
 }

@@ -15,6 +15,7 @@ ghost use Rattle.vast_read.specs.View.{view, listed};
 use crate::children::Children;
 use crate::fault::Fault;
 use crate::token::Key;
+use crate::tree::boxed::{Always, Function, Instance, LoopRange, MacroUse};
 use crate::tree::declaration::NormalDeclaration;
 use crate::tree::expression::NormalExpr;
 use crate::tree::statement::NormalStatement;
@@ -43,6 +44,8 @@ pub struct Connection {
 ///
 /// To let one go takes no memory, and no stack that grows with its depth. `==` calls itself for each part in turn until two
 /// differ, so it takes stack for each level that the two have in common.
+///
+/// A flat module has very many of them in one list, so the large ones lie in boxes.
 #[derive(PartialEq)]
 pub enum NormalMember {
     /// A declaration of a net or a variable.
@@ -51,24 +54,18 @@ pub enum NormalMember {
     Assign(Box<NormalExpr>, Box<NormalExpr>),
     /// `parameter` or `localparam`, what it declares, and its value.
     Parameter(Word, Box<NormalDeclaration>, Box<NormalExpr>),
-    /// The use of a macro: its name without the backtick, its arguments, and whether a semicolon ends it.
-    Macro(Word, Option<Children<NormalExpr>>, bool),
-    /// An instantiation: the module, its parameters, the instance and its connections.
-    Instance(Word, Children<Connection>, Word, Children<Connection>),
-    /// `always_ff`, `always` or `always_comb`, what it waits for, and its block.
-    Always(Word, Children<Event>, Children<NormalStatement>),
+    /// The use of a macro.
+    Macro(Box<MacroUse>),
+    /// An instantiation.
+    Instance(Box<Instance>),
+    /// An always block.
+    Always(Box<Always>),
     /// A conditional generate construct, which is a `Choice`.
     Conditional(Box<NormalStatement>),
-    /// A function: what it returns and its name, its inputs, its locals and its block.
-    Function(
-        Box<NormalDeclaration>,
-        Children<NormalDeclaration>,
-        Children<NormalDeclaration>,
-        Children<NormalStatement>,
-    ),
-    /// A loop generate construct: its variable, the start, the end that it stays below, the label,
-    /// the members.
-    Loop(Word, Box<NormalExpr>, Box<NormalExpr>, Option<Word>, Children<NormalMember>),
+    /// A function.
+    Function(Box<Function>),
+    /// A loop generate construct, and its members.
+    Loop(Box<LoopRange>, Children<NormalMember>),
 }
 
 impl Event {
@@ -193,30 +190,14 @@ impl NormalMember {
             NormalMember::Assign(_left, _right) => next_of(waiting),
             NormalMember::Parameter(_, _declared, _value) => next_of(waiting),
             NormalMember::Conditional(_choice) => next_of(waiting),
-            NormalMember::Macro(_, arguments, _) => {
-                drop(arguments);
-                next_of(waiting)
-            }
-            NormalMember::Instance(_, parameters, _, connections) => {
-                drop(parameters);
-                drop(connections);
-                next_of(waiting)
-            }
-            NormalMember::Always(_, events, body) => {
-                drop(events);
-                drop(body);
-                next_of(waiting)
-            }
-            NormalMember::Function(_output, inputs, locals, body) => {
-                drop(inputs);
-                drop(locals);
-                drop(body);
-                next_of(waiting)
-            }
-            NormalMember::Loop(variable, start, end, label, members) => match waiting {
+            NormalMember::Macro(_macro) => next_of(waiting),
+            NormalMember::Instance(_instance) => next_of(waiting),
+            NormalMember::Always(_always) => next_of(waiting),
+            NormalMember::Function(_function) => next_of(waiting),
+            NormalMember::Loop(range, members) => match waiting {
                 None => taken(members),
                 Some(waiting) => {
-                    let rest = NormalMember::Loop(variable, start, end, label, waiting);
+                    let rest = NormalMember::Loop(range, waiting);
                     Some(ahead(members, rest))
                 }
             },
@@ -264,7 +245,13 @@ impl NormalMember {
         ensures err { IfErr result (λ e. e ≡ Memory) }
     {
         let name = Word::new(alloc, name)?;
-        Ok(NormalMember::Macro(name, arguments, has_semicolon))
+        let macro_use = MacroUse {
+            name,
+            arguments,
+            has_semicolon,
+        };
+        let macro_use = Box::new(alloc, macro_use)?;
+        Ok(NormalMember::Macro(macro_use))
     }
 
     /// An instantiation.
@@ -282,7 +269,14 @@ impl NormalMember {
     {
         let definition = Word::new(alloc, definition)?;
         let name = Word::new(alloc, name)?;
-        Ok(NormalMember::Instance(definition, parameters, name, connections))
+        let instance = Instance {
+            definition,
+            parameters,
+            name,
+            connections,
+        };
+        let instance = Box::new(alloc, instance)?;
+        Ok(NormalMember::Instance(instance))
     }
 
     /// An always block.
@@ -297,7 +291,9 @@ impl NormalMember {
         ensures err { IfErr result (λ e. e ≡ Memory) }
     {
         let word = Word::new(alloc, key.text())?;
-        Ok(NormalMember::Always(word, events, body))
+        let always = Always { word, events, body };
+        let always = Box::new(alloc, always)?;
+        Ok(NormalMember::Always(always))
     }
 
     /// A conditional generate construct.
@@ -324,7 +320,14 @@ impl NormalMember {
         ensures err { IfErr result (λ e. e ≡ Memory) }
     {
         let output = Box::new(alloc, output)?;
-        Ok(NormalMember::Function(output, inputs, locals, body))
+        let function = Function {
+            output,
+            inputs,
+            locals,
+            body,
+        };
+        let function = Box::new(alloc, function)?;
+        Ok(NormalMember::Function(function))
     }
 
     /// A loop generate construct.
@@ -343,6 +346,13 @@ impl NormalMember {
     {
         let variable = Word::new(alloc, variable)?;
         let label = Word::maybe(alloc, label)?;
-        Ok(NormalMember::Loop(variable, start, end, label, members))
+        let range = LoopRange {
+            variable,
+            start,
+            end,
+            label,
+        };
+        let range = Box::new(alloc, range)?;
+        Ok(NormalMember::Loop(range, members))
     }
 }

@@ -2,7 +2,9 @@
 
 use std::alloc::Global;
 use std::test::Fail;
-use vast_read::{Arm, CaseArm, Children, NormalExpr, NormalMember, NormalStatement, Word};
+use vast_read::{
+    Arm, CaseArm, Children, LoopRange, NormalExpr, NormalMember, NormalStatement, Word,
+};
 
 const LEVELS: u32 = 100_000;
 
@@ -83,7 +85,9 @@ fn level(alloc: Global, part: Part, next: NormalExpr) -> Result<NormalExpr, Fail
     Ok(match part {
         Part::First => NormalExpr::Concat(single(alloc, next)?),
         Part::Last => NormalExpr::Pattern(listed(alloc, next)?),
-        Part::Argument => NormalExpr::Macro(word(alloc)?, Some(listed(alloc, next)?)),
+        Part::Argument => {
+            NormalExpr::MacroCall(Box::new(alloc, word(alloc)?)?, listed(alloc, next)?)
+        }
         Part::Counted => NormalExpr::Replicated(leaf(alloc)?, listed(alloc, next)?),
         _ => around(alloc, part, next)?,
     })
@@ -158,7 +162,13 @@ fn round(alloc: Global, inner: NormalMember) -> Result<NormalMember, Fail> {
     let mut members = Children::new(alloc);
     members.push(NormalMember::Assign(leaf(alloc)?, leaf(alloc)?))?;
     members.push(inner)?;
-    Ok(NormalMember::Loop(word(alloc)?, leaf(alloc)?, leaf(alloc)?, None, members))
+    let range = LoopRange {
+        variable: word(alloc)?,
+        start: leaf(alloc)?,
+        end: leaf(alloc)?,
+        label: None,
+    };
+    Ok(NormalMember::Loop(Box::new(alloc, range)?, members))
 }
 
 #[test]
