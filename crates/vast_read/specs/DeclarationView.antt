@@ -1,10 +1,14 @@
 -- The normal declarations that declarations of the reader stand for.
-use Rattle.std.specs.Prelude.{List, Option, Some, None, option_map, map}
+use Rattle.std.specs.declared.alloc.Global.{Global}
+use Rattle.std.specs.Prelude.{ℕ, List, Option, Some, None, option_and_then, option_map, map}
+use Rattle.std.specs.declared.boxed.Box.{Box}
+use Rattle.vast_literal.specs.Tokens.{Key}
 use Rattle.vast_literal.specs.NormalExpr.{NormalExpr}
 use Rattle.vast_literal.specs.NormalFile as normal
 use Rattle.vast_literal.specs.NormalFile.{One, Range}
 use Rattle.vast_read.specs.Texts.{key_of}
 use Rattle.vast_read.specs.View.{view}
+use Rattle.vast_read.specs.declared.tree.declaration.DeclaredType.{DeclaredType}
 use Rattle.vast_read.specs.declared.tree.declaration.Group.{Group}
 use Rattle.vast_read.specs.declared.tree.declaration.NormalDeclaration.{NormalDeclaration}
 
@@ -19,12 +23,22 @@ group_view g = group_of (view g.first.value) (option_map (λ x. view x.value) g.
 abbrev pub groups_view : List Group → List normal.Group
 groups_view gs = map group_view gs
 
+-- The package, the name and the sign of a type, where there is one.
+abbrev pub package_of : Option (Box DeclaredType Global) → Option (List ℕ)
+package_of t = option_and_then (λ b. b.value.«package») t
+
+abbrev pub type_name_of : Option (Box DeclaredType Global) → Option (List ℕ)
+type_name_of t = option_and_then (λ b. b.value.type_name) t
+
+abbrev pub sign_of : Option (Box DeclaredType Global) → Option Key
+sign_of t = option_and_then (λ b. option_map key_of b.value.sign) t
+
 abbrev pub declaration_view : NormalDeclaration → normal.NormalDeclaration
 declaration_view d = record {
   kind = option_map key_of d.kind;
-  package_name = d.«package»;
-  type_name = d.type_name;
-  sign = option_map key_of d.sign;
+  package_name = package_of d.typed;
+  type_name = type_name_of d.typed;
+  sign = sign_of d.typed;
   groups = groups_view d.groups;
   name = d.name;
   behind = groups_view d.after;

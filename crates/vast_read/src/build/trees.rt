@@ -84,7 +84,6 @@ impl<'t> Build<'t> for Trees {
 }
 
 /// A tree in a box.
-#[inline(always)]
 fn boxed(alloc: Global, tree: NormalExpr) -> Result<Box<NormalExpr>, Fault>
     ensures ok { IfOk result (λ x. x.value ≡ tree) }
     ensures err { IfErr result (λ e. e ≡ Memory) }

@@ -2,14 +2,14 @@
 
 ghost use Rattle.std.specs.Prelude.{◌≡◌, IfOk, option_map};
 ghost use Rattle.vast_read.specs.Internal.Comparison.{Tells};
-ghost use Rattle.vast_read.specs.DeclarationView.{groups_view};
+ghost use Rattle.vast_read.specs.DeclarationView.{package_of, type_name_of, sign_of, groups_view};
 ghost use Rattle.vast_read.specs.Internal.DeclaredWords.{declared_words, declared_groups};
 ghost use Rattle.vast_read.specs.Texts.{key_of};
 
 use crate::same::expression::{part, same_expression, same_part};
 use crate::same::list::{Same, same_list};
 use crate::same::written::same_key;
-use crate::tree::{Group, NormalDeclaration};
+use crate::tree::{DeclaredType, Group, NormalDeclaration};
 use std::alloc::{AllocError, Global};
 use vast_names::Word;
 
@@ -87,7 +87,43 @@ pub(crate) fn same_text(left: Option<&str>, right: Option<&str>) -> bool
     }
 }
 
+/// Whether the signs of two types are the same, of which either may be missing.
+fn same_sign(left: &Option<Box<DeclaredType>>, right: &Option<Box<DeclaredType>>) -> bool
+    ensures { Tells result (sign_of left.now) (sign_of right.now) }
+{
+    match left {
+        None => match right {
+            None => true,
+            Some(right) => right.sign.is_none(),
+        },
+        Some(left) => match right {
+            None => left.sign.is_none(),
+            Some(right) => same_maybe_key(&left.sign, &right.sign),
+        },
+    }
+}
+
 impl NormalDeclaration {
+    /// The package of its type, where one is written.
+    fn package(&self) -> Option<&str>
+        ensures { option_map (λ t. t.now) result ≡ package_of self.now.typed }
+    {
+        match &self.typed {
+            None => None,
+            Some(typed) => maybe_text(&typed.package),
+        }
+    }
+
+    /// The name of its type, where one is written.
+    fn type_name(&self) -> Option<&str>
+        ensures { option_map (λ t. t.now) result ≡ type_name_of self.now.typed }
+    {
+        match &self.typed {
+            None => None,
+            Some(typed) => maybe_text(&typed.type_name),
+        }
+    }
+
     /// Whether its words are the same as another's.
     fn has_words_of(&self, other: &NormalDeclaration) -> bool
         ensures { Tells result (declared_words self.now) (declared_words other.now) }
@@ -96,12 +132,12 @@ impl NormalDeclaration {
             false
         } else if !same_maybe_key(&self.kind, &other.kind) {
             false
-        } else if !same_text(maybe_text(&self.package), maybe_text(&other.package)) {
+        } else if !same_text(self.package(), other.package()) {
             false
-        } else if !same_text(maybe_text(&self.type_name), maybe_text(&other.type_name)) {
+        } else if !same_text(self.type_name(), other.type_name()) {
             false
         } else {
-            same_maybe_key(&self.sign, &other.sign)
+            same_sign(&self.typed, &other.typed)
         }
     }
 

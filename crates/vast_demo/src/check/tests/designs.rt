@@ -29,9 +29,7 @@ fn byte_wire(alloc: Global, name: &str) -> Result<Box<NormalDeclaration>, Fail> 
     })?;
     let declaration = NormalDeclaration {
         kind: Some(Word::new(alloc, "wire")?),
-        package: None,
-        type_name: None,
-        sign: None,
+        typed: None,
         groups,
         name: Word::new(alloc, name)?,
         after: Children::new(alloc),
