@@ -1,4 +1,4 @@
-use Rattle.std.proofs.Common.{◌≡◌, get_or, true, arith}
+use Rattle.std.proofs.Common.{arith}
 use Rattle.vast_literal.specs.Scan.{is_space}
 use Rattle.vast_read.proofs.scanner.Cuts.{run_cut}
 use Rattle.vast_read.proofs.scanner.Signs.{space_small, space_gap, space_behind}
