@@ -2,7 +2,6 @@
 
 ghost use Rattle.std.specs.Prelude.{◌≡◌, ◌<◌, length, true};
 ghost use Rattle.vast_literal.specs.Scan.{Gap, is_space};
-ghost use Rattle.vast_read.specs.Behind.{Behind};
 ghost use Rattle.vast_read.specs.Lexed.{lex};
 ghost use Rattle.vast_read.specs.Internal.Position.{position_view};
 ghost use Rattle.vast_read.specs.Scanner.{byte_at};
@@ -37,39 +36,22 @@ pub(crate) fn first_of<'t>(text: &'t str) -> Position<'t>
 {
     let mut rest = text;
     while !rest.is_empty() {
-        // Nearly every second front is white space, which is passed without a call.
-        if is_space(byte_at(rest, 0)) {
-            rest = behind_space(rest);
-        } else {
-            match front_of(rest) {
-                Front::Token(token, behind) => return Position {
-                    token: Some(token),
-                    behind,
-                },
-                Front::Gap(behind) => rest = behind,
-                Front::Unspelled => return Position {
-                    token: Some(Token::Keyword("")),
-                    behind: "",
-                },
-            }
+        match front_of(rest) {
+            Front::Token(token, behind) => return Position {
+                token: Some(token),
+                behind,
+            },
+            Front::Gap(behind) => rest = behind,
+            Front::Unspelled => return Position {
+                token: Some(Token::Keyword("")),
+                behind: "",
+            },
         }
     }
     Position {
         token: None,
         behind: rest,
     }
-}
-
-/// What is behind the white space at the front of a text.
-fn behind_space<'t>(text: &'t str) -> &'t str
-    requires filled { 0 < length text.now }
-    requires space { is_space (byte_at text.now 0) ≡ true }
-    ensures tokens { lex Gap text.now ≡ lex Gap result.now }
-    ensures shorter { length result.now < length text.now }
-    ensures behind { Behind text.now result.now }
-{
-    let (_, rest) = text.split_at(run_end(text, 1, Class::Space));
-    rest
 }
 
 /// What stands at the front of a text.
@@ -80,7 +62,8 @@ fn front_of<'t>(text: &'t str) -> Front<'t>
 {
     let first = byte_at(text, 0);
     if is_space(first) {
-        Front::Gap(behind_space(text))
+        let (_, rest) = text.split_at(run_end(text, 1, Class::Space));
+        Front::Gap(rest)
     } else if is_letter(first) {
         word(text)
     } else if is_digit(first) {
