@@ -1,14 +1,16 @@
 -- What is replied.
-use Rattle.std.proofs.Common.{◌≡◌, ℕ, List, [], ◌++◌, Option, Some, None, Result, Ok, Err, inr, refl, ap, ◌∙◌, Bool, false, IsTrue, sym, ◌↔◌}
+use Rattle.std.proofs.Common.{◌≡◌, ℕ, List, [], ◌++◌, Option, Some, None, Result, Ok, Err, inl, inr, refl, ap, ◌∙◌, Bool, false, IsTrue, sym, ◌↔◌, append_assoc}
 use Rattle.std.specs.Prelude.{codes}
 use Rattle.vast_list.specs.declared.fault.Fault.{Fault}
 use Rattle.vast_list.specs.declared.fault.Fault.TheVariants.{Line, Memory}
 use Rattle.vast_list.specs.declared.session.Session.{Session}
 use Rattle.vast_list.specs.Lines.{HasKind, NamesDialect, Passed}
-use Rattle.vast_list.specs.Replies.{fault_object}
+use Rattle.vast_list.specs.Replies.{fault_object, line_front}
 use Rattle.vast_list.specs.Session.{IsOfLine}
-use Rattle.vast_talk.specs.Replies.{RepliesToFirst}
-use Rattle.vast_talk.specs.Internal.Replies.{AddsReply, AddsFault}
+use Rattle.vast_talk.specs.Replies.{AsksForWarnings, RepliesLinted, RepliesToFirst, RepliesToLine}
+use Rattle.vast_talk.specs.Internal.Replies.{AddsAnswer, AddsReply, AddsFault}
+use Rattle.vast_talk.specs.Internal.Warnings.{AddsWarningList}
+use Rattle.vast_talk.specs.declared.warnings.LineWarning.{LineWarning}
 
 -- What the line gave or its fault stands in a text that was empty, and a line break behind it.
 pub replied :
@@ -27,5 +29,26 @@ first_fault text None number line (Line fault) is_empty none full passes no_dial
     (inr (fault, (of_line, (λ passed. absurd (cc (sym full ∙ passes.1 passed))), no_dialect), refl), refl)
 first_fault text None number line Memory is_empty none full passes no_dialect of_line = tt
 first_fault text (Some session) number line fault is_empty none full passes no_dialect of_line = absurd (cc none)
+
+-- What is told without warnings is told with a lint, too.
+pub told_linted :
+    (old new : Session) (text grown line : List ℕ) (number : ℕ) (done : Result (Unit {0}) Fault) → (AsksForWarnings line → ⊥) → AddsReply text grown done (RepliesToLine old new number line) →
+    AddsReply text grown done (RepliesLinted old new number line)
+told_linted old new text grown line number (Ok done) other (object, is, same) = (object, inr (other, object, is, inl refl), same)
+told_linted old new text grown line number (Err (Line fault)) other (is, same) = (inr (other, fault_object fault, is, inl refl), same)
+told_linted old new text grown line number (Err Memory) other is = tt
+
+-- The answer to the line that asks for warnings was appended.
+pub answered :
+    (old opening listed new : List ℕ) (number : ℕ) (warnings : List LineWarning) → opening ≡ old ++ (line_front number ++ codes ",\"call\":\"?Warnings\",\"answer\":") →
+    AddsWarningList opening listed warnings → new ≡ listed ++ codes "}" → AddsAnswer old new number
+answered old opening listed new number warnings begun (list, are, grown) ended =
+    let front = line_front number ++ codes ",\"call\":\"?Warnings\",\"answer\":" in (
+      front ++ list ++ codes "}",
+      (warnings, list, are, refl),
+      ended
+          ∙ ap (λ (text : List ℕ). text ++ codes "}") (grown ∙ ap (λ (text : List ℕ). text ++ list) begun ∙ append_assoc old front list)
+          ∙ append_assoc old (front ++ list) (codes "}"),
+    )
 
 pub ruleset replies = (replied, first_fault)

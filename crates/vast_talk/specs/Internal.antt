@@ -1,2 +1,3 @@
 pub mod Linted
 pub mod Replies
+pub mod Warnings

@@ -1,3 +1,4 @@
 pub mod Linted
 pub mod Internal
 pub mod Replies
+pub mod Warnings

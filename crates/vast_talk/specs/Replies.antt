@@ -1,4 +1,4 @@
--- What a talk without a lint replies to a line: an object of JSON, and a line break. A text is a list of bytes.
+-- What a talk replies to a line: an object of JSON, and a line break. A text is a list of bytes.
 use Rattle.std.specs.Prelude.{◌≡◌, ◌⊎◌, ℕ, ◌==◌, List, ◌++◌, drop, codes, Bool, true, false, Option, Some, None, Result, Ok, Err, IfOk}
 use Rattle.std.specs.List.{starts_with}
 use Rattle.std.specs.Str.Lossy.{utf8_lossy}
@@ -8,9 +8,11 @@ use Rattle.vast_list.specs.declared.fault.Fault.TheVariants.{Line, Memory}
 use Rattle.vast_list.specs.declared.fault.LineFault.{LineFault}
 use Rattle.vast_list.specs.declared.session.Given.{Given}
 use Rattle.vast_list.specs.declared.session.Session.{Session}
+use Rattle.vast_talk.specs.declared.warnings.LineWarning.{LineWarning}
 use Rattle.vast_list.specs.Lines.{HasKind, NamesDialect, Passed, dialect_word, without_return}
 use Rattle.vast_list.specs.Replies.{IsGivenObject, fault_object, line_front, text_member}
 use Rattle.vast_list.specs.Session.{IsGivenBy, IsNew, Takes}
+use Rattle.vast_talk.specs.Warnings.{IsWarningList}
 use Rattle.vast_talk.specs.declared.talk.Talk.{Talk}
 
 -- A line that begins anew.
@@ -32,6 +34,32 @@ abbrev pub RepliesToLine : (old new : Session) → (number : ℕ) → (line obje
 RepliesToLine old new number line object =
     (taken : Result Given Fault) × Takes old new line taken × IfOk taken (IsGivenBy line) × IsObjectOf number taken object
 
+-- The object itself, or with a list of warnings as its last member.
+abbrev pub IsWarned : (object told : List ℕ) → Type 0
+IsWarned object told =
+    (told ≡ object)
+    ⊎ ((front : List ℕ) × (warnings : List LineWarning) × (list : List ℕ)
+    × (object ≡ front ++ codes "}") × IsWarningList warnings list × (told ≡ front ++ codes ",\"warnings\":" ++ list ++ codes "}"))
+
+-- A session with a lint is asked for what the end of the list would tell.
+abbrev pub AsksForWarnings : List ℕ → Type 0
+AsksForWarnings line = without_return line ≡ codes "?Warnings"
+
+-- The answer is a list of warnings.
+abbrev pub IsWarningsAnswer : (number : ℕ) → (object : List ℕ) → Type 0
+IsWarningsAnswer number object =
+    (warnings : List LineWarning) × (list : List ℕ) × IsWarningList warnings list × (object ≡ line_front number ++ codes ",\"call\":\"?Warnings\",\"answer\":" ++ list ++ codes "}")
+
+-- With a lint the object that tells what came of a line may have warnings; the session does not take the line that asks for them.
+abbrev pub RepliesLinted : (old new : Session) → (number : ℕ) → (line told : List ℕ) → Type 0
+RepliesLinted old new number line told =
+    (AsksForWarnings line × (new ≡ old) × IsWarningsAnswer number told)
+    ⊎ ((AsksForWarnings line → ⊥) × (object : List ℕ) × RepliesToLine old new number line object × IsWarned object told)
+
+abbrev pub RepliesInSession : (has_lint : Bool) → (old new : Session) → (number : ℕ) → (line object : List ℕ) → Type 0
+RepliesInSession false old new number line object = RepliesToLine old new number line object
+RepliesInSession true old new number line object = RepliesLinted old new number line object
+
 -- The fault of a line that is neither blank nor a comment and names no dialect.
 abbrev pub IsFirstFault : (number : ℕ) → (line : List ℕ) → LineFault → Type 0
 IsFirstFault number line fault = (fault.line ≡ number) × (HasKind line Passed → ⊥) × (NamesDialect line → ⊥)
@@ -45,17 +73,17 @@ RepliesToFirst (Some new) number line object =
     (dialect : VastFileType) × (without_return line ≡ dialect_word dialect) × IsNew dialect new
     × (object ≡ text_object number (codes ",\"dialect\":") (dialect_word dialect))
 
-abbrev pub RepliesToTaken : (old new : Option Session) → (number : ℕ) → (line object : List ℕ) → Type 0
-RepliesToTaken None new number line object = RepliesToFirst new number line object
-RepliesToTaken (Some old) None number line object = ⊥
-RepliesToTaken (Some old) (Some new) number line object = RepliesToLine old new number line object
+abbrev pub RepliesToTaken : (has_lint : Bool) → (old new : Option Session) → (number : ℕ) → (line object : List ℕ) → Type 0
+RepliesToTaken has_lint None new number line object = RepliesToFirst new number line object
+RepliesToTaken has_lint (Some old) None number line object = ⊥
+RepliesToTaken has_lint (Some old) (Some new) number line object = RepliesInSession has_lint old new number line object
 
 -- A header begins anew; any other line is taken.
-abbrev pub RepliesTo : (is_header : Bool) → (old new : Option Session) → (number : ℕ) → (line object : List ℕ) → Type 0
-RepliesTo true old new number line object = (new ≡ None) × (object ≡ text_object number (codes ",\"title\":") (utf8_lossy (drop 3 line)))
-RepliesTo false old new number line object = RepliesToTaken old new number line object
+abbrev pub RepliesTo : (is_header has_lint : Bool) → (old new : Option Session) → (number : ℕ) → (line object : List ℕ) → Type 0
+RepliesTo true has_lint old new number line object = (new ≡ None) × (object ≡ text_object number (codes ",\"title\":") (utf8_lossy (drop 3 line)))
+RepliesTo false has_lint old new number line object = RepliesToTaken has_lint old new number line object
 
 -- The reply is the object that tells what came of the line, and a line break.
 abbrev pub IsReply : (old new : Talk) → (line reply : List ℕ) → Type 0
 IsReply old new line reply =
-    (object : List ℕ) × RepliesTo (is_header line) old.session new.session new.number line object × (reply ≡ object ++ codes "\n")
+    (object : List ℕ) × RepliesTo (is_header line) old.has_lint old.session new.session new.number line object × (reply ≡ object ++ codes "\n")

@@ -1,7 +1,8 @@
 //! The lint beside a session.
 
-ghost use Rattle.std.specs.Prelude.{◌≡◌, ◌+◌, OnOk, false, length};
+ghost use Rattle.std.specs.Prelude.{◌≡◌, ◌+◌, IfErr, IfOk, OnOk, false, length};
 ghost use Rattle.vast_lint.specs.Lint.{counted};
+ghost use Rattle.vast_list.specs.Session.{IsGivenBy, IsOfLine, Takes};
 ghost use Rattle.vast_talk.specs.Linted.{HasCounted, IsLevel};
 ghost use Rattle.vast_talk.specs.Internal.Linted.{is_memory};
 
@@ -111,8 +112,11 @@ pub(crate) fn take_linted<'l>(
     line: &'l [u8],
     warnings: &mut Vec<LineWarning>,
 ) -> Result<Given<'l>, Fault>
-    ensures { IsLevel lint.old session.old → is_memory result ≡ false
+    ensures level { IsLevel lint.old session.old → is_memory result ≡ false
         → IsLevel lint.new session.new }
+    ensures takes { is_memory result ≡ false → Takes session.old session.new line.now result }
+    ensures given { IfOk result (IsGivenBy line.now) }
+    ensures number { IfErr result (IsOfLine number) }
 {
     let step = session.step_of(line)?;
     let given = take_step(session, lint, number, line, step.as_ref(), warnings);
@@ -129,8 +133,11 @@ fn take_step<'l>(
     step: Option<&Step>,
     warnings: &mut Vec<LineWarning>,
 ) -> Result<Given<'l>, Fault>
-    ensures { IsLevel lint.old session.old → is_memory result ≡ false
+    ensures level { IsLevel lint.old session.old → is_memory result ≡ false
         → IsLevel lint.new session.new }
+    ensures takes { is_memory result ≡ false → Takes session.old session.new line.now result }
+    ensures given { IfOk result (IsGivenBy line.now) }
+    ensures number { IfErr result (IsOfLine number) }
 {
     let given = session.line(number, line)?;
     match &given {

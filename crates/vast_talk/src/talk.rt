@@ -1,12 +1,12 @@
 //! Lines that are answered one by one, by JSON.
 
-ghost use Rattle.std.specs.Prelude.{◌≡◌, ◌+◌, ◌-◌, ◌^◌, ◌++◌, IfOk, MatchOption, OnOk, None, codes, false, min, string_bytes, true};
+ghost use Rattle.std.specs.Prelude.{◌≡◌, ◌+◌, ◌-◌, ◌^◌, ◌++◌, ◌↔◌, IfOk, IsTrue, MatchOption, OnOk, None, codes, false, min, string_bytes, true};
 ghost use Rattle.std.specs.Str.Lossy.{utf8_lossy};
 ghost use Rattle.vast_list.specs.Lines.{dialect_word};
 ghost use Rattle.vast_talk.specs.Linted.{HasCounted, IsLevel, IsTalking};
-ghost use Rattle.vast_talk.specs.Replies.{IsReply, RepliesTo, RepliesToFirst, RepliesToLine, is_header, text_object};
+ghost use Rattle.vast_talk.specs.Replies.{AsksForWarnings, IsReply, RepliesLinted, RepliesTo, RepliesToFirst, RepliesToLine, is_header, text_object};
 ghost use Rattle.vast_talk.specs.Internal.Linted.{is_memory};
-ghost use Rattle.vast_talk.specs.Internal.Replies.{AddsReply, AddsFault};
+ghost use Rattle.vast_talk.specs.Internal.Replies.{AddsAnswer, AddsFault, AddsReply, AddsWarned};
 
 use crate::LineWarning;
 use crate::linted::{SessionLint, take_linted};
@@ -78,7 +78,7 @@ impl Talk {
         ensures talking { IsTalking self.old → OnOk result (IsTalking self.new) }
         ensures lint { self.new.has_lint ≡ self.old.has_lint }
         ensures number { self.new.number ≡ min (self.old.number + 1) (2 ^ 64 - 1) }
-        ensures reply { IsTalking self.old → self.old.has_lint ≡ false
+        ensures reply { IsTalking self.old
             → IfOk result (λ text. IsReply self.old self.new line.now (string_bytes text)) }
     {
         self.number = self.number.saturating_add(1);
@@ -93,9 +93,10 @@ impl Talk {
         ensures talking { IsTalking self.old → is_memory result ≡ false → IsTalking self.new }
         ensures lint { self.new.has_lint ≡ self.old.has_lint }
         ensures number { self.new.number ≡ self.old.number }
-        ensures told { IsTalking self.old → self.old.has_lint ≡ false
+        ensures told { IsTalking self.old
             → AddsReply (string_bytes text.old) (string_bytes text.new) result
-            (RepliesTo (is_header line.now) self.old.session self.new.session self.new.number line.now) }
+            (RepliesTo (is_header line.now) self.old.has_lint self.old.session self.new.session
+            self.new.number line.now) }
     {
         if let Some(title) = line.strip_prefix(HEADER) {
             return self.begin(title, text);
@@ -191,6 +192,13 @@ fn push_line(
     Ok(())
 }
 
+/// Whether the line asks for what the end of the list would tell.
+fn asks_for_warnings(line: &[u8]) -> bool
+    ensures { IsTrue result ↔ AsksForWarnings line.now }
+{
+    line.strip_suffix(b"\r").unwrap_or(line) == ASKED
+}
+
 /// The same, and behind it what the line's call prints; or what the end of the list would tell, where the line asks.
 fn push_linted(
     text: &mut String,
@@ -199,39 +207,51 @@ fn push_linted(
     number: usize,
     line: &[u8],
 ) -> Result<(), Fault>
-    ensures { IsLevel lint.old session.old → is_memory result ≡ false
+    ensures level { IsLevel lint.old session.old → is_memory result ≡ false
         → IsLevel lint.new session.new }
+    ensures told { AddsReply (string_bytes text.old) (string_bytes text.new) result
+        (RepliesLinted session.old session.new number line.now) }
 {
-    let mut warnings = Vec::new(session.file().allocator());
-    if line.strip_suffix(b"\r").unwrap_or(line) == ASKED {
+    let alloc = session.file().allocator();
+    let mut warnings = Vec::new(alloc);
+    if asks_for_warnings(line) {
         lint.end(session, &mut warnings)?;
         push_end(text, number, &warnings)?;
         return Ok(());
     }
     let given = take_linted(session, lint, number, line, &mut warnings)?;
-    push_given(text, session, number, &given)?;
-    push_told(text, &warnings)?;
+    let mut object = String::new(alloc);
+    push_given(&mut object, session, number, &given)?;
+    push_warned(text, &object, &warnings)?;
     Ok(())
 }
 
 /// Appends the answer of `?Warnings`.
-fn push_end(text: &mut String, number: usize, warnings: &[LineWarning]) -> Result<(), AllocError> {
+fn push_end(text: &mut String, number: usize, warnings: &[LineWarning]) -> Result<(), AllocError>
+    ensures { OnOk result (AddsAnswer (string_bytes text.old) (string_bytes text.new) number) }
+{
     write!(
         text,
         "{{\"line\":{number},\"call\":\"?Warnings\",\"answer\":"
     )?;
     push_warnings(text, warnings)?;
-    text.push('}')
+    text.push('}')?;
+    Ok(())
 }
 
-/// Puts the warnings, if there are any, into the object that the text ends with.
-fn push_told(text: &mut String, warnings: &[LineWarning]) -> Result<(), AllocError> {
-    if warnings.is_empty() {
-        return Ok(());
+/// Appends the object, with the warnings as its last member where there are any.
+fn push_warned(text: &mut String, object: &str, warnings: &[LineWarning]) -> Result<(), AllocError>
+    ensures { OnOk result
+        (AddsWarned (string_bytes text.old) (string_bytes text.new) object.now) }
+{
+    if !warnings.is_empty() {
+        if let Some(front) = object.strip_suffix("}") {
+            text.push_str(front)?;
+            push_last(text, warnings)?;
+            return text.push('}');
+        }
     }
-    text.pop();
-    push_last(text, warnings)?;
-    text.push('}')
+    text.push_str(object)
 }
 
 /// Appends an object of the line's number and a text; `name` is the text's name as it stands in the object.

@@ -1,7 +1,9 @@
 //! What the calls of a list print that is no SystemVerilog or Verilog, or that a tool refuses.
 
-ghost use Rattle.std.specs.Prelude.{OnOk};
+ghost use Rattle.std.specs.Prelude.{◌≡◌, ◌++◌, IfOk, OnOk, string_bytes};
 ghost use Rattle.vast_talk.specs.Linted.{IsLevel};
+ghost use Rattle.vast_talk.specs.Warnings.{HasWarnings, IsWithoutEnd, rule_members, warning_front};
+ghost use Rattle.vast_talk.specs.Internal.Warnings.{AddsLastMember, AddsMoreWarnings, AddsWarning, AddsWarningList};
 
 use crate::linted::{SessionLint, take_linted};
 use std::alloc::{AllocError, Global};
@@ -107,43 +109,92 @@ pub fn json_with_warnings(
     alloc: Global,
     line: &str,
     warnings: &[LineWarning],
-) -> Result<String, AllocError> {
-    let mut text = String::from_str(alloc, line.strip_suffix("}\n").unwrap_or(line))?;
+) -> Result<String, AllocError>
+    ensures { IfOk result (λ text. HasWarnings line.now warnings.now (string_bytes text)) }
+{
+    let mut text = String::from_str(alloc, without_end(line))?;
     push_last(&mut text, warnings)?;
     text.push_str("}\n")?;
     Ok(text)
 }
 
+/// The line without the end of its object.
+fn without_end(line: &str) -> &str
+    ensures { IsWithoutEnd line.now result.now }
+{
+    match line.strip_suffix("}\n") {
+        Some(front) => front,
+        None => line,
+    }
+}
+
 /// Appends the warnings as an object's last member.
-pub(crate) fn push_last(text: &mut String, warnings: &[LineWarning]) -> Result<(), AllocError> {
+pub(crate) fn push_last(text: &mut String, warnings: &[LineWarning]) -> Result<(), AllocError>
+    ensures { OnOk result
+        (AddsLastMember (string_bytes text.old) (string_bytes text.new) warnings.now) }
+{
     text.push_str(",\"warnings\":")?;
     push_warnings(text, warnings)
 }
 
 /// Appends the warnings as a list of JSON.
-pub(crate) fn push_warnings(text: &mut String, warnings: &[LineWarning]) -> Result<(), AllocError> {
+pub(crate) fn push_warnings(text: &mut String, warnings: &[LineWarning]) -> Result<(), AllocError>
+    ensures { OnOk result
+        (AddsWarningList (string_bytes text.old) (string_bytes text.new) warnings.now) }
+{
     text.push('[')?;
-    let mut is_first = true;
-    for warning in warnings {
-        if !is_first {
-            text.push(',')?;
-        }
-        is_first = false;
-        push_warning(text, warning)?;
+    if let Some((first, more)) = warnings.split_first() {
+        push_warning(text, first)?;
+        push_more(text, more)?;
     }
     text.push(']')
 }
 
-fn push_warning(text: &mut String, warning: &LineWarning) -> Result<(), AllocError> {
+/// Appends warnings behind the first.
+#[tactic(auto, using(crate::proofs::Warned::warned))]
+fn push_more(text: &mut String, warnings: &[LineWarning]) -> Result<(), AllocError>
+    ensures { OnOk result
+        (AddsMoreWarnings (string_bytes text.old) (string_bytes text.new) warnings.now) }
+{
+    for warning in warnings {
+        text.push(',')?;
+        push_warning(text, warning)?;
+    }
+    Ok(())
+}
+
+/// Appends a warning.
+#[tactic(auto, using(crate::proofs::Warned::warned))]
+fn push_warning(text: &mut String, warning: &LineWarning) -> Result<(), AllocError>
+    ensures { OnOk result
+        (AddsWarning (string_bytes text.old) (string_bytes text.new) warning.now) }
+{
+    push_front(text, warning)?;
+    push_rule(text, warning.rule.why(), warning.rule.tools().words())
+}
+
+/// Appends where a warning is shown.
+fn push_front(text: &mut String, warning: &LineWarning) -> Result<(), AllocError>
+    ensures { OnOk result
+        (string_bytes text.new ≡ string_bytes text.old ++ warning_front warning.now) }
+{
     write!(text, "{{\"line\":{},\"call\":", warning.line)?;
     push_json_text(text, &warning.call)?;
     if let Some(shown) = &warning.text {
         text.push_str(",\"text\":")?;
         push_json_text(text, shown)?;
     }
+    Ok(())
+}
+
+/// Appends a rule in words.
+fn push_rule(text: &mut String, why: &str, tools: &str) -> Result<(), AllocError>
+    ensures { OnOk result
+        (string_bytes text.new ≡ string_bytes text.old ++ rule_members why.now tools.now) }
+{
     text.push_str(",\"why\":")?;
-    push_json_text(text, warning.rule.why())?;
+    push_json_text(text, why)?;
     text.push_str(",\"tools\":")?;
-    push_json_text(text, warning.rule.tools().words())?;
+    push_json_text(text, tools)?;
     text.push('}')
 }

@@ -3,6 +3,7 @@ use Rattle.std.specs.Prelude.{◌≡◌, ℕ, List, ◌++◌, Result, Ok, Err, �
 use Rattle.vast_list.specs.declared.fault.Fault.{Fault}
 use Rattle.vast_list.specs.declared.fault.Fault.TheVariants.{Line, Memory}
 use Rattle.vast_list.specs.Replies.{fault_object}
+use Rattle.vast_talk.specs.Replies.{IsWarned, IsWarningsAnswer}
 
 -- The text grew by an object that tells this; or it is as before, and the fault's object tells it.
 abbrev pub AddsReply : (old new : List ℕ) → Result (Unit {0}) Fault → (List ℕ → Type 0) → Type 0
@@ -15,3 +16,11 @@ abbrev pub AddsFault : (old new : List ℕ) → Result (Unit {0}) Fault → Type
 AddsFault old new (Ok done) = new ≡ old
 AddsFault old new (Err (Line fault)) = new ≡ old ++ fault_object fault
 AddsFault old new (Err Memory) = ⊥
+
+-- The text grew by the object, which may have warnings.
+abbrev pub AddsWarned : (old new object : List ℕ) → Type 0
+AddsWarned old new object = (told : List ℕ) × IsWarned object told × (new ≡ old ++ told)
+
+-- The text grew by the answer to the line that asks for warnings.
+abbrev pub AddsAnswer : (old new : List ℕ) → (number : ℕ) → Type 0
+AddsAnswer old new number = (object : List ℕ) × IsWarningsAnswer number object × (new ≡ old ++ object)
