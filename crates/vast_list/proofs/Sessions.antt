@@ -27,8 +27,8 @@ use Rattle.vast_list.specs.declared.arguments.Known.{Known}
 use Rattle.vast_list.specs.declared.line.Line.{Line as ReadLine}
 use Rattle.vast_list.specs.declared.names.Named.{Named}
 use Rattle.vast_list.specs.declared.names.Names.{Names}
-use Rattle.std.specs.Prelude.{IfSome, Option, option_copied, codes}
-use Rattle.vast_list.specs.Lines.{Asked, Passed, behind_call, is_passed, line_arguments, line_kind, line_name, line_word, text_name, without_return, word_kind, NamesDialect}
+use Rattle.std.specs.Prelude.{IfSome, Option, option_copied, codes, slice_index, ◌==◌}
+use Rattle.vast_list.specs.Lines.{Asked, HasKind, Helped, Passed, Stepped, behind_call, is_passed, line_arguments, line_kind, line_name, line_word, text_name, without_return, word_kind, NamesDialect}
 use Rattle.vast_list.specs.Names.{IsFree}
 use Rattle.vast_list.specs.Helpers.{Helps, IsKept}
 use Rattle.vast_list.specs.CallNames.{call_name}
@@ -199,7 +199,21 @@ step_in session text line read step r a p e =
     let acts = subst (λ (action : Action). IsActionOf (meaning session.names) session.skipped.items read.call.now (line_arguments line) action) a found.1 in
     (line_read line read.call.now (not_passed text line p e) found.0 ∙ acts.0, (acts.1 ∙ found.0, acts.2))
 
-pub ruleset reading = (in_form, step_in)
+-- A call's name is that of no blank line.
+
+never_passed : (asks helps : Bool) → (if asks then Asked else (if helps then Helped else Stepped)) ≡ Passed → ⊥
+never_passed true helps e = absurd (cc e)
+never_passed false true e = absurd (cc e)
+never_passed false false e = absurd (cc e)
+
+pub full : (text line : List ℕ) → is_passed text ≡ false → text ≡ without_return line → HasKind line Passed → ⊥
+full text line p e h = never_passed (slice_index (line_word line) 0 == 63) (slice_index (line_word line) 0 == 33) (sym (line_read line (line_word line) (not_passed text line p e) refl) ∙ h.1)
+
+-- Nor is a line that is no UTF-8 blank.
+pub other : (line : List ℕ) → (IsUtf8 (without_return line) → ⊥) → HasKind line Passed → ⊥
+other line u h = u h.0
+
+pub ruleset reading = (in_form, step_in, full, other)
 
 -- The fault of a line that is not in the form has no cause.
 pub uncaused : (old new : Session) (line : List ℕ) (number : ℕ) (fault : Fault) → IsToldOf number None fault → IsCausedBy old new line fault
@@ -225,7 +239,7 @@ pub caused : (old new : Session) (line : List ℕ) (call : Call) (fault : Fault)
 caused old new line call (Line f) k w h = call_cause old new line call f.cause k w h
 caused old new line call Memory k w h = tt
 
-pub ruleset lines = (left_same, has_made, same-unused, uncaused, asked, caused, of_line, memory_line, memory_cause)
+pub ruleset lines = (full, other, left_same, has_made, same-unused, uncaused, asked, caused, of_line, memory_line, memory_cause)
 
 pub text_of : (file : FileTree) (text : String Global) (answer : Result (String Global) VastFault) → Emits (layout file) answer → answer ≡ Ok text → IsTextOf file (string_bytes text)
 text_of file text answer h e = let m = subst (λ (r : Result (String Global) VastFault). Emits (layout file) r) e h in (m.0, m.1)

@@ -1,9 +1,17 @@
 -- What lines give and what is wrong with them, as JSON: each an object. A text is a list of bytes.
-use Rattle.std.specs.Prelude.{◌≡◌, ◌⊎◌, ◌==◌, ℕ, ℤ, List, [], ◌++◌, length, codes, string_bytes, Bool, if◌then◌else◌, Option, Some, None}
+use Rattle.std.specs.Prelude.{◌≡◌, ◌⊎◌, ◌==◌, ℕ, ℤ, List, [], ◌++◌, length, codes, slice_get, String, string_bytes, Bool, if◌then◌else◌, Option, Some, None, Ok}
 use Rattle.std.specs.Fmt.{decimal, signed_decimal}
 use Rattle.std.specs.List.{join_by}
+use Rattle.std.specs.declared.alloc.Global.{Global}
+use Rattle.vast_core.specs.Bench.{tree_of}
+use Rattle.vast_core.specs.declared.handle.Expr.{Expr}
 use Rattle.vast_literal.specs.declared.kind.ModulePortDirection.{ModulePortDirection}
 use Rattle.vast_literal.specs.declared.kind.ModulePortDirection.TheVariants.{Input, Output, InOut}
+use Rattle.vast_print.specs.Emits.{EmitsText}
+use Rattle.vast_print.specs.Text.{expr_text}
+use Rattle.vast_script.specs.Arguments.{one}
+use Rattle.vast_script.specs.Kinds.{an_expr}
+use Rattle.vast_script.specs.declared.answer.Answer.TheVariants.{Nothing as NoAnswerMade}
 use Rattle.vast_script.specs.declared.fault.StepFault.{StepFault}
 use Rattle.vast_script.specs.declared.fault.StepFault.TheVariants.{NoAnswer, WrongKind, Condition, Refused, Memory}
 use Rattle.vast_list.specs.declared.fault.LineFault.{LineFault}
@@ -12,7 +20,9 @@ use Rattle.vast_list.specs.declared.questions.answered.Value.{Value}
 use Rattle.vast_list.specs.declared.questions.answered.Value.TheVariants.{Text, Nothing, Truth, Number, Count, Ports}
 use Rattle.vast_list.specs.declared.session.Given.{Given}
 use Rattle.vast_list.specs.declared.session.Given.TheVariants.{Nothing as Blank, Step, Helper, Answer as Answered}
+use Rattle.vast_list.specs.declared.session.Session.{Session}
 use Rattle.vast_list.specs.Json.{json_text}
+use Rattle.vast_list.specs.Written.{IsPlaceOf}
 
 -- A member whose value is a text, behind its name as it stands in the object.
 abbrev pub text_member : (name content : List ℕ) → List ℕ
@@ -87,18 +97,25 @@ value_json (Number number) = signed_decimal number
 value_json (Count count) = decimal count
 value_json (Ports ports) = codes "[" ++ join_by port_object (codes ",") ports.items ++ codes "]"
 
--- What stands for the answer of a helper: a text, or nothing.
-abbrev pub IsHelperJson : List ℕ → Type 0
-IsHelperJson value = (value ≡ codes "null") ⊎ ((text : List ℕ) × (value ≡ json_text text))
+-- The text of what the step or the helper of this number answered: `ok` for nothing, else that of the expression.
+abbrev pub IsAnswerText : Session → (number : ℕ) → String Global → Type 0
+IsAnswerText session number text =
+    (place : ℕ) × IsPlaceOf session.skipped.items number place
+    × (((slice_get session.answers.items place ≡ Some NoAnswerMade) × (string_bytes text ≡ codes "ok"))
+    ⊎ ((made : Expr) × (one an_expr session.file session.answers.items place ≡ Ok made) × EmitsText (expr_text (tree_of session.file made)) (Ok text)))
+
+-- What stands for the answer of a helper: its text, or nothing where that is refused.
+abbrev pub IsHelperJson : Session → (number : ℕ) → List ℕ → Type 0
+IsHelperJson session number value = (value ≡ codes "null") ⊎ ((text : String Global) × IsAnswerText session number text × (value ≡ json_text (string_bytes text)))
 
 -- What a line gave.
-abbrev pub IsGivenObject : (line : ℕ) → Given → (object : List ℕ) → Type 0
-IsGivenObject line Blank object = object ≡ line_front line ++ codes "}"
-IsGivenObject line (Step number call) object = object ≡ line_front line ++ call_members call.now (Some number) ++ codes "}"
-IsGivenObject line (Helper number call) object =
-    (value : List ℕ) × IsHelperJson value × (object ≡ line_front line ++ call_members call.now (Some number) ++ codes ",\"answer\":" ++ value ++ codes "}")
-IsGivenObject line (Answered call value) object = object ≡ line_front line ++ call_members call.now None ++ codes ",\"answer\":" ++ value_json value ++ codes "}"
+abbrev pub IsGivenObject : Session → (line : ℕ) → Given → (object : List ℕ) → Type 0
+IsGivenObject session line Blank object = object ≡ line_front line ++ codes "}"
+IsGivenObject session line (Step number call) object = object ≡ line_front line ++ call_members call.now (Some number) ++ codes "}"
+IsGivenObject session line (Helper number call) object =
+    (value : List ℕ) × IsHelperJson session number value × (object ≡ line_front line ++ call_members call.now (Some number) ++ codes ",\"answer\":" ++ value ++ codes "}")
+IsGivenObject session line (Answered call value) object = object ≡ line_front line ++ call_members call.now None ++ codes ",\"answer\":" ++ value_json value ++ codes "}"
 
 -- The text grew by what the line gave.
-abbrev pub AddsGiven : (old new : List ℕ) → (line : ℕ) → Given → Type 0
-AddsGiven old new line given = (object : List ℕ) × IsGivenObject line given object × (new ≡ old ++ object)
+abbrev pub AddsGiven : Session → (old new : List ℕ) → (line : ℕ) → Given → Type 0
+AddsGiven session old new line given = (object : List ℕ) × IsGivenObject session line given object × (new ≡ old ++ object)

@@ -23,7 +23,8 @@ pub fn push_given(
     line: usize,
     given: &Given<'_>,
 ) -> Result<(), AllocError>
-    ensures { OnOk result (AddsGiven (string_bytes text.old) (string_bytes text.new) line given.now) }
+    ensures { OnOk result
+        (AddsGiven session.now (string_bytes text.old) (string_bytes text.new) line given.now) }
 {
     write!(text, "{{\"line\":{line}")?;
     match given {
@@ -112,7 +113,8 @@ fn push_call(text: &mut String, call: &str, step: Option<usize>) -> Result<(), A
 
 /// The text of the helper's expression; `null` where it is refused or the helper answers nothing.
 fn push_helper_text(text: &mut String, session: &Session, number: usize) -> Result<(), AllocError>
-    ensures { OnOk result (AddsHelper (string_bytes text.old) (string_bytes text.new)) }
+    ensures { OnOk result
+        (AddsHelper session.now number (string_bytes text.old) (string_bytes text.new)) }
 {
     match session.helper_text(number) {
         Ok(answer) => push_json_text(text, &answer),

@@ -4,9 +4,11 @@ ghost use Rattle.std.specs.Prelude.{◌≡◌, ℕ, ◌+◌, ◌-◌, ◌^◌, L
 ghost use Rattle.vast_core.specs.Bench.{start};
 ghost use Rattle.vast_core.specs.FileTree.{tree};
 ghost use Rattle.xlsynth_vast.specs.Registers.{HasUnused};
-ghost use Rattle.vast_list.specs.Lines.{without_return};
+ghost use Rattle.std.specs.Str.{IsUtf8};
+ghost use Rattle.vast_list.specs.Lines.{HasKind, Passed, without_return};
 ghost use Rattle.vast_list.specs.Names.{IsFree, entered, value_named};
 ghost use Rattle.vast_list.specs.Internal.Names.{forgotten};
+ghost use Rattle.vast_list.specs.Replies.{IsAnswerText};
 ghost use Rattle.vast_list.specs.Session.{Calls, IsCausedBy, IsGivenBy, IsInForm, IsOfLine, IsStepIn, IsTextOf, Skips, Takes};
 ghost use Rattle.vast_list.specs.Internal.Session.{IsCallFault, IsRead, IsToldAs, IsToldOf, Makes, MakesName};
 ghost use Rattle.vast_list.specs.Written.{meaning};
@@ -121,6 +123,7 @@ impl Session {
         ensures unseen { IfErr result (λ fault. HasUnused self.old.file self.new.file) }
         ensures cause { IfErr result (IsCausedBy self.old self.new line.now) }
         ensures number { IfErr result (IsOfLine number) }
+        ensures passed { IfErr result (λ fault. HasKind line.now Passed → ⊥) }
     {
         let text = self.text_of(number, line)?;
         if is_empty(text) {
@@ -150,7 +153,8 @@ impl Session {
     /// Where it is not in the form, and want of memory.
     #[tactic(auto, using(crate::proofs::Sessions::reading))]
     pub fn check(&self, number: usize, line: &[u8]) -> Result<(), Fault>
-        ensures { OnOk result (IsInForm self.now line.now) }
+        ensures form { OnOk result (IsInForm self.now line.now) }
+        ensures passed { IfErr result (λ fault. HasKind line.now Passed → ⊥) }
     {
         let text = self.text_of(number, line)?;
         if is_empty(text) {
@@ -194,7 +198,9 @@ impl Session {
     ///
     /// # Errors
     /// A refusal of the text, and want of memory. `no such answer` where no step or helper has the number.
-    pub fn helper_text(&self, number: usize) -> Result<String, StepFault> {
+    pub fn helper_text(&self, number: usize) -> Result<String, StepFault>
+        ensures { IfOk result (IsAnswerText self.now number) }
+    {
         let place = place_of(&self.skipped, number);
         match self.answers.get(place) {
             Some(Answer::Nothing) => Ok(String::from_str(self.file.allocator(), "ok")?),
@@ -292,8 +298,9 @@ impl Session {
     }
 
     fn text_of<'a>(&self, number: usize, line: &'a [u8]) -> Result<&'a str, Fault>
-        ensures { MatchResult result
+        ensures text { MatchResult result
             (λ text. text.now ≡ without_return line.now) (IsToldOf number None) }
+        ensures utf8 { IfErr result (λ fault. IsUtf8 (without_return line.now) → ⊥) }
     {
         match text_of(line) {
             Ok(text) => Ok(text),

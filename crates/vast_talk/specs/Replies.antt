@@ -24,15 +24,15 @@ abbrev pub text_object : (line : ℕ) → (name content : List ℕ) → List ℕ
 text_object line name content = line_front line ++ text_member name content ++ codes "}"
 
 -- What is told of a line that a session took: what it gave, or its fault.
-abbrev pub IsObjectOf : (line : ℕ) → Result Given Fault → (object : List ℕ) → Type 0
-IsObjectOf line (Ok given) object = IsGivenObject line given object
-IsObjectOf line (Err (Line fault)) object = (fault.line ≡ line) × (object ≡ fault_object fault)
-IsObjectOf line (Err Memory) object = ⊥
+abbrev pub IsObjectOf : Session → (line : ℕ) → Result Given Fault → (object : List ℕ) → Type 0
+IsObjectOf session line (Ok given) object = IsGivenObject session line given object
+IsObjectOf session line (Err (Line fault)) object = (fault.line ≡ line) × (object ≡ fault_object fault)
+IsObjectOf session line (Err Memory) object = ⊥
 
 -- The session took the line, and the object tells what came of it.
 abbrev pub RepliesToLine : (old new : Session) → (number : ℕ) → (line object : List ℕ) → Type 0
 RepliesToLine old new number line object =
-    (taken : Result Given Fault) × Takes old new line taken × IfOk taken (IsGivenBy line) × IsObjectOf number taken object
+    (taken : Result Given Fault) × Takes old new line taken × IfOk taken (IsGivenBy line) × IsObjectOf new number taken object
 
 -- The object itself, or with a list of warnings as its last member.
 abbrev pub IsWarned : (object told : List ℕ) → Type 0

@@ -2,11 +2,12 @@
 use Rattle.std.specs.Prelude.{◌≡◌, ℕ, List, ◌++◌, codes}
 use Rattle.std.specs.List.{flat_map}
 use Rattle.vast_list.specs.declared.questions.answered.PortValue.{PortValue}
+use Rattle.vast_list.specs.declared.session.Session.{Session}
 use Rattle.vast_list.specs.Replies.{IsHelperJson, port_object}
 
--- The text grew by what stands for the answer of a helper.
-abbrev pub AddsHelper : (old new : List ℕ) → Type 0
-AddsHelper old new = (value : List ℕ) × IsHelperJson value × (new ≡ old ++ value)
+-- The text grew by what stands for the answer of the helper of this number.
+abbrev pub AddsHelper : Session → (number : ℕ) → (old new : List ℕ) → Type 0
+AddsHelper session number old new = (value : List ℕ) × IsHelperJson session number value × (new ≡ old ++ value)
 
 -- Ports behind the first.
 abbrev pub more_ports : List PortValue → List ℕ

@@ -23,8 +23,8 @@ made_as_read old new call read text line r a m n e =
 
 pub returns-in-Step-clause-takes : goal.returns-in-Step-clause-takes
 returns-in-Step-clause-takes c =
-    made_as_read c.args.self.now c.make.new.self c.in-Call.made c.in_ok-name.field-0 c.in_ok-text.text.now c.args.line.now c.in_ok-name.ensures c.in-Call.is c.in_ok-make-in-Call.ensures.made c.in_ok-make-in-Call.ensures.name c.in_ok-text.ensures
+    made_as_read c.args.self.now c.make.new.self c.in-Call.made c.in_ok-name.field-0 c.in_ok-text.text.now c.args.line.now c.in_ok-name.ensures c.in-Call.is c.in_ok-make-in-Call.ensures.made c.in_ok-make-in-Call.ensures.name c.in_ok-text.ensures.text
 
 pub returns-clause-takes : goal.returns-clause-takes
 returns-clause-takes c =
-    made_as_read c.args.self.now c.make.new.self c.in-Call.made c.in_ok-name.field-0 c.in_ok-text.text.now c.args.line.now c.in_ok-name.ensures c.in-Call.is c.in_ok-make-in-Call.ensures.made c.in_ok-make-in-Call.ensures.name c.in_ok-text.ensures
+    made_as_read c.args.self.now c.make.new.self c.in-Call.made c.in_ok-name.field-0 c.in_ok-text.text.now c.args.line.now c.in_ok-name.ensures c.in-Call.is c.in_ok-make-in-Call.ensures.made c.in_ok-make-in-Call.ensures.name c.in_ok-text.ensures.text
