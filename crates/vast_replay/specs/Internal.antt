@@ -1,2 +1,3 @@
 -- What private contracts and proofs say, and no public one.
 pub mod Input
+pub mod Sessions

@@ -1,3 +1,4 @@
 -- What is printed of an input that is one list.
 pub mod Input
 pub mod Internal
+pub mod Sessions

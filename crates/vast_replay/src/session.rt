@@ -1,6 +1,11 @@
 //! Lines that are answered one by one.
 
-ghost use Rattle.std.specs.Prelude.{◌≡◌};
+ghost use Rattle.std.specs.Prelude.{◌≡◌, IfOk, IfSome, OnOk};
+ghost use Rattle.std.specs.Io.KnownBytes.{Appends};
+ghost use Rattle.vast_list.specs.Lines.{lines_of};
+ghost use Rattle.vast_talk.specs.Linted.{IsTalking};
+ghost use Rattle.vast_replay.specs.Sessions.{IsBegun, WritesReplies};
+ghost use Rattle.vast_replay.specs.Internal.Sessions.{HasRepliedAll, IsWithoutFeed, ReadsLine};
 
 use crate::failure::{Failure, fail};
 use crate::outcome::Outcome;
@@ -12,6 +17,8 @@ use vast_talk::Talk;
 /// Answers each line of `input` by a line of JSON on `out`, written through at once, to the end of the input; with `lint`
 /// each tells too what its call prints that is no SystemVerilog or Verilog, or that a tool refuses.
 ///
+/// Where all lines were answered the replies to the input's lines were written, in order, and nothing else.
+///
 /// A failed read (`read fault`), a failed write (`write fault`) and want of memory (`out of memory`) are told on `err` and
 /// end the run.
 pub fn answer_lines<R: BufRead, W: Write, E: Write>(
@@ -21,7 +28,9 @@ pub fn answer_lines<R: BufRead, W: Write, E: Write>(
     out: &mut W,
     err: &mut E,
 ) -> Outcome
-    ensures { result ≡ Outcome.Made → E.contents err.new ≡ E.contents err.old }
+    ensures made { result ≡ Outcome.Made → E.contents err.new ≡ E.contents err.old }
+    ensures replies { result ≡ Outcome.Made → IfSome (R.remaining input.old)
+        (λ bytes. WritesReplies lint (lines_of bytes) (W.contents out.old) (W.contents out.new)) }
 {
     let mut talk = talk_of(alloc, lint);
     let outcome = answer_each(alloc, &mut talk, input, out, err);
@@ -37,7 +46,9 @@ fn answer_each<R: BufRead, W: Write, E: Write>(
     out: &mut W,
     err: &mut E,
 ) -> Outcome
-    ensures { result ≡ Outcome.Made → E.contents err.new ≡ E.contents err.old }
+    ensures made { result ≡ Outcome.Made → E.contents err.new ≡ E.contents err.old }
+    ensures replies { IsTalking talk.old → result ≡ Outcome.Made → IfSome (R.remaining input.old)
+        (λ bytes. HasRepliedAll bytes talk.old talk.new (W.contents out.old) (W.contents out.new)) }
 {
     for _ in 0..u64::MAX {
         let line = match read_line(alloc, input) {
@@ -51,14 +62,24 @@ fn answer_each<R: BufRead, W: Write, E: Write>(
         let Ok(reply) = talk.reply(&line) else {
             return fail(Failure::Memory, err);
         };
-        if out.write_all(reply.as_bytes()).is_err() || out.flush().is_err() {
+        if write_through(out, &reply).is_err() {
             return fail(Failure::Write, err);
         }
     }
     fail(Failure::Lines, err)
 }
 
-fn talk_of(alloc: Global, lint: bool) -> Talk {
+/// Writes the text, and through to its end.
+fn write_through<W: Write>(out: &mut W, text: &str) -> io::Result<()>
+    ensures { OnOk result (Appends (W.contents out.old) (W.contents out.new) text.now) }
+{
+    out.write_all(text.as_bytes())?;
+    out.flush()
+}
+
+fn talk_of(alloc: Global, lint: bool) -> Talk
+    ensures { IsBegun lint result }
+{
     if lint {
         Talk::with_lint(alloc)
     } else {
@@ -67,13 +88,25 @@ fn talk_of(alloc: Global, lint: bool) -> Talk {
 }
 
 /// The next line without its line feed; `None` at the end.
-fn read_line<R: BufRead>(alloc: Global, input: &mut R) -> io::Result<Option<Vec<u8>>> {
+fn read_line<R: BufRead>(alloc: Global, input: &mut R) -> io::Result<Option<Vec<u8>>>
+    ensures { IfOk result (λ found. IfSome (R.remaining input.old)
+        (λ bytes. ReadsLine bytes (R.remaining input.new) found)) }
+{
     let mut line = Vec::new(alloc);
     if input.read_until(b'\n', &mut line)? == 0 {
         return Ok(None);
     }
-    if line.ends_with(b"\n") {
-        line.pop();
-    }
+    strip_feed(&mut line);
     Ok(Some(line))
+}
+
+/// Takes away the line feed at the end, if there is one.
+fn strip_feed(line: &mut Vec<u8>)
+    ensures { IsWithoutFeed line.old.items line.new.items }
+{
+    let length = match line.strip_suffix(b"\n") {
+        Some(front) => front.len(),
+        None => line.len(),
+    };
+    line.truncate(length);
 }

@@ -38,6 +38,8 @@ impl Talk {
     /// Before the first line. It takes no memory.
     pub fn new(alloc: Global) -> Talk
         ensures lint { result.has_lint ≡ false }
+        ensures session { result.session ≡ None }
+        ensures number { result.number ≡ 0 }
         ensures talking { IsTalking result }
     {
         Talk {
@@ -55,6 +57,8 @@ impl Talk {
     /// end of the list, if it ended there: `{"line":13,"call":"?Warnings","answer":[..]}`. It takes no memory.
     pub fn with_lint(alloc: Global) -> Talk
         ensures lint { result.has_lint ≡ true }
+        ensures session { result.session ≡ None }
+        ensures number { result.number ≡ 0 }
         ensures talking { IsTalking result }
     {
         Talk {
