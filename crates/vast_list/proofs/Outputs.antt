@@ -1,27 +1,22 @@
--- What is printed of a list. What begins with a header goes on beginning with it.
+-- What is printed of a list.
 use Rattle.std.proofs.Common.{◌≡◌, ℕ, ◌+◌, ◌-◌, ◌<◌, arith, length, get_or, Bool, List, [], ◌∷◌, ◌++◌, take, drop, All, Option, Some, None, Bor, false, refl, sym, ap, subst, ◌∙◌}
 use Rattle.std.proofs.lemmas.List.{append-nil, append_assoc, map-append, take-append-drop, take_all, take_more, length-drop}
 use Rattle.std.proofs.lemmas.List.Elements.{All-push}
-use Rattle.std.specs.Prelude.{is_some}
+use Rattle.std.specs.Prelude.{IsTrue, is_some}
 use Rattle.vast_literal.specs.declared.kind.VastFileType.{VastFileType}
 use Rattle.vast_list.specs.declared.answering.Answering.{Answering}
 use Rattle.vast_list.specs.declared.session.Session.{Session}
 use Rattle.vast_list.specs.declared.tries.Tries.{Tries}
-use Rattle.vast_list.specs.Built.{HasBuilt}
+use Rattle.vast_core.specs.FileTree.{tree}
+use Rattle.vast_list.specs.declared.output.Verdict.{Verdict}
+use Rattle.vast_list.specs.Built.{HasBuilt, IsListText}
+use Rattle.vast_list.specs.Session.{IsTextOf}
 use Rattle.vast_list.specs.Internal.Built.{TakesLine}
 use Rattle.vast_list.proofs.Built.{lines-more}
 use Rattle.vast_list.specs.Lines.{BeginsWithDialect, Passed, dialect_word, line_kind, line_texts, without_return}
-use Rattle.vast_list.specs.Output.{header_line, BeginsWithHeader, IsOutput, is_again}
-use Rattle.vast_list.specs.Internal.Output.{IsAnswered, IsDesign, IsFinished, Prints, TakesOn}
+use Rattle.vast_list.specs.Output.{IsOutput, StopsAtFault, header_line, is_again, is_made}
+use Rattle.vast_list.specs.Internal.Output.{IsAnswered, IsDesign, IsFinished, IsReport, Prints, TakesOn}
 use Rattle.vast_list.specs.Written.{meaning}
-
-pub header_begins : (title line : List ℕ) → line ≡ header_line title → BeginsWithHeader title line
-header_begins title line e = ([], e ∙ sym (append-nil (header_line title)))
-
-pub header_kept : (title old more new : List ℕ) → BeginsWithHeader title old → new ≡ old ++ more → BeginsWithHeader title new
-header_kept title old more new (rest, e) n = (rest ++ more, n ∙ ap (λ (o : List ℕ). o ++ more) e ∙ append_assoc (header_line title) rest more)
-
-pub ruleset headers = (header_begins, header_kept)
 
 -- The lines of a list that stand behind the first that is no comment.
 pub begins :
@@ -38,20 +33,35 @@ begins lines first rest n line behind dialect f r passed left word =
       ap line_texts (sym (take-append-drop n lines) ∙ ap (λ (rest : List (ℕ × Bor (List ℕ))). take n lines ++ rest) begun) ∙ map-append (λ (l : ℕ × Bor (List ℕ)). l.1.now) (take n lines) (line ∷ behind),
     )
 
-pub without_title : (title : Option (Bor (List ℕ))) (answering : Answering) (output : List ℕ) → title ≡ None → IsDesign answering output → IsFinished title answering output
-without_title title answering output e t = subst (λ (t : Option (Bor (List ℕ))). IsFinished t answering output) (sym e) t
+pub without_title :
+    (title : Option (Bor (List ℕ))) (answering : Answering) (verdict : Verdict) (output : List ℕ) → title ≡ None → IsDesign answering output → IsFinished title answering verdict output
+without_title title answering verdict output e t = subst (λ (t : Option (Bor (List ℕ))). IsFinished t answering verdict output) (sym e) t
 
-pub with_title : (title : Option (Bor (List ℕ))) (words : Bor (List ℕ)) (answering : Answering) (output : List ℕ) → title ≡ Some words → BeginsWithHeader words.now output → IsFinished title answering output
-with_title title words answering output e b = subst (λ (t : Option (Bor (List ℕ))). IsFinished t answering output) (sym e) b
+pub with_title :
+    (title : Option (Bor (List ℕ))) (words : Bor (List ℕ)) (answering : Answering) (verdict : Verdict) (output : List ℕ) → title ≡ Some words → IsReport words.now answering verdict output →
+    IsFinished title answering verdict output
+with_title title words answering verdict output e b = subst (λ (t : Option (Bor (List ℕ))). IsFinished t answering verdict output) (sym e) b
 
 pub ruleset titles = (without_title, with_title)
 
+-- The file is what the list's lines build.
+list_text :
+    (tries : Tries) (lines behind : List (List ℕ)) (dialect : VastFileType) (answering : Answering) (text : List ℕ) → BeginsWithDialect lines dialect behind → IsAnswered tries dialect behind answering →
+    IsTrue (is_made answering.told.verdict) → IsTextOf (tree answering.session.file) text → IsListText (is_again tries) lines text
+list_text tries lines behind dialect answering text begun answered made is =
+    (dialect, behind, begun, answering.session.file, answering.session.answers.items, meaning answering.session.names, (answered made).0, is)
+
 pub is_output :
-    (tries : Tries) (title : Option (Bor (List ℕ))) (lines behind : List (List ℕ)) (dialect : VastFileType) (answering : Answering) (output : List ℕ) → BeginsWithDialect lines dialect behind →
-    IsAnswered tries title dialect behind answering → IsFinished title answering output → IsOutput tries title lines output
-is_output tries (Some title) lines behind dialect answering output begun answered finished = finished
-is_output tries None lines behind dialect answering output begun answered finished =
-    (dialect, behind, begun, answering.session.file, answering.session.answers.items, meaning answering.session.names, (answered refl finished.0).0, finished.1)
+    (tries : Tries) (title : Option (Bor (List ℕ))) (lines behind : List (List ℕ)) (dialect : VastFileType) (answering : Answering) (verdict : Verdict) (output : List ℕ) → BeginsWithDialect lines dialect behind →
+    IsAnswered tries dialect behind answering → IsFinished title answering verdict output → IsOutput tries title lines verdict output
+is_output tries (Some title) lines behind dialect answering verdict output begun answered (rest, is, ends) = (
+  rest,
+  is,
+  λ made.
+      let (no_fault, front, text, of_file, same) = ends made in
+      (front, text, list_text tries lines behind dialect answering text begun answered no_fault of_file, same),
+)
+is_output tries None lines behind dialect answering verdict output begun answered finished = list_text tries lines behind dialect answering output begun answered finished.0 finished.1
 
 pub ruleset outputs = (is_output)
 
@@ -69,17 +79,16 @@ pub lines-next :
     HasBuilt again dialect (line_texts (take i lines)) old → TakesLine again old new line.1.now → HasBuilt again dialect (line_texts (take (i + 1) lines)) new
 lines-next again dialect lines i line old new l at h takes = rw (texts-more lines i line l at) (lines-more again dialect (line_texts (take i lines)) line.1.now old new h takes)
 
--- Of a list without a title that is not at fault, one line more is taken.
+-- Of a list that is not at fault, one line more is taken.
 pub answered-next :
-    (tries : Tries) (title : Option (Bor (List ℕ))) (dialect : VastFileType) (lines : List (ℕ × Bor (List ℕ))) (i : ℕ) (line : ℕ × Bor (List ℕ)) (old new : Answering) → i < length lines →
-    line ≡ get_or lines i line → is_some old.trial ≡ is_again tries → is_some old.report ≡ is_some title → IsAnswered tries title dialect (line_texts (take i lines)) old → TakesOn old new line.1.now →
-    IsAnswered tries title dialect (line_texts (take (i + 1) lines)) new
-answered-next tries title dialect lines i line old new l at trial report built on untitled made =
-    let silent : is_some old.report ≡ false = report ∙ untitled in
-    let takes = subst (λ (again : Bool). TakesLine again old.session new.session line.1.now) trial (on.taken silent made) in
-    lines-next (is_again tries) dialect lines i line old.session new.session l at (built untitled (on.verdict silent made)) takes
+    (tries : Tries) (dialect : VastFileType) (lines : List (ℕ × Bor (List ℕ))) (i : ℕ) (line : ℕ × Bor (List ℕ)) (old new : Answering) → i < length lines →
+    line ≡ get_or lines i line → is_some old.trial ≡ is_again tries → StopsAtFault old → IsAnswered tries dialect (line_texts (take i lines)) old → TakesOn old new line.1.now →
+    IsAnswered tries dialect (line_texts (take (i + 1) lines)) new
+answered-next tries dialect lines i line old new l at trial stops built on made =
+    let takes = subst (λ (again : Bool). TakesLine again old.session new.session line.1.now) trial (on.taken stops made) in
+    lines-next (is_again tries) dialect lines i line old.session new.session l at (built (on.verdict made)) takes
 
 pub next-printed : (old now new : Answering) → Prints old now → Prints now new → Prints old new
-next-printed old now new p q = record { session = q.session ∙ p.session; trial = q.trial ∙ p.trial; report = q.report ∙ p.report; verdict = λ made. p.verdict (q.verdict made) }
+next-printed old now new p q = record { session = q.session ∙ p.session; trial = q.trial ∙ p.trial; report = q.report ∙ p.report; stopped = q.stopped ∙ p.stopped; verdict = λ made. p.verdict (q.verdict made) }
 
 pub ruleset printing = (next-printed)

@@ -28,10 +28,10 @@ begins-more lines behind line dialect h =
 
 -- The line names the dialect.
 pub answered_first :
-    (line : List ℕ) (dialect : VastFileType) (answering : Answering) → without_return line ≡ dialect_word dialect → is_some answering.trial ≡ false → is_some answering.report ≡ false →
+    (line : List ℕ) (dialect : VastFileType) (answering : Answering) → without_return line ≡ dialect_word dialect → is_some answering.trial ≡ false → answering.is_stopped ≡ false →
     HasBuilt false dialect [] answering.session → LeadsTo line (Behind answering)
-answered_first line dialect answering word trial report built =
-    λ lines blank. record { trial = trial; report = report; built = λ made. (dialect, [], (lines, line, blank, word, refl), built) }
+answered_first line dialect answering word trial going built =
+    λ lines blank. record { trial = trial; stopped = λ stops. absurd (cc (sym going ∙ stops)); built = λ made. (dialect, [], (lines, line, blank, word, refl), built) }
 
 -- It names none.
 pub led_astray : (line : List ℕ) (fault : LineFault) → LeadsTo line (Astray fault)
@@ -41,10 +41,10 @@ led_astray line fault = λ lines blank. tt
 answered-more : (lines : List (List ℕ)) (line : List ℕ) (old new : Answering) → HasAnswered lines old → TakesOn old new line → HasAnswered (lines ++ line ∷ []) new
 answered-more lines line old new before on = record {
   trial = on.trial ∙ before.trial;
-  report = on.report ∙ before.report;
+  stopped = on.stopped before.stopped;
   built = λ made.
-      let was = before.built (on.verdict before.report made) in
-      let takes = subst (λ (again : Bool). TakesLine again old.session new.session line) before.trial (on.taken before.report made) in
+      let was = before.built (on.verdict made) in
+      let takes = subst (λ (again : Bool). TakesLine again old.session new.session line) before.trial (on.taken before.stopped made) in
       (was.0, was.1 ++ line ∷ [], begins-more lines was.1 line was.0 was.2, lines-more false was.0 was.1 line old.session new.session was.3 takes);
 }
 
@@ -75,7 +75,7 @@ text-of-lines lines answering output before design =
 
 pub printed_behind :
     (list : UntitledList) (answering : Answering) (r : Result ListOutput AllocError) → list.stage ≡ Behind answering →
-    IfOk r (λ (made : ListOutput). IfSome made.output (λ output. IsFinished None answering output.items)) → IfOk r (IsPrintedOf list)
+    IfOk r (λ (made : ListOutput). IfSome made.output (λ output. IsFinished None answering made.verdict output.items)) → IfOk r (IsPrintedOf list)
 printed_behind list answering (Ok made) is finished =
     λ lines h. IfSome_then made.output finished (λ output design. text-of-lines lines answering output.items (subst (λ (s : Stage). HaveLedTo lines s) is h) design)
 printed_behind list answering (Err e) is finished = tt

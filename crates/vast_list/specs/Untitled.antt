@@ -8,17 +8,17 @@ use Rattle.vast_list.specs.declared.untitled.Stage.TheVariants.{Before, Behind, 
 use Rattle.vast_list.specs.declared.untitled.UntitledList.{UntitledList}
 use Rattle.vast_list.specs.Built.{HasBuilt, IsListText}
 use Rattle.vast_list.specs.Lines.{BeginsWithDialect, Passed, line_kind}
-use Rattle.vast_list.specs.Output.{is_made}
+use Rattle.vast_list.specs.Output.{StopsAtFault, is_made}
 
 -- The lines name a dialect, and the session is what those behind it build.
 abbrev pub IsBuiltBy : (lines : List (List ℕ)) → Answering → Type 0
 IsBuiltBy lines answering =
     (dialect : VastFileType) × (behind : List (List ℕ)) × BeginsWithDialect lines dialect behind × HasBuilt false dialect behind answering.session
 
--- Lines are taken once and nothing is reported between them; where nothing of them was at fault, they built the session.
+-- Lines are taken once, and where a call was refused they are at fault; where nothing of them was, they built the session.
 pub record HasAnswered (lines : List (List ℕ)) (answering : Answering) : Type 0 where
   pub trial : is_some answering.trial ≡ false
-  pub report : is_some answering.report ≡ false
+  pub stopped : StopsAtFault answering
   pub built : IsTrue (is_made answering.told.verdict) → IsBuiltBy lines answering
 
 -- These lines led to this.

@@ -1,6 +1,6 @@
 //! A list in the answering.
 
-ghost use Rattle.std.specs.Prelude.{◌≡◌, IfOk, OnOk, is_some, false, true};
+ghost use Rattle.std.specs.Prelude.{◌≡◌, ◌++◌, IfOk, IsTrue, OnOk, is_some, false, true};
 ghost use Rattle.vast_list.specs.Internal.Built.{TakesLine};
 ghost use Rattle.vast_list.specs.Output.{is_again, is_made};
 ghost use Rattle.vast_list.specs.Internal.Output.{Prints, TakesOn};
@@ -112,6 +112,7 @@ impl Answering<'_> {
             (TakesLine (is_some self.old.trial) self.old.session self.new.session line.now) }
         ensures trial { is_some self.new.trial ≡ is_some self.old.trial }
         ensures report { self.new.report ≡ self.old.report }
+        ensures stopped { self.new.is_stopped ≡ self.old.is_stopped }
         ensures told { self.new.told ≡ self.old.told }
     {
         match &mut self.trial {
@@ -123,7 +124,9 @@ impl Answering<'_> {
     /// Only reads a step behind one that was refused.
     fn pass_over(&mut self, number: usize, line: &[u8]) -> Result<(), AllocError>
         ensures trial { OnOk result (is_some self.new.trial ≡ is_some self.old.trial) }
-        ensures report { OnOk result (is_some self.new.report ≡ is_some self.old.report) }
+        ensures stopped { self.new.is_stopped ≡ self.old.is_stopped }
+        ensures verdict { OnOk result
+            (IsTrue (is_made self.new.told.verdict) → IsTrue (is_made self.old.told.verdict)) }
     {
         let tries = self.tries();
         let checked = match self.session.check(number, line) {
@@ -238,27 +241,16 @@ impl Answering<'_> {
     {
         let tries = self.tries();
         if let Some(report) = &mut self.report {
-            tried!(tries, report.reserve(text.len()))?;
-            report.extend_from_slice(text.as_bytes())?;
+            append(tries, report, text)?;
         }
         Ok(())
     }
 
-    /// Prints the file's text behind the header, or its refusal.
-    pub(crate) fn print_file(&mut self) -> Result<(), AllocError> {
-        self.print_left()?;
-        match tried!(self.tries(), self.session.text(), Fault::Memory) {
-            Ok(text) => self.print_text(&text),
-            Err(Fault::Memory) => Err(AllocError),
-            Err(Fault::Line(fault)) => {
-                self.print_words("refused", ": ", &fault.words)?;
-                let tries = self.tries();
-                self.told.keep(tries, fault)
-            }
-        }
-    }
-
-    fn print_left(&mut self) -> Result<(), AllocError> {
+    /// Prints that what is left is no file of the list's first steps, where it is none.
+    #[tactic(auto, using(crate::proofs::Outputs::printing))]
+    pub(crate) fn print_left(&mut self) -> Result<(), AllocError>
+        ensures { OnOk result (Prints self.old self.new) }
+    {
         let is_prefix = match &self.trial {
             None => true,
             Some(trial) => trial.is_prefix(&self.session)?,
@@ -269,4 +261,12 @@ impl Answering<'_> {
         }
         Ok(())
     }
+}
+
+/// Appends the text, once more where memory was refused and the tries allow it.
+pub(crate) fn append(tries: Tries, bytes: &mut Vec<u8>, text: &str) -> Result<(), AllocError>
+    ensures { OnOk result (bytes.new.items ≡ bytes.old.items ++ text.now) }
+{
+    tried!(tries, bytes.reserve(text.len()))?;
+    bytes.extend_from_slice(text.as_bytes())
 }

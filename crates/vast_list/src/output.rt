@@ -1,14 +1,14 @@
 //! What is printed of a list.
 
-ghost use Rattle.std.specs.Prelude.{◌≡◌, ◌≤◌, IfOk, IfSome, None, false, is_some, length, take, string_bytes, All};
+ghost use Rattle.std.specs.Prelude.{◌≡◌, ◌≤◌, ◌++◌, IfOk, IfSome, IsTrue, None, OnOk, false, is_some, length, take, string_bytes, All};
 ghost use Rattle.vast_core.specs.FileTree.{tree};
 ghost use Rattle.vast_list.specs.Lines.{BeginsWithDialect, Passed, line_kind, line_texts};
-ghost use Rattle.vast_list.specs.Output.{header_line, is_again, is_made, BeginsWithHeader, IsOutput, IsPrinted};
-ghost use Rattle.vast_list.specs.Internal.Output.{IsAnswered, IsDesign, IsFinished};
+ghost use Rattle.vast_list.specs.Output.{header_line, is_again, is_made, IsOutput, IsPrinted};
+ghost use Rattle.vast_list.specs.Internal.Output.{EndsWithFile, IsAnswered, IsDesign, IsFinished, IsReport};
 ghost use Rattle.vast_list.specs.Session.{IsTextOf};
 
 use crate::again::Trial;
-use crate::answering::{Answering, Told};
+use crate::answering::{Answering, Told, append};
 use crate::fault::{Fault, LineFault};
 use crate::line::{dialect_missing, dialect_of, is_empty_line};
 use crate::lines::{HEADER, ListLines};
@@ -62,7 +62,8 @@ pub fn list_output(
     list: &ListLines<'_>,
 ) -> Result<ListOutput, AllocError>
     ensures text { IfOk result (λ made. IfSome made.output
-        (λ output. IsOutput tries list.now.title (line_texts list.now.lines.items) output.items)) }
+        (λ output. IsOutput tries list.now.title (line_texts list.now.lines.items)
+        made.verdict output.items)) }
     ensures printed { IfOk result IsPrinted }
 {
     match dialect_again(alloc, tries, list) {
@@ -147,7 +148,7 @@ fn answered<'a>(
     lines: &[(usize, &'a [u8])],
 ) -> Result<Answering<'a>, AllocError>
     ensures { IfOk result (λ answering.
-        IsAnswered tries title.entry dialect (line_texts lines.now) answering) }
+        IsAnswered tries dialect (line_texts lines.now) answering) }
 {
     let trial = trial_of(alloc, tries, dialect, lines)?;
     let mut answering = Answering {
@@ -203,7 +204,7 @@ pub(crate) fn finished(
     answering: Answering<'_>,
 ) -> Result<ListOutput, AllocError>
     ensures text { IfOk result (λ made. IfSome made.output
-        (λ output. IsFinished title.entry answering.entry output.items)) }
+        (λ output. IsFinished title.entry answering.entry made.verdict output.items)) }
     ensures printed { IfOk result IsPrinted }
 {
     if let Verdict::NotInForm = answering.told.verdict {
@@ -267,19 +268,47 @@ fn report(
     mut answering: Answering<'_>,
 ) -> Result<ListOutput, AllocError>
     ensures text { IfOk result (λ made. IfSome made.output
-        (λ output. BeginsWithHeader title.now output.items)) }
+        (λ output. IsReport title.now answering.entry made.verdict output.items)) }
     ensures printed { IfOk result IsPrinted }
 {
-    answering.print_file()?;
-    let body = answering.report.unwrap_or(Vec::new(alloc));
+    answering.print_left()?;
+    let Answering {
+        session,
+        report,
+        mut told,
+        ..
+    } = answering;
+    let mut body = report.unwrap_or(Vec::new(alloc));
+    append_file(tries, &session, &mut body, &mut told)?;
     let output = tried!(tries, titled(alloc, title, &body))?;
-    Ok(output_of(Some(output), answering.told))
+    Ok(output_of(Some(output), told))
+}
+
+/// Appends the file's text, or its refusal, which is then told.
+fn append_file(
+    tries: Tries,
+    session: &Session,
+    body: &mut Vec<u8>,
+    told: &mut Told,
+) -> Result<(), AllocError>
+    ensures { OnOk result (IsTrue (is_made told.new.verdict) →
+        IsTrue (is_made told.old.verdict) × EndsWithFile session.now body.new.items) }
+{
+    match text_again(tries, session) {
+        Ok(text) => append(tries, body, &text),
+        Err(Fault::Memory) => Err(AllocError),
+        Err(Fault::Line(fault)) => {
+            append(tries, body, "refused: ")?;
+            append(tries, body, &fault.words)?;
+            append(tries, body, "\n")?;
+            told.keep(tries, fault)
+        }
+    }
 }
 
 /// The header and what stands behind it.
-#[tactic(auto, using(crate::proofs::Outputs::headers))]
 fn titled(alloc: Global, title: &[u8], body: &[u8]) -> Result<Vec<u8>, AllocError>
-    ensures { IfOk result (λ output. BeginsWithHeader title.now output.items) }
+    ensures { IfOk result (λ output. output.items ≡ header_line title.now ++ body.now) }
 {
     let mut output = header(alloc, title)?;
     output.extend_from_slice(body)?;

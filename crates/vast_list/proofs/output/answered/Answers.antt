@@ -8,8 +8,8 @@ use Rattle.vast_list.proofs.output.answered.Goals as goal
 pub loop-number-init : goal.loop-number-init
 loop-number-init c = record {
   trial = c.in_ok-trial.ensures;
-  report = search rules;
-  built = λ _ _. no-lines (is_again c.args.tries) c.args.dialect c.new.result c.new.ensures.file c.new.ensures.answers c.new.ensures.names c.new.ensures.skipped;
+  stopped = search rules;
+  built = λ _. no-lines (is_again c.args.tries) c.args.dialect c.new.result c.new.ensures.file c.new.ensures.answers c.new.ensures.names c.new.ensures.skipped;
 }
 
 pub loop-number-preserved : goal.loop-number-preserved
@@ -19,6 +19,6 @@ loop-number-preserved c =
     let on = c.in_ok-take.ensures in
     record {
       trial = on.trial ∙ old.trial;
-      report = on.report ∙ old.report;
-      built = answered-next c.args.tries c.args.title c.args.dialect c.args.lines.now c.loop-number.number-index _ c.loop-number.answering c.take.new.self inside (get_or_default c.args.lines.now c.loop-number.number-index _ _ inside) old.trial old.report old.built on;
+      stopped = on.stopped old.stopped;
+      built = answered-next c.args.tries c.args.dialect c.args.lines.now c.loop-number.number-index _ c.loop-number.answering c.take.new.self inside (get_or_default c.args.lines.now c.loop-number.number-index _ _ inside) old.trial old.stopped old.built on;
     }

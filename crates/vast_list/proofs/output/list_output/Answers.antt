@@ -15,9 +15,9 @@ returns-in_ok-answering-in-Ok-clause-text c =
     let behind = line_texts c.in-Ok.lines.now in
     let answering = c.in_ok-answering-in-Ok.answering in
     let begun : BeginsWithDialect lines c.in-Ok.dialect behind = search rules in
-    let answered : IsAnswered c.args.tries title c.in-Ok.dialect behind answering = search rules in
+    let answered : IsAnswered c.args.tries c.in-Ok.dialect behind answering = search rules in
     IfOk-weaker c.finished.result
-    (λ (made : ListOutput). IfSome made.output (λ output. IsFinished title answering output.items))
-    (λ (made : ListOutput). IfSome made.output (λ output. IsOutput c.args.tries title lines output.items))
-    (λ made finished. IfSome_then made.output finished (λ output is. is_output c.args.tries title lines behind c.in-Ok.dialect answering output.items begun answered is))
+    (λ (made : ListOutput). IfSome made.output (λ output. IsFinished title answering made.verdict output.items))
+    (λ (made : ListOutput). IfSome made.output (λ output. IsOutput c.args.tries title lines made.verdict output.items))
+    (λ made finished. IfSome_then made.output finished (λ output is. is_output c.args.tries title lines behind c.in-Ok.dialect answering made.verdict output.items begun answered is))
     c.finished.ensures.text
