@@ -2,11 +2,11 @@
 use Rattle.std.proofs.Common.{Vec, Global, IfSome, ◌≡◌, ◌==◌, ℕ, ◌<◌, Bool, true, false, cond, List, [], ◌∷◌, ◌++◌, length, Option, Some, None, refl, sym, ap, subst, ◌∙◌, arith, inl, inr, append_assoc, append-nil, if◌then◌else◌}
 use Rattle.std.proofs.lemmas.Bool.{eqb-true, false≢true}
 use Rattle.std.specs.Io.BufRead.{take_through, drop_through}
-use Rattle.std.proofs.KnownBytes.{Appends-nil, Appends-trans}
+use Rattle.std.proofs.KnownBytes.{Appends-trans}
 use Rattle.std.specs.Io.KnownBytes.{Appends}
 use Rattle.vast_list.specs.Lines.{is_line_feed, lines_of, longer}
 use Rattle.vast_replay.specs.Sessions.{RepliesOnce, RepliesToEach}
-use Rattle.vast_replay.specs.Internal.Sessions.{HasRepliedAll, IsWithoutFeed, ReadsLine}
+use Rattle.vast_replay.specs.Internal.Sessions.{IsWithoutFeed, ReadsLine}
 use Rattle.vast_talk.specs.declared.talk.Talk.{Talk}
 
 -- The first lines of the bytes were replied to, and these are left.
@@ -82,16 +82,3 @@ more_replied (Some bytes) first old new before between behind left next line rep
       one_behind first old new lines line.items text reply are once,
       Appends-trans before between behind text reply written wrote,
     )
-
-pub all_replied :
-    (start : Option (List ℕ)) (first last : Talk) (before behind left next : Option (List ℕ)) → IfSome start (λ bytes. HasReplied bytes first last before behind left) → IfSome left (λ bytes. ReadsLine bytes next None) →
-    IfSome start (λ bytes. HasRepliedAll bytes first last before behind)
-all_replied None first last before behind left next has reads = tt
-all_replied (Some bytes) first last before behind left next (rest, lines, text, is, all, are, written) reads =
-    let none : rest ≡ [] = subst (λ (l : Option (List ℕ)). IfSome l (λ bs. ReadsLine bs next None)) is reads in
-    let same : lines_of bytes ≡ lines = all ∙ ap (λ (r : List ℕ). lines ++ lines_of r) none ∙ append-nil lines in
-    (text, subst (λ (ls : List (List ℕ)). RepliesToEach first last ls text) (sym same) are, written)
-
-pub none_replied : (start : Option (List ℕ)) (first : Talk) (before : Option (List ℕ)) → IfSome start (λ bytes. HasReplied bytes first first before before start)
-none_replied None first before = tt
-none_replied (Some bytes) first before = (bytes, [], [], refl, refl, (refl, refl), Appends-nil before)
