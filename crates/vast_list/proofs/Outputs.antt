@@ -54,13 +54,8 @@ list_text tries lines behind dialect answering text begun answered made is =
 pub is_output :
     (tries : Tries) (title : Option (Bor (List ℕ))) (lines behind : List (List ℕ)) (dialect : VastFileType) (answering : Answering) (verdict : Verdict) (output : List ℕ) → BeginsWithDialect lines dialect behind →
     IsAnswered tries dialect behind answering → IsFinished title answering verdict output → IsOutput tries title lines verdict output
-is_output tries (Some title) lines behind dialect answering verdict output begun answered (rest, is, ends) = (
-  rest,
-  is,
-  λ made.
-      let (no_fault, front, text, of_file, same) = ends made in
-      (front, text, list_text tries lines behind dialect answering text begun answered no_fault of_file, same),
-)
+is_output tries (Some title) lines behind dialect answering verdict output begun answered (rest, is, ends) =
+    (rest, is, λ made. let end = ends made in (end.1.0, end.1.1, list_text tries lines behind dialect answering end.1.1 begun answered end.0 end.1.2, end.1.3))
 is_output tries None lines behind dialect answering verdict output begun answered finished = list_text tries lines behind dialect answering output begun answered finished.0 finished.1
 
 pub ruleset outputs = (is_output)

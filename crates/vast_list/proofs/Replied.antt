@@ -1,11 +1,22 @@
 -- Members and ports, one after the other.
-use Rattle.std.proofs.Common.{◌≡◌, ℕ, ◌+◌, ◌<◌, List, [], ◌∷◌, ◌++◌, length, take, get_or, sym, ap, ◌∙◌}
+use Rattle.std.proofs.Common.{◌≡◌, ℕ, ◌+◌, ◌<◌, List, [], ◌∷◌, ◌++◌, length, take, get_or, String, Result, Ok, Err, inr, refl, sym, ap, ◌∙◌}
 use Rattle.std.proofs.lemmas.Grind.{flat_map-append}
 use Rattle.std.proofs.lemmas.List.{append-nil, append_assoc, take_more}
-use Rattle.std.specs.Prelude.{codes}
+use Rattle.std.specs.Prelude.{OnOk, codes, string_bytes}
+use Rattle.std.specs.declared.alloc.AllocError.{AllocError}
+use Rattle.std.specs.declared.alloc.Global.{Global}
 use Rattle.vast_list.specs.declared.questions.answered.PortValue.{PortValue}
-use Rattle.vast_list.specs.Replies.{port_object}
-use Rattle.vast_list.specs.Internal.Replies.{more_ports}
+use Rattle.vast_list.specs.declared.session.Session.{Session}
+use Rattle.vast_list.specs.Json.{AddsJsonText, json_text}
+use Rattle.vast_list.specs.Replies.{IsAnswerText, port_object}
+use Rattle.vast_list.specs.Internal.Replies.{AddsHelper, more_ports}
+
+-- What a helper answered was appended, as a text of JSON.
+pub helper_told :
+    (session : Session) (number : ℕ) (old new : List ℕ) (answer : String Global) (done : Result (Unit {0}) AllocError) → IsAnswerText session number answer →
+    OnOk done (AddsJsonText old new (string_bytes answer)) → OnOk done (AddsHelper session number old new)
+helper_told session number old new answer (Ok tt) is adds = (json_text (string_bytes answer), inr (answer, is, refl), adds.0)
+helper_told session number old new answer (Err refused) is adds = tt
 
 -- Two members were appended, one after the other.
 pub joined : (old one two first second : List ℕ) → one ≡ old ++ first → two ≡ one ++ second → two ≡ old ++ (first ++ second)
