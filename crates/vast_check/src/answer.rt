@@ -1,7 +1,6 @@
 //! What is found of the bytes of a file.
 
-ghost use Rattle.std.specs.Prelude.{◌≡◌, IfOk};
-ghost use Rattle.vast_check.specs.Check.{IsDerived};
+ghost use Rattle.std.specs.Prelude.{IfOk};
 ghost use Rattle.vast_check.specs.Internal.Check.{Answers};
 
 use crate::expected::{Expected, expected_behind};

@@ -1,6 +1,6 @@
 //! Places of a text as compilers tell them.
 
-ghost use Rattle.std.specs.Prelude.{◌≡◌, ◌≤◌, ◌+◌, length, take};
+ghost use Rattle.std.specs.Prelude.{◌≡◌, ◌≤◌, ◌+◌, length};
 ghost use Rattle.std.specs.List.{count_by, suffix_len};
 ghost use Rattle.std.specs.Fmt.{is_char_start};
 ghost use Rattle.vast_check.specs.Internal.Places.{is_break, is_no_break, last_line, line_at, column_at};

@@ -1,12 +1,12 @@
 -- What a check finds, and how it ends.
-use Rattle.std.proofs.Common.{◌≡◌, ◌↔◌, ℕ, ◌≤◌, Bool, true, false, List, Option, Result, Ok, Err, IsTrue, IfOk, IsUtf8, codes, refl, sym, subst, rules}
+use Rattle.std.proofs.Common.{◌≡◌, ◌↔◌, ℕ, ◌≤◌, Bool, true, false, List, Option, Result, Ok, Err, IsTrue, IfOk, codes, refl, subst, rules}
 use Rattle.std.specs.Bool.{MatchBool}
 use Rattle.std.specs.Io.KnownBytes.{Appends}
 use Rattle.std.specs.declared.alloc.AllocError.{AllocError}
 use Rattle.vast_literal.specs.NormalFile.{NormalFile}
 use Rattle.vast_literal.specs.FileGrammar.{DerivesFile}
 use Rattle.vast_input.specs.Input.{GivesSome}
-use Rattle.vast_demo.specs.Check.{IsDerived, IsDerivedText, IsAnswer, answer_line, AppendsPart, AppendsFront, CheckEnds, derived, not_derived, unwritten, unread, refused}
+use Rattle.vast_demo.specs.Check.{IsDerivedText, IsAnswer, answer_line, AppendsPart, AppendsFront, CheckEnds, derived, not_derived, unwritten, unread, refused}
 
 untrue : IsTrue false → ⊥
 untrue e = cc e

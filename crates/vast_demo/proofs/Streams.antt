@@ -1,7 +1,7 @@
 -- What reads and writes do to known bytes.
-use Rattle.std.proofs.Common.{◌≡◌, ℕ, ◌≤◌, ◌+◌, ◌^◌, List, ◌++◌, Option, Result, Ok, Err, OnErr, length, take, drop, ap, ◌∙◌, append_assoc, length-append, length-drop, take_all, ◌-◌, take-append-drop, arith}
-use Rattle.std.specs.Io.KnownBytes.{Appends, Consumes}
-use Rattle.std.proofs.KnownBytes.{Appends-trans, Consumes-trans}
+use Rattle.std.proofs.Common.{◌≡◌, ℕ, ◌+◌, List, ◌++◌, Option, length, take, drop, ap, ◌∙◌, append_assoc, length-drop, take_all, ◌-◌, take-append-drop, arith}
+use Rattle.std.specs.Io.KnownBytes.{Appends}
+use Rattle.std.proofs.KnownBytes.{Appends-trans}
 
 pub write_more : (old mid new : Option (List ℕ)) (part rest line : List ℕ) (n : ℕ) → part ++ rest ≡ line → Appends old mid part → Appends mid new (take n rest)
     → ((part ++ take n rest) ++ drop n rest ≡ line) × Appends old new (part ++ take n rest)

@@ -1,6 +1,6 @@
 -- What `check` reads, finds and writes.
-use Rattle.std.specs.Prelude.{◌≡◌, ◌↔◌, ℕ, ◌<◌, ◌≤◌, ◌+◌, ◌^◌, Bool, true, false, IsTrue, List, ◌++◌, length, codes, Option, IsUtf8}
-use Rattle.std.specs.Io.KnownBytes.{Consumes, Appends, IsAtEnd}
+use Rattle.std.specs.Prelude.{◌≡◌, ◌↔◌, ℕ, ◌<◌, ◌+◌, Bool, true, false, IsTrue, List, ◌++◌, length, codes, Option, IsUtf8}
+use Rattle.std.specs.Io.KnownBytes.{Appends}
 use Rattle.vast_input.specs.Input.{GivesAll, GivesSome}
 use Rattle.vast_literal.specs.NormalFile.{NormalFile}
 use Rattle.vast_literal.specs.FileGrammar.{DerivesFile}

@@ -1,6 +1,6 @@
 //! The lint of a list.
 
-ghost use Rattle.std.specs.Prelude.{◌≡◌, ◌+◌, ◌++◌, [], All, IfOk, IsTrue, OnErr, OnOk, is_some, length, map};
+ghost use Rattle.std.specs.Prelude.{◌≡◌, ◌+◌, ◌++◌, [], All, IfOk, OnErr, OnOk, is_some, length, map};
 ghost use Rattle.vast_lint.specs.Lint.{counted, is_unmended, left_one, unmended};
 
 use crate::artifacts::artifact;

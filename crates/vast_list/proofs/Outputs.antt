@@ -1,6 +1,6 @@
 -- What is printed of a list.
-use Rattle.std.proofs.Common.{◌≡◌, ℕ, ◌+◌, ◌-◌, ◌<◌, arith, length, get_or, Bool, List, [], ◌∷◌, ◌++◌, take, drop, All, Option, Some, None, Bor, false, refl, sym, ap, subst, ◌∙◌}
-use Rattle.std.proofs.lemmas.List.{append-nil, append_assoc, map-append, take-append-drop, take_all, take_more, length-drop}
+use Rattle.std.proofs.Common.{◌≡◌, ℕ, ◌+◌, ◌-◌, ◌<◌, arith, length, get_or, Bool, List, [], ◌∷◌, ◌++◌, take, drop, All, Option, Some, None, Bor, sym, ap, subst, ◌∙◌}
+use Rattle.std.proofs.lemmas.List.{map-append, take-append-drop, take_all, take_more, length-drop}
 use Rattle.std.proofs.lemmas.List.Elements.{All-push}
 use Rattle.std.specs.Prelude.{IsTrue, is_some}
 use Rattle.vast_literal.specs.declared.kind.VastFileType.{VastFileType}
@@ -14,7 +14,7 @@ use Rattle.vast_list.specs.Session.{IsTextOf}
 use Rattle.vast_list.specs.Internal.Built.{TakesLine}
 use Rattle.vast_list.proofs.Built.{lines-more}
 use Rattle.vast_list.specs.Lines.{BeginsWithDialect, Passed, dialect_word, line_kind, line_texts, without_return}
-use Rattle.vast_list.specs.Output.{IsOutput, StopsAtFault, header_line, is_again, is_made}
+use Rattle.vast_list.specs.Output.{IsOutput, StopsAtFault, is_again, is_made}
 use Rattle.vast_list.specs.Internal.Output.{IsAnswered, IsDesign, IsFinished, IsReport, Prints, TakesOn}
 use Rattle.vast_list.specs.Written.{meaning}
 

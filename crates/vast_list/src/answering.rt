@@ -1,6 +1,6 @@
 //! A list in the answering.
 
-ghost use Rattle.std.specs.Prelude.{◌≡◌, ◌++◌, IfOk, IsTrue, OnOk, is_some, false, true};
+ghost use Rattle.std.specs.Prelude.{◌≡◌, ◌++◌, IsTrue, OnOk, is_some, false};
 ghost use Rattle.vast_list.specs.Internal.Built.{TakesLine};
 ghost use Rattle.vast_list.specs.Output.{is_again, is_made};
 ghost use Rattle.vast_list.specs.Internal.Output.{Prints, TakesOn};

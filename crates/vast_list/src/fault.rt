@@ -192,7 +192,7 @@ fn unknown_call(alloc: Global, call: &str) -> Result<String, AllocError> {
 fn usage(alloc: Global, call: &str) -> Result<String, AllocError> {
     let mut usage = String::from_str(alloc, call)?;
     if let Some(row) = row_of(call) {
-        push_names(&mut usage, row.parameters)?;
+        push_names(&mut usage, row.parameters())?;
     }
     Ok(usage)
 }
@@ -201,7 +201,7 @@ fn usage(alloc: Global, call: &str) -> Result<String, AllocError> {
 fn push_names(usage: &mut String, parameters: &[Parameter]) -> Result<(), AllocError> {
     for parameter in parameters {
         usage.push(' ')?;
-        usage.push_str(parameter.name)?;
+        usage.push_str(parameter.name())?;
     }
     Ok(())
 }

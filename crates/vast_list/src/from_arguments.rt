@@ -1,6 +1,6 @@
 //! What may stand as an argument.
 
-ghost use Rattle.std.specs.Prelude.{◌≡◌, ◌≢◌, Ok, IfOk, IsTrue, slice_index};
+ghost use Rattle.std.specs.Prelude.{◌≢◌, Ok, IfOk, IsTrue, slice_index};
 ghost use Rattle.vast_list.specs.CallArguments.{count, format, kind, listed, number, optional, place, text, truth};
 ghost use Rattle.vast_list.specs.Internal.Written.{IsAnswered, IsCountWord, IsHandleWord, IsIntegerWord};
 

@@ -1,6 +1,6 @@
 //! What a list gives, as one line of JSON.
 
-ghost use Rattle.std.specs.Prelude.{◌≡◌, IfOk, IfSome, IsTrue, MatchOption, OnOk, codes, false, true, string_bytes};
+ghost use Rattle.std.specs.Prelude.{◌≡◌, IfOk, IsTrue, MatchOption, OnOk, codes, false, true, string_bytes};
 ghost use Rattle.vast_core.specs.FileTree.{tree};
 ghost use Rattle.vast_list.specs.JsonLine.{EndsWithText, IsListJson};
 ghost use Rattle.vast_list.specs.Internal.JsonLine.{AnswersOn, AreAnswers, EndsWithSession, maybe_json};

@@ -1,8 +1,8 @@
 //! The lines of a list.
 
-ghost use Rattle.std.specs.Prelude.{◌≡◌, ◌⊎◌, ◌↔◌, [], IfErr, IfOk, IfSome, IfNone, IsTrue, MatchOption, MatchResult, OnOk, drop, false, option_copied, true};
+ghost use Rattle.std.specs.Prelude.{◌≡◌, ◌⊎◌, ◌↔◌, [], IfErr, IfOk, IsTrue, MatchOption, MatchResult, OnOk, drop, false, option_copied, true};
 ghost use Rattle.std.specs.Str.{IsUtf8};
-ghost use Rattle.vast_list.specs.Lines.{HasKind, NamesDialect, Passed, Stepped, behind_call, behind_first, behind_word, call_word, dialect_word, first_word, is_equals_front, is_passed, line_word, text_name, without_return, word_kind};
+ghost use Rattle.vast_list.specs.Lines.{HasKind, NamesDialect, Passed, Stepped, behind_call, behind_first, behind_word, call_word, dialect_word, first_word, is_equals_front, is_passed, line_word, text_name, without_return};
 ghost use Rattle.vast_list.specs.Internal.Lines.{rest_text};
 ghost use Rattle.vast_list.specs.Names.{IsFree};
 ghost use Rattle.vast_list.specs.Session.{IsOfLine};
@@ -257,5 +257,5 @@ pub fn name_of_call(line: &[u8]) -> &'static str
     let Ok(text) = text_of(line) else {
         return "";
     };
-    row_of(split_line(text).1).map_or("", |row| row.name)
+    row_of(split_line(text).1).map_or("", |row| row.name())
 }

@@ -1,8 +1,10 @@
 //! The names of a list.
 
-ghost use Rattle.std.specs.Prelude.{◌≡◌, ℕ, List, IfSome, None, OnErr, OnOk, Some};
+ghost use Rattle.std.specs.Prelude.{◌≡◌, ℕ, List, IfSome, None, OnErr, OnOk, Some, option_copied};
 ghost use Rattle.std.specs.Map.{update};
 ghost use Rattle.std.specs.Str.{bytes_eq};
+ghost use Rattle.vast_list.specs.Names.{entered};
+ghost use Rattle.vast_list.specs.Internal.Names.{forgotten};
 ghost use Rattle.vast_list.specs.Written.{meaning};
 
 use std::alloc::{AllocError, Global};
@@ -85,6 +87,30 @@ impl Names {
     {
         self.places.remove(name);
         self.others.remove(name);
+    }
+
+    /// The name, where there is one, stands for this from now on.
+    ///
+    /// # Errors
+    /// Want of memory; nothing changed.
+    pub(crate) fn enter(&mut self, name: Option<&str>, stands_for: Named) -> Result<(), AllocError>
+        ensures entered { OnOk result
+            (meaning self.new ≡ entered (meaning self.old) (option_copied name.entry) stands_for) }
+        ensures left { OnErr result (meaning self.new ≡ meaning self.old) }
+    {
+        if let Some(name) = name {
+            self.insert(name, stands_for)?;
+        }
+        Ok(())
+    }
+
+    /// The name, where there is one, stands for nothing from now on.
+    pub(crate) fn forget(&mut self, name: Option<&str>)
+        ensures { meaning self.new ≡ forgotten (meaning self.old) (option_copied name.entry) }
+    {
+        if let Some(name) = name {
+            self.remove(name);
+        }
     }
 }
 

@@ -1,13 +1,12 @@
 //! A file with the answers so far, whose calls are lines.
 
-ghost use Rattle.std.specs.Prelude.{◌≡◌, ℕ, ◌+◌, ◌-◌, ◌^◌, List, [], IfErr, IfOk, IfSome, MatchResult, None, OnErr, OnOk, Some, length, min, option_copied, string_bytes};
+ghost use Rattle.std.specs.Prelude.{◌≡◌, ℕ, ◌+◌, ◌-◌, ◌^◌, List, [], IfErr, IfOk, IfSome, MatchResult, None, OnOk, Some, length, min, option_copied, string_bytes};
 ghost use Rattle.vast_core.specs.Bench.{start};
 ghost use Rattle.vast_core.specs.FileTree.{tree};
 ghost use Rattle.xlsynth_vast.specs.Registers.{HasUnused};
 ghost use Rattle.std.specs.Str.{IsUtf8};
 ghost use Rattle.vast_list.specs.Lines.{HasKind, Passed, without_return};
-ghost use Rattle.vast_list.specs.Names.{IsFree, entered, value_named};
-ghost use Rattle.vast_list.specs.Internal.Names.{forgotten};
+ghost use Rattle.vast_list.specs.Names.{IsFree, value_named};
 ghost use Rattle.vast_list.specs.Replies.{IsAnswerText};
 ghost use Rattle.vast_list.specs.Session.{Calls, IsCausedBy, IsGivenBy, IsInForm, IsOfLine, IsStepIn, IsTextOf, Skips, Takes};
 ghost use Rattle.vast_list.specs.Internal.Session.{IsCallFault, IsRead, IsToldAs, IsToldOf, Makes, MakesName};
@@ -62,27 +61,6 @@ fn make_call(file: &mut VastFile, answers: &[Answer], call: &Call) -> Result<Ans
     }
 }
 
-/// The name stands for this from now on.
-fn enter(names: &mut Names, name: Option<&str>, stands_for: Named) -> Result<(), AllocError>
-    ensures entered { OnOk result
-        (meaning names.new ≡ entered (meaning names.old) (option_copied name.entry) stands_for) }
-    ensures left { OnErr result (meaning names.new ≡ meaning names.old) }
-{
-    if let Some(name) = name {
-        names.insert(name, stands_for)?;
-    }
-    Ok(())
-}
-
-/// The name stands for nothing.
-fn forget(names: &mut Names, name: Option<&str>)
-    ensures { meaning names.new ≡ forgotten (meaning names.old) (option_copied name.entry) }
-{
-    if let Some(name) = name {
-        names.remove(name);
-    }
-}
-
 /// What the name of a question's answer stands for.
 fn named(value: &Value) -> Named
     ensures { result ≡ value_named value.now }
@@ -133,7 +111,7 @@ impl Session {
         match &action {
             Action::Ask(question) => {
                 let value = self.ask(number, text, call, question)?;
-                enter(&mut self.names, name, named(&value))?;
+                self.names.enter(name, named(&value))?;
                 Ok(Given::Answer { call, value })
             }
             Action::Call(made) => {
@@ -184,7 +162,7 @@ impl Session {
         }
         if let Some(name) = name {
             if is_name(name) && self.names.get(name).is_none() {
-                enter(&mut self.names, Some(name), Named::Skipped)?;
+                self.names.enter(Some(name), Named::Skipped)?;
             }
         }
         if !call.starts_with('?') {
@@ -340,7 +318,7 @@ impl Session {
         self.answers.reserve(1)?;
         self.selects.reserve(1)?;
         let place = self.answers.len();
-        enter(&mut self.names, name, Named::Handle(place))?;
+        self.names.enter(name, Named::Handle(place))?;
         match make_call(&mut self.file, &self.answers, made) {
             Ok(answer) => {
                 keep_select(&mut self.selects, answer, number);
@@ -348,7 +326,7 @@ impl Session {
                 Ok(())
             }
             Err(fault) => {
-                forget(&mut self.names, name);
+                self.names.forget(name);
                 Err(self.told(number, text, call, Some(made), fault))
             }
         }

@@ -17,24 +17,43 @@ mod statements;
 pub(crate) mod text;
 mod types;
 
-/// A call as lists name it.
+/// A call as lists name it: a row of the table, with its name, its parameters in order, and what it answers.
 #[derive(Clone, Copy)]
-pub(crate) struct CallRow {
+pub(crate) struct CallRow(&'static str, &'static [Parameter], Kind);
+
+impl CallRow {
     /// Its name, the sign of a question or a helper included.
-    pub(crate) name: &'static str,
+    pub(crate) fn name(&self) -> &'static str
+        ensures { result.now ≡ self.now.0.now }
+    {
+        self.0
+    }
+
     /// Its parameters in order.
-    pub(crate) parameters: &'static [Parameter],
+    pub(crate) fn parameters(&self) -> &'static [Parameter] {
+        self.1
+    }
+
     /// What it answers.
-    pub(crate) answer: Kind,
+    pub(crate) fn answer(&self) -> Kind {
+        self.2
+    }
 }
 
-/// A parameter of a call.
+/// A parameter of a call: its name, as the method of `VastFile` or the helper has it, and what stands for it.
 #[derive(Clone, Copy)]
-pub(crate) struct Parameter {
-    /// Its name, as the method of `VastFile` or the helper has it.
-    pub(crate) name: &'static str,
+pub(crate) struct Parameter(&'static str, Kind);
+
+impl Parameter {
+    /// Its name.
+    pub(crate) fn name(&self) -> &'static str {
+        self.0
+    }
+
     /// What stands for it.
-    pub(crate) kind: Kind,
+    pub(crate) fn kind(&self) -> Kind {
+        self.1
+    }
 }
 
 /// What stands in the place of an argument, or what a call answers.
@@ -178,10 +197,10 @@ fn group_of(name: &'static str, calls: &'static [CallRow]) -> Group {
 
 /// The call of the name, its sign included.
 pub(crate) fn row_of(name: &str) -> Option<&'static CallRow>
-    ensures { IfSome result (λ row. row.now.name.now ≡ name.now) }
+    ensures { IfSome result (λ row. row.now.0.now ≡ name.now) }
 {
     for group in groups() {
-        if let Some(row) = group.calls.iter().find(|call| call.name == name) {
+        if let Some(row) = group.calls.iter().find(|call| call.name() == name) {
             return Some(row);
         }
     }
@@ -190,5 +209,5 @@ pub(crate) fn row_of(name: &str) -> Option<&'static CallRow>
 
 /// The parameters of the call of the name, its sign included; `None` where no call has the name.
 pub(crate) fn parameters(name: &str) -> Option<&'static [Parameter]> {
-    Some(row_of(name)?.parameters)
+    Some(row_of(name)?.parameters())
 }

@@ -1,6 +1,6 @@
 //! Where names are filed: chains of names in slots, and a tree for the names of slots that are crowded.
 
-ghost use Rattle.std.specs.Prelude.{◌≡◌, ◌+◌, ◌<◌, ◌≤◌, ◌≢◌, ℕ, List, Some, [], length, slice_index, slice_index_or, slice_get, IsNone, IfSome, All, IfOk, OnOk, OnErr};
+ghost use Rattle.std.specs.Prelude.{◌≡◌, ◌<◌, ◌≤◌, ◌≢◌, ℕ, List, Some, [], length, slice_index, slice_index_or, slice_get, IsNone, IfSome, All, IfOk, OnOk, OnErr};
 ghost use Rattle.std.specs.BTreeMap.{get_by_text};
 ghost use Rattle.std.specs.Str.{IsUtf8};
 ghost use Rattle.vast_names.specs.Internal.Hash.{slot_among};

@@ -3,8 +3,7 @@
 #[cfg(test)]
 mod tests;
 
-ghost use Rattle.std.specs.Prelude.{◌≡◌, ◌≢◌, ◌<◌, ◌↔◌, ◌∷◌, [], ◌++◌, Some, None, length, All, Contains, IsTrue, OnOk, OnErr, MatchOption, slice_get};
-ghost use Rattle.vast_names.specs.Internal.Texts.{texts_of};
+ghost use Rattle.std.specs.Prelude.{◌≡◌, ◌≢◌, ◌<◌, ◌↔◌, ◌∷◌, [], ◌++◌, Some, length, All, Contains, IsTrue, OnOk, OnErr, MatchOption, slice_get};
 
 use crate::index::Index;
 use crate::texts::Texts;

@@ -1,7 +1,7 @@
 //! Texts that lie behind one another in one buffer.
 
 ghost use Rattle.std.specs.Prelude.{◌≡◌, ◌+◌, ◌<◌, ◌≤◌, ◌∷◌, [], ◌++◌, length, IfOk, OnOk, slice_index, slice_index_or, vec_len, vec_capacity};
-ghost use Rattle.vast_names.specs.Internal.Texts.{cut, AreEnds, texts_of, IsCut};
+ghost use Rattle.vast_names.specs.Internal.Texts.{texts_of, IsCut};
 
 use std::alloc::{AllocError, Global};
 

@@ -1,6 +1,6 @@
 //! Members of modules and loops.
 
-ghost use Rattle.std.specs.Prelude.{◌≡◌, ◌&&◌, All, string_bytes};
+ghost use Rattle.std.specs.Prelude.{◌&&◌, All, string_bytes};
 ghost use Rattle.vast_literal.specs.Plain.{is_plain_name, is_plain};
 ghost use Rattle.vast_literal.specs.PlainFile.{is_plain_label, is_plain_member, are_plain_members};
 ghost use Rattle.vast_core.specs.Bench.{OwnsExpr, OwnsLoop, tree_of};

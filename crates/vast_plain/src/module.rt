@@ -1,6 +1,6 @@
 //! Modules: headers and members.
 
-ghost use Rattle.std.specs.Prelude.{◌≡◌, ◌&&◌, All, map};
+ghost use Rattle.std.specs.Prelude.{◌&&◌, All, map};
 ghost use Rattle.vast_literal.specs.PlainFile.{is_plain_typed, is_plain_declared, are_plain_parameters, are_plain_ports, is_plain_module};
 ghost use Rattle.vast_core.specs.Bench.{OwnsPort, tree_of};
 ghost use Rattle.vast_core.specs.Nodes.{maybe_type_in};

@@ -1,6 +1,6 @@
 //! Parameters, instantiations, always blocks and functions.
 
-ghost use Rattle.std.specs.Prelude.{◌≡◌, ◌&&◌, All, map, slice_get};
+ghost use Rattle.std.specs.Prelude.{◌&&◌, All, map, slice_get};
 ghost use Rattle.vast_literal.specs.Plain.{is_plain_name, is_plain};
 ghost use Rattle.vast_literal.specs.PlainFile.{is_plain_maybe, are_plain_connections, is_plain_declared, are_plain_events, are_plain_awaited, is_plain_parameter_name, is_plain_member};
 ghost use Rattle.vast_core.specs.Bench.{OwnsExpr, OwnsInstantiation, OwnsAlways, OwnsFunction, tree_of, trees_of, maybe_tree_of};

@@ -1,6 +1,6 @@
 //! Blocks and statements.
 
-ghost use Rattle.std.specs.Prelude.{◌≡◌, ◌&&◌, IfSome};
+ghost use Rattle.std.specs.Prelude.{◌&&◌, IfSome};
 ghost use Rattle.vast_literal.specs.PlainFile.{is_plain_maybe, is_plain_assignment, is_plain_statement, are_plain_statements};
 ghost use Rattle.vast_core.specs.Bench.{OwnsExpr, OwnsBlock, OwnsConditional, OwnsCase, tree_of, maybe_tree_of};
 ghost use Rattle.vast_core.specs.Nests.{statement_entry};

@@ -1,6 +1,6 @@
 //! Types and declarations. Arrays of arrays are walked to what they are made of.
 
-ghost use Rattle.std.specs.Prelude.{◌≡◌, ◌+◌, ◌&&◌, All};
+ghost use Rattle.std.specs.Prelude.{◌+◌, All};
 ghost use Rattle.vast_literal.specs.Plain.{is_plain_type};
 ghost use Rattle.vast_literal.specs.PlainFile.{is_plain_declaration};
 ghost use Rattle.vast_core.specs.Bench.{OwnsExpr, OwnsType, type_of};

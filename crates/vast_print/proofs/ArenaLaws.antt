@@ -16,8 +16,8 @@ use Rattle.vast_core.specs.FileTree.{member_tree, members_tree, parameter_port_t
 use Rattle.vast_print.specs.Printed.{Printed, plain_text}
 use Rattle.vast_print.specs.Page.{Page, written, print}
 use Rattle.vast_print.specs.Ink.{Ink, Wet, Stopped, word, next, hang, pour}
-use Rattle.vast_print.specs.Internal.Ink.{Writes}
-use Rattle.vast_print.specs.Draft.{Draft, unwritten, whole}
+use Rattle.vast_print.specs.Internal.Ink.{Writes, WritesLines}
+use Rattle.vast_print.specs.Draft.{Draft, Writing, unwritten, blank, whole}
 use Rattle.vast_print.specs.Emits.{Answers}
 use Rattle.vast_print.specs.Internal.Emits.{Faults}
 use Rattle.vast_print.specs.declared.refusal.Refusal.{Refusal}
@@ -182,18 +182,18 @@ emits-page p k text h e = let w = whole-page p k h in (w.0, e ∙ w.1)
 pub emits-line : (p : Printed) (k : Draft) (text : List ℕ) → pour 0 (next 0 (Wet unwritten)) (written p) ≡ Wet k → text ≡ k.text → (p.fault ≡ None) × (text ≡ p.text)
 emits-line p k text h e = let w = line-text p k h in (w.0, e ∙ w.1)
 
-refuses : (text : List ℕ) (fault : Option Refusal) (ink : Ink) (new : Draft) (f : PrintFault) (answer : VastFault) →
-    ((r : Refusal) → ink ≡ Stopped r → fault ≡ Some r) → Writes ink new (Err f) → Faults f answer → Answers text fault (Err answer)
-refuses text fault ink new (Refused r) (RefusedBy e) k w h = rw (k r w) (ap Some (sym h))
-refuses text fault ink new (Memory error) (RefusedBy e) k w h = absurd h
-refuses text fault ink new f (NoMemory e) k w h = tt
+refuses : (text : List ℕ) (fault : Option Refusal) (ink : Ink) (start new : Writing) (f : PrintFault) (answer : VastFault) →
+    ((r : Refusal) → ink ≡ Stopped r → fault ≡ Some r) → Writes start new (Err f) ink → Faults f answer → Answers text fault (Err answer)
+refuses text fault ink start new (Refused r) (RefusedBy e) k w h = rw (k r w) (ap Some (sym h))
+refuses text fault ink start new (Memory error) (RefusedBy e) k w h = absurd h
+refuses text fault ink start new f (NoMemory e) k w h = tt
 
-pub refuses-page : (p : Page) (start new : Draft) (f : PrintFault) (answer : VastFault) → start ≡ unwritten → Writes (hang 0 (Wet start) p) new (Err f) → Faults f answer → Answers (print p) p.fault (Err answer)
+pub refuses-page : (p : Page) (start new : Writing) (f : PrintFault) (answer : VastFault) → start ≡ blank → WritesLines start new (Err f) p → Faults f answer → Answers (print p) p.fault (Err answer)
 refuses-page p start new f answer e w h =
-    let W : Draft → Type 0 = λ k. Writes (hang 0 (Wet k) p) new (Err f) in
-    refuses (print p) p.fault (hang 0 (Wet unwritten) p) new f answer (whole-fault p) (subst W e w) h
+    let W : Writing → Type 0 = λ k. WritesLines k new (Err f) p in
+    refuses (print p) p.fault (hang 0 (Wet unwritten) p) blank new f answer (whole-fault p) (subst W e w) h
 
-pub refuses-line : (p : Printed) (start new : Draft) (f : PrintFault) (answer : VastFault) → start ≡ unwritten → Writes (pour 0 (next 0 (Wet start)) (written p)) new (Err f) → Faults f answer → Answers p.text p.fault (Err answer)
+pub refuses-line : (p : Printed) (start new : Writing) (f : PrintFault) (answer : VastFault) → start ≡ blank → Writes start new (Err f) (pour start.margin (next start.margin (Wet start.draft)) (written p)) → Faults f answer → Answers p.text p.fault (Err answer)
 refuses-line p start new f answer e w h =
-    let W : Draft → Type 0 = λ k. Writes (pour 0 (next 0 (Wet k)) (written p)) new (Err f) in
-    refuses p.text p.fault (pour 0 (next 0 (Wet unwritten)) (written p)) new f answer (line-fault p) (subst W e w) h
+    let W : Writing → Type 0 = λ k. Writes k new (Err f) (pour k.margin (next k.margin (Wet k.draft)) (written p)) in
+    refuses p.text p.fault (pour 0 (next 0 (Wet unwritten)) (written p)) blank new f answer (line-fault p) (subst W e w) h

@@ -1,13 +1,12 @@
--- How much is still to print: less for newer containers, so that printing ends; and depths stay in range.
-use Rattle.std.proofs.Common.{ℕ, ◌+◌, ◌-◌, ◌*◌, ◌^◌, ◌<◌, Option, Some, None, slice_get, All, arith}
+-- How much is still to print: less for newer containers, so that printing ends.
+use Rattle.std.proofs.Common.{ℕ, ◌+◌, ◌-◌, ◌*◌, ◌^◌, All}
 use Rattle.vast_core.specs.declared.node.Function.{Function}
 use Rattle.vast_core.specs.declared.node.Member.{Member}
 use Rattle.vast_core.specs.declared.node.Member.TheVariants.{Declaration as DeclarationEntry, ContinuousAssignment as AssignmentEntry, Parameter as ParameterEntry, BlankLine as BlankEntry, Comment as CommentEntry, Inline as InlineEntry, Macro as MacroEntry, Instantiation as InstanceEntry, Function as FunctionEntry, Always as AlwaysEntry, Conditional as ConditionalEntry, Loop as LoopEntry}
-use Rattle.vast_core.specs.Nests.{StatementEntry, AssignStatement, ContinuousStatement, ConditionalStatement, CasesStatement, BlankStatement, CommentStatement, InlineStatement, AlwaysRecord, function_record}
+use Rattle.vast_core.specs.Nests.{StatementEntry, AssignStatement, ContinuousStatement, ConditionalStatement, CasesStatement, BlankStatement, CommentStatement, InlineStatement, function_record}
 use Rattle.vast_core.specs.Bench.{Bench}
 use Rattle.vast_core.specs.Sound.{VariableSound, FunctionSound}
 use Rattle.vast_core.proofs.Lists.{All-own}
-use Rattle.vast_print.specs.Internal.Fits.{AlwaysFits, MemberFits}
 
 abbrev pub height : ℕ → ℕ
 height i = 8 * (2 ^ 64 - i)
@@ -37,25 +36,6 @@ member_height (AlwaysEntry a) = 0
 member_height (ConditionalEntry c) = 0
 member_height (LoopEntry l) = height l.id.index + 1
 
-always-fits : (d : ℕ) (o : Option AlwaysRecord) → d < 2 ^ 62 → AlwaysFits d o
-always-fits d None room = tt
-always-fits d (Some a) room = omega arith
-
--- a member of a module
-pub member-fits : (b : Bench) (d : ℕ) (e : Member) → d < 2 ^ 62 → MemberFits b d e
-member-fits b d (DeclarationEntry kind name data_type) room = tt
-member-fits b d (AssignmentEntry a) room = tt
-member-fits b d (ParameterEntry local form value) room = tt
-member-fits b d BlankEntry room = tt
-member-fits b d (CommentEntry a) room = tt
-member-fits b d (InlineEntry a) room = tt
-member-fits b d (MacroEntry a) room = tt
-member-fits b d (InstanceEntry x) room = omega arith
-member-fits b d (FunctionEntry f) room = room
-member-fits b d (AlwaysEntry a) room = always-fits d (slice_get b.always_blocks a.id.index) room
-member-fits b d (ConditionalEntry c) room = omega arith
-member-fits b d (LoopEntry l) room = omega arith
-
 -- what a list holds, at one of its places
 
 -- the inputs and the locals of a function
@@ -64,7 +44,5 @@ inputs-own b f h = All-own (VariableSound b) f.inputs.items h.inputs
 
 pub locals-own : (b : Bench) (f : Function) → FunctionSound b (function_record f) → All (VariableSound b) f.locals.items
 locals-own b f h = All-own (VariableSound b) f.locals.items h.locals
-
-pub ruleset fits = (member-fits)
 
 pub ruleset variables = (inputs-own, locals-own)

@@ -4,5 +4,4 @@ pub mod Statements
 pub mod Words
 pub mod Emits
 pub mod Pieces
-pub mod Fits
 pub mod Bodies

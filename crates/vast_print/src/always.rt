@@ -1,14 +1,11 @@
 //! Always blocks.
 
-ghost use Rattle.std.specs.Prelude.{◌≡◌, All, slice_get};
+ghost use Rattle.std.specs.Prelude.{All, slice_get};
 ghost use Rattle.vast_core.specs.Bench.{OwnsAlways, trees_of};
 ghost use Rattle.vast_core.specs.Sound.{EventSound};
 ghost use Rattle.vast_core.specs.FileTree.{families, always_in};
 ghost use Rattle.vast_core.specs.View.{bench};
-ghost use Rattle.vast_print.specs.Internal.Fits.{AlwaysFits};
-ghost use Rattle.vast_print.specs.Ink.{Wet, hang, pour};
-ghost use Rattle.vast_print.specs.Internal.Ink.{Writes};
-ghost use Rattle.vast_print.specs.Page.{written};
+ghost use Rattle.vast_print.specs.Internal.Ink.{WritesLines, WritesText};
 ghost use Rattle.vast_print.specs.Members.{events_text, always_text, member_page};
 
 use crate::expression::print_expression;
@@ -19,47 +16,34 @@ use crate::writer::Writer;
 use vast_core::{AlwaysBlock, AlwaysKind, Ast, Expr, VastAlwaysBase};
 
 /// Writes events behind the last line.
-fn print_events(
-    ast: &Ast,
-    events: &[Expr],
-    depth: usize,
-    out: &mut Writer,
-) -> Result<(), PrintFault>
+fn print_events(ast: &Ast, events: &[Expr], out: &mut Writer) -> Result<(), PrintFault>
     requires { All (EventSound (bench ast.now)) events.now }
-    ensures { Writes
-        (pour depth (Wet out.old) (written (events_text (trees_of (bench ast.now) events.now))))
-        out.new result }
+    ensures { WritesText out.old out.new result
+        (events_text (trees_of (bench ast.now) events.now)) }
 {
     for (i, event) in events.iter().enumerate() {
         out.word(words::or_before(i))?;
-        print_expression(ast, *event, depth, out)?;
+        print_expression(ast, *event, out)?;
     }
     Ok(())
 }
 
 /// Writes the words before an always block's block behind the last line.
 #[tactic(auto, using(crate::proofs::ContainerLaws::always))]
-fn print_opening(
-    ast: &Ast,
-    node: &AlwaysBlock,
-    depth: usize,
-    out: &mut Writer,
-) -> Result<(), PrintFault>
+fn print_opening(ast: &Ast, node: &AlwaysBlock, out: &mut Writer) -> Result<(), PrintFault>
     requires { All (EventSound (bench ast.now)) node.now.events.items }
-    ensures { Writes
-        (pour depth (Wet out.old)
-        (written (always_text node.now.kind (trees_of (bench ast.now) node.now.events.items))))
-        out.new result }
+    ensures { WritesText out.old out.new result
+        (always_text node.now.kind (trees_of (bench ast.now) node.now.events.items)) }
 {
     match node.kind {
         AlwaysKind::AlwaysFF => {
             out.word(words::always_ff())?;
-            print_events(ast, &node.events, depth, out)?;
+            print_events(ast, &node.events, out)?;
             out.word(") ")?;
         }
         AlwaysKind::AlwaysAt => {
             out.word(words::always_at())?;
-            print_events(ast, &node.events, depth, out)?;
+            print_events(ast, &node.events, out)?;
             out.word(") ")?;
         }
         AlwaysKind::AlwaysComb => out.word(words::always_comb())?,
@@ -69,22 +53,15 @@ fn print_opening(
 
 /// Writes an always block on lines of its own.
 #[tactic(auto, using(crate::proofs::ContainerLaws::always))]
-pub(crate) fn print_always(
-    ast: &Ast,
-    a: VastAlwaysBase,
-    depth: usize,
-    out: &mut Writer,
-) -> Result<(), PrintFault>
+pub(crate) fn print_always(ast: &Ast, a: VastAlwaysBase, out: &mut Writer) -> Result<(), PrintFault>
     requires owned { OwnsAlways (bench ast.now) a }
-    requires room { AlwaysFits depth (slice_get (bench ast.now).always_blocks a.id.index) }
-    ensures { Writes
-        (hang depth (Wet out.old)
+    ensures { WritesLines out.old out.new result
         (member_page (bench ast.now).file_type
         (always_in (bench ast.now) (families (bench ast.now))
-        (slice_get (bench ast.now).always_blocks a.id.index)))) out.new result }
+        (slice_get (bench ast.now).always_blocks a.id.index))) }
 {
     let node = ast.always_block(a);
-    out.next(depth)?;
-    print_opening(ast, node, depth, out)?;
-    print_block(ast, node.block, depth, out)
+    out.next()?;
+    print_opening(ast, node, out)?;
+    print_block(ast, node.block, out)
 }

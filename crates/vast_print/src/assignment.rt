@@ -1,13 +1,13 @@
 //! Assignments.
 
-ghost use Rattle.std.specs.Prelude.{◌≡◌, codes, slice_get};
+ghost use Rattle.std.specs.Prelude.{codes, slice_get};
 ghost use Rattle.vast_literal.specs.Tree.{AssignTree};
 ghost use Rattle.vast_literal.specs.declared.kind.AssignmentForm.TheVariants.{Continuous};
 ghost use Rattle.vast_core.specs.Bench.{OwnsExpr, OwnsStatement, tree_of};
 ghost use Rattle.vast_core.specs.FileTree.{assigned_tree};
 ghost use Rattle.vast_core.specs.View.{bench};
-ghost use Rattle.vast_print.specs.Ink.{Wet, word, hang, pour};
-ghost use Rattle.vast_print.specs.Internal.Ink.{Writes};
+ghost use Rattle.vast_print.specs.Ink.{Wet, word, pour};
+ghost use Rattle.vast_print.specs.Internal.Ink.{Writes, WritesLines, WritesBehind};
 ghost use Rattle.vast_print.specs.Page.{written};
 ghost use Rattle.vast_print.specs.Text.{expr_text};
 ghost use Rattle.vast_print.specs.Statements.{statement_page};
@@ -24,21 +24,18 @@ fn print_sides(
     ast: &Ast,
     assignment: &Assignment,
     sign: &str,
-    depth: usize,
     out: &mut Writer,
 ) -> Result<(), PrintFault>
     requires lhs { OwnsExpr (bench ast.now) assignment.now.lhs }
     requires rhs { OwnsExpr (bench ast.now) assignment.now.rhs }
-    ensures { Writes
-        (word (pour depth
-        (word (pour depth (Wet out.old)
+    ensures { Writes out.old out.new result
+        (word (pour out.old.margin (word (pour out.old.margin (Wet out.old.draft)
         (written (expr_text (tree_of (bench ast.now) assignment.now.lhs)))) sign.now)
-        (written (expr_text (tree_of (bench ast.now) assignment.now.rhs)))) (codes ";"))
-        out.new result }
+        (written (expr_text (tree_of (bench ast.now) assignment.now.rhs)))) (codes ";")) }
 {
-    print_expression(ast, assignment.lhs, depth, out)?;
+    print_expression(ast, assignment.lhs, out)?;
     out.word(sign)?;
-    print_expression(ast, assignment.rhs, depth, out)?;
+    print_expression(ast, assignment.rhs, out)?;
     out.word(";")?;
     Ok(())
 }
@@ -48,20 +45,17 @@ fn print_sides(
 pub(crate) fn print_continuous(
     ast: &Ast,
     assignment: &Assignment,
-    depth: usize,
     out: &mut Writer,
 ) -> Result<(), PrintFault>
     requires lhs { OwnsExpr (bench ast.now) assignment.now.lhs }
     requires rhs { OwnsExpr (bench ast.now) assignment.now.rhs }
-    ensures { Writes
-        (hang depth (Wet out.old)
-        (statement_page
-        (AssignTree Continuous (tree_of (bench ast.now) assignment.now.lhs)
-        (tree_of (bench ast.now) assignment.now.rhs)))) out.new result }
+    ensures { WritesLines out.old out.new result
+        (statement_page (AssignTree Continuous (tree_of (bench ast.now) assignment.now.lhs)
+        (tree_of (bench ast.now) assignment.now.rhs))) }
 {
-    out.next(depth)?;
+    out.next()?;
     out.word("assign ")?;
-    print_sides(ast, assignment, " = ", depth, out)
+    print_sides(ast, assignment, " = ", out)
 }
 
 /// Writes an assignment of a block behind the last line.
@@ -69,22 +63,18 @@ pub(crate) fn print_continuous(
 pub(crate) fn print_assigned(
     ast: &Ast,
     s: VastStatement,
-    depth: usize,
     out: &mut Writer,
 ) -> Result<(), PrintFault>
     requires { OwnsStatement (bench ast.now) s }
-    ensures { Writes
-        (pour depth (Wet out.old)
+    ensures { WritesBehind out.old out.new result
         (statement_page
-        (assigned_tree (bench ast.now)
-        (slice_get (bench ast.now).assignments s.id.index)))) out.new result }
+        (assigned_tree (bench ast.now) (slice_get (bench ast.now).assignments s.id.index))) }
 {
     let assignment = ast.assignment(s);
     print_sides(
         ast,
         assignment,
         words::assignment_operator(assignment.nonblocking),
-        depth,
         out,
     )
 }

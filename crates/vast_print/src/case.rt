@@ -5,10 +5,9 @@ ghost use Rattle.vast_core.specs.Bench.{OwnsExpr, OwnsBlock, OwnsCase, tree_of, 
 ghost use Rattle.vast_core.specs.Nests.{statement_entry};
 ghost use Rattle.vast_core.specs.FileTree.{families, case_statement, block_tree};
 ghost use Rattle.vast_core.specs.View.{bench};
-ghost use Rattle.vast_print.specs.Internal.Fits.{HasRoom};
 ghost use Rattle.vast_print.specs.Internal.Bodies.{assignment_of, bare_assignment};
-ghost use Rattle.vast_print.specs.Ink.{Wet, word, next, hang, pour};
-ghost use Rattle.vast_print.specs.Internal.Ink.{Writes};
+ghost use Rattle.vast_print.specs.Ink.{Wet, word, next, pour};
+ghost use Rattle.vast_print.specs.Internal.Ink.{Writes, WritesLines};
 ghost use Rattle.vast_print.specs.Printed.{plain_text, ◌⊕◌};
 ghost use Rattle.vast_print.specs.Page.{written};
 ghost use Rattle.vast_print.specs.Text.{expr_text};
@@ -26,25 +25,19 @@ use vast_core::{Ast, CaseArm, CaseKind, CaseNode, CaseStatement, Expr, Statement
 /// Writes a case statement on lines of its own.
 #[cycle(print)]
 #[tactic(auto, using(crate::proofs::ContainerLaws::cases))]
-pub(crate) fn print_case(
-    ast: &Ast,
-    c: CaseStatement,
-    depth: usize,
-    out: &mut Writer,
-) -> Result<(), PrintFault>
+pub(crate) fn print_case(ast: &Ast, c: CaseStatement, out: &mut Writer) -> Result<(), PrintFault>
     requires owned { OwnsCase (bench ast.now) c }
-    requires room { HasRoom depth c.id.index }
-    ensures { Writes
-        (hang depth (Wet out.old)
-        (statement_page (case_statement (families (bench ast.now) c.id.index)))) out.new
-        result }
+    ensures { WritesLines out.old out.new result
+        (statement_page (case_statement (families (bench ast.now) c.id.index))) }
 {
     let node = ast.case(c);
-    print_selector(ast, node, depth, out)?;
+    print_selector(ast, node, out)?;
+    out.deeper()?;
     for arm in &node.arms {
-        print_arm(ast, node.kind, *arm, depth + 1, out)?;
+        print_arm(ast, node.kind, *arm, out)?;
     }
-    out.next(depth)?;
+    out.shallower();
+    out.next()?;
     out.word("endcase")?;
     Ok(())
 }
@@ -52,70 +45,50 @@ pub(crate) fn print_case(
 /// Writes an arm of a case on lines of its own; in a casez, a single assignment stands without begin and end.
 #[cycle(print)]
 #[tactic(auto, using(crate::proofs::ContainerLaws::cases))]
-fn print_arm(
-    ast: &Ast,
-    kind: CaseKind,
-    arm: CaseArm,
-    depth: usize,
-    out: &mut Writer,
-) -> Result<(), PrintFault>
+fn print_arm(ast: &Ast, kind: CaseKind, arm: CaseArm, out: &mut Writer) -> Result<(), PrintFault>
     requires label { IfSome arm.label (OwnsExpr (bench ast.now)) }
     requires block { OwnsBlock (bench ast.now) arm.block }
-    requires room { HasRoom depth arm.block.id.index }
-    ensures { Writes
-        (hang depth (Wet out.old)
+    ensures { WritesLines out.old out.new result
         (arm_page kind (maybe_tree_of (bench ast.now) arm.label)
-        (block_tree (bench ast.now) arm.block))) out.new result }
+        (block_tree (bench ast.now) arm.block)) }
 {
-    print_label(ast, arm.label, depth, out)?;
+    print_label(ast, arm.label, out)?;
     match bare_assignment(kind, ast.block(arm.block)) {
-        Some(s) => print_assigned(ast, s, depth, out),
-        None => print_block(ast, arm.block, depth, out),
+        Some(s) => print_assigned(ast, s, out),
+        None => print_block(ast, arm.block, out),
     }
 }
 
 /// Writes the words before a case's arms on a line of their own.
 #[tactic(auto, using(crate::proofs::ArenaLaws::stops))]
-fn print_selector(
-    ast: &Ast,
-    node: &CaseNode,
-    depth: usize,
-    out: &mut Writer,
-) -> Result<(), PrintFault>
+fn print_selector(ast: &Ast, node: &CaseNode, out: &mut Writer) -> Result<(), PrintFault>
     requires { OwnsExpr (bench ast.now) node.now.selector }
-    ensures { Writes
-        (word (pour depth
-        (word (word (next depth (Wet out.old)) (unique_word node.now.unique))
+    ensures { Writes out.old out.new result
+        (word (pour out.old.margin (word
+        (word (next out.old.margin (Wet out.old.draft)) (unique_word node.now.unique))
         (case_word node.now.kind))
-        (written (expr_text (tree_of (bench ast.now) node.now.selector)))) (codes ")"))
-        out.new result }
+        (written (expr_text (tree_of (bench ast.now) node.now.selector)))) (codes ")")) }
 {
-    out.next(depth)?;
+    out.next()?;
     out.word(words::unique(node.unique))?;
     out.word(words::case(node.kind))?;
-    print_expression(ast, node.selector, depth, out)?;
+    print_expression(ast, node.selector, out)?;
     out.word(")")?;
     Ok(())
 }
 
 /// Writes the label of an arm on a line of its own.
 #[tactic(auto, using(crate::proofs::ContainerLaws::labels))]
-fn print_label(
-    ast: &Ast,
-    label: Option<Expr>,
-    depth: usize,
-    out: &mut Writer,
-) -> Result<(), PrintFault>
+fn print_label(ast: &Ast, label: Option<Expr>, out: &mut Writer) -> Result<(), PrintFault>
     requires { IfSome label (OwnsExpr (bench ast.now)) }
-    ensures { Writes
-        (pour depth (next depth (Wet out.old))
-        (written (label_text (maybe_tree_of (bench ast.now) label) ⊕ plain_text (codes ": "))))
-        out.new result }
+    ensures { Writes out.old out.new result
+        (pour out.old.margin (next out.old.margin (Wet out.old.draft))
+        (written (label_text (maybe_tree_of (bench ast.now) label) ⊕ plain_text (codes ": ")))) }
 {
-    out.next(depth)?;
+    out.next()?;
     match label {
         Some(e) => {
-            print_expression(ast, e, depth, out)?;
+            print_expression(ast, e, out)?;
             out.word(": ")?;
         }
         None => out.word("default: ")?,

@@ -47,15 +47,14 @@ pub(crate) fn begin_width_cast(
     ast: &Ast,
     width: Expr,
     operand: Expr,
-    depth: usize,
     out: &mut Writer,
     work: &mut Vec<Piece>,
 ) -> Result<(), PrintFault>
     requires width { OwnsExpr (bench ast.now) width }
     requires operand { OwnsExpr (bench ast.now) operand }
     requires owned { PiecesOwned (bench ast.now) work.old.items }
-    ensures { BeginsExpr (bench ast.now) depth out.old out.new work.old.items work.new.items
-        (WidthCastTree (tree_of (bench ast.now) width) (tree_of (bench ast.now) operand)) result }
+    ensures { BeginsExpr (bench ast.now) out.old out.new work.old.items work.new.items result
+        (WidthCastTree (tree_of (bench ast.now) width) (tree_of (bench ast.now) operand)) }
 {
     push_operand(ast, operand, ")", work)?;
     push_plain(ast, "'(", work)?;
@@ -68,16 +67,15 @@ fn begin_external_cast(
     ast: &Ast,
     name: &str,
     operand: Expr,
-    depth: usize,
     out: &mut Writer,
     work: &mut Vec<Piece>,
 ) -> Result<(), PrintFault>
     requires operand { OwnsExpr (bench ast.now) operand }
     requires owned { PiecesOwned (bench ast.now) work.old.items }
-    ensures { BeginsExpr (bench ast.now) depth out.old out.new work.old.items work.new.items
-        (TypeCastTree (ExternalTree name.now) (tree_of (bench ast.now) operand)) result }
+    ensures { BeginsExpr (bench ast.now) out.old out.new work.old.items work.new.items result
+        (TypeCastTree (ExternalTree name.now) (tree_of (bench ast.now) operand)) }
 {
-    out.written(depth, name)?;
+    out.written(name)?;
     out.word("'(")?;
     push_operand(ast, operand, ")", work)?;
     Ok(())
@@ -89,19 +87,17 @@ fn begin_package_cast(
     package_name: &str,
     name: &str,
     operand: Expr,
-    depth: usize,
     out: &mut Writer,
     work: &mut Vec<Piece>,
 ) -> Result<(), PrintFault>
     requires operand { OwnsExpr (bench ast.now) operand }
     requires owned { PiecesOwned (bench ast.now) work.old.items }
-    ensures { BeginsExpr (bench ast.now) depth out.old out.new work.old.items work.new.items
-        (TypeCastTree (PackageTree package_name.now name.now) (tree_of (bench ast.now) operand))
-        result }
+    ensures { BeginsExpr (bench ast.now) out.old out.new work.old.items work.new.items result
+        (TypeCastTree (PackageTree package_name.now name.now) (tree_of (bench ast.now) operand)) }
 {
-    out.written(depth, package_name)?;
+    out.written(package_name)?;
     out.word("::")?;
-    out.written(depth, name)?;
+    out.written(name)?;
     out.word("'(")?;
     push_operand(ast, operand, ")", work)?;
     Ok(())
@@ -113,16 +109,14 @@ pub(crate) fn begin_type_cast(
     ast: &Ast,
     data_type: VastDataType,
     operand: Expr,
-    depth: usize,
     out: &mut Writer,
     work: &mut Vec<Piece>,
 ) -> Result<(), PrintFault>
     requires data_type { OwnsType (bench ast.now) data_type }
     requires operand { OwnsExpr (bench ast.now) operand }
     requires owned { PiecesOwned (bench ast.now) work.old.items }
-    ensures { BeginsExpr (bench ast.now) depth out.old out.new work.old.items work.new.items
-        (TypeCastTree (type_of (bench ast.now) data_type) (tree_of (bench ast.now) operand))
-        result }
+    ensures { BeginsExpr (bench ast.now) out.old out.new work.old.items work.new.items result
+        (TypeCastTree (type_of (bench ast.now) data_type) (tree_of (bench ast.now) operand)) }
 {
     match ast.data_type(data_type) {
         TypeNode::Scalar(signed) => {
@@ -147,18 +141,17 @@ pub(crate) fn begin_type_cast(
             push_operand(ast, operand, number_cast_end(*signed), work)?;
             Ok(())
         }
-        TypeNode::External(name) => begin_external_cast(ast, name, operand, depth, out, work),
+        TypeNode::External(name) => begin_external_cast(ast, name, operand, out, work),
         TypeNode::Package(package) => begin_package_cast(
             ast,
             &package.package_name,
             &package.name,
             operand,
-            depth,
             out,
             work,
         ),
         TypeNode::Packed(_, _) | TypeNode::Unpacked(_, _) => {
-            begin_external_cast(ast, "", operand, depth, out, work)
+            begin_external_cast(ast, "", operand, out, work)
         }
     }
 }

@@ -1,12 +1,11 @@
 //! Conditionals.
 
-ghost use Rattle.std.specs.Prelude.{◌≡◌, codes};
+ghost use Rattle.std.specs.Prelude.{codes};
 ghost use Rattle.vast_core.specs.Bench.{OwnsExpr, OwnsConditional, tree_of};
 ghost use Rattle.vast_core.specs.FileTree.{families, conditional_statement};
 ghost use Rattle.vast_core.specs.View.{bench};
-ghost use Rattle.vast_print.specs.Internal.Fits.{HasRoom};
-ghost use Rattle.vast_print.specs.Ink.{Wet, word, hang, pour};
-ghost use Rattle.vast_print.specs.Internal.Ink.{Writes};
+ghost use Rattle.vast_print.specs.Ink.{Wet, word, pour};
+ghost use Rattle.vast_print.specs.Internal.Ink.{Writes, WritesLines};
 ghost use Rattle.vast_print.specs.Page.{written};
 ghost use Rattle.vast_print.specs.Text.{expr_text};
 ghost use Rattle.vast_print.specs.Statements.{statement_page};
@@ -23,28 +22,24 @@ use vast_core::{Ast, Conditional, Expr};
 pub(crate) fn print_conditional(
     ast: &Ast,
     c: Conditional,
-    depth: usize,
     out: &mut Writer,
 ) -> Result<(), PrintFault>
     requires owned { OwnsConditional (bench ast.now) c }
-    requires room { HasRoom depth c.id.index }
-    ensures { Writes
-        (hang depth (Wet out.old)
-        (statement_page (conditional_statement (families (bench ast.now) c.id.index))))
-        out.new result }
+    ensures { WritesLines out.old out.new result
+        (statement_page (conditional_statement (families (bench ast.now) c.id.index))) }
 {
     let node = ast.conditional(c);
-    out.next(depth)?;
-    print_condition(ast, "if (", node.condition, depth, out)?;
-    print_block(ast, node.consequent, depth, out)?;
+    out.next()?;
+    print_condition(ast, "if (", node.condition, out)?;
+    print_block(ast, node.consequent, out)?;
     for arm in &node.else_ifs {
-        print_condition(ast, " else if (", arm.condition, depth, out)?;
-        print_block(ast, arm.block, depth, out)?;
+        print_condition(ast, " else if (", arm.condition, out)?;
+        print_block(ast, arm.block, out)?;
     }
     match node.otherwise {
         Some(b) => {
             out.word(" else ")?;
-            print_block(ast, b, depth, out)
+            print_block(ast, b, out)
         }
         None => Ok(()),
     }
@@ -56,17 +51,15 @@ fn print_condition(
     ast: &Ast,
     opening: &str,
     condition: Expr,
-    depth: usize,
     out: &mut Writer,
 ) -> Result<(), PrintFault>
     requires { OwnsExpr (bench ast.now) condition }
-    ensures { Writes
-        (word (pour depth (word (Wet out.old) opening.now)
-        (written (expr_text (tree_of (bench ast.now) condition)))) (codes ") ")) out.new
-        result }
+    ensures { Writes out.old out.new result
+        (word (pour out.old.margin (word (Wet out.old.draft) opening.now)
+        (written (expr_text (tree_of (bench ast.now) condition)))) (codes ") ")) }
 {
     out.word(opening)?;
-    print_expression(ast, condition, depth, out)?;
+    print_expression(ast, condition, out)?;
     out.word(") ")?;
     Ok(())
 }

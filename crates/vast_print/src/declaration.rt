@@ -6,9 +6,7 @@ ghost use Rattle.vast_core.specs.Bench.{OwnsType, type_of};
 ghost use Rattle.vast_core.specs.FileTree.{declared_port};
 ghost use Rattle.vast_core.specs.View.{bench};
 ghost use Rattle.vast_print.specs.Internal.Words.{kind_opening};
-ghost use Rattle.vast_print.specs.Ink.{Wet, pour};
-ghost use Rattle.vast_print.specs.Internal.Ink.{Writes};
-ghost use Rattle.vast_print.specs.Page.{written};
+ghost use Rattle.vast_print.specs.Internal.Ink.{WritesText};
 ghost use Rattle.vast_print.specs.Declaration.{declaration_text};
 ghost use Rattle.vast_print.specs.Layout.{port_text, direction_word};
 
@@ -49,19 +47,17 @@ pub(crate) fn print_declaration(
     kind: DataKind,
     data_type: VastDataType,
     name: &str,
-    depth: usize,
     out: &mut Writer,
 ) -> Result<(), PrintFault>
     requires { OwnsType (bench ast.now) data_type }
-    ensures { Writes
-        (pour depth (Wet out.old)
-        (written (declaration_text (bench ast.now).file_type kind
-        (type_of (bench ast.now) data_type) name.now))) out.new result }
+    ensures { WritesText out.old out.new result
+        (declaration_text (bench ast.now).file_type kind (type_of (bench ast.now) data_type)
+        name.now) }
 {
     out.word(kind_opening(kind))?;
-    print_type(ast, data_type, depth, out)?;
-    out.written(depth, name)?;
-    print_dimensions(ast, data_type, depth, out)
+    print_type(ast, data_type, out)?;
+    out.written(name)?;
+    print_dimensions(ast, data_type, out)
 }
 
 /// The kind with which a port is written, and a function's input: none before an external type.
@@ -78,19 +74,12 @@ pub(crate) fn port_kind(ast: &Ast, kind: DataKind, t: VastDataType) -> DataKind
 
 /// Writes a port with its direction behind the last line.
 #[tactic(auto, using(crate::proofs::ArenaLaws::declarations))]
-pub(crate) fn print_port(
-    ast: &Ast,
-    port: &Port,
-    depth: usize,
-    out: &mut Writer,
-) -> Result<(), PrintFault>
+pub(crate) fn print_port(ast: &Ast, port: &Port, out: &mut Writer) -> Result<(), PrintFault>
     requires { OwnsType (bench ast.now) port.now.data_type }
-    ensures { Writes
-        (pour depth (Wet out.old)
-        (written (port_text (bench ast.now).file_type
-        (declared_port (bench ast.now) port.now)))) out.new result }
+    ensures { WritesText out.old out.new result
+        (port_text (bench ast.now).file_type (declared_port (bench ast.now) port.now)) }
 {
     let kind = port_kind(ast, port.kind, port.data_type);
     out.word(direction_word(port.direction))?;
-    print_declaration(ast, kind, port.data_type, port.name.as_str(), depth, out)
+    print_declaration(ast, kind, port.data_type, port.name.as_str(), out)
 }

@@ -1,6 +1,6 @@
 //! Whole files, and single expressions.
 
-ghost use Rattle.std.specs.Prelude.{◌≡◌, IfOk, string_bytes};
+ghost use Rattle.std.specs.Prelude.{IfOk, string_bytes};
 ghost use Rattle.vast_core.specs.Records.{file_entry};
 ghost use Rattle.vast_core.specs.Bench.{OwnsExpr, tree_of};
 ghost use Rattle.vast_core.specs.Sound.{EntrySound};
@@ -10,8 +10,8 @@ ghost use Rattle.vast_literal.specs.Tree.{IncludeItem};
 ghost use Rattle.vast_print.specs.Derived.{DerivesIfPlain, FileDerivesIfPlain};
 ghost use Rattle.vast_print.specs.Emits.{Emits, EmitsText};
 ghost use Rattle.vast_print.specs.Internal.Emits.{Faults};
-ghost use Rattle.vast_print.specs.Ink.{Wet, hang, pour, next};
-ghost use Rattle.vast_print.specs.Internal.Ink.{Writes};
+ghost use Rattle.vast_print.specs.Ink.{Wet, pour, next};
+ghost use Rattle.vast_print.specs.Internal.Ink.{Writes, WritesLines};
 ghost use Rattle.vast_print.specs.Page.{written};
 ghost use Rattle.vast_print.specs.Text.{expr_text};
 ghost use Rattle.vast_print.specs.Layout.{item_page, layout};
@@ -27,13 +27,12 @@ use vast_literal::{VastError, VastFault};
 /// Writes the inclusion of a file.
 #[tactic(auto, using(crate::proofs::ArenaLaws::items))]
 fn print_include(ast: &Ast, path: &str, out: &mut Writer) -> Result<(), PrintFault>
-    ensures { Writes
-        (hang 0 (Wet out.old) (item_page (bench ast.now).file_type (IncludeItem path.now))) out.new
-        result }
+    ensures { WritesLines out.old out.new result
+        (item_page (bench ast.now).file_type (IncludeItem path.now)) }
 {
-    out.next(0)?;
+    out.next()?;
     out.word("`include \"")?;
-    out.written(0, path)?;
+    out.written(path)?;
     out.word("\"")?;
     Ok(())
 }
@@ -42,22 +41,20 @@ fn print_include(ast: &Ast, path: &str, out: &mut Writer) -> Result<(), PrintFau
 #[tactic(auto, using(crate::proofs::ArenaLaws::items))]
 fn print_item(ast: &Ast, item: &FileItem, out: &mut Writer) -> Result<(), PrintFault>
     requires { EntrySound (bench ast.now) (file_entry item.now) }
-    ensures { Writes
-        (hang 0 (Wet out.old)
-        (item_page (bench ast.now).file_type (item_tree (bench ast.now) (file_entry item.now))))
-        out.new result }
+    ensures { WritesLines out.old out.new result
+        (item_page (bench ast.now).file_type (item_tree (bench ast.now) (file_entry item.now))) }
 {
     match item {
         FileItem::Module(m) => print_module(ast, *m, out),
         FileItem::Include(path) => print_include(ast, path, out),
-        FileItem::Comment(text) => Ok(out.comment(0, text)?),
-        FileItem::BlankLine => Ok(out.next(0)?),
+        FileItem::Comment(text) => Ok(out.comment(text)?),
+        FileItem::BlankLine => Ok(out.next()?),
     }
 }
 
 #[tactic(auto, using(crate::proofs::ArenaLaws::modules))]
 fn print_items(ast: &Ast, out: &mut Writer) -> Result<(), PrintFault>
-    ensures { Writes (hang 0 (Wet out.old) (layout (tree (bench ast.now)))) out.new result }
+    ensures { WritesLines out.old out.new result (layout (tree (bench ast.now))) }
 {
     for item in ast.items() {
         print_item(ast, item, out)?;
@@ -119,10 +116,10 @@ pub fn print_expr(ast: &Ast, e: Expr) -> Result<String, VastFault>
 
 fn print_line(ast: &Ast, e: Expr, out: &mut Writer) -> Result<(), PrintFault>
     requires { OwnsExpr (bench ast.now) e }
-    ensures { Writes
-        (pour 0 (next 0 (Wet out.old)) (written (expr_text (tree_of (bench ast.now) e)))) out.new
-        result }
+    ensures { Writes out.old out.new result
+        (pour out.old.margin (next out.old.margin (Wet out.old.draft))
+        (written (expr_text (tree_of (bench ast.now) e)))) }
 {
-    out.next(0)?;
-    print_expression(ast, e, 0, out)
+    out.next()?;
+    print_expression(ast, e, out)
 }

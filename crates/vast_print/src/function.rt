@@ -1,15 +1,12 @@
 //! Functions.
 
-ghost use Rattle.std.specs.Prelude.{◌≡◌, ◌<◌, ◌^◌, All, map, slice_get};
+ghost use Rattle.std.specs.Prelude.{◌≡◌, All, map, slice_get};
 ghost use Rattle.vast_literal.specs.Shape.{dialect_kind, result_kind};
 ghost use Rattle.vast_core.specs.Bench.{OwnsType, OwnsBlock, OwnsFunction, type_of};
 ghost use Rattle.vast_core.specs.Sound.{VariableSound};
 ghost use Rattle.vast_core.specs.FileTree.{families, variable_tree, function_in, block_tree};
 ghost use Rattle.vast_core.specs.View.{bench};
-ghost use Rattle.vast_print.specs.Internal.Fits.{HasRoom};
-ghost use Rattle.vast_print.specs.Ink.{Wet, hang, pour};
-ghost use Rattle.vast_print.specs.Internal.Ink.{Writes};
-ghost use Rattle.vast_print.specs.Page.{written};
+ghost use Rattle.vast_print.specs.Internal.Ink.{WritesLines, WritesText};
 ghost use Rattle.vast_print.specs.Members.{result_text, input_text, inputs_text, local_page, locals_page, function_body_page, member_page};
 ghost use Rattle.vast_literal.specs.Shape.{is_one_casez};
 
@@ -51,87 +48,50 @@ fn result_kind(ast: &Ast, t: VastDataType) -> DataKind
 
 /// Writes an input behind the last line.
 #[tactic(auto, using(crate::proofs::ContainerLaws::functions))]
-fn print_input(
-    ast: &Ast,
-    input: &FunctionVariable,
-    depth: usize,
-    out: &mut Writer,
-) -> Result<(), PrintFault>
+fn print_input(ast: &Ast, input: &FunctionVariable, out: &mut Writer) -> Result<(), PrintFault>
     requires { VariableSound (bench ast.now) input.now }
-    ensures { Writes
-        (pour depth (Wet out.old)
-        (written (input_text (bench ast.now).file_type
-        (variable_tree (bench ast.now) input.now)))) out.new result }
+    ensures { WritesText out.old out.new result
+        (input_text (bench ast.now).file_type (variable_tree (bench ast.now) input.now)) }
 {
     let kind = port_kind(ast, input.kind, input.data_type);
     out.word("input ")?;
-    print_declaration(ast, kind, input.data_type, input.name.as_str(), depth, out)
+    print_declaration(ast, kind, input.data_type, input.name.as_str(), out)
 }
 
 /// Writes the inputs of a function behind the last line.
-fn print_inputs(
-    ast: &Ast,
-    inputs: &[FunctionVariable],
-    depth: usize,
-    out: &mut Writer,
-) -> Result<(), PrintFault>
+fn print_inputs(ast: &Ast, inputs: &[FunctionVariable], out: &mut Writer) -> Result<(), PrintFault>
     requires { All (VariableSound (bench ast.now)) inputs.now }
-    ensures { Writes
-        (pour depth (Wet out.old)
-        (written (inputs_text (bench ast.now).file_type
-        (map (variable_tree (bench ast.now)) inputs.now)))) out.new
-        result }
+    ensures { WritesText out.old out.new result
+        (inputs_text (bench ast.now).file_type (map (variable_tree (bench ast.now)) inputs.now)) }
 {
     for (i, input) in inputs.iter().enumerate() {
         out.word(words::comma_before(i))?;
-        print_input(ast, input, depth, out)?;
+        print_input(ast, input, out)?;
     }
     Ok(())
 }
 
 /// Writes a local on a line of its own.
 #[tactic(auto, using(crate::proofs::ContainerLaws::functions))]
-fn print_local(
-    ast: &Ast,
-    local: &FunctionVariable,
-    depth: usize,
-    out: &mut Writer,
-) -> Result<(), PrintFault>
+fn print_local(ast: &Ast, local: &FunctionVariable, out: &mut Writer) -> Result<(), PrintFault>
     requires { VariableSound (bench ast.now) local.now }
-    ensures { Writes
-        (hang depth (Wet out.old)
-        (local_page (bench ast.now).file_type
-        (variable_tree (bench ast.now) local.now))) out.new result }
+    ensures { WritesLines out.old out.new result
+        (local_page (bench ast.now).file_type (variable_tree (bench ast.now) local.now)) }
 {
-    out.next(depth)?;
-    print_declaration(
-        ast,
-        local.kind,
-        local.data_type,
-        local.name.as_str(),
-        depth,
-        out,
-    )?;
+    out.next()?;
+    print_declaration(ast, local.kind, local.data_type, local.name.as_str(), out)?;
     out.word(";")?;
     Ok(())
 }
 
 /// Writes the locals of a function below each other.
-fn print_locals(
-    ast: &Ast,
-    locals: &[FunctionVariable],
-    depth: usize,
-    out: &mut Writer,
-) -> Result<(), PrintFault>
+fn print_locals(ast: &Ast, locals: &[FunctionVariable], out: &mut Writer) -> Result<(), PrintFault>
     requires { All (VariableSound (bench ast.now)) locals.now }
-    ensures { Writes
-        (hang depth (Wet out.old)
-        (locals_page (bench ast.now).file_type
-        (map (variable_tree (bench ast.now)) locals.now))) out.new
-        result }
+    ensures { WritesLines out.old out.new result
+        (locals_page (bench ast.now).file_type (map (variable_tree (bench ast.now)) locals.now)) }
 {
     for local in locals {
-        print_local(ast, local, depth, out)?;
+        print_local(ast, local, out)?;
     }
     Ok(())
 }
@@ -161,68 +121,49 @@ fn is_one_casez(ast: &Ast, b: VastStatementBlock) -> bool
 
 /// Writes the body of a function on lines of its own; one casez stands without begin and end.
 #[tactic(auto, using(crate::proofs::ContainerLaws::functions))]
-fn print_body(
-    ast: &Ast,
-    b: VastStatementBlock,
-    depth: usize,
-    out: &mut Writer,
-) -> Result<(), PrintFault>
+fn print_body(ast: &Ast, b: VastStatementBlock, out: &mut Writer) -> Result<(), PrintFault>
     requires owned { OwnsBlock (bench ast.now) b }
-    requires room { HasRoom depth b.id.index }
-    ensures { Writes (hang depth (Wet out.old) (function_body_page (block_tree (bench ast.now) b)))
-        out.new result }
+    ensures { WritesLines out.old out.new result
+        (function_body_page (block_tree (bench ast.now) b)) }
 {
     if is_one_casez(ast, b) {
-        print_statements(ast, b, depth, out)
+        print_statements(ast, b, out)
     } else {
-        out.next(depth)?;
-        print_block(ast, b, depth, out)
+        out.next()?;
+        print_block(ast, b, out)
     }
 }
 
 /// Writes the result and the name of a function behind the last line.
-fn print_result(
-    ast: &Ast,
-    t: VastDataType,
-    name: &str,
-    depth: usize,
-    out: &mut Writer,
-) -> Result<(), PrintFault>
+fn print_result(ast: &Ast, t: VastDataType, name: &str, out: &mut Writer) -> Result<(), PrintFault>
     requires { OwnsType (bench ast.now) t }
-    ensures { Writes
-        (pour depth (Wet out.old)
-        (written (result_text (bench ast.now).file_type (type_of (bench ast.now) t) name.now)))
-        out.new result }
+    ensures { WritesText out.old out.new result
+        (result_text (bench ast.now).file_type (type_of (bench ast.now) t) name.now) }
 {
-    print_declaration(ast, result_kind(ast, t), t, name, depth, out)
+    print_declaration(ast, result_kind(ast, t), t, name, out)
 }
 
 /// Writes a function on lines of its own.
 #[tactic(auto, using(crate::proofs::ContainerLaws::functions, crate::proofs::Heights::variables))]
-pub(crate) fn print_function(
-    ast: &Ast,
-    f: VastFunction,
-    depth: usize,
-    out: &mut Writer,
-) -> Result<(), PrintFault>
+pub(crate) fn print_function(ast: &Ast, f: VastFunction, out: &mut Writer) -> Result<(), PrintFault>
     requires owned { OwnsFunction (bench ast.now) f }
-    requires room { depth < 2 ^ 62 }
-    ensures { Writes
-        (hang depth (Wet out.old)
+    ensures { WritesLines out.old out.new result
         (member_page (bench ast.now).file_type
         (function_in (bench ast.now) (families (bench ast.now))
-        (slice_get (bench ast.now).functions f.id.index)))) out.new result }
+        (slice_get (bench ast.now).functions f.id.index))) }
 {
     let function = ast.function(f);
-    out.next(depth)?;
+    out.next()?;
     out.word(words::function())?;
-    print_result(ast, function.result_type, &function.name, depth, out)?;
+    print_result(ast, function.result_type, &function.name, out)?;
     out.word(" (")?;
-    print_inputs(ast, &function.inputs, depth, out)?;
+    print_inputs(ast, &function.inputs, out)?;
     out.word(");")?;
-    print_locals(ast, &function.locals, depth + 1, out)?;
-    print_body(ast, function.body, depth + 1, out)?;
-    out.next(depth)?;
+    out.deeper()?;
+    print_locals(ast, &function.locals, out)?;
+    print_body(ast, function.body, out)?;
+    out.shallower();
+    out.next()?;
     out.word(words::endfunction())?;
     Ok(())
 }

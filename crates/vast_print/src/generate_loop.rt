@@ -1,14 +1,11 @@
 //! Generate loops.
 
-ghost use Rattle.std.specs.Prelude.{◌≡◌, string_bytes};
+ghost use Rattle.std.specs.Prelude.{string_bytes};
 ghost use Rattle.vast_core.specs.Bench.{OwnsExpr, OwnsLoop, tree_of};
 ghost use Rattle.vast_core.specs.Nests.{label_bytes};
 ghost use Rattle.vast_core.specs.FileTree.{families, loop_member};
 ghost use Rattle.vast_core.specs.View.{bench};
-ghost use Rattle.vast_print.specs.Internal.Fits.{HasRoom};
-ghost use Rattle.vast_print.specs.Ink.{Wet, next, hang, pour};
-ghost use Rattle.vast_print.specs.Internal.Ink.{Writes};
-ghost use Rattle.vast_print.specs.Page.{written};
+ghost use Rattle.vast_print.specs.Internal.Ink.{WritesLines, WritesText};
 ghost use Rattle.vast_print.specs.Members.{loop_label_text, loop_text, member_page};
 
 use crate::expression::{print_expression, print_wrapped};
@@ -22,73 +19,60 @@ use vast_core::{Ast, BinaryOperator, GenerateLoop, LoopNode};
 /// Writes a generate loop on lines of its own.
 #[cycle(members)]
 #[tactic(auto, using(crate::proofs::ArenaLaws::stops))]
-pub(crate) fn print_loop(
-    ast: &Ast,
-    l: GenerateLoop,
-    depth: usize,
-    out: &mut Writer,
-) -> Result<(), PrintFault>
+pub(crate) fn print_loop(ast: &Ast, l: GenerateLoop, out: &mut Writer) -> Result<(), PrintFault>
     requires owned { OwnsLoop (bench ast.now) l }
-    requires room { HasRoom depth l.id.index }
-    ensures { Writes
-        (hang depth (Wet out.old)
+    ensures { WritesLines out.old out.new result
         (member_page (bench ast.now).file_type
-        (loop_member (families (bench ast.now) l.id.index)))) out.new result }
+        (loop_member (families (bench ast.now) l.id.index))) }
 {
     let node = ast.generate_loop(l);
-    out.next(depth)?;
-    print_header(ast, node, depth, out)?;
+    out.next()?;
+    print_header(ast, node, out)?;
+    out.deeper()?;
     for member in &node.members {
-        print_member(ast, member, depth + 1, out)?;
+        print_member(ast, member, out)?;
     }
-    out.next(depth)?;
+    out.shallower();
+    out.next()?;
     out.word("end")?;
     Ok(())
 }
 
 /// Writes the words before a loop's members behind the last line. The end stands as the right child of the comparison.
 #[tactic(auto, using(crate::proofs::ContainerLaws::headers))]
-fn print_header(
-    ast: &Ast,
-    node: &LoopNode,
-    depth: usize,
-    out: &mut Writer,
-) -> Result<(), PrintFault>
+fn print_header(ast: &Ast, node: &LoopNode, out: &mut Writer) -> Result<(), PrintFault>
     requires start { OwnsExpr (bench ast.now) node.now.start }
     requires end { OwnsExpr (bench ast.now) node.now.end }
-    ensures { Writes
-        (pour depth (Wet out.old)
-        (written (loop_text (string_bytes node.now.name)
-        (tree_of (bench ast.now) node.now.start) (tree_of (bench ast.now) node.now.end)
-        (label_bytes node.now.label)))) out.new result }
+    ensures { WritesText out.old out.new result
+        (loop_text (string_bytes node.now.name) (tree_of (bench ast.now) node.now.start)
+        (tree_of (bench ast.now) node.now.end) (label_bytes node.now.label)) }
 {
     let wraps = right_wraps(ast, BinaryOperator::Lt, node.end);
     out.word(words::for_genvar())?;
-    out.written(depth, &node.name)?;
+    out.written(&node.name)?;
     out.word(" = ")?;
-    print_expression(ast, node.start, depth, out)?;
+    print_expression(ast, node.start, out)?;
     out.word("; ")?;
-    out.written(depth, &node.name)?;
+    out.written(&node.name)?;
     out.word(" < ")?;
-    print_wrapped(ast, node.end, wraps, depth, out)?;
+    print_wrapped(ast, node.end, wraps, out)?;
     out.word("; ")?;
-    out.written(depth, &node.name)?;
+    out.written(&node.name)?;
     out.word(" = ")?;
-    out.written(depth, &node.name)?;
+    out.written(&node.name)?;
     out.word(words::step())?;
-    print_label(&node.label, depth, out)
+    print_label(&node.label, out)
 }
 
 /// Writes a loop's label behind the last line.
 #[tactic(auto, using(crate::proofs::ContainerLaws::headers))]
-fn print_label(label: &Option<String>, depth: usize, out: &mut Writer) -> Result<(), PrintFault>
-    ensures { Writes (pour depth (Wet out.old) (written (loop_label_text (label_bytes label.now))))
-        out.new result }
+fn print_label(label: &Option<String>, out: &mut Writer) -> Result<(), PrintFault>
+    ensures { WritesText out.old out.new result (loop_label_text (label_bytes label.now)) }
 {
     match label {
         Some(label) => {
             out.word(" : ")?;
-            out.written(depth, label)?;
+            out.written(label)?;
             Ok(())
         }
         None => Ok(()),

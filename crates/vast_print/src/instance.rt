@@ -1,15 +1,13 @@
 //! Instantiations of modules.
 
-ghost use Rattle.std.specs.Prelude.{◌≡◌, ◌<◌, ◌+◌, ◌^◌, All, map};
+ghost use Rattle.std.specs.Prelude.{All, map};
 ghost use Rattle.vast_core.specs.Records.{connection_record, instance_record};
 ghost use Rattle.vast_core.specs.Bench.{OwnsInstantiation};
 ghost use Rattle.vast_core.specs.Sound.{ConnectionSound};
 ghost use Rattle.vast_core.specs.declared.node.Member.TheVariants.{Instantiation as InstanceEntry};
 ghost use Rattle.vast_core.specs.FileTree.{connection_tree, member_tree};
 ghost use Rattle.vast_core.specs.View.{bench};
-ghost use Rattle.vast_print.specs.Ink.{Wet, hang, pour};
-ghost use Rattle.vast_print.specs.Internal.Ink.{Writes};
-ghost use Rattle.vast_print.specs.Page.{written};
+ghost use Rattle.vast_print.specs.Internal.Ink.{WritesLines, WritesText};
 ghost use Rattle.vast_print.specs.Members.{entries_page, connection_text, connections_page, instance_head_page, member_page};
 
 use crate::expression::print_expression;
@@ -20,25 +18,17 @@ use vast_core::{Ast, Connection, Instance, Instantiation};
 
 /// Writes `.name(value)` behind the last line; an open port has nothing between its parentheses.
 #[tactic(auto, using(crate::proofs::ArenaLaws::instances))]
-fn print_connection(
-    ast: &Ast,
-    connection: &Connection,
-    depth: usize,
-    out: &mut Writer,
-) -> Result<(), PrintFault>
+fn print_connection(ast: &Ast, connection: &Connection, out: &mut Writer) -> Result<(), PrintFault>
     requires { ConnectionSound (bench ast.now) (connection_record connection.now) }
-    ensures { Writes
-        (pour depth (Wet out.old)
-        (written (connection_text
-        (connection_tree (bench ast.now) (connection_record connection.now))))) out.new
-        result }
+    ensures { WritesText out.old out.new result
+        (connection_text (connection_tree (bench ast.now) (connection_record connection.now))) }
 {
     out.word(".")?;
-    out.written(depth, &connection.name)?;
+    out.written(&connection.name)?;
     match connection.value {
         Some(value) => {
             out.word("(")?;
-            print_expression(ast, value, depth, out)?;
+            print_expression(ast, value, out)?;
             out.word(")")?;
         }
         None => out.word("()")?,
@@ -47,25 +37,16 @@ fn print_connection(
 }
 
 /// Writes connections, each on a line one deeper.
-fn print_entries(
-    ast: &Ast,
-    connections: &[Connection],
-    depth: usize,
-    out: &mut Writer,
-) -> Result<(), PrintFault>
+fn print_entries(ast: &Ast, connections: &[Connection], out: &mut Writer) -> Result<(), PrintFault>
     requires owned { All (λ c. ConnectionSound (bench ast.now) (connection_record c))
         connections.now }
-    requires room { depth + 1 < 2 ^ 64 }
-    ensures { Writes
-        (hang depth (Wet out.old)
-        (entries_page
-        (map connection_text
-        (map (connection_tree (bench ast.now)) (map connection_record connections.now)))))
-        out.new result }
+    ensures { WritesLines out.old out.new result
+        (entries_page (map connection_text
+        (map (connection_tree (bench ast.now)) (map connection_record connections.now)))) }
 {
     for (i, connection) in connections.iter().enumerate() {
-        out.next(depth + 1)?;
-        print_connection(ast, connection, depth, out)?;
+        out.next_inner()?;
+        print_connection(ast, connection, out)?;
         out.word(words::comma_word(i + 1 < connections.len()))?;
     }
     Ok(())
@@ -73,33 +54,26 @@ fn print_entries(
 
 /// Writes an instantiation up to the list of its connections.
 #[tactic(auto, using(crate::proofs::ArenaLaws::instances))]
-fn print_head(
-    ast: &Ast,
-    instance: &Instance,
-    depth: usize,
-    out: &mut Writer,
-) -> Result<(), PrintFault>
+fn print_head(ast: &Ast, instance: &Instance, out: &mut Writer) -> Result<(), PrintFault>
     requires owned { All (λ c. ConnectionSound (bench ast.now) (connection_record c))
         instance.now.parameters.items }
-    requires room { depth + 1 < 2 ^ 64 }
-    ensures { Writes
-        (hang depth (Wet out.old)
+    ensures { WritesLines out.old out.new result
         (instance_head_page (instance_record instance.now).module_name
         (map (connection_tree (bench ast.now))
         (map connection_record instance.now.parameters.items))
-        (instance_record instance.now).instance_name)) out.new result }
+        (instance_record instance.now).instance_name) }
 {
-    out.next(depth)?;
-    out.written(depth, &instance.module_name)?;
+    out.next()?;
+    out.written(&instance.module_name)?;
     if instance.parameters.is_empty() {
         out.word(" ")?;
     } else {
         out.word(" #(")?;
-        print_entries(ast, &instance.parameters, depth, out)?;
-        out.next(depth)?;
+        print_entries(ast, &instance.parameters, out)?;
+        out.next()?;
         out.word(") ")?;
     }
-    out.written(depth, &instance.instance_name)?;
+    out.written(&instance.instance_name)?;
     out.word(" (")?;
     Ok(())
 }
@@ -109,23 +83,19 @@ fn print_head(
 fn print_connections(
     ast: &Ast,
     connections: &[Connection],
-    depth: usize,
     out: &mut Writer,
 ) -> Result<(), PrintFault>
     requires owned { All (λ c. ConnectionSound (bench ast.now) (connection_record c))
         connections.now }
-    requires room { depth + 1 < 2 ^ 64 }
-    ensures { Writes
-        (hang depth (Wet out.old)
+    ensures { WritesLines out.old out.new result
         (connections_page
-        (map (connection_tree (bench ast.now)) (map connection_record connections.now))))
-        out.new result }
+        (map (connection_tree (bench ast.now)) (map connection_record connections.now))) }
 {
     if connections.is_empty() {
-        out.next(depth)?;
+        out.next()?;
         Ok(())
     } else {
-        print_entries(ast, connections, depth, out)
+        print_entries(ast, connections, out)
     }
 }
 
@@ -134,20 +104,16 @@ fn print_connections(
 pub(crate) fn print_instance(
     ast: &Ast,
     i: Instantiation,
-    depth: usize,
     out: &mut Writer,
 ) -> Result<(), PrintFault>
     requires owned { OwnsInstantiation (bench ast.now) i }
-    requires room { depth + 1 < 2 ^ 64 }
-    ensures { Writes
-        (hang depth (Wet out.old)
-        (member_page (bench ast.now).file_type (member_tree (bench ast.now) (InstanceEntry i))))
-        out.new result }
+    ensures { WritesLines out.old out.new result
+        (member_page (bench ast.now).file_type (member_tree (bench ast.now) (InstanceEntry i))) }
 {
     let instance = ast.instance(i);
-    print_head(ast, instance, depth, out)?;
-    print_connections(ast, &instance.connections, depth, out)?;
-    out.next(depth)?;
+    print_head(ast, instance, out)?;
+    print_connections(ast, &instance.connections, out)?;
+    out.next()?;
     out.word(");")?;
     Ok(())
 }

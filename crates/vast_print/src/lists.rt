@@ -4,9 +4,7 @@ ghost use Rattle.std.specs.Prelude.{All, IfSome};
 ghost use Rattle.vast_literal.specs.Tree.{ConcatTree, PatternTree, MacroTree, CallTree, NoArguments, SomeArguments};
 ghost use Rattle.vast_core.specs.Bench.{OwnsExpr, maybe_tree_of, trees_of};
 ghost use Rattle.vast_core.specs.View.{bench};
-ghost use Rattle.vast_print.specs.Ink.{Wet, pour};
-ghost use Rattle.vast_print.specs.Internal.Ink.{Writes};
-ghost use Rattle.vast_print.specs.Page.{written};
+ghost use Rattle.vast_print.specs.Internal.Ink.{WritesText};
 ghost use Rattle.vast_print.specs.Text.{expr_text};
 ghost use Rattle.vast_print.specs.Internal.Pieces.{PiecesOwned, BeginsExpr};
 
@@ -21,16 +19,14 @@ pub(crate) fn begin_concat(
     ast: &Ast,
     count: Option<Expr>,
     parts: &[Expr],
-    depth: usize,
     out: &mut Writer,
     work: &mut Vec<Piece>,
 ) -> Result<(), PrintFault>
     requires count { IfSome count (OwnsExpr (bench ast.now)) }
     requires parts { All (OwnsExpr (bench ast.now)) parts.now }
     requires owned { PiecesOwned (bench ast.now) work.old.items }
-    ensures { BeginsExpr (bench ast.now) depth out.old out.new work.old.items work.new.items
-        (ConcatTree (maybe_tree_of (bench ast.now) count) (trees_of (bench ast.now) parts.now))
-        result }
+    ensures { BeginsExpr (bench ast.now) out.old out.new work.old.items work.new.items result
+        (ConcatTree (maybe_tree_of (bench ast.now) count) (trees_of (bench ast.now) parts.now)) }
 {
     out.word("{")?;
     push_plain(ast, "}", work)?;
@@ -50,14 +46,13 @@ pub(crate) fn begin_concat(
 pub(crate) fn begin_pattern(
     ast: &Ast,
     parts: &[Expr],
-    depth: usize,
     out: &mut Writer,
     work: &mut Vec<Piece>,
 ) -> Result<(), PrintFault>
     requires parts { All (OwnsExpr (bench ast.now)) parts.now }
     requires owned { PiecesOwned (bench ast.now) work.old.items }
-    ensures { BeginsExpr (bench ast.now) depth out.old out.new work.old.items work.new.items
-        (PatternTree (trees_of (bench ast.now) parts.now)) result }
+    ensures { BeginsExpr (bench ast.now) out.old out.new work.old.items work.new.items result
+        (PatternTree (trees_of (bench ast.now) parts.now)) }
 {
     out.word("'{")?;
     push_plain(ast, "}", work)?;
@@ -66,13 +61,11 @@ pub(crate) fn begin_pattern(
 }
 
 #[tactic(auto, using(crate::proofs::PieceLaws::lists))]
-pub(crate) fn print_macro(name: &str, depth: usize, out: &mut Writer) -> Result<(), PrintFault>
-    ensures { Writes
-        (pour depth (Wet out.old) (written (expr_text (MacroTree name.now NoArguments)))) out.new
-        result }
+pub(crate) fn print_macro(name: &str, out: &mut Writer) -> Result<(), PrintFault>
+    ensures { WritesText out.old out.new result (expr_text (MacroTree name.now NoArguments)) }
 {
     out.word("`")?;
-    out.written(depth, name)?;
+    out.written(name)?;
     Ok(())
 }
 
@@ -81,17 +74,16 @@ pub(crate) fn begin_macro_call(
     ast: &Ast,
     name: &str,
     arguments: &[Expr],
-    depth: usize,
     out: &mut Writer,
     work: &mut Vec<Piece>,
 ) -> Result<(), PrintFault>
     requires arguments { All (OwnsExpr (bench ast.now)) arguments.now }
     requires owned { PiecesOwned (bench ast.now) work.old.items }
-    ensures { BeginsExpr (bench ast.now) depth out.old out.new work.old.items work.new.items
-        (MacroTree name.now (SomeArguments (trees_of (bench ast.now) arguments.now))) result }
+    ensures { BeginsExpr (bench ast.now) out.old out.new work.old.items work.new.items result
+        (MacroTree name.now (SomeArguments (trees_of (bench ast.now) arguments.now))) }
 {
     out.word("`")?;
-    out.written(depth, name)?;
+    out.written(name)?;
     out.word("(")?;
     push_plain(ast, ")", work)?;
     push_list(ast, arguments, work)?;
@@ -103,16 +95,15 @@ pub(crate) fn begin_call(
     ast: &Ast,
     name: &str,
     arguments: &[Expr],
-    depth: usize,
     out: &mut Writer,
     work: &mut Vec<Piece>,
 ) -> Result<(), PrintFault>
     requires arguments { All (OwnsExpr (bench ast.now)) arguments.now }
     requires owned { PiecesOwned (bench ast.now) work.old.items }
-    ensures { BeginsExpr (bench ast.now) depth out.old out.new work.old.items work.new.items
-        (CallTree name.now (trees_of (bench ast.now) arguments.now)) result }
+    ensures { BeginsExpr (bench ast.now) out.old out.new work.old.items work.new.items result
+        (CallTree name.now (trees_of (bench ast.now) arguments.now)) }
 {
-    out.written(depth, name)?;
+    out.written(name)?;
     out.word("(")?;
     push_plain(ast, ")", work)?;
     push_list(ast, arguments, work)?;

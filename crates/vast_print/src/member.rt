@@ -1,13 +1,11 @@
 //! Members of modules and loops.
 
-ghost use Rattle.std.specs.Prelude.{◌≡◌, ◌<◌, ◌^◌, All};
+ghost use Rattle.std.specs.Prelude.{All};
 ghost use Rattle.vast_core.specs.Bench.{OwnsType, OwnsMacroRef, tree_of};
 ghost use Rattle.vast_core.specs.Sound.{MemberSound};
 ghost use Rattle.vast_core.specs.FileTree.{declared, member_tree, members_tree};
 ghost use Rattle.vast_core.specs.View.{bench};
-ghost use Rattle.vast_print.specs.Internal.Fits.{MemberFits};
-ghost use Rattle.vast_print.specs.Ink.{Wet, hang};
-ghost use Rattle.vast_print.specs.Internal.Ink.{Writes};
+ghost use Rattle.vast_print.specs.Internal.Ink.{WritesLines};
 ghost use Rattle.vast_print.specs.Members.{member_page, members_page};
 ghost use Rattle.vast_literal.specs.Tree.{DeclarationMember, MacroMember};
 
@@ -33,17 +31,15 @@ fn print_variable(
     kind: DataKind,
     name: &str,
     t: VastDataType,
-    depth: usize,
     out: &mut Writer,
 ) -> Result<(), PrintFault>
     requires { OwnsType (bench ast.now) t }
-    ensures { Writes
-        (hang depth (Wet out.old)
+    ensures { WritesLines out.old out.new result
         (member_page (bench ast.now).file_type
-        (DeclarationMember (declared (bench ast.now) kind name.now t)))) out.new result }
+        (DeclarationMember (declared (bench ast.now) kind name.now t))) }
 {
-    out.next(depth)?;
-    print_declaration(ast, kind, t, name, depth, out)?;
+    out.next()?;
+    print_declaration(ast, kind, t, name, out)?;
     out.word(";")?;
     Ok(())
 }
@@ -54,18 +50,15 @@ fn print_macro(
     ast: &Ast,
     call: MacroRef,
     semicolon: bool,
-    depth: usize,
     out: &mut Writer,
 ) -> Result<(), PrintFault>
     requires { OwnsMacroRef (bench ast.now) call }
-    ensures { Writes
-        (hang depth (Wet out.old)
+    ensures { WritesLines out.old out.new result
         (member_page (bench ast.now).file_type
-        (MacroMember (tree_of (bench ast.now) (record { id = call.id })) semicolon))) out.new
-        result }
+        (MacroMember (tree_of (bench ast.now) (record { id = call.id })) semicolon)) }
 {
-    out.next(depth)?;
-    print_expression(ast, call.to_expr(), depth, out)?;
+    out.next()?;
+    print_expression(ast, call.to_expr(), out)?;
     out.word(words::semicolon(semicolon))?;
     Ok(())
 }
@@ -73,59 +66,43 @@ fn print_macro(
 /// Writes a member on lines of its own.
 #[cycle(members)]
 #[tactic(auto, using(crate::proofs::ContainerLaws::members))]
-pub(crate) fn print_member(
-    ast: &Ast,
-    member: &Member,
-    depth: usize,
-    out: &mut Writer,
-) -> Result<(), PrintFault>
+pub(crate) fn print_member(ast: &Ast, member: &Member, out: &mut Writer) -> Result<(), PrintFault>
     requires owned { MemberSound (bench ast.now) member.now }
-    requires room { MemberFits (bench ast.now) depth member.now }
-    ensures { Writes
-        (hang depth (Wet out.old)
-        (member_page (bench ast.now).file_type
-        (member_tree (bench ast.now) member.now))) out.new result }
+    ensures { WritesLines out.old out.new result
+        (member_page (bench ast.now).file_type (member_tree (bench ast.now) member.now)) }
 {
     match member {
-        Member::Declaration(kind, name, t) => {
-            print_variable(ast, *kind, name.as_str(), *t, depth, out)
-        }
-        Member::ContinuousAssignment(a) => print_continuous(ast, ast.continuous(*a), depth, out),
-        Member::Parameter(local, form, value) => {
-            print_parameter(ast, *local, form, *value, depth, out)
-        }
-        Member::BlankLine => Ok(out.next(depth)?),
-        Member::Comment(a) => Ok(out.comment(depth, ast.comment_text(*a))?),
-        Member::Inline(a) => print_inline(ast.inline_text(*a), depth, out),
+        Member::Declaration(kind, name, t) => { print_variable(ast, *kind, name.as_str(), *t, out) }
+        Member::ContinuousAssignment(a) => print_continuous(ast, ast.continuous(*a), out),
+        Member::Parameter(local, form, value) => { print_parameter(ast, *local, form, *value, out) }
+        Member::BlankLine => Ok(out.next()?),
+        Member::Comment(a) => Ok(out.comment(ast.comment_text(*a))?),
+        Member::Inline(a) => print_inline(ast.inline_text(*a), out),
         Member::Macro(a) => {
             let (call, semicolon) = ast.macro_statement(*a);
-            print_macro(ast, call, semicolon, depth, out)
+            print_macro(ast, call, semicolon, out)
         }
-        Member::Instantiation(i) => print_instance(ast, *i, depth, out),
-        Member::Function(f) => print_function(ast, *f, depth, out),
-        Member::Always(a) => print_always(ast, *a, depth, out),
-        Member::Conditional(c) => print_conditional(ast, *c, depth, out),
-        Member::Loop(l) => print_loop(ast, *l, depth, out),
+        Member::Instantiation(i) => print_instance(ast, *i, out),
+        Member::Function(f) => print_function(ast, *f, out),
+        Member::Always(a) => print_always(ast, *a, out),
+        Member::Conditional(c) => print_conditional(ast, *c, out),
+        Member::Loop(l) => print_loop(ast, *l, out),
     }
 }
 
 /// Writes the members of a module below each other.
-#[tactic(auto, using(crate::proofs::ArenaLaws::modules, crate::proofs::Heights::fits))]
+#[tactic(auto, using(crate::proofs::ArenaLaws::modules))]
 pub(crate) fn print_members(
     ast: &Ast,
     members: &[Member],
-    depth: usize,
     out: &mut Writer,
 ) -> Result<(), PrintFault>
     requires owned { All (MemberSound (bench ast.now)) members.now }
-    requires room { depth < 2 ^ 62 }
-    ensures { Writes
-        (hang depth (Wet out.old)
-        (members_page (bench ast.now).file_type
-        (members_tree (bench ast.now) members.now))) out.new result }
+    ensures { WritesLines out.old out.new result
+        (members_page (bench ast.now).file_type (members_tree (bench ast.now) members.now)) }
 {
     for member in members {
-        print_member(ast, member, depth, out)?;
+        print_member(ast, member, out)?;
     }
     Ok(())
 }

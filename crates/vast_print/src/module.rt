@@ -1,13 +1,13 @@
 //! Modules: headers and members.
 
-ghost use Rattle.std.specs.Prelude.{◌≡◌, ◌<◌, ◌^◌, All, map, codes};
+ghost use Rattle.std.specs.Prelude.{All, map, codes};
 ghost use Rattle.vast_core.specs.Bench.{OwnsModule, OwnsPort};
 ghost use Rattle.vast_core.specs.Records.{module_record, parameter_port_record, ModuleEntry};
 ghost use Rattle.vast_core.specs.Sound.{MemberSound, ParameterPortSound};
 ghost use Rattle.vast_core.specs.FileTree.{parameter_port_tree, port_tree, members_tree, module_tree, item_tree};
 ghost use Rattle.vast_core.specs.View.{bench};
-ghost use Rattle.vast_print.specs.Ink.{Wet, word, next, hang, pour};
-ghost use Rattle.vast_print.specs.Internal.Ink.{Writes};
+ghost use Rattle.vast_print.specs.Ink.{Wet, word, next, pour};
+ghost use Rattle.vast_print.specs.Internal.Ink.{Writes, WritesLines, WritesText};
 ghost use Rattle.vast_print.specs.Printed.{plain_text};
 ghost use Rattle.vast_print.specs.Layout.{port_text, ports_page, header_page, body_page, module_page, item_page};
 ghost use Rattle.vast_print.specs.Page.{written};
@@ -21,40 +21,25 @@ use crate::writer::Writer;
 use vast_core::{Ast, Member, Module, ModulePort, VastModule};
 
 /// Writes a port of a header.
-fn print_listed_port(
-    ast: &Ast,
-    p: ModulePort,
-    depth: usize,
-    out: &mut Writer,
-) -> Result<(), PrintFault>
+fn print_listed_port(ast: &Ast, p: ModulePort, out: &mut Writer) -> Result<(), PrintFault>
     requires { OwnsPort (bench ast.now) p }
-    ensures { Writes
-        (pour depth (Wet out.old)
-        (written (port_text (bench ast.now).file_type (port_tree (bench ast.now) p)))) out.new
-        result }
+    ensures { WritesText out.old out.new result
+        (port_text (bench ast.now).file_type (port_tree (bench ast.now) p)) }
 {
     let port = ast.port(p);
-    print_port(ast, port, depth, out)
+    print_port(ast, port, out)
 }
 
 /// Writes the ports of a header, each on a line one deeper.
 #[tactic(auto, using(crate::proofs::ArenaLaws::modules))]
-fn print_ports(
-    ast: &Ast,
-    ports: &[ModulePort],
-    depth: usize,
-    out: &mut Writer,
-) -> Result<(), PrintFault>
+fn print_ports(ast: &Ast, ports: &[ModulePort], out: &mut Writer) -> Result<(), PrintFault>
     requires owned { All (OwnsPort (bench ast.now)) ports.now }
-    requires room { depth < 2 ^ 63 }
-    ensures { Writes
-        (hang depth (Wet out.old)
-        (ports_page (bench ast.now).file_type (map (port_tree (bench ast.now)) ports.now)))
-        out.new result }
+    ensures { WritesLines out.old out.new result
+        (ports_page (bench ast.now).file_type (map (port_tree (bench ast.now)) ports.now)) }
 {
     for (i, port) in ports.iter().enumerate() {
-        out.next(depth + 1)?;
-        print_listed_port(ast, *port, depth, out)?;
+        out.next_inner()?;
+        print_listed_port(ast, *port, out)?;
         out.word(words::comma_word(i + 1 < ports.len()))?;
     }
     Ok(())
@@ -62,13 +47,14 @@ fn print_ports(
 
 /// Writes the words before a header's first list, or before the end of a header without lists.
 fn print_opening(name: &str, end: &str, out: &mut Writer) -> Result<(), PrintFault>
-    ensures { Writes
-        (word (pour 0 (word (next 0 (Wet out.old)) (codes "module "))
-        (written (plain_text name.now))) end.now) out.new result }
+    ensures { Writes out.old out.new result
+        (word (pour out.old.margin
+        (word (next out.old.margin (Wet out.old.draft)) (codes "module "))
+        (written (plain_text name.now))) end.now) }
 {
-    out.next(0)?;
+    out.next()?;
     out.word("module ")?;
-    out.written(0, name)?;
+    out.written(name)?;
     out.word(end)?;
     Ok(())
 }
@@ -79,27 +65,26 @@ fn print_header(ast: &Ast, node: &Module, out: &mut Writer) -> Result<(), PrintF
     requires parameters { All (λ p. ParameterPortSound (bench ast.now) (parameter_port_record p))
         node.now.parameters.items }
     requires ports { All (OwnsPort (bench ast.now)) node.now.ports.items }
-    ensures { Writes
-        (hang 0 (Wet out.old)
+    ensures { WritesLines out.old out.new result
         (header_page (bench ast.now).file_type (module_record node.now).name
         (map (parameter_port_tree (bench ast.now))
         (map parameter_port_record node.now.parameters.items))
-        (map (port_tree (bench ast.now)) node.now.ports.items))) out.new result }
+        (map (port_tree (bench ast.now)) node.now.ports.items)) }
 {
     if !node.parameters.is_empty() {
         print_opening(&node.name, " #(", out)?;
-        print_parameter_ports(ast, &node.parameters, 0, out)?;
-        out.next(0)?;
+        print_parameter_ports(ast, &node.parameters, out)?;
+        out.next()?;
         if !node.ports.is_empty() {
             out.word(") (")?;
-            print_ports(ast, &node.ports, 0, out)?;
-            out.next(0)?;
+            print_ports(ast, &node.ports, out)?;
+            out.next()?;
         }
         out.word(");")?;
     } else if !node.ports.is_empty() {
         print_opening(&node.name, "(", out)?;
-        print_ports(ast, &node.ports, 0, out)?;
-        out.next(0)?;
+        print_ports(ast, &node.ports, out)?;
+        out.next()?;
         out.word(");")?;
     } else {
         print_opening(&node.name, ";", out)?;
@@ -111,16 +96,17 @@ fn print_header(ast: &Ast, node: &Module, out: &mut Writer) -> Result<(), PrintF
 #[tactic(auto, using(crate::proofs::ArenaLaws::modules))]
 fn print_body(ast: &Ast, members: &[Member], out: &mut Writer) -> Result<(), PrintFault>
     requires { All (MemberSound (bench ast.now)) members.now }
-    ensures { Writes
-        (hang 0 (Wet out.old)
-        (body_page (bench ast.now).file_type
-        (members_tree (bench ast.now) members.now))) out.new result }
+    ensures { WritesLines out.old out.new result
+        (body_page (bench ast.now).file_type (members_tree (bench ast.now) members.now)) }
 {
     if members.is_empty() {
-        out.next(0)?;
+        out.next()?;
         Ok(())
     } else {
-        print_members(ast, members, 1, out)
+        out.deeper()?;
+        print_members(ast, members, out)?;
+        out.shallower();
+        Ok(())
     }
 }
 
@@ -132,14 +118,13 @@ fn print_parts(ast: &Ast, node: &Module, out: &mut Writer) -> Result<(), PrintFa
     requires ports { All (OwnsPort (bench ast.now)) node.now.ports.items }
     requires members { All (MemberSound (bench ast.now))
         node.now.members.items }
-    ensures { Writes
-        (hang 0 (Wet out.old)
+    ensures { WritesLines out.old out.new result
         (module_page (bench ast.now).file_type
-        (module_tree (bench ast.now) (module_record node.now)))) out.new result }
+        (module_tree (bench ast.now) (module_record node.now))) }
 {
     print_header(ast, node, out)?;
     print_body(ast, &node.members, out)?;
-    out.next(0)?;
+    out.next()?;
     out.word("endmodule")?;
     Ok(())
 }
@@ -147,10 +132,8 @@ fn print_parts(ast: &Ast, node: &Module, out: &mut Writer) -> Result<(), PrintFa
 /// Writes a module of the file.
 pub(crate) fn print_module(ast: &Ast, m: VastModule, out: &mut Writer) -> Result<(), PrintFault>
     requires { OwnsModule (bench ast.now) m }
-    ensures { Writes
-        (hang 0 (Wet out.old)
-        (item_page (bench ast.now).file_type (item_tree (bench ast.now) (ModuleEntry m))))
-        out.new result }
+    ensures { WritesLines out.old out.new result
+        (item_page (bench ast.now).file_type (item_tree (bench ast.now) (ModuleEntry m))) }
 {
     let module = ast.module(m);
     print_parts(ast, module, out)

@@ -18,14 +18,13 @@ pub(crate) fn begin_unary(
     ast: &Ast,
     operator: UnaryOperator,
     operand: Expr,
-    depth: usize,
     out: &mut Writer,
     work: &mut Vec<Piece>,
 ) -> Result<(), PrintFault>
     requires operand { OwnsExpr (bench ast.now) operand }
     requires owned { PiecesOwned (bench ast.now) work.old.items }
-    ensures { BeginsExpr (bench ast.now) depth out.old out.new work.old.items work.new.items
-        (UnaryTree operator (tree_of (bench ast.now) operand)) result }
+    ensures { BeginsExpr (bench ast.now) out.old out.new work.old.items work.new.items result
+        (UnaryTree operator (tree_of (bench ast.now) operand)) }
 {
     let wraps = unary_wraps(ast, operand);
     out.word(unary_operator_text(operator))?;
@@ -39,16 +38,14 @@ pub(crate) fn begin_binary(
     operator: BinaryOperator,
     left: Expr,
     right: Expr,
-    depth: usize,
     out: &mut Writer,
     work: &mut Vec<Piece>,
 ) -> Result<(), PrintFault>
     requires left { OwnsExpr (bench ast.now) left }
     requires right { OwnsExpr (bench ast.now) right }
     requires owned { PiecesOwned (bench ast.now) work.old.items }
-    ensures { BeginsExpr (bench ast.now) depth out.old out.new work.old.items work.new.items
-        (BinaryTree operator (tree_of (bench ast.now) left) (tree_of (bench ast.now) right))
-        result }
+    ensures { BeginsExpr (bench ast.now) out.old out.new work.old.items work.new.items result
+        (BinaryTree operator (tree_of (bench ast.now) left) (tree_of (bench ast.now) right)) }
 {
     push_part(ast, right, right_wraps(ast, operator, right), work)?;
     push_plain(ast, binary_operator_text(operator), work)?;
@@ -62,7 +59,6 @@ pub(crate) fn begin_ternary(
     condition: Expr,
     consequent: Expr,
     alternate: Expr,
-    depth: usize,
     out: &mut Writer,
     work: &mut Vec<Piece>,
 ) -> Result<(), PrintFault>
@@ -70,9 +66,9 @@ pub(crate) fn begin_ternary(
     requires consequent { OwnsExpr (bench ast.now) consequent }
     requires alternate { OwnsExpr (bench ast.now) alternate }
     requires owned { PiecesOwned (bench ast.now) work.old.items }
-    ensures { BeginsExpr (bench ast.now) depth out.old out.new work.old.items work.new.items
+    ensures { BeginsExpr (bench ast.now) out.old out.new work.old.items work.new.items result
         (TernaryTree (tree_of (bench ast.now) condition) (tree_of (bench ast.now) consequent)
-        (tree_of (bench ast.now) alternate)) result }
+        (tree_of (bench ast.now) alternate)) }
 {
     push_part(ast, alternate, ternary_wraps(ast, alternate), work)?;
     push_plain(ast, " : ", work)?;
@@ -86,14 +82,13 @@ pub(crate) fn begin_ternary(
 pub(crate) fn begin_posedge(
     ast: &Ast,
     operand: Expr,
-    depth: usize,
     out: &mut Writer,
     work: &mut Vec<Piece>,
 ) -> Result<(), PrintFault>
     requires operand { OwnsExpr (bench ast.now) operand }
     requires owned { PiecesOwned (bench ast.now) work.old.items }
-    ensures { BeginsExpr (bench ast.now) depth out.old out.new work.old.items work.new.items
-        (PosEdgeTree (tree_of (bench ast.now) operand)) result }
+    ensures { BeginsExpr (bench ast.now) out.old out.new work.old.items work.new.items result
+        (PosEdgeTree (tree_of (bench ast.now) operand)) }
 {
     out.word("posedge ")?;
     push_part(ast, operand, false, work)?;
@@ -104,14 +99,13 @@ pub(crate) fn begin_posedge(
 pub(crate) fn begin_negedge(
     ast: &Ast,
     operand: Expr,
-    depth: usize,
     out: &mut Writer,
     work: &mut Vec<Piece>,
 ) -> Result<(), PrintFault>
     requires operand { OwnsExpr (bench ast.now) operand }
     requires owned { PiecesOwned (bench ast.now) work.old.items }
-    ensures { BeginsExpr (bench ast.now) depth out.old out.new work.old.items work.new.items
-        (NegEdgeTree (tree_of (bench ast.now) operand)) result }
+    ensures { BeginsExpr (bench ast.now) out.old out.new work.old.items work.new.items result
+        (NegEdgeTree (tree_of (bench ast.now) operand)) }
 {
     out.word("negedge ")?;
     push_part(ast, operand, false, work)?;

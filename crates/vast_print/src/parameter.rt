@@ -1,6 +1,6 @@
 //! Parameters, in headers and among members.
 
-ghost use Rattle.std.specs.Prelude.{◌≡◌, ◌<◌, ◌^◌, All, map};
+ghost use Rattle.std.specs.Prelude.{◌≡◌, All, map};
 ghost use Rattle.vast_literal.specs.Tree.{ParameterMember};
 ghost use Rattle.vast_literal.specs.Shape.{base_kind, base_of};
 ghost use Rattle.vast_core.specs.Bench.{OwnsExpr, OwnsType, tree_of, type_of};
@@ -8,9 +8,7 @@ ghost use Rattle.vast_core.specs.Records.{parameter_port_record};
 ghost use Rattle.vast_core.specs.Sound.{FormSound, ParameterPortSound};
 ghost use Rattle.vast_core.specs.FileTree.{form_tree, parameter_port_tree};
 ghost use Rattle.vast_core.specs.View.{bench};
-ghost use Rattle.vast_print.specs.Ink.{Wet, hang, pour};
-ghost use Rattle.vast_print.specs.Internal.Ink.{Writes};
-ghost use Rattle.vast_print.specs.Page.{written};
+ghost use Rattle.vast_print.specs.Internal.Ink.{WritesLines, WritesText};
 ghost use Rattle.vast_print.specs.Layout.{parameter_port_text, parameter_ports_page};
 ghost use Rattle.vast_print.specs.Members.{parameter_text, member_page};
 
@@ -43,45 +41,38 @@ fn base_kind(ast: &Ast, t: VastDataType) -> DataKind
 fn print_parameter_port(
     ast: &Ast,
     parameter: &ParameterPort,
-    depth: usize,
     out: &mut Writer,
 ) -> Result<(), PrintFault>
     requires { ParameterPortSound (bench ast.now) (parameter_port_record parameter.now) }
-    ensures { Writes
-        (pour depth (Wet out.old)
-        (written (parameter_port_text (bench ast.now).file_type
-        (parameter_port_tree (bench ast.now) (parameter_port_record parameter.now)))))
-        out.new result }
+    ensures { WritesText out.old out.new result
+        (parameter_port_text (bench ast.now).file_type
+        (parameter_port_tree (bench ast.now) (parameter_port_record parameter.now))) }
 {
     let name = &parameter.name;
     out.word("parameter ")?;
     match parameter.data_type {
-        Some(t) => print_declaration(ast, base_kind(ast, t), t, name, depth, out)?,
-        None => out.written(depth, name)?,
+        Some(t) => print_declaration(ast, base_kind(ast, t), t, name, out)?,
+        None => out.written(name)?,
     }
     out.word(" = ")?;
-    print_expression(ast, parameter.value, depth, out)
+    print_expression(ast, parameter.value, out)
 }
 
 /// Writes the parameters of a header, each on a line one deeper.
 pub(crate) fn print_parameter_ports(
     ast: &Ast,
     parameters: &[ParameterPort],
-    depth: usize,
     out: &mut Writer,
 ) -> Result<(), PrintFault>
     requires owned { All (λ p. ParameterPortSound (bench ast.now) (parameter_port_record p))
         parameters.now }
-    requires room { depth < 2 ^ 63 }
-    ensures { Writes
-        (hang depth (Wet out.old)
+    ensures { WritesLines out.old out.new result
         (parameter_ports_page (bench ast.now).file_type
-        (map (parameter_port_tree (bench ast.now))
-        (map parameter_port_record parameters.now)))) out.new result }
+        (map (parameter_port_tree (bench ast.now)) (map parameter_port_record parameters.now))) }
 {
     for (i, parameter) in parameters.iter().enumerate() {
-        out.next(depth + 1)?;
-        print_parameter_port(ast, parameter, depth, out)?;
+        out.next_inner()?;
+        print_parameter_port(ast, parameter, out)?;
         out.word(words::comma_word(i + 1 < parameters.len()))?;
     }
     Ok(())
@@ -89,28 +80,21 @@ pub(crate) fn print_parameter_ports(
 
 /// Writes what a parameter declares behind the last line.
 #[tactic(auto, using(crate::proofs::ArenaLaws::parameters))]
-fn print_form(
-    ast: &Ast,
-    form: &ParameterForm,
-    depth: usize,
-    out: &mut Writer,
-) -> Result<(), PrintFault>
+fn print_form(ast: &Ast, form: &ParameterForm, out: &mut Writer) -> Result<(), PrintFault>
     requires { FormSound (bench ast.now) form.now }
-    ensures { Writes
-        (pour depth (Wet out.old)
-        (written (parameter_text (bench ast.now).file_type
-        (form_tree (bench ast.now) form.now)))) out.new result }
+    ensures { WritesText out.old out.new result
+        (parameter_text (bench ast.now).file_type (form_tree (bench ast.now) form.now)) }
 {
     match form {
-        ParameterForm::Plain(name) => out.written(depth, name.as_str())?,
+        ParameterForm::Plain(name) => out.written(name.as_str())?,
         ParameterForm::Int(name) => {
             out.word("int ")?;
-            out.written(depth, name.as_str())?;
+            out.written(name.as_str())?;
         }
         ParameterForm::Defined(definition) => {
             let definition = ast.definition(*definition);
             let name = &definition.name;
-            print_declaration(ast, definition.kind, definition.data_type, name, depth, out)?;
+            print_declaration(ast, definition.kind, definition.data_type, name, out)?;
         }
     }
     Ok(())
@@ -123,22 +107,20 @@ pub(crate) fn print_parameter(
     local: bool,
     form: &ParameterForm,
     value: Expr,
-    depth: usize,
     out: &mut Writer,
 ) -> Result<(), PrintFault>
     requires form { FormSound (bench ast.now) form.now }
     requires value { OwnsExpr (bench ast.now) value }
-    ensures { Writes
-        (hang depth (Wet out.old)
+    ensures { WritesLines out.old out.new result
         (member_page (bench ast.now).file_type
         (ParameterMember local (form_tree (bench ast.now) form.now)
-        (tree_of (bench ast.now) value)))) out.new result }
+        (tree_of (bench ast.now) value))) }
 {
-    out.next(depth)?;
+    out.next()?;
     out.word(words::parameter(local))?;
-    print_form(ast, form, depth, out)?;
+    print_form(ast, form, out)?;
     out.word(" = ")?;
-    print_expression(ast, value, depth, out)?;
+    print_expression(ast, value, out)?;
     out.word(";")?;
     Ok(())
 }

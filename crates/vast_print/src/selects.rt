@@ -17,15 +17,14 @@ pub(crate) fn begin_index(
     ast: &Ast,
     subject: Expr,
     index: Expr,
-    depth: usize,
     out: &mut Writer,
     work: &mut Vec<Piece>,
 ) -> Result<(), PrintFault>
     requires subject { OwnsExpr (bench ast.now) subject }
     requires index { OwnsExpr (bench ast.now) index }
     requires owned { PiecesOwned (bench ast.now) work.old.items }
-    ensures { BeginsExpr (bench ast.now) depth out.old out.new work.old.items work.new.items
-        (IndexTree (tree_of (bench ast.now) subject) (tree_of (bench ast.now) index)) result }
+    ensures { BeginsExpr (bench ast.now) out.old out.new work.old.items work.new.items result
+        (IndexTree (tree_of (bench ast.now) subject) (tree_of (bench ast.now) index)) }
 {
     if is_scalar_name(ast, subject) {
         if !is_zero(ast, index) {
@@ -47,7 +46,6 @@ pub(crate) fn begin_slice(
     subject: Expr,
     high: Expr,
     low: Expr,
-    depth: usize,
     out: &mut Writer,
     work: &mut Vec<Piece>,
 ) -> Result<(), PrintFault>
@@ -55,9 +53,9 @@ pub(crate) fn begin_slice(
     requires high { OwnsExpr (bench ast.now) high }
     requires low { OwnsExpr (bench ast.now) low }
     requires owned { PiecesOwned (bench ast.now) work.old.items }
-    ensures { BeginsExpr (bench ast.now) depth out.old out.new work.old.items work.new.items
+    ensures { BeginsExpr (bench ast.now) out.old out.new work.old.items work.new.items result
         (SliceTree (tree_of (bench ast.now) subject) (tree_of (bench ast.now) high)
-        (tree_of (bench ast.now) low)) result }
+        (tree_of (bench ast.now) low)) }
 {
     if is_scalar_name(ast, subject) {
         if !(is_zero(ast, high) && is_zero(ast, low)) {
@@ -80,16 +78,14 @@ pub(crate) fn begin_part_select(
     subject: Expr,
     start: Expr,
     width: i64,
-    depth: usize,
     out: &mut Writer,
     work: &mut Vec<Piece>,
 ) -> Result<(), PrintFault>
     requires subject { OwnsExpr (bench ast.now) subject }
     requires start { OwnsExpr (bench ast.now) start }
     requires owned { PiecesOwned (bench ast.now) work.old.items }
-    ensures { BeginsExpr (bench ast.now) depth out.old out.new work.old.items work.new.items
-        (PartSelectTree (tree_of (bench ast.now) subject) (tree_of (bench ast.now) start) width)
-        result }
+    ensures { BeginsExpr (bench ast.now) out.old out.new work.old.items work.new.items result
+        (PartSelectTree (tree_of (bench ast.now) subject) (tree_of (bench ast.now) start) width) }
 {
     push_plain(ast, "]", work)?;
     push_number(ast, width, work)?;

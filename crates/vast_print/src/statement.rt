@@ -1,13 +1,12 @@
 //! Blocks and statements.
 
-ghost use Rattle.std.specs.Prelude.{◌≡◌, ◌+◌};
 ghost use Rattle.vast_core.specs.Bench.{OwnsBlock};
 ghost use Rattle.vast_core.specs.Nests.{statement_entry};
 ghost use Rattle.vast_core.specs.FileTree.{families, statement_in, block_tree};
 ghost use Rattle.vast_core.specs.View.{bench};
-ghost use Rattle.vast_print.specs.Internal.Fits.{HasRoom, StatementFits};
-ghost use Rattle.vast_print.specs.Ink.{Wet, next, hang, pour};
-ghost use Rattle.vast_print.specs.Internal.Ink.{Writes};
+ghost use Rattle.vast_print.specs.Internal.Statements.{OwnsEntry};
+ghost use Rattle.vast_print.specs.Ink.{Wet, next, pour};
+ghost use Rattle.vast_print.specs.Internal.Ink.{Writes, WritesLines, WritesBehind};
 ghost use Rattle.vast_print.specs.Printed.{plain_text};
 ghost use Rattle.vast_print.specs.Page.{written};
 ghost use Rattle.vast_print.specs.Statements.{statement_page, statements_page, block_page};
@@ -25,20 +24,19 @@ use vast_core::{Ast, Statement, VastStatementBlock};
 pub(crate) fn print_block(
     ast: &Ast,
     b: VastStatementBlock,
-    depth: usize,
     out: &mut Writer,
 ) -> Result<(), PrintFault>
     requires owned { OwnsBlock (bench ast.now) b }
-    requires room { HasRoom depth b.id.index }
-    ensures { Writes (pour depth (Wet out.old) (block_page (block_tree (bench ast.now) b))) out.new
-        result }
+    ensures { WritesBehind out.old out.new result (block_page (block_tree (bench ast.now) b)) }
 {
     if ast.block(b).is_empty() {
         out.word("begin end")?;
     } else {
         out.word("begin")?;
-        print_statements(ast, b, depth + 1, out)?;
-        out.next(depth)?;
+        out.deeper()?;
+        print_statements(ast, b, out)?;
+        out.shallower();
+        out.next()?;
         out.word("end")?;
     }
     Ok(())
@@ -50,16 +48,13 @@ pub(crate) fn print_block(
 pub(crate) fn print_statements(
     ast: &Ast,
     b: VastStatementBlock,
-    depth: usize,
     out: &mut Writer,
 ) -> Result<(), PrintFault>
     requires owned { OwnsBlock (bench ast.now) b }
-    requires room { HasRoom depth (b.id.index + 1) }
-    ensures { Writes (hang depth (Wet out.old) (statements_page (block_tree (bench ast.now) b)))
-        out.new result }
+    ensures { WritesLines out.old out.new result (statements_page (block_tree (bench ast.now) b)) }
 {
     for statement in ast.block(b) {
-        print_statement(ast, statement, depth, out)?;
+        print_statement(ast, statement, out)?;
     }
     Ok(())
 }
@@ -67,39 +62,33 @@ pub(crate) fn print_statements(
 /// Writes a statement on lines of its own.
 #[cycle(print)]
 #[tactic(auto, using(crate::proofs::ContainerLaws::statements))]
-fn print_statement(
-    ast: &Ast,
-    statement: &Statement,
-    depth: usize,
-    out: &mut Writer,
-) -> Result<(), PrintFault>
-    requires { StatementFits (bench ast.now) depth (statement_entry statement.now) }
-    ensures { Writes
-        (hang depth (Wet out.old)
+fn print_statement(ast: &Ast, statement: &Statement, out: &mut Writer) -> Result<(), PrintFault>
+    requires { OwnsEntry (bench ast.now) (statement_entry statement.now) }
+    ensures { WritesLines out.old out.new result
         (statement_page
-        (statement_in (bench ast.now) (families (bench ast.now))
-        (statement_entry statement.now)))) out.new result }
+        (statement_in (bench ast.now) (families (bench ast.now)) (statement_entry statement.now))) }
 {
     match statement {
         Statement::Assignment(s) => {
-            out.next(depth)?;
-            print_assigned(ast, *s, depth, out)
+            out.next()?;
+            print_assigned(ast, *s, out)
         }
-        Statement::Continuous(s) => print_continuous(ast, ast.assignment(*s), depth, out),
-        Statement::Conditional(c) => print_conditional(ast, *c, depth, out),
-        Statement::Case(c) => print_case(ast, *c, depth, out),
-        Statement::BlankLine => Ok(out.next(depth)?),
-        Statement::Comment(text) => Ok(out.comment(depth, text)?),
-        Statement::Inline(text) => print_inline(text, depth, out),
+        Statement::Continuous(s) => print_continuous(ast, ast.assignment(*s), out),
+        Statement::Conditional(c) => print_conditional(ast, *c, out),
+        Statement::Case(c) => print_case(ast, *c, out),
+        Statement::BlankLine => Ok(out.next()?),
+        Statement::Comment(text) => Ok(out.comment(text)?),
+        Statement::Inline(text) => print_inline(text, out),
     }
 }
 
 /// Writes a text as it is, from a line of its own on.
-pub(crate) fn print_inline(text: &str, depth: usize, out: &mut Writer) -> Result<(), PrintFault>
-    ensures { Writes (pour depth (next depth (Wet out.old)) (written (plain_text text.now))) out.new
-        result }
+pub(crate) fn print_inline(text: &str, out: &mut Writer) -> Result<(), PrintFault>
+    ensures { Writes out.old out.new result
+        (pour out.old.margin (next out.old.margin (Wet out.old.draft))
+        (written (plain_text text.now))) }
 {
-    out.next(depth)?;
-    out.written(depth, text)?;
+    out.next()?;
+    out.written(text)?;
     Ok(())
 }

@@ -5,9 +5,8 @@ ghost use Rattle.std.specs.Fmt.{signed_decimal};
 ghost use Rattle.vast_literal.specs.Shape.{base_of, packed_dimensions, unpacked_dimensions, is_external};
 ghost use Rattle.vast_core.specs.Bench.{OwnsExpr, OwnsType, tree_of, type_of};
 ghost use Rattle.vast_core.specs.View.{bench};
-ghost use Rattle.vast_print.specs.Ink.{Wet, word, pour};
-ghost use Rattle.vast_print.specs.Internal.Ink.{Writes};
-ghost use Rattle.vast_print.specs.Page.{written};
+ghost use Rattle.vast_print.specs.Ink.{Wet, word};
+ghost use Rattle.vast_print.specs.Internal.Ink.{Writes, WritesText};
 ghost use Rattle.vast_print.specs.Printed.{plain_text, spaced};
 ghost use Rattle.vast_print.specs.Declaration.{packed_text, unpacked_range, unpacked_text, type_text, highest_index_text};
 ghost use Rattle.vast_print.specs.Internal.Words.{has_text};
@@ -33,7 +32,8 @@ pub(crate) fn is_external(ast: &Ast, t: VastDataType) -> bool
 
 /// The highest index of a number of elements or bits: the number minus one.
 pub(crate) fn print_highest_index(value: i64, out: &mut Writer) -> Result<(), PrintFault>
-    ensures { Writes (word (Wet out.old) (signed_decimal (value -ℤ pos 1))) out.new result }
+    ensures { Writes out.old out.new result
+        (word (Wet out.old.draft) (signed_decimal (value -ℤ pos 1))) }
 {
     if value == i64::MIN {
         out.word("-9223372036854775809")?;
@@ -44,10 +44,8 @@ pub(crate) fn print_highest_index(value: i64, out: &mut Writer) -> Result<(), Pr
 }
 
 #[tactic(auto, using(crate::proofs::PrintLaws::ranges))]
-fn print_packed_ranges(dimensions: &[i64], depth: usize, out: &mut Writer) -> Result<(), PrintFault>
-    ensures { Writes
-        (pour depth (Wet out.old) (written (plain_text (packed_text dimensions.now)))) out.new
-        result }
+fn print_packed_ranges(dimensions: &[i64], out: &mut Writer) -> Result<(), PrintFault>
+    ensures { WritesText out.old out.new result (plain_text (packed_text dimensions.now)) }
 {
     for dimension in dimensions.iter() {
         out.word("[")?;
@@ -85,23 +83,16 @@ fn has_packed(ast: &Ast, t: VastDataType) -> bool
 
 /// Writes all packed dimensions of a type, the outermost array's first.
 #[tactic(auto, using(crate::proofs::PrintLaws::packed))]
-fn print_packed(
-    ast: &Ast,
-    t: VastDataType,
-    depth: usize,
-    out: &mut Writer,
-) -> Result<(), PrintFault>
+fn print_packed(ast: &Ast, t: VastDataType, out: &mut Writer) -> Result<(), PrintFault>
     requires { OwnsType (bench ast.now) t }
-    ensures { Writes
-        (pour depth (Wet out.old)
-        (written (plain_text (packed_text (packed_dimensions (type_of (bench ast.now) t))))))
-        out.new result }
+    ensures { WritesText out.old out.new result
+        (plain_text (packed_text (packed_dimensions (type_of (bench ast.now) t)))) }
 {
     let mut inner = t;
     loop {
         match ast.data_type(inner) {
             TypeNode::Packed(element, dimensions) => {
-                print_packed_ranges(dimensions, depth, out)?;
+                print_packed_ranges(dimensions, out)?;
                 inner = *element;
             }
             TypeNode::Unpacked(element, _) => inner = *element,
@@ -117,20 +108,13 @@ fn print_packed(
 
 /// Writes all packed dimensions of a type and the space behind them, where there are any.
 #[tactic(auto, using(crate::proofs::PrintLaws::spaces))]
-fn print_spaced_packed(
-    ast: &Ast,
-    t: VastDataType,
-    depth: usize,
-    out: &mut Writer,
-) -> Result<(), PrintFault>
+fn print_spaced_packed(ast: &Ast, t: VastDataType, out: &mut Writer) -> Result<(), PrintFault>
     requires { OwnsType (bench ast.now) t }
-    ensures { Writes
-        (pour depth (Wet out.old)
-        (written (spaced (plain_text
-        (packed_text (packed_dimensions (type_of (bench ast.now) t))))))) out.new result }
+    ensures { WritesText out.old out.new result
+        (spaced (plain_text (packed_text (packed_dimensions (type_of (bench ast.now) t))))) }
 {
     if has_packed(ast, t) {
-        print_packed(ast, t, depth, out)?;
+        print_packed(ast, t, out)?;
         out.word(" ")?;
     }
     Ok(())
@@ -138,12 +122,11 @@ fn print_spaced_packed(
 
 /// Writes a name and the space behind it, where it isn't empty.
 #[tactic(auto, using(crate::proofs::PrintLaws::spaces))]
-fn print_spaced_name(name: &str, depth: usize, out: &mut Writer) -> Result<(), PrintFault>
-    ensures { Writes (pour depth (Wet out.old) (written (spaced (plain_text name.now)))) out.new
-        result }
+fn print_spaced_name(name: &str, out: &mut Writer) -> Result<(), PrintFault>
+    ensures { WritesText out.old out.new result (spaced (plain_text name.now)) }
 {
     if !name.is_empty() {
-        out.written(depth, name)?;
+        out.written(name)?;
         out.word(" ")?;
     }
     Ok(())
@@ -155,19 +138,16 @@ fn print_highest_bit(
     ast: &Ast,
     width: Expr,
     value: Option<i64>,
-    depth: usize,
     out: &mut Writer,
 ) -> Result<(), PrintFault>
     requires { OwnsExpr (bench ast.now) width }
-    ensures { Writes
-        (pour depth (Wet out.old)
-        (written (highest_index_text (tree_of (bench ast.now) width) value)))
-        out.new result }
+    ensures { WritesText out.old out.new result
+        (highest_index_text (tree_of (bench ast.now) width) value) }
 {
     match value {
         Some(value) => print_highest_index(value, out),
         None => {
-            print_wrapped(ast, width, highest_index_wraps(ast, width), depth, out)?;
+            print_wrapped(ast, width, highest_index_wraps(ast, width), out)?;
             out.word(" - 1")?;
             Ok(())
         }
@@ -176,51 +156,44 @@ fn print_highest_bit(
 
 /// Writes a type, and the space behind it where it isn't empty.
 #[tactic(auto, using(crate::proofs::PrintLaws::types))]
-pub(crate) fn print_type(
-    ast: &Ast,
-    t: VastDataType,
-    depth: usize,
-    out: &mut Writer,
-) -> Result<(), PrintFault>
+pub(crate) fn print_type(ast: &Ast, t: VastDataType, out: &mut Writer) -> Result<(), PrintFault>
     requires { OwnsType (bench ast.now) t }
-    ensures { Writes
-        (pour depth (Wet out.old) (written (spaced (type_text (type_of (bench ast.now) t)))))
-        out.new result }
+    ensures { WritesText out.old out.new result (spaced (type_text (type_of (bench ast.now) t))) }
 {
     match ast.data_type(ast.base_type(t)) {
         TypeNode::Scalar(signed) => {
             out.word(words::signed(*signed))?;
-            print_spaced_packed(ast, t, depth, out)
+            print_spaced_packed(ast, t, out)
         }
         TypeNode::Vector(width, value, signed) => {
             out.word(words::signed(*signed))?;
-            print_packed(ast, t, depth, out)?;
+            print_packed(ast, t, out)?;
             out.word("[")?;
-            print_highest_bit(ast, *width, *value, depth, out)?;
+            print_highest_bit(ast, *width, *value, out)?;
             out.word(":0] ")?;
             Ok(())
         }
         TypeNode::Integer(signed) => {
             out.word(words::unsigned(*signed))?;
-            print_spaced_packed(ast, t, depth, out)
+            print_spaced_packed(ast, t, out)
         }
         TypeNode::Int(signed) => {
             out.word(words::unsigned(*signed))?;
-            print_spaced_packed(ast, t, depth, out)
+            print_spaced_packed(ast, t, out)
         }
         TypeNode::External(name) => {
-            print_spaced_name(name, depth, out)?;
-            print_spaced_packed(ast, t, depth, out)
+            print_spaced_name(name, out)?;
+            print_spaced_packed(ast, t, out)
         }
         TypeNode::Package(package) => {
-            out.written(depth, &package.package_name)?;
+            out.written(&package.package_name)?;
             out.word("::")?;
-            out.written(depth, &package.name)?;
+            out.written(&package.name)?;
             out.word(" ")?;
-            print_spaced_packed(ast, t, depth, out)
+            print_spaced_packed(ast, t, out)
         }
-        TypeNode::Packed(_, _) => print_spaced_packed(ast, t, depth, out),
-        TypeNode::Unpacked(_, _) => print_spaced_packed(ast, t, depth, out),
+        TypeNode::Packed(_, _) => print_spaced_packed(ast, t, out),
+        TypeNode::Unpacked(_, _) => print_spaced_packed(ast, t, out),
     }
 }
 
@@ -229,12 +202,9 @@ pub(crate) fn print_type(
 fn print_unpacked_range(
     file_type: VastFileType,
     dimension: i64,
-    depth: usize,
     out: &mut Writer,
 ) -> Result<(), PrintFault>
-    ensures { Writes
-        (pour depth (Wet out.old) (written (plain_text (unpacked_range file_type dimension))))
-        out.new result }
+    ensures { WritesText out.old out.new result (plain_text (unpacked_range file_type dimension)) }
 {
     match file_type {
         VastFileType::Verilog => {
@@ -254,15 +224,13 @@ fn print_unpacked_range(
 fn print_unpacked_ranges(
     file_type: VastFileType,
     dimensions: &[i64],
-    depth: usize,
     out: &mut Writer,
 ) -> Result<(), PrintFault>
-    ensures { Writes
-        (pour depth (Wet out.old) (written (plain_text (unpacked_text file_type dimensions.now))))
-        out.new result }
+    ensures { WritesText out.old out.new result
+        (plain_text (unpacked_text file_type dimensions.now)) }
 {
     for dimension in dimensions.iter() {
-        print_unpacked_range(file_type, *dimension, depth, out)?;
+        print_unpacked_range(file_type, *dimension, out)?;
     }
     Ok(())
 }
@@ -272,22 +240,19 @@ fn print_unpacked_ranges(
 pub(crate) fn print_dimensions(
     ast: &Ast,
     t: VastDataType,
-    depth: usize,
     out: &mut Writer,
 ) -> Result<(), PrintFault>
     requires { OwnsType (bench ast.now) t }
-    ensures { Writes
-        (pour depth (Wet out.old)
-        (written (plain_text
-        (unpacked_text (bench ast.now).file_type
-        (unpacked_dimensions (type_of (bench ast.now) t)))))) out.new result }
+    ensures { WritesText out.old out.new result
+        (plain_text (unpacked_text (bench ast.now).file_type
+        (unpacked_dimensions (type_of (bench ast.now) t)))) }
 {
     let file_type = ast.file_type();
     let mut inner = t;
     loop {
         match ast.data_type(inner) {
             TypeNode::Unpacked(element, dimensions) => {
-                print_unpacked_ranges(file_type, dimensions, depth, out)?;
+                print_unpacked_ranges(file_type, dimensions, out)?;
                 inner = *element;
             }
             TypeNode::Packed(element, _) => inner = *element,

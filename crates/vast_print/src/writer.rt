@@ -1,10 +1,10 @@
 //! Writes lines with depths into one growing text.
 
-ghost use Rattle.std.specs.Prelude.{◌≡◌, ◌++◌, ◌*◌, ◌<◌, [], replicate, OnOk, IfOk, string_bytes};
+ghost use Rattle.std.specs.Prelude.{◌≡◌, ◌++◌, ◌+◌, ◌-◌, ◌*◌, ◌<◌, [], replicate, OnOk, IfOk, string_bytes};
 ghost use Rattle.std.specs.Fmt.{decimal, signed_decimal};
 ghost use Rattle.vast_print.specs.Printed.{plain_text};
 ghost use Rattle.vast_print.specs.Page.{line, written, commented};
-ghost use Rattle.vast_print.specs.Draft.{unwritten, whole};
+ghost use Rattle.vast_print.specs.Draft.{blank, whole};
 ghost use Rattle.vast_print.specs.Ink.{Wet, onto, word, next, hang, pour};
 
 use std::alloc::{AllocError, Global};
@@ -12,10 +12,13 @@ use std::fmt::Write;
 use std::marker::Model;
 
 /// A text that grows line by line. A line break stands before each line but the first, and the
-/// spaces of a line come with its first word, so an empty line has none.
+/// spaces of a line come with its first word, so an empty line has none. Lines begin at the margin.
 #[derive(Drop)]
 pub struct Writer {
     text: String,
+    /// At which depth lines begin; a depth is two spaces.
+    margin: usize,
+    /// At which depth the last line began.
     depth: usize,
     fresh: bool,
     begun: bool,
@@ -23,33 +26,76 @@ pub struct Writer {
 
 impl Model for Writer {
     ghost use Rattle.std.specs.Prelude.{string_bytes};
-    ghost use Rattle.vast_print.specs.Draft.{Draft};
+    ghost use Rattle.vast_print.specs.Draft.{Writing};
 
-    ghost Value = { Draft };
+    ghost Value = { Writing };
 
-    ghost view = { λ w. record { text = string_bytes w.text; depth = w.depth; fresh = w.fresh; begun = w.begun } };
+    ghost view = { λ w. record { draft = record { text = string_bytes w.text; depth = w.depth; fresh = w.fresh; begun = w.begun }; margin = w.margin } };
 }
 
 impl Writer {
-    /// A writer of an empty text.
+    /// A writer of an empty text, at no margin.
     pub fn new(alloc: Global) -> Writer
-        ensures { result ≡ unwritten }
+        ensures { result ≡ blank }
     {
         Writer {
             text: String::new(alloc),
+            margin: 0,
             depth: 0,
             fresh: true,
             begun: false,
         }
     }
 
-    /// Begins a line at a depth.
+    /// Lets the lines that are begun from here on stand one deeper.
+    ///
+    /// # Errors
+    /// `AllocError` where no memory could hold as many spaces.
+    pub fn deeper(&mut self) -> Result<(), AllocError>
+        ensures draft { self.new.draft ≡ self.old.draft }
+        ensures margin { OnOk result (self.new.margin ≡ self.old.margin + 1) }
+    {
+        self.margin = one_deeper(self.margin)?;
+        Ok(())
+    }
+
+    /// Lets the lines that are begun from here on stand one less deep.
+    pub fn shallower(&mut self)
+        ensures draft { self.new.draft ≡ self.old.draft }
+        ensures margin { self.new.margin ≡ self.old.margin - 1 }
+    {
+        self.margin = self.margin.saturating_sub(1);
+    }
+
+    /// Begins a line at the margin.
     ///
     /// # Errors
     /// `AllocError` where the text's growth was refused.
+    pub fn next(&mut self) -> Result<(), AllocError>
+        ensures text { OnOk result
+            (next self.old.margin (Wet self.old.draft) ≡ Wet self.new.draft) }
+        ensures margin { self.new.margin ≡ self.old.margin }
+    {
+        self.begin_line(self.margin)
+    }
+
+    /// Begins a line one deeper than the margin; the margin stays.
+    ///
+    /// # Errors
+    /// As [`Writer::next`] and [`Writer::deeper`].
+    pub fn next_inner(&mut self) -> Result<(), AllocError>
+        ensures text { OnOk result
+            (next (self.old.margin + 1) (Wet self.old.draft) ≡ Wet self.new.draft) }
+        ensures margin { self.new.margin ≡ self.old.margin }
+    {
+        let depth = one_deeper(self.margin)?;
+        self.begin_line(depth)
+    }
+
     #[tactic(auto, unfolding(crate::specs::Ink::next))]
-    pub fn next(&mut self, depth: usize) -> Result<(), AllocError>
-        ensures { OnOk result (next depth (Wet self.old) ≡ Wet self.new) }
+    fn begin_line(&mut self, depth: usize) -> Result<(), AllocError>
+        ensures text { OnOk result (next depth (Wet self.old.draft) ≡ Wet self.new.draft) }
+        ensures margin { self.new.margin ≡ self.old.margin }
     {
         if self.begun {
             self.text.push('\n')?;
@@ -67,7 +113,8 @@ impl Writer {
     #[inline(always)]
     #[tactic(auto, unfolding(crate::specs::Ink::word))]
     pub fn word(&mut self, text: &str) -> Result<(), AllocError>
-        ensures { OnOk result (word (Wet self.old) text.now ≡ Wet self.new) }
+        ensures text { OnOk result (word (Wet self.old.draft) text.now ≡ Wet self.new.draft) }
+        ensures margin { self.new.margin ≡ self.old.margin }
     {
         if text.is_empty() {
             return Ok(());
@@ -78,7 +125,8 @@ impl Writer {
 
     #[inline(always)]
     fn begin_word(&mut self) -> Result<(), AllocError>
-        ensures { OnOk result (self.new ≡ onto self.old []) }
+        ensures text { OnOk result (self.new.draft ≡ onto self.old.draft []) }
+        ensures margin { self.new.margin ≡ self.old.margin }
     {
         if self.fresh {
             indent(self.depth, &mut self.text)?;
@@ -92,48 +140,56 @@ impl Writer {
     /// # Errors
     /// `AllocError` where the text's growth was refused.
     pub fn number(&mut self, number: i64) -> Result<(), AllocError>
-        ensures { OnOk result (word (Wet self.old) (signed_decimal number) ≡ Wet self.new) }
+        ensures text { OnOk result
+            (word (Wet self.old.draft) (signed_decimal number) ≡ Wet self.new.draft) }
+        ensures margin { self.new.margin ≡ self.old.margin }
     {
         self.begin_word()?;
         push_number(number, &mut self.text)?;
         Ok(())
     }
 
-    /// Writes a text behind the last line; what stands behind its line breaks goes on at the depth.
+    /// Writes a text behind the last line; what stands behind its line breaks goes on at the margin.
     ///
     /// # Errors
     /// `AllocError` where the text's growth was refused.
-    pub fn written(&mut self, depth: usize, text: &str) -> Result<(), AllocError>
-        ensures { OnOk result
-            (pour depth (Wet self.old) (written (plain_text text.now)) ≡ Wet self.new) }
+    pub fn written(&mut self, text: &str) -> Result<(), AllocError>
+        ensures text { OnOk result
+            (pour self.old.margin (Wet self.old.draft) (written (plain_text text.now))
+            ≡ Wet self.new.draft) }
+        ensures margin { self.new.margin ≡ self.old.margin }
     {
         if text.as_bytes().contains(&b'\n') {
-            self.lines(depth, text)
+            self.lines(text)
         } else {
             self.word(text)
         }
     }
 
     /// Writes a text line by line.
-    fn lines(&mut self, depth: usize, text: &str) -> Result<(), AllocError>
-        ensures { OnOk result
-            (pour depth (Wet self.old) (written (plain_text text.now)) ≡ Wet self.new) }
+    fn lines(&mut self, text: &str) -> Result<(), AllocError>
+        ensures text { OnOk result
+            (pour self.old.margin (Wet self.old.draft) (written (plain_text text.now))
+            ≡ Wet self.new.draft) }
+        ensures margin { self.new.margin ≡ self.old.margin }
     {
         let mut rest = text;
         while let Some((line, more)) = rest.split_once('\n') {
             self.word(line)?;
-            self.next(depth)?;
+            self.next()?;
             rest = more;
         }
         self.word(rest)
     }
 
     #[tactic(auto, using(crate::proofs::InkLaws::comments))]
-    fn comment_line(&mut self, depth: usize, text: &str) -> Result<(), AllocError>
-        ensures { OnOk result
-            (hang depth (Wet self.old) (commented (line text.now)) ≡ Wet self.new) }
+    fn comment_line(&mut self, text: &str) -> Result<(), AllocError>
+        ensures text { OnOk result
+            (hang self.old.margin (Wet self.old.draft) (commented (line text.now))
+            ≡ Wet self.new.draft) }
+        ensures margin { self.new.margin ≡ self.old.margin }
     {
-        self.next(depth)?;
+        self.next()?;
         if text.is_empty() {
             self.word("//")
         } else {
@@ -146,16 +202,18 @@ impl Writer {
     ///
     /// # Errors
     /// `AllocError` where the text's growth was refused.
-    pub fn comment(&mut self, depth: usize, text: &str) -> Result<(), AllocError>
-        ensures { OnOk result
-            (hang depth (Wet self.old) (commented (written (plain_text text.now))) ≡ Wet self.new) }
+    pub fn comment(&mut self, text: &str) -> Result<(), AllocError>
+        ensures text { OnOk result
+            (hang self.old.margin (Wet self.old.draft) (commented (written (plain_text text.now)))
+            ≡ Wet self.new.draft) }
+        ensures margin { self.new.margin ≡ self.old.margin }
     {
         let mut rest = text;
         while let Some((line, more)) = rest.split_once('\n') {
-            self.comment_line(depth, line)?;
+            self.comment_line(line)?;
             rest = more;
         }
-        self.comment_line(depth, rest)
+        self.comment_line(rest)
     }
 
     /// The whole text, each line with a line break behind it.
@@ -164,7 +222,7 @@ impl Writer {
     /// `AllocError` where the text's growth was refused.
     #[tactic(auto, unfolding(crate::specs::Draft::whole))]
     pub fn finish(self) -> Result<String, AllocError>
-        ensures { IfOk result (λ text. string_bytes text ≡ whole self) }
+        ensures { IfOk result (λ text. string_bytes text ≡ whole self.draft) }
     {
         let mut whole = self.text;
         if self.begun {
@@ -175,10 +233,17 @@ impl Writer {
 
     /// The text without the line break behind its last line.
     pub fn finish_line(self) -> String
-        ensures { string_bytes result ≡ self.text }
+        ensures { string_bytes result ≡ self.draft.text }
     {
         self.text
     }
+}
+
+/// The depth below a depth.
+fn one_deeper(depth: usize) -> Result<usize, AllocError>
+    ensures { IfOk result (λ deeper. deeper ≡ depth + 1) }
+{
+    depth.checked_add(1).ok_or(AllocError)
 }
 
 fn indent(depth: usize, text: &mut String) -> Result<(), AllocError>

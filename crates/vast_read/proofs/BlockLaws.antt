@@ -2,7 +2,7 @@
 use Rattle.std.proofs.Common.{◌≡◌, ◌≢◌, ◌↔◌, ◌<◌, true, false, List, [], ◌∷◌, length, Option, Some, None, map, option_map, refl, sym, ap, ◌∙◌, arith}
 use Rattle.vast_literal.specs.NormalExpr.{NormalExpr, Name}
 use Rattle.vast_literal.specs.NormalFile as normal
-use Rattle.vast_literal.specs.NormalFile.{NormalStatement, NormalStatements, Done, Arms, Only, Otherwise, Or, Labels}
+use Rattle.vast_literal.specs.NormalFile.{NormalStatement, NormalStatements, Arms, Or}
 use Rattle.vast_read.specs.Texts.{key_of}
 use Rattle.vast_read.specs.StatementParts.{ChoicePart, arms_of, last_arm}
 use Rattle.vast_read.specs.StatementView.{block_view}

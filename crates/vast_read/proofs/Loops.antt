@@ -1,8 +1,8 @@
 -- The laws that the steps of the machine are proved by.
-use Rattle.vast_read.proofs.Steps.{then_some, then_none, either_some, either_none, key_cast_no, key_cast_yes, macro_reads, marked_brace, marked_paren, marked_tick, number_reads, part_reads, pattern_reads, primary_based, primary_end, primary_key, primary_keyword, primary_macro, primary_mark, primary_number, primary_operator, primary_quoted, primary_system, primary_word, word_reads}
+use Rattle.vast_read.proofs.Steps.{then_some, then_none, either_some, either_none, macro_reads, marked_brace, marked_paren, marked_tick, number_reads, part_reads, pattern_reads, primary_based, primary_end, primary_key, primary_keyword, primary_macro, primary_mark, primary_number, primary_operator, primary_quoted, primary_system, primary_word, word_reads}
 use Rattle.vast_read.proofs.Calls.{name_calls, macro_calls, system_lacks, system_calls}
-use Rattle.vast_read.proofs.Waits.{starts, target_starts, resumed_target, done, primary_stands, operand_stands, whole_stands, then_nothing, then_stands, due_sign, due_primary, operand_tight, operand_ends, operand_asks, operand_from, operand_loose, asked_no, asked_yes, selects_end, selects_open, resumed_prefix, resumed_infix, resumed_then, resumed_else, resumed_paren, resumed_index, resumed_slice, resumed_cast, resumed_package, resumed_word, resumed_brace, resumed_list, paren_waits, slice_ends, cast_waits, cast_ends, package_ends, word_ends, opened_reads}
-use Rattle.vast_read.proofs.ListWaits.{patterns_list, listing_ends, listing_waits, part_waits, part_ends, brace_empty, brace_waits, brace_replicates, brace_concat}
+use Rattle.vast_read.proofs.Waits.{starts, target_starts, resumed_target, done, primary_stands, operand_stands, whole_stands, then_nothing, then_stands, due_sign, due_primary, operand_tight, operand_ends, operand_asks, operand_from, operand_loose, asked_no, asked_yes, selects_end, selects_open, resumed_prefix, resumed_infix, resumed_then, resumed_else, resumed_paren, resumed_index, resumed_slice, resumed_cast, resumed_package, resumed_word, resumed_brace, resumed_list, paren_waits, slice_ends, cast_ends, package_ends, word_ends, opened_reads}
+use Rattle.vast_read.proofs.ListWaits.{patterns_list, listing_ends, listing_waits, brace_empty, brace_waits, brace_replicates, brace_concat}
 
 pub ruleset basics = (then_some, then_none, either_some, either_none)
 

@@ -61,13 +61,9 @@ impl Talk {
         ensures number { result.number ≡ 0 }
         ensures talking { IsTalking result }
     {
-        Talk {
-            alloc,
-            has_lint: true,
-            session: None,
-            lint: None,
-            number: 0,
-        }
+        let mut talk = Talk::new(alloc);
+        talk.has_lint = true;
+        talk
     }
 
     /// Takes the next line, without its line feed, and answers what it gave, an object of JSON with a line break.

@@ -1,7 +1,7 @@
 //! Reusable parts of members and statements: definitions, blank lines, comments, inline text, macros and assignments,
 //! as in the crate `xlsynth-vast`. A part that was made stands nowhere until it is added.
 
-ghost use Rattle.std.specs.Prelude.{◌≡◌, true, false};
+ghost use Rattle.std.specs.Prelude.{true, false};
 ghost use Rattle.vast_core.specs.Bench.{OwnsExpr, OwnsType, OwnsMacroRef};
 ghost use Rattle.vast_core.specs.Records.{BlankLineRecord, CommentRecord, InlineRecord, MacroRecord};
 ghost use Rattle.vast_core.specs.Growth.{Builds, next_continuous, with_assignment};

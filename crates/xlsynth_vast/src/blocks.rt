@@ -1,7 +1,7 @@
 //! Statements of blocks: assignments, comments, texts and blank lines (IEEE 1800-2017, 10.4), as in the crate
 //! `xlsynth-vast`.
 
-ghost use Rattle.std.specs.Prelude.{◌≡◌, true, false};
+ghost use Rattle.std.specs.Prelude.{true, false};
 ghost use Rattle.vast_core.specs.Bench.{OwnsBlock, OwnsExpr};
 ghost use Rattle.vast_core.specs.Nests.{AssignStatement, ContinuousStatement, BlankStatement, CommentStatement, InlineStatement};
 ghost use Rattle.vast_core.specs.Growth.{Builds, Leaves, with_assignment};

@@ -1,6 +1,6 @@
 //! Case statements (IEEE 1800-2017, 12.5), as in the crate `xlsynth-vast`, and `casex`, which that crate has not.
 
-ghost use Rattle.std.specs.Prelude.{◌≡◌, None, Some};
+ghost use Rattle.std.specs.Prelude.{None, Some};
 ghost use Rattle.vast_core.specs.Bench.{OwnsBlock, OwnsExpr, OwnsCase};
 ghost use Rattle.vast_core.specs.Nests.{CasesStatement};
 ghost use Rattle.vast_core.specs.Growth.{Builds};

@@ -1,6 +1,6 @@
 //! Hoisting of declarations, as in the crate `xlsynth-vast`.
 
-ghost use Rattle.std.specs.Prelude.{◌≡◌, ◌≤◌, length};
+ghost use Rattle.std.specs.Prelude.{◌≤◌, length};
 ghost use Rattle.vast_core.specs.Bench.{OwnsModule};
 ghost use Rattle.vast_core.specs.Growth.{Leaves};
 ghost use Rattle.vast_core.specs.Hoisting.{with_hoisted};

@@ -1,7 +1,6 @@
 //! What stands between a file's modules: inclusions (IEEE 1800-2017, 22.4), comments (5.4) and blank lines, as in the
 //! crate `xlsynth-vast`.
 
-ghost use Rattle.std.specs.Prelude.{◌≡◌};
 ghost use Rattle.vast_core.specs.Bench.{OwnsBlankLine};
 ghost use Rattle.vast_core.specs.Records.{IncludeEntry, FileCommentEntry, FileBlankEntry};
 ghost use Rattle.vast_core.specs.Growth.{Leaves, with_item};

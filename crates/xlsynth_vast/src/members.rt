@@ -1,6 +1,5 @@
 //! Members of modules that are made beforehand, as in the crate `xlsynth-vast`. One part may be added more than once.
 
-ghost use Rattle.std.specs.Prelude.{◌≡◌};
 ghost use Rattle.vast_core.specs.Bench.{OwnsModule, OwnsContinuous, OwnsBlankLine, OwnsComment, OwnsInline, OwnsMacroStatement, OwnsInstantiation};
 ghost use Rattle.vast_core.specs.declared.node.Member.TheVariants.{ContinuousAssignment as AssignmentEntry, BlankLine as BlankEntry, Comment as CommentEntry, Inline as InlineEntry, Macro as MacroEntry, Instantiation as InstanceEntry};
 ghost use Rattle.vast_core.specs.Growth.{Leaves, with_member};

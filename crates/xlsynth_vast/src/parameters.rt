@@ -2,7 +2,7 @@
 //!
 //! The names of parameters aren't among those that a module keeps distinct.
 
-ghost use Rattle.std.specs.Prelude.{◌≡◌, true, false, None, Some};
+ghost use Rattle.std.specs.Prelude.{true, false, None, Some};
 ghost use Rattle.vast_core.specs.Bench.{OwnsModule, OwnsExpr, OwnsType, OwnsDef};
 ghost use Rattle.vast_core.specs.Growth.{Builds, next_logic_ref};
 ghost use Rattle.vast_core.specs.Parameters.{next_parameter_ref, next_localparam_ref, with_parameter_port, with_plain_parameter, with_int_parameter, with_defined_parameter};

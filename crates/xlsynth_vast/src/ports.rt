@@ -3,7 +3,6 @@
 //! A module's ports, wires, variables and functions share one set of names. That a port's name is free is the caller's
 //! to know; [`VastFile::name_is_free`] is the test.
 
-ghost use Rattle.std.specs.Prelude.{◌≡◌};
 ghost use Rattle.vast_core.specs.Bench.{OwnsModule, OwnsType, NameIsFree};
 ghost use Rattle.vast_core.specs.Growth.{Builds, next_logic_ref, with_port};
 ghost use Rattle.xlsynth_vast.specs.Keeps.{Keeps};

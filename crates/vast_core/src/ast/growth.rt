@@ -1,17 +1,18 @@
 //! The one growth of the arenas: nodes that come, and the entry of a list that names them.
 
-ghost use Rattle.std.specs.Prelude.{◌≡◌, ◌+◌, ◌-◌, ◌≤◌, ◌<◌, OnOk, OnErr, length, map, vec_capacity, vec_len};
+ghost use Rattle.std.specs.Prelude.{◌≡◌, ◌-◌, ◌<◌, OnOk, OnErr, length, map, vec_capacity, vec_len};
 ghost use Rattle.vast_core.specs.Records.{module_record, file_entry, parameter_port_record, changed_at, with_port, with_parameter_port, with_member, with_named_member};
 ghost use Rattle.vast_core.specs.Nests.{nest_record, statement_entry, function_record};
 ghost use Rattle.vast_core.specs.Functions.{with_listed_variable};
 ghost use Rattle.vast_core.specs.Containers.{StatementEnters, ElseIfEnters, ElseEnters, CaseArmEnters, MemberEnters, with_entry};
-ghost use Rattle.vast_core.specs.Internal.Containers.{with_listed, listed_modules, listed_nests, listed_functions, listed_items, listed_spare, spare_left, GrowthSound, HasRoom, after_growth};
+ghost use Rattle.vast_core.specs.Internal.Containers.{with_listed, listed_modules, listed_nests, listed_functions, listed_items, listed_spare, GrowthSound, HasRoom, after_growth};
 ghost use Rattle.vast_core.specs.Internal.Arrivals.{entry_of, name_of, listing_of, fresh_of, ListingThere};
 ghost use Rattle.vast_core.specs.Growth.{GrowsBy};
 ghost use Rattle.vast_core.specs.View.{bench};
 
 use crate::ast::Ast;
 use crate::ast::arrivals::{Arrivals, settle_block, settle_node, settle_terms};
+use crate::ast::spare::spare_left;
 use crate::handle::{ModulePort, VastFunction, VastModule, VastStatementBlock};
 use crate::node::{
     CaseArm, ElseIf, FileItem, Function, FunctionVariable, Member, Module, Nest, ParameterPort,
@@ -332,14 +333,6 @@ fn enter(
             Ok(())
         }
     }
-}
-
-/// The spare block, unless it is used.
-#[inline(always)]
-fn spare_left(used: bool, spare: Option<VastStatementBlock>) -> Option<VastStatementBlock>
-    ensures { result ≡ spare_left used spare }
-{
-    if used { None } else { spare }
 }
 
 impl Ast {

@@ -1,6 +1,6 @@
 //! Generate loops.
 
-ghost use Rattle.std.specs.Prelude.{[], ◌≡◌, ◌<◌, ◌^◌, All, None, Some, slice_get, string_bytes};
+ghost use Rattle.std.specs.Prelude.{◌≡◌, ◌<◌, ◌^◌, All, Some, slice_get, string_bytes};
 ghost use Rattle.vast_core.specs.Records.{LoopEntry};
 ghost use Rattle.vast_core.specs.Nests.{label_bytes, loop_record, LoopNestRecord};
 ghost use Rattle.vast_core.specs.Bench.{OwnsLoop, OwnsExpr, OwnsLogicRef, tree_of};

@@ -1,6 +1,5 @@
 //! Declarations among the members of modules.
 
-ghost use Rattle.std.specs.Prelude.{◌≡◌};
 ghost use Rattle.vast_core.specs.WrittenKinds.{IsOwnKind};
 ghost use Rattle.vast_core.specs.Bench.{NameIsFree, OwnsModule, OwnsType};
 ghost use Rattle.vast_core.specs.Growth.{Grows, with_declaration, next_logic_ref};

@@ -1,6 +1,6 @@
 //! Parameters of modules and generate loops, in headers and among members.
 
-ghost use Rattle.std.specs.Prelude.{◌≡◌, IfOk, false, true, None, IfSome};
+ghost use Rattle.std.specs.Prelude.{IfOk, false, true, IfSome};
 ghost use Rattle.vast_core.specs.declared.ast.scope.Scope.TheVariants.{Module as ScopeModule};
 ghost use Rattle.vast_core.specs.Bench.{OwnsModule, OwnsExpr, OwnsType};
 ghost use Rattle.vast_core.specs.Sound.{FormSound};

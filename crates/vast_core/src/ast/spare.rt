@@ -3,6 +3,7 @@
 ghost use Rattle.std.specs.Prelude.{◌≡◌};
 ghost use Rattle.vast_core.specs.Growth.{Grows};
 ghost use Rattle.vast_core.specs.Containers.{next_block, with_spare_block};
+ghost use Rattle.vast_core.specs.Internal.Containers.{spare_left};
 ghost use Rattle.vast_core.specs.View.{bench};
 
 use crate::ast::Ast;
@@ -41,4 +42,15 @@ impl Ast {
     {
         self.spare
     }
+}
+
+/// The spare block, unless it is used.
+#[inline(always)]
+pub(crate) fn spare_left(
+    used: bool,
+    spare: Option<VastStatementBlock>,
+) -> Option<VastStatementBlock>
+    ensures { result ≡ spare_left used spare }
+{
+    if used { None } else { spare }
 }

@@ -1,6 +1,6 @@
 //! Data types of a file.
 
-ghost use Rattle.std.specs.Prelude.{◌≡◌, ◌≤ℤ◌, pos};
+ghost use Rattle.std.specs.Prelude.{◌≤ℤ◌, pos};
 ghost use Rattle.vast_core.specs.Nodes.{TypeChildrenHold, type_tree};
 ghost use Rattle.vast_core.specs.Types.{TypeFits};
 ghost use Rattle.vast_core.specs.Bench.{OwnsExpr, OwnsType};

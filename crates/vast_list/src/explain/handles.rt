@@ -26,7 +26,7 @@ fn handle_words<'a>(known: Known<'a>, text: &'a str) -> Result<Vec<HandleWord<'a
         return Ok(words);
     };
     let mut arguments = Arguments::new(known, rest);
-    for parameter in row.parameters {
+    for parameter in row.parameters() {
         take_argument(&mut arguments, parameter, &mut words)?;
     }
     Ok(words)
@@ -63,12 +63,12 @@ fn add_word<'a>(
     word: &'a str,
     words: &mut Vec<HandleWord<'a>>,
 ) -> Result<(), AllocError> {
-    let Some(wanted) = parameter.kind.handle() else {
+    let Some(wanted) = parameter.kind().handle() else {
         return Ok(());
     };
     if let Ok(place) = handle(arguments, word) {
         words.push(HandleWord {
-            parameter: parameter.name,
+            parameter: parameter.name(),
             wanted,
             word,
             place,

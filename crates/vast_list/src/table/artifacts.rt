@@ -9,49 +9,25 @@ use super::{CallRow, kinds};
 
 /// Calls of parts that are made beforehand, and that add them to modules.
 pub(super) static CALLS: [CallRow; 15] = [
-    CallRow {
-        name: "MakeDef",
-        parameters: &[NAME, KIND, DATA_TYPE],
-        answer: kinds::DEFINITION,
-    },
-    CallRow {
-        name: "MakeBlankLine",
-        parameters: &[],
-        answer: kinds::BLANK_LINE,
-    },
-    CallRow {
-        name: "MakeComment",
-        parameters: &[TEXT],
-        answer: kinds::COMMENT,
-    },
-    CallRow {
-        name: "MakeInlineVerilogStatement",
-        parameters: &[TEXT],
-        answer: kinds::INLINE_STATEMENT,
-    },
-    CallRow {
-        name: "MakeMacroStatement",
-        parameters: &[MACRO_REF, SEMICOLON],
-        answer: kinds::MACRO_STATEMENT,
-    },
-    CallRow {
-        name: "MakeContinuousAssignment",
-        parameters: &[LHS, RHS],
-        answer: kinds::ASSIGNMENT,
-    },
-    CallRow {
-        name: "MakeNonblockingAssignment",
-        parameters: &[LHS, RHS],
-        answer: kinds::STATEMENT,
-    },
-    CallRow {
-        name: "MakeBlockingAssignment",
-        parameters: &[LHS, RHS],
-        answer: kinds::STATEMENT,
-    },
-    CallRow {
-        name: "MakeInstantiation",
-        parameters: &[
+    CallRow("MakeDef", &[NAME, KIND, DATA_TYPE], kinds::DEFINITION),
+    CallRow("MakeBlankLine", &[], kinds::BLANK_LINE),
+    CallRow("MakeComment", &[TEXT], kinds::COMMENT),
+    CallRow(
+        "MakeInlineVerilogStatement",
+        &[TEXT],
+        kinds::INLINE_STATEMENT,
+    ),
+    CallRow(
+        "MakeMacroStatement",
+        &[MACRO_REF, SEMICOLON],
+        kinds::MACRO_STATEMENT,
+    ),
+    CallRow("MakeContinuousAssignment", &[LHS, RHS], kinds::ASSIGNMENT),
+    CallRow("MakeNonblockingAssignment", &[LHS, RHS], kinds::STATEMENT),
+    CallRow("MakeBlockingAssignment", &[LHS, RHS], kinds::STATEMENT),
+    CallRow(
+        "MakeInstantiation",
+        &[
             MODULE_NAME,
             INSTANCE_NAME,
             PARAMETER_NAMES,
@@ -59,36 +35,28 @@ pub(super) static CALLS: [CallRow; 15] = [
             CONNECTION_NAMES,
             CONNECTION_EXPRESSIONS,
         ],
-        answer: kinds::INSTANTIATION,
-    },
-    CallRow {
-        name: "AddMemberInstantiation",
-        parameters: &[OWNER, INSTANTIATION],
-        answer: kinds::NOTHING,
-    },
-    CallRow {
-        name: "AddMemberContinuousAssignment",
-        parameters: &[OWNER, ASSIGNMENT],
-        answer: kinds::NOTHING,
-    },
-    CallRow {
-        name: "AddMemberBlankLine",
-        parameters: &[OWNER, BLANK],
-        answer: kinds::NOTHING,
-    },
-    CallRow {
-        name: "AddMemberComment",
-        parameters: &[OWNER, COMMENT],
-        answer: kinds::NOTHING,
-    },
-    CallRow {
-        name: "AddMemberInlineStatement",
-        parameters: &[OWNER, INLINE_STATEMENT],
-        answer: kinds::NOTHING,
-    },
-    CallRow {
-        name: "AddMemberMacroStatement",
-        parameters: &[OWNER, MACRO_STATEMENT],
-        answer: kinds::NOTHING,
-    },
+        kinds::INSTANTIATION,
+    ),
+    CallRow(
+        "AddMemberInstantiation",
+        &[OWNER, INSTANTIATION],
+        kinds::NOTHING,
+    ),
+    CallRow(
+        "AddMemberContinuousAssignment",
+        &[OWNER, ASSIGNMENT],
+        kinds::NOTHING,
+    ),
+    CallRow("AddMemberBlankLine", &[OWNER, BLANK], kinds::NOTHING),
+    CallRow("AddMemberComment", &[OWNER, COMMENT], kinds::NOTHING),
+    CallRow(
+        "AddMemberInlineStatement",
+        &[OWNER, INLINE_STATEMENT],
+        kinds::NOTHING,
+    ),
+    CallRow(
+        "AddMemberMacroStatement",
+        &[OWNER, MACRO_STATEMENT],
+        kinds::NOTHING,
+    ),
 ];

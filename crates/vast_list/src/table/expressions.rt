@@ -9,134 +9,50 @@ use super::{CallRow, kinds};
 
 /// Calls that make any other expression.
 pub(super) static CALLS: [CallRow; 26] = [
-    CallRow {
-        name: "MakeLiteral",
-        parameters: &[TEXT, FORMAT],
-        answer: kinds::EXPRESSION,
-    },
-    CallRow {
-        name: "MakeBinaryPattern",
-        parameters: &[BITS_MSB],
-        answer: kinds::EXPRESSION,
-    },
-    CallRow {
-        name: "MakeUnsizedDecimalLiteral",
-        parameters: &[VALUE_NUMBER],
-        answer: kinds::EXPRESSION,
-    },
-    CallRow {
-        name: "MakeStringLiteral",
-        parameters: &[VALUE_TEXT],
-        answer: kinds::EXPRESSION,
-    },
-    CallRow {
-        name: "MakeUnsizedOneLiteral",
-        parameters: &[],
-        answer: kinds::EXPRESSION,
-    },
-    CallRow {
-        name: "MakeUnsizedZeroLiteral",
-        parameters: &[],
-        answer: kinds::EXPRESSION,
-    },
-    CallRow {
-        name: "MakeUnsizedXLiteral",
-        parameters: &[],
-        answer: kinds::EXPRESSION,
-    },
-    CallRow {
-        name: "MakeName",
-        parameters: &[NAME],
-        answer: kinds::EXPRESSION,
-    },
-    CallRow {
-        name: "MakeIndexableExpression",
-        parameters: &[EXPRESSION],
-        answer: kinds::INDEXABLE,
-    },
-    CallRow {
-        name: "MakeSlice",
-        parameters: &[SUBJECT, HI_NUMBER, LO_NUMBER],
-        answer: kinds::SLICE,
-    },
-    CallRow {
-        name: "MakeIndex",
-        parameters: &[SUBJECT, INDEX_NUMBER],
-        answer: kinds::INDEX,
-    },
-    CallRow {
-        name: "MakeSliceExpr",
-        parameters: &[SUBJECT, HI, LO],
-        answer: kinds::SLICE,
-    },
-    CallRow {
-        name: "MakeIndexExpr",
-        parameters: &[SUBJECT, INDEX],
-        answer: kinds::INDEX,
-    },
-    CallRow {
-        name: "MakeIndexedPartSelect",
-        parameters: &[SUBJECT, START, WIDTH_NUMBER],
-        answer: kinds::EXPRESSION,
-    },
-    CallRow {
-        name: "MakeFunctionCall",
-        parameters: &[NAME, ARGUMENTS],
-        answer: kinds::EXPRESSION,
-    },
-    CallRow {
-        name: "MakeConcat",
-        parameters: &[EXPRESSIONS],
-        answer: kinds::EXPRESSION,
-    },
-    CallRow {
-        name: "MakeReplicatedConcat",
-        parameters: &[REPLICATION, ELEMENTS],
-        answer: kinds::EXPRESSION,
-    },
-    CallRow {
-        name: "MakeReplicatedConcatI64",
-        parameters: &[REPLICATION_NUMBER, ELEMENTS],
-        answer: kinds::EXPRESSION,
-    },
-    CallRow {
-        name: "MakeArrayAssignmentPattern",
-        parameters: &[ELEMENTS],
-        answer: kinds::EXPRESSION,
-    },
-    CallRow {
-        name: "MakeTernary",
-        parameters: &[CONDITION, CONSEQUENT, ALTERNATE],
-        answer: kinds::EXPRESSION,
-    },
-    CallRow {
-        name: "MakeWidthCast",
-        parameters: &[WIDTH, VALUE],
-        answer: kinds::EXPRESSION,
-    },
-    CallRow {
-        name: "MakeTypeCast",
-        parameters: &[DATA_TYPE, VALUE],
-        answer: kinds::EXPRESSION,
-    },
-    CallRow {
-        name: "MakePosEdge",
-        parameters: &[EXPRESSION],
-        answer: kinds::EXPRESSION,
-    },
-    CallRow {
-        name: "MakeNegEdge",
-        parameters: &[EXPRESSION],
-        answer: kinds::EXPRESSION,
-    },
-    CallRow {
-        name: "MakeMacroRef",
-        parameters: &[NAME],
-        answer: kinds::MACRO,
-    },
-    CallRow {
-        name: "MakeMacroRefWithArgs",
-        parameters: &[NAME, ARGUMENTS],
-        answer: kinds::MACRO,
-    },
+    CallRow("MakeLiteral", &[TEXT, FORMAT], kinds::EXPRESSION),
+    CallRow("MakeBinaryPattern", &[BITS_MSB], kinds::EXPRESSION),
+    CallRow(
+        "MakeUnsizedDecimalLiteral",
+        &[VALUE_NUMBER],
+        kinds::EXPRESSION,
+    ),
+    CallRow("MakeStringLiteral", &[VALUE_TEXT], kinds::EXPRESSION),
+    CallRow("MakeUnsizedOneLiteral", &[], kinds::EXPRESSION),
+    CallRow("MakeUnsizedZeroLiteral", &[], kinds::EXPRESSION),
+    CallRow("MakeUnsizedXLiteral", &[], kinds::EXPRESSION),
+    CallRow("MakeName", &[NAME], kinds::EXPRESSION),
+    CallRow("MakeIndexableExpression", &[EXPRESSION], kinds::INDEXABLE),
+    CallRow("MakeSlice", &[SUBJECT, HI_NUMBER, LO_NUMBER], kinds::SLICE),
+    CallRow("MakeIndex", &[SUBJECT, INDEX_NUMBER], kinds::INDEX),
+    CallRow("MakeSliceExpr", &[SUBJECT, HI, LO], kinds::SLICE),
+    CallRow("MakeIndexExpr", &[SUBJECT, INDEX], kinds::INDEX),
+    CallRow(
+        "MakeIndexedPartSelect",
+        &[SUBJECT, START, WIDTH_NUMBER],
+        kinds::EXPRESSION,
+    ),
+    CallRow("MakeFunctionCall", &[NAME, ARGUMENTS], kinds::EXPRESSION),
+    CallRow("MakeConcat", &[EXPRESSIONS], kinds::EXPRESSION),
+    CallRow(
+        "MakeReplicatedConcat",
+        &[REPLICATION, ELEMENTS],
+        kinds::EXPRESSION,
+    ),
+    CallRow(
+        "MakeReplicatedConcatI64",
+        &[REPLICATION_NUMBER, ELEMENTS],
+        kinds::EXPRESSION,
+    ),
+    CallRow("MakeArrayAssignmentPattern", &[ELEMENTS], kinds::EXPRESSION),
+    CallRow(
+        "MakeTernary",
+        &[CONDITION, CONSEQUENT, ALTERNATE],
+        kinds::EXPRESSION,
+    ),
+    CallRow("MakeWidthCast", &[WIDTH, VALUE], kinds::EXPRESSION),
+    CallRow("MakeTypeCast", &[DATA_TYPE, VALUE], kinds::EXPRESSION),
+    CallRow("MakePosEdge", &[EXPRESSION], kinds::EXPRESSION),
+    CallRow("MakeNegEdge", &[EXPRESSION], kinds::EXPRESSION),
+    CallRow("MakeMacroRef", &[NAME], kinds::MACRO),
+    CallRow("MakeMacroRefWithArgs", &[NAME, ARGUMENTS], kinds::MACRO),
 ];

@@ -5,29 +5,17 @@ use super::{CallRow, kinds};
 
 /// Helpers.
 pub(super) static CALLS: [CallRow; 5] = [
-    CallRow {
-        name: "!AddRegisters",
-        parameters: &[CLK, RESET, REGISTERS, SCOPE],
-        answer: kinds::NOTHING,
-    },
-    CallRow {
-        name: "!BitwiseOrReduce",
-        parameters: &[VALUES],
-        answer: kinds::EXPRESSION,
-    },
-    CallRow {
-        name: "!BitwiseOrReduceArrayElements",
-        parameters: &[VALUE_INDEXABLE, DIMENSIONS],
-        answer: kinds::EXPRESSION,
-    },
-    CallRow {
-        name: "!LogicalAndReduce",
-        parameters: &[VALUES, INVERT],
-        answer: kinds::EXPRESSION,
-    },
-    CallRow {
-        name: "!LogicalOrReduce",
-        parameters: &[VALUES, INVERT],
-        answer: kinds::EXPRESSION,
-    },
+    CallRow(
+        "!AddRegisters",
+        &[CLK, RESET, REGISTERS, SCOPE],
+        kinds::NOTHING,
+    ),
+    CallRow("!BitwiseOrReduce", &[VALUES], kinds::EXPRESSION),
+    CallRow(
+        "!BitwiseOrReduceArrayElements",
+        &[VALUE_INDEXABLE, DIMENSIONS],
+        kinds::EXPRESSION,
+    ),
+    CallRow("!LogicalAndReduce", &[VALUES, INVERT], kinds::EXPRESSION),
+    CallRow("!LogicalOrReduce", &[VALUES, INVERT], kinds::EXPRESSION),
 ];

@@ -77,13 +77,13 @@ fn push_call(group: &str, call: &CallRow, text: &mut String) -> Result<(), Alloc
     write!(
         text,
         "{{\"call\":\"{}\",\"group\":\"{group}\",\"method\":\"",
-        call.name
+        call.name()
     )?;
-    push_method(call.name, text)?;
+    push_method(call.name(), text)?;
     text.push_str("\",\"parameters\":[")?;
-    push_parameters(call.parameters, text)?;
+    push_parameters(call.parameters(), text)?;
     text.push_str("],\"answer\":")?;
-    push_kind(call.answer, text)?;
+    push_kind(call.answer(), text)?;
     text.push('}')
 }
 
@@ -105,8 +105,8 @@ fn push_method(name: &str, text: &mut String) -> Result<(), AllocError> {
 fn push_parameters(parameters: &[Parameter], text: &mut String) -> Result<(), AllocError> {
     for parameter in parameters {
         separate(text)?;
-        write!(text, "{{\"name\":\"{}\",\"type\":", parameter.name)?;
-        push_kind(parameter.kind, text)?;
+        write!(text, "{{\"name\":\"{}\",\"type\":", parameter.name())?;
+        push_kind(parameter.kind(), text)?;
         text.push('}')?;
     }
     Ok(())

@@ -8,79 +8,63 @@ use super::{CallRow, kinds};
 
 /// Calls of generate loops and their members.
 pub(super) static CALLS: [CallRow; 15] = [
-    CallRow {
-        name: "AddGenerateLoop",
-        parameters: &[OWNER, NAME, START, END, LABEL],
-        answer: kinds::LOOP,
-    },
-    CallRow {
-        name: "GenerateAddGenerateLoop",
-        parameters: &[PARENT, NAME, START, END, LABEL],
-        answer: kinds::LOOP,
-    },
-    CallRow {
-        name: "GenerateGenvar",
-        parameters: &[GENERATE],
-        answer: kinds::SIGNAL,
-    },
-    CallRow {
-        name: "GenerateAddAlwaysComb",
-        parameters: &[GENERATE],
-        answer: kinds::ALWAYS,
-    },
-    CallRow {
-        name: "GenerateAddAlwaysFf",
-        parameters: &[GENERATE, SENSITIVITY_LIST],
-        answer: kinds::ALWAYS,
-    },
-    CallRow {
-        name: "GenerateAddAlwaysAt",
-        parameters: &[GENERATE, SENSITIVITY_LIST],
-        answer: kinds::ALWAYS,
-    },
-    CallRow {
-        name: "GenerateAddLocalparam",
-        parameters: &[GENERATE, NAME, RHS],
-        answer: kinds::LOCALPARAM,
-    },
-    CallRow {
-        name: "GenerateAddTypedLocalparam",
-        parameters: &[GENERATE, DEFINITION, RHS],
-        answer: kinds::LOCALPARAM,
-    },
-    CallRow {
-        name: "GenerateAddContinuousAssignment",
-        parameters: &[GENERATE, LHS, RHS],
-        answer: kinds::STATEMENT,
-    },
-    CallRow {
-        name: "GenerateAddConditional",
-        parameters: &[GENERATE, CONDITION],
-        answer: kinds::CONDITIONAL,
-    },
-    CallRow {
-        name: "GenerateAddBlankLine",
-        parameters: &[GENERATE],
-        answer: kinds::NOTHING,
-    },
-    CallRow {
-        name: "GenerateAddComment",
-        parameters: &[GENERATE, COMMENT],
-        answer: kinds::NOTHING,
-    },
-    CallRow {
-        name: "GenerateAddInstantiation",
-        parameters: &[GENERATE, INSTANTIATION],
-        answer: kinds::NOTHING,
-    },
-    CallRow {
-        name: "GenerateAddInlineStatement",
-        parameters: &[GENERATE, INLINE_STATEMENT],
-        answer: kinds::NOTHING,
-    },
-    CallRow {
-        name: "GenerateAddMacroStatement",
-        parameters: &[GENERATE, MACRO_STATEMENT],
-        answer: kinds::NOTHING,
-    },
+    CallRow(
+        "AddGenerateLoop",
+        &[OWNER, NAME, START, END, LABEL],
+        kinds::LOOP,
+    ),
+    CallRow(
+        "GenerateAddGenerateLoop",
+        &[PARENT, NAME, START, END, LABEL],
+        kinds::LOOP,
+    ),
+    CallRow("GenerateGenvar", &[GENERATE], kinds::SIGNAL),
+    CallRow("GenerateAddAlwaysComb", &[GENERATE], kinds::ALWAYS),
+    CallRow(
+        "GenerateAddAlwaysFf",
+        &[GENERATE, SENSITIVITY_LIST],
+        kinds::ALWAYS,
+    ),
+    CallRow(
+        "GenerateAddAlwaysAt",
+        &[GENERATE, SENSITIVITY_LIST],
+        kinds::ALWAYS,
+    ),
+    CallRow(
+        "GenerateAddLocalparam",
+        &[GENERATE, NAME, RHS],
+        kinds::LOCALPARAM,
+    ),
+    CallRow(
+        "GenerateAddTypedLocalparam",
+        &[GENERATE, DEFINITION, RHS],
+        kinds::LOCALPARAM,
+    ),
+    CallRow(
+        "GenerateAddContinuousAssignment",
+        &[GENERATE, LHS, RHS],
+        kinds::STATEMENT,
+    ),
+    CallRow(
+        "GenerateAddConditional",
+        &[GENERATE, CONDITION],
+        kinds::CONDITIONAL,
+    ),
+    CallRow("GenerateAddBlankLine", &[GENERATE], kinds::NOTHING),
+    CallRow("GenerateAddComment", &[GENERATE, COMMENT], kinds::NOTHING),
+    CallRow(
+        "GenerateAddInstantiation",
+        &[GENERATE, INSTANTIATION],
+        kinds::NOTHING,
+    ),
+    CallRow(
+        "GenerateAddInlineStatement",
+        &[GENERATE, INLINE_STATEMENT],
+        kinds::NOTHING,
+    ),
+    CallRow(
+        "GenerateAddMacroStatement",
+        &[GENERATE, MACRO_STATEMENT],
+        kinds::NOTHING,
+    ),
 ];

@@ -5,99 +5,23 @@ use super::{CallRow, kinds};
 
 /// Questions, which change nothing.
 pub(super) static CALLS: [CallRow; 19] = [
-    CallRow {
-        name: "?ConditionalHasElse",
-        parameters: &[CONDITIONAL],
-        answer: kinds::TRUTH,
-    },
-    CallRow {
-        name: "?Emit",
-        parameters: &[],
-        answer: kinds::TEXT,
-    },
-    CallRow {
-        name: "?EmitExpression",
-        parameters: &[E],
-        answer: kinds::TEXT,
-    },
-    CallRow {
-        name: "?FileIsPlain",
-        parameters: &[],
-        answer: kinds::TRUTH,
-    },
-    CallRow {
-        name: "?IsSystemVerilogKeyword",
-        parameters: &[IDENTIFIER],
-        answer: kinds::TRUTH,
-    },
-    CallRow {
-        name: "?LogicRefName",
-        parameters: &[LOGIC_REF],
-        answer: kinds::TEXT,
-    },
-    CallRow {
-        name: "?ModuleInputPorts",
-        parameters: &[OWNER],
-        answer: kinds::PORTS,
-    },
-    CallRow {
-        name: "?ModuleMemberCount",
-        parameters: &[OWNER],
-        answer: kinds::COUNT,
-    },
-    CallRow {
-        name: "?ModuleName",
-        parameters: &[OWNER],
-        answer: kinds::TEXT,
-    },
-    CallRow {
-        name: "?ModuleOutputPorts",
-        parameters: &[OWNER],
-        answer: kinds::PORTS,
-    },
-    CallRow {
-        name: "?ModulePorts",
-        parameters: &[OWNER],
-        answer: kinds::PORTS,
-    },
-    CallRow {
-        name: "?NameIsFree",
-        parameters: &[OWNER, NAME],
-        answer: kinds::TRUTH,
-    },
-    CallRow {
-        name: "?TypeCanBeCast",
-        parameters: &[DATA_TYPE],
-        answer: kinds::TRUTH,
-    },
-    CallRow {
-        name: "?TypeCanBePacked",
-        parameters: &[DATA_TYPE],
-        answer: kinds::TRUTH,
-    },
-    CallRow {
-        name: "?TypeFlatBitCountAsInt64",
-        parameters: &[DATA_TYPE],
-        answer: kinds::INTEGER,
-    },
-    CallRow {
-        name: "?TypeIsSigned",
-        parameters: &[DATA_TYPE],
-        answer: kinds::TRUTH,
-    },
-    CallRow {
-        name: "?TypeWidthAsInt64",
-        parameters: &[DATA_TYPE],
-        answer: kinds::INTEGER,
-    },
-    CallRow {
-        name: "?TypeWidthExpr",
-        parameters: &[DATA_TYPE],
-        answer: kinds::OPTIONAL_TEXT,
-    },
-    CallRow {
-        name: "?WidthIsUsable",
-        parameters: &[WIDTH],
-        answer: kinds::TRUTH,
-    },
+    CallRow("?ConditionalHasElse", &[CONDITIONAL], kinds::TRUTH),
+    CallRow("?Emit", &[], kinds::TEXT),
+    CallRow("?EmitExpression", &[E], kinds::TEXT),
+    CallRow("?FileIsPlain", &[], kinds::TRUTH),
+    CallRow("?IsSystemVerilogKeyword", &[IDENTIFIER], kinds::TRUTH),
+    CallRow("?LogicRefName", &[LOGIC_REF], kinds::TEXT),
+    CallRow("?ModuleInputPorts", &[OWNER], kinds::PORTS),
+    CallRow("?ModuleMemberCount", &[OWNER], kinds::COUNT),
+    CallRow("?ModuleName", &[OWNER], kinds::TEXT),
+    CallRow("?ModuleOutputPorts", &[OWNER], kinds::PORTS),
+    CallRow("?ModulePorts", &[OWNER], kinds::PORTS),
+    CallRow("?NameIsFree", &[OWNER, NAME], kinds::TRUTH),
+    CallRow("?TypeCanBeCast", &[DATA_TYPE], kinds::TRUTH),
+    CallRow("?TypeCanBePacked", &[DATA_TYPE], kinds::TRUTH),
+    CallRow("?TypeFlatBitCountAsInt64", &[DATA_TYPE], kinds::INTEGER),
+    CallRow("?TypeIsSigned", &[DATA_TYPE], kinds::TRUTH),
+    CallRow("?TypeWidthAsInt64", &[DATA_TYPE], kinds::INTEGER),
+    CallRow("?TypeWidthExpr", &[DATA_TYPE], kinds::OPTIONAL_TEXT),
+    CallRow("?WidthIsUsable", &[WIDTH], kinds::TRUTH),
 ];

@@ -8,144 +8,64 @@ use super::{CallRow, kinds};
 
 /// Calls of functions, always blocks, conditionals and statements.
 pub(super) static CALLS: [CallRow; 28] = [
-    CallRow {
-        name: "AddFunction",
-        parameters: &[OWNER, NAME, RESULT_TYPE],
-        answer: kinds::FUNCTION,
-    },
-    CallRow {
-        name: "FunctionAddInput",
-        parameters: &[FUNCTION, NAME, DATA_TYPE],
-        answer: kinds::SIGNAL,
-    },
-    CallRow {
-        name: "FunctionAddLogicInput",
-        parameters: &[FUNCTION, NAME, DATA_TYPE],
-        answer: kinds::SIGNAL,
-    },
-    CallRow {
-        name: "FunctionAddReg",
-        parameters: &[FUNCTION, NAME, DATA_TYPE],
-        answer: kinds::SIGNAL,
-    },
-    CallRow {
-        name: "FunctionAddLogic",
-        parameters: &[FUNCTION, NAME, DATA_TYPE],
-        answer: kinds::SIGNAL,
-    },
-    CallRow {
-        name: "FunctionBody",
-        parameters: &[FUNCTION],
-        answer: kinds::BLOCK,
-    },
-    CallRow {
-        name: "FunctionResult",
-        parameters: &[FUNCTION],
-        answer: kinds::SIGNAL,
-    },
-    CallRow {
-        name: "AddAlwaysFf",
-        parameters: &[OWNER, SENSITIVITY_LIST],
-        answer: kinds::ALWAYS,
-    },
-    CallRow {
-        name: "AddAlwaysAt",
-        parameters: &[OWNER, SENSITIVITY_LIST],
-        answer: kinds::ALWAYS,
-    },
-    CallRow {
-        name: "AddAlwaysComb",
-        parameters: &[OWNER],
-        answer: kinds::ALWAYS,
-    },
-    CallRow {
-        name: "StatementBlock",
-        parameters: &[ALWAYS],
-        answer: kinds::BLOCK,
-    },
-    CallRow {
-        name: "BlockAddBlockingAssignment",
-        parameters: &[BLOCK, LHS, RHS],
-        answer: kinds::STATEMENT,
-    },
-    CallRow {
-        name: "BlockAddNonblockingAssignment",
-        parameters: &[BLOCK, LHS, RHS],
-        answer: kinds::STATEMENT,
-    },
-    CallRow {
-        name: "BlockAddContinuousAssignment",
-        parameters: &[BLOCK, LHS, RHS],
-        answer: kinds::STATEMENT,
-    },
-    CallRow {
-        name: "BlockAddCommentText",
-        parameters: &[BLOCK, TEXT],
-        answer: kinds::NOTHING,
-    },
-    CallRow {
-        name: "BlockAddInlineText",
-        parameters: &[BLOCK, TEXT],
-        answer: kinds::NOTHING,
-    },
-    CallRow {
-        name: "BlockAddBlankLine",
-        parameters: &[BLOCK],
-        answer: kinds::NOTHING,
-    },
-    CallRow {
-        name: "AddConditional",
-        parameters: &[OWNER, CONDITION],
-        answer: kinds::CONDITIONAL,
-    },
-    CallRow {
-        name: "BlockAddCond",
-        parameters: &[BLOCK, CONDITION],
-        answer: kinds::CONDITIONAL,
-    },
-    CallRow {
-        name: "ConditionalThenBlock",
-        parameters: &[CONDITIONAL],
-        answer: kinds::BLOCK,
-    },
-    CallRow {
-        name: "ConditionalAddElseIf",
-        parameters: &[CONDITIONAL, CONDITION],
-        answer: kinds::BLOCK,
-    },
-    CallRow {
-        name: "ConditionalAddElse",
-        parameters: &[CONDITIONAL],
-        answer: kinds::BLOCK,
-    },
-    CallRow {
-        name: "BlockAddCase",
-        parameters: &[BLOCK, SELECTOR],
-        answer: kinds::CASE,
-    },
-    CallRow {
-        name: "BlockAddCasez",
-        parameters: &[BLOCK, SELECTOR],
-        answer: kinds::CASE,
-    },
-    CallRow {
-        name: "BlockAddCasex",
-        parameters: &[BLOCK, SELECTOR],
-        answer: kinds::CASE,
-    },
-    CallRow {
-        name: "CaseAddItem",
-        parameters: &[CASE, PATTERN],
-        answer: kinds::BLOCK,
-    },
-    CallRow {
-        name: "CaseAddDefault",
-        parameters: &[CASE],
-        answer: kinds::BLOCK,
-    },
-    CallRow {
-        name: "CaseSetUnique",
-        parameters: &[CASE, UNIQUE],
-        answer: kinds::NOTHING,
-    },
+    CallRow("AddFunction", &[OWNER, NAME, RESULT_TYPE], kinds::FUNCTION),
+    CallRow(
+        "FunctionAddInput",
+        &[FUNCTION, NAME, DATA_TYPE],
+        kinds::SIGNAL,
+    ),
+    CallRow(
+        "FunctionAddLogicInput",
+        &[FUNCTION, NAME, DATA_TYPE],
+        kinds::SIGNAL,
+    ),
+    CallRow(
+        "FunctionAddReg",
+        &[FUNCTION, NAME, DATA_TYPE],
+        kinds::SIGNAL,
+    ),
+    CallRow(
+        "FunctionAddLogic",
+        &[FUNCTION, NAME, DATA_TYPE],
+        kinds::SIGNAL,
+    ),
+    CallRow("FunctionBody", &[FUNCTION], kinds::BLOCK),
+    CallRow("FunctionResult", &[FUNCTION], kinds::SIGNAL),
+    CallRow("AddAlwaysFf", &[OWNER, SENSITIVITY_LIST], kinds::ALWAYS),
+    CallRow("AddAlwaysAt", &[OWNER, SENSITIVITY_LIST], kinds::ALWAYS),
+    CallRow("AddAlwaysComb", &[OWNER], kinds::ALWAYS),
+    CallRow("StatementBlock", &[ALWAYS], kinds::BLOCK),
+    CallRow(
+        "BlockAddBlockingAssignment",
+        &[BLOCK, LHS, RHS],
+        kinds::STATEMENT,
+    ),
+    CallRow(
+        "BlockAddNonblockingAssignment",
+        &[BLOCK, LHS, RHS],
+        kinds::STATEMENT,
+    ),
+    CallRow(
+        "BlockAddContinuousAssignment",
+        &[BLOCK, LHS, RHS],
+        kinds::STATEMENT,
+    ),
+    CallRow("BlockAddCommentText", &[BLOCK, TEXT], kinds::NOTHING),
+    CallRow("BlockAddInlineText", &[BLOCK, TEXT], kinds::NOTHING),
+    CallRow("BlockAddBlankLine", &[BLOCK], kinds::NOTHING),
+    CallRow("AddConditional", &[OWNER, CONDITION], kinds::CONDITIONAL),
+    CallRow("BlockAddCond", &[BLOCK, CONDITION], kinds::CONDITIONAL),
+    CallRow("ConditionalThenBlock", &[CONDITIONAL], kinds::BLOCK),
+    CallRow(
+        "ConditionalAddElseIf",
+        &[CONDITIONAL, CONDITION],
+        kinds::BLOCK,
+    ),
+    CallRow("ConditionalAddElse", &[CONDITIONAL], kinds::BLOCK),
+    CallRow("BlockAddCase", &[BLOCK, SELECTOR], kinds::CASE),
+    CallRow("BlockAddCasez", &[BLOCK, SELECTOR], kinds::CASE),
+    CallRow("BlockAddCasex", &[BLOCK, SELECTOR], kinds::CASE),
+    CallRow("CaseAddItem", &[CASE, PATTERN], kinds::BLOCK),
+    CallRow("CaseAddDefault", &[CASE], kinds::BLOCK),
+    CallRow("CaseSetUnique", &[CASE, UNIQUE], kinds::NOTHING),
 ];

@@ -27,12 +27,17 @@ fn push_group(group: &Group, text: &mut String) -> Result<(), AllocError> {
 }
 
 fn push_call(call: &CallRow, text: &mut String) -> Result<(), AllocError> {
-    text.push_str(call.name)?;
+    text.push_str(call.name())?;
     let mut separator = " ";
-    for parameter in call.parameters {
-        write!(text, "{separator}{}: {}", parameter.name, parameter.kind)?;
+    for parameter in call.parameters() {
+        write!(
+            text,
+            "{separator}{}: {}",
+            parameter.name(),
+            parameter.kind()
+        )?;
         separator = ", ";
     }
-    writeln!(text, " -> {}", call.answer)?;
+    writeln!(text, " -> {}", call.answer())?;
     Ok(())
 }

@@ -5,49 +5,13 @@ use super::{CallRow, kinds};
 
 /// Calls that make a type.
 pub(super) static CALLS: [CallRow; 9] = [
-    CallRow {
-        name: "MakeScalarType",
-        parameters: &[],
-        answer: kinds::TYPE,
-    },
-    CallRow {
-        name: "MakeIntegerType",
-        parameters: &[SIGNED],
-        answer: kinds::TYPE,
-    },
-    CallRow {
-        name: "MakeIntType",
-        parameters: &[SIGNED],
-        answer: kinds::TYPE,
-    },
-    CallRow {
-        name: "MakeExternType",
-        parameters: &[NAME],
-        answer: kinds::TYPE,
-    },
-    CallRow {
-        name: "MakeExternPackageType",
-        parameters: &[PACKAGE_NAME, NAME],
-        answer: kinds::TYPE,
-    },
-    CallRow {
-        name: "MakeBitVectorType",
-        parameters: &[BIT_COUNT, SIGNED],
-        answer: kinds::TYPE,
-    },
-    CallRow {
-        name: "MakeBitVectorTypeExpr",
-        parameters: &[WIDTH, SIGNED],
-        answer: kinds::TYPE,
-    },
-    CallRow {
-        name: "MakePackedArrayType",
-        parameters: &[ELEMENT, DIMENSIONS],
-        answer: kinds::TYPE,
-    },
-    CallRow {
-        name: "MakeUnpackedArrayType",
-        parameters: &[ELEMENT, DIMENSIONS],
-        answer: kinds::TYPE,
-    },
+    CallRow("MakeScalarType", &[], kinds::TYPE),
+    CallRow("MakeIntegerType", &[SIGNED], kinds::TYPE),
+    CallRow("MakeIntType", &[SIGNED], kinds::TYPE),
+    CallRow("MakeExternType", &[NAME], kinds::TYPE),
+    CallRow("MakeExternPackageType", &[PACKAGE_NAME, NAME], kinds::TYPE),
+    CallRow("MakeBitVectorType", &[BIT_COUNT, SIGNED], kinds::TYPE),
+    CallRow("MakeBitVectorTypeExpr", &[WIDTH, SIGNED], kinds::TYPE),
+    CallRow("MakePackedArrayType", &[ELEMENT, DIMENSIONS], kinds::TYPE),
+    CallRow("MakeUnpackedArrayType", &[ELEMENT, DIMENSIONS], kinds::TYPE),
 ];

@@ -1,6 +1,6 @@
 //! The text of a literal.
 
-ghost use Rattle.std.specs.Prelude.{◌≡◌, ◌^◌, ◌<◌, ◌≤◌, ◌-◌, ◌++◌, codes, IfOk, string_bytes};
+ghost use Rattle.std.specs.Prelude.{◌≡◌, ◌^◌, ◌<◌, ◌≤◌, ◌++◌, codes, IfOk, string_bytes};
 ghost use Rattle.std.specs.Fmt.{decimal};
 ghost use Rattle.vast_literal.specs.LiteralText.{padded_count, is_below_half, sized, signed_text, format_text};
 ghost use Rattle.vast_literal.specs.Digits.{characters, grouped, lowest_digits, digit_count};

@@ -14,5 +14,7 @@ decreases-generate_loop::print_loop l = height l.l.id.index
 
 abbrev pub invariant-generate_loop::print_loop-loop-member : goal.invariant-generate_loop::print_loop-loop-member
 invariant-generate_loop::print_loop-loop-member l =
-    hang l.depth (Wet l.fn.out) (member_page (bench l.ast).file_type (loop_member (families (bench l.ast) l.fn.l.id.index)))
-    ≡ word (next l.depth (hang (l.depth + 1) (Wet l.out) (members_page (bench l.ast).file_type (members_tree (bench l.ast) (drop l.member-index l.member-items))))) (codes "end")
+    record {
+      same : hang l.fn.out.margin (Wet l.fn.out.draft) (member_page (bench l.ast).file_type (loop_member (families (bench l.ast) l.fn.l.id.index))) ≡ word (next l.fn.out.margin (hang (l.fn.out.margin + 1) (Wet l.out.draft) (members_page (bench l.ast).file_type (members_tree (bench l.ast) (drop l.member-index l.member-items))))) (codes "end");
+      margin : l.out.margin ≡ l.fn.out.margin + 1;
+    }

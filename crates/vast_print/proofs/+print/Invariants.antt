@@ -27,15 +27,21 @@ decreases-case::print_arm l = height l.arm.block.id.index + 3
 
 abbrev pub invariant-statement::print_statements-loop-statement : goal.invariant-statement::print_statements-loop-statement
 invariant-statement::print_statements-loop-statement l =
-    hang l.depth (Wet l.fn.out) (statements_page (block_tree (bench l.ast) l.fn.b))
-    ≡ hang l.depth (Wet l.out) (statements_page (statements_tree (bench l.ast) (map statement_entry (drop l.statement-index l.statement-items))))
+    record {
+      same : hang l.fn.out.margin (Wet l.fn.out.draft) (statements_page (block_tree (bench l.ast) l.fn.b)) ≡ hang l.fn.out.margin (Wet l.out.draft) (statements_page (statements_tree (bench l.ast) (map statement_entry (drop l.statement-index l.statement-items))));
+      margin : l.out.margin ≡ l.fn.out.margin;
+    }
 
 abbrev pub invariant-conditional::print_conditional-loop-arm : goal.invariant-conditional::print_conditional-loop-arm
 invariant-conditional::print_conditional-loop-arm l =
-    hang l.depth (Wet l.fn.out) (statement_page (conditional_statement (families (bench l.ast) l.fn.c.id.index)))
-    ≡ pour l.depth (Wet l.out) (alternates_page (alternates_tree (bench l.ast) (drop l.arm-index l.arm-items) l.node.otherwise))
+    record {
+      same : hang l.fn.out.margin (Wet l.fn.out.draft) (statement_page (conditional_statement (families (bench l.ast) l.fn.c.id.index))) ≡ pour l.fn.out.margin (Wet l.out.draft) (alternates_page (alternates_tree (bench l.ast) (drop l.arm-index l.arm-items) l.node.otherwise));
+      margin : l.out.margin ≡ l.fn.out.margin;
+    }
 
 abbrev pub invariant-case::print_case-loop-arm : goal.invariant-case::print_case-loop-arm
 invariant-case::print_case-loop-arm l =
-    hang l.depth (Wet l.fn.out) (statement_page (case_statement (families (bench l.ast) l.fn.c.id.index)))
-    ≡ word (next l.depth (hang (l.depth + 1) (Wet l.out) (arms_page l.node.kind (case_arms_tree (bench l.ast) (drop l.arm-index l.arm-items))))) (codes "endcase")
+    record {
+      same : hang l.fn.out.margin (Wet l.fn.out.draft) (statement_page (case_statement (families (bench l.ast) l.fn.c.id.index))) ≡ word (next l.fn.out.margin (hang (l.fn.out.margin + 1) (Wet l.out.draft) (arms_page l.node.kind (case_arms_tree (bench l.ast) (drop l.arm-index l.arm-items))))) (codes "endcase");
+      margin : l.out.margin ≡ l.fn.out.margin + 1;
+    }

@@ -12,7 +12,7 @@ use Rattle.vast_print.specs.declared.refusal.PrintFault.TheVariants.{Refused, Me
 use Rattle.vast_print.specs.Printed.{Printed, plain_text, ◌⊕◌, wrapped}
 use Rattle.vast_print.specs.Text.{expr_text}
 use Rattle.vast_print.specs.Page.{written}
-use Rattle.vast_print.specs.Draft.{Draft}
+use Rattle.vast_print.specs.Draft.{Writing}
 use Rattle.vast_print.specs.Ink.{Wet, Stopped, pour}
 
 -- more than what the pieces of an expression, without parentheses of its own, can weigh
@@ -89,14 +89,15 @@ PiecesOwned b [] = Unit {0}
 PiecesOwned b (p ∷ ps) = PieceOwned b p × PiecesOwned b ps
 
 -- a text is begun: its first words are written, and what is left of it is put on the list, lighter than the text's weight
-abbrev pub Begins : Bench → ℕ → (old new : Draft) → (before after : List Piece) → Printed → (weight : ℕ) → Result (Unit {0}) PrintFault → Type 0
-Begins b d old new before after p weight (Ok _) =
-    (pour d (pour d (Wet old) (written p)) (written (pieces_text b before)) ≡ pour d (Wet new) (written (pieces_text b after)))
+abbrev pub Begins : Bench → (old new : Writing) → (before after : List Piece) → Result (Unit {0}) PrintFault → Printed → (weight : ℕ) → Type 0
+Begins b old new before after (Ok _) p weight =
+    (pour old.margin (pour old.margin (Wet old.draft) (written p)) (written (pieces_text b before)) ≡ pour old.margin (Wet new.draft) (written (pieces_text b after)))
+    × (new.margin ≡ old.margin)
     × (pieces_weight b after < pieces_weight b before + weight)
     × PiecesOwned b after
-Begins b d old new before after p weight (Err (Refused r)) = pour d (Wet old) (written p) ≡ Stopped r
-Begins b d old new before after p weight (Err (Memory error)) = Unit {0}
+Begins b old new before after (Err (Refused r)) p weight = pour old.margin (Wet old.draft) (written p) ≡ Stopped r
+Begins b old new before after (Err (Memory error)) p weight = Unit {0}
 
 -- an expression is begun
-abbrev pub BeginsExpr : Bench → ℕ → (old new : Draft) → (before after : List Piece) → ExprTree → Result (Unit {0}) PrintFault → Type 0
-BeginsExpr b d old new before after e result = Begins b d old new before after (expr_text e) (expr_weight e) result
+abbrev pub BeginsExpr : Bench → (old new : Writing) → (before after : List Piece) → Result (Unit {0}) PrintFault → ExprTree → Type 0
+BeginsExpr b old new before after result e = Begins b old new before after result (expr_text e) (expr_weight e)

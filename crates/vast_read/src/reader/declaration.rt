@@ -1,6 +1,6 @@
 //! Declarations.
 
-ghost use Rattle.std.specs.Prelude.{◌≡◌, ℕ, ◌<◌, ◌≤◌, length, IfOk, MatchOption, Some, None, option_map};
+ghost use Rattle.std.specs.Prelude.{◌≡◌, ◌<◌, ◌≤◌, length, MatchOption, Some, None, option_map};
 ghost use Rattle.vast_literal.specs.Internal.DeclarationParser.{maybe_at};
 ghost use Rattle.vast_literal.specs.Internal.Parser.{word_at};
 ghost use Rattle.vast_literal.specs.Internal.SettledDeclarations.{group_end, settled_groups, signed_end, type_or_name, plain_word, scoped_type, behind_word, behind_kind, settled_declaration};

@@ -1,6 +1,6 @@
 //! Expressions: a loop over a list of what waits for one, so that no text takes stack.
 
-ghost use Rattle.std.specs.Prelude.{◌≡◌, ℕ, ◌≤◌, length};
+ghost use Rattle.std.specs.Prelude.{◌≤◌, length};
 ghost use Rattle.vast_literal.specs.Tokens.{Comma};
 ghost use Rattle.vast_literal.specs.Internal.Parser.{after, enclosed_at, arguments, list_on, selected_at};
 ghost use Rattle.vast_literal.specs.Internal.Settled.{settled};

@@ -1,6 +1,6 @@
 //! Modules and files.
 
-ghost use Rattle.std.specs.Prelude.{◌≡◌, ℕ, ◌<◌, ◌≤◌, length, IfOk, MatchOption, MatchResult, Some, None};
+ghost use Rattle.std.specs.Prelude.{◌≡◌, ◌<◌, ◌≤◌, length, IfOk, MatchResult, None};
 ghost use Rattle.vast_literal.specs.Internal.FileParser.{include_on};
 ghost use Rattle.vast_literal.specs.Internal.SettledFiles.{settled_parameter, settled_port, joined_parameters, joined_ports, parameter_list, settled_parameters, port_list, settled_ports, settled_module, include_at, settled_item, settled_items, settled_file};
 ghost use Rattle.vast_read.specs.Internal.Answers.{ReadsAs};

@@ -1,6 +1,6 @@
 //! Functions.
 
-ghost use Rattle.std.specs.Prelude.{◌≡◌, ℕ, ◌≤◌, length};
+ghost use Rattle.std.specs.Prelude.{◌≤◌, length};
 ghost use Rattle.vast_literal.specs.Internal.SettledMembers.{settled_input, settled_inputs, settled_locals, lone_case, function_block, function_ending, settled_function};
 ghost use Rattle.vast_read.specs.Internal.Answers.{ReadsAs};
 ghost use Rattle.vast_read.specs.Internal.MemberSteps.{joined_inputs};

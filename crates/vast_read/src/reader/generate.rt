@@ -1,6 +1,6 @@
 //! Generate loops up to their members.
 
-ghost use Rattle.std.specs.Prelude.{◌≡◌, ℕ, ◌≤◌, length, MatchResult, Some, None, option_map};
+ghost use Rattle.std.specs.Prelude.{◌≡◌, ◌≤◌, length, MatchResult, Some, None, option_map};
 ghost use Rattle.vast_literal.specs.Internal.MemberParser.{same_word};
 ghost use Rattle.vast_literal.specs.Internal.SettledMembers.{loop_start, loop_bound, number_one, loop_step, loop_label};
 ghost use Rattle.vast_read.specs.Internal.Answers.{ReadsAs};

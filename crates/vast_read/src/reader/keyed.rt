@@ -1,6 +1,6 @@
 //! Members by their keywords.
 
-ghost use Rattle.std.specs.Prelude.{◌≡◌, ℕ, ◌<◌, ◌≤◌, length, IfOk};
+ghost use Rattle.std.specs.Prelude.{◌<◌, ◌≤◌, length, IfOk};
 ghost use Rattle.vast_literal.specs.Internal.SettledMembers.{settled_local, assign_part, combinational_part, conditional_part, parameter_part, clocked_part, declaration_part};
 ghost use Rattle.vast_read.specs.Internal.Answers.{ReadsAs};
 ghost use Rattle.vast_read.specs.Internal.MemberSteps.{unkeyed_part, other_part};

@@ -1,6 +1,6 @@
 //! Keywords and signs that stand next.
 
-ghost use Rattle.std.specs.Prelude.{◌≡◌, ℕ, ◌<◌, ◌≤◌, length, IfOk, MatchOption, MatchResult, Some, None};
+ghost use Rattle.std.specs.Prelude.{◌≡◌, ◌<◌, ◌≤◌, length, IfOk, MatchOption, MatchResult, Some, None};
 ghost use Rattle.std.specs.Bool.{MatchBool};
 ghost use Rattle.vast_literal.specs.Internal.StatementParser.{after_key, arrow_at};
 ghost use Rattle.vast_read.specs.Internal.KeyClasses.{class_test};

@@ -1,12 +1,11 @@
 //! Members: events, instances, macros, and the simple ones.
 
-ghost use Rattle.std.specs.Prelude.{◌≡◌, ℕ, ◌<◌, ◌≤◌, length, IfOk, Some, None};
+ghost use Rattle.std.specs.Prelude.{◌≡◌, ◌<◌, ◌≤◌, length, IfOk, Some, None};
 ghost use Rattle.vast_literal.specs.Internal.Nexts.{begins_with};
-ghost use Rattle.vast_literal.specs.Internal.SettledMembers.{settled_event, settled_events, connection_value, settled_connection, settled_given, settled_connections, settled_givens, instance_end, given_parameters, settled_instance, macro_ending, settled_macro, plain_part, assign_part, combinational_part, conditional_part, parameter_part, clocked_part, declaration_part};
+ghost use Rattle.vast_literal.specs.Internal.SettledMembers.{settled_event, settled_events, connection_value, settled_connection, settled_given, settled_connections, settled_givens, instance_end, given_parameters, settled_instance, macro_ending, settled_macro, plain_part};
 ghost use Rattle.vast_read.specs.Internal.Answers.{ReadsAs};
 ghost use Rattle.vast_read.specs.Internal.KeyClasses.{class_test};
-ghost use Rattle.vast_read.specs.Internal.MemberSteps.{joined_events, joined_connections, unkeyed_part, other_part};
-ghost use Rattle.vast_read.specs.TokenView.{key_view};
+ghost use Rattle.vast_read.specs.Internal.MemberSteps.{joined_events, joined_connections};
 
 use crate::build::{BuildMembers, MemberForm};
 use crate::fault::Fault;

@@ -1,6 +1,6 @@
 //! Members: a loop over a list of the generate loops that are open, so that no text takes stack.
 
-ghost use Rattle.std.specs.Prelude.{◌≡◌, ℕ, ◌<◌, ◌≤◌, length, IfOk};
+ghost use Rattle.std.specs.Prelude.{◌<◌, ◌≤◌, length, IfOk};
 ghost use Rattle.vast_literal.specs.Internal.SettledMembers.{settled_members};
 ghost use Rattle.vast_read.specs.Internal.Answers.{ReadsAs};
 ghost use Rattle.vast_read.specs.Internal.MemberSteps.{unlooped_part};

@@ -1,6 +1,6 @@
 //! Statements: a loop over a list of the blocks that are open, so that no text takes stack.
 
-ghost use Rattle.std.specs.Prelude.{◌≡◌, ℕ, ◌<◌, ◌≤◌, [], ◌∷◌, ◌++◌, length, IfOk, Some};
+ghost use Rattle.std.specs.Prelude.{◌≡◌, ◌<◌, ◌≤◌, [], ◌∷◌, ◌++◌, length, IfOk, Some};
 ghost use Rattle.vast_literal.specs.NormalFile.{CaseStatement};
 ghost use Rattle.vast_literal.specs.Internal.Settled.{settled_reader};
 ghost use Rattle.vast_read.specs.Internal.Answers.{ReadsAs};

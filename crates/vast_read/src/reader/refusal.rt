@@ -1,6 +1,6 @@
 //! Where the reader stays where a token doesn't fit: before it.
 
-ghost use Rattle.std.specs.Prelude.{◌≡◌, ℕ, ◌<◌, ◌≤◌, length, IfOk, IsCharBoundary};
+ghost use Rattle.std.specs.Prelude.{◌<◌, ◌≤◌, length, IfOk, IsCharBoundary};
 ghost use Rattle.vast_literal.specs.Internal.Parser.{primary, enclosed_at};
 ghost use Rattle.vast_literal.specs.Internal.Settled.{settled};
 ghost use Rattle.vast_read.specs.Internal.Answers.{ReadsAs};

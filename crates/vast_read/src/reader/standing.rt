@@ -1,6 +1,6 @@
 //! What stands, and what may follow it.
 
-ghost use Rattle.std.specs.Prelude.{◌≡◌, ℕ, ◌+◌, ◌*◌, ◌<◌, ◌≤◌, length, IfOk};
+ghost use Rattle.std.specs.Prelude.{◌+◌, ◌<◌, ◌≤◌, length, IfOk};
 ghost use Rattle.vast_read.specs.Internal.Machine.{asked_then, load, meaning, operand_then, primary_then, work, Keeps, Leaves};
 
 use crate::build::Build;

@@ -1,6 +1,6 @@
 //! Statements.
 
-ghost use Rattle.std.specs.Prelude.{◌≡◌, ℕ, ◌<◌, ◌≤◌, length, IfOk, Some, None};
+ghost use Rattle.std.specs.Prelude.{◌≡◌, ◌<◌, ◌≤◌, length, IfOk, Some, None};
 ghost use Rattle.std.specs.Bool.{MatchBool};
 ghost use Rattle.vast_literal.specs.Internal.Settled.{settled, settled_reader};
 ghost use Rattle.vast_literal.specs.Internal.StatementParser.{simple_at};

@@ -1,6 +1,6 @@
 //! Whether two members have the same words, expressions, lists and blocks, but for the members inside.
 
-ghost use Rattle.std.specs.Prelude.{◌≡◌, IfOk};
+ghost use Rattle.std.specs.Prelude.{IfOk};
 ghost use Rattle.vast_read.specs.Internal.Comparison.{Tells};
 ghost use Rattle.vast_read.specs.Internal.MemberLevels.{words_view, declared_view, values_view, lists_view, level_view, head_of, blocks_of};
 

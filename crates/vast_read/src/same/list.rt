@@ -1,6 +1,6 @@
 //! Whether two lists are the same.
 
-ghost use Rattle.std.specs.Prelude.{◌≡◌, IfOk};
+ghost use Rattle.std.specs.Prelude.{IfOk};
 ghost use Rattle.std.specs.Bool.{MatchBool};
 ghost use Rattle.vast_read.specs.Internal.Comparison.{AreAlike};
 

@@ -1,6 +1,6 @@
 //! The outermost level of a member.
 
-ghost use Rattle.std.specs.Prelude.{◌≡◌, ◌≤◌, ◌+◌, ◌*◌, option_map, map};
+ghost use Rattle.std.specs.Prelude.{◌≡◌, ◌≤◌, ◌+◌, ◌*◌, option_map};
 ghost use Rattle.vast_literal.specs.NormalFile.{AlwaysPart, ConditionalPart, FunctionPart, InstancePart, LoopPart};
 ghost use Rattle.vast_read.specs.DeclarationView.{declaration_view, declarations_view};
 ghost use Rattle.vast_read.specs.Internal.Levels.{part_view};

@@ -1,6 +1,6 @@
 //! Members of modules and of generate loops.
 
-ghost use Rattle.std.specs.Prelude.{◌≡◌, ◌<◌, ◌≤◌, ◌+◌, ⊤, IfOk, IfErr, MatchOption, [], Some, None, option_map};
+ghost use Rattle.std.specs.Prelude.{◌≡◌, ◌<◌, ◌≤◌, ◌+◌, ⊤, IfOk, IfErr, MatchOption, Some, None, option_map};
 ghost use Rattle.vast_literal.specs.NormalFile.{EdgeEvent, NameEvent, DeclarationPart, ParameterPart, MacroPart, InstancePart, AlwaysPart, ConditionalPart, FunctionPart, LoopPart};
 ghost use Rattle.vast_read.specs.declared.fault.Fault.TheVariants.{Memory};
 ghost use Rattle.vast_read.specs.DeclarationView.{declaration_view, declarations_view};

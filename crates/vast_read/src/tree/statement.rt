@@ -1,10 +1,9 @@
 //! Statements of procedural blocks.
 
-ghost use Rattle.std.specs.Prelude.{◌≡◌, ◌<◌, ◌≤◌, ◌+◌, ⊤, IfOk, IfErr, MatchOption, map, option_map};
-ghost use Rattle.vast_read.specs.declared.fault.Fault.TheVariants.{Memory};
+ghost use Rattle.std.specs.Prelude.{◌≡◌, ◌<◌, ◌≤◌, ◌+◌, ⊤, MatchOption, map, option_map};
 ghost use Rattle.vast_read.specs.Internal.StatementRelease.{of_block, statement_rounds, arm_rounds, label_rounds, statement_left, statement_alone, statement_beside, block_alone, block_beside, choice_alone};
 ghost use Rattle.vast_read.specs.StatementView.{block_view};
-ghost use Rattle.vast_read.specs.Internal.StatementView.{arm_view, label_view};
+ghost use Rattle.vast_read.specs.Internal.StatementView.{label_view};
 ghost use Rattle.vast_read.specs.View.{view};
 
 use crate::children::Children;

@@ -1,6 +1,6 @@
 //! Casts.
 
-ghost use Rattle.std.specs.Prelude.{◌≡◌, IsTrue};
+ghost use Rattle.std.specs.Prelude.{IsTrue};
 ghost use Rattle.vast_core.specs.Types.{is_castable};
 ghost use Rattle.vast_core.specs.Bench.{OwnsExpr, OwnsType, type_of};
 ghost use Rattle.vast_core.specs.Growth.{Builds, next_expr};

@@ -1,6 +1,5 @@
 //! Operators and edges before one operand.
 
-ghost use Rattle.std.specs.Prelude.{◌≡◌};
 ghost use Rattle.vast_literal.specs.declared.operator.UnaryOperator.TheVariants.{Negate as NegateOp, BitwiseNot as BitwiseNotOp, LogicalNot as LogicalNotOp, AndReduce as AndReduceOp, OrReduce as OrReduceOp, XorReduce as XorReduceOp};
 ghost use Rattle.vast_core.specs.Bench.{OwnsExpr};
 ghost use Rattle.vast_core.specs.Growth.{Builds, next_expr};

@@ -9,5 +9,7 @@ use Rattle.vast_print.proofs.always.print_events.Given as goal
 
 abbrev pub invariant-loop-i : goal.invariant-loop-i
 invariant-loop-i l =
-    pour l.depth (Wet l.fn.out) (written (events_text (trees_of (bench l.ast) l.events)))
-    ≡ pour l.depth (Wet l.out) (written (rest_events l.i (trees_of (bench l.ast) (drop l.i l.events))))
+    record {
+      same : pour l.fn.out.margin (Wet l.fn.out.draft) (written (events_text (trees_of (bench l.ast) l.events))) ≡ pour l.fn.out.margin (Wet l.out.draft) (written (rest_events l.i (trees_of (bench l.ast) (drop l.i l.events))));
+      margin : l.out.margin ≡ l.fn.out.margin;
+    }

@@ -11,8 +11,9 @@ use Rattle.vast_print.proofs.expression.print_wrapped.Given as goal
 abbrev pub invariant-loop-piece : goal.invariant-loop-piece
 invariant-loop-piece l =
     record {
-      same : pour l.depth (Wet l.fn.out) (written (wrapped l.fn.wraps (expr_text (tree_of (bench l.ast) l.fn.e)))) ≡ pour l.depth (Wet l.out) (written (pieces_text (bench l.ast) l.work.items));
+      same : pour l.fn.out.margin (Wet l.fn.out.draft) (written (wrapped l.fn.wraps (expr_text (tree_of (bench l.ast) l.fn.e)))) ≡ pour l.fn.out.margin (Wet l.out.draft) (written (pieces_text (bench l.ast) l.work.items));
       owned : PiecesOwned (bench l.ast) l.work.items;
+      margin : l.out.margin ≡ l.fn.out.margin;
     }
 
 abbrev pub decreases-loop-piece : goal.decreases-loop-piece

@@ -8,12 +8,12 @@ use Rattle.vast_print.proofs.Derivations.{emitted-derives}
 use Rattle.vast_print.proofs.file.print_expr.Goals as goal
 
 pub returns-in-Ok-clause-text : goal.returns-in-Ok-clause-text
-returns-in-Ok-clause-text c = emits-line (expr_text (tree_of (bench c.args.ast.now) c.args.e)) c.print_line.new.out _ (rw c.new-out.ensures at c.in-Ok.ensures) c.finish_line.ensures
+returns-in-Ok-clause-text c = emits-line (expr_text (tree_of (bench c.args.ast.now) c.args.e)) c.print_line.new.out.draft _ (rw c.new-out.ensures at c.in-Ok.ensures).0 c.finish_line.ensures
 
 pub returns-in-Ok-clause-derived : goal.returns-in-Ok-clause-derived
 returns-in-Ok-clause-derived c =
     let text : EmitsText (expr_text (tree_of (bench c.args.ast.now) c.args.e)) (Ok c.finish_line.result) =
-    emits-line (expr_text (tree_of (bench c.args.ast.now) c.args.e)) c.print_line.new.out _ (rw c.new-out.ensures at c.in-Ok.ensures) c.finish_line.ensures in
+    emits-line (expr_text (tree_of (bench c.args.ast.now) c.args.e)) c.print_line.new.out.draft _ (rw c.new-out.ensures at c.in-Ok.ensures).0 c.finish_line.ensures in
     emitted-derives (bench c.args.ast.now) c.args.e (Ok c.finish_line.result) c.trees_are_well_formed.ensures c.requires text
 
 pub returns-in-Err-clause-text : goal.returns-in-Err-clause-text

@@ -8,5 +8,7 @@ use Rattle.vast_print.proofs.file.print_items.Given as goal
 
 abbrev pub invariant-loop-item : goal.invariant-loop-item
 invariant-loop-item l =
-    hang 0 (Wet l.fn.out) (layout (tree (bench l.ast)))
-    ≡ hang 0 (Wet l.out) (items_page (bench l.ast).file_type (map (λ x. item_tree (bench l.ast) (file_entry x)) (drop l.item-index l.item-items)))
+    record {
+      same : hang l.fn.out.margin (Wet l.fn.out.draft) (layout (tree (bench l.ast))) ≡ hang l.fn.out.margin (Wet l.out.draft) (items_page (bench l.ast).file_type (map (λ x. item_tree (bench l.ast) (file_entry x)) (drop l.item-index l.item-items)));
+      margin : l.out.margin ≡ l.fn.out.margin;
+    }

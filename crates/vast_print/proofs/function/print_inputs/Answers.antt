@@ -9,13 +9,13 @@ use Rattle.vast_print.proofs.function.print_inputs.Goals as goal
 pub returns-in_err-print_input : goal.returns-in_err-print_input
 returns-in_err-print_input c =
     let x : FunctionVariable = c.index-inputs-i.result in
-    grind (arith, stops, variables-step (bench c.args.ast.now).file_type (bench c.args.ast.now) c.args.depth (Wet c.loop-i.out) c.args.inputs.now c.loop-i.i x c.loop-i-test.true c.index-inputs-i.is)
+    grind (arith, stops, variables-step (bench c.args.ast.now).file_type (bench c.args.ast.now) c.args.out.now.margin (Wet c.loop-i.out.draft) c.args.inputs.now c.loop-i.i x c.loop-i-test.true c.index-inputs-i.is)
 
 pub loop-i-preserved : goal.loop-i-preserved
 loop-i-preserved c =
     let x : FunctionVariable = c.index-inputs-i.result in
-    grind (arith, variables-step (bench c.args.ast.now).file_type (bench c.args.ast.now) c.args.depth (Wet c.loop-i.out) c.args.inputs.now c.loop-i.i x c.loop-i-test.true c.index-inputs-i.is)
+    grind (arith, variables-step (bench c.args.ast.now).file_type (bench c.args.ast.now) c.args.out.now.margin (Wet c.loop-i.out.draft) c.args.inputs.now c.loop-i.i x c.loop-i-test.true c.index-inputs-i.is)
 
 pub returns : goal.returns
 returns c =
-    grind (arith, variables-end (bench c.args.ast.now).file_type (bench c.args.ast.now) c.args.depth (Wet c.loop-i.out) c.args.inputs.now c.loop-i.i c.loop-i-test.false)
+    grind (arith, variables-end (bench c.args.ast.now).file_type (bench c.args.ast.now) c.args.out.now.margin (Wet c.loop-i.out.draft) c.args.inputs.now c.loop-i.i c.loop-i-test.false)

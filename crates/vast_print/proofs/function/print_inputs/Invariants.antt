@@ -9,5 +9,7 @@ use Rattle.vast_print.proofs.function.print_inputs.Given as goal
 
 abbrev pub invariant-loop-i : goal.invariant-loop-i
 invariant-loop-i l =
-    pour l.depth (Wet l.fn.out) (written (inputs_text (bench l.ast).file_type (map (variable_tree (bench l.ast)) l.inputs)))
-    ≡ pour l.depth (Wet l.out) (written (rest_inputs l.i (bench l.ast).file_type (map (variable_tree (bench l.ast)) (drop l.i l.inputs))))
+    record {
+      same : pour l.fn.out.margin (Wet l.fn.out.draft) (written (inputs_text (bench l.ast).file_type (map (variable_tree (bench l.ast)) l.inputs))) ≡ pour l.fn.out.margin (Wet l.out.draft) (written (rest_inputs l.i (bench l.ast).file_type (map (variable_tree (bench l.ast)) (drop l.i l.inputs))));
+      margin : l.out.margin ≡ l.fn.out.margin;
+    }

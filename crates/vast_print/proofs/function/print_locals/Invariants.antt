@@ -7,5 +7,7 @@ use Rattle.vast_print.proofs.function.print_locals.Given as goal
 
 abbrev pub invariant-loop-local : goal.invariant-loop-local
 invariant-loop-local l =
-    hang l.depth (Wet l.fn.out) (locals_page (bench l.ast).file_type (map (variable_tree (bench l.ast)) l.locals))
-    ≡ hang l.depth (Wet l.out) (locals_page (bench l.ast).file_type (map (variable_tree (bench l.ast)) (drop l.local-index l.locals)))
+    record {
+      same : hang l.fn.out.margin (Wet l.fn.out.draft) (locals_page (bench l.ast).file_type (map (variable_tree (bench l.ast)) l.locals)) ≡ hang l.fn.out.margin (Wet l.out.draft) (locals_page (bench l.ast).file_type (map (variable_tree (bench l.ast)) (drop l.local-index l.locals)));
+      margin : l.out.margin ≡ l.fn.out.margin;
+    }

@@ -8,5 +8,7 @@ use Rattle.vast_print.proofs.instance.print_entries.Given as goal
 
 abbrev pub invariant-loop-i : goal.invariant-loop-i
 invariant-loop-i l =
-    hang l.depth (Wet l.fn.out) (entries_page (map connection_text (map (connection_tree (bench l.ast)) (map connection_record l.connections))))
-    ≡ hang l.depth (Wet l.out) (entries_page (map connection_text (map (connection_tree (bench l.ast)) (map connection_record (drop l.i l.connections)))))
+    record {
+      same : hang l.fn.out.margin (Wet l.fn.out.draft) (entries_page (map connection_text (map (connection_tree (bench l.ast)) (map connection_record l.connections)))) ≡ hang l.fn.out.margin (Wet l.out.draft) (entries_page (map connection_text (map (connection_tree (bench l.ast)) (map connection_record (drop l.i l.connections)))));
+      margin : l.out.margin ≡ l.fn.out.margin;
+    }

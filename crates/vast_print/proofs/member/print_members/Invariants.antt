@@ -7,5 +7,7 @@ use Rattle.vast_print.proofs.member.print_members.Given as goal
 
 abbrev pub invariant-loop-member : goal.invariant-loop-member
 invariant-loop-member l =
-    hang l.depth (Wet l.fn.out) (members_page (bench l.ast).file_type (members_tree (bench l.ast) l.members))
-    ≡ hang l.depth (Wet l.out) (members_page (bench l.ast).file_type (members_tree (bench l.ast) (drop l.member-index l.members)))
+    record {
+      same : hang l.fn.out.margin (Wet l.fn.out.draft) (members_page (bench l.ast).file_type (members_tree (bench l.ast) l.members)) ≡ hang l.fn.out.margin (Wet l.out.draft) (members_page (bench l.ast).file_type (members_tree (bench l.ast) (drop l.member-index l.members)));
+      margin : l.out.margin ≡ l.fn.out.margin;
+    }

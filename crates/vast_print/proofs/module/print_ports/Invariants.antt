@@ -7,5 +7,7 @@ use Rattle.vast_print.proofs.module.print_ports.Given as goal
 
 abbrev pub invariant-loop-i : goal.invariant-loop-i
 invariant-loop-i l =
-    hang l.depth (Wet l.fn.out) (ports_page (bench l.ast).file_type (map (port_tree (bench l.ast)) l.ports))
-    ≡ hang l.depth (Wet l.out) (ports_page (bench l.ast).file_type (map (port_tree (bench l.ast)) (drop l.i l.ports)))
+    record {
+      same : hang l.fn.out.margin (Wet l.fn.out.draft) (ports_page (bench l.ast).file_type (map (port_tree (bench l.ast)) l.ports)) ≡ hang l.fn.out.margin (Wet l.out.draft) (ports_page (bench l.ast).file_type (map (port_tree (bench l.ast)) (drop l.i l.ports)));
+      margin : l.out.margin ≡ l.fn.out.margin;
+    }

@@ -8,5 +8,7 @@ use Rattle.vast_print.proofs.parameter.print_parameter_ports.Given as goal
 
 abbrev pub invariant-loop-i : goal.invariant-loop-i
 invariant-loop-i l =
-    hang l.depth (Wet l.fn.out) (parameter_ports_page (bench l.ast).file_type (map (parameter_port_tree (bench l.ast)) (map parameter_port_record l.parameters)))
-    ≡ hang l.depth (Wet l.out) (parameter_ports_page (bench l.ast).file_type (map (parameter_port_tree (bench l.ast)) (map parameter_port_record (drop l.i l.parameters))))
+    record {
+      same : hang l.fn.out.margin (Wet l.fn.out.draft) (parameter_ports_page (bench l.ast).file_type (map (parameter_port_tree (bench l.ast)) (map parameter_port_record l.parameters))) ≡ hang l.fn.out.margin (Wet l.out.draft) (parameter_ports_page (bench l.ast).file_type (map (parameter_port_tree (bench l.ast)) (map parameter_port_record (drop l.i l.parameters))));
+      margin : l.out.margin ≡ l.fn.out.margin;
+    }

@@ -11,4 +11,4 @@ below_smallest = refl
 pub returns-in_ok-word : goal.returns-in_ok-word
 returns-in_ok-word c =
     let low : c.args.value ≡ negsuc 9223372036854775807 = search rules in
-    rw (low, below_smallest) c.in_ok-word.ensures
+    rw (low, below_smallest) (c.in_ok-word.ensures.text, c.in_ok-word.ensures.margin)

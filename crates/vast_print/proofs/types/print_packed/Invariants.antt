@@ -13,7 +13,8 @@ abbrev pub invariant-loop-element : goal.invariant-loop-element
 invariant-loop-element l =
     record {
       owned : OwnsType (bench l.ast) l.inner;
-      same : pour l.depth (Wet l.fn.out) (written (plain_text (packed_text (packed_dimensions (type_of (bench l.ast) l.fn.t))))) ≡ pour l.depth (Wet l.out) (written (plain_text (packed_text (packed_dimensions (type_of (bench l.ast) l.inner)))));
+      same : pour l.fn.out.margin (Wet l.fn.out.draft) (written (plain_text (packed_text (packed_dimensions (type_of (bench l.ast) l.fn.t))))) ≡ pour l.fn.out.margin (Wet l.out.draft) (written (plain_text (packed_text (packed_dimensions (type_of (bench l.ast) l.inner)))));
+      margin : l.out.margin ≡ l.fn.out.margin;
     }
 
 abbrev pub decreases-loop-element : goal.decreases-loop-element

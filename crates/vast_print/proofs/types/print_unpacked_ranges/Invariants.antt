@@ -7,5 +7,7 @@ use Rattle.vast_print.proofs.types.print_unpacked_ranges.Given as goal
 
 abbrev pub invariant-loop-dimension : goal.invariant-loop-dimension
 invariant-loop-dimension l =
-    pour l.depth (Wet l.fn.out) (written (plain_text (unpacked_text l.file_type l.dimensions)))
-    ≡ pour l.depth (Wet l.out) (written (plain_text (unpacked_text l.file_type (drop l.dimension-index l.dimensions))))
+    record {
+      same : pour l.fn.out.margin (Wet l.fn.out.draft) (written (plain_text (unpacked_text l.file_type l.dimensions))) ≡ pour l.fn.out.margin (Wet l.out.draft) (written (plain_text (unpacked_text l.file_type (drop l.dimension-index l.dimensions))));
+      margin : l.out.margin ≡ l.fn.out.margin;
+    }

@@ -1,4 +1,4 @@
-use Rattle.std.proofs.Common.{◌≡◌, ℕ, List, subst, sym}
+use Rattle.std.proofs.Common.{ℕ, List, subst, sym}
 use Rattle.vast_core.specs.FileTree.{tree}
 use Rattle.vast_print.specs.Derived.{FileDerivesIfPlain}
 use Rattle.vast_demo.proofs.ReadingBack.{plain_read}

@@ -7,9 +7,9 @@ use Rattle.vast_print.proofs.writer.Writer.comment.Goals as goal
 pub loop-line-preserved : goal.loop-line-preserved
 loop-line-preserved c =
     let q = cut c.loop-line.rest.now (c.in-Some.line, c.in-Some.more) c.in-Some.ensures.cases in
-    (search rules, grind (arith, comment-step c.args.depth (Wet c.loop-line.self) c.loop-line.rest.now c.in-Some.line.now c.in-Some.more.now q.0 q.1))
+    (search rules, grind (arith, comment-step c.args.self.now.margin (Wet c.loop-line.self.draft) c.loop-line.rest.now c.in-Some.line.now c.in-Some.more.now q.0 q.1), grind arith)
 
 pub returns : goal.returns
 returns c =
     let q = uncut c.loop-line.rest.now c.in_default.ensures.cases in
-    grind (arith, comment-last c.args.depth (Wet c.loop-line.self) c.loop-line.rest.now q)
+    grind (arith, comment-last c.args.self.now.margin (Wet c.loop-line.self.draft) c.loop-line.rest.now q)

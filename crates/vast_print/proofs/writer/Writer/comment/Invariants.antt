@@ -7,7 +7,7 @@ use Rattle.vast_print.specs.Ink.{Wet, hang}
 use Rattle.vast_print.proofs.writer.Writer.comment.Given as goal
 
 abbrev pub invariant-loop-line : goal.invariant-loop-line
-invariant-loop-line l = shadow (Utf8 l.rest) × (hang l.depth (Wet l.fn.self) (commented (written (plain_text l.fn.text))) ≡ hang l.depth (Wet l.self) (commented (written (plain_text l.rest))))
+invariant-loop-line l = shadow (Utf8 l.rest) × (hang l.fn.self.margin (Wet l.fn.self.draft) (commented (written (plain_text l.fn.text))) ≡ hang l.fn.self.margin (Wet l.self.draft) (commented (written (plain_text l.rest)))) × (l.self.margin ≡ l.fn.self.margin)
 
 abbrev pub decreases-loop-line : goal.decreases-loop-line
 decreases-loop-line l = length l.rest

@@ -7,7 +7,7 @@ use Rattle.vast_print.specs.Ink.{Wet, pour}
 use Rattle.vast_print.proofs.writer.Writer.lines.Given as goal
 
 abbrev pub invariant-loop-line : goal.invariant-loop-line
-invariant-loop-line l = shadow (Utf8 l.rest) × (pour l.depth (Wet l.fn.self) (written (plain_text l.fn.text)) ≡ pour l.depth (Wet l.self) (written (plain_text l.rest)))
+invariant-loop-line l = shadow (Utf8 l.rest) × (pour l.fn.self.margin (Wet l.fn.self.draft) (written (plain_text l.fn.text)) ≡ pour l.fn.self.margin (Wet l.self.draft) (written (plain_text l.rest))) × (l.self.margin ≡ l.fn.self.margin)
 
 abbrev pub decreases-loop-line : goal.decreases-loop-line
 decreases-loop-line l = length l.rest

@@ -8,4 +8,4 @@ use Rattle.vast_print.proofs.writer.Writer.written.Goals as goal
 pub returns-else-contains : goal.returns-else-contains
 returns-else-contains c =
     let none : list_any (λ y. eqb y 10) c.args.text.now ≡ false = rw c.as_bytes.ensures.value at (sym c.contains.ensures.value ∙ c.if-contains.false) in
-    rw (pour-word c.args.depth (Wet c.args.self.now) c.args.text.now (no-break c.args.text.now none)) c.word.ensures
+    rw (pour-word c.args.self.now.margin (Wet c.args.self.now.draft) c.args.text.now (no-break c.args.text.now none)) c.word.ensures
