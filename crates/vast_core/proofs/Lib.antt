@@ -34,3 +34,4 @@ pub mod WellFormedParts
 pub mod WellFormedTree
 pub mod Stays
 pub mod Spots
+pub mod Heights

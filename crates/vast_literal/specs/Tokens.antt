@@ -3,12 +3,14 @@ use Rattle.std.specs.Prelude.{ℕ, List, [], ◌∷◌, Bool, true, false, cond,
 use Rattle.std.specs.Str.{bytes_eq}
 use Rattle.vast_literal.specs.Keyword.{is_keyword}
 
--- Operators; some stand between two operands, some before one, some in both places.
-pub data Op : Type 0 where
-  LogicOr LogicAnd BitOr BitXor BitAnd : Op
-  NotEqual CaseNotEqual Equal CaseEqual GreaterEqual Greater LessEqual Less : Op
-  ShiftLeft ShiftRightSigned ShiftRight Plus Minus Times Divide Modulo Power : Op
-  BitNot LogicNot : Op
+-- Operators (some stand between two operands, some before one, some in both places), marks of punctuation and the keywords
+-- that the grammar uses are the code's own enums.
+pub use Rattle.vast_literal.specs.declared.token.Sign.{Sign as Op}
+pub use Rattle.vast_literal.specs.declared.token.Sign.TheVariants.{LogicOr, LogicAnd, BitOr, BitXor, BitAnd, NotEqual, CaseNotEqual, Equal, CaseEqual, GreaterEqual, Greater, LessEqual, Less, ShiftLeft, ShiftRightSigned, ShiftRight, Plus, Minus, Times, Divide, Modulo, Power, BitNot, LogicNot}
+pub use Rattle.vast_literal.specs.declared.token.Mark.{Mark as Punct}
+pub use Rattle.vast_literal.specs.declared.token.Mark.TheVariants.{OpenParen, CloseParen, OpenBracket, CloseBracket, OpenBrace, CloseBrace, Comma, Colon, Semicolon, Dot, Hash, At, Question, DoubleColon, PlusColon, Assign, Apostrophe}
+pub use Rattle.vast_literal.specs.declared.token.Key.{Key}
+pub use Rattle.vast_literal.specs.declared.token.Key.TheVariants.{If as IfKey, Else as ElseKey, Case as CaseKey, Casez as CasezKey, Casex as CasexKey, EndCase as EndCaseKey, Default as DefaultKey, Unique as UniqueKey, Begin as BeginKey, End as EndKey, Assign as AssignKey, Wire as WireKey, Reg as RegKey, Logic as LogicKey, Integer as IntegerKey, Int as IntKey, Genvar as GenvarKey, Signed as SignedKey, Unsigned as UnsignedKey, Module as ModuleKey, EndModule as EndModuleKey, Parameter as ParameterKey, Localparam as LocalparamKey, AlwaysComb as AlwaysCombKey, AlwaysFF as AlwaysFFKey, Always as AlwaysKey, Posedge as PosedgeKey, Negedge as NegedgeKey, Or as OrKey, Function as FunctionKey, Automatic as AutomaticKey, EndFunction as EndFunctionKey, Input as InputKey, Output as OutputKey, InOut as InOutKey, For as ForKey}
 
 -- How an operator is written, and how tightly it binds its two operands (IEEE Std 1800, operator precedence); 0 for one that
 -- only stands before.
@@ -47,18 +49,6 @@ level op = (operator_row op).1
 -- Whether an operator may stand before an operand.
 unfoldable pub is_unary : Op → Bool
 is_unary op = elim op [ Minus ↦ true | BitNot ↦ true | LogicNot ↦ true | BitAnd ↦ true | BitOr ↦ true | BitXor ↦ true | _ ↦ false ]
-
--- The marks of punctuation.
-pub data Punct : Type 0 where
-  OpenParen CloseParen OpenBracket CloseBracket OpenBrace CloseBrace : Punct
-  Comma Colon Semicolon Dot Hash At Question DoubleColon PlusColon Assign Apostrophe : Punct
-
--- The keywords that the grammar uses.
-pub data Key : Type 0 where
-  IfKey ElseKey CaseKey CasezKey CasexKey EndCaseKey DefaultKey UniqueKey BeginKey EndKey AssignKey : Key
-  WireKey RegKey LogicKey IntegerKey IntKey GenvarKey SignedKey UnsignedKey : Key
-  ModuleKey EndModuleKey ParameterKey LocalparamKey AlwaysCombKey AlwaysFFKey AlwaysKey PosedgeKey NegedgeKey OrKey : Key
-  FunctionKey AutomaticKey EndFunctionKey InputKey OutputKey InOutKey ForKey : Key
 
 -- A keyword as it is written.
 unfoldable pub key_text : Key → List ℕ

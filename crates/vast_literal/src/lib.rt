@@ -10,6 +10,7 @@ mod operator;
 mod pattern;
 mod quoted;
 mod refusal;
+mod token;
 
 pub use error::{VastError, VastFault};
 pub use keyword::is_system_verilog_keyword;
@@ -18,3 +19,4 @@ pub use literal::{Literal, LiteralFormat};
 pub use operator::{BinaryOperator, UnaryOperator};
 pub use pattern::pattern_text;
 pub use quoted::quoted_text;
+pub use token::{Key, Mark, Sign};

@@ -1,6 +1,5 @@
 pub mod Tests
 pub mod Lists
 pub mod Values
-pub mod Heights
 pub mod Statements
 pub mod Members

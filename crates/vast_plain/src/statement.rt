@@ -2,12 +2,11 @@
 
 ghost use Rattle.std.specs.Prelude.{◌&&◌, IfSome};
 ghost use Rattle.vast_literal.specs.PlainFile.{is_plain_maybe, is_plain_assignment, is_plain_statement, are_plain_statements};
-ghost use Rattle.vast_core.specs.Bench.{OwnsExpr, OwnsBlock, OwnsConditional, OwnsCase, tree_of, maybe_tree_of};
+ghost use Rattle.vast_core.specs.Bench.{OwnsBlock, OwnsCase, OwnsConditional, OwnsEntry, OwnsExpr, tree_of, maybe_tree_of};
 ghost use Rattle.vast_core.specs.Nests.{statement_entry};
 ghost use Rattle.vast_core.specs.FileTree.{families, statement_in, conditional_statement, case_statement, block_tree};
 ghost use Rattle.vast_core.specs.View.{bench};
 ghost use Rattle.vast_plain.specs.Internal.Values.{Answers};
-ghost use Rattle.vast_plain.specs.Internal.Statements.{StatementOwned};
 ghost use Rattle.vast_literal.specs.Plain.{is_plain};
 
 use crate::expression::{is_left_side, is_plain_maybe, is_plain_value};
@@ -48,7 +47,7 @@ pub(crate) fn is_plain_block(ast: &Ast, b: VastStatementBlock) -> Result<bool, A
 /// Whether the statement is no inline text, and all that it holds is plain.
 #[cycle(statements)]
 fn is_plain_statement(ast: &Ast, statement: &Statement) -> Result<bool, AllocError>
-    requires { StatementOwned (bench ast.now) (statement_entry statement.now) }
+    requires { OwnsEntry (bench ast.now) (statement_entry statement.now) }
     ensures { Answers
         (is_plain_statement
         (statement_in (bench ast.now) (families (bench ast.now))

@@ -13,7 +13,7 @@ pub mod PrintLaws
 pub mod BareLaws
 pub mod ModuleLaws
 pub mod ArenaLaws
-pub mod Heights
+pub mod Variables
 pub mod ContainerLaws
 mod Pins
 mod PagePins

@@ -144,7 +144,7 @@ fn print_result(ast: &Ast, t: VastDataType, name: &str, out: &mut Writer) -> Res
 }
 
 /// Writes a function on lines of its own.
-#[tactic(auto, using(crate::proofs::ContainerLaws::functions, crate::proofs::Heights::variables))]
+#[tactic(auto, using(crate::proofs::ContainerLaws::functions, crate::proofs::Variables::variables))]
 pub(crate) fn print_function(ast: &Ast, f: VastFunction, out: &mut Writer) -> Result<(), PrintFault>
     requires owned { OwnsFunction (bench ast.now) f }
     ensures { WritesLines out.old out.new result

@@ -1,10 +1,9 @@
 //! Blocks and statements.
 
-ghost use Rattle.vast_core.specs.Bench.{OwnsBlock};
+ghost use Rattle.vast_core.specs.Bench.{OwnsBlock, OwnsEntry};
 ghost use Rattle.vast_core.specs.Nests.{statement_entry};
 ghost use Rattle.vast_core.specs.FileTree.{families, statement_in, block_tree};
 ghost use Rattle.vast_core.specs.View.{bench};
-ghost use Rattle.vast_print.specs.Internal.Statements.{OwnsEntry};
 ghost use Rattle.vast_print.specs.Ink.{Wet, next, pour};
 ghost use Rattle.vast_print.specs.Internal.Ink.{Writes, WritesLines, WritesBehind};
 ghost use Rattle.vast_print.specs.Printed.{plain_text};

@@ -3,7 +3,7 @@ use Rattle.vast_core.specs.FileTree.{families, loop_member, members_tree}
 use Rattle.vast_core.specs.View.{bench}
 use Rattle.vast_print.specs.Ink.{Wet, word, next, hang}
 use Rattle.vast_print.specs.Members.{member_page, members_page}
-use Rattle.vast_print.proofs.Heights.{height, member_height}
+use Rattle.vast_core.proofs.Heights.{height, member_height}
 use Rattle.vast_print.proofs.+members.Given as goal
 
 abbrev pub decreases-member::print_member : goal.decreases-member::print_member

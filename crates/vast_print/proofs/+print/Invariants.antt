@@ -4,7 +4,7 @@ use Rattle.vast_core.specs.FileTree.{families, conditional_statement, case_state
 use Rattle.vast_core.specs.View.{bench}
 use Rattle.vast_print.specs.Ink.{Wet, word, next, hang, pour}
 use Rattle.vast_print.specs.Statements.{statement_page, statements_page, alternates_page, arms_page}
-use Rattle.vast_print.proofs.Heights.{height, statement_height}
+use Rattle.vast_core.proofs.Heights.{height, statement_height}
 use Rattle.vast_print.proofs.+print.Given as goal
 
 abbrev pub decreases-statement::print_block : goal.decreases-statement::print_block

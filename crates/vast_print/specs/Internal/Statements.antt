@@ -4,8 +4,6 @@ use Rattle.vast_literal.specs.Tree.{MaybeExpr}
 use Rattle.vast_literal.specs.declared.kind.CaseKind.{CaseKind as CaseWord}
 use Rattle.vast_literal.specs.Tree.{Statements}
 use Rattle.vast_literal.specs.Shape.{is_bare_arm}
-use Rattle.vast_core.specs.Nests.{StatementEntry, AssignStatement, ContinuousStatement, ConditionalStatement, CasesStatement, BlankStatement, CommentStatement, InlineStatement}
-use Rattle.vast_core.specs.Bench.{Bench, OwnsStatement, OwnsConditional, OwnsCase}
 use Rattle.vast_print.specs.Printed.{plain_text, ◌⊕◌}
 use Rattle.vast_print.specs.Page.{Page, beside, written}
 use Rattle.vast_print.specs.Statements.{label_text, statements_page, block_page}
@@ -16,13 +14,3 @@ arm_body_page word b = cond (is_bare_arm word b) (statements_page b) (block_page
 
 unfoldable pub arm_page : CaseWord → MaybeExpr → Statements → Page
 arm_page word label b = beside (written (label_text label ⊕ plain_text (codes ": "))) (arm_body_page word b)
-
--- what a statement names is the file's
-abbrev pub OwnsEntry : Bench → StatementEntry → Type 0
-OwnsEntry b (AssignStatement s) = OwnsStatement b s
-OwnsEntry b (ContinuousStatement s) = OwnsStatement b s
-OwnsEntry b (ConditionalStatement c) = OwnsConditional b c
-OwnsEntry b (CasesStatement c) = OwnsCase b c
-OwnsEntry b BlankStatement = Unit {0}
-OwnsEntry b (CommentStatement text) = Unit {0}
-OwnsEntry b (InlineStatement text) = Unit {0}

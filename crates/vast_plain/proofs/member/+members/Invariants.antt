@@ -2,7 +2,7 @@ use Rattle.std.proofs.Common.{◌≡◌, drop}
 use Rattle.vast_literal.specs.PlainFile.{is_plain_member, are_plain_members}
 use Rattle.vast_core.specs.FileTree.{families, loop_member, members_tree}
 use Rattle.vast_core.specs.View.{bench}
-use Rattle.vast_plain.proofs.Heights.{height, member_height}
+use Rattle.vast_core.proofs.Heights.{height, member_height}
 use Rattle.vast_plain.proofs.member.+members.Given as goal
 
 abbrev pub decreases-is_plain_member : goal.decreases-is_plain_member

@@ -3,7 +3,7 @@ use Rattle.vast_literal.specs.PlainFile.{is_plain_statement, are_plain_statement
 use Rattle.vast_core.specs.Nests.{statement_entry}
 use Rattle.vast_core.specs.FileTree.{families, conditional_statement, case_statement, block_tree, statements_tree, alternates_tree, case_arms_tree}
 use Rattle.vast_core.specs.View.{bench}
-use Rattle.vast_plain.proofs.Heights.{height, statement_height}
+use Rattle.vast_core.proofs.Heights.{height, statement_height}
 use Rattle.vast_plain.proofs.statement.+statements.Given as goal
 
 abbrev pub decreases-is_plain_block : goal.decreases-is_plain_block

@@ -1,6 +1,6 @@
 use Rattle.std.proofs.Common.{arith}
 use Rattle.vast_core.specs.View.{bench}
-use Rattle.vast_print.proofs.Heights.{inputs-own, locals-own}
+use Rattle.vast_print.proofs.Variables.{inputs-own, locals-own}
 use Rattle.vast_print.proofs.ContainerLaws.{functions}
 use Rattle.vast_print.proofs.function.print_function.Goals as goal
 

@@ -1,12 +1,8 @@
--- How much is still to print: less for newer containers, so that printing ends.
-use Rattle.std.proofs.Common.{ℕ, ◌+◌, ◌-◌, ◌*◌, ◌^◌, All}
-use Rattle.vast_core.specs.declared.node.Function.{Function}
+-- How much of a file is still to walk: less for newer containers, so that a walk ends.
+use Rattle.std.proofs.Common.{ℕ, ◌+◌, ◌-◌, ◌*◌, ◌^◌}
 use Rattle.vast_core.specs.declared.node.Member.{Member}
 use Rattle.vast_core.specs.declared.node.Member.TheVariants.{Declaration as DeclarationEntry, ContinuousAssignment as AssignmentEntry, Parameter as ParameterEntry, BlankLine as BlankEntry, Comment as CommentEntry, Inline as InlineEntry, Macro as MacroEntry, Instantiation as InstanceEntry, Function as FunctionEntry, Always as AlwaysEntry, Conditional as ConditionalEntry, Loop as LoopEntry}
-use Rattle.vast_core.specs.Nests.{StatementEntry, AssignStatement, ContinuousStatement, ConditionalStatement, CasesStatement, BlankStatement, CommentStatement, InlineStatement, function_record}
-use Rattle.vast_core.specs.Bench.{Bench}
-use Rattle.vast_core.specs.Sound.{VariableSound, FunctionSound}
-use Rattle.vast_core.proofs.Lists.{All-own}
+use Rattle.vast_core.specs.Nests.{StatementEntry, AssignStatement, ContinuousStatement, ConditionalStatement, CasesStatement, BlankStatement, CommentStatement, InlineStatement}
 
 abbrev pub height : ℕ → ℕ
 height i = 8 * (2 ^ 64 - i)
@@ -35,14 +31,3 @@ member_height (FunctionEntry f) = 0
 member_height (AlwaysEntry a) = 0
 member_height (ConditionalEntry c) = 0
 member_height (LoopEntry l) = height l.id.index + 1
-
--- what a list holds, at one of its places
-
--- the inputs and the locals of a function
-pub inputs-own : (b : Bench) (f : Function) → FunctionSound b (function_record f) → All (VariableSound b) f.inputs.items
-inputs-own b f h = All-own (VariableSound b) f.inputs.items h.inputs
-
-pub locals-own : (b : Bench) (f : Function) → FunctionSound b (function_record f) → All (VariableSound b) f.locals.items
-locals-own b f h = All-own (VariableSound b) f.locals.items h.locals
-
-pub ruleset variables = (inputs-own, locals-own)
