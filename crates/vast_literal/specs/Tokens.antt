@@ -2,7 +2,6 @@
 use Rattle.std.specs.Prelude.{ℕ, List, [], ◌∷◌, Bool, true, false, cond, Option, Some, None, codes}
 use Rattle.std.specs.Str.{bytes_eq}
 use Rattle.vast_literal.specs.Keyword.{is_keyword}
-
 -- Operators (some stand between two operands, some before one, some in both places), marks of punctuation and the keywords
 -- that the grammar uses are the code's own enums.
 pub use Rattle.vast_literal.specs.declared.token.Sign.{Sign as Op}

@@ -159,12 +159,7 @@ impl Sign {
     {
         matches!(
             self,
-            Sign::Minus
-                | Sign::BitNot
-                | Sign::LogicNot
-                | Sign::BitAnd
-                | Sign::BitOr
-                | Sign::BitXor
+            Sign::Minus | Sign::BitNot | Sign::LogicNot | Sign::BitAnd | Sign::BitOr | Sign::BitXor
         )
     }
 }
@@ -220,6 +215,9 @@ impl Key {
     pub fn is_cast_word(self) -> bool
         ensures { result ≡ is_cast_word self }
     {
-        matches!(self, Key::Logic | Key::Signed | Key::Unsigned | Key::Integer | Key::Int)
+        matches!(
+            self,
+            Key::Logic | Key::Signed | Key::Unsigned | Key::Integer | Key::Int
+        )
     }
 }
