@@ -1,9 +1,8 @@
 //! The keywords of Verilog and SystemVerilog.
 
-ghost use Rattle.std.specs.Prelude.{◌≡◌, map};
+ghost use Rattle.std.specs.Prelude.{◌≡◌, length, map};
 ghost use Rattle.vast_literal.specs.Keyword.{keywords, is_keyword};
 
-/// The keywords, in the order of their bytes.
 #[rattlefmt::skip]
 static KEYWORDS: [&str; 248] = [
     "accept_on", "alias", "always", "always_comb", "always_ff", "always_latch", "and", "assert",
@@ -38,9 +37,10 @@ static KEYWORDS: [&str; 248] = [
     "wor", "xnor", "xor",
 ];
 
-/// The table, whose texts are the keywords.
-fn table() -> &'static [&'static str]
-    ensures { map (λ t. t.now) result.now ≡ keywords }
+/// The keywords of Verilog and SystemVerilog, in the order of their bytes.
+pub fn system_verilog_keywords() -> &'static [&'static str]
+    ensures words { map (λ t. t.now) result.now ≡ keywords }
+    ensures count { length result.now ≡ 248 }
 {
     &KEYWORDS
 }
@@ -51,5 +51,5 @@ fn table() -> &'static [&'static str]
 pub fn is_system_verilog_keyword(identifier: &str) -> bool
     ensures { result ≡ is_keyword identifier.now }
 {
-    table().binary_search(&identifier).is_ok()
+    system_verilog_keywords().binary_search(&identifier).is_ok()
 }
