@@ -4,7 +4,8 @@ use Rattle.std.proofs.lemmas.Bool.{and_left as false_and}
 use Rattle.std.proofs.lemmas.Bool.Decides.{nat_tests}
 use Rattle.std.specs.Prelude.{negsuc, if◌then◌else◌}
 use Rattle.std.specs.Fmt.{signed_decimal}
-use Rattle.vast_literal.specs.Tokens.{Token, Mark, OpenParen, Apostrophe, DoubleColon, Word}
+use Rattle.vast_literal.specs.Tokens.{Token, Mark, Word}
+use Rattle.vast_literal.specs.declared.token.Mark.TheVariants.{OpenParen, Apostrophe, DoubleColon}
 use Rattle.vast_literal.specs.declared.operator.BinaryOperator.{BinaryOperator as BinaryOp}
 use Rattle.vast_literal.specs.declared.operator.BinaryOperator.TheVariants.{Add as AddOp}
 use Rattle.vast_literal.specs.Tree.{ExprTree, NameTree, LiteralTree, StringTree, IndexTree, SliceTree, UnaryTree, BinaryTree, TernaryTree}

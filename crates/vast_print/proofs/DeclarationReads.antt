@@ -2,7 +2,10 @@
 use Rattle.std.proofs.Common.{◌≡◌, ℕ, ℤ, pos, ◌-ℤ◌, List, [], ◌∷◌, ◌++◌, Bool, true, false, Option, Some, None, refl, sym, subst, ap, ◌∙◌, append_assoc, append-nil, codes}
 use Rattle.std.proofs.lemmas.Option.{same_Some}
 use Rattle.std.specs.Fmt.{signed_decimal}
-use Rattle.vast_literal.specs.Tokens.{Token, key_text, WireKey, RegKey, LogicKey, IntegerKey, IntKey, GenvarKey, SignedKey, UnsignedKey, Mark, CloseBracket, Colon, DoubleColon, Operator, Minus, Word, Number}
+use Rattle.vast_literal.specs.Tokens.{Token, key_text, Mark, Operator, Word, Number}
+use Rattle.vast_literal.specs.declared.token.Sign.TheVariants.{Minus}
+use Rattle.vast_literal.specs.declared.token.Mark.TheVariants.{CloseBracket, Colon, DoubleColon}
+use Rattle.vast_literal.specs.declared.token.Key.TheVariants.{Wire as WireKey, Reg as RegKey, Logic as LogicKey, Integer as IntegerKey, Int as IntKey, Genvar as GenvarKey, Signed as SignedKey, Unsigned as UnsignedKey}
 use Rattle.vast_literal.specs.Tree.{ExprTree}
 use Rattle.vast_literal.specs.declared.kind.VastFileType.{VastFileType as Dialect}
 use Rattle.vast_literal.specs.declared.kind.VastFileType.TheVariants.{Verilog as VerilogDialect, SystemVerilog as SystemVerilogDialect}

@@ -1,6 +1,7 @@
 -- Lists of connections and of other entries have the tokens that the grammar reads.
 use Rattle.std.proofs.Common.{◌≡◌, ℕ, List, [], ◌∷◌, ◌++◌, map, true, ◌&&◌, None, refl, sym, append_assoc, codes}
-use Rattle.vast_literal.specs.Tokens.{Token, Mark, OpenParen, CloseParen, Semicolon, Comma, Dot, Hash}
+use Rattle.vast_literal.specs.Tokens.{Token, Mark}
+use Rattle.vast_literal.specs.declared.token.Mark.TheVariants.{OpenParen, CloseParen, Semicolon, Comma, Dot, Hash}
 use Rattle.vast_literal.specs.Tree.{MaybeExpr, NoExpr, SomeExpr}
 use Rattle.vast_literal.specs.Tree.{Connection}
 use Rattle.vast_literal.specs.Scan.{scan}

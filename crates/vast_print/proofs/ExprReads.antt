@@ -1,7 +1,10 @@
 -- The text of a plain expression has the tokens that the grammar reads, and the grammar derives its normal expression.
 use Rattle.std.proofs.Common.{◌≡◌, ℕ, ℤ, List, [], ◌∷◌, ◌++◌, Bool, true, false, not, ◌&&◌, Option, Some, None, refl, sym, ◌∙◌, append-nil, codes}
 use Rattle.std.specs.Fmt.{signed_decimal}
-use Rattle.vast_literal.specs.Tokens.{Token, Mark, Reserved, Word, Key, LogicKey, SignedKey, UnsignedKey, Apostrophe, OpenParen, DoubleColon, IntegerKey, IntKey, key_text}
+use Rattle.vast_literal.specs.Tokens.{Token, Mark, Reserved, Word, key_text}
+use Rattle.vast_literal.specs.declared.token.Mark.TheVariants.{Apostrophe, OpenParen, DoubleColon}
+use Rattle.vast_literal.specs.declared.token.Key.{Key}
+use Rattle.vast_literal.specs.declared.token.Key.TheVariants.{Logic as LogicKey, Signed as SignedKey, Unsigned as UnsignedKey, Integer as IntegerKey, Int as IntKey}
 use Rattle.vast_literal.specs.declared.operator.UnaryOperator.{UnaryOperator as UnaryOp}
 use Rattle.vast_literal.specs.declared.operator.BinaryOperator.{BinaryOperator as BinaryOp}
 use Rattle.vast_literal.specs.Tree.{ExprTree, NameTree, LiteralTree, StringTree, UnaryTree, BinaryTree, TernaryTree, IndexTree, SliceTree, PartSelectTree, ConcatTree, PatternTree, WidthCastTree, TypeCastTree, PosEdgeTree, NegEdgeTree, MacroTree, CallTree, MissingExpr}

@@ -1,6 +1,8 @@
 -- The grammar derives the normal form of a plain file from its printed layout.
 use Rattle.std.proofs.Common.{◌≡◌, ℕ, List, [], ◌∷◌, ◌++◌, map, true, false, ◌&&◌, Some, None, refl, append_assoc, codes}
-use Rattle.vast_literal.specs.Tokens.{Token, key_text, Reserved, InputKey, ParameterKey, Mark, OpenParen, CloseParen, Semicolon, Assign, Hash, Word}
+use Rattle.vast_literal.specs.Tokens.{Token, key_text, Reserved, Mark, Word}
+use Rattle.vast_literal.specs.declared.token.Mark.TheVariants.{OpenParen, CloseParen, Semicolon, Assign, Hash}
+use Rattle.vast_literal.specs.declared.token.Key.TheVariants.{Input as InputKey, Parameter as ParameterKey}
 use Rattle.vast_literal.specs.declared.kind.VastFileType.{VastFileType as Dialect}
 use Rattle.vast_literal.specs.Scan.{scan}
 use Rattle.vast_literal.specs.Plain.{is_plain_name, is_plain}
@@ -28,7 +30,8 @@ use Rattle.vast_literal.proofs.FileTokens.{member_tokens, members_tokens}
 use Rattle.vast_print.specs.Members.{member_page, members_page}
 use Rattle.vast_print.proofs.PageReads.{whole_comment}
 use Rattle.std.proofs.Common.{◌||◌, eqb}
-use Rattle.vast_literal.specs.Tokens.{ModuleKey, EndModuleKey, OutputKey, InOutKey, MacroWord, Quoted}
+use Rattle.vast_literal.specs.Tokens.{MacroWord, Quoted}
+use Rattle.vast_literal.specs.declared.token.Key.TheVariants.{Module as ModuleKey, EndModule as EndModuleKey, Output as OutputKey, InOut as InOutKey}
 use Rattle.vast_literal.specs.Tree.{MaybeType, Untyped, Typed, PortTree, ParameterPortTree, ModuleTree, FileItemTree, ModuleItem, IncludeItem, CommentItem, BlankItem, FileTree}
 use Rattle.vast_literal.specs.declared.kind.ModulePortDirection.{ModulePortDirection as PortDirection}
 use Rattle.vast_literal.specs.declared.kind.ModulePortDirection.TheVariants.{Input as InputDirection, Output as OutputDirection, InOut as InOutDirection}

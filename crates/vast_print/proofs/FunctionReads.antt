@@ -1,6 +1,8 @@
 -- Functions have the tokens that the grammar reads.
 use Rattle.std.proofs.Common.{◌≡◌, ℕ, List, [], ◌∷◌, ◌++◌, Bool, true, false, cond, ◌&&◌, None, refl, sym, ap, append_assoc, append-nil, codes}
-use Rattle.vast_literal.specs.Tokens.{Token, key_text, Reserved, FunctionKey, AutomaticKey, EndFunctionKey, InputKey, Mark, OpenParen, CloseParen, Semicolon, Comma}
+use Rattle.vast_literal.specs.Tokens.{Token, key_text, Reserved, Mark}
+use Rattle.vast_literal.specs.declared.token.Mark.TheVariants.{OpenParen, CloseParen, Semicolon, Comma}
+use Rattle.vast_literal.specs.declared.token.Key.TheVariants.{Function as FunctionKey, Automatic as AutomaticKey, EndFunction as EndFunctionKey, Input as InputKey}
 use Rattle.vast_literal.specs.Tree.{Declaration, TypeTree}
 use Rattle.vast_literal.specs.declared.kind.VastFileType.{VastFileType as Dialect}
 use Rattle.vast_literal.specs.Tree.{FunctionTree}

@@ -1,6 +1,9 @@
 -- Instances and always blocks have the tokens that the grammar reads.
 use Rattle.std.proofs.Common.{◌≡◌, ℕ, List, [], ◌∷◌, ◌++◌, map, true, ◌&&◌, None, refl, append_assoc, codes}
-use Rattle.vast_literal.specs.Tokens.{Token, Key, key_text, Reserved, AlwaysCombKey, AlwaysFFKey, AlwaysKey, PosedgeKey, NegedgeKey, OrKey, Mark, OpenParen, CloseParen, Semicolon, Hash, At, Word}
+use Rattle.vast_literal.specs.Tokens.{Token, key_text, Reserved, Mark, Word}
+use Rattle.vast_literal.specs.declared.token.Mark.TheVariants.{OpenParen, CloseParen, Semicolon, Hash, At}
+use Rattle.vast_literal.specs.declared.token.Key.{Key}
+use Rattle.vast_literal.specs.declared.token.Key.TheVariants.{AlwaysComb as AlwaysCombKey, AlwaysFF as AlwaysFFKey, Always as AlwaysKey, Posedge as PosedgeKey, Negedge as NegedgeKey, Or as OrKey}
 use Rattle.vast_literal.specs.Tree.{ExprTree, NameTree, PosEdgeTree, NegEdgeTree, Exprs, NoExprs, MoreExprs}
 use Rattle.vast_literal.specs.Tree.{Connection, InstanceTree}
 use Rattle.vast_literal.specs.declared.kind.AlwaysKind.{AlwaysKind as AlwaysWord}

@@ -1,6 +1,9 @@
 -- Loops have the tokens that the grammar reads.
 use Rattle.std.proofs.Common.{◌≡◌, ℕ, List, [], ◌∷◌, ◌++◌, true, Option, Some, None, refl, append_assoc, codes}
-use Rattle.vast_literal.specs.Tokens.{Token, key_text, Reserved, BeginKey, ForKey, GenvarKey, Mark, OpenParen, CloseParen, Semicolon, Assign, Operator, Less, Plus, Word, Number}
+use Rattle.vast_literal.specs.Tokens.{Token, key_text, Reserved, Mark, Operator, Word, Number}
+use Rattle.vast_literal.specs.declared.token.Sign.TheVariants.{Less, Plus}
+use Rattle.vast_literal.specs.declared.token.Mark.TheVariants.{OpenParen, CloseParen, Semicolon, Assign}
+use Rattle.vast_literal.specs.declared.token.Key.TheVariants.{Begin as BeginKey, For as ForKey, Genvar as GenvarKey}
 use Rattle.vast_literal.specs.Tree.{ExprTree}
 use Rattle.vast_literal.specs.declared.operator.BinaryOperator.TheVariants.{Lt as LtOp}
 use Rattle.vast_literal.specs.Scan.{scan}

@@ -1,6 +1,8 @@
 -- The page of a plain member has the tokens that the grammar reads.
 use Rattle.std.proofs.Common.{◌≡◌, ℕ, List, [], ◌∷◌, ◌++◌, Bool, true, false, ◌&&◌, Option, None, append_assoc, append-nil, codes}
-use Rattle.vast_literal.specs.Tokens.{Token, key_text, Reserved, EndKey, ParameterKey, LocalparamKey, IntKey, Mark, Semicolon, Assign, Word}
+use Rattle.vast_literal.specs.Tokens.{Token, key_text, Reserved, Mark, Word}
+use Rattle.vast_literal.specs.declared.token.Mark.TheVariants.{Semicolon, Assign}
+use Rattle.vast_literal.specs.declared.token.Key.TheVariants.{End as EndKey, Parameter as ParameterKey, Localparam as LocalparamKey, Int as IntKey}
 use Rattle.vast_literal.specs.Tree.{ExprTree, Exprs, Declaration}
 use Rattle.vast_literal.specs.declared.kind.VastFileType.{VastFileType as Dialect}
 use Rattle.vast_literal.specs.Tree.{ParameterName, PlainParameter, IntParameter, DefinedParameter, InstanceTree, FunctionTree}

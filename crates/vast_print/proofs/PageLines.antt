@@ -1,6 +1,8 @@
 -- Laws of pages: what is printed, and its tokens.
 use Rattle.std.proofs.Common.{◌≡◌, ℕ, zero, suc, ◌*◌, List, [], ◌∷◌, ◌++◌, Bool, true, false, not, eqb, eqb-true, cond, Some, replicate, refl, sym, ◌∙◌, ap, append_assoc, append-nil}
-use Rattle.vast_literal.specs.Tokens.{Token, Mark, Operator, Colon, Plus}
+use Rattle.vast_literal.specs.Tokens.{Token, Mark, Operator}
+use Rattle.vast_literal.specs.declared.token.Sign.TheVariants.{Plus}
+use Rattle.vast_literal.specs.declared.token.Mark.TheVariants.{Colon}
 use Rattle.vast_literal.specs.Scan.{State, scan, tokens, join_tokens, step, Gap, InSystemWord, InMacroWord, Pending, InComment}
 use Rattle.vast_literal.specs.LiteralToken.{every}
 use Rattle.vast_literal.proofs.TokenReads.{Free, Divides, Reads}

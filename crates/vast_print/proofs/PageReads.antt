@@ -1,6 +1,9 @@
 -- Pages and their words, over what their parts bring.
 use Rattle.std.proofs.Common.{◌≡◌, ℕ, List, [], ◌∷◌, ◌++◌, Bool, true, false, cond, eqb, None, refl, sym, subst, not, append_assoc, codes}
-use Rattle.vast_literal.specs.Tokens.{Token, Key, key_text, Reserved, BeginKey, EndKey, IfKey, ElseKey, Mark, OpenParen, CloseParen, Semicolon, Assign, Colon}
+use Rattle.vast_literal.specs.Tokens.{Token, key_text, Reserved, Mark}
+use Rattle.vast_literal.specs.declared.token.Mark.TheVariants.{OpenParen, CloseParen, Semicolon, Assign, Colon}
+use Rattle.vast_literal.specs.declared.token.Key.{Key}
+use Rattle.vast_literal.specs.declared.token.Key.TheVariants.{Begin as BeginKey, End as EndKey, If as IfKey, Else as ElseKey}
 use Rattle.vast_literal.specs.Scan.{scan}
 use Rattle.vast_literal.specs.LiteralToken.{every}
 use Rattle.vast_literal.proofs.FileTokens.{block_tokens}

@@ -1,6 +1,7 @@
 -- Texts of several pieces, grouped from the left as they are printed.
 use Rattle.std.proofs.Common.{◌≡◌, ℕ, List, [], ◌∷◌, ◌++◌, Bool, true, false, refl, append_assoc, append-nil}
-use Rattle.vast_literal.specs.Tokens.{Token, Mark, OpenParen, OpenBracket, CloseBracket, OpenBrace, CloseBrace, Colon, Apostrophe}
+use Rattle.vast_literal.specs.Tokens.{Token, Mark}
+use Rattle.vast_literal.specs.declared.token.Mark.TheVariants.{OpenParen, OpenBracket, CloseBracket, OpenBrace, CloseBrace, Colon, Apostrophe}
 use Rattle.vast_literal.proofs.ExprTokens.{cast_operand, wrapped_tokens}
 use Rattle.vast_literal.proofs.TokenReads.{opens, Free, Divides, Reads}
 use Rattle.vast_literal.proofs.Pieces.{free_reads, reads_end, as_reads, divides_free, reads_reads, reads_sep, reads_closed, open_bracket, close_bracket, open_brace, close_brace, close_paren, colon_reads, opens-append, paren, paren_reads, head_wrapped, head_free}

@@ -1,6 +1,10 @@
 -- The page of a plain statement has the tokens that the grammar reads.
 use Rattle.std.proofs.Common.{◌≡◌, ℕ, List, [], ◌∷◌, ◌++◌, Bool, true, false, cond, ◌&&◌, None, refl, sym, append_assoc, append-nil, codes}
-use Rattle.vast_literal.specs.Tokens.{Token, Key, key_text, Reserved, BeginKey, IfKey, ElseKey, CaseKey, CasezKey, CasexKey, EndCaseKey, DefaultKey, UniqueKey, AssignKey, Mark, OpenParen, CloseParen, Semicolon, Assign, Colon, Operator, LessEqual}
+use Rattle.vast_literal.specs.Tokens.{Token, key_text, Reserved, Mark, Operator}
+use Rattle.vast_literal.specs.declared.token.Sign.TheVariants.{LessEqual}
+use Rattle.vast_literal.specs.declared.token.Mark.TheVariants.{OpenParen, CloseParen, Semicolon, Assign, Colon}
+use Rattle.vast_literal.specs.declared.token.Key.{Key}
+use Rattle.vast_literal.specs.declared.token.Key.TheVariants.{Begin as BeginKey, If as IfKey, Else as ElseKey, Case as CaseKey, Casez as CasezKey, Casex as CasexKey, EndCase as EndCaseKey, Default as DefaultKey, Unique as UniqueKey, Assign as AssignKey}
 use Rattle.vast_literal.specs.Tree.{ExprTree, MaybeExpr, NoExpr, SomeExpr}
 use Rattle.vast_literal.specs.Tree.{StatementTree, AssignTree, CommentTree, BlankTree, InlineTree, ConditionalTree, CaseTree, Statements, NoStatements, MoreStatements, Alternates, NoElse, ElseIf, Else, CaseArms, NoCaseArms, CaseArm}
 use Rattle.vast_literal.specs.declared.kind.AssignmentForm.{AssignmentForm as AssignForm}
