@@ -6,7 +6,7 @@ ghost use Rattle.vast_literal.specs.Grammar.{is_cast_word};
 ghost use Rattle.vast_literal.specs.Tokens.{is_unary, key_text, level, op_text};
 
 /// The sign of an operator; some stand between two operands, some before one, some in both places.
-#[derive(Clone, Copy)]
+#[derive(Clone, Copy, Debug, PartialEq, Eq, Hash)]
 pub enum Sign {
     LogicOr,
     LogicAnd,
@@ -35,7 +35,7 @@ pub enum Sign {
 }
 
 /// A mark of punctuation.
-#[derive(Clone, Copy)]
+#[derive(Clone, Copy, Debug, PartialEq, Eq, Hash)]
 pub enum Mark {
     OpenParen,
     CloseParen,
@@ -57,7 +57,7 @@ pub enum Mark {
 }
 
 /// A keyword that the grammar uses.
-#[derive(Clone, Copy)]
+#[derive(Clone, Copy, Debug, PartialEq, Eq, Hash)]
 pub enum Key {
     If,
     Else,
