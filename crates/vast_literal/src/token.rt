@@ -99,8 +99,8 @@ pub enum Key {
 
 impl Sign {
     /// How it is written.
-    pub fn text(self) -> &'static str
-        ensures { result.now ≡ op_text self }
+    pub fn as_str(&self) -> &'static str
+        ensures { result.now ≡ op_text self.now }
     {
         match self {
             Sign::LogicOr => "||",
@@ -167,8 +167,8 @@ impl Sign {
 impl Key {
     /// How it is written.
     #[tactic(auto, unfolding(crate::specs::Tokens::key_text))]
-    pub fn text(self) -> &'static str
-        ensures { result.now ≡ key_text self }
+    pub fn as_str(&self) -> &'static str
+        ensures { result.now ≡ key_text self.now }
     {
         match self {
             Key::If => "if",

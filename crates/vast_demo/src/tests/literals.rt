@@ -25,10 +25,10 @@ fn all_ascii_characters_are_written_in_a_string(rt: HostRuntime) -> Result<(), F
 
 #[test]
 fn a_sign_and_a_keyword_are_written_as_in_the_standard(rt: HostRuntime) -> Result<(), Fail> {
-    assert_eq!(rt; Sign::ShiftRightSigned.text(), ">>>");
+    assert_eq!(rt; Sign::ShiftRightSigned.as_str(), ">>>");
     assert_eq!(rt; Sign::ShiftRightSigned.level(), 8);
     assert!(rt; Sign::Minus.is_unary() && !Sign::Plus.is_unary());
-    assert_eq!(rt; Key::AlwaysFF.text(), "always_ff");
+    assert_eq!(rt; Key::AlwaysFF.as_str(), "always_ff");
     assert!(rt; Key::Signed.is_cast_word() && !Key::Wire.is_cast_word());
     Ok(())
 }
