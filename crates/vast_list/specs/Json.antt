@@ -1,7 +1,7 @@
 -- Texts of JSON (RFC 8259, 7), as the bytes of their UTF-8: a content between quotes, with escapes.
 use Rattle.std.specs.Prelude.{◌≡◌, ℕ, ◌+◌, ◌*◌, ◌-◌, ◌/◌, ◌%◌, List, [], ◌∷◌, ◌++◌, Bool, ◌&&◌, ◌||◌, ◌==◌, nat_lt, nat_le, Option, Some, None, if◌then◌else◌, encode_utf8}
-use Rattle.std.specs.Char.{is_ascii_control}
 use Rattle.std.specs.List.{flat_map}
+use Rattle.vast_literal.specs.Quoted.{escaped_by}
 
 -- A digit in base sixteen.
 abbrev pub hex_digit : ℕ → ℕ
@@ -12,14 +12,8 @@ abbrev pub code_escape : ℕ → List ℕ
 code_escape c = 92 ∷ 117 ∷ 48 ∷ 48 ∷ hex_digit (c / 16) ∷ hex_digit (c % 16) ∷ []
 
 -- A byte as a text of JSON holds it.
-unfoldable pub escaped : ℕ → List ℕ
-escaped c =
-    if c == 34 then 92 ∷ 34 ∷ [] else
-    (if c == 92 then 92 ∷ 92 ∷ [] else
-    (if c == 10 then 92 ∷ 110 ∷ [] else
-    (if c == 13 then 92 ∷ 114 ∷ [] else
-    (if c == 9 then 92 ∷ 116 ∷ [] else
-    (if is_ascii_control c then code_escape c else c ∷ [])))))
+abbrev pub escaped : ℕ → List ℕ
+escaped = escaped_by code_escape
 
 -- The text of a content.
 unfoldable pub json_text : List ℕ → List ℕ

@@ -29,7 +29,7 @@ fn push_code(text: &mut String, code: u8) -> Result<(), AllocError>
 }
 
 /// Appends a character as a text of JSON holds it.
-#[tactic(auto, using(crate::proofs::JsonLaws::escaping))]
+#[tactic(auto, using(vast_literal::proofs::EscapeLaws::escaping))]
 fn push_escaped(text: &mut String, character: char) -> Result<(), AllocError>
     ensures { OnOk result
         (string_bytes text.new

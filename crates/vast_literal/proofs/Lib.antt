@@ -4,6 +4,7 @@ pub mod FileParser
 pub mod SettledDeclarationsWords
 pub mod SettledMembersWords
 pub mod FileTokens
+pub mod EscapeLaws
 pub mod QuotedLaws
 pub mod Numbers
 pub mod Widths

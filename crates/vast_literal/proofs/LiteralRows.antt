@@ -7,7 +7,7 @@ use Rattle.vast_literal.specs.Digits.{is_numeral, digits_in, number_in, lowest_d
 use Rattle.vast_literal.specs.Literal.{split_at, typed_parts, without_sign, has_minus, radix_and_digits, is_decimal, width_of, fits_in, modulo_width, magnitude_of, fitted, value_of, literal_of, bad_digits_text, large_value_text}
 use Rattle.vast_literal.specs.LiteralText.{above_limit_text, within_limit, format_takes, is_below_half, signed_text, format_text}
 use Rattle.vast_literal.specs.Pattern.{is_pattern, pattern}
-use Rattle.vast_literal.specs.Quoted.{escaped, quoted}
+use Rattle.vast_literal.specs.Quoted.{escaped_by, quoted}
 use Rattle.vast_literal.specs.WorkedLiterals.{WorkedLiterals}
 
 -- minus 256 in 8 bits is 0
@@ -51,7 +51,7 @@ unknown = refl
 
 -- a, a quote, b, a backslash, a line break and U+0001
 escapes : quoted (97 ∷ 34 ∷ 98 ∷ 92 ∷ 10 ∷ 1 ∷ []) ≡ 34 ∷ 97 ∷ 92 ∷ 34 ∷ 98 ∷ 92 ∷ 92 ∷ 92 ∷ 110 ∷ 92 ∷ 48 ∷ 48 ∷ 49 ∷ 34 ∷ []
-unfolding quoted escaped
+unfolding quoted escaped_by
 escapes = refl
 
 pub worked_literals : WorkedLiterals

@@ -7,15 +7,19 @@ use Rattle.std.specs.List.{flat_map}
 abbrev pub octal_escape : ℕ → List ℕ
 octal_escape c = 92 ∷ (48 + c / 64) ∷ (48 + c / 8 % 8) ∷ (48 + c % 8) ∷ []
 
--- A byte as a string literal holds it.
-unfoldable pub escaped : ℕ → List ℕ
-escaped c =
+-- A byte as a text between quotes holds it: a control character without a letter of its own by its code.
+unfoldable pub escaped_by : (code : ℕ → List ℕ) → ℕ → List ℕ
+escaped_by code c =
     if c == 34 then 92 ∷ 34 ∷ [] else
     (if c == 92 then 92 ∷ 92 ∷ [] else
     (if c == 10 then 92 ∷ 110 ∷ [] else
     (if c == 13 then 92 ∷ 114 ∷ [] else
     (if c == 9 then 92 ∷ 116 ∷ [] else
-    (if is_ascii_control c then octal_escape c else c ∷ [])))))
+    (if is_ascii_control c then code c else c ∷ [])))))
+
+-- A byte as a string literal holds it.
+abbrev pub escaped : ℕ → List ℕ
+escaped = escaped_by octal_escape
 
 -- The content between quotes.
 unfoldable pub quoted : List ℕ → List ℕ

@@ -26,7 +26,7 @@ fn push_octal(text: &mut String, code: u8) -> Result<(), AllocError>
 }
 
 /// Appends a character as a string literal holds it.
-#[tactic(auto, using(crate::proofs::QuotedLaws::escaping))]
+#[tactic(auto, using(crate::proofs::EscapeLaws::escaping))]
 fn push_escaped(text: &mut String, character: char) -> Result<(), AllocError>
     ensures { OnOk result
         (string_bytes text.new
