@@ -2,7 +2,8 @@
 use Rattle.std.proofs.Common.{◌≡◌, ℕ, Bool, true, false, cond, bytes_eq, codes, List, [], ◌∷◌, Some, None, refl, sym, ap, ◌∙◌}
 use Rattle.std.proofs.lemmas.Slice.Eq.{bytes_eq-Decides}
 use Rattle.vast_literal.specs.Tokens.{op_text}
-use Rattle.vast_literal.specs.Tokens.{Op, Less, LogicNot}
+use Rattle.vast_literal.specs.declared.token.Sign.{Sign as Op}
+use Rattle.vast_literal.specs.declared.token.Sign.TheVariants.{Less, LogicNot}
 use Rattle.vast_literal.specs.NormalExpr.{NormalExpr, Name, Binary}
 use Rattle.vast_literal.specs.Internal.MemberParser.{bound_of}
 use Rattle.vast_read.specs.Texts.{signs, sign_written, infix_of}

@@ -1,6 +1,7 @@
 -- Lists behind their closing mark.
 use Rattle.std.proofs.Common.{◌≡◌, List, Some, refl}
-use Rattle.vast_literal.specs.Tokens.{Token, CloseBrace}
+use Rattle.vast_literal.specs.Tokens.{Token}
+use Rattle.vast_literal.specs.declared.token.Mark.TheVariants.{CloseBrace}
 use Rattle.vast_literal.specs.NormalExpr.{Concat, Pattern, Replicated, Call, MacroCall, NormalExprs}
 use Rattle.vast_literal.specs.Internal.Parser.{◌>>=◌, after}
 use Rattle.vast_read.specs.Internal.Reading.{Reading}

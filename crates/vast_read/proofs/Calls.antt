@@ -1,6 +1,7 @@
 -- Calls by a name, of a macro and of a system function.
 use Rattle.std.proofs.Common.{◌≡◌, ℕ, List, Some, None, ◌∙◌}
-use Rattle.vast_literal.specs.Tokens.{Token, OpenParen, CloseParen}
+use Rattle.vast_literal.specs.Tokens.{Token}
+use Rattle.vast_literal.specs.declared.token.Mark.TheVariants.{OpenParen, CloseParen}
 use Rattle.vast_literal.specs.NormalExpr.{Call, MacroCall}
 use Rattle.vast_literal.specs.Internal.Parser.{after, lead, applied_at, word_on, macro_on}
 use Rattle.vast_literal.specs.Internal.Settled.{settled}

@@ -1,13 +1,14 @@
 -- Casts by a name, a number, a package's type and a keyword.
 use Rattle.std.proofs.Common.{◌≡◌, ℕ, true, List, Some, None, ap, ◌∙◌}
-use Rattle.vast_literal.specs.Tokens.{Token, Key, OpenParen, Apostrophe}
+use Rattle.vast_literal.specs.Tokens.{Token}
+use Rattle.vast_literal.specs.declared.token.Mark.TheVariants.{OpenParen, Apostrophe}
+use Rattle.vast_literal.specs.declared.token.Key.{Key}
 use Rattle.vast_literal.specs.NormalExpr.{NormalExpr, Name, Literal, Cast, PackageCast}
 use Rattle.vast_literal.specs.Internal.Parser.{after, lead, word_at, cast, word_on, number_on}
 use Rattle.vast_literal.specs.Grammar.{is_cast_word}
 use Rattle.vast_literal.specs.Internal.Settled.{settled}
 use Rattle.vast_read.specs.Internal.Reading.{Reading}
 use Rattle.vast_read.specs.Internal.Steps.{package_at, key_cast}
-use Rattle.vast_read.specs.TokenView.{key_view}
 use Rattle.vast_read.specs.declared.machine.Waiting.{Waiting}
 use Rattle.vast_read.specs.declared.machine.Waiting.TheVariants as wait
 use Rattle.vast_read.specs.Internal.Machine.{then_primary, opened_then}
@@ -30,9 +31,9 @@ name_head : (n : NormalExpr) (w : List ℕ) (ts us : List Token) → after OpenP
 name_head n w ts us d e v = rw v (word_reads w ts ∙ rw d (either_none _ _ ∙ rw e (either_some _ _ _)))
 
 module _ {E P W : Type 0} (r : Reading E P W) where
-  pub key_casts : (k : _) (stack : List (Waiting E P W)) (ts us : List Token) → is_cast_word (key_view k) ≡ true → after Apostrophe ts ≡ Some us →
-      then_primary r stack (key_cast (key_view k) ts) ≡ opened_then r (wait.WordCast k) stack us
-  key_casts k stack ts us h e = ap (then_primary r stack) (key_cast_yes (key_view k) ts h ∙ rw e (then_some _ _)) ∙ word_waits r k stack us
+  pub key_casts : (k : _) (stack : List (Waiting E P W)) (ts us : List Token) → is_cast_word k ≡ true → after Apostrophe ts ≡ Some us →
+      then_primary r stack (key_cast k ts) ≡ opened_then r (wait.WordCast k) stack us
+  key_casts k stack ts us h e = ap (then_primary r stack) (key_cast_yes k ts h ∙ rw e (then_some _ _)) ∙ word_waits r k stack us
 
   package_named : (w v : List ℕ) (p q : W) (stack : List (Waiting E P W)) (ts us vs : List Token) → word_at ts ≡ Some (v, us) → after Apostrophe us ≡ Some vs →
       w ≡ r.text p → v ≡ r.text q → then_primary r stack (package_at w ts) ≡ then_primary r stack (cast settled (PackageCast (r.text p) (r.text q)) vs)

@@ -1,6 +1,8 @@
 -- The settled parser of declarations as the reader goes through it.
 use Rattle.std.proofs.Common.{◌≡◌, ℕ, Bool, true, false, cond, List, [], ◌∷◌, ◌++◌, Option, Some, None, refl}
-use Rattle.vast_literal.specs.Tokens.{Key, OpenBracket, CloseBracket, Colon, DoubleColon, Token, Reserved, Mark}
+use Rattle.vast_literal.specs.Tokens.{Token, Reserved, Mark}
+use Rattle.vast_literal.specs.declared.token.Mark.TheVariants.{OpenBracket, CloseBracket, Colon, DoubleColon}
+use Rattle.vast_literal.specs.declared.token.Key.{Key}
 use Rattle.vast_literal.specs.NormalExpr.{NormalExpr}
 use Rattle.vast_literal.specs.NormalFile.{Group, One, Range}
 use Rattle.vast_literal.specs.FileGrammar.{is_kind, is_sign}

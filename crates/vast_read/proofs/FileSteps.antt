@@ -1,6 +1,8 @@
 -- The settled parser of files as the reader goes through it.
 use Rattle.std.proofs.Common.{◌≡◌, ℕ, suc, ◌*◌, true, false, List, [], ◌∷◌, ◌++◌, length, Some, None, refl, arith}
-use Rattle.vast_literal.specs.Tokens.{ModuleKey, EndModuleKey, ParameterKey, OpenParen, CloseParen, Comma, Semicolon, Hash, Assign, Token, MacroWord, Quoted, Mark}
+use Rattle.vast_literal.specs.Tokens.{Token, MacroWord, Quoted, Mark}
+use Rattle.vast_literal.specs.declared.token.Mark.TheVariants.{OpenParen, CloseParen, Comma, Semicolon, Hash, Assign}
+use Rattle.vast_literal.specs.declared.token.Key.TheVariants.{Module as ModuleKey, EndModule as EndModuleKey, Parameter as ParameterKey}
 use Rattle.vast_literal.specs.NormalFile.{NormalParameter, NormalPort, NormalItem, ModulePart}
 use Rattle.vast_literal.specs.FileGrammar.{is_direction}
 use Rattle.vast_literal.specs.Internal.Parser.{◌>>=◌, after, word_at}

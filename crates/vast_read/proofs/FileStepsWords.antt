@@ -1,6 +1,7 @@
 -- Beside `specs/Internal/FileSteps.antt`: what proofs alone say.
 use Rattle.std.specs.Prelude.{List}
-use Rattle.vast_literal.specs.Tokens.{Comma, Token}
+use Rattle.vast_literal.specs.Tokens.{Token}
+use Rattle.vast_literal.specs.declared.token.Mark.TheVariants.{Comma}
 use Rattle.vast_literal.specs.NormalFile.{NormalParameter, NormalPort}
 use Rattle.vast_literal.specs.Internal.Parser.{after}
 use Rattle.vast_literal.specs.Internal.StatementParser.{ReadOf}

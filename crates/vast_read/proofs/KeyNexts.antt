@@ -1,6 +1,10 @@
 -- Which keyword or sign stands next.
 use Rattle.std.proofs.Common.{◌≡◌, true, false, cond, nat_eq, Bool, List, [], ◌∷◌, Some, None, refl, arith, ◌≢◌, eq-eqb}
-use Rattle.vast_literal.specs.Tokens.{Op, LessEqual, Assign, Key, Token, Reserved, Operator, Mark}
+use Rattle.vast_literal.specs.Tokens.{Token, Reserved, Operator, Mark}
+use Rattle.vast_literal.specs.declared.token.Sign.{Sign as Op}
+use Rattle.vast_literal.specs.declared.token.Sign.TheVariants.{LessEqual}
+use Rattle.vast_literal.specs.declared.token.Mark.TheVariants.{Assign}
+use Rattle.vast_literal.specs.declared.token.Key.{Key}
 use Rattle.vast_literal.specs.Parser.{code}
 use Rattle.vast_literal.specs.Internal.Parser.{after, key_at}
 use Rattle.vast_literal.specs.Internal.StatementParser.{key_code, after_key_on, after_key, arrow_at}

@@ -1,7 +1,7 @@
 -- Keywords that are written alike are the same.
 use Rattle.std.proofs.Common.{◌≡◌, ℕ, List, Bool, true, false, sym, ap, ◌∙◌}
 use Rattle.vast_literal.specs.Tokens.{key_text}
-use Rattle.vast_read.proofs.LevelLaws.{key_again}
+use Rattle.vast_read.proofs.WordLaws.{key_again}
 use Rattle.vast_read.specs.Internal.Comparison.{Tells}
 use Rattle.vast_read.specs.Texts.{key_of}
 use Rattle.vast_read.specs.Internal.Writings.{keyword_text}

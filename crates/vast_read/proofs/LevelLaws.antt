@@ -2,27 +2,11 @@
 use Rattle.std.proofs.Common.{◌≡◌, [], Option, Some, None, refl, sym, ap, ◌∙◌}
 use Rattle.vast_literal.specs.NormalExpr.{NormalExpr}
 use Rattle.vast_literal.specs.NormalExpr as normal
-use Rattle.vast_literal.specs.Tokens.{op_text}
-use Rattle.vast_literal.specs.Tokens.{Op, LogicOr, Key, IfKey, key_text, reserved_keys}
 use Rattle.vast_read.specs.Texts.{prefix_of, infix_of, key_of}
+use Rattle.vast_read.proofs.WordLaws.{prefix_again, infix_again, key_again}
 use Rattle.vast_read.specs.declared.same.level.Kind.{Kind}
 use Rattle.vast_read.specs.declared.same.level.Kind.TheVariants as kind
 use Rattle.vast_read.specs.Internal.Levels.{Level, level_of, words_in, parts_in}
-
-prefix_again : (op : Op) → prefix_of (op_text op) ≡ op
-unfolding prefix_of
-prefix_again LogicOr = refl
-prefix_again _ = refl
-
-infix_again : (op : Op) → infix_of (op_text op) ≡ op
-unfolding infix_of
-infix_again LogicOr = refl
-infix_again _ = refl
-
-pub key_again : (key : Key) → key_of (key_text key) ≡ key
-unfolding key_of key_text reserved_keys
-key_again IfKey = refl
-key_again _ = refl
 
 part : Option NormalExpr → NormalExpr
 part None = normal.Name []

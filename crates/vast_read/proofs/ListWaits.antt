@@ -1,6 +1,7 @@
 -- What is read behind the lists of an expression, one step at a time.
 use Rattle.std.proofs.Common.{◌≡◌, List, ◌∷◌, Some, None, refl, ◌∙◌}
-use Rattle.vast_literal.specs.Tokens.{Token, CloseParen, OpenBrace, CloseBrace, Comma}
+use Rattle.vast_literal.specs.Tokens.{Token}
+use Rattle.vast_literal.specs.declared.token.Mark.TheVariants.{CloseParen, OpenBrace, CloseBrace, Comma}
 use Rattle.vast_literal.specs.NormalExpr.{NormalExpr, Concat, Pattern, Call, MacroCall, NormalExprs, NoNormals, MoreNormals}
 use Rattle.vast_literal.specs.Internal.Parser.{◌>>=◌, after, applied_at, list_on, brace_on}
 use Rattle.vast_literal.specs.Internal.Settled.{either, settled}

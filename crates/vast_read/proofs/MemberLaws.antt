@@ -7,7 +7,7 @@ use Rattle.vast_read.specs.Texts.{key_of}
 use Rattle.vast_read.specs.declared.same.member_level.MemberKind.{MemberKind}
 use Rattle.vast_read.specs.declared.same.member_level.MemberKind.TheVariants as kind
 use Rattle.vast_read.specs.Internal.MemberLevels.{Level, level_of, head_of, blocks_of}
-use Rattle.vast_read.proofs.LevelLaws.{key_again}
+use Rattle.vast_read.proofs.WordLaws.{key_again}
 
 part : Option NormalExpr → NormalExpr
 part None = Name []

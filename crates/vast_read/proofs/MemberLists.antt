@@ -1,6 +1,8 @@
 -- The lists in members as the reader goes through them: what is joined by commas or `or`, item by item.
 use Rattle.std.proofs.Common.{◌≡◌, suc, ◌+◌, ◌*◌, true, false, List, [], ◌∷◌, ◌++◌, length, Some, None, refl, arith, ◌∙◌}
-use Rattle.vast_literal.specs.Tokens.{CloseParen, Comma, OrKey, Token, Reserved}
+use Rattle.vast_literal.specs.Tokens.{Token, Reserved}
+use Rattle.vast_literal.specs.declared.token.Mark.TheVariants.{CloseParen, Comma}
+use Rattle.vast_literal.specs.declared.token.Key.TheVariants.{Or as OrKey}
 use Rattle.vast_literal.specs.NormalFile.{NormalDeclaration, Event, NormalConnection}
 use Rattle.vast_literal.specs.FileGrammar.{is_local_kind}
 use Rattle.vast_literal.specs.Internal.Parser.{◌>>=◌, after, key_at}

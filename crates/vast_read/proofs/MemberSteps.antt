@@ -1,6 +1,11 @@
 -- The settled parser of members as the reader goes through it.
 use Rattle.std.proofs.Common.{◌≡◌, ℕ, Bool, true, false, List, [], ◌∷◌, Option, Some, None, refl, sym, ap, ◌∙◌}
-use Rattle.vast_literal.specs.Tokens.{Op, Punct, OpenParen, CloseParen, Colon, Semicolon, Dot, Hash, At, Assign, Key, IfKey, CasezKey, UniqueKey, BeginKey, AssignKey, GenvarKey, AlwaysCombKey, FunctionKey, AutomaticKey, EndFunctionKey, InputKey, ForKey, Token, Reserved, Word, Keyword, SystemWord, MacroWord, Number, Based, Quoted, Operator, Mark}
+use Rattle.vast_literal.specs.Tokens.{Token, Reserved, Word, Keyword, SystemWord, MacroWord, Number, Based, Quoted, Operator, Mark}
+use Rattle.vast_literal.specs.declared.token.Sign.{Sign as Op}
+use Rattle.vast_literal.specs.declared.token.Mark.{Mark as Punct}
+use Rattle.vast_literal.specs.declared.token.Mark.TheVariants.{OpenParen, CloseParen, Colon, Semicolon, Dot, Hash, At, Assign}
+use Rattle.vast_literal.specs.declared.token.Key.{Key}
+use Rattle.vast_literal.specs.declared.token.Key.TheVariants.{If as IfKey, Casez as CasezKey, Unique as UniqueKey, Begin as BeginKey, Assign as AssignKey, Genvar as GenvarKey, AlwaysComb as AlwaysCombKey, Function as FunctionKey, Automatic as AutomaticKey, EndFunction as EndFunctionKey, Input as InputKey, For as ForKey}
 use Rattle.vast_literal.specs.NormalExpr.{NormalExprs}
 use Rattle.vast_literal.specs.NormalFile.{Done, Then, NormalDeclaration, EdgeEvent, NameEvent, NormalConnection, NormalMember, DeclarationPart, AssignPart, ParameterPart, MacroPart, InstancePart, AlwaysPart, ConditionalPart, FunctionPart, NormalMembers, NoParts, MoreParts}
 use Rattle.vast_literal.specs.FileGrammar.{is_member_kind, is_parameter_word, is_clocked, is_edge}

@@ -1,6 +1,8 @@
 -- Beside `specs/Internal/MemberSteps.antt`: what proofs alone say.
 use Rattle.std.specs.Prelude.{List}
-use Rattle.vast_literal.specs.Tokens.{Comma, OrKey, Token}
+use Rattle.vast_literal.specs.Tokens.{Token}
+use Rattle.vast_literal.specs.declared.token.Mark.TheVariants.{Comma}
+use Rattle.vast_literal.specs.declared.token.Key.TheVariants.{Or as OrKey}
 use Rattle.vast_literal.specs.NormalFile.{NormalDeclaration, Event, NormalConnection}
 use Rattle.vast_literal.specs.Internal.Parser.{after}
 use Rattle.vast_literal.specs.Internal.StatementParser.{ReadOf, after_key}

@@ -1,6 +1,8 @@
 -- What is read from each step of a statement on.
 use Rattle.std.proofs.Common.{◌≡◌, Bool, true, false, List, [], ◌∷◌, ◌++◌, Option, Some, None, refl, ◌∙◌}
-use Rattle.vast_literal.specs.Tokens.{Token, Key, ElseKey, EndCaseKey, BeginKey, EndKey}
+use Rattle.vast_literal.specs.Tokens.{Token}
+use Rattle.vast_literal.specs.declared.token.Key.{Key}
+use Rattle.vast_literal.specs.declared.token.Key.TheVariants.{Else as ElseKey, EndCase as EndCaseKey, Begin as BeginKey, End as EndKey}
 use Rattle.vast_literal.specs.NormalExpr.{NormalExpr}
 use Rattle.vast_literal.specs.NormalFile.{NormalStatement, ChoiceStatement, CaseStatement, NormalStatements, Done, Then, Labels, NoLabels, Label}
 use Rattle.vast_literal.specs.Internal.Parser.{◌>>=◌}
@@ -12,7 +14,6 @@ use Rattle.vast_read.specs.StatementParts.{ChoicePart, LabelPart, arms_of}
 use Rattle.vast_read.specs.Internal.StatementParts.{join_block, join_labels}
 use Rattle.vast_read.specs.Internal.StatementReading.{StatementReading}
 use Rattle.vast_read.specs.Internal.StatementSteps.{is_casez, cases_of, choice_statement, choice_behind, else_if, with_block, with_labels, label_at, bare_body}
-use Rattle.vast_read.specs.TokenView.{key_view}
 use Rattle.vast_read.specs.declared.open.Case.{Case}
 use Rattle.vast_read.specs.declared.open.Owner.{Owner}
 use Rattle.vast_read.specs.declared.open.Owner.TheVariants as owner
@@ -169,20 +170,20 @@ module _ {E S K A L C : Type 0} (tree : E → NormalExpr) (acts : StatementReadi
 
   -- arms of a case
 
-  pub case_begins : (c : Case E C) (u : Bool) (k : Key) (ts us : List Token) → in_parens ts ≡ Some (tree c.selector, us) → c.is_unique ≡ u → key_view c.key ≡ k → acts.cases c.arms ≡ NoLabels →
+  pub case_begins : (c : Case E C) (u : Bool) (k : Key) (ts us : List Token) → in_parens ts ≡ Some (tree c.selector, us) → c.is_unique ≡ u → c.key ≡ k → acts.cases c.arms ≡ NoLabels →
       cases_of u k ts ≡ ended tree acts (progress.Arms c) us
   unfolding ended case_of
   case_begins c u k ts us e f g h = rw (cases_read u k ts) (rw e (rw f (rw g (rw h (rw (← labels_begin (is_casez k) us) (then_some _ _))))))
 
   pub case_ends : (c : Case E C) (ts us : List Token) → after_key EndCaseKey ts ≡ Some us →
-      ended tree acts (progress.Arms c) ts ≡ Some (CaseStatement c.is_unique (key_view c.key) (tree c.selector) (acts.cases c.arms), us)
+      ended tree acts (progress.Arms c) ts ≡ Some (CaseStatement c.is_unique c.key (tree c.selector) (acts.cases c.arms), us)
   unfolding ended case_of
-  case_ends c ts us e = rw (labels_end (is_casez (key_view c.key)) (acts.cases c.arms) ts us e) (then_some _ _)
+  case_ends c ts us e = rw (labels_end (is_casez c.key) (acts.cases c.arms) ts us e) (then_some _ _)
 
   case_next : (c : Case E C) (ts : List Token) → after_key EndCaseKey ts ≡ None →
       ended tree acts (progress.Arms c) ts ≡ (label_at ts >>= λ x. body_then tree acts c x.0 x.1)
   unfolding ended case_of labelled body_then
-  case_next c ts e = rw (labels_read (is_casez (key_view c.key)) ts) (rw e (simp (either_none, with_next_label) (simp (label_arm_reads, chained, then_some))))
+  case_next c ts e = rw (labels_read (is_casez c.key) ts) (rw e (simp (either_none, with_next_label) (simp (label_arm_reads, chained, then_some))))
 
   pub case_goes_on : (c : Case E C) (x : Option NormalExpr) (ts us : List Token) → after_key EndCaseKey ts ≡ None → label_at ts ≡ Some (x, us) →
       ended tree acts (progress.Arms c) ts ≡ body_then tree acts c x us
@@ -194,21 +195,21 @@ module _ {E S K A L C : Type 0} (tree : E → NormalExpr) (acts : StatementReadi
   pub body_opens : (c : Case E C) (l : L) (ts us : List Token) → after_key BeginKey ts ≡ Some us →
       body_then tree acts c (acts.label l) ts ≡ ended tree acts (progress.Inside (owner.Case c l)) us
   unfolding body_then ended closed
-  body_opens c l ts us e = rw (body_reads (is_casez (key_view c.key)) ts) (rw e (simp either_some))
+  body_opens c l ts us e = rw (body_reads (is_casez c.key) ts) (rw e (simp either_some))
 
-  pub body_stands : (c : Case E C) (x : Option NormalExpr) (b : NormalStatements) (ts us : List Token) → after_key BeginKey ts ≡ None → is_casez (key_view c.key) ≡ true →
+  pub body_stands : (c : Case E C) (x : Option NormalExpr) (b : NormalStatements) (ts us : List Token) → after_key BeginKey ts ≡ None → is_casez c.key ≡ true →
       bare_body ts ≡ Some (b, us) → body_then tree acts c x ts ≡ labelled tree acts c x b us
   unfolding body_then
-  body_stands c x b ts us e d f = rw (body_reads (is_casez (key_view c.key)) ts) (rw e (rw d (rw f (simp (either_none, then_some)))))
+  body_stands c x b ts us e d f = rw (body_reads (is_casez c.key) ts) (rw e (rw d (rw f (simp (either_none, then_some)))))
 
-  pub body_lacks : (c : Case E C) (x : Option NormalExpr) (ts : List Token) → after_key BeginKey ts ≡ None → is_casez (key_view c.key) ≡ true →
+  pub body_lacks : (c : Case E C) (x : Option NormalExpr) (ts : List Token) → after_key BeginKey ts ≡ None → is_casez c.key ≡ true →
       bare_body ts ≡ None → body_then tree acts c x ts ≡ None
   unfolding body_then
-  body_lacks c x ts e d f = rw (body_reads (is_casez (key_view c.key)) ts) (rw e (rw d (rw f (simp (either_none, then_none)))))
+  body_lacks c x ts e d f = rw (body_reads (is_casez c.key) ts) (rw e (rw d (rw f (simp (either_none, then_none)))))
 
-  pub body_fails : (c : Case E C) (x : Option NormalExpr) (ts : List Token) → after_key BeginKey ts ≡ None → is_casez (key_view c.key) ≡ false → body_then tree acts c x ts ≡ None
+  pub body_fails : (c : Case E C) (x : Option NormalExpr) (ts : List Token) → after_key BeginKey ts ≡ None → is_casez c.key ≡ false → body_then tree acts c x ts ≡ None
   unfolding body_then
-  body_fails c x ts e d = rw (body_reads (is_casez (key_view c.key)) ts) (rw e (rw d (simp (either_none, then_none))))
+  body_fails c x ts e d = rw (body_reads (is_casez c.key) ts) (rw e (rw d (simp (either_none, then_none))))
 
   pub label_closes : (c d : Case E C) (x : Option NormalExpr) (b : NormalStatements) (ts : List Token) → d.is_unique ≡ c.is_unique → d.key ≡ c.key → d.selector ≡ c.selector →
       acts.cases d.arms ≡ join_labels (acts.cases c.arms) (Label x b NoLabels) → labelled tree acts c x b ts ≡ ended tree acts (progress.Arms d) ts

@@ -1,6 +1,8 @@
 -- What is read from each step of a list of members on.
 use Rattle.std.proofs.Common.{◌≡◌, List, [], ◌∷◌, Some, None, refl, sym, ap, ◌∙◌}
-use Rattle.vast_literal.specs.Tokens.{Key, EndKey, BeginKey, AssignKey, AlwaysCombKey, IfKey, ForKey, FunctionKey, Token, Reserved}
+use Rattle.vast_literal.specs.Tokens.{Token, Reserved}
+use Rattle.vast_literal.specs.declared.token.Key.{Key}
+use Rattle.vast_literal.specs.declared.token.Key.TheVariants.{End as EndKey, Begin as BeginKey, Assign as AssignKey, AlwaysComb as AlwaysCombKey, If as IfKey, For as ForKey, Function as FunctionKey}
 use Rattle.vast_literal.specs.NormalExpr.{NormalExpr}
 use Rattle.vast_literal.specs.NormalFile.{NormalMember, NormalMembers, NoParts, MoreParts}
 use Rattle.vast_literal.specs.Internal.Parser.{◌>>=◌, key_at}

@@ -1,6 +1,7 @@
 -- Behind an expression in parentheses.
 use Rattle.std.proofs.Common.{◌≡◌, List, Some, None, ap, ◌∙◌}
-use Rattle.vast_literal.specs.Tokens.{Token, CloseParen, Apostrophe}
+use Rattle.vast_literal.specs.Tokens.{Token}
+use Rattle.vast_literal.specs.declared.token.Mark.TheVariants.{CloseParen, Apostrophe}
 use Rattle.vast_literal.specs.NormalExpr.{NormalExpr}
 use Rattle.vast_literal.specs.Internal.Parser.{after}
 use Rattle.vast_read.specs.Internal.Reading.{Reading}

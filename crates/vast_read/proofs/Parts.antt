@@ -1,6 +1,7 @@
 -- Behind a part of a list.
 use Rattle.std.proofs.Common.{◌≡◌, List, Some, None, ◌∙◌}
-use Rattle.vast_literal.specs.Tokens.{Token, Comma}
+use Rattle.vast_literal.specs.Tokens.{Token}
+use Rattle.vast_literal.specs.declared.token.Mark.TheVariants.{Comma}
 use Rattle.vast_literal.specs.NormalExpr.{NormalExpr, NoNormals, MoreNormals}
 use Rattle.vast_literal.specs.Internal.Parser.{after}
 use Rattle.vast_read.specs.Internal.Reading.{Reading}

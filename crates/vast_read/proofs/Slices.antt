@@ -1,6 +1,7 @@
 -- Behind the first expression in brackets.
 use Rattle.std.proofs.Common.{◌≡◌, List, ◌∷◌, Some, None, ap, ◌∙◌}
-use Rattle.vast_literal.specs.Tokens.{Token, CloseBracket, Colon}
+use Rattle.vast_literal.specs.Tokens.{Token}
+use Rattle.vast_literal.specs.declared.token.Mark.TheVariants.{CloseBracket, Colon}
 use Rattle.vast_literal.specs.NormalExpr.{NormalExpr, Index, Slice}
 use Rattle.vast_literal.specs.Internal.Parser.{◌>>=◌, after, enclosed_at}
 use Rattle.vast_literal.specs.Internal.Settled.{settled}

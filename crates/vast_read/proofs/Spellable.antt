@@ -1,6 +1,7 @@
 -- What the grammar derives has no keyword that it does not use, and so none of the tokens that stand for a fault of the text.
 use Rattle.std.proofs.Common.{◌≡◌, ℕ, List, [], ◌∷◌, ◌++◌, Bool, true, false, ◌&&◌, Option, refl}
-use Rattle.vast_literal.specs.Tokens.{Key, Token, Keyword}
+use Rattle.vast_literal.specs.Tokens.{Token, Keyword}
+use Rattle.vast_literal.specs.declared.token.Key.{Key}
 use Rattle.vast_literal.specs.NormalExpr.{NormalExpr, NormalExprs}
 use Rattle.vast_literal.specs.NormalFile.{NormalStatement, NormalStatements, Arms, Labels, Group, NormalDeclaration, Event, NormalConnection, NormalMember, NormalMembers, NormalParameter, NormalPort, NormalItem, NormalFile}
 use Rattle.vast_literal.specs.Grammar.{Spells, up, ternary, binary, unary, index, slice, part_select, name, number, based, quoted, paren, call, system_call, concat, replicated, array_pattern, macro_alone, macro_call, number_cast, name_cast, package_cast, paren_cast, word_cast, SpellsList, none, some, SpellsJoined, last, next}

@@ -1,6 +1,7 @@
 -- The settled parser of statements as the loops of the reader go through it.
 use Rattle.std.proofs.Common.{◌≡◌, false, List, [], ◌∷◌, Option, Some, None, refl, ◌∙◌}
-use Rattle.vast_literal.specs.Tokens.{IfKey, ElseKey, UniqueKey, AssignKey, Token}
+use Rattle.vast_literal.specs.Tokens.{Token}
+use Rattle.vast_literal.specs.declared.token.Key.TheVariants.{If as IfKey, Else as ElseKey, Unique as UniqueKey, Assign as AssignKey}
 use Rattle.vast_literal.specs.NormalFile.{NormalStatement, ChoiceStatement, NormalStatements, Done, Then, Arms}
 use Rattle.vast_literal.specs.Internal.Parser.{◌>>=◌}
 use Rattle.vast_literal.specs.Internal.StatementParser.{ReadOf, after_key, simple_at}

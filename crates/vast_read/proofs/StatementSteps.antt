@@ -1,6 +1,9 @@
 -- The settled parser of statements as the reader goes through it.
 use Rattle.std.proofs.Common.{◌≡◌, Bool, true, false, cond, List, [], ◌∷◌, ◌++◌, Option, Some, None, refl, sym, ap, ◌∙◌}
-use Rattle.vast_literal.specs.Tokens.{Colon, Semicolon, Assign, Key, IfKey, ElseKey, CaseKey, CasezKey, CasexKey, EndCaseKey, DefaultKey, UniqueKey, BeginKey, EndKey, AssignKey, Token, Reserved}
+use Rattle.vast_literal.specs.Tokens.{Token, Reserved}
+use Rattle.vast_literal.specs.declared.token.Mark.TheVariants.{Colon, Semicolon, Assign}
+use Rattle.vast_literal.specs.declared.token.Key.{Key}
+use Rattle.vast_literal.specs.declared.token.Key.TheVariants.{If as IfKey, Else as ElseKey, Case as CaseKey, Casez as CasezKey, Casex as CasexKey, EndCase as EndCaseKey, Default as DefaultKey, Unique as UniqueKey, Begin as BeginKey, End as EndKey, Assign as AssignKey}
 use Rattle.vast_literal.specs.NormalExpr.{NormalExpr}
 use Rattle.vast_literal.specs.NormalFile.{NormalStatement, AssignStatement, ChoiceStatement, CaseStatement, NormalStatements, Done, Then, Arms, Only, Otherwise, Or, Labels, NoLabels, Label}
 use Rattle.vast_literal.specs.Grammar.{is_cast_word}

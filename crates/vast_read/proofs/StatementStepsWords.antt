@@ -1,6 +1,7 @@
 -- Beside `specs/Internal/StatementSteps.antt`: what proofs alone say.
 use Rattle.std.specs.Prelude.{List, Bool, Option, Some, None}
-use Rattle.vast_literal.specs.Tokens.{ElseKey, Token}
+use Rattle.vast_literal.specs.Tokens.{Token}
+use Rattle.vast_literal.specs.declared.token.Key.TheVariants.{Else as ElseKey}
 use Rattle.vast_literal.specs.NormalFile.{NormalStatements}
 use Rattle.vast_literal.specs.Internal.Parser.{◌>>=◌}
 use Rattle.vast_literal.specs.Internal.StatementParser.{ReadOf, after_key}

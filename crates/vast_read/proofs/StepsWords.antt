@@ -1,6 +1,7 @@
 -- Beside `specs/Internal/Steps.antt`: what proofs alone say.
 use Rattle.std.specs.Prelude.{List}
-use Rattle.vast_literal.specs.Tokens.{CloseParen, Token}
+use Rattle.vast_literal.specs.Tokens.{Token}
+use Rattle.vast_literal.specs.declared.token.Mark.TheVariants.{CloseParen}
 use Rattle.vast_literal.specs.NormalExpr.{NormalExpr}
 use Rattle.vast_literal.specs.Internal.Parser.{◌>>=◌, Read, enclosed_at, paren_on, lead}
 use Rattle.vast_literal.specs.Internal.Settled.{settled}

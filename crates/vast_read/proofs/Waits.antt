@@ -1,6 +1,8 @@
 -- What is read from each state on, one step at a time.
 use Rattle.std.proofs.Common.{◌≡◌, ℕ, suc, List, [], ◌∷◌, Some, None, refl, sym, ◌∙◌}
-use Rattle.vast_literal.specs.Tokens.{Op, level, Token, OpenParen, CloseParen, OpenBracket, CloseBracket, Colon, Question, Apostrophe}
+use Rattle.vast_literal.specs.Tokens.{level, Token}
+use Rattle.vast_literal.specs.declared.token.Sign.{Sign as Op}
+use Rattle.vast_literal.specs.declared.token.Mark.TheVariants.{OpenParen, CloseParen, OpenBracket, CloseBracket, Colon, Question, Apostrophe}
 use Rattle.vast_literal.specs.NormalExpr.{NormalExpr, Unary, Binary, Ternary, Slice, Cast, PackageCast, WordCast}
 use Rattle.vast_literal.specs.Internal.Parser.{◌>>=◌, Read, after, prefix, enclosed_at, cast, primary, selected_at}
 use Rattle.vast_literal.specs.Internal.Settled.{either, settled}
@@ -8,7 +10,6 @@ use Rattle.vast_literal.proofs.Agree.{chained}
 use Rattle.vast_read.specs.Internal.Reading.{Reading}
 use Rattle.vast_read.specs.Internal.Steps.{infix_at, select_end, choice_at}
 use Rattle.vast_read.proofs.StepsWords.{one_select, grouped}
-use Rattle.vast_read.specs.TokenView.{sign_view, key_view}
 use Rattle.vast_read.specs.declared.machine.Waiting.{Waiting}
 use Rattle.vast_read.specs.declared.machine.Waiting.TheVariants as wait
 use Rattle.vast_read.specs.declared.machine.Head.{Head}
@@ -82,7 +83,7 @@ module _ {E P W : Type 0} (r : Reading E P W) where
   due_prefix s stack ts us e = rw (operand_reads ts) (rw e (simp (either_some, chained, then_some)))
 
   prefix_waits : (s : _) (stack : List (Waiting E P W)) (us : List Token) →
-      (settled.operand_at us >>= λ x. operand_then r stack (Unary (sign_view s) x.0) x.1) ≡ meaning r state.Due (wait.Prefix s ∷ stack) us
+      (settled.operand_at us >>= λ x. operand_then r stack (Unary s x.0) x.1) ≡ meaning r state.Due (wait.Prefix s ∷ stack) us
   unfolding meaning operand_then resumed closed extended
   prefix_waits s stack us = refl
 
@@ -107,25 +108,25 @@ module _ {E P W : Type 0} (r : Reading E P W) where
   operand_asks stack x ts e d = rw e (rw (climb_reads 1 x ts) (rw d (simp (either_none, then_some, either_then))))
 
   infix_waits : (s : _) (l : E) (stack : List (Waiting E P W)) (us : List Token) → meaning r state.Due (wait.Infix l s ∷ stack) us ≡
-      (settled.operand_at us >>= λ x. settled.climb_at (suc (level (sign_view s))) x.0 x.1 >>= λ c. operand_then r stack (Binary (sign_view s) (r.tree l) c.0) c.1)
+      (settled.operand_at us >>= λ x. settled.climb_at (suc (level s)) x.0 x.1 >>= λ c. operand_then r stack (Binary s (r.tree l) c.0) c.1)
   unfolding meaning operand_then resumed closed extended
   infix_waits s l stack us = refl
 
-  from_binds : (k : ℕ) (s : _) (l : E) (stack : List (Waiting E P W)) (ts us : List Token) → binding stack ≡ bind.From k → infix_at k ts ≡ Some (sign_view s, us) →
-      (settled.operand_at us >>= λ x. settled.climb_at (suc (level (sign_view s))) x.0 x.1 >>= λ c. operand_then r stack (Binary (sign_view s) (r.tree l) c.0) c.1) ≡ operand_then r stack (r.tree l) ts
+  from_binds : (k : ℕ) (s : _) (l : E) (stack : List (Waiting E P W)) (ts us : List Token) → binding stack ≡ bind.From k → infix_at k ts ≡ Some (s, us) →
+      (settled.operand_at us >>= λ x. settled.climb_at (suc (level s)) x.0 x.1 >>= λ c. operand_then r stack (Binary s (r.tree l) c.0) c.1) ≡ operand_then r stack (r.tree l) ts
   unfolding operand_then extended
   from_binds k s l stack ts us e d = rw e (rw (climb_reads k (r.tree l) ts) (rw d (simp (either_some, binary_reads, chained))))
 
-  pub operand_from : (k : ℕ) (s : _) (l : E) (stack : List (Waiting E P W)) (ts us : List Token) → binding stack ≡ bind.From k → infix_at k ts ≡ Some (sign_view s, us) →
+  pub operand_from : (k : ℕ) (s : _) (l : E) (stack : List (Waiting E P W)) (ts us : List Token) → binding stack ≡ bind.From k → infix_at k ts ≡ Some (s, us) →
       operand_then r stack (r.tree l) ts ≡ meaning r state.Due (wait.Infix l s ∷ stack) us
   operand_from k s l stack ts us e d = sym (infix_waits s l stack us ∙ from_binds k s l stack ts us e d)
 
-  loose_binds : (s : _) (l : E) (stack : List (Waiting E P W)) (ts us : List Token) → binding stack ≡ bind.Loose → infix_at 1 ts ≡ Some (sign_view s, us) →
-      (settled.operand_at us >>= λ x. settled.climb_at (suc (level (sign_view s))) x.0 x.1 >>= λ c. operand_then r stack (Binary (sign_view s) (r.tree l) c.0) c.1) ≡ operand_then r stack (r.tree l) ts
+  loose_binds : (s : _) (l : E) (stack : List (Waiting E P W)) (ts us : List Token) → binding stack ≡ bind.Loose → infix_at 1 ts ≡ Some (s, us) →
+      (settled.operand_at us >>= λ x. settled.climb_at (suc (level s)) x.0 x.1 >>= λ c. operand_then r stack (Binary s (r.tree l) c.0) c.1) ≡ operand_then r stack (r.tree l) ts
   unfolding operand_then extended
   loose_binds s l stack ts us e d = rw e (rw (climb_reads 1 (r.tree l) ts) (rw d (simp (either_some, binary_reads, chained))))
 
-  pub operand_loose : (s : _) (l : E) (stack : List (Waiting E P W)) (ts us : List Token) → binding stack ≡ bind.Loose → infix_at 1 ts ≡ Some (sign_view s, us) →
+  pub operand_loose : (s : _) (l : E) (stack : List (Waiting E P W)) (ts us : List Token) → binding stack ≡ bind.Loose → infix_at 1 ts ≡ Some (s, us) →
       operand_then r stack (r.tree l) ts ≡ meaning r state.Due (wait.Infix l s ∷ stack) us
   operand_loose s l stack ts us e d = sym (infix_waits s l stack us ∙ loose_binds s l stack ts us e d)
 
@@ -146,8 +147,8 @@ module _ {E P W : Type 0} (r : Reading E P W) where
   unfolding asked_then
   asked_yes c stack ts us e = rw e (either_some us (λ vs. choice_at (r.tree c) vs >>= λ d. resumed r stack d.0 d.1) (resumed r stack (r.tree c) ts) ∙ then_waits c stack us)
 
-  pub due_sign : (s : _) (stack : List (Waiting E P W)) (ts us : List Token) → prefix ts ≡ Some (sign_view s, us) → meaning r state.Due stack ts ≡ meaning r state.Due (wait.Prefix s ∷ stack) us
-  due_sign s stack ts us e = due_prefix (sign_view s) stack ts us e ∙ prefix_waits s stack us
+  pub due_sign : (s : _) (stack : List (Waiting E P W)) (ts us : List Token) → prefix ts ≡ Some (s, us) → meaning r state.Due stack ts ≡ meaning r state.Due (wait.Prefix s ∷ stack) us
+  due_sign s stack ts us e = due_prefix s stack ts us e ∙ prefix_waits s stack us
 
   -- selects
 
@@ -175,11 +176,11 @@ module _ {E P W : Type 0} (r : Reading E P W) where
 
   -- What was waited for stands.
 
-  pub resumed_prefix : (s : _) (stack : List (Waiting E P W)) (x : NormalExpr) (ts : List Token) → resumed r (wait.Prefix s ∷ stack) x ts ≡ operand_then r stack (Unary (sign_view s) x) ts
+  pub resumed_prefix : (s : _) (stack : List (Waiting E P W)) (x : NormalExpr) (ts : List Token) → resumed r (wait.Prefix s ∷ stack) x ts ≡ operand_then r stack (Unary s x) ts
   unfolding resumed closed operand_then
   resumed_prefix s stack x ts = refl
 
-  pub resumed_infix : (s : _) (l : E) (stack : List (Waiting E P W)) (x : NormalExpr) (ts : List Token) → resumed r (wait.Infix l s ∷ stack) x ts ≡ operand_then r stack (Binary (sign_view s) (r.tree l) x) ts
+  pub resumed_infix : (s : _) (l : E) (stack : List (Waiting E P W)) (x : NormalExpr) (ts : List Token) → resumed r (wait.Infix l s ∷ stack) x ts ≡ operand_then r stack (Binary s (r.tree l) x) ts
   unfolding resumed closed operand_then
   resumed_infix s l stack x ts = refl
 
@@ -296,16 +297,16 @@ module _ {E P W : Type 0} (r : Reading E P W) where
   unfolding opened_then
   package_waits p w stack ts = within (PackageCast (r.text p) (r.text w)) stack ts ∙ simp (package_in p w stack)
 
-  word_reads_in : (k : _) (us : List Token) → (enclosed_at settled CloseParen us >>= λ x. Some (WordCast (key_view k) x.0, x.1)) ≡ (settled.expression_at us >>= λ a. finished r (wait.WordCast k) a.0 a.1)
+  word_reads_in : (k : _) (us : List Token) → (enclosed_at settled CloseParen us >>= λ x. Some (WordCast k x.0, x.1)) ≡ (settled.expression_at us >>= λ a. finished r (wait.WordCast k) a.0 a.1)
   unfolding finished
   word_reads_in k us = simp (enclosed_reads, chained, then_some)
 
-  word_in : (k : _) (stack : List (Waiting E P W)) (us : List Token) → then_primary r stack (enclosed_at settled CloseParen us >>= λ x. Some (WordCast (key_view k) x.0, x.1)) ≡ meaning r state.Due (wait.WordCast k ∷ stack) us
+  word_in : (k : _) (stack : List (Waiting E P W)) (us : List Token) → then_primary r stack (enclosed_at settled CloseParen us >>= λ x. Some (WordCast k x.0, x.1)) ≡ meaning r state.Due (wait.WordCast k ∷ stack) us
   word_in k stack us = waits (wait.WordCast k) stack us _ refl (resumed_word k stack) (word_reads_in k us)
 
-  pub word_waits : (k : _) (stack : List (Waiting E P W)) (ts : List Token) → then_primary r stack (cast settled (WordCast (key_view k)) ts) ≡ opened_then r (wait.WordCast k) stack ts
+  pub word_waits : (k : _) (stack : List (Waiting E P W)) (ts : List Token) → then_primary r stack (cast settled (WordCast k) ts) ≡ opened_then r (wait.WordCast k) stack ts
   unfolding opened_then
-  word_waits k stack ts = within (WordCast (key_view k)) stack ts ∙ simp (word_in k stack)
+  word_waits k stack ts = within (WordCast k) stack ts ∙ simp (word_in k stack)
 
   pub cast_ends : (h : E) (x : NormalExpr) (ts : List Token) → finished r (wait.Cast h) x ts ≡ (after CloseParen ts >>= λ us. Some (Cast (r.tree h) x, us))
   unfolding finished
@@ -315,7 +316,7 @@ module _ {E P W : Type 0} (r : Reading E P W) where
   unfolding finished
   package_ends p w x ts = refl
 
-  pub word_ends : (k : _) (x : NormalExpr) (ts : List Token) → finished r (wait.WordCast k) x ts ≡ (after CloseParen ts >>= λ us. Some (WordCast (key_view k) x, us))
+  pub word_ends : (k : _) (x : NormalExpr) (ts : List Token) → finished r (wait.WordCast k) x ts ≡ (after CloseParen ts >>= λ us. Some (WordCast k x, us))
   unfolding finished
   word_ends k x ts = refl
 

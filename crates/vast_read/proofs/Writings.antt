@@ -6,7 +6,10 @@ use Rattle.vast_literal.specs.Tokens.{op_text}
 use Rattle.vast_literal.proofs.ScanLaws.{key_token}
 use Rattle.vast_literal.specs.Keyword.{is_keyword}
 use Rattle.vast_literal.specs.Internal.Nexts.{key_in}
-use Rattle.vast_literal.specs.Tokens.{Op, LogicOr, LogicNot, Key, key_text, key_written, reserved_keys, Word, keyword_token, word_token}
+use Rattle.vast_literal.specs.Tokens.{key_text, key_written, reserved_keys, Word, keyword_token, word_token}
+use Rattle.vast_literal.specs.declared.token.Sign.{Sign as Op}
+use Rattle.vast_literal.specs.declared.token.Sign.TheVariants.{LogicOr, LogicNot}
+use Rattle.vast_literal.specs.declared.token.Key.{Key}
 use Rattle.vast_read.specs.Texts.{signs, sign_written, prefix_of, infix_of, key_or, key_of}
 use Rattle.vast_read.specs.Internal.Writings.{is_sign, prefix_text, infix_text, keyword_text}
 

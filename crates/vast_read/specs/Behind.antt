@@ -1,6 +1,7 @@
 -- What is left of a text behind some of its lexemes.
 use Rattle.std.specs.Prelude.{ℕ, List, [], ◌∷◌, ◌++◌, codes}
-use Rattle.vast_literal.specs.Tokens.{Token, Mark, Apostrophe}
+use Rattle.vast_literal.specs.Tokens.{Token, Mark}
+use Rattle.vast_literal.specs.declared.token.Mark.TheVariants.{Apostrophe}
 use Rattle.vast_literal.specs.Lexemes.{IsLexeme, IsLongest}
 
 -- The rest of a text behind some of its lexemes, from the left and at each place the longest.

@@ -2,7 +2,7 @@
 use Rattle.std.specs.declared.alloc.Global.{Global}
 use Rattle.std.specs.Prelude.{ℕ, List, Option, Some, None, option_and_then, option_map, map}
 use Rattle.std.specs.declared.boxed.Box.{Box}
-use Rattle.vast_literal.specs.Tokens.{Key}
+use Rattle.vast_literal.specs.declared.token.Key.{Key}
 use Rattle.vast_literal.specs.NormalExpr.{NormalExpr}
 use Rattle.vast_literal.specs.NormalFile as normal
 use Rattle.vast_literal.specs.NormalFile.{One, Range}

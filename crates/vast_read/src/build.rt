@@ -16,7 +16,6 @@ mod trees;
 mod unbuilt;
 
 use crate::fault::Fault;
-use crate::token::{Key, Sign};
 pub(crate) use declarations::BuildDeclarations;
 pub(crate) use files::BuildFiles;
 pub(crate) use members::{BuildMembers, MemberForm, MemberFormOf};
@@ -24,6 +23,7 @@ pub(crate) use statements::{BuildStatements, StatementForm, StatementFormOf};
 use std::alloc::Global;
 pub(crate) use trees::Trees;
 pub(crate) use unbuilt::Unbuilt;
+use vast_literal::{Key, Sign};
 
 /// An expression, with what was made of its parts.
 ///

@@ -2,11 +2,10 @@
 
 ghost use Rattle.std.specs.Prelude.{◌≡◌};
 ghost use Rattle.vast_read.specs.Internal.OpenLoops.{closing};
-ghost use Rattle.vast_read.specs.TokenView.{key_view};
 
 use crate::build::{Build, BuildMembers};
 use crate::stack::Stack;
-use crate::token::Key;
+use vast_literal::Key;
 
 /// A generate loop up to its label: its variable stays below the end.
 #[derive(Drop)]
@@ -41,7 +40,7 @@ pub(crate) enum Grown<M> {
 impl<'t, E, M> Stack<OpenLoop<'t, E, M>> {
     /// The keyword that closes the innermost loop, or this one where no loop is open.
     pub(crate) fn closing(&self, close: Key) -> Key
-        ensures { key_view result ≡ closing (key_view close) self.now }
+        ensures { result ≡ closing close self.now }
     {
         match self.top() {
             None => close,

@@ -2,12 +2,11 @@
 
 ghost use Rattle.std.specs.Prelude.{◌≡◌, MatchResult, Ok, Err};
 ghost use Rattle.vast_read.specs.Internal.Machine.{binds, binding, closing};
-ghost use Rattle.vast_read.specs.TokenView.{mark_view};
 
 use crate::build::Build;
 use crate::fault::Fault;
 use crate::stack::Stack;
-use crate::token::{Key, Mark, Sign};
+use vast_literal::{Key, Mark, Sign};
 
 /// What waits for an expression.
 ///
@@ -168,7 +167,7 @@ impl<E, P, W> Stack<Waiting<E, P, W>> {
 impl<E, W> Head<E, W> {
     /// The mark that closes the list.
     pub(crate) fn closing(&self) -> Mark
-        ensures { mark_view result ≡ closing self.now }
+        ensures { result ≡ closing self.now }
     {
         match self {
             Head::Call(_) => Mark::CloseParen,

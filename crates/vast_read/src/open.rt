@@ -2,7 +2,7 @@
 
 use crate::build::{Build, BuildStatements};
 use crate::stack::Stack;
-use crate::token::Key;
+use vast_literal::Key;
 
 /// A case whose end isn't read.
 ///

@@ -1,12 +1,12 @@
 -- The table of keywords answers for each word what the list of keywords says.
-use Rattle.std.proofs.Common.{◌≡◌, zero, suc, ℕ, ◌<◌, List, [], ◌∷◌, length, map, get_or, Bool, true, false, ◌&&◌, ◌||◌, nat_lt, bytes_eq, Option, Some, None, option_map, refl, ap, sym, ◌∙◌, arith}
+use Rattle.std.proofs.Common.{◌≡◌, zero, suc, ℕ, ◌<◌, List, [], ◌∷◌, length, map, get_or, Bool, true, false, ◌&&◌, ◌||◌, nat_lt, bytes_eq, Option, Some, None, refl, ap, sym, ◌∙◌, arith}
 use Rattle.std.proofs.lemmas.Slice.Eq.{bytes_eq-Decides}
 use Rattle.std.proofs.lemmas.Bool.Decides.{nat_tests}
 use Rattle.vast_literal.specs.Keyword.{keywords, is_among, is_keyword}
-use Rattle.vast_literal.specs.Tokens.{Key, key_text, reserved_keys, key_written, Reserved, Word, Keyword, keyword_token, word_token}
+use Rattle.vast_literal.specs.Tokens.{key_text, reserved_keys, key_written, Reserved, Word, Keyword, keyword_token, word_token}
+use Rattle.vast_literal.specs.declared.token.Key.{Key}
 use Rattle.vast_literal.proofs.ScanLaws.{and_left, and_right}
 use Rattle.vast_read.specs.Internal.KeywordSlots.{slot_of}
-use Rattle.vast_read.specs.TokenView.{key_view}
 use Rattle.vast_read.specs.declared.scanner.keyword.TheConstants.{KEYS, PLACES, MOVES}
 
 -- all numbers of a list are below a bound
@@ -28,7 +28,7 @@ pub place_within : (slot : ℕ) → get_or PLACES slot 0 < 248
 place_within slot = below_at 248 PLACES slot (omega arith) places_below
 
 abbrev pub keys : List (Option Key)
-keys = map (option_map key_view) KEYS
+keys = KEYS
 
 keys_are : map (key_written reserved_keys) keywords ≡ keys
 unfolding keywords reserved_keys key_text

@@ -1,7 +1,8 @@
 -- Where a text falls into lexemes, its tokens are some and those of what is left behind some of its lexemes.
 use Rattle.std.proofs.Common.{◌≡◌, ℕ, List, [], ◌∷◌, ◌++◌, length, drop, Bool, true, false, ◌||◌, eqb, eqb-true, Option, Some, None, refl, sym, ap, subst, ◌∙◌, append_assoc, arith}
 use Rattle.std.proofs.Math.Seq.{drop-append_seam}
-use Rattle.vast_literal.specs.Tokens.{Token, Mark, Apostrophe, OpenParen, OpenBrace}
+use Rattle.vast_literal.specs.Tokens.{Token, Mark}
+use Rattle.vast_literal.specs.declared.token.Mark.TheVariants.{Apostrophe, OpenParen, OpenBrace}
 use Rattle.vast_literal.specs.Scan.{cons_token, scan, tokens}
 use Rattle.vast_literal.specs.Lexemes.{IsLexeme, IsLongest, Lexes}
 use Rattle.vast_literal.specs.Lexemes.IsLexeme.{space, comment, word, system_word, macro_word, number, based, filled, string, operator, mark, cast, pattern}

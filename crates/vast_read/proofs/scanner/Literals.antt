@@ -3,7 +3,8 @@ use Rattle.std.proofs.Common.{◌≡◌, ℕ, ◌+◌, ◌<◌, List, [], ◌∷
 use Rattle.std.specs.List.{prefix_len}
 use Rattle.std.proofs.lemmas.List.{get_or-drop}
 use Rattle.std.proofs.lemmas.Bool.Decides.{nat_tests}
-use Rattle.vast_literal.specs.Tokens.{Number, Based, Mark, Apostrophe, OpenParen, OpenBrace}
+use Rattle.vast_literal.specs.Tokens.{Number, Based, Mark}
+use Rattle.vast_literal.specs.declared.token.Mark.TheVariants.{Apostrophe, OpenParen, OpenBrace}
 use Rattle.vast_literal.specs.Scan.{is_digit, is_radix, is_filler, Gap, InNumber, AfterTick, keep, give, fail, before_tick, step}
 use Rattle.vast_literal.specs.LiteralToken.{every}
 use Rattle.vast_read.specs.Lexed.{lex, lex_on, unspelled}

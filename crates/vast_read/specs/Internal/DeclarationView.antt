@@ -1,10 +1,10 @@
 -- Beside `specs/DeclarationView.antt`: what private contracts and proofs say, and no public one.
 use Rattle.std.specs.Prelude.{ℕ, List, Option, option_map}
-use Rattle.vast_literal.specs.Tokens.{Key, Token}
+use Rattle.vast_literal.specs.Tokens.{Token}
+use Rattle.vast_literal.specs.declared.token.Key.{Key}
 use Rattle.vast_literal.specs.NormalFile as normal
 use Rattle.vast_literal.specs.Internal.StatementParser.{ReadOf}
 use Rattle.vast_literal.specs.Internal.SettledDeclarations.{named_end}
-use Rattle.vast_read.specs.TokenView.{key_view}
 use Rattle.vast_read.specs.declared.tree.declaration.Head.{Head}
 
 -- A kind, a package, a type and a sign, each where it is written.
@@ -15,7 +15,7 @@ pub record HeadParts : Type 0 where
   pub sign : Option Key
 
 abbrev pub head_view : Head → HeadParts
-head_view h = record { kind = option_map key_view h.kind; scope = option_map (λ w. w.now) h.scope; type_name = option_map (λ w. w.now) h.type_name; sign = option_map key_view h.sign }
+head_view h = record { kind = h.kind; scope = option_map (λ w. w.now) h.scope; type_name = option_map (λ w. w.now) h.type_name; sign = h.sign }
 
 -- The declaration of these parts.
 abbrev pub with_head : HeadParts → List normal.Group → List ℕ → List normal.Group → normal.NormalDeclaration

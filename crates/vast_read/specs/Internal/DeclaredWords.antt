@@ -1,6 +1,6 @@
 -- The words and the groups of a declaration.
 use Rattle.std.specs.Prelude.{ℕ, List, Option, option_map}
-use Rattle.vast_literal.specs.Tokens.{Key}
+use Rattle.vast_literal.specs.declared.token.Key.{Key}
 use Rattle.vast_literal.specs.NormalFile.{Group}
 use Rattle.vast_read.specs.DeclarationView.{package_of, type_name_of, sign_of, groups_view}
 use Rattle.vast_read.specs.Texts.{key_of}

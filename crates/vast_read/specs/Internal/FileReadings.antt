@@ -8,7 +8,6 @@ use Rattle.vast_read.specs.Internal.FileView.{parameter_of, port_of, module_of}
 use Rattle.vast_read.specs.Internal.Listed.{items_of}
 use Rattle.vast_read.specs.Internal.MemberReadings.{members_of}
 use Rattle.vast_read.specs.Internal.Readings.{tree_of}
-use Rattle.vast_read.specs.TokenView.{key_view}
 use Rattle.vast_read.specs.declared.build.listed.Listed.{Listed}
 use Rattle.vast_read.specs.declared.build.unbuilt.files.ItemShadow.{ItemShadow}
 use Rattle.vast_read.specs.declared.build.unbuilt.files.ItemShadow.TheVariants.{Include, Module}
@@ -29,7 +28,7 @@ abbrev pub shadow_parameters : Listed ParameterShadow → List normal.NormalPara
 shadow_parameters = items_of shadow_parameter
 
 abbrev pub shadow_port : PortShadow → normal.NormalPort
-shadow_port p = port_of (key_view p.direction) (declaration_of p.declared.value)
+shadow_port p = port_of p.direction (declaration_of p.declared.value)
 
 abbrev pub shadow_ports : Listed PortShadow → List normal.NormalPort
 shadow_ports = items_of shadow_port

@@ -3,7 +3,7 @@ use Rattle.std.specs.Prelude.{ℕ, List}
 use Rattle.vast_literal.specs.NormalExpr.{NormalExpr}
 use Rattle.vast_literal.specs.NormalFile as normal
 use Rattle.vast_literal.specs.NormalFile.{NormalMembers}
-use Rattle.vast_literal.specs.Tokens.{Key}
+use Rattle.vast_literal.specs.declared.token.Key.{Key}
 
 -- A parameter, a port, a module and a file of these parts.
 abbrev pub parameter_of : normal.NormalDeclaration → NormalExpr → normal.NormalParameter

@@ -1,6 +1,6 @@
 -- The test of each class of keywords.
 use Rattle.std.specs.Prelude.{Bool}
-use Rattle.vast_literal.specs.Tokens.{Key}
+use Rattle.vast_literal.specs.declared.token.Key.{Key}
 use Rattle.vast_literal.specs.FileGrammar.{is_kind, is_sign, is_member_kind, is_local_kind, is_parameter_word, is_clocked, is_edge, is_direction}
 use Rattle.vast_read.specs.Internal.StatementSteps.{is_case_word}
 use Rattle.vast_read.specs.declared.token.class.KeyClass.{KeyClass}

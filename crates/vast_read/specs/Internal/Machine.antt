@@ -1,12 +1,13 @@
 -- What waits for an expression, as what is read from the expression on.
 use Rattle.std.specs.Prelude.{◌≡◌, ℕ, suc, ◌+◌, ◌*◌, ◌<◌, ◌≤◌, List, [], ◌∷◌, length, Option, Some, None, Result, Ok, Err}
-use Rattle.vast_literal.specs.Tokens.{level, Punct, Token, OpenParen, CloseParen, CloseBracket, OpenBrace, CloseBrace, Colon, Question}
+use Rattle.vast_literal.specs.Tokens.{level, Token}
+use Rattle.vast_literal.specs.declared.token.Mark.{Mark as Punct}
+use Rattle.vast_literal.specs.declared.token.Mark.TheVariants.{OpenParen, CloseParen, CloseBracket, OpenBrace, CloseBrace, Colon, Question}
 use Rattle.vast_literal.specs.NormalExpr.{NormalExpr, Unary, Binary, Ternary, Slice, Concat, Pattern, Replicated, Call, MacroCall, Cast, PackageCast, WordCast, NormalExprs, NoNormals, MoreNormals}
 use Rattle.vast_literal.specs.Internal.Parser.{◌>>=◌, Read, after, lead, paren_on}
 use Rattle.vast_literal.specs.Internal.Settled.{either, settled}
 use Rattle.vast_read.specs.Internal.Reading.{Reading}
 use Rattle.vast_read.specs.Internal.Steps.{ReadList, choice_at, select_end, replicated_at, concat_at, rest_at, join, joined}
-use Rattle.vast_read.specs.TokenView.{sign_view, key_view}
 use Rattle.vast_read.specs.declared.fault.Fault.{Fault}
 use Rattle.vast_read.specs.declared.fault.Fault.TheVariants.{Underived}
 use Rattle.vast_read.specs.declared.machine.Waiting.{Waiting}
@@ -43,7 +44,7 @@ module _ {E P W : Type 0} where
   abbrev pub binds : Waiting E P W → Binding
   binds (wait.Prefix s) = bind.Tight
   binds wait.Target = bind.Tight
-  binds (wait.Infix x s) = bind.From (suc (level (sign_view s)))
+  binds (wait.Infix x s) = bind.From (suc (level s))
   binds _ = bind.Loose
 
   abbrev pub binding : List (Waiting E P W) → Binding
@@ -79,15 +80,15 @@ module _ {E P W : Type 0} (r : Reading E P W) where
   finished (wait.Slice s i) x ts = after CloseBracket ts >>= λ us. Some (Slice (r.tree s) (r.tree i) x, us)
   finished (wait.Cast h) x ts = after CloseParen ts >>= λ us. Some (Cast (r.tree h) x, us)
   finished (wait.PackageCast p w) x ts = after CloseParen ts >>= λ us. Some (PackageCast (r.text p) (r.text w) x, us)
-  finished (wait.WordCast k) x ts = after CloseParen ts >>= λ us. Some (WordCast (key_view k) x, us)
+  finished (wait.WordCast k) x ts = after CloseParen ts >>= λ us. Some (WordCast k x, us)
   finished wait.Brace x ts = either (after OpenBrace ts) (λ us. replicated_at x us) (concat_at x ts)
   finished (wait.List h xs) x ts = parts_then (r.trees xs) x ts >>= λ ys. after (closing h) ys.1 >>= λ us. behind h us >>= λ vs. Some (made h ys.0, vs)
   finished _ x ts = None
 
   -- What is read once what was waited for stands, where a primary expression, an operand or a whole expression then stands.
   unfoldable pub closed : Waiting E P W → (primary operand whole : Next) → Next
-  closed (wait.Prefix s) p o w x ts = o (Unary (sign_view s) x) ts
-  closed (wait.Infix l s) p o w x ts = o (Binary (sign_view s) (r.tree l) x) ts
+  closed (wait.Prefix s) p o w x ts = o (Unary s x) ts
+  closed (wait.Infix l s) p o w x ts = o (Binary s (r.tree l) x) ts
   closed (wait.Then c) p o w x ts = after Colon ts >>= λ us. settled.expression_at us >>= λ b. w (Ternary (r.tree c) x b.0) b.1
   closed (wait.Else c a) p o w x ts = w (Ternary (r.tree c) (r.tree a) x) ts
   closed wait.Target p o w x ts = w x ts

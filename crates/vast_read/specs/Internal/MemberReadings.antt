@@ -11,7 +11,6 @@ use Rattle.vast_read.specs.MemberView.{event_view, events_view, connection_view,
 use Rattle.vast_read.specs.Internal.MemberView.{given}
 use Rattle.vast_read.specs.Internal.Readings.{tree_of, trees_of}
 use Rattle.vast_read.specs.Internal.StatementReadings.{seen as seen_statement}
-use Rattle.vast_read.specs.TokenView.{key_view}
 use Rattle.vast_read.specs.declared.build.listed.Listed.{Listed}
 use Rattle.vast_read.specs.declared.build.unbuilt.members.ConnectionShadow.{ConnectionShadow}
 use Rattle.vast_read.specs.declared.build.unbuilt.members.ConnectionShadow.TheVariants.{Open, Given}
@@ -27,7 +26,7 @@ abbrev pub member_trees : MemberReading Event (List Event) Connection (List Conn
 member_trees = record { event = event_view; events = events_view; connection = connection_view; connections = connections_view; member = member_view; members = members_view }
 
 abbrev pub event_of : EventShadow → normal.Event
-event_of (Edge k x) = EdgeEvent (key_view k) (tree_of x.value)
+event_of (Edge k x) = EdgeEvent k (tree_of x.value)
 event_of (Change w) = NameEvent w.now
 
 abbrev pub events_of : Listed EventShadow → List normal.Event

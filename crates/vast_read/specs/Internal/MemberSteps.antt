@@ -1,6 +1,8 @@
 -- What the functions of the reader of members read, beside the settled parser's own.
 use Rattle.std.specs.Prelude.{List, Some, cond}
-use Rattle.vast_literal.specs.Tokens.{Comma, IfKey, AssignKey, AlwaysCombKey, OrKey, FunctionKey, Token}
+use Rattle.vast_literal.specs.Tokens.{Token}
+use Rattle.vast_literal.specs.declared.token.Mark.TheVariants.{Comma}
+use Rattle.vast_literal.specs.declared.token.Key.TheVariants.{If as IfKey, Assign as AssignKey, AlwaysComb as AlwaysCombKey, Or as OrKey, Function as FunctionKey}
 use Rattle.vast_literal.specs.NormalFile.{NormalDeclaration, Event, NormalConnection, NormalMember, NormalMembers, NoParts, MoreParts}
 use Rattle.vast_literal.specs.FileGrammar.{is_member_kind, is_parameter_word, is_clocked}
 use Rattle.vast_literal.specs.Internal.Parser.{◌>>=◌, after}

@@ -10,7 +10,6 @@ use Rattle.vast_read.specs.StatementParts.{ChoicePart, arms_of}
 use Rattle.vast_read.specs.Internal.StatementParts.{join_block, join_labels}
 use Rattle.vast_read.specs.Internal.StatementReading.{StatementReading}
 use Rattle.vast_read.specs.Internal.StatementSteps.{is_casez, with_block, with_labels, choice_arm, choice_behind, body_at}
-use Rattle.vast_read.specs.TokenView.{key_view}
 use Rattle.vast_read.specs.declared.fault.Fault.{Fault}
 use Rattle.vast_read.specs.declared.fault.Fault.TheVariants.{Underived}
 use Rattle.vast_read.specs.declared.open.Case.{Case}
@@ -27,14 +26,14 @@ arm_then ps ts = choice_arm ts >>= λ p. choice_behind (ps ++ p.0 ∷ []) p.1
 module _ {E S K A L C : Type 0} (tree : E → NormalExpr) (acts : StatementReading S K A L C) where
   -- The case of these arms and those that follow.
   unfoldable pub case_of : Case E C → Labels → List Token → ReadOf NormalStatement
-  case_of c xs ts = with_labels xs (settled_reader.labels (is_casez (key_view c.key)) ts) >>= λ a. Some (CaseStatement c.is_unique (key_view c.key) (tree c.selector) a.0, a.1)
+  case_of c xs ts = with_labels xs (settled_reader.labels (is_casez c.key) ts) >>= λ a. Some (CaseStatement c.is_unique c.key (tree c.selector) a.0, a.1)
 
   -- The same with one more arm, and where the block of that arm is due.
   unfoldable pub labelled : Case E C → Option NormalExpr → NormalStatements → List Token → ReadOf NormalStatement
   labelled c x b ts = case_of c (join_labels (acts.cases c.arms) (Label x b NoLabels)) ts
 
   unfoldable pub body_then : Case E C → Option NormalExpr → List Token → ReadOf NormalStatement
-  body_then c x ts = body_at (is_casez (key_view c.key)) ts >>= λ b. labelled c x b.0 b.1
+  body_then c x ts = body_at (is_casez c.key) ts >>= λ b. labelled c x b.0 b.1
 
   -- The statement that is read behind a block that this waited for.
   unfoldable pub closed : Owner E A L C → NormalStatements → List Token → ReadOf NormalStatement

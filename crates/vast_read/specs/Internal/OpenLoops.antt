@@ -1,6 +1,8 @@
 -- Open generate loops, as what is read from a place in them on.
 use Rattle.std.specs.Prelude.{◌≡◌, ℕ, List, [], ◌∷◌, Option, Some, None, option_map, Result, Ok, Err}
-use Rattle.vast_literal.specs.Tokens.{Key, EndKey, BeginKey, Token}
+use Rattle.vast_literal.specs.Tokens.{Token}
+use Rattle.vast_literal.specs.declared.token.Key.{Key}
+use Rattle.vast_literal.specs.declared.token.Key.TheVariants.{End as EndKey, Begin as BeginKey}
 use Rattle.vast_literal.specs.NormalExpr.{NormalExpr}
 use Rattle.vast_literal.specs.NormalFile.{NormalMember, LoopPart, NormalMembers, NoParts, MoreParts}
 use Rattle.vast_literal.specs.Internal.Parser.{◌>>=◌}

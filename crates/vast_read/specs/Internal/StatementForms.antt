@@ -4,7 +4,6 @@ use Rattle.vast_literal.specs.FileGrammar.{assignment}
 use Rattle.vast_literal.specs.NormalExpr.{NormalExpr}
 use Rattle.vast_literal.specs.NormalFile.{NormalStatement, AssignStatement, ChoiceStatement, CaseStatement, NormalStatements, Labels}
 use Rattle.vast_read.specs.StatementParts.{ChoicePart, arms_of}
-use Rattle.vast_read.specs.TokenView.{key_view}
 use Rattle.vast_read.specs.declared.build.statements.StatementForm.{StatementForm}
 use Rattle.vast_read.specs.declared.build.statements.StatementForm.TheVariants as form
 
@@ -13,4 +12,4 @@ module _ {E K A C : Type 0} (tree : E → NormalExpr) (block : K → NormalState
   form_statement (form.Assignment b x y) = assignment b (tree x) (tree y)
   form_statement (form.Assign x y) = AssignStatement (tree x) (tree y)
   form_statement (form.Choice ps d) = ChoiceStatement (arms_of (arms ps) (option_map block d))
-  form_statement (form.Case u k x ls) = CaseStatement u (key_view k) (tree x) (cases ls)
+  form_statement (form.Case u k x ls) = CaseStatement u k (tree x) (cases ls)

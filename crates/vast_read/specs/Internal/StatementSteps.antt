@@ -1,6 +1,9 @@
 -- What each function of the reader of statements reads, over the settled parser.
 use Rattle.std.specs.Prelude.{List, Bool, true, false, cond, Option, Some, None}
-use Rattle.vast_literal.specs.Tokens.{Key, IfKey, ElseKey, CaseKey, CasezKey, CasexKey, DefaultKey, BeginKey, Colon, Semicolon, Assign, Token}
+use Rattle.vast_literal.specs.Tokens.{Token}
+use Rattle.vast_literal.specs.declared.token.Mark.TheVariants.{Colon, Semicolon, Assign}
+use Rattle.vast_literal.specs.declared.token.Key.{Key}
+use Rattle.vast_literal.specs.declared.token.Key.TheVariants.{If as IfKey, Else as ElseKey, Case as CaseKey, Casez as CasezKey, Casex as CasexKey, Default as DefaultKey, Begin as BeginKey}
 use Rattle.vast_literal.specs.NormalExpr.{NormalExpr}
 use Rattle.vast_literal.specs.NormalFile.{NormalStatement, AssignStatement, ChoiceStatement, CaseStatement, NormalStatements, Done, Then, Arms, Labels}
 use Rattle.vast_literal.specs.Internal.Parser.{◌>>=◌, after, enclosed_at, selected_at}

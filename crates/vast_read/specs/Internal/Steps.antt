@@ -1,6 +1,10 @@
 -- What each function of the reader reads, over the settled parser.
 use Rattle.std.specs.Prelude.{ℕ, List, [], ◌∷◌, cond, nat_le, Option, Some, None}
-use Rattle.vast_literal.specs.Tokens.{Op, level, OpenParen, CloseParen, CloseBracket, OpenBrace, CloseBrace, Comma, Colon, PlusColon, Apostrophe, Punct, Key, Token, Word, Number, Mark, Operator}
+use Rattle.vast_literal.specs.Tokens.{level, Token, Word, Number, Mark, Operator}
+use Rattle.vast_literal.specs.declared.token.Sign.{Sign as Op}
+use Rattle.vast_literal.specs.declared.token.Mark.{Mark as Punct}
+use Rattle.vast_literal.specs.declared.token.Mark.TheVariants.{OpenParen, CloseParen, CloseBracket, OpenBrace, CloseBrace, Comma, Colon, PlusColon, Apostrophe}
+use Rattle.vast_literal.specs.declared.token.Key.{Key}
 use Rattle.vast_literal.specs.NormalExpr.{NormalExpr, Ternary, Index, Slice, PartSelect, Concat, Replicated, Pattern, Call, PackageCast, WordCast, NormalExprs, NoNormals, MoreNormals}
 use Rattle.vast_literal.specs.Internal.Parser.{◌>>=◌, Read, after, word_at, number_at, enclosed_at, cast, applied_at, arguments, list_on, primary}
 use Rattle.vast_literal.specs.Grammar.{is_cast_word}

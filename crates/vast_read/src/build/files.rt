@@ -5,12 +5,11 @@ ghost use Rattle.vast_literal.specs.NormalFile.{ModulePart, IncludePart};
 ghost use Rattle.vast_read.specs.declared.fault.Fault.TheVariants.{Memory};
 ghost use Rattle.vast_read.specs.Internal.FileReading.{FileReading};
 ghost use Rattle.vast_read.specs.Internal.FileView.{parameter_of, port_of, module_of, file_of};
-ghost use Rattle.vast_read.specs.TokenView.{key_view};
 
 use crate::build::BuildMembers;
 use crate::fault::Fault;
-use crate::token::Key;
 use std::alloc::Global;
+use vast_literal::Key;
 
 /// What a reader of files makes of what it reads.
 ///
@@ -61,7 +60,7 @@ pub(crate) trait BuildFiles<'t>: BuildMembers<'t> {
     /// A port and its direction.
     fn port(alloc: Global, direction: Key, declared: Self::Declaration) -> Result<Self::Port, Fault>
         ensures ok { IfOk result (λ p. files.port p
-            ≡ port_of (key_view direction) (Self.declares.declaration declared)) }
+            ≡ port_of direction (Self.declares.declaration declared)) }
         ensures err { IfErr result (λ e. e ≡ Memory) };
 
     /// No ports.

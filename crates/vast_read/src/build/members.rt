@@ -7,14 +7,13 @@ ghost use Rattle.vast_read.specs.Internal.MemberForms.{form_member};
 ghost use Rattle.vast_read.specs.Internal.MemberReading.{MemberReading};
 ghost use Rattle.vast_read.specs.Internal.MemberSteps.{join_members};
 ghost use Rattle.vast_read.specs.Internal.MemberView.{given};
-ghost use Rattle.vast_read.specs.TokenView.{key_view};
 ghost use Rattle.vast_read.specs.View.{view};
 
 use crate::build::{Build, BuildDeclarations, BuildStatements};
 use crate::fault::Fault;
-use crate::token::Key;
 use crate::tree::NormalExpr;
 use std::alloc::Global;
+use vast_literal::Key;
 
 /// A member, with what was made of its parts.
 ///
@@ -85,7 +84,7 @@ pub(crate) trait BuildMembers<'t>: BuildDeclarations<'t> + BuildStatements<'t> {
     /// An edge of an expression.
     fn edge(alloc: Global, edge: Key, expression: Self::Expr) -> Result<Self::Event, Fault>
         ensures ok { IfOk result (λ e. holds.event e
-            ≡ EdgeEvent (key_view edge) (Self.sees.tree expression)) }
+            ≡ EdgeEvent edge (Self.sees.tree expression)) }
         ensures err { IfErr result (λ e. e ≡ Memory) };
 
     /// A change of what has this name.

@@ -9,8 +9,8 @@ ghost use Rattle.vast_read.specs.Internal.StatementReading.{StatementReading};
 
 use crate::build::Build;
 use crate::fault::Fault;
-use crate::token::Key;
 use std::alloc::Global;
+use vast_literal::Key;
 
 /// A statement, with what was made of its parts.
 ///

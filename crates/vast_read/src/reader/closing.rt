@@ -9,7 +9,7 @@ use crate::build::{Build, Form};
 use crate::fault::Fault;
 use crate::machine::{Head, State, Waiting, Waits};
 use crate::reader::Reader;
-use crate::token::{Key, Mark};
+use vast_literal::{Key, Mark};
 
 impl<'t> Reader<'t> {
     /// Goes on where what this waited for stands.

@@ -8,13 +8,13 @@ ghost use Rattle.vast_read.specs.Internal.Answers.{ReadsAs};
 ghost use Rattle.vast_read.specs.Internal.DeclarationSteps.{group_rest};
 ghost use Rattle.vast_read.specs.Internal.DeclarationView.{head_view, headed};
 ghost use Rattle.vast_read.specs.Internal.KeyClasses.{class_test};
-ghost use Rattle.vast_read.specs.TokenView.{key_view};
 
 use crate::build::BuildDeclarations;
 use crate::fault::Fault;
 use crate::reader::Reader;
-use crate::token::{Key, KeyClass, Mark};
+use crate::token::KeyClass;
 use crate::tree::declaration::Head;
+use vast_literal::{Key, Mark};
 
 impl<'t> Reader<'t> {
     /// The name that stands next, where one does; it is then read.
@@ -42,7 +42,7 @@ impl<'t> Reader<'t> {
     #[tactic(auto, using(crate::proofs::DeclarationLaws::maybes))]
     pub(crate) fn maybe_key(&mut self, class: KeyClass) -> Option<Key>
         ensures found { maybe_at (class_test class) self.old
-            ≡ (option_map key_view result, self.new) }
+            ≡ (result, self.new) }
         ensures fewer { length self.new ≤ length self.old }
     {
         match self.key_in(class) {
@@ -118,7 +118,7 @@ impl<'t> Reader<'t> {
         type_name: Option<&'t str>,
     ) -> Result<B::Declaration, Fault>
         ensures reads { ReadsAs B.declares.declaration result self.new
-            (signed_end (option_map key_view kind) (option_map (λ w. w.now) scope.entry)
+            (signed_end kind (option_map (λ w. w.now) scope.entry)
             (option_map (λ w. w.now) type_name.entry) self.old) }
         ensures fewer { length self.new ≤ length self.old }
     {
@@ -141,7 +141,7 @@ impl<'t> Reader<'t> {
         groups: B::Groups,
     ) -> Result<B::Declaration, Fault>
         ensures reads { ReadsAs B.declares.declaration result self.new
-            (type_or_name (option_map key_view kind) word.now (B.declares.groups groups) self.old) }
+            (type_or_name kind word.now (B.declares.groups groups) self.old) }
         ensures fewer { length self.new ≤ length self.old }
     {
         match self.eat_word() {
@@ -176,7 +176,7 @@ impl<'t> Reader<'t> {
         word: &'t str,
     ) -> Result<B::Declaration, Fault>
         ensures reads { ReadsAs B.declares.declaration result self.new
-            (plain_word (option_map key_view kind) word.now self.old) }
+            (plain_word kind word.now self.old) }
         ensures fewer { length self.new ≤ length self.old }
     {
         match self.key_in(KeyClass::Sign) {
@@ -204,7 +204,7 @@ impl<'t> Reader<'t> {
         scope: &'t str,
     ) -> Result<B::Declaration, Fault>
         ensures reads { ReadsAs B.declares.declaration result self.new
-            (scoped_type (option_map key_view kind) scope.now self.old) }
+            (scoped_type kind scope.now self.old) }
         ensures fewer { length self.new ≤ length self.old }
     {
         let name = self.word()?;
@@ -219,7 +219,7 @@ impl<'t> Reader<'t> {
         word: &'t str,
     ) -> Result<B::Declaration, Fault>
         ensures reads { ReadsAs B.declares.declaration result self.new
-            (behind_word (option_map key_view kind) word.now self.old) }
+            (behind_word kind word.now self.old) }
         ensures fewer { length self.new ≤ length self.old }
     {
         if self.eat(Mark::DoubleColon) {
@@ -236,7 +236,7 @@ impl<'t> Reader<'t> {
         kind: Option<Key>,
     ) -> Result<B::Declaration, Fault>
         ensures reads { ReadsAs B.declares.declaration result self.new
-            (behind_kind (option_map key_view kind) self.old) }
+            (behind_kind kind self.old) }
         ensures fewer { length self.new ≤ length self.old }
     {
         match self.eat_word() {

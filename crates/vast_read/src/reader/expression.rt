@@ -1,20 +1,19 @@
 //! Expressions: a loop over a list of what waits for one, so that no text takes stack.
 
 ghost use Rattle.std.specs.Prelude.{◌≤◌, length};
-ghost use Rattle.vast_literal.specs.Tokens.{Comma};
+ghost use Rattle.vast_literal.specs.declared.token.Mark.TheVariants.{Comma};
 ghost use Rattle.vast_literal.specs.Internal.Parser.{after, enclosed_at, arguments, list_on, selected_at};
 ghost use Rattle.vast_literal.specs.Internal.Settled.{settled};
 ghost use Rattle.vast_read.specs.Internal.Answers.{ReadsAs};
 ghost use Rattle.vast_read.specs.Internal.Machine.{load, meaning, resumed, work, KeepsStep, Lessens};
 ghost use Rattle.vast_read.specs.Internal.Steps.{in_parens};
-ghost use Rattle.vast_read.specs.TokenView.{mark_view};
 
 use crate::build::Build;
 use crate::fault::Fault;
 use crate::machine::{State, Step, Waiting, Waits};
 use crate::reader::Reader;
 use crate::stack::Stack;
-use crate::token::Mark;
+use vast_literal::Mark;
 
 impl<'t> Reader<'t> {
     /// Reads an expression, and makes this of it.
@@ -114,7 +113,7 @@ impl<'t> Reader<'t> {
     #[tactic(auto, using(crate::proofs::Laws::enclosures))]
     pub(crate) fn enclosed<B: Build<'t>>(&mut self, close: Mark) -> Result<B::Expr, Fault>
         ensures reads { ReadsAs B.sees.tree result self.new
-            (enclosed_at settled (mark_view close) self.old) }
+            (enclosed_at settled close self.old) }
         ensures fewer { length self.new ≤ length self.old }
     {
         let inner = self.expression::<B>()?;
@@ -152,7 +151,7 @@ impl<'t> Reader<'t> {
     #[tactic(auto, using(crate::proofs::Laws::argument_lists))]
     pub(crate) fn arguments<B: Build<'t>>(&mut self, close: Mark) -> Result<B::Parts, Fault>
         ensures reads { ReadsAs B.sees.trees result self.new
-            (arguments settled (mark_view close) self.old) }
+            (arguments settled close self.old) }
         ensures fewer { length self.new ≤ length self.old }
     {
         if self.eat(close) {

@@ -10,7 +10,8 @@ use crate::build::BuildFiles;
 use crate::fault::Fault;
 use crate::reader::Reader;
 use crate::reader::path::include_path_of;
-use crate::token::{Key, KeyClass, Mark};
+use crate::token::KeyClass;
+use vast_literal::{Key, Mark};
 
 impl<'t> Reader<'t> {
     /// Reads a parameter of a header.

@@ -8,7 +8,8 @@ ghost use Rattle.vast_read.specs.Internal.MemberSteps.{joined_inputs};
 use crate::build::{BuildDeclarations, BuildMembers, BuildStatements, MemberForm};
 use crate::fault::Fault;
 use crate::reader::Reader;
-use crate::token::{Key, KeyClass, Mark};
+use crate::token::KeyClass;
+use vast_literal::{Key, Mark};
 
 impl<'t> Reader<'t> {
     /// Reads an input.

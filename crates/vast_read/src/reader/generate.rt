@@ -10,7 +10,7 @@ use crate::build::{Build, BuildMembers, Trees};
 use crate::fault::Fault;
 use crate::looped::LoopHead;
 use crate::reader::Reader;
-use crate::token::{Key, Mark};
+use vast_literal::{Key, Mark};
 
 impl<'t> Reader<'t> {
     /// Reads this name.

@@ -4,12 +4,12 @@ ghost use Rattle.std.specs.Prelude.{◌<◌, ◌≤◌, length, IfOk};
 ghost use Rattle.vast_literal.specs.Internal.SettledMembers.{settled_local, assign_part, combinational_part, conditional_part, parameter_part, clocked_part, declaration_part};
 ghost use Rattle.vast_read.specs.Internal.Answers.{ReadsAs};
 ghost use Rattle.vast_read.specs.Internal.MemberSteps.{unkeyed_part, other_part};
-ghost use Rattle.vast_read.specs.TokenView.{key_view};
 
 use crate::build::{BuildDeclarations, BuildMembers, MemberForm};
 use crate::fault::Fault;
 use crate::reader::Reader;
-use crate::token::{Key, KeyClass, Mark};
+use crate::token::KeyClass;
+use vast_literal::{Key, Mark};
 
 impl<'t> Reader<'t> {
     /// Reads a continuous assignment, behind its keyword.
@@ -52,7 +52,7 @@ impl<'t> Reader<'t> {
         key: Key,
     ) -> Result<B::Member, Fault>
         ensures reads { ReadsAs B.holds.member result self.new
-            (parameter_part (key_view key) self.old) }
+            (parameter_part key self.old) }
         ensures fewer { length self.new ≤ length self.old }
     {
         let declared = self.declaration::<B>()?;
@@ -64,7 +64,7 @@ impl<'t> Reader<'t> {
     /// Reads an always block that waits for events, behind its keyword.
     #[tactic(auto, using(crate::proofs::MemberRules::clocked))]
     pub(crate) fn clocked<B: BuildMembers<'t>>(&mut self, key: Key) -> Result<B::Member, Fault>
-        ensures reads { ReadsAs B.holds.member result self.new (clocked_part (key_view key) self.old) }
+        ensures reads { ReadsAs B.holds.member result self.new (clocked_part key self.old) }
         ensures fewer { length self.new ≤ length self.old }
     {
         self.expect(Mark::At)?;

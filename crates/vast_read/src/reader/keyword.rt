@@ -5,19 +5,19 @@ ghost use Rattle.std.specs.Bool.{MatchBool};
 ghost use Rattle.vast_literal.specs.Internal.StatementParser.{after_key, arrow_at};
 ghost use Rattle.vast_read.specs.Internal.KeyClasses.{class_test};
 ghost use Rattle.vast_literal.specs.Internal.Nexts.{key_with, sign_with, is_less_equal, is_plus};
-ghost use Rattle.vast_read.specs.TokenView.{key_view};
 
 use crate::fault::Fault;
 use crate::reader::Reader;
-use crate::token::{Key, KeyClass, Mark};
+use crate::token::{KeyClass, is_less_equal, is_plus, key_code};
+use vast_literal::{Key, Mark};
 
 impl<'t> Reader<'t> {
     /// Whether this keyword stands next, which is then read.
     #[tactic(auto, using(crate::proofs::KeyNexts::keys))]
     pub(crate) fn eat_key(&mut self, key: Key) -> bool
         ensures found { MatchBool result
-            (after_key (key_view key) self.old ≡ Some self.new)
-            ((after_key (key_view key) self.old ≡ None) × (self.new ≡ self.old)) }
+            (after_key key self.old ≡ Some self.new)
+            ((after_key key self.old ≡ None) × (self.new ≡ self.old)) }
         ensures fewer { MatchBool result
             (length self.new < length self.old) (length self.new ≤ length self.old) }
     {
@@ -26,7 +26,7 @@ impl<'t> Reader<'t> {
             Some(token) => match token.key() {
                 None => false,
                 Some(found) => {
-                    if found.code() == key.code() {
+                    if key_code(found) == key_code(key) {
                         self.skip();
                         true
                     } else {
@@ -40,8 +40,8 @@ impl<'t> Reader<'t> {
     /// Reads this keyword.
     pub(crate) fn expect_key(&mut self, key: Key) -> Result<(), Fault>
         ensures found { MatchResult result
-            (λ _. after_key (key_view key) self.old ≡ Some self.new)
-            (λ _. after_key (key_view key) self.old ≡ None) }
+            (λ _. after_key key self.old ≡ Some self.new)
+            (λ _. after_key key self.old ≡ None) }
         ensures fewer { length self.new ≤ length self.old }
         ensures less { IfOk result (λ _. length self.new < length self.old) }
     {
@@ -57,7 +57,7 @@ impl<'t> Reader<'t> {
     pub(crate) fn key_in(&mut self, class: KeyClass) -> Option<Key>
         ensures found { MatchOption result
             ((key_with (class_test class) self.old ≡ None) × (self.new ≡ self.old))
-            (λ k. key_with (class_test class) self.old ≡ Some (key_view k, self.new)) }
+            (λ k. key_with (class_test class) self.old ≡ Some (k, self.new)) }
         ensures fewer { MatchOption result
             (length self.new ≤ length self.old) (λ _. length self.new < length self.old) }
     {
@@ -66,7 +66,7 @@ impl<'t> Reader<'t> {
             Some(token) => match token.key() {
                 None => None,
                 Some(key) => {
-                    if key.is_in(class) {
+                    if class.holds(key) {
                         self.skip();
                         Some(key)
                     } else {
@@ -91,7 +91,7 @@ impl<'t> Reader<'t> {
             Some(token) => match token.sign() {
                 None => false,
                 Some(sign) => {
-                    if sign.is_less_equal() {
+                    if is_less_equal(sign) {
                         self.skip();
                         true
                     } else {
@@ -116,7 +116,7 @@ impl<'t> Reader<'t> {
             Some(token) => match token.sign() {
                 None => false,
                 Some(sign) => {
-                    if sign.is_plus() {
+                    if is_plus(sign) {
                         self.skip();
                         true
                     } else {

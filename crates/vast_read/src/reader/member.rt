@@ -10,7 +10,8 @@ ghost use Rattle.vast_read.specs.Internal.MemberSteps.{joined_events, joined_con
 use crate::build::{BuildMembers, MemberForm};
 use crate::fault::Fault;
 use crate::reader::Reader;
-use crate::token::{Key, KeyClass, Mark, Token};
+use crate::token::{KeyClass, Token};
+use vast_literal::{Key, Mark};
 
 impl<'t> Reader<'t> {
     /// Whether a keyword of this class stands next.
@@ -22,7 +23,7 @@ impl<'t> Reader<'t> {
             None => false,
             Some(token) => match token.key() {
                 None => false,
-                Some(key) => key.is_in(class),
+                Some(key) => class.holds(key),
             },
         }
     }

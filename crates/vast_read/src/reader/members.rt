@@ -5,21 +5,20 @@ ghost use Rattle.vast_literal.specs.Internal.SettledMembers.{settled_members};
 ghost use Rattle.vast_read.specs.Internal.Answers.{ReadsAs};
 ghost use Rattle.vast_read.specs.Internal.MemberSteps.{unlooped_part};
 ghost use Rattle.vast_read.specs.Internal.OpenLoops.{closed, resumed, Keeps};
-ghost use Rattle.vast_read.specs.TokenView.{key_view};
 
 use crate::build::{BuildMembers, MemberForm};
 use crate::fault::Fault;
 use crate::looped::{Grown, LoopHead, OpenLoop, OpenLoops};
 use crate::reader::Reader;
 use crate::stack::Stack;
-use crate::token::Key;
+use vast_literal::Key;
 
 impl<'t> Reader<'t> {
     /// Reads members, and the keyword behind them.
     #[tactic(auto, using(crate::proofs::OpenLoops::lists))]
     pub(crate) fn members<B: BuildMembers<'t>>(&mut self, close: Key) -> Result<B::Members, Fault>
         ensures reads { ReadsAs B.holds.members result self.new
-            (settled_members (key_view close) self.old) }
+            (settled_members close self.old) }
         ensures fewer { length self.new ≤ length self.old }
     {
         let mut around: OpenLoops<'t, B> = Stack::new(self.alloc);
@@ -40,8 +39,8 @@ impl<'t> Reader<'t> {
         around: &mut OpenLoops<'t, B>,
         members: B::Members,
     ) -> Result<Grown<B::Members>, Fault>
-        ensures keeps { Keeps B.sees.tree B.holds.members (key_view close) result around.new self.new
-            (resumed B.sees.tree B.holds.members (key_view close) around.old
+        ensures keeps { Keeps B.sees.tree B.holds.members close result around.new self.new
+            (resumed B.sees.tree B.holds.members close around.old
             (B.holds.members members) self.old) }
         ensures fewer { length self.new ≤ length self.old }
         ensures less { IfOk result (λ _. length self.new < length self.old) }
@@ -72,8 +71,8 @@ impl<'t> Reader<'t> {
         around: &mut OpenLoops<'t, B>,
         members: B::Members,
     ) -> Result<Grown<B::Members>, Fault>
-        ensures { Keeps B.sees.tree B.holds.members (key_view close) result around.new self.now
-            (closed B.sees.tree B.holds.members (key_view close) around.old
+        ensures { Keeps B.sees.tree B.holds.members close result around.new self.now
+            (closed B.sees.tree B.holds.members close around.old
             (B.holds.members members) self.now) }
     {
         match around.pop() {

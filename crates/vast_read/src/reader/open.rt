@@ -6,7 +6,6 @@ ghost use Rattle.vast_literal.specs.Internal.Settled.{settled_reader};
 ghost use Rattle.vast_read.specs.Internal.Answers.{ReadsAs};
 ghost use Rattle.vast_read.specs.Internal.OpenBlocks.{arm_then, block_then, body_then, closed, ended, going, labelled, Ends, Goes};
 ghost use Rattle.vast_read.specs.Internal.StatementSteps.{case_or_simple, cases_of, choice_behind, unique_case};
-ghost use Rattle.vast_read.specs.TokenView.{key_view};
 
 use crate::build::{BuildStatements, StatementForm};
 use crate::fault::Fault;
@@ -15,7 +14,8 @@ use crate::open::{
 };
 use crate::reader::Reader;
 use crate::stack::Stack;
-use crate::token::{Key, KeyClass};
+use crate::token::{KeyClass, is_casez};
+use vast_literal::Key;
 
 impl<'t> Reader<'t> {
     /// Reads a statement from here to its end.
@@ -220,7 +220,7 @@ impl<'t> Reader<'t> {
         key: Key,
     ) -> Result<ProgressOf<'t, B>, Fault>
         ensures keeps { Ends B.sees.tree B.acts result self.new
-            (cases_of is_unique (key_view key) self.old) }
+            (cases_of is_unique key self.old) }
         ensures fewer { length self.new ≤ length self.old }
     {
         let selector = self.in_parens::<B>()?;
@@ -275,7 +275,7 @@ impl<'t> Reader<'t> {
     ) -> Result<ProgressOf<'t, B>, Fault>
         ensures keeps { Ends B.sees.tree B.acts result self.new
             (Some (
-              CaseStatement case.is_unique (key_view case.key) (B.sees.tree case.selector)
+              CaseStatement case.is_unique case.key (B.sees.tree case.selector)
                   (B.acts.cases case.arms),
               self.old,
             )) }
@@ -304,7 +304,7 @@ impl<'t> Reader<'t> {
     {
         if self.eat_key(Key::Begin) {
             Ok(Progress::Inside(Owner::Case(case, label)))
-        } else if case.key.is_casez() {
+        } else if is_casez(case.key) {
             let block = self.bare::<B>()?;
             self.close_label::<B>(case, label, block)
         } else {

@@ -7,14 +7,14 @@ ghost use Rattle.vast_read.specs.Internal.Answers.{ReadsAs};
 ghost use Rattle.vast_read.specs.Internal.Machine.{load, then_primary, work, Keeps};
 ghost use Rattle.vast_read.specs.Places.{IsBetweenTokens};
 ghost use Rattle.vast_read.specs.Internal.Position.{position_view};
-ghost use Rattle.vast_read.specs.TokenView.{mark_view};
 
 use crate::build::Build;
 use crate::fault::Fault;
 use crate::machine::{State, Waits};
 use crate::reader::Reader;
 use crate::scanner::{Position, place_before};
-use crate::token::{Mark, Token};
+use crate::token::Token;
+use vast_literal::Mark;
 
 /// Whether the token may begin a primary expression.
 fn begins_primary(token: Option<Token<'_>>) -> bool {
@@ -72,7 +72,7 @@ impl<'t> Reader<'t> {
         close: Mark,
     ) -> Result<(B::Expr, Position<'t>), Fault>
         ensures reads { ReadsAs (λ r. B.sees.tree r.0) result self.new
-            (enclosed_at settled (mark_view close) self.old) }
+            (enclosed_at settled close self.old) }
         ensures fewer { length self.new ≤ length self.old }
         ensures before { IfOk result (λ r. length (position_view r.1) ≤ length self.old) }
     {

@@ -7,7 +7,7 @@ use crate::build::Build;
 use crate::fault::Fault;
 use crate::machine::{Binding, State, Waiting, Waits};
 use crate::reader::Reader;
-use crate::token::Mark;
+use vast_literal::Mark;
 
 impl<'t> Reader<'t> {
     /// Begins an operand.

@@ -6,12 +6,11 @@ ghost use Rattle.vast_literal.specs.Internal.Settled.{settled, settled_reader};
 ghost use Rattle.vast_literal.specs.Internal.StatementParser.{simple_at};
 ghost use Rattle.vast_read.specs.Internal.Answers.{ReadsAs};
 ghost use Rattle.vast_read.specs.Internal.StatementSteps.{assign_at, choice_statement, cases_of, block, else_if, label_at, bare_body};
-ghost use Rattle.vast_read.specs.TokenView.{key_view};
 
 use crate::build::{BuildStatements, StatementForm};
 use crate::fault::Fault;
 use crate::reader::Reader;
-use crate::token::{Key, Mark};
+use vast_literal::{Key, Mark};
 
 impl<'t> Reader<'t> {
     /// Reads a blocking or a nonblocking assignment.
@@ -118,7 +117,7 @@ impl<'t> Reader<'t> {
         key: Key,
     ) -> Result<B::Statement, Fault>
         ensures reads { ReadsAs B.acts.statement result self.new
-            (cases_of is_unique (key_view key) self.old) }
+            (cases_of is_unique key self.old) }
         ensures fewer { length self.new ≤ length self.old }
     {
         let progress = self.begin_case::<B>(is_unique, key)?;

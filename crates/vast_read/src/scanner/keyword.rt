@@ -1,50 +1,14 @@
-//! Keywords among the words, by a table.
+//! Keywords among the words, by a table of slots.
 
-ghost use Rattle.std.specs.Prelude.{◌≡◌, ◌<◌, [], None, get_or, length, map, option_map};
+ghost use Rattle.std.specs.Prelude.{◌≡◌, ◌<◌, [], None, get_or};
 ghost use Rattle.vast_literal.specs.Keyword.{keywords};
 ghost use Rattle.vast_literal.specs.Tokens.{word_token};
-ghost use Rattle.vast_read.specs.TokenView.{key_view};
 ghost use Rattle.vast_read.specs.Internal.TokenView.{token_view};
 ghost use Rattle.vast_read.specs.Internal.KeywordSlots.{slot_of};
 
 use crate::scanner::run::byte_at;
-use crate::token::{Key, Token};
-
-/// The keywords, in the order of their bytes.
-#[rattlefmt::skip]
-static WORDS: [&str; 248] = [
-    "accept_on", "alias", "always", "always_comb", "always_ff", "always_latch", "and", "assert",
-    "assign", "assume", "automatic", "before", "begin", "bind", "bins", "binsof", "bit",
-    "break", "buf", "bufif0", "bufif1", "byte", "case", "casex", "casez", "cell", "chandle",
-    "checker", "class", "clocking", "cmos", "config", "const", "constraint", "context",
-    "continue", "cover", "covergroup", "coverpoint", "cross", "deassign", "default", "defparam",
-    "design", "disable", "dist", "do", "edge", "else", "end", "endcase", "endchecker",
-    "endclass", "endclocking", "endconfig", "endfunction", "endgenerate", "endgroup",
-    "endinterface", "endmodule", "endpackage", "endprimitive", "endprogram", "endproperty",
-    "endsequence", "endspecify", "endtable", "endtask", "enum", "event", "eventually", "expect",
-    "export", "extends", "extern", "final", "first_match", "for", "force", "foreach", "forever",
-    "fork", "forkjoin", "function", "generate", "genvar", "global", "highz0", "highz1", "if",
-    "iff", "ifnone", "ignore_bins", "illegal_bins", "implements", "implies", "import", "incdir",
-    "include", "initial", "inout", "input", "inside", "instance", "int", "integer",
-    "interconnect", "interface", "intersect", "join", "join_any", "join_none", "large", "let",
-    "liblist", "library", "local", "localparam", "logic", "longint", "macromodule", "matches",
-    "medium", "modport", "module", "nand", "negedge", "nettype", "new", "nexttime", "nmos",
-    "nor", "noshowcancelled", "not", "notif0", "notif1", "null", "or", "output", "package",
-    "packed", "parameter", "pmos", "posedge", "primitive", "priority", "program", "property",
-    "protected", "pull0", "pull1", "pulldown", "pullup", "pulsestyle_ondetect",
-    "pulsestyle_onevent", "pure", "rand", "randc", "randcase", "randsequence", "rcmos", "real",
-    "realtime", "ref", "reg", "reject_on", "release", "repeat", "restrict", "return", "rnmos",
-    "rpmos", "rtran", "rtranif0", "rtranif1", "s_always", "s_eventually", "s_nexttime",
-    "s_until", "s_until_with", "scalared", "sequence", "shortint", "shortreal", "showcancelled",
-    "signed", "small", "soft", "solve", "specify", "specparam", "static", "string", "strong",
-    "strong0", "strong1", "struct", "super", "supply0", "supply1", "sync_accept_on",
-    "sync_reject_on", "table", "tagged", "task", "this", "throughout", "time", "timeprecision",
-    "timeunit", "tran", "tranif0", "tranif1", "tri", "tri0", "tri1", "triand", "trior",
-    "trireg", "type", "typedef", "union", "unique", "unique0", "unsigned", "until",
-    "until_with", "untyped", "use", "uwire", "var", "vectored", "virtual", "void", "wait",
-    "wait_order", "wand", "weak", "weak0", "weak1", "while", "wildcard", "wire", "with",
-    "within", "wor", "xnor", "xor",
-];
+use crate::token::Token;
+use vast_literal::{Key, system_verilog_keywords};
 
 /// The key of each keyword that the grammar uses.
 #[rattlefmt::skip]
@@ -73,7 +37,7 @@ static KEYS: [Option<Key>; 248] = [
     None, None, None, None, None, Some(Key::Wire), None, None, None, None, None,
 ];
 
-/// The place in the table of the keyword of a slot, of which each keyword has one of its own; 0 where none has it.
+/// The place in the table of keywords of the keyword of a slot, of which each keyword has one of its own; 0 where none has it.
 #[rattlefmt::skip]
 static PLACES: [u8; 512] = [
     17, 181, 85, 0, 137, 34, 58, 213, 128, 138, 0, 210, 0, 203, 241, 0, 0, 0, 0, 243, 0, 0, 0,
@@ -129,26 +93,18 @@ fn place_of(word: &str) -> usize
     PLACES[slot_of(word)] as usize
 }
 
-/// The table of the keywords.
-fn table() -> &'static [&'static str]
-    ensures words { map (λ t. t.now) result.now ≡ keywords }
-    ensures size { length result.now ≡ 248 }
-{
-    &WORDS
-}
-
 /// The keyword at a place of the table.
 fn word_at(place: usize) -> &'static str
     requires { place < 248 }
     ensures { result.now ≡ get_or keywords place [] }
 {
-    table()[place]
+    system_verilog_keywords()[place]
 }
 
 /// The key of the keyword at a place of the table, where the grammar uses it.
 fn key_at(place: usize) -> Option<Key>
     requires { place < 248 }
-    ensures { option_map key_view result ≡ get_or (map (option_map key_view) KEYS) place None }
+    ensures { result ≡ get_or KEYS place None }
 {
     KEYS[place]
 }

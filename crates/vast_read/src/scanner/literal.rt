@@ -9,7 +9,8 @@ ghost use Rattle.vast_read.specs.Internal.Scanner.{Fronts, opens_based, is_based
 use crate::scanner::class::{Class, is_based_digit, is_filler, is_radix, opens_mark};
 use crate::scanner::front::Front;
 use crate::scanner::run::{byte_at, run_end};
-use crate::token::{Mark, Token};
+use crate::token::Token;
+use vast_literal::Mark;
 
 /// Whether a based literal goes on at a place: an apostrophe, and behind it a radix or a sign.
 fn opens_based(text: &str, tick: usize) -> bool

@@ -2,9 +2,9 @@
 
 ghost use Rattle.std.specs.Prelude.{◌≡◌, ◌<◌, true, cond, eqb, [], ◌∷◌, Some, None, option_map, IfSome};
 ghost use Rattle.vast_literal.specs.Scan.{InComment, Pending, keep, give, whole_signs, find_sign, start_sign, grown};
-ghost use Rattle.vast_literal.specs.Tokens.{Operator, Greater, Less, Plus, Divide};
+ghost use Rattle.vast_literal.specs.Tokens.{Operator};
+ghost use Rattle.vast_literal.specs.declared.token.Sign.TheVariants.{Greater, Less, Plus, Divide};
 ghost use Rattle.vast_literal.specs.Tokens as spec;
-ghost use Rattle.vast_read.specs.TokenView.{sign_view, mark_view};
 ghost use Rattle.vast_read.specs.Internal.TokenView.{token_view};
 ghost use Rattle.vast_read.specs.Scanner.{byte_at};
 ghost use Rattle.vast_read.specs.Internal.Scanner.{Fronts, growth_step, growth_or_fail, starts_sign, Reaches};
@@ -12,7 +12,8 @@ ghost use Rattle.vast_read.specs.Internal.Scanner.{Fronts, growth_step, growth_o
 use crate::scanner::class::Class;
 use crate::scanner::front::Front;
 use crate::scanner::run::{byte_at, run_end};
-use crate::token::{Mark, Sign, Token};
+use crate::token::Token;
+use vast_literal::{Mark, Sign};
 
 /// What a further byte makes of a sign.
 #[derive(Clone, Copy)]
@@ -26,7 +27,7 @@ pub(crate) enum Growth<'t> {
 }
 
 /// The sign that a byte begins.
-#[tactic(auto, unfolding(crate::specs::TokenView::sign_view))]
+#[tactic(auto)]
 fn first_sign<'t>(byte: u8) -> Option<Growth<'t>>
     ensures growth { growth_or_fail result ≡ start_sign (find_sign whole_signs byte) byte }
     ensures byte { IfSome result (λ _. byte < 128) }
@@ -66,7 +67,7 @@ fn first_sign<'t>(byte: u8) -> Option<Growth<'t>>
 fn closed_by<'t>(wanted: u8, longer: Sign, byte: u8) -> Option<Growth<'t>>
     requires { (32 < wanted) × (wanted < 128) }
     ensures growth { option_map growth_step result
-        ≡ cond (eqb byte wanted) (Some (give (Operator (sign_view longer) ∷ []))) None }
+        ≡ cond (eqb byte wanted) (Some (give (Operator longer ∷ []))) None }
     ensures byte { IfSome result (λ _. (32 < byte) × (byte < 128)) }
 {
     if byte == wanted {
@@ -80,7 +81,7 @@ fn closed_by<'t>(wanted: u8, longer: Sign, byte: u8) -> Option<Growth<'t>>
 fn open_by<'t>(wanted: u8, longer: Sign, byte: u8) -> Option<Growth<'t>>
     requires { (32 < wanted) × (wanted < 128) }
     ensures growth { option_map growth_step result
-        ≡ cond (eqb byte wanted) (Some (keep (Pending (Operator (sign_view longer))))) None }
+        ≡ cond (eqb byte wanted) (Some (keep (Pending (Operator longer)))) None }
     ensures byte { IfSome result (λ _. (32 < byte) × (byte < 128)) }
 {
     if byte == wanted {
@@ -91,7 +92,7 @@ fn open_by<'t>(wanted: u8, longer: Sign, byte: u8) -> Option<Growth<'t>>
 }
 
 /// What a byte makes of `>`.
-#[tactic(auto, unfolding(crate::specs::TokenView::sign_view))]
+#[tactic(auto)]
 fn grown_greater<'t>(byte: u8) -> Option<Growth<'t>>
     ensures growth { option_map growth_step result ≡ grown (Operator Greater) byte }
     ensures byte { IfSome result (λ _. (32 < byte) × (byte < 128)) }
@@ -104,7 +105,7 @@ fn grown_greater<'t>(byte: u8) -> Option<Growth<'t>>
 }
 
 /// What a byte makes of `<`.
-#[tactic(auto, unfolding(crate::specs::TokenView::sign_view))]
+#[tactic(auto)]
 fn grown_less<'t>(byte: u8) -> Option<Growth<'t>>
     ensures growth { option_map growth_step result ≡ grown (Operator Less) byte }
     ensures byte { IfSome result (λ _. (32 < byte) × (byte < 128)) }
@@ -117,7 +118,7 @@ fn grown_less<'t>(byte: u8) -> Option<Growth<'t>>
 }
 
 /// What a byte makes of `+`.
-#[tactic(auto, unfolding(crate::specs::TokenView::sign_view))]
+#[tactic(auto)]
 fn grown_plus<'t>(byte: u8) -> Option<Growth<'t>>
     ensures growth { option_map growth_step result ≡ grown (Operator Plus) byte }
     ensures byte { IfSome result (λ _. (32 < byte) × (byte < 128)) }
@@ -130,7 +131,7 @@ fn grown_plus<'t>(byte: u8) -> Option<Growth<'t>>
 }
 
 /// What a byte makes of `/`.
-#[tactic(auto, unfolding(crate::specs::TokenView::sign_view))]
+#[tactic(auto)]
 fn grown_slash<'t>(byte: u8) -> Option<Growth<'t>>
     ensures growth { option_map growth_step result ≡ grown (Operator Divide) byte }
     ensures byte { IfSome result (λ _. (32 < byte) × (byte < 128)) }
@@ -143,9 +144,9 @@ fn grown_slash<'t>(byte: u8) -> Option<Growth<'t>>
 }
 
 /// What a byte makes of an operator.
-#[tactic(auto, unfolding(crate::specs::TokenView::sign_view))]
+#[tactic(auto)]
 fn grown_operator<'t>(sign: Sign, byte: u8) -> Option<Growth<'t>>
-    ensures growth { option_map growth_step result ≡ grown (Operator (sign_view sign)) byte }
+    ensures growth { option_map growth_step result ≡ grown (Operator sign) byte }
     ensures byte { IfSome result (λ _. (32 < byte) × (byte < 128)) }
 {
     match sign {
@@ -177,9 +178,9 @@ fn grown_operator<'t>(sign: Sign, byte: u8) -> Option<Growth<'t>>
 }
 
 /// What a byte makes of a mark.
-#[tactic(auto, unfolding(crate::specs::TokenView::sign_view))]
+#[tactic(auto)]
 fn grown_mark<'t>(mark: Mark, byte: u8) -> Option<Growth<'t>>
-    ensures growth { option_map growth_step result ≡ grown (spec.Mark (mark_view mark)) byte }
+    ensures growth { option_map growth_step result ≡ grown (spec.Mark mark) byte }
     ensures byte { IfSome result (λ _. (32 < byte) × (byte < 128)) }
 {
     match mark {

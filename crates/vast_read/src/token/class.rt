@@ -1,12 +1,13 @@
-//! Keywords that stand in one place of the grammar.
+//! Tests of keywords, signs and marks.
 
 ghost use Rattle.std.specs.Prelude.{◌≡◌};
-ghost use Rattle.vast_literal.specs.FileGrammar.{is_kind, is_sign, is_member_kind, is_local_kind, is_parameter_word, is_clocked, is_edge, is_direction};
+ghost use Rattle.vast_literal.specs.Internal.Nexts.{is_less_equal, is_plus};
+ghost use Rattle.vast_literal.specs.Internal.StatementParser.{key_code};
+ghost use Rattle.vast_literal.specs.Parser.{code};
 ghost use Rattle.vast_read.specs.Internal.KeyClasses.{class_test};
-ghost use Rattle.vast_read.specs.Internal.StatementSteps.{is_case_word, is_casez};
-ghost use Rattle.vast_read.specs.TokenView.{key_view};
+ghost use Rattle.vast_read.specs.Internal.StatementSteps.{is_casez};
 
-use crate::token::Key;
+use vast_literal::{Key, Mark, Sign};
 
 /// What a keyword may be, by the place where it stands.
 #[derive(Clone, Copy)]
@@ -31,106 +32,65 @@ pub(crate) enum KeyClass {
     Direction,
 }
 
-impl Key {
-    /// Whether it may stand there.
-    pub(crate) fn is_in(self, class: KeyClass) -> bool
-        ensures { result ≡ class_test class (key_view self) }
+impl KeyClass {
+    /// Whether a keyword may stand there.
+    #[tactic(auto, unfolding(vast_literal::specs::FileGrammar::is_kind, vast_literal::specs::FileGrammar::is_sign, vast_literal::specs::FileGrammar::is_member_kind, vast_literal::specs::FileGrammar::is_local_kind, vast_literal::specs::FileGrammar::is_parameter_word, vast_literal::specs::FileGrammar::is_clocked, vast_literal::specs::FileGrammar::is_edge, vast_literal::specs::FileGrammar::is_direction, crate::specs::Internal::StatementSteps::is_case_word))]
+    pub(crate) fn holds(self, key: Key) -> bool
+        ensures { result ≡ class_test self key }
     {
-        match class {
-            KeyClass::Case => self.is_case_word(),
-            KeyClass::Kind => self.is_kind(),
-            KeyClass::Sign => self.is_sign(),
-            KeyClass::Net => self.is_member_kind(),
-            KeyClass::Variable => self.is_local_kind(),
-            KeyClass::Parameter => self.is_parameter_word(),
-            KeyClass::Clocked => self.is_clocked(),
-            KeyClass::Edge => self.is_edge(),
-            KeyClass::Direction => self.is_direction(),
+        match self {
+            KeyClass::Case => matches!(key, Key::Case | Key::Casez | Key::Casex),
+            KeyClass::Kind => matches!(
+                key,
+                Key::Wire | Key::Reg | Key::Logic | Key::Integer | Key::Int | Key::Genvar
+            ),
+            KeyClass::Sign => matches!(key, Key::Signed | Key::Unsigned),
+            KeyClass::Net => matches!(key, Key::Wire | Key::Reg | Key::Logic),
+            KeyClass::Variable => matches!(key, Key::Reg | Key::Logic),
+            KeyClass::Parameter => matches!(key, Key::Parameter | Key::Localparam),
+            KeyClass::Clocked => matches!(key, Key::AlwaysFF | Key::Always),
+            KeyClass::Edge => matches!(key, Key::Posedge | Key::Negedge),
+            KeyClass::Direction => matches!(key, Key::Input | Key::Output | Key::InOut),
         }
     }
+}
 
-    /// Whether it begins a case whose arms may be bare.
-    #[tactic(auto, using(crate::proofs::KeyClasses::is_casez_keys))]
-    pub(crate) fn is_casez(self) -> bool
-        ensures { result ≡ is_casez (key_view self) }
-    {
-        self.is(Key::Casez)
-    }
+/// Whether a keyword begins a case whose arms may be bare.
+#[tactic(auto, unfolding(crate::specs::Internal::StatementSteps::is_casez))]
+pub(crate) fn is_casez(key: Key) -> bool
+    ensures { result ≡ is_casez key }
+{
+    matches!(key, Key::Casez)
+}
 
-    /// Whether it begins a case.
-    #[tactic(auto, using(crate::proofs::KeyClasses::is_case_word_keys))]
-    pub(crate) fn is_case_word(self) -> bool
-        ensures { result ≡ is_case_word (key_view self) }
-    {
-        self.is(Key::Case) || self.is(Key::Casez) || self.is(Key::Casex)
-    }
+/// Whether a sign is `<=`, which also stands for a nonblocking assignment.
+#[tactic(auto, unfolding(vast_literal::specs::Internal::Nexts::is_less_equal))]
+pub(crate) fn is_less_equal(sign: Sign) -> bool
+    ensures { result ≡ is_less_equal sign }
+{
+    matches!(sign, Sign::LessEqual)
+}
 
-    /// Whether it is the kind of a declaration.
-    #[tactic(auto, using(crate::proofs::KeyClasses::is_kind_keys))]
-    pub(crate) fn is_kind(self) -> bool
-        ensures { result ≡ is_kind (key_view self) }
-    {
-        self.is(Key::Wire)
-            || self.is(Key::Reg)
-            || self.is(Key::Logic)
-            || self.is(Key::Integer)
-            || self.is(Key::Int)
-            || self.is(Key::Genvar)
-    }
+/// Whether a sign is `+`.
+#[tactic(auto, unfolding(vast_literal::specs::Internal::Nexts::is_plus))]
+pub(crate) fn is_plus(sign: Sign) -> bool
+    ensures { result ≡ is_plus sign }
+{
+    matches!(sign, Sign::Plus)
+}
 
-    /// Whether it is the sign of a type.
-    #[tactic(auto, using(crate::proofs::KeyClasses::is_sign_keys))]
-    pub(crate) fn is_sign(self) -> bool
-        ensures { result ≡ is_sign (key_view self) }
-    {
-        self.is(Key::Signed) || self.is(Key::Unsigned)
-    }
+/// A number that tells a keyword from the others.
+#[tactic(auto, unfolding(vast_literal::specs::Internal::StatementParser::key_code))]
+pub(crate) fn key_code(key: Key) -> u8
+    ensures { result ≡ key_code key }
+{
+    key as u8
+}
 
-    /// Whether it begins a declaration of a module.
-    #[tactic(auto, using(crate::proofs::KeyClasses::is_member_kind_keys))]
-    pub(crate) fn is_member_kind(self) -> bool
-        ensures { result ≡ is_member_kind (key_view self) }
-    {
-        self.is(Key::Wire) || self.is(Key::Reg) || self.is(Key::Logic)
-    }
-
-    /// Whether it begins a declaration of a function.
-    #[tactic(auto, using(crate::proofs::KeyClasses::is_local_kind_keys))]
-    pub(crate) fn is_local_kind(self) -> bool
-        ensures { result ≡ is_local_kind (key_view self) }
-    {
-        self.is(Key::Reg) || self.is(Key::Logic)
-    }
-
-    /// Whether it begins a parameter.
-    #[tactic(auto, using(crate::proofs::KeyClasses::is_parameter_word_keys))]
-    pub(crate) fn is_parameter_word(self) -> bool
-        ensures { result ≡ is_parameter_word (key_view self) }
-    {
-        self.is(Key::Parameter) || self.is(Key::Localparam)
-    }
-
-    /// Whether it begins an always block that waits for events.
-    #[tactic(auto, using(crate::proofs::KeyClasses::is_clocked_keys))]
-    pub(crate) fn is_clocked(self) -> bool
-        ensures { result ≡ is_clocked (key_view self) }
-    {
-        self.is(Key::AlwaysFF) || self.is(Key::Always)
-    }
-
-    /// Whether it is an edge.
-    #[tactic(auto, using(crate::proofs::KeyClasses::is_edge_keys))]
-    pub(crate) fn is_edge(self) -> bool
-        ensures { result ≡ is_edge (key_view self) }
-    {
-        self.is(Key::Posedge) || self.is(Key::Negedge)
-    }
-
-    /// Whether it is the direction of a port.
-    #[tactic(auto, using(crate::proofs::KeyClasses::is_direction_keys))]
-    pub(crate) fn is_direction(self) -> bool
-        ensures { result ≡ is_direction (key_view self) }
-    {
-        self.is(Key::Input) || self.is(Key::Output) || self.is(Key::InOut)
-    }
+/// A number that tells a mark from the others.
+#[tactic(auto, unfolding(vast_literal::specs::Parser::code))]
+pub(crate) fn mark_code(mark: Mark) -> u8
+    ensures { result ≡ code mark }
+{
+    mark as u8
 }

@@ -3,14 +3,13 @@
 ghost use Rattle.std.specs.Prelude.{◌≡◌, IfOk, IfErr};
 ghost use Rattle.vast_literal.specs.NormalExpr.{WordCast as NormalWordCast};
 ghost use Rattle.vast_read.specs.declared.fault.Fault.TheVariants.{Memory};
-ghost use Rattle.vast_read.specs.TokenView.{key_view};
 ghost use Rattle.vast_read.specs.View.{view};
 
 use crate::fault::Fault;
-use crate::token::Key;
 use crate::tree::expression::NormalExpr;
+use crate::tree::words::key_word;
 use std::alloc::Global;
-use vast_names::Word;
+use vast_literal::Key;
 
 impl NormalExpr {
     /// A cast by a keyword.
@@ -20,10 +19,10 @@ impl NormalExpr {
         operand: Box<NormalExpr>,
     ) -> Result<Box<NormalExpr>, Fault>
         ensures ok { IfOk result (λ x. view x.value
-            ≡ NormalWordCast (key_view key) (view operand.value)) }
+            ≡ NormalWordCast key (view operand.value)) }
         ensures err { IfErr result (λ e. e ≡ Memory) }
     {
-        let word = Word::new(alloc, key.text())?;
+        let word = key_word(alloc, key)?;
         Ok(Box::new(alloc, NormalExpr::WordCast(word, operand))?)
     }
 }

@@ -4,13 +4,13 @@ ghost use Rattle.std.specs.Prelude.{◌≡◌, IfOk, IfErr, option_map};
 ghost use Rattle.vast_read.specs.declared.fault.Fault.TheVariants.{Memory};
 ghost use Rattle.vast_read.specs.DeclarationView.{package_of, type_name_of, sign_of, groups_view, declaration_view};
 ghost use Rattle.vast_read.specs.Internal.DeclarationView.{head_view, with_head};
-ghost use Rattle.vast_read.specs.TokenView.{key_view};
 
 use crate::children::Children;
 use crate::fault::Fault;
-use crate::token::Key;
 use crate::tree::expression::NormalExpr;
+use crate::tree::words::maybe_key_word;
 use std::alloc::Global;
+use vast_literal::Key;
 use vast_names::Word;
 
 /// What stands between brackets in a declaration: an expression, or a range from one to another.
@@ -64,12 +64,12 @@ impl DeclaredType {
             ≡ option_map (λ w. w.now) head.now.scope) }
         ensures name { IfOk result (λ t. type_name_of t
             ≡ option_map (λ w. w.now) head.now.type_name) }
-        ensures sign { IfOk result (λ t. sign_of t ≡ option_map key_view head.now.sign) }
+        ensures sign { IfOk result (λ t. sign_of t ≡ head.now.sign) }
         ensures err { IfErr result (λ e. e ≡ Memory) }
     {
         let package = Word::maybe(alloc, head.scope)?;
         let type_name = Word::maybe(alloc, head.type_name)?;
-        let sign = Key::maybe_word(alloc, head.sign)?;
+        let sign = maybe_key_word(alloc, head.sign)?;
         let typed = DeclaredType {
             package,
             type_name,
@@ -84,7 +84,7 @@ impl DeclaredType {
             ≡ option_map (λ w. w.now) head.now.scope) }
         ensures name { IfOk result (λ t. type_name_of t
             ≡ option_map (λ w. w.now) head.now.type_name) }
-        ensures sign { IfOk result (λ t. sign_of t ≡ option_map key_view head.now.sign) }
+        ensures sign { IfOk result (λ t. sign_of t ≡ head.now.sign) }
         ensures err { IfErr result (λ e. e ≡ Memory) }
     {
         match head.scope {
@@ -113,7 +113,7 @@ impl NormalDeclaration {
             ≡ with_head (head_view head.now) (groups_view groups) name.now (groups_view after)) }
         ensures err { IfErr result (λ e. e ≡ Memory) }
     {
-        let kind = Key::maybe_word(alloc, head.kind)?;
+        let kind = maybe_key_word(alloc, head.kind)?;
         let typed = DeclaredType::maybe(alloc, head)?;
         let name = Word::new(alloc, name)?;
         Ok(NormalDeclaration {

@@ -7,16 +7,16 @@ ghost use Rattle.vast_read.specs.DeclarationView.{declaration_view};
 ghost use Rattle.vast_read.specs.FileView.{parameter_view, parameters_view, port_view, ports_view, module_view, item_view};
 ghost use Rattle.vast_read.specs.Internal.FileView.{parameter_of, port_of, module_of};
 ghost use Rattle.vast_read.specs.MemberView.{members_view};
-ghost use Rattle.vast_read.specs.TokenView.{key_view};
 ghost use Rattle.vast_read.specs.View.{view};
 
 use crate::children::Children;
 use crate::fault::Fault;
-use crate::token::Key;
 use crate::tree::declaration::NormalDeclaration;
 use crate::tree::expression::NormalExpr;
 use crate::tree::member::NormalMember;
+use crate::tree::words::key_word;
 use std::alloc::Global;
+use vast_literal::Key;
 use vast_names::Word;
 
 /// A parameter of a module's header.
@@ -90,10 +90,10 @@ impl Port {
         declared: NormalDeclaration,
     ) -> Result<Port, Fault>
         ensures ok { IfOk result (λ p. port_view p
-            ≡ port_of (key_view direction) (declaration_view declared)) }
+            ≡ port_of direction (declaration_view declared)) }
         ensures err { IfErr result (λ e. e ≡ Memory) }
     {
-        let direction = Word::new(alloc, direction.text())?;
+        let direction = key_word(alloc, direction)?;
         let declaration = Box::new(alloc, declared)?;
         Ok(Port {
             direction,

@@ -9,17 +9,17 @@ ghost use Rattle.vast_read.specs.MemberView.{event_view, events_view, connection
 ghost use Rattle.vast_read.specs.Internal.MemberView.{given};
 ghost use Rattle.vast_read.specs.StatementParts.{arms_in};
 ghost use Rattle.vast_read.specs.StatementView.{statement_view, block_view};
-ghost use Rattle.vast_read.specs.TokenView.{key_view};
 ghost use Rattle.vast_read.specs.View.{view, listed};
 
 use crate::children::Children;
 use crate::fault::Fault;
-use crate::token::Key;
 use crate::tree::boxed::{Always, Function, Instance, LoopRange, MacroUse};
 use crate::tree::declaration::NormalDeclaration;
 use crate::tree::expression::NormalExpr;
 use crate::tree::statement::NormalStatement;
+use crate::tree::words::key_word;
 use std::alloc::Global;
+use vast_literal::Key;
 use vast_names::Word;
 
 /// What an always block waits for: an edge of an expression, or a change of a name.
@@ -76,10 +76,10 @@ impl Event {
         expression: Box<NormalExpr>,
     ) -> Result<Event, Fault>
         ensures ok { IfOk result (λ e. event_view e
-            ≡ EdgeEvent (key_view edge) (view expression.value)) }
+            ≡ EdgeEvent edge (view expression.value)) }
         ensures err { IfErr result (λ e. e ≡ Memory) }
     {
-        let edge = Word::new(alloc, edge.text())?;
+        let edge = key_word(alloc, edge)?;
         Ok(Event {
             edge: Some(edge),
             expression,
@@ -225,10 +225,10 @@ impl NormalMember {
         value: Box<NormalExpr>,
     ) -> Result<NormalMember, Fault>
         ensures ok { IfOk result (λ m. member_view m
-            ≡ ParameterPart (key_view key) (declaration_view declared) (view value.value)) }
+            ≡ ParameterPart key (declaration_view declared) (view value.value)) }
         ensures err { IfErr result (λ e. e ≡ Memory) }
     {
-        let word = Word::new(alloc, key.text())?;
+        let word = key_word(alloc, key)?;
         let declared = Box::new(alloc, declared)?;
         Ok(NormalMember::Parameter(word, declared, value))
     }
@@ -287,10 +287,10 @@ impl NormalMember {
         body: Children<NormalStatement>,
     ) -> Result<NormalMember, Fault>
         ensures ok { IfOk result (λ m. member_view m
-            ≡ AlwaysPart (key_view key) (events_view events) (block_view body)) }
+            ≡ AlwaysPart key (events_view events) (block_view body)) }
         ensures err { IfErr result (λ e. e ≡ Memory) }
     {
-        let word = Word::new(alloc, key.text())?;
+        let word = key_word(alloc, key)?;
         let always = Always { word, events, body };
         let always = Box::new(alloc, always)?;
         Ok(NormalMember::Always(always))

@@ -3,11 +3,11 @@
 use crate::build::{BuildFiles, Trees};
 use crate::children::Children;
 use crate::fault::Fault;
-use crate::token::Key;
 use crate::tree::{
     NormalDeclaration, NormalExpr, NormalFile, NormalItem, NormalMember, Parameter, Port,
 };
 use std::alloc::Global;
+use vast_literal::Key;
 
 impl<'t> BuildFiles<'t> for Trees {
     type Parameter = Parameter;

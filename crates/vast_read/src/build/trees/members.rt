@@ -11,9 +11,9 @@ ghost use Rattle.vast_read.specs.View.{view, listed};
 use crate::build::{BuildMembers, MemberForm, MemberFormOf, Trees};
 use crate::children::Children;
 use crate::fault::Fault;
-use crate::token::Key;
 use crate::tree::{Connection, Event, NormalExpr, NormalMember};
 use std::alloc::Global;
+use vast_literal::Key;
 
 impl<'t> BuildMembers<'t> for Trees {
     type Event = Event;

@@ -10,9 +10,9 @@ ghost use Rattle.vast_read.specs.View.{view};
 use crate::build::{BuildStatements, StatementForm, StatementFormOf, Trees};
 use crate::children::Children;
 use crate::fault::Fault;
+use crate::tree::words::key_word;
 use crate::tree::{Arm, CaseArm, NormalExpr, NormalStatement};
 use std::alloc::Global;
-use vast_names::Word;
 
 impl<'t> BuildStatements<'t> for Trees {
     type Statement = NormalStatement;
@@ -95,7 +95,7 @@ impl<'t> BuildStatements<'t> for Trees {
             StatementForm::Choice(arms, last) => Ok(NormalStatement::Choice(arms, last)),
             StatementForm::Case(is_unique, key, selector, cases) => Ok(NormalStatement::Case(
                 is_unique,
-                Word::new(alloc, key.text())?,
+                key_word(alloc, key)?,
                 selector,
                 cases,
             )),

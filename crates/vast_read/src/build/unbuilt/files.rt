@@ -6,10 +6,10 @@ use crate::build::unbuilt::declarations::DeclarationShadow;
 use crate::build::unbuilt::members::MemberShadow;
 use crate::build::unbuilt::{Shadow, Unbuilt};
 use crate::fault::Fault;
-use crate::token::Key;
 use std::alloc::Global;
 use std::mem;
 use std::snapshot::Snapshot;
+use vast_literal::Key;
 
 /// What clauses see of a parameter of which nothing is made.
 #[derive(Drop)]

@@ -12,11 +12,11 @@ use crate::build::listed::Listed;
 use crate::build::unbuilt::{Shadow, Unbuilt};
 use crate::build::{BuildMembers, MemberFormOf};
 use crate::fault::Fault;
-use crate::token::Key;
 use crate::tree::NormalExpr;
 use std::alloc::Global;
 use std::mem;
 use std::snapshot::Snapshot;
+use vast_literal::Key;
 
 /// What clauses see of an event of which nothing is made.
 #[derive(Drop)]

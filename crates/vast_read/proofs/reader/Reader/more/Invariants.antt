@@ -1,5 +1,5 @@
 use Rattle.std.proofs.Common.{◌≡◌, ◌≤◌, length}
-use Rattle.vast_literal.specs.Tokens.{Comma}
+use Rattle.vast_literal.specs.declared.token.Mark.TheVariants.{Comma}
 use Rattle.vast_literal.specs.Internal.Parser.{after, list_on}
 use Rattle.vast_literal.specs.Internal.Settled.{settled}
 use Rattle.vast_read.specs.Internal.Steps.{rest_at, joined}

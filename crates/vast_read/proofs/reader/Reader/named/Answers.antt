@@ -1,5 +1,5 @@
 use Rattle.std.proofs.Common.{◌≡◌, Some, None}
-use Rattle.vast_literal.specs.Tokens.{OpenParen, Apostrophe}
+use Rattle.vast_literal.specs.declared.token.Mark.TheVariants.{OpenParen, Apostrophe}
 use Rattle.vast_literal.specs.NormalExpr.{Name}
 use Rattle.vast_literal.specs.Internal.Parser.{after}
 use Rattle.vast_read.proofs.Casts.{name_casts}

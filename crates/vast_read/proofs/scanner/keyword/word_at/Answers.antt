@@ -4,5 +4,5 @@ use Rattle.vast_read.proofs.scanner.keyword.word_at.Goals as goal
 
 pub returns : goal.returns
 returns c =
-    mapped_at (λ t. t.now) c.table.result.now c.args.place _ [] (omega (arith, c.requires, c.table.ensures.size))
-    ∙ ap (λ (ws : List (List ℕ)). get_or ws c.args.place []) c.table.ensures.words
+    mapped_at (λ t. t.now) c.system_verilog_keywords.result.now c.args.place _ [] (omega (arith, c.requires, c.system_verilog_keywords.ensures.count))
+    ∙ ap (λ (ws : List (List ℕ)). get_or ws c.args.place []) c.system_verilog_keywords.ensures.words
