@@ -47,4 +47,3 @@ pub mod MemberLevels
 pub mod Members
 pub mod Pairs
 pub mod StatementLevels
-pub mod Writings

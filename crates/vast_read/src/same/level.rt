@@ -7,7 +7,6 @@ ghost use Rattle.vast_read.specs.View.{view, listed};
 ghost use Rattle.vast_read.specs.Internal.Levels.{level_view, words_in, level_of, level_rounds, alone, of_one, of_two, of_three, of_list, counted, scoped};
 
 use crate::children::Children;
-use crate::same::written::{infix_text, keyword_text, prefix_text};
 use crate::tree::NormalExpr;
 
 /// What an expression is.
@@ -56,11 +55,9 @@ impl<'t> Level<'t> {
             NormalExpr::Name(word) => Level::alone(Kind::Name, word.as_str()),
             NormalExpr::Literal(word) => Level::alone(Kind::Literal, word.as_str()),
             NormalExpr::Text(word) => Level::alone(Kind::Text, word.as_str()),
-            NormalExpr::Unary(sign, operand) => {
-                Level::one(Kind::Unary, prefix_text(sign.as_str()), operand)
-            }
+            NormalExpr::Unary(sign, operand) => { Level::one(Kind::Unary, sign.text(), operand) }
             NormalExpr::Binary(sign, left, right) => {
-                Level::two(Kind::Binary, infix_text(sign.as_str()), left, right)
+                Level::two(Kind::Binary, sign.text(), left, right)
             }
             NormalExpr::Ternary(condition, first, second) => {
                 Level::three(Kind::Ternary, condition, first, second)
@@ -82,8 +79,8 @@ impl<'t> Level<'t> {
             NormalExpr::PackageCast(scope, name, operand) => {
                 Level::scoped(scope.as_str(), name.as_str(), operand)
             }
-            NormalExpr::WordCast(word, operand) => {
-                Level::one(Kind::WordCast, keyword_text(word.as_str()), operand)
+            NormalExpr::WordCast(key, operand) => {
+                Level::one(Kind::WordCast, key.text(), operand)
             }
         }
     }

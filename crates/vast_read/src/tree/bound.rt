@@ -5,18 +5,14 @@ ghost use Rattle.vast_read.specs.Internal.Bounds.{is_name_of, is_bounded};
 ghost use Rattle.vast_read.specs.View.{view};
 
 use crate::tree::expression::NormalExpr;
-use vast_names::Word;
+use vast_literal::Sign;
 
 /// Whether a comparison by this sign with this left side bounds the name.
-#[tactic(auto, using(crate::proofs::Bounds::tests))]
-pub(crate) fn is_bounded(sign: &Word, left: &NormalExpr, name: &str) -> bool
-    ensures { result ≡ is_bounded name.now sign.now (view left.now) }
+#[tactic(auto, unfolding(crate::specs::Internal::Bounds::is_bounded))]
+pub(crate) fn is_bounded(sign: Sign, left: &NormalExpr, name: &str) -> bool
+    ensures { result ≡ is_bounded name.now sign (view left.now) }
 {
-    if sign.as_str() == "<" {
-        left.is_name(name)
-    } else {
-        false
-    }
+    matches!(sign, Sign::Less) && left.is_name(name)
 }
 
 impl NormalExpr {

@@ -14,7 +14,6 @@ use crate::fault::Fault;
 use crate::tree::declaration::NormalDeclaration;
 use crate::tree::expression::NormalExpr;
 use crate::tree::member::NormalMember;
-use crate::tree::words::key_word;
 use std::alloc::Global;
 use vast_literal::Key;
 use vast_names::Word;
@@ -32,7 +31,7 @@ pub struct Parameter {
 #[derive(PartialEq, Drop)]
 pub struct Port {
     /// `input`, `output` or `inout`.
-    pub direction: Word,
+    pub direction: Key,
     /// What is declared, without that word.
     pub declaration: Box<NormalDeclaration>,
 }
@@ -93,7 +92,6 @@ impl Port {
             ≡ port_of direction (declaration_view declared)) }
         ensures err { IfErr result (λ e. e ≡ Memory) }
     {
-        let direction = key_word(alloc, direction)?;
         let declaration = Box::new(alloc, declared)?;
         Ok(Port {
             direction,

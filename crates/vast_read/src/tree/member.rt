@@ -17,7 +17,6 @@ use crate::tree::boxed::{Always, Function, Instance, LoopRange, MacroUse};
 use crate::tree::declaration::NormalDeclaration;
 use crate::tree::expression::NormalExpr;
 use crate::tree::statement::NormalStatement;
-use crate::tree::words::key_word;
 use std::alloc::Global;
 use vast_literal::Key;
 use vast_names::Word;
@@ -26,7 +25,7 @@ use vast_names::Word;
 #[derive(PartialEq, Drop)]
 pub struct Event {
     /// `posedge` or `negedge`.
-    pub edge: Option<Word>,
+    pub edge: Option<Key>,
     /// What has the edge, or the name.
     pub expression: Box<NormalExpr>,
 }
@@ -53,7 +52,7 @@ pub enum NormalMember {
     /// A continuous assignment.
     Assign(Box<NormalExpr>, Box<NormalExpr>),
     /// `parameter` or `localparam`, what it declares, and its value.
-    Parameter(Word, Box<NormalDeclaration>, Box<NormalExpr>),
+    Parameter(Key, Box<NormalDeclaration>, Box<NormalExpr>),
     /// The use of a macro.
     Macro(Box<MacroUse>),
     /// An instantiation.
@@ -70,20 +69,13 @@ pub enum NormalMember {
 
 impl Event {
     /// An edge of an expression.
-    pub(crate) fn at_edge(
-        alloc: Global,
-        edge: Key,
-        expression: Box<NormalExpr>,
-    ) -> Result<Event, Fault>
-        ensures ok { IfOk result (λ e. event_view e
-            ≡ EdgeEvent edge (view expression.value)) }
-        ensures err { IfErr result (λ e. e ≡ Memory) }
+    pub(crate) fn at_edge(edge: Key, expression: Box<NormalExpr>) -> Event
+        ensures { event_view result ≡ EdgeEvent edge (view expression.value) }
     {
-        let edge = key_word(alloc, edge)?;
-        Ok(Event {
+        Event {
             edge: Some(edge),
             expression,
-        })
+        }
     }
 
     /// A change of what has this name.
@@ -228,9 +220,8 @@ impl NormalMember {
             ≡ ParameterPart key (declaration_view declared) (view value.value)) }
         ensures err { IfErr result (λ e. e ≡ Memory) }
     {
-        let word = key_word(alloc, key)?;
         let declared = Box::new(alloc, declared)?;
-        Ok(NormalMember::Parameter(word, declared, value))
+        Ok(NormalMember::Parameter(key, declared, value))
     }
 
     /// The use of a macro.
@@ -290,8 +281,11 @@ impl NormalMember {
             ≡ AlwaysPart key (events_view events) (block_view body)) }
         ensures err { IfErr result (λ e. e ≡ Memory) }
     {
-        let word = key_word(alloc, key)?;
-        let always = Always { word, events, body };
+        let always = Always {
+            word: key,
+            events,
+            body,
+        };
         let always = Box::new(alloc, always)?;
         Ok(NormalMember::Always(always))
     }

@@ -2,7 +2,6 @@ use Rattle.std.proofs.Common.{◌≡◌, true, false, Some, sym, ap, ◌∙◌}
 use Rattle.vast_literal.specs.NormalExpr.{NormalExpr, Binary}
 use Rattle.vast_literal.specs.Internal.MemberParser.{bound_of}
 use Rattle.vast_read.specs.Internal.Bounds.{is_bounded}
-use Rattle.vast_read.specs.Texts.{infix_of}
 use Rattle.vast_read.specs.View.{view, view_step}
 use Rattle.vast_read.specs.declared.tree.expression.NormalExpr.TheFolds.{fold-roll-NormalExpr}
 use Rattle.vast_read.specs.declared.tree.expression.NormalExpr.TheOpen.{NormalExpr-F}
@@ -12,7 +11,7 @@ use Rattle.vast_read.proofs.tree.expression.NormalExpr.bound.Goals as goal
 
 pub returns-then-is_bounded : goal.returns-then-is_bounded
 returns-then-is_bounded c =
-    let b : view (TreeBinary c.in-Binary.sign c.in-Binary.left c.in-Binary.right) ≡ Binary (infix_of c.in-Binary.sign) (view c.in-Binary.left.value) (view c.in-Binary.right.value) =
+    let b : view (TreeBinary c.in-Binary.sign c.in-Binary.left c.in-Binary.right) ≡ Binary c.in-Binary.sign (view c.in-Binary.left.value) (view c.in-Binary.right.value) =
     ap view (sym (rolls-Binary c.in-Binary.sign c.in-Binary.left c.in-Binary.right)) ∙ fold-roll-NormalExpr NormalExpr view_step (NormalExpr-F.Binary c.in-Binary.sign c.in-Binary.left c.in-Binary.right) in
     let h = c.if-is_bounded.ensures in
     let d = c.deref.ensures in
@@ -23,7 +22,7 @@ returns-then-is_bounded c =
 
 pub returns-in-Binary : goal.returns-in-Binary
 returns-in-Binary c =
-    let b : view (TreeBinary c.in-Binary.sign c.in-Binary.left c.in-Binary.right) ≡ Binary (infix_of c.in-Binary.sign) (view c.in-Binary.left.value) (view c.in-Binary.right.value) =
+    let b : view (TreeBinary c.in-Binary.sign c.in-Binary.left c.in-Binary.right) ≡ Binary c.in-Binary.sign (view c.in-Binary.left.value) (view c.in-Binary.right.value) =
     ap view (sym (rolls-Binary c.in-Binary.sign c.in-Binary.left c.in-Binary.right)) ∙ fold-roll-NormalExpr NormalExpr view_step (NormalExpr-F.Binary c.in-Binary.sign c.in-Binary.left c.in-Binary.right) in
     let h = c.if-is_bounded.ensures in
     let d = c.deref.ensures in
