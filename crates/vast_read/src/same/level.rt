@@ -55,9 +55,9 @@ impl<'t> Level<'t> {
             NormalExpr::Name(word) => Level::alone(Kind::Name, word.as_str()),
             NormalExpr::Literal(word) => Level::alone(Kind::Literal, word.as_str()),
             NormalExpr::Text(word) => Level::alone(Kind::Text, word.as_str()),
-            NormalExpr::Unary(sign, operand) => { Level::one(Kind::Unary, sign.text(), operand) }
+            NormalExpr::Unary(sign, operand) => { Level::one(Kind::Unary, sign.as_str(), operand) }
             NormalExpr::Binary(sign, left, right) => {
-                Level::two(Kind::Binary, sign.text(), left, right)
+                Level::two(Kind::Binary, sign.as_str(), left, right)
             }
             NormalExpr::Ternary(condition, first, second) => {
                 Level::three(Kind::Ternary, condition, first, second)
@@ -80,7 +80,7 @@ impl<'t> Level<'t> {
                 Level::scoped(scope.as_str(), name.as_str(), operand)
             }
             NormalExpr::WordCast(key, operand) => {
-                Level::one(Kind::WordCast, key.text(), operand)
+                Level::one(Kind::WordCast, key.as_str(), operand)
             }
         }
     }

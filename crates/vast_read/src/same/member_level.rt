@@ -203,7 +203,7 @@ impl<'t> MemberLevel<'t> {
             ),
             NormalMember::Parameter(word, declared, value) => MemberLevel::plain(
                 MemberKind::Parameter,
-                Words::of(word.text()),
+                Words::of(word.as_str()),
                 Values::of(Some(declared), Some(value), None),
             ),
             NormalMember::Macro(it) => MemberLevel::plain(
@@ -280,7 +280,7 @@ impl<'t> MemberLevel<'t> {
     {
         MemberLevel {
             kind: MemberKind::Always,
-            words: Words::of(word.text()),
+            words: Words::of(word.as_str()),
             values: Values::of(None, None, None),
             lists: Lists::events(events),
             choice: Choice::none(),

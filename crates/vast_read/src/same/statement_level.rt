@@ -60,7 +60,7 @@ impl<'t> StatementLevel<'t> {
             },
             NormalStatement::Case(is_unique, word, selector, arms) => StatementLevel {
                 kind: case_kind(*is_unique),
-                word: word.text(),
+                word: word.as_str(),
                 first: Some(selector),
                 second: None,
                 choice: Choice::none(),
