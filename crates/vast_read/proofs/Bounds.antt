@@ -5,7 +5,7 @@ use Rattle.vast_literal.specs.declared.token.Sign.{Sign}
 use Rattle.vast_literal.specs.declared.token.Sign.TheVariants.{Less}
 use Rattle.vast_literal.specs.NormalExpr.{NormalExpr, Name, Binary}
 use Rattle.vast_literal.specs.Internal.MemberParser.{bound_of}
-use Rattle.vast_read.specs.Internal.Bounds.{is_name_of, is_bounded}
+use Rattle.vast_read.specs.Internal.Bounds.{is_less, is_name_of}
 
 differs : (v w : List ℕ) → (v ≡ w → ⊥) → bytes_eq v w ≡ false
 differs v w d = go (bytes_eq v w) refl
@@ -27,15 +27,17 @@ unfolding bound_of
 less_name n (Name w) r = refl
 less_name n _ r = refl
 
-bound_is : (n : List ℕ) (s : Sign) (l r : NormalExpr) → bound_of n (Binary s l r) ≡ cond (is_bounded n s l) (Some r) None
-unfolding bound_of is_bounded
-bound_is n Less l r = less_name n l r
-bound_is n _ l r = refl
+pub bound_given : (n : List ℕ) (s : Sign) (l r : NormalExpr) → is_less s ≡ true → is_name_of n l ≡ true → bound_of n (Binary s l r) ≡ Some r
+bound_given n Less l r s e = rw (less_name n l r, e) refl
+bound_given n _ l r s e = absurd (cc)
 
-pub bound_given : (n : List ℕ) (s : Sign) (l r : NormalExpr) → is_bounded n s l ≡ true → bound_of n (Binary s l r) ≡ Some r
-bound_given n s l r e = rw (bound_is n s l r, e) refl
+pub bound_unnamed : (n : List ℕ) (s : Sign) (l r : NormalExpr) → is_less s ≡ true → is_name_of n l ≡ false → bound_of n (Binary s l r) ≡ None
+bound_unnamed n Less l r s e = rw (less_name n l r, e) refl
+bound_unnamed n _ l r s e = absurd (cc)
 
-pub bound_missing : (n : List ℕ) (s : Sign) (l r : NormalExpr) → is_bounded n s l ≡ false → bound_of n (Binary s l r) ≡ None
-bound_missing n s l r e = rw (bound_is n s l r, e) refl
+pub bound_missing : (n : List ℕ) (s : Sign) (l r : NormalExpr) → is_less s ≡ false → bound_of n (Binary s l r) ≡ None
+unfolding bound_of
+bound_missing n Less l r s = absurd (cc)
+bound_missing n _ l r s = refl
 
-pub ruleset bounds = (bound_given, bound_missing)
+pub ruleset bounds = (bound_given, bound_unnamed, bound_missing)

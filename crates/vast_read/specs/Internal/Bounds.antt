@@ -1,5 +1,5 @@
 -- The name that an expression is, and the sign of a bound.
-use Rattle.std.specs.Prelude.{ℕ, List, Bool, true, false, ◌&&◌, bytes_eq}
+use Rattle.std.specs.Prelude.{ℕ, List, Bool, true, false, bytes_eq}
 use Rattle.vast_literal.specs.NormalExpr.{NormalExpr, Name}
 use Rattle.vast_literal.specs.declared.token.Sign.{Sign}
 use Rattle.vast_literal.specs.declared.token.Sign.TheVariants.{Less}
@@ -11,7 +11,3 @@ is_name_of n _ = false
 abbrev pub is_less : Sign → Bool
 is_less Less = true
 is_less _ = false
-
--- Whether the sign is `<` and the left side is the name.
-unfoldable pub is_bounded : (name : List ℕ) → Sign → (left : NormalExpr) → Bool
-is_bounded n s l = is_less s && is_name_of n l

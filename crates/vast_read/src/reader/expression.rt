@@ -39,7 +39,6 @@ impl<'t> Reader<'t> {
     }
 
     /// Reads on from this state, with this waiting.
-    #[tactic(auto)]
     fn go_on<B: Build<'t>>(
         &mut self,
         stack: Waits<'t, B>,

@@ -31,7 +31,6 @@ fn begins_primary(token: Option<Token<'_>>) -> bool {
 
 impl<'t> Reader<'t> {
     /// Begins a primary expression; before a token that begins none the reader stays.
-    #[tactic(auto)]
     pub(crate) fn primary<B: Build<'t>>(
         &mut self,
         stack: &mut Waits<'t, B>,

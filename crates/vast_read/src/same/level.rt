@@ -1,6 +1,7 @@
 //! The outermost level of an expression.
 
 ghost use Rattle.std.specs.Prelude.{◌≡◌, ◌≤◌, ◌+◌, ◌*◌, map};
+ghost use Rattle.vast_literal.specs.Tokens.{key_text, op_text};
 ghost use Rattle.vast_read.specs.Internal.Release.{rounds_beside, rounds_each, rounds};
 ghost use Rattle.vast_read.specs.Internal.Comparison.{Tells};
 ghost use Rattle.vast_read.specs.View.{view, listed};
@@ -8,6 +9,7 @@ ghost use Rattle.vast_read.specs.Internal.Levels.{level_view, words_in, level_of
 
 use crate::children::Children;
 use crate::tree::NormalExpr;
+use vast_literal::{Key, Sign};
 
 /// What an expression is.
 #[derive(Clone, Copy, PartialEq)]
@@ -45,6 +47,20 @@ pub(crate) struct Level<'t> {
     pub(crate) rest: &'t [NormalExpr],
 }
 
+/// A sign as it is written.
+fn sign_text<'t>(sign: &'t Sign) -> &'t str
+    ensures { result.now ≡ op_text sign.now }
+{
+    sign.as_str()
+}
+
+/// A keyword as it is written.
+fn key_text<'t>(key: &'t Key) -> &'t str
+    ensures { result.now ≡ key_text key.now }
+{
+    key.as_str()
+}
+
 impl<'t> Level<'t> {
     /// The level of an expression.
     pub(crate) fn of(x: &'t NormalExpr) -> Level<'t>
@@ -55,9 +71,11 @@ impl<'t> Level<'t> {
             NormalExpr::Name(word) => Level::alone(Kind::Name, word.as_str()),
             NormalExpr::Literal(word) => Level::alone(Kind::Literal, word.as_str()),
             NormalExpr::Text(word) => Level::alone(Kind::Text, word.as_str()),
-            NormalExpr::Unary(sign, operand) => { Level::one(Kind::Unary, sign.as_str(), operand) }
+            NormalExpr::Unary(sign, operand) => {
+                Level::one(Kind::Unary, sign_text(sign), operand)
+            }
             NormalExpr::Binary(sign, left, right) => {
-                Level::two(Kind::Binary, sign.as_str(), left, right)
+                Level::two(Kind::Binary, sign_text(sign), left, right)
             }
             NormalExpr::Ternary(condition, first, second) => {
                 Level::three(Kind::Ternary, condition, first, second)
@@ -80,7 +98,7 @@ impl<'t> Level<'t> {
                 Level::scoped(scope.as_str(), name.as_str(), operand)
             }
             NormalExpr::WordCast(key, operand) => {
-                Level::one(Kind::WordCast, key.as_str(), operand)
+                Level::one(Kind::WordCast, key_text(key), operand)
             }
         }
     }

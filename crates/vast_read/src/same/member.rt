@@ -62,23 +62,7 @@ fn name_of<'t>(expression: &'t NormalExpr) -> &'t str
 {
     match expression {
         NormalExpr::Name(word) => word.as_str(),
-        NormalExpr::Literal(_) => "",
-        NormalExpr::Text(_) => "",
-        NormalExpr::Unary(_, _) => "",
-        NormalExpr::Binary(_, _, _) => "",
-        NormalExpr::Ternary(_, _, _) => "",
-        NormalExpr::Index(_, _) => "",
-        NormalExpr::Slice(_, _, _) => "",
-        NormalExpr::PartSelect(_, _, _) => "",
-        NormalExpr::Concat(_) => "",
-        NormalExpr::Replicated(_, _) => "",
-        NormalExpr::Pattern(_) => "",
-        NormalExpr::Call(_, _) => "",
-        NormalExpr::MacroAlone(_) => "",
-        NormalExpr::MacroCall(_, _) => "",
-        NormalExpr::Cast(_, _) => "",
-        NormalExpr::PackageCast(_, _, _) => "",
-        NormalExpr::WordCast(_, _) => "",
+        _ => "",
     }
 }
 

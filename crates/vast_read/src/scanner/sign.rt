@@ -27,7 +27,6 @@ pub(crate) enum Growth<'t> {
 }
 
 /// The sign that a byte begins.
-#[tactic(auto)]
 fn first_sign<'t>(byte: u8) -> Option<Growth<'t>>
     ensures growth { growth_or_fail result ≡ start_sign (find_sign whole_signs byte) byte }
     ensures byte { IfSome result (λ _. byte < 128) }
@@ -92,7 +91,6 @@ fn open_by<'t>(wanted: u8, longer: Sign, byte: u8) -> Option<Growth<'t>>
 }
 
 /// What a byte makes of `>`.
-#[tactic(auto)]
 fn grown_greater<'t>(byte: u8) -> Option<Growth<'t>>
     ensures growth { option_map growth_step result ≡ grown (Operator Greater) byte }
     ensures byte { IfSome result (λ _. (32 < byte) × (byte < 128)) }
@@ -105,7 +103,6 @@ fn grown_greater<'t>(byte: u8) -> Option<Growth<'t>>
 }
 
 /// What a byte makes of `<`.
-#[tactic(auto)]
 fn grown_less<'t>(byte: u8) -> Option<Growth<'t>>
     ensures growth { option_map growth_step result ≡ grown (Operator Less) byte }
     ensures byte { IfSome result (λ _. (32 < byte) × (byte < 128)) }
@@ -118,7 +115,6 @@ fn grown_less<'t>(byte: u8) -> Option<Growth<'t>>
 }
 
 /// What a byte makes of `+`.
-#[tactic(auto)]
 fn grown_plus<'t>(byte: u8) -> Option<Growth<'t>>
     ensures growth { option_map growth_step result ≡ grown (Operator Plus) byte }
     ensures byte { IfSome result (λ _. (32 < byte) × (byte < 128)) }
@@ -131,7 +127,6 @@ fn grown_plus<'t>(byte: u8) -> Option<Growth<'t>>
 }
 
 /// What a byte makes of `/`.
-#[tactic(auto)]
 fn grown_slash<'t>(byte: u8) -> Option<Growth<'t>>
     ensures growth { option_map growth_step result ≡ grown (Operator Divide) byte }
     ensures byte { IfSome result (λ _. (32 < byte) × (byte < 128)) }
@@ -144,71 +139,43 @@ fn grown_slash<'t>(byte: u8) -> Option<Growth<'t>>
 }
 
 /// What a byte makes of an operator.
-#[tactic(auto)]
 fn grown_operator<'t>(sign: Sign, byte: u8) -> Option<Growth<'t>>
     ensures growth { option_map growth_step result ≡ grown (Operator sign) byte }
     ensures byte { IfSome result (λ _. (32 < byte) × (byte < 128)) }
 {
     match sign {
-        Sign::LogicOr => None,
-        Sign::LogicAnd => None,
         Sign::BitOr => closed_by(b'|', Sign::LogicOr, byte),
-        Sign::BitXor => None,
         Sign::BitAnd => closed_by(b'&', Sign::LogicAnd, byte),
         Sign::NotEqual => closed_by(b'=', Sign::CaseNotEqual, byte),
-        Sign::CaseNotEqual => None,
         Sign::Equal => closed_by(b'=', Sign::CaseEqual, byte),
-        Sign::CaseEqual => None,
-        Sign::GreaterEqual => None,
         Sign::Greater => grown_greater(byte),
-        Sign::LessEqual => None,
         Sign::Less => grown_less(byte),
-        Sign::ShiftLeft => None,
-        Sign::ShiftRightSigned => None,
         Sign::ShiftRight => closed_by(b'>', Sign::ShiftRightSigned, byte),
         Sign::Plus => grown_plus(byte),
-        Sign::Minus => None,
         Sign::Times => closed_by(b'*', Sign::Power, byte),
         Sign::Divide => grown_slash(byte),
-        Sign::Modulo => None,
-        Sign::Power => None,
-        Sign::BitNot => None,
         Sign::LogicNot => open_by(b'=', Sign::NotEqual, byte),
+        _ => None,
     }
 }
 
 /// What a byte makes of a mark.
-#[tactic(auto)]
 fn grown_mark<'t>(mark: Mark, byte: u8) -> Option<Growth<'t>>
     ensures growth { option_map growth_step result ≡ grown (spec.Mark mark) byte }
     ensures byte { IfSome result (λ _. (32 < byte) × (byte < 128)) }
 {
     match mark {
-        Mark::OpenParen => None,
-        Mark::CloseParen => None,
-        Mark::OpenBracket => None,
-        Mark::CloseBracket => None,
-        Mark::OpenBrace => None,
-        Mark::CloseBrace => None,
-        Mark::Comma => None,
         Mark::Colon => if byte == b':' {
             Some(Growth::Closed(Token::Mark(Mark::DoubleColon)))
         } else {
             None
         },
-        Mark::Semicolon => None,
-        Mark::Dot => None,
-        Mark::Hash => None,
-        Mark::At => None,
-        Mark::Question => None,
-        Mark::DoubleColon => None,
-        Mark::PlusColon => None,
         Mark::Assign => if byte == b'=' {
             Some(Growth::Open(Token::Operator(Sign::Equal)))
         } else {
             None
         },
-        Mark::Apostrophe => None,
+        _ => None,
     }
 }
 
@@ -218,16 +185,9 @@ fn grown<'t>(sign: Token<'t>, byte: u8) -> Option<Growth<'t>>
     ensures byte { IfSome result (λ _. (32 < byte) × (byte < 128)) }
 {
     match sign {
-        Token::Reserved(_) => None,
-        Token::Word(_) => None,
-        Token::Keyword(_) => None,
-        Token::SystemWord(_) => None,
-        Token::MacroWord(_) => None,
-        Token::Number(_) => None,
-        Token::Based(_) => None,
-        Token::Quoted(_) => None,
         Token::Operator(operator) => grown_operator(operator, byte),
         Token::Mark(mark) => grown_mark(mark, byte),
+        _ => None,
     }
 }
 

@@ -1,18 +1,39 @@
 //! The bound of a loop's condition.
 
-ghost use Rattle.std.specs.Prelude.{◌≡◌};
-ghost use Rattle.vast_read.specs.Internal.Bounds.{is_name_of, is_bounded};
+ghost use Rattle.std.specs.Prelude.{◌≡◌, MatchOption, None, Some};
+ghost use Rattle.vast_literal.specs.Internal.MemberParser.{bound_of};
+ghost use Rattle.vast_literal.specs.NormalExpr.{Binary};
+ghost use Rattle.vast_read.specs.Internal.Bounds.{is_less, is_name_of};
 ghost use Rattle.vast_read.specs.View.{view};
 
 use crate::tree::expression::NormalExpr;
 use vast_literal::Sign;
 
-/// Whether a comparison by this sign with this left side bounds the name.
-#[tactic(auto, unfolding(crate::specs::Internal::Bounds::is_bounded))]
-pub(crate) fn is_bounded(sign: Sign, left: &NormalExpr, name: &str) -> bool
-    ensures { result ≡ is_bounded name.now sign (view left.now) }
+/// What a comparison by this sign bounds the name by, where it does.
+#[tactic(auto, using(crate::proofs::Bounds::bounds), unfolding(crate::specs::Internal::Bounds::is_less))]
+pub(crate) fn bound_of(
+    sign: Sign,
+    left: Box<NormalExpr>,
+    right: Box<NormalExpr>,
+    name: &str,
+) -> Option<Box<NormalExpr>>
+    ensures { MatchOption result
+        (bound_of name.now (Binary sign (view left.value) (view right.value)) ≡ None)
+        (λ e. bound_of name.now (Binary sign (view left.value) (view right.value))
+        ≡ Some (view e.value)) }
 {
-    matches!(sign, Sign::Less) && left.is_name(name)
+    if is_less(sign) && left.is_name(name) {
+        Some(right)
+    } else {
+        None
+    }
+}
+
+/// Whether the sign is `<`.
+fn is_less(sign: Sign) -> bool
+    ensures { result ≡ is_less sign }
+{
+    matches!(sign, Sign::Less)
 }
 
 impl NormalExpr {
@@ -22,24 +43,8 @@ impl NormalExpr {
         ensures { result ≡ is_name_of name.now (view self.now) }
     {
         match self {
-            NormalExpr::Name(word) => { if word.as_str() == name { true } else { false } }
-            NormalExpr::Literal(_) => false,
-            NormalExpr::Text(_) => false,
-            NormalExpr::Unary(_, _) => false,
-            NormalExpr::Binary(_, _, _) => false,
-            NormalExpr::Ternary(_, _, _) => false,
-            NormalExpr::Index(_, _) => false,
-            NormalExpr::Slice(_, _, _) => false,
-            NormalExpr::PartSelect(_, _, _) => false,
-            NormalExpr::Concat(_) => false,
-            NormalExpr::Replicated(_, _) => false,
-            NormalExpr::Pattern(_) => false,
-            NormalExpr::Call(_, _) => false,
-            NormalExpr::MacroAlone(_) => false,
-            NormalExpr::MacroCall(_, _) => false,
-            NormalExpr::Cast(_, _) => false,
-            NormalExpr::PackageCast(_, _, _) => false,
-            NormalExpr::WordCast(_, _) => false,
+            NormalExpr::Name(word) => word.as_str() == name,
+            _ => false,
         }
     }
 }
