@@ -274,6 +274,13 @@ fn other(known: Known<'_>, step: &ExpressionStep, told: &mut Told) -> Result<For
             told.show_any(known.form(*value).edge_rule())?;
             Ok(Form::Edge)
         }
+        _ => macro_use(known, step, told),
+    }
+}
+
+/// What the use of a macro is; no rule asks for the form of what is none of these.
+fn macro_use(known: Known<'_>, step: &ExpressionStep, told: &mut Told) -> Result<Form, AllocError> {
+    match step {
         ExpressionStep::MakeMacroRef(name) => {
             told.show_if(is_directive(name), Rule::Directive)?;
             Ok(Form::Other)
