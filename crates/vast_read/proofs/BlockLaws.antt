@@ -3,6 +3,7 @@ use Rattle.std.proofs.Common.{◌≡◌, ◌≢◌, ◌↔◌, ◌<◌, true, fa
 use Rattle.vast_literal.specs.NormalExpr.{NormalExpr, Name}
 use Rattle.vast_literal.specs.NormalFile as normal
 use Rattle.vast_literal.specs.NormalFile.{NormalStatement, NormalStatements, Arms, Or}
+use Rattle.vast_read.specs.Texts.{key_of}
 use Rattle.vast_read.specs.StatementParts.{ChoicePart, arms_of, last_arm}
 use Rattle.vast_read.specs.StatementView.{block_view}
 use Rattle.vast_read.specs.Internal.StatementView.{arm_view}
@@ -11,7 +12,7 @@ use Rattle.vast_read.specs.declared.same.choice.Choice.{Choice}
 use Rattle.vast_read.specs.declared.same.statement_level.StatementKind.{StatementKind}
 use Rattle.vast_read.specs.declared.same.statement_level.StatementKind.TheVariants as kind
 use Rattle.vast_read.specs.Internal.StatementLevels.{Level, level_of, head_of, blocks_of}
-use Rattle.vast_read.proofs.WordLaws.{key_of, key_again}
+use Rattle.vast_read.proofs.WordLaws.{key_again}
 
 both : {A B : Type 0} (p q : A × B) → p.0 ≡ q.0 → p.1 ≡ q.1 → p ≡ q
 both p q f g = ap (λ x. (x, p.1)) f ∙ ap (λ y. (q.0, y)) g

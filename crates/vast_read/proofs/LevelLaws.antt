@@ -2,7 +2,8 @@
 use Rattle.std.proofs.Common.{◌≡◌, [], Option, Some, None, refl, sym, ap, ◌∙◌}
 use Rattle.vast_literal.specs.NormalExpr.{NormalExpr}
 use Rattle.vast_literal.specs.NormalExpr as normal
-use Rattle.vast_read.proofs.WordLaws.{sign_of, sign_again, key_of, key_again}
+use Rattle.vast_read.specs.Texts.{prefix_of, infix_of, key_of}
+use Rattle.vast_read.proofs.WordLaws.{prefix_again, infix_again, key_again}
 use Rattle.vast_read.specs.declared.same.level.Kind.{Kind}
 use Rattle.vast_read.specs.declared.same.level.Kind.TheVariants as kind
 use Rattle.vast_read.specs.Internal.Levels.{Level, level_of, words_in, parts_in}
@@ -17,8 +18,8 @@ made kind.Name l = normal.Name l.word
 made kind.Literal l = normal.Literal l.word
 made kind.Text l = normal.Text l.word
 made kind.MacroAlone l = normal.MacroAlone l.word
-made kind.Unary l = normal.Unary (sign_of l.word) (part l.first)
-made kind.Binary l = normal.Binary (sign_of l.word) (part l.first) (part l.second)
+made kind.Unary l = normal.Unary (prefix_of l.word) (part l.first)
+made kind.Binary l = normal.Binary (infix_of l.word) (part l.first) (part l.second)
 made kind.Ternary l = normal.Ternary (part l.first) (part l.second) (part l.third)
 made kind.Index l = normal.Index (part l.first) (part l.second)
 made kind.Slice l = normal.Slice (part l.first) (part l.second) (part l.third)
@@ -38,8 +39,8 @@ made_again (normal.Name w) = refl
 made_again (normal.Literal w) = refl
 made_again (normal.Text w) = refl
 made_again (normal.MacroAlone w) = refl
-made_again (normal.Unary op x) = ap (λ o. normal.Unary o x) (sign_again op)
-made_again (normal.Binary op x y) = ap (λ o. normal.Binary o x y) (sign_again op)
+made_again (normal.Unary op x) = ap (λ o. normal.Unary o x) (prefix_again op)
+made_again (normal.Binary op x y) = ap (λ o. normal.Binary o x y) (infix_again op)
 made_again (normal.Ternary x y z) = refl
 made_again (normal.Index x y) = refl
 made_again (normal.Slice x y z) = refl

@@ -3,10 +3,11 @@ use Rattle.std.proofs.Common.{◌≡◌, true, false, [], Option, Some, None, re
 use Rattle.vast_literal.specs.NormalExpr.{NormalExpr, Name}
 use Rattle.vast_literal.specs.NormalFile as normal
 use Rattle.vast_literal.specs.NormalFile.{NormalDeclaration, NormalMember}
+use Rattle.vast_read.specs.Texts.{key_of}
 use Rattle.vast_read.specs.declared.same.member_level.MemberKind.{MemberKind}
 use Rattle.vast_read.specs.declared.same.member_level.MemberKind.TheVariants as kind
 use Rattle.vast_read.specs.Internal.MemberLevels.{Level, level_of, head_of, blocks_of}
-use Rattle.vast_read.proofs.WordLaws.{key_of, key_again}
+use Rattle.vast_read.proofs.WordLaws.{key_again}
 
 part : Option NormalExpr → NormalExpr
 part None = Name []

@@ -6,6 +6,7 @@ use Rattle.vast_literal.specs.declared.token.Key.{Key}
 use Rattle.vast_literal.specs.NormalExpr.{NormalExpr}
 use Rattle.vast_literal.specs.NormalFile as normal
 use Rattle.vast_literal.specs.NormalFile.{One, Range}
+use Rattle.vast_read.specs.Texts.{key_of}
 use Rattle.vast_read.specs.View.{view}
 use Rattle.vast_read.specs.declared.tree.declaration.DeclaredType.{DeclaredType}
 use Rattle.vast_read.specs.declared.tree.declaration.Group.{Group}
@@ -30,11 +31,11 @@ abbrev pub type_name_of : Option (Box DeclaredType Global) → Option (List ℕ)
 type_name_of t = option_and_then (λ b. b.value.type_name) t
 
 abbrev pub sign_of : Option (Box DeclaredType Global) → Option Key
-sign_of t = option_and_then (λ b. b.value.sign) t
+sign_of t = option_and_then (λ b. option_map key_of b.value.sign) t
 
 abbrev pub declaration_view : NormalDeclaration → normal.NormalDeclaration
 declaration_view d = record {
-  kind = d.kind;
+  kind = option_map key_of d.kind;
   package_name = package_of d.typed;
   type_name = type_name_of d.typed;
   sign = sign_of d.typed;

@@ -1,6 +1,7 @@
 -- The normal modules and files that those of the reader stand for.
 use Rattle.std.specs.Prelude.{List, map}
 use Rattle.vast_literal.specs.NormalFile as normal
+use Rattle.vast_read.specs.Texts.{key_of}
 use Rattle.vast_read.specs.View.{view}
 use Rattle.vast_read.specs.DeclarationView.{declaration_view}
 use Rattle.vast_read.specs.MemberView.{members_view}
@@ -18,7 +19,7 @@ abbrev pub parameters_view : List Parameter → List normal.NormalParameter
 parameters_view ps = map parameter_view ps
 
 abbrev pub port_view : Port → normal.NormalPort
-port_view p = record { direction = p.direction; declaration = declaration_view p.declaration.value }
+port_view p = record { direction = key_of p.direction; declaration = declaration_view p.declaration.value }
 
 abbrev pub ports_view : List Port → List normal.NormalPort
 ports_view ps = map port_view ps

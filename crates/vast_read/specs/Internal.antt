@@ -47,3 +47,4 @@ pub mod MemberLevels
 pub mod Members
 pub mod Pairs
 pub mod StatementLevels
+pub mod Writings

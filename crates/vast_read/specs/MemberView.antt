@@ -3,8 +3,8 @@ use Rattle.std.specs.Prelude.{ℕ, List, [], ◌∷◌, Option, Some, None, opti
 use Rattle.vast_literal.specs.NormalExpr as expression
 use Rattle.vast_literal.specs.NormalExpr.{Name}
 use Rattle.vast_literal.specs.NormalFile as normal
-use Rattle.vast_literal.specs.declared.token.Key.{Key}
 use Rattle.vast_literal.specs.NormalFile.{Event, EdgeEvent, NameEvent, NormalMembers, NoParts, MoreParts}
+use Rattle.vast_read.specs.Texts.{key_of}
 use Rattle.vast_read.specs.View.{view, listed}
 use Rattle.vast_read.specs.StatementParts.{arms_in}
 use Rattle.vast_read.specs.StatementView.{statement_view, block_view}
@@ -19,9 +19,9 @@ abbrev pub name_of : expression.NormalExpr → List ℕ
 name_of (Name w) = w
 name_of _ = []
 
-abbrev pub event_of : Option Key → expression.NormalExpr → Event
+abbrev pub event_of : Option (List ℕ) → expression.NormalExpr → Event
 event_of None x = NameEvent (name_of x)
-event_of (Some edge) x = EdgeEvent edge x
+event_of (Some word) x = EdgeEvent (key_of word) x
 
 abbrev pub event_view : CodeEvent → Event
 event_view e = event_of e.edge (view e.expression.value)
@@ -43,10 +43,10 @@ members_of (m ∷ ms) = MoreParts m (members_of ms)
 abbrev pub member_level : NormalMember-F normal.NormalMember → normal.NormalMember
 member_level (NormalMember-F.Declaration d) = normal.DeclarationPart (declaration_view d.value)
 member_level (NormalMember-F.Assign l r) = normal.AssignPart (view l.value) (view r.value)
-member_level (NormalMember-F.Parameter word d x) = normal.ParameterPart word (declaration_view d.value) (view x.value)
+member_level (NormalMember-F.Parameter word d x) = normal.ParameterPart (key_of word) (declaration_view d.value) (view x.value)
 member_level (NormalMember-F.Macro m) = normal.MacroPart m.value.name (option_map listed m.value.arguments) m.value.has_semicolon
 member_level (NormalMember-F.Instance i) = normal.InstancePart i.value.definition (connections_view i.value.parameters) i.value.name (connections_view i.value.connections)
-member_level (NormalMember-F.Always a) = normal.AlwaysPart a.value.word (events_view a.value.events) (block_view a.value.body)
+member_level (NormalMember-F.Always a) = normal.AlwaysPart (key_of a.value.word) (events_view a.value.events) (block_view a.value.body)
 member_level (NormalMember-F.Conditional s) = normal.ConditionalPart (arms_in (statement_view s.value))
 member_level (NormalMember-F.Function f) = normal.FunctionPart (declaration_view f.value.output.value) (declarations_view f.value.inputs) (declarations_view f.value.locals) (block_view f.value.body)
 member_level (NormalMember-F.Loop l ms) = normal.LoopPart l.value.variable (view l.value.start.value) (view l.value.end.value) l.value.label (members_of ms)

@@ -2,6 +2,7 @@
 use Rattle.std.specs.Prelude.{List, option_map, map}
 use Rattle.vast_literal.specs.NormalFile as normal
 use Rattle.vast_literal.specs.NormalFile.{NormalStatements}
+use Rattle.vast_read.specs.Texts.{key_of}
 use Rattle.vast_read.specs.StatementParts.{ChoicePart, LabelPart, block_of, arms_of, labels_of}
 use Rattle.vast_read.specs.View.{view}
 use Rattle.vast_read.specs.declared.tree.statement.NormalStatement.{NormalStatement, fold-NormalStatement}
@@ -13,7 +14,7 @@ statement_level (NormalStatement-F.Blocking l r) = normal.BlockingStatement (vie
 statement_level (NormalStatement-F.Nonblocking l r) = normal.NonblockingStatement (view l.value) (view r.value)
 statement_level (NormalStatement-F.Assign l r) = normal.AssignStatement (view l.value) (view r.value)
 statement_level (NormalStatement-F.Choice arms last) = normal.ChoiceStatement (arms_of arms (option_map block_of last))
-statement_level (NormalStatement-F.Case unique word selector arms) = normal.CaseStatement unique word (view selector.value) (labels_of arms)
+statement_level (NormalStatement-F.Case unique word selector arms) = normal.CaseStatement unique (key_of word) (view selector.value) (labels_of arms)
 
 abbrev pub arm_level : Arm-F normal.NormalStatement ChoicePart LabelPart → ChoicePart
 arm_level a = (view a.condition.value, block_of a.block)

@@ -16,6 +16,7 @@ mod member;
 mod member_level;
 mod statement;
 mod statement_level;
+mod written;
 
 use crate::read::read_normal;
 use crate::same::file::same_file;

@@ -4,12 +4,13 @@ ghost use Rattle.std.specs.Prelude.{◌≡◌, IfOk, option_map};
 ghost use Rattle.vast_read.specs.Internal.Comparison.{Tells};
 ghost use Rattle.vast_read.specs.DeclarationView.{package_of, type_name_of, sign_of, groups_view};
 ghost use Rattle.vast_read.specs.Internal.DeclaredWords.{declared_words, declared_groups};
+ghost use Rattle.vast_read.specs.Texts.{key_of};
 
 use crate::same::expression::{part, same_expression, same_part};
 use crate::same::list::{Same, same_list};
+use crate::same::written::same_key;
 use crate::tree::{DeclaredType, Group, NormalDeclaration};
 use std::alloc::{AllocError, Global};
-use vast_literal::Key;
 use vast_names::Word;
 
 impl Same for Group {
@@ -59,15 +60,15 @@ pub(crate) fn maybe_text<'t>(word: &'t Option<Word>) -> Option<&'t str>
     }
 }
 
-/// Whether two keywords are the same, of which either may be missing.
-fn same_key(left: Option<Key>, right: Option<Key>) -> bool
-    ensures { Tells result left right }
+/// Whether two words stand for the same keyword, of which either may be missing.
+fn same_maybe_key(left: &Option<Word>, right: &Option<Word>) -> bool
+    ensures { Tells result (option_map key_of left.now) (option_map key_of right.now) }
 {
     match left {
         None => right.is_none(),
         Some(left) => match right {
             None => false,
-            Some(right) => left == right,
+            Some(right) => same_key(left, right),
         },
     }
 }
@@ -97,7 +98,7 @@ fn same_sign(left: &Option<Box<DeclaredType>>, right: &Option<Box<DeclaredType>>
         },
         Some(left) => match right {
             None => left.sign.is_none(),
-            Some(right) => same_key(left.sign, right.sign),
+            Some(right) => same_maybe_key(&left.sign, &right.sign),
         },
     }
 }
@@ -129,7 +130,7 @@ impl NormalDeclaration {
     {
         if self.name.as_str() != other.name.as_str() {
             false
-        } else if !same_key(self.kind, other.kind) {
+        } else if !same_maybe_key(&self.kind, &other.kind) {
             false
         } else if !same_text(self.package(), other.package()) {
             false

@@ -8,6 +8,7 @@ ghost use Rattle.vast_read.specs.FileView.{parameters_view, ports_view, module_v
 use crate::same::expression::same_expression;
 use crate::same::list::{Same, same_list};
 use crate::same::member::same_members;
+use crate::same::written::same_key;
 use crate::tree::{NormalFile, NormalItem, NormalModule, Parameter, Port};
 use std::alloc::{AllocError, Global};
 
@@ -30,7 +31,7 @@ impl Same for Port {
     ghost are_one = { λ a b. port_view a ≡ port_view b };
 
     fn is_same(&self, other: &Port, alloc: Global) -> Result<bool, AllocError> {
-        if self.direction != other.direction {
+        if !same_key(&self.direction, &other.direction) {
             return Ok(false);
         }
         if self.declaration.is_same(&other.declaration, alloc)? {

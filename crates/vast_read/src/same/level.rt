@@ -1,15 +1,14 @@
 //! The outermost level of an expression.
 
 ghost use Rattle.std.specs.Prelude.{◌≡◌, ◌≤◌, ◌+◌, ◌*◌, map};
-ghost use Rattle.vast_literal.specs.Tokens.{key_text, op_text};
 ghost use Rattle.vast_read.specs.Internal.Release.{rounds_beside, rounds_each, rounds};
 ghost use Rattle.vast_read.specs.Internal.Comparison.{Tells};
 ghost use Rattle.vast_read.specs.View.{view, listed};
 ghost use Rattle.vast_read.specs.Internal.Levels.{level_view, words_in, level_of, level_rounds, alone, of_one, of_two, of_three, of_list, counted, scoped};
 
 use crate::children::Children;
+use crate::same::written::{infix_text, keyword_text, prefix_text};
 use crate::tree::NormalExpr;
-use vast_literal::{Key, Sign};
 
 /// What an expression is.
 #[derive(Clone, Copy, PartialEq)]
@@ -47,20 +46,6 @@ pub(crate) struct Level<'t> {
     pub(crate) rest: &'t [NormalExpr],
 }
 
-/// A sign as it is written.
-fn sign_text<'t>(sign: &'t Sign) -> &'t str
-    ensures { result.now ≡ op_text sign.now }
-{
-    sign.as_str()
-}
-
-/// A keyword as it is written.
-fn key_text<'t>(key: &'t Key) -> &'t str
-    ensures { result.now ≡ key_text key.now }
-{
-    key.as_str()
-}
-
 impl<'t> Level<'t> {
     /// The level of an expression.
     pub(crate) fn of(x: &'t NormalExpr) -> Level<'t>
@@ -72,10 +57,10 @@ impl<'t> Level<'t> {
             NormalExpr::Literal(word) => Level::alone(Kind::Literal, word.as_str()),
             NormalExpr::Text(word) => Level::alone(Kind::Text, word.as_str()),
             NormalExpr::Unary(sign, operand) => {
-                Level::one(Kind::Unary, sign_text(sign), operand)
+                Level::one(Kind::Unary, prefix_text(sign.as_str()), operand)
             }
             NormalExpr::Binary(sign, left, right) => {
-                Level::two(Kind::Binary, sign_text(sign), left, right)
+                Level::two(Kind::Binary, infix_text(sign.as_str()), left, right)
             }
             NormalExpr::Ternary(condition, first, second) => {
                 Level::three(Kind::Ternary, condition, first, second)
@@ -97,8 +82,8 @@ impl<'t> Level<'t> {
             NormalExpr::PackageCast(scope, name, operand) => {
                 Level::scoped(scope.as_str(), name.as_str(), operand)
             }
-            NormalExpr::WordCast(key, operand) => {
-                Level::one(Kind::WordCast, key_text(key), operand)
+            NormalExpr::WordCast(word, operand) => {
+                Level::one(Kind::WordCast, keyword_text(word.as_str()), operand)
             }
         }
     }

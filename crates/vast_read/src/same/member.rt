@@ -11,6 +11,7 @@ ghost use Rattle.vast_read.specs.View.{view};
 use crate::same::expression::{part, same_expression, same_part};
 use crate::same::list::Same;
 use crate::same::member_level::MemberLevel;
+use crate::same::written::same_key;
 use crate::stack::Stack;
 use crate::tree::{Connection, Event, NormalExpr, NormalMember};
 use std::alloc::{AllocError, Global};
@@ -29,7 +30,7 @@ impl Same for Event {
             Some(edge) => match &other.edge {
                 None => Ok(false),
                 Some(other_edge) => {
-                    if edge != other_edge {
+                    if !same_key(edge, other_edge) {
                         return Ok(false);
                     }
                     if same_expression(alloc, &self.expression, &other.expression)? {

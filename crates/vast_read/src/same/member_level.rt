@@ -10,15 +10,16 @@ ghost use Rattle.vast_read.specs.Internal.Members.{member_beside};
 ghost use Rattle.vast_read.specs.MemberView.{connections_view, events_view, member_view, members_view};
 ghost use Rattle.vast_read.specs.StatementParts.{arms_in};
 ghost use Rattle.vast_read.specs.StatementView.{block_view, statement_view};
+ghost use Rattle.vast_read.specs.Texts.{key_of};
 ghost use Rattle.vast_read.specs.View.{view, listed};
 
 use crate::children::Children;
 use crate::same::choice::Choice;
 use crate::same::declaration::maybe_text;
+use crate::same::written::keyword_text;
 use crate::tree::{
     Connection, Event, NormalDeclaration, NormalExpr, NormalMember, NormalStatement,
 };
-use vast_literal::Key;
 use vast_names::Word;
 
 /// What a member is.
@@ -203,7 +204,7 @@ impl<'t> MemberLevel<'t> {
             ),
             NormalMember::Parameter(word, declared, value) => MemberLevel::plain(
                 MemberKind::Parameter,
-                Words::of(word.as_str()),
+                Words::of(keyword_text(word.as_str())),
                 Values::of(Some(declared), Some(value), None),
             ),
             NormalMember::Macro(it) => MemberLevel::plain(
@@ -214,7 +215,7 @@ impl<'t> MemberLevel<'t> {
             NormalMember::Instance(it) => {
                 MemberLevel::instance(&it.definition, &it.parameters, &it.name, &it.connections)
             }
-            NormalMember::Always(it) => MemberLevel::always(it.word, &it.events, &it.body),
+            NormalMember::Always(it) => MemberLevel::always(&it.word, &it.events, &it.body),
             NormalMember::Conditional(choice) => MemberLevel::conditional(choice),
             NormalMember::Function(it) => {
                 MemberLevel::function(&it.output, &it.inputs, &it.locals, &it.body)
@@ -270,17 +271,17 @@ impl<'t> MemberLevel<'t> {
 
     /// That of an always block.
     fn always(
-        word: Key,
+        word: &'t Word,
         events: &'t Children<Event>,
         body: &'t Children<NormalStatement>,
     ) -> MemberLevel<'t>
         ensures level { level_view result ≡ level_of
-            (AlwaysPart word (events_view events.now) (block_view body.now)) }
+            (AlwaysPart (key_of word.now) (events_view events.now) (block_view body.now)) }
         ensures rounds { level_rounds result ≡ 1 }
     {
         MemberLevel {
             kind: MemberKind::Always,
-            words: Words::of(word.as_str()),
+            words: Words::of(keyword_text(word.as_str())),
             values: Values::of(None, None, None),
             lists: Lists::events(events),
             choice: Choice::none(),

@@ -9,6 +9,7 @@ ghost use Rattle.vast_read.specs.View.{view};
 
 use crate::same::choice::Choice;
 use crate::same::expression::same_part;
+use crate::same::written::keyword_text;
 use crate::tree::{CaseArm, NormalExpr, NormalStatement};
 use std::alloc::{AllocError, Global};
 
@@ -60,7 +61,7 @@ impl<'t> StatementLevel<'t> {
             },
             NormalStatement::Case(is_unique, word, selector, arms) => StatementLevel {
                 kind: case_kind(*is_unique),
-                word: word.as_str(),
+                word: keyword_text(word.as_str()),
                 first: Some(selector),
                 second: None,
                 choice: Choice::none(),

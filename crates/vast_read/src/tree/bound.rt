@@ -1,39 +1,22 @@
 //! The bound of a loop's condition.
 
-ghost use Rattle.std.specs.Prelude.{◌≡◌, MatchOption, None, Some};
-ghost use Rattle.vast_literal.specs.Internal.MemberParser.{bound_of};
-ghost use Rattle.vast_literal.specs.NormalExpr.{Binary};
-ghost use Rattle.vast_read.specs.Internal.Bounds.{is_less, is_name_of};
+ghost use Rattle.std.specs.Prelude.{◌≡◌};
+ghost use Rattle.vast_read.specs.Internal.Bounds.{is_name_of, is_bounded};
 ghost use Rattle.vast_read.specs.View.{view};
 
 use crate::tree::expression::NormalExpr;
-use vast_literal::Sign;
+use vast_names::Word;
 
-/// What a comparison by this sign bounds the name by, where it does.
-#[tactic(auto, using(crate::proofs::Bounds::bounds), unfolding(crate::specs::Internal::Bounds::is_less))]
-pub(crate) fn bound_of(
-    sign: Sign,
-    left: Box<NormalExpr>,
-    right: Box<NormalExpr>,
-    name: &str,
-) -> Option<Box<NormalExpr>>
-    ensures { MatchOption result
-        (bound_of name.now (Binary sign (view left.value) (view right.value)) ≡ None)
-        (λ e. bound_of name.now (Binary sign (view left.value) (view right.value))
-        ≡ Some (view e.value)) }
+/// Whether a comparison by this sign with this left side bounds the name.
+#[tactic(auto, using(crate::proofs::Bounds::tests))]
+pub(crate) fn is_bounded(sign: &Word, left: &NormalExpr, name: &str) -> bool
+    ensures { result ≡ is_bounded name.now sign.now (view left.now) }
 {
-    if is_less(sign) && left.is_name(name) {
-        Some(right)
+    if sign.as_str() == "<" {
+        left.is_name(name)
     } else {
-        None
+        false
     }
-}
-
-/// Whether the sign is `<`.
-fn is_less(sign: Sign) -> bool
-    ensures { result ≡ is_less sign }
-{
-    matches!(sign, Sign::Less)
 }
 
 impl NormalExpr {

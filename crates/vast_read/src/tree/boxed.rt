@@ -5,7 +5,6 @@ use crate::tree::declaration::NormalDeclaration;
 use crate::tree::expression::NormalExpr;
 use crate::tree::member::{Connection, Event};
 use crate::tree::statement::NormalStatement;
-use vast_literal::Key;
 use vast_names::Word;
 
 /// The use of a macro as a member.
@@ -36,7 +35,7 @@ pub struct Instance {
 #[derive(PartialEq, Drop)]
 pub struct Always {
     /// `always_ff`, `always` or `always_comb`.
-    pub word: Key,
+    pub word: Word,
     /// What it waits for.
     pub events: Children<Event>,
     /// Its block.

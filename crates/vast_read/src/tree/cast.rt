@@ -7,6 +7,7 @@ ghost use Rattle.vast_read.specs.View.{view};
 
 use crate::fault::Fault;
 use crate::tree::expression::NormalExpr;
+use crate::tree::words::key_word;
 use std::alloc::Global;
 use vast_literal::Key;
 
@@ -21,6 +22,7 @@ impl NormalExpr {
             ≡ NormalWordCast key (view operand.value)) }
         ensures err { IfErr result (λ e. e ≡ Memory) }
     {
-        Ok(Box::new(alloc, NormalExpr::WordCast(key, operand))?)
+        let word = key_word(alloc, key)?;
+        Ok(Box::new(alloc, NormalExpr::WordCast(word, operand))?)
     }
 }

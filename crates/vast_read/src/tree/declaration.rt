@@ -8,6 +8,7 @@ ghost use Rattle.vast_read.specs.Internal.DeclarationView.{head_view, with_head}
 use crate::children::Children;
 use crate::fault::Fault;
 use crate::tree::expression::NormalExpr;
+use crate::tree::words::maybe_key_word;
 use std::alloc::Global;
 use vast_literal::Key;
 use vast_names::Word;
@@ -29,14 +30,14 @@ pub struct DeclaredType {
     /// The name of a type that is declared elsewhere.
     pub type_name: Option<Word>,
     /// `signed` or `unsigned`.
-    pub sign: Option<Key>,
+    pub sign: Option<Word>,
 }
 
 /// A declaration: its written parts, in their order.
 #[derive(PartialEq, Drop)]
 pub struct NormalDeclaration {
     /// `wire`, `reg`, `logic`, `integer`, `int` or `genvar`.
-    pub kind: Option<Key>,
+    pub kind: Option<Word>,
     /// Its type and its sign, where it has either: most have none, and take no room for them.
     pub typed: Option<Box<DeclaredType>>,
     /// The packed dimensions, before the name.
@@ -68,10 +69,11 @@ impl DeclaredType {
     {
         let package = Word::maybe(alloc, head.scope)?;
         let type_name = Word::maybe(alloc, head.type_name)?;
+        let sign = maybe_key_word(alloc, head.sign)?;
         let typed = DeclaredType {
             package,
             type_name,
-            sign: head.sign,
+            sign,
         };
         Ok(Some(Box::new(alloc, typed)?))
     }
@@ -111,10 +113,11 @@ impl NormalDeclaration {
             ≡ with_head (head_view head.now) (groups_view groups) name.now (groups_view after)) }
         ensures err { IfErr result (λ e. e ≡ Memory) }
     {
+        let kind = maybe_key_word(alloc, head.kind)?;
         let typed = DeclaredType::maybe(alloc, head)?;
         let name = Word::new(alloc, name)?;
         Ok(NormalDeclaration {
-            kind: head.kind,
+            kind,
             typed,
             groups,
             name,

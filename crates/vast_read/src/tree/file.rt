@@ -14,6 +14,7 @@ use crate::fault::Fault;
 use crate::tree::declaration::NormalDeclaration;
 use crate::tree::expression::NormalExpr;
 use crate::tree::member::NormalMember;
+use crate::tree::words::key_word;
 use std::alloc::Global;
 use vast_literal::Key;
 use vast_names::Word;
@@ -31,7 +32,7 @@ pub struct Parameter {
 #[derive(PartialEq, Drop)]
 pub struct Port {
     /// `input`, `output` or `inout`.
-    pub direction: Key,
+    pub direction: Word,
     /// What is declared, without that word.
     pub declaration: Box<NormalDeclaration>,
 }
@@ -92,6 +93,7 @@ impl Port {
             ≡ port_of direction (declaration_view declared)) }
         ensures err { IfErr result (λ e. e ≡ Memory) }
     {
+        let direction = key_word(alloc, direction)?;
         let declaration = Box::new(alloc, declared)?;
         Ok(Port {
             direction,

@@ -17,6 +17,7 @@ use crate::tree::boxed::{Always, Function, Instance, LoopRange, MacroUse};
 use crate::tree::declaration::NormalDeclaration;
 use crate::tree::expression::NormalExpr;
 use crate::tree::statement::NormalStatement;
+use crate::tree::words::key_word;
 use std::alloc::Global;
 use vast_literal::Key;
 use vast_names::Word;
@@ -25,7 +26,7 @@ use vast_names::Word;
 #[derive(PartialEq, Drop)]
 pub struct Event {
     /// `posedge` or `negedge`.
-    pub edge: Option<Key>,
+    pub edge: Option<Word>,
     /// What has the edge, or the name.
     pub expression: Box<NormalExpr>,
 }
@@ -52,7 +53,7 @@ pub enum NormalMember {
     /// A continuous assignment.
     Assign(Box<NormalExpr>, Box<NormalExpr>),
     /// `parameter` or `localparam`, what it declares, and its value.
-    Parameter(Key, Box<NormalDeclaration>, Box<NormalExpr>),
+    Parameter(Word, Box<NormalDeclaration>, Box<NormalExpr>),
     /// The use of a macro.
     Macro(Box<MacroUse>),
     /// An instantiation.
@@ -69,13 +70,20 @@ pub enum NormalMember {
 
 impl Event {
     /// An edge of an expression.
-    pub(crate) fn at_edge(edge: Key, expression: Box<NormalExpr>) -> Event
-        ensures { event_view result ≡ EdgeEvent edge (view expression.value) }
+    pub(crate) fn at_edge(
+        alloc: Global,
+        edge: Key,
+        expression: Box<NormalExpr>,
+    ) -> Result<Event, Fault>
+        ensures ok { IfOk result (λ e. event_view e
+            ≡ EdgeEvent edge (view expression.value)) }
+        ensures err { IfErr result (λ e. e ≡ Memory) }
     {
-        Event {
+        let edge = key_word(alloc, edge)?;
+        Ok(Event {
             edge: Some(edge),
             expression,
-        }
+        })
     }
 
     /// A change of what has this name.
@@ -220,8 +228,9 @@ impl NormalMember {
             ≡ ParameterPart key (declaration_view declared) (view value.value)) }
         ensures err { IfErr result (λ e. e ≡ Memory) }
     {
+        let word = key_word(alloc, key)?;
         let declared = Box::new(alloc, declared)?;
-        Ok(NormalMember::Parameter(key, declared, value))
+        Ok(NormalMember::Parameter(word, declared, value))
     }
 
     /// The use of a macro.
@@ -281,11 +290,8 @@ impl NormalMember {
             ≡ AlwaysPart key (events_view events) (block_view body)) }
         ensures err { IfErr result (λ e. e ≡ Memory) }
     {
-        let always = Always {
-            word: key,
-            events,
-            body,
-        };
+        let word = key_word(alloc, key)?;
+        let always = Always { word, events, body };
         let always = Box::new(alloc, always)?;
         Ok(NormalMember::Always(always))
     }

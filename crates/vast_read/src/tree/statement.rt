@@ -10,7 +10,7 @@ use crate::children::Children;
 use crate::fault::Fault;
 use crate::tree::expression::NormalExpr;
 use std::alloc::Global;
-use vast_literal::Key;
+use vast_names::Word;
 
 /// A procedural statement (IEEE Std 1800-2017, clauses 10.4 and 12).
 ///
@@ -28,7 +28,7 @@ pub enum NormalStatement {
     /// A conditional: `if` and each `else if`, first to last, then the block of the last `else`.
     Choice(Children<Arm>, Option<Children<NormalStatement>>),
     /// A case: whether it is unique, its word (`case`, `casez` or `casex`), its selector, its arms.
-    Case(bool, Key, Box<NormalExpr>, Children<CaseArm>),
+    Case(bool, Word, Box<NormalExpr>, Children<CaseArm>),
 }
 
 /// An arm of a conditional.

@@ -2,7 +2,6 @@
 
 use std::alloc::Global;
 use std::test::Fail;
-use vast_literal::{Key, Sign};
 use vast_read::{
     Arm, CaseArm, Children, LoopRange, NormalExpr, NormalMember, NormalStatement, Word,
 };
@@ -67,17 +66,17 @@ fn single(alloc: Global, part: NormalExpr) -> Result<Children<NormalExpr>, Fail>
 /// A level that holds the next in a box.
 fn around(alloc: Global, part: Part, next: NormalExpr) -> Result<NormalExpr, Fail> {
     let next = Box::new(alloc, next)?;
-    let (one, other) = (leaf(alloc)?, leaf(alloc)?);
+    let (one, other, word) = (leaf(alloc)?, leaf(alloc)?, word(alloc)?);
     Ok(match part {
-        Part::Left => NormalExpr::Binary(Sign::Plus, next, one),
-        Part::Right => NormalExpr::Binary(Sign::Plus, one, next),
+        Part::Left => NormalExpr::Binary(word, next, one),
+        Part::Right => NormalExpr::Binary(word, one, next),
         Part::Condition => NormalExpr::Ternary(next, one, other),
         Part::Alternate => NormalExpr::Ternary(one, other, next),
         Part::Subject => NormalExpr::Index(next, one),
         Part::Index => NormalExpr::Index(one, next),
         Part::High => NormalExpr::Slice(one, next, other),
         Part::Count => NormalExpr::Replicated(next, Children::new(alloc)),
-        _ => NormalExpr::Unary(Sign::Minus, next),
+        _ => NormalExpr::Unary(word, next),
     })
 }
 
@@ -143,7 +142,7 @@ fn nest(alloc: Global, part: Block, inner: NormalStatement) -> Result<NormalStat
                 label: None,
                 block: Children::new(alloc),
             })?;
-            NormalStatement::Case(false, Key::Case, leaf(alloc)?, arms)
+            NormalStatement::Case(false, word(alloc)?, leaf(alloc)?, arms)
         }
     })
 }
@@ -202,7 +201,7 @@ fn both_sides(rt: HostRuntime) -> Result<(), Fail> {
     let alloc = rt.alloc();
     let left = Box::new(alloc, deep(alloc, Part::Left, Part::Right)?)?;
     let right = Box::new(alloc, deep(alloc, Part::Right, Part::Last)?)?;
-    drop(NormalExpr::Binary(Sign::Plus, left, right));
+    drop(NormalExpr::Binary(word(alloc)?, left, right));
     Ok(())
 }
 

@@ -4,7 +4,6 @@ use crate::check::read_back::read_back;
 use std::alloc::Global;
 use std::test::Fail;
 use vast_designs::passthrough;
-use vast_literal::Key;
 use vast_read::{
     Children, Group, NormalDeclaration, NormalExpr, NormalFile, NormalItem, NormalMember,
     NormalModule, Port, Word, read_normal,
@@ -29,7 +28,7 @@ fn byte_wire(alloc: Global, name: &str) -> Result<Box<NormalDeclaration>, Fail> 
         second: Some(literal(alloc, "0")?),
     })?;
     let declaration = NormalDeclaration {
-        kind: Some(Key::Wire),
+        kind: Some(Word::new(alloc, "wire")?),
         typed: None,
         groups,
         name: Word::new(alloc, name)?,
@@ -41,9 +40,9 @@ fn byte_wire(alloc: Global, name: &str) -> Result<Box<NormalDeclaration>, Fail> 
 /// `module passthrough`, its two ports and its assignment.
 fn passthrough_tree(alloc: Global) -> Result<NormalFile, Fail> {
     let mut ports = Children::new(alloc);
-    for (direction, name) in [(Key::Input, "input_data"), (Key::Output, "output_data")] {
+    for (direction, name) in [("input", "input_data"), ("output", "output_data")] {
         ports.push(Port {
-            direction,
+            direction: Word::new(alloc, direction)?,
             declaration: byte_wire(alloc, name)?,
         })?;
     }

@@ -36,8 +36,8 @@ impl<'t> BuildMembers<'t> for Trees {
         tree
     }
 
-    fn edge(_alloc: Global, edge: Key, expression: Box<NormalExpr>) -> Result<Event, Fault> {
-        Ok(Event::at_edge(edge, expression))
+    fn edge(alloc: Global, edge: Key, expression: Box<NormalExpr>) -> Result<Event, Fault> {
+        Event::at_edge(alloc, edge, expression)
     }
 
     fn change(alloc: Global, name: &'t str) -> Result<Event, Fault> {

@@ -10,6 +10,7 @@ ghost use Rattle.vast_read.specs.View.{view};
 use crate::build::{BuildStatements, StatementForm, StatementFormOf, Trees};
 use crate::children::Children;
 use crate::fault::Fault;
+use crate::tree::words::key_word;
 use crate::tree::{Arm, CaseArm, NormalExpr, NormalStatement};
 use std::alloc::Global;
 
@@ -93,7 +94,10 @@ impl<'t> BuildStatements<'t> for Trees {
             StatementForm::Assign(left, right) => Ok(NormalStatement::Assign(left, right)),
             StatementForm::Choice(arms, last) => Ok(NormalStatement::Choice(arms, last)),
             StatementForm::Case(is_unique, key, selector, cases) => Ok(NormalStatement::Case(
-                is_unique, key, selector, cases,
+                is_unique,
+                key_word(alloc, key)?,
+                selector,
+                cases,
             )),
         }
     }
