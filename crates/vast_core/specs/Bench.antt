@@ -31,7 +31,7 @@ use Rattle.vast_core.specs.declared.node.Assignment.{Assignment}
 use Rattle.vast_core.specs.Nodes.{Nodes, no_nodes, IsOwned, is_expr_root, is_type_root, is_root_of, is_name, is_index, is_slice, is_macro, expr_in, type_in, maybe_expr_in, exprs_in}
 use Rattle.vast_core.specs.Types.{ExprWellFormed, TypeWellFormed}
 use Rattle.vast_core.specs.Records.{Port, ModuleRecord, DefinitionRecord, ArtifactRecord, BlankLineRecord, CommentRecord, InlineRecord, MacroRecord, InstanceRecord, FileEntry, IsFree}
-use Rattle.vast_core.specs.Nests.{NestRecord, FunctionRecord, AlwaysRecord, nest_kind, is_block_kind, is_conditional_kind, is_case_kind, is_loop_kind, StatementEntry, AssignStatement, ContinuousStatement, ConditionalStatement, CasesStatement, BlankStatement, CommentStatement, InlineStatement}
+use Rattle.vast_core.specs.Nests.{NestRecord, FunctionRecord, AlwaysRecord, nest_kind, is_block_kind, is_conditional_kind, is_case_kind, is_loop_kind}
 
 pub record Bench : Type 0 where
   pub file_type : VastFileType
@@ -192,16 +192,6 @@ OwnsCase b c = IsOwned b.nodes.id c.id (is_case (slice_get b.nests c.id.index))
 
 abbrev pub OwnsLoop : Bench → GenerateLoop → Type 0
 OwnsLoop b c = IsOwned b.nodes.id c.id (is_loop (slice_get b.nests c.id.index))
-
--- What a statement names is the file's.
-abbrev pub OwnsEntry : Bench → StatementEntry → Type 0
-OwnsEntry b (AssignStatement s) = OwnsStatement b s
-OwnsEntry b (ContinuousStatement s) = OwnsStatement b s
-OwnsEntry b (ConditionalStatement c) = OwnsConditional b c
-OwnsEntry b (CasesStatement c) = OwnsCase b c
-OwnsEntry b BlankStatement = Unit {0}
-OwnsEntry b (CommentStatement text) = Unit {0}
-OwnsEntry b (InlineStatement text) = Unit {0}
 
 -- The names that a module's ports, wires, variables and functions have taken.
 abbrev pub names_of : Option ModuleRecord → List (List ℕ)

@@ -9,3 +9,4 @@ pub mod Fresh
 pub mod Arrivals
 pub mod Scopes
 pub mod Spots
+pub mod Entries

@@ -3,7 +3,7 @@ use Rattle.std.proofs.Common.{◌≡◌, ℕ, suc, ◌≤◌, ◌<◌, List, [],
 use Rattle.vast_literal.specs.Tokens.{Op, LogicOr, level, is_unary, OpenParen, CloseParen, OpenBracket, CloseBracket, OpenBrace, CloseBrace, Comma, Colon, Question, DoubleColon, PlusColon, Apostrophe, Key, Token, Reserved, Word, SystemWord, MacroWord, Number, Based, Quoted, Operator, Mark}
 use Rattle.vast_literal.specs.NormalExpr.{NormalExpr, Name, Literal, Text, MacroAlone, Unary, Binary, Ternary, Index, Slice, PartSelect, Concat, Pattern, Replicated, Call, MacroCall, Cast, PackageCast, WordCast, NormalExprs, NoNormals, MoreNormals}
 use Rattle.vast_literal.specs.Grammar.{is_cast_word, Spells, up, ternary, binary, unary, index, slice, part_select, name, number, based, quoted, paren, call, system_call, concat, replicated, array_pattern, macro_alone, macro_call, number_cast, name_cast, package_cast, paren_cast, word_cast, SpellsList, none, some, SpellsJoined, last, next, OneExpression}
-use Rattle.vast_literal.specs.Parser.{code}
+use Rattle.vast_literal.specs.Internal.Parser.{code}
 use Rattle.vast_literal.specs.Internal.Parser.{lead, after, key_at, prefix, list_on, arguments, primary, selected_at}
 use Rattle.vast_literal.proofs.Gives.{Gives, now, at_once, same, same2, later, later2, later3, one_result}
 use Rattle.vast_literal.proofs.Moves.{Quiet, quieter, expression_plain, expression_ternary, stop_climb, climb_more, binary_gives, operand_sign, operand_selected, selected_gives, stop_selects, post_index, post_slice, post_part, arguments_none, arguments_some, list_last, list_next, list_gives, primary_name, primary_number, primary_macro, primary_paren, primary_based, primary_quoted, primary_call, primary_system, primary_macro_call, primary_pattern, primary_number_cast, primary_name_cast, primary_package_cast, primary_paren_cast, primary_word_cast, primary_empty, primary_concat, primary_replicated}

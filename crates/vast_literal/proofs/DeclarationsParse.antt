@@ -4,7 +4,7 @@ use Rattle.vast_literal.specs.Tokens.{Punct, OpenParen, CloseParen, OpenBracket,
 use Rattle.vast_literal.specs.NormalExpr.{NormalExpr}
 use Rattle.vast_literal.specs.NormalFile.{Group, One, Range, NormalDeclaration}
 use Rattle.vast_literal.specs.FileGrammar.{OneDeclaration, IsMany, no_items, more_items, is_kind, is_sign, IsGroup, one, range, IsMaybe, absent, present, IsTypeName, no_type, own_type, packaged, IsDeclaration, declares}
-use Rattle.vast_literal.specs.Parser.{code}
+use Rattle.vast_literal.specs.Internal.Parser.{code}
 use Rattle.vast_literal.specs.Internal.Parser.{Parser, lead, after, key_at, word_at, run}
 use Rattle.vast_literal.specs.Internal.StatementParser.{ReadOf}
 use Rattle.vast_literal.specs.Internal.DeclarationParser.{many_on, many, group_on, group_at, is_bracket, Fueled, groups_at, maybe_on, maybe_at, signed_at, sign_on, named_on, unscoped_on, worded_on, typed_on, kind_on, declaration_at}

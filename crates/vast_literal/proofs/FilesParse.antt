@@ -4,7 +4,7 @@ use Rattle.vast_literal.specs.Tokens.{OpenParen, CloseParen, Comma, Semicolon, H
 use Rattle.vast_literal.specs.NormalExpr.{NormalExpr}
 use Rattle.vast_literal.specs.NormalFile.{NormalDeclaration, NormalMembers, NormalParameter, NormalPort, NormalItem, ModulePart, IncludePart, NormalFile}
 use Rattle.vast_literal.specs.FileGrammar.{IsJoined, is_direction, IsParameter, header_parameter, IsPort, port, IsParameters, no_header_parameters, header_parameters, IsPorts, no_ports, ports, IsItem, module_item, include_item, IsFile, file, OneFile}
-use Rattle.vast_literal.specs.Parser.{code}
+use Rattle.vast_literal.specs.Internal.Parser.{code}
 use Rattle.vast_literal.specs.Internal.Parser.{◌>>=◌, lead, after, key_at, word_at, run}
 use Rattle.vast_literal.specs.Internal.StatementParser.{ReadOf}
 use Rattle.vast_literal.specs.Internal.DeclarationParser.{many, declaration_at}

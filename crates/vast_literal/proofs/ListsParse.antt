@@ -5,7 +5,7 @@ use Rattle.vast_literal.specs.Tokens.{Punct, OpenParen, CloseParen, Comma, Semic
 use Rattle.vast_literal.specs.NormalExpr.{NormalExpr}
 use Rattle.vast_literal.specs.NormalFile.{NormalDeclaration, Event, EdgeEvent, NameEvent, NormalConnection}
 use Rattle.vast_literal.specs.FileGrammar.{IsMany, IsJoined, last_item, next_item, IsList, empty, full, absent, present, IsDeclaration, declares, is_local_kind, is_edge, IsEvent, edge, plain, IsInput, input, IsDeclared, declared, IsGiven, given, IsConnection, connected, unconnected}
-use Rattle.vast_literal.specs.Parser.{code}
+use Rattle.vast_literal.specs.Internal.Parser.{code}
 use Rattle.vast_literal.specs.Internal.Parser.{◌>>=◌, Parser, lead, after, key_at, word_at, run}
 use Rattle.vast_literal.specs.Internal.StatementParser.{ReadOf, after_key_on, after_key}
 use Rattle.vast_literal.specs.Internal.DeclarationParser.{joined_on, joined_at, listed_on, listed_at, declaration_at}

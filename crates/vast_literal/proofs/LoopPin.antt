@@ -5,7 +5,7 @@ use Rattle.vast_literal.specs.Keyword.{is_keyword}
 use Rattle.vast_literal.specs.Tokens.{LogicOr, Less, Plus, level, is_unary, OpenParen, CloseParen, Semicolon, Assign, BeginKey, EndKey, GenvarKey, ModuleKey, EndModuleKey, ForKey, key_text, reserved_keys, Token, Reserved, Word, Number, Operator, Mark, word_token}
 use Rattle.vast_literal.specs.Scan.{tokens}
 use Rattle.vast_literal.specs.FileGrammar.{is_member_kind, IsFile}
-use Rattle.vast_literal.specs.Parser.{code}
+use Rattle.vast_literal.specs.Internal.Parser.{code}
 use Rattle.vast_literal.specs.Internal.Parser.{◌>>=◌, lead, after, key_at, prefix, word_at, number_at, enclosed_at, cast, list_on, list_step, arguments_on, arguments, applied_at, word_on, number_on, macro_on, paren_on, brace_next, brace_on, primary, select, selects_on, selects_step, selected_at, operand_on, operand_step, climb_on, climb_step, binary_step, expression_on, expression_step, run}
 use Rattle.vast_literal.specs.Internal.StatementParser.{key_code, after_key_on, after_key}
 use Rattle.vast_literal.specs.Internal.DeclarationParser.{many_on, many}

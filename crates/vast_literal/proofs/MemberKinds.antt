@@ -5,7 +5,7 @@ use Rattle.vast_literal.specs.NormalExpr.{NormalExpr, NormalExprs}
 use Rattle.vast_literal.specs.NormalFile.{NormalStatements, Arms, NormalDeclaration, Event, NormalMember, DeclarationPart, AssignPart, ParameterPart, MacroPart, AlwaysPart, ConditionalPart, NormalMembers, NoParts, MoreParts}
 use Rattle.vast_literal.specs.Grammar.{Spells, SpellsList}
 use Rattle.vast_literal.specs.FileGrammar.{IsList, IsDeclaration, is_member_kind, is_parameter_word, is_clocked, IsEvent, IsSemicolon, with_one, without}
-use Rattle.vast_literal.specs.Parser.{code}
+use Rattle.vast_literal.specs.Internal.Parser.{code}
 use Rattle.vast_literal.specs.Internal.Parser.{lead, after, key_at, arguments, selected_at, run}
 use Rattle.vast_literal.specs.Internal.StatementParser.{ReadOf, key_code, after_key_on, after_key, read_with}
 use Rattle.vast_literal.specs.Internal.DeclarationParser.{listed_at, declaration_at}

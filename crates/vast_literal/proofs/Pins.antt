@@ -6,7 +6,7 @@ use Rattle.vast_literal.specs.Tokens.{Minus, LogicAnd, level, is_unary, OpenPare
 use Rattle.vast_literal.specs.Scan.{tokens}
 use Rattle.vast_literal.specs.NormalExpr.{NormalExpr, Name, Literal, Unary, Binary, Ternary, Concat, Replicated, Cast, NoNormals, MoreNormals}
 use Rattle.vast_literal.specs.Grammar.{Spells}
-use Rattle.vast_literal.specs.Parser.{code}
+use Rattle.vast_literal.specs.Internal.Parser.{code}
 use Rattle.vast_literal.specs.Internal.Parser.{◌>>=◌, lead, after, prefix, word_at, number_at, enclosed_at, cast, list_on, list_step, arguments_on, arguments, applied_at, word_on, number_on, macro_on, paren_on, brace_next, brace_on, primary, select, selects_on, selects_step, selected_at, operand_on, operand_step, climb_on, climb_step, binary_step, expression_on, expression_step, run}
 use Rattle.vast_literal.specs.WorkedTexts.{HasOneTree, HasNoTree}
 use Rattle.vast_literal.proofs.Complete.{read_all, one_tree}

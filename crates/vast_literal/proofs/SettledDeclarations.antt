@@ -4,7 +4,7 @@ use Rattle.vast_literal.specs.Tokens.{Key, OpenBracket, CloseBracket, Colon, Dou
 use Rattle.vast_literal.specs.NormalExpr.{NormalExpr}
 use Rattle.vast_literal.specs.NormalFile.{Group, One, Range}
 use Rattle.vast_literal.specs.FileGrammar.{is_kind, is_sign}
-use Rattle.vast_literal.specs.Parser.{code}
+use Rattle.vast_literal.specs.Internal.Parser.{code}
 use Rattle.vast_literal.specs.Internal.Parser.{◌>>=◌, Parser, lead, after, key_at, word_at, enclosed_at, run}
 use Rattle.vast_literal.specs.Internal.DeclarationParser.{many_on, group_on, group_at, is_bracket, groups_at, maybe_on, maybe_at, signed_at, sign_on, named_on, unscoped_on, worded_on, typed_on, kind_on, declaration_at}
 use Rattle.vast_literal.specs.Internal.Settled.{either, settled}

@@ -16,7 +16,6 @@ pub mod LiteralToken
 pub mod Plain
 pub mod WellFormed
 pub mod Grammar
-pub mod Parser
 pub mod NormalFile
 pub mod FileGrammar
 pub mod NormalTree

@@ -2,7 +2,8 @@
 
 ghost use Rattle.std.specs.Prelude.{◌&&◌, IfSome};
 ghost use Rattle.vast_literal.specs.PlainFile.{is_plain_maybe, is_plain_assignment, is_plain_statement, are_plain_statements};
-ghost use Rattle.vast_core.specs.Bench.{OwnsBlock, OwnsCase, OwnsConditional, OwnsEntry, OwnsExpr, tree_of, maybe_tree_of};
+ghost use Rattle.vast_core.specs.Bench.{OwnsBlock, OwnsCase, OwnsConditional, OwnsExpr, tree_of, maybe_tree_of};
+ghost use Rattle.vast_core.specs.Internal.Entries.{OwnsEntry};
 ghost use Rattle.vast_core.specs.Nests.{statement_entry};
 ghost use Rattle.vast_core.specs.FileTree.{families, statement_in, conditional_statement, case_statement, block_tree};
 ghost use Rattle.vast_core.specs.View.{bench};

@@ -1,6 +1,7 @@
 //! Blocks and statements.
 
-ghost use Rattle.vast_core.specs.Bench.{OwnsBlock, OwnsEntry};
+ghost use Rattle.vast_core.specs.Bench.{OwnsBlock};
+ghost use Rattle.vast_core.specs.Internal.Entries.{OwnsEntry};
 ghost use Rattle.vast_core.specs.Nests.{statement_entry};
 ghost use Rattle.vast_core.specs.FileTree.{families, statement_in, block_tree};
 ghost use Rattle.vast_core.specs.View.{bench};

@@ -6,7 +6,7 @@ use Rattle.vast_literal.specs.declared.token.Key.{Key}
 use Rattle.vast_literal.specs.NormalExpr.{NormalExpr}
 use Rattle.vast_literal.specs.NormalFile.{Group, One, Range}
 use Rattle.vast_literal.specs.FileGrammar.{is_kind, is_sign}
-use Rattle.vast_literal.specs.Parser.{code}
+use Rattle.vast_literal.specs.Internal.Parser.{code}
 use Rattle.vast_literal.specs.Internal.Parser.{◌>>=◌, after, key_at, word_at, enclosed_at}
 use Rattle.vast_literal.specs.Internal.DeclarationParser.{is_bracket, maybe_on, maybe_at}
 use Rattle.vast_literal.specs.Internal.Settled.{either, settled}

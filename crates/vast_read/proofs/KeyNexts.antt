@@ -5,7 +5,7 @@ use Rattle.vast_literal.specs.declared.token.Sign.{Sign as Op}
 use Rattle.vast_literal.specs.declared.token.Sign.TheVariants.{LessEqual}
 use Rattle.vast_literal.specs.declared.token.Mark.TheVariants.{Assign}
 use Rattle.vast_literal.specs.declared.token.Key.{Key}
-use Rattle.vast_literal.specs.Parser.{code}
+use Rattle.vast_literal.specs.Internal.Parser.{code}
 use Rattle.vast_literal.specs.Internal.Parser.{after, key_at}
 use Rattle.vast_literal.specs.Internal.StatementParser.{key_code, after_key_on, after_key, arrow_at}
 use Rattle.vast_literal.specs.Internal.Settled.{either}

@@ -1,9 +1,28 @@
--- Beside `specs/Parser.antt`: what private contracts and proofs say, and no public one.
+-- A parser of expressions, level by level. Each of its functions takes the parser of one unit of fuel less.
 use Rattle.std.specs.Prelude.{ℕ, zero, suc, List, [], ◌∷◌, cond, nat_le, nat_eq, Option, Some, None}
-use Rattle.vast_literal.specs.Tokens.{Op, level, is_unary, Punct, OpenParen, CloseParen, OpenBracket, CloseBracket, OpenBrace, CloseBrace, Comma, Colon, Question, DoubleColon, PlusColon, Apostrophe, Key, Token, Reserved, Word, SystemWord, MacroWord, Number, Based, Quoted, Operator, Mark}
+use Rattle.vast_literal.specs.Tokens.{Op, level, is_unary, Punct, OpenParen, CloseParen, OpenBracket, CloseBracket, OpenBrace, CloseBrace, Comma, Colon, Question, DoubleColon, PlusColon, Apostrophe, Key, Token, Reserved, Word, SystemWord, MacroWord, Number, Based, Quoted, Operator, Mark, Semicolon, Dot, Hash, At, Assign}
 use Rattle.vast_literal.specs.NormalExpr.{NormalExpr, Name, Literal, Text, MacroAlone, Unary, Binary, Ternary, Index, Slice, PartSelect, Concat, Pattern, Replicated, Call, MacroCall, Cast, PackageCast, WordCast, NormalExprs, NoNormals, MoreNormals}
 use Rattle.vast_literal.specs.Grammar.{is_cast_word}
-use Rattle.vast_literal.specs.Parser.{code}
+
+-- Numbers that tell the marks apart.
+unfoldable pub code : Punct → ℕ
+code OpenParen = 0
+code CloseParen = 1
+code OpenBracket = 2
+code CloseBracket = 3
+code OpenBrace = 4
+code CloseBrace = 5
+code Comma = 6
+code Colon = 7
+code Semicolon = 8
+code Dot = 9
+code Hash = 10
+code At = 11
+code Question = 12
+code DoubleColon = 13
+code PlusColon = 14
+code Assign = 15
+code Apostrophe = 16
 
 infixl 10 ◌>>=◌
 unfoldable pub ◌>>=◌ : {A B : Type 0} → Option A → (A → Option B) → Option B

@@ -3,7 +3,7 @@
 ghost use Rattle.std.specs.Prelude.{◌≡◌};
 ghost use Rattle.vast_literal.specs.Internal.Nexts.{is_less_equal, is_plus};
 ghost use Rattle.vast_literal.specs.Internal.StatementParser.{key_code};
-ghost use Rattle.vast_literal.specs.Parser.{code};
+ghost use Rattle.vast_literal.specs.Internal.Parser.{code};
 ghost use Rattle.vast_read.specs.Internal.KeyClasses.{class_test};
 ghost use Rattle.vast_read.specs.Internal.StatementSteps.{is_casez};
 
@@ -88,7 +88,7 @@ pub(crate) fn key_code(key: Key) -> u8
 }
 
 /// A number that tells a mark from the others.
-#[tactic(auto, unfolding(vast_literal::specs::Parser::code))]
+#[tactic(auto, unfolding(vast_literal::specs::Internal::Parser::code))]
 pub(crate) fn mark_code(mark: Mark) -> u8
     ensures { result ≡ code mark }
 {
