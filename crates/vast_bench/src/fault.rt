@@ -38,11 +38,7 @@ impl BenchFault {
     pub(crate) fn status(&self) -> u8 {
         match self {
             BenchFault::Unknown | BenchFault::Number | BenchFault::Words => 2,
-            BenchFault::Foreign
-            | BenchFault::Taken
-            | BenchFault::Write
-            | BenchFault::Refused(_)
-            | BenchFault::Memory(_) => 1,
+            _ => 1,
         }
     }
 }

@@ -13,24 +13,7 @@ impl ExprNode {
     {
         match self {
             ExprNode::Name(_, _) => true,
-            ExprNode::Literal(_, _)
-            | ExprNode::StringText(_)
-            | ExprNode::Unary(_, _)
-            | ExprNode::Binary(_, _, _)
-            | ExprNode::Ternary(_, _, _)
-            | ExprNode::Index(_, _)
-            | ExprNode::Slice(_, _, _)
-            | ExprNode::PartSelect(_, _, _)
-            | ExprNode::Concat(_, _)
-            | ExprNode::Pattern(_)
-            | ExprNode::WidthCast(_, _)
-            | ExprNode::TypeCast(_, _)
-            | ExprNode::PosEdge(_)
-            | ExprNode::NegEdge(_)
-            | ExprNode::Macro(_)
-            | ExprNode::MacroCall(_, _)
-            | ExprNode::Call(_, _)
-            | ExprNode::DataType(_) => false,
+            _ => false,
         }
     }
 
@@ -40,24 +23,7 @@ impl ExprNode {
     {
         match self {
             ExprNode::Index(_, _) => true,
-            ExprNode::Name(_, _)
-            | ExprNode::Literal(_, _)
-            | ExprNode::StringText(_)
-            | ExprNode::Unary(_, _)
-            | ExprNode::Binary(_, _, _)
-            | ExprNode::Ternary(_, _, _)
-            | ExprNode::Slice(_, _, _)
-            | ExprNode::PartSelect(_, _, _)
-            | ExprNode::Concat(_, _)
-            | ExprNode::Pattern(_)
-            | ExprNode::WidthCast(_, _)
-            | ExprNode::TypeCast(_, _)
-            | ExprNode::PosEdge(_)
-            | ExprNode::NegEdge(_)
-            | ExprNode::Macro(_)
-            | ExprNode::MacroCall(_, _)
-            | ExprNode::Call(_, _)
-            | ExprNode::DataType(_) => false,
+            _ => false,
         }
     }
 
@@ -67,24 +33,7 @@ impl ExprNode {
     {
         match self {
             ExprNode::Slice(_, _, _) => true,
-            ExprNode::Name(_, _)
-            | ExprNode::Literal(_, _)
-            | ExprNode::StringText(_)
-            | ExprNode::Unary(_, _)
-            | ExprNode::Binary(_, _, _)
-            | ExprNode::Ternary(_, _, _)
-            | ExprNode::Index(_, _)
-            | ExprNode::PartSelect(_, _, _)
-            | ExprNode::Concat(_, _)
-            | ExprNode::Pattern(_)
-            | ExprNode::WidthCast(_, _)
-            | ExprNode::TypeCast(_, _)
-            | ExprNode::PosEdge(_)
-            | ExprNode::NegEdge(_)
-            | ExprNode::Macro(_)
-            | ExprNode::MacroCall(_, _)
-            | ExprNode::Call(_, _)
-            | ExprNode::DataType(_) => false,
+            _ => false,
         }
     }
 
@@ -94,23 +43,7 @@ impl ExprNode {
     {
         match self {
             ExprNode::Macro(_) | ExprNode::MacroCall(_, _) => true,
-            ExprNode::Name(_, _)
-            | ExprNode::Literal(_, _)
-            | ExprNode::StringText(_)
-            | ExprNode::Unary(_, _)
-            | ExprNode::Binary(_, _, _)
-            | ExprNode::Ternary(_, _, _)
-            | ExprNode::Index(_, _)
-            | ExprNode::Slice(_, _, _)
-            | ExprNode::PartSelect(_, _, _)
-            | ExprNode::Concat(_, _)
-            | ExprNode::Pattern(_)
-            | ExprNode::WidthCast(_, _)
-            | ExprNode::TypeCast(_, _)
-            | ExprNode::PosEdge(_)
-            | ExprNode::NegEdge(_)
-            | ExprNode::Call(_, _)
-            | ExprNode::DataType(_) => false,
+            _ => false,
         }
     }
 
@@ -120,24 +53,7 @@ impl ExprNode {
     {
         match self {
             ExprNode::Literal(_, value) => *value,
-            ExprNode::Name(_, _)
-            | ExprNode::StringText(_)
-            | ExprNode::Unary(_, _)
-            | ExprNode::Binary(_, _, _)
-            | ExprNode::Ternary(_, _, _)
-            | ExprNode::Index(_, _)
-            | ExprNode::Slice(_, _, _)
-            | ExprNode::PartSelect(_, _, _)
-            | ExprNode::Concat(_, _)
-            | ExprNode::Pattern(_)
-            | ExprNode::WidthCast(_, _)
-            | ExprNode::TypeCast(_, _)
-            | ExprNode::PosEdge(_)
-            | ExprNode::NegEdge(_)
-            | ExprNode::Macro(_)
-            | ExprNode::MacroCall(_, _)
-            | ExprNode::Call(_, _)
-            | ExprNode::DataType(_) => None,
+            _ => None,
         }
     }
 }

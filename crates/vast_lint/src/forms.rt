@@ -46,14 +46,7 @@ impl Form {
             Form::Bit => Some(Rule::SelectOfBit),
             Form::Part => Some(Rule::SelectOfPart),
             Form::Concat(_) => Some(Rule::SelectOfConcat),
-            Form::Number(_)
-            | Form::Unsized
-            | Form::Literal
-            | Form::Text(_)
-            | Form::Computed
-            | Form::NoTimes
-            | Form::Pattern
-            | Form::Edge => Some(Rule::SelectOfValue),
+            _ => Some(Rule::SelectOfValue),
         }
     }
 
@@ -70,13 +63,7 @@ impl Form {
             | Form::Other => None,
             Form::Constant => Some(Rule::LeftParameter),
             Form::Concat(false) => Some(Rule::LeftPart),
-            Form::Number(_)
-            | Form::Unsized
-            | Form::Literal
-            | Form::Text(_)
-            | Form::Computed
-            | Form::NoTimes
-            | Form::Edge => Some(Rule::LeftSide),
+            _ => Some(Rule::LeftSide),
         }
     }
 
@@ -85,15 +72,7 @@ impl Form {
         match self {
             Form::Signal(_) | Form::Bit | Form::Constant | Form::Other => None,
             Form::Edge => Some(Rule::EdgeInExpression),
-            Form::Part
-            | Form::Number(_)
-            | Form::Unsized
-            | Form::Literal
-            | Form::Text(_)
-            | Form::Computed
-            | Form::Concat(_)
-            | Form::NoTimes
-            | Form::Pattern => Some(Rule::EdgeOfValue),
+            _ => Some(Rule::EdgeOfValue),
         }
     }
 
@@ -185,7 +164,7 @@ impl TypeForm {
         match self.base {
             Base::Vector => self.packed > 0,
             Base::Scalar => self.packed > 1,
-            Base::Integer | Base::Int | Base::External | Base::Package => false,
+            _ => false,
         }
     }
 

@@ -1,8 +1,9 @@
 -- Two readings that agree, and leave fewer tokens than a bound.
-use Rattle.std.proofs.Common.{◌≡◌, ℕ, suc, ◌+◌, ◌*◌, ◌≤◌, ◌<◌, true, false, cond, nat_eq, List, [], ◌∷◌, length, Option, Some, None, refl, sym, ◌∙◌, subst, arith}
-use Rattle.vast_literal.specs.Tokens.{LessEqual, Punct, Assign, Key, Token, Reserved, Operator, Mark}
+use Rattle.std.proofs.Common.{◌≡◌, ℕ, suc, ◌+◌, ◌*◌, ◌≤◌, ◌<◌, true, false, cond, List, [], ◌∷◌, length, Option, Some, None, refl, sym, ◌∙◌, subst, arith}
+use Rattle.std.specs.Str.{bytes_eq}
+use Rattle.vast_literal.specs.Tokens.{LessEqual, Punct, Assign, Key, Token, Reserved, Operator, Mark, key_text}
 use Rattle.vast_literal.specs.Internal.Parser.{◌>>=◌, Parser, after, key_at, enclosed_at}
-use Rattle.vast_literal.specs.Internal.StatementParser.{key_code, after_key_on, after_key, arrow_at}
+use Rattle.vast_literal.specs.Internal.StatementParser.{after_key_on, after_key, arrow_at}
 use Rattle.vast_literal.proofs.Sound.{after_is}
 use Rattle.vast_literal.proofs.Same.{Within, Same, FewerIn}
 use Rattle.vast_literal.proofs.SettledExpressions.{Both}
@@ -99,7 +100,7 @@ shorter_key k ts = go (key_at ts) (fewer_key ts)
 
     go : (o : Option (Key × List Token)) → FewerIn (length ts) o → Shorter (length ts) (after_key_on k o)
     go None w = tt
-    go (Some v) w = same v (nat_eq (key_code v.0) (key_code k)) w
+    go (Some v) w = same v (bytes_eq (key_text v.0) (key_text k)) w
 
 pub skipped : {B : Type 0} {b c : ℕ} {f g : List Token → Option (B × List Token)} (o : Option (List Token)) → Shorter b o →
     ((us : List Token) → length us < b → Agree c (f us) (g us)) → Agree c (o >>= f) (o >>= g)

@@ -7,7 +7,7 @@ use Rattle.vast_literal.specs.Scan.{tokens}
 use Rattle.vast_literal.specs.FileGrammar.{is_member_kind, IsFile}
 use Rattle.vast_literal.specs.Internal.Parser.{code}
 use Rattle.vast_literal.specs.Internal.Parser.{◌>>=◌, lead, after, key_at, prefix, word_at, number_at, enclosed_at, cast, list_on, list_step, arguments_on, arguments, applied_at, word_on, number_on, macro_on, paren_on, brace_next, brace_on, primary, select, selects_on, selects_step, selected_at, operand_on, operand_step, climb_on, climb_step, binary_step, expression_on, expression_step, run}
-use Rattle.vast_literal.specs.Internal.StatementParser.{key_code, after_key_on, after_key}
+use Rattle.vast_literal.specs.Internal.StatementParser.{after_key_on, after_key}
 use Rattle.vast_literal.specs.Internal.DeclarationParser.{many_on, many}
 use Rattle.vast_literal.specs.Internal.MemberParser.{bound_of, loop_at, keyed_on, member_on, members_on, members}
 use Rattle.vast_literal.specs.Internal.FileParser.{is_more}
@@ -34,7 +34,7 @@ unfolding tokens word_token is_keyword reserved_keys key_text
 loop_text = refl
 
 never : (n : ℕ) → file_at (plenty n) loop_tokens ≡ None
-unfolding ◌>>=◌ lead code after key_at prefix word_at number_at enclosed_at cast list_on list_step arguments_on arguments applied_at word_on number_on macro_on paren_on brace_next brace_on primary select selects_on selects_step selected_at operand_on operand_step climb_on climb_step binary_step expression_on expression_step run level is_unary many many_on is_more item_at module_at parameters_on ports_on members members_on after_key after_key_on key_code member_on keyed_on is_member_kind loop_at bound_of file_at
+unfolding ◌>>=◌ lead code after key_at prefix word_at number_at enclosed_at cast list_on list_step arguments_on arguments applied_at word_on number_on macro_on paren_on brace_next brace_on primary select selects_on selects_step selected_at operand_on operand_step climb_on climb_step binary_step expression_on expression_step run level is_unary many many_on is_more item_at module_at parameters_on ports_on members members_on after_key after_key_on key_text member_on keyed_on is_member_kind loop_at bound_of file_at
 never n = refl
 
 -- A loop goes on while a name is less than something, and not while a disjunction holds.

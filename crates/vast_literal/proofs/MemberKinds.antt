@@ -1,13 +1,13 @@
 -- Each kind of member is parsed, whatever member or closing word follows: all but instances, functions and loops.
 use Rattle.std.proofs.Common.{◌≡◌, ℕ, suc, Bool, false, List, [], ◌∷◌, ◌++◌, Some, None, refl, sym, subst, append_assoc, IsTrue}
-use Rattle.vast_literal.specs.Tokens.{OpenParen, CloseParen, Colon, Semicolon, At, Assign, Key, IfKey, ElseKey, BeginKey, EndKey, AssignKey, WireKey, RegKey, LogicKey, EndModuleKey, ParameterKey, LocalparamKey, AlwaysCombKey, AlwaysFFKey, AlwaysKey, OrKey, Token, Reserved, Word, MacroWord, Mark}
+use Rattle.vast_literal.specs.Tokens.{OpenParen, CloseParen, Colon, Semicolon, At, Assign, Key, IfKey, ElseKey, BeginKey, EndKey, AssignKey, WireKey, RegKey, LogicKey, EndModuleKey, ParameterKey, LocalparamKey, AlwaysCombKey, AlwaysFFKey, AlwaysKey, OrKey, Token, Reserved, Word, MacroWord, Mark, key_text}
 use Rattle.vast_literal.specs.NormalExpr.{NormalExpr, NormalExprs}
 use Rattle.vast_literal.specs.NormalFile.{NormalStatements, Arms, NormalDeclaration, Event, NormalMember, DeclarationPart, AssignPart, ParameterPart, MacroPart, AlwaysPart, ConditionalPart, NormalMembers, NoParts, MoreParts}
 use Rattle.vast_literal.specs.Grammar.{Spells, SpellsList}
 use Rattle.vast_literal.specs.FileGrammar.{IsList, IsDeclaration, is_member_kind, is_parameter_word, is_clocked, IsEvent, IsSemicolon, with_one, without}
 use Rattle.vast_literal.specs.Internal.Parser.{code}
 use Rattle.vast_literal.specs.Internal.Parser.{lead, after, key_at, arguments, selected_at, run}
-use Rattle.vast_literal.specs.Internal.StatementParser.{ReadOf, key_code, after_key_on, after_key, read_with}
+use Rattle.vast_literal.specs.Internal.StatementParser.{ReadOf, after_key_on, after_key, read_with}
 use Rattle.vast_literal.specs.Internal.DeclarationParser.{listed_at, declaration_at}
 use Rattle.vast_literal.specs.Internal.MemberParser.{event_at, semicolon_on, macro_end, macro_member, plain_member, block_with, keyed_on, member_on, members_on, members}
 use Rattle.vast_literal.proofs.Gives.{Soon, by_fuel, now, at_once, same, same2, later2}
@@ -60,7 +60,7 @@ declared_gives n LogicKey d us rest h e = bound _ e (bound _ (after_self Semicol
 declared_gives n _ d us rest h e = absurd (cc h)
 
 pub kind_closer : (k c : Key) → IsTrue (is_member_kind k) → IsCloser c → (us : List Token) → after_key c (Reserved k ∷ us) ≡ None
-unfolding is_member_kind key_code after_key after_key_on key_at
+unfolding is_member_kind key_text after_key after_key_on key_at
 kind_closer WireKey c h at_end us = refl
 kind_closer WireKey c h at_endmodule us = refl
 kind_closer RegKey c h at_end us = refl
@@ -70,7 +70,7 @@ kind_closer LogicKey c h at_endmodule us = refl
 kind_closer _ c h e us = absurd (cc h)
 
 pub kind_next : (k : Key) → IsTrue (is_member_kind k) → (us : List Token) → Next (Reserved k ∷ us)
-unfolding is_member_kind key_code after after_key after_key_on key_at
+unfolding is_member_kind key_text after after_key after_key_on key_at
 kind_next WireKey h us = record { else_word = refl; open_paren = refl; semicolon = refl; colon = refl }
 kind_next RegKey h us = record { else_word = refl; open_paren = refl; semicolon = refl; colon = refl }
 kind_next LogicKey h us = record { else_word = refl; open_paren = refl; semicolon = refl; colon = refl }
@@ -109,7 +109,7 @@ macro_parses m ss s h = record {
 }
 
 pub conditional_parses : (ts : List Token) (a : Arms) → ChoiceParses ts a → MemberParses ts (ConditionalPart a)
-unfolding after after_key after_key_on key_at key_code
+unfolding after after_key after_key_on key_at key_text
 conditional_parses ts a h = subst (λ (v : List Token). MemberParses v (ConditionalPart a)) (sym h.whole) (record {
   next_to = λ rest. record { else_word = refl; open_paren = refl; semicolon = refl; colon = refl };
   open_end = no_closer _;
@@ -121,7 +121,7 @@ conditional_parses ts a h = subst (λ (v : List Token). MemberParses v (Conditio
     no_closer vs c at_endmodule rest = refl
 
 pub done_parses : (k : Key) → IsCloser k → MembersParse k (Reserved k ∷ []) NoParts
-unfolding after after_key after_key_on key_at key_code
+unfolding after after_key after_key_on key_at key_text
 done_parses k at_end = record { next_to = λ rest. record { else_word = refl; open_paren = refl; semicolon = refl; colon = refl }; no_colon = λ rest. refl; parses = λ rest. now (λ n. members_done n k rest) }
 done_parses k at_endmodule = record { next_to = λ rest. record { else_word = refl; open_paren = refl; semicolon = refl; colon = refl }; no_colon = λ rest. refl; parses = λ rest. now (λ n. members_done n k rest) }
 
@@ -138,12 +138,12 @@ continuous_gives n l r ts us rest e d = bound _ e (bound _ (after_self Assign us
 
 -- a reserved word that is neither closer nor `else`
 pub not_closer : (k c : Key) → IsCloser c → Unit {0} → (us : List Token) → after_key c (Reserved AssignKey ∷ us) ≡ None
-unfolding after_key after_key_on key_at key_code
+unfolding after_key after_key_on key_at key_text
 not_closer k c at_end _ us = refl
 not_closer k c at_endmodule _ us = refl
 
 pub continuous_parses : (ls rs : List Token) (l r : NormalExpr) → Spells 13 ls l → Spells 0 rs r → MemberParses (Reserved AssignKey ∷ (ls ++ (Mark Assign ∷ (rs ++ (Mark Semicolon ∷ []))))) (AssignPart l r)
-unfolding lead after after_key after_key_on key_at key_code
+unfolding lead after after_key after_key_on key_at key_text
 continuous_parses ls rs l r el er = record {
   next_to = λ rest. record { else_word = refl; open_paren = refl; semicolon = refl; colon = refl };
   open_end = λ c ic rest. not_closer AssignKey c ic tt _;
@@ -159,7 +159,7 @@ parameter_gives n LocalparamKey d x ts us rest h e f = bound _ e (bound _ (after
 parameter_gives n _ d x ts us rest h e f = absurd (cc h)
 
 pub parameter_closer : (k c : Key) → IsTrue (is_parameter_word k) → IsCloser c → (us : List Token) → after_key c (Reserved k ∷ us) ≡ None
-unfolding is_parameter_word key_code after_key after_key_on key_at
+unfolding is_parameter_word key_text after_key after_key_on key_at
 parameter_closer ParameterKey c h at_end us = refl
 parameter_closer ParameterKey c h at_endmodule us = refl
 parameter_closer LocalparamKey c h at_end us = refl
@@ -167,7 +167,7 @@ parameter_closer LocalparamKey c h at_endmodule us = refl
 parameter_closer _ c h e us = absurd (cc h)
 
 pub parameter_next : (k : Key) → IsTrue (is_parameter_word k) → (us : List Token) → Next (Reserved k ∷ us)
-unfolding is_parameter_word key_code after after_key after_key_on key_at
+unfolding is_parameter_word key_text after after_key after_key_on key_at
 parameter_next ParameterKey h us = record { else_word = refl; open_paren = refl; semicolon = refl; colon = refl }
 parameter_next LocalparamKey h us = record { else_word = refl; open_paren = refl; semicolon = refl; colon = refl }
 parameter_next _ h us = absurd (cc h)
@@ -203,7 +203,7 @@ unfolding member_by key_at member_on keyed_on
 combinational_gives n b ts rest e = bound _ (block_gives n ts (b, rest) e) refl
 
 pub combinational_parses : (bs : List Token) (b : NormalStatements) → StatementsParse bs b → MemberParses (Reserved AlwaysCombKey ∷ (Reserved BeginKey ∷ bs)) (AlwaysPart AlwaysCombKey [] b)
-unfolding after after_key after_key_on key_at key_code
+unfolding after after_key after_key_on key_at key_text
 combinational_parses bs b h = record {
   next_to = λ rest. record { else_word = refl; open_paren = refl; semicolon = refl; colon = refl };
   open_end = no_closer;
@@ -222,7 +222,7 @@ clocked_gives n AlwaysKey e b ts us rest h d f = bound _ (after_self At _) (boun
 clocked_gives n _ e b ts us rest h d f = absurd (cc h)
 
 pub clocked_closer : (k c : Key) → IsTrue (is_clocked k) → IsCloser c → (us : List Token) → after_key c (Reserved k ∷ us) ≡ None
-unfolding is_clocked key_code after_key after_key_on key_at
+unfolding is_clocked key_text after_key after_key_on key_at
 clocked_closer AlwaysFFKey c h at_end us = refl
 clocked_closer AlwaysFFKey c h at_endmodule us = refl
 clocked_closer AlwaysKey c h at_end us = refl
@@ -230,7 +230,7 @@ clocked_closer AlwaysKey c h at_endmodule us = refl
 clocked_closer _ c h e us = absurd (cc h)
 
 pub clocked_next : (k : Key) → IsTrue (is_clocked k) → (us : List Token) → Next (Reserved k ∷ us)
-unfolding is_clocked key_code after after_key after_key_on key_at
+unfolding is_clocked key_text after after_key after_key_on key_at
 clocked_next AlwaysFFKey h us = record { else_word = refl; open_paren = refl; semicolon = refl; colon = refl }
 clocked_next AlwaysKey h us = record { else_word = refl; open_paren = refl; semicolon = refl; colon = refl }
 clocked_next _ h us = absurd (cc h)

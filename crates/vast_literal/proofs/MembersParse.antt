@@ -1,13 +1,13 @@
 -- Each member that the grammar derives is parsed, whatever member or closing word follows.
 use Rattle.std.proofs.Common.{◌≡◌, ℕ, Bool, true, false, cond, List, [], ◌∷◌, ◌++◌, Option, Some, None, refl, sym, subst, ap, append_assoc, codes}
 use Rattle.std.proofs.lemmas.Slice.Eq.{bytes_eq-Decides}
-use Rattle.vast_literal.specs.Tokens.{Less, Plus, OpenParen, CloseParen, Comma, Colon, Semicolon, Hash, Assign, Key, CasezKey, BeginKey, EndKey, GenvarKey, FunctionKey, AutomaticKey, EndFunctionKey, ForKey, Token, Reserved, Word, Number, Operator, Mark}
+use Rattle.vast_literal.specs.Tokens.{Less, Plus, OpenParen, CloseParen, Comma, Colon, Semicolon, Hash, Assign, Key, CasezKey, BeginKey, EndKey, GenvarKey, FunctionKey, AutomaticKey, EndFunctionKey, ForKey, Token, Reserved, Word, Number, Operator, Mark, key_text}
 use Rattle.vast_literal.specs.NormalExpr.{NormalExpr, Name, Binary}
 use Rattle.vast_literal.specs.NormalFile.{NormalStatement, NormalStatements, Done, Then, NormalDeclaration, NormalConnection, NormalMember, DeclarationPart, InstancePart, FunctionPart, LoopPart, NormalMembers}
 use Rattle.vast_literal.specs.Grammar.{Spells}
 use Rattle.vast_literal.specs.FileGrammar.{IsMany, IsList, IsUnique, unique, not_unique, IsDeclaration, is_member_kind, is_local_kind, IsInput, IsDeclared, declared, IsConnection, IsGivenList, no_parameters, with_parameters, IsLabel, no_label, labelled, IsFunctionBody, block_body, casez_body, IsMember, declaration, continuous, parameter, macro, macro_with, instance, combinational, clocked, conditional, function, loop, IsMembers, closed, and_member, OneMember}
 use Rattle.vast_literal.specs.Internal.Parser.{lead, after, key_at, word_at, number_at, run}
-use Rattle.vast_literal.specs.Internal.StatementParser.{key_code, after_key_on, after_key, cases_at, read_with}
+use Rattle.vast_literal.specs.Internal.StatementParser.{after_key_on, after_key, cases_at, read_with}
 use Rattle.vast_literal.specs.Internal.DeclarationParser.{declaration_at}
 use Rattle.vast_literal.specs.Internal.MemberParser.{connections_at, givens_at, instance_at, instance_on, plain_member, bound_of, same_word, step_word, label_on, loop_body, loop_at, inputs_at, local_on, is_local, locals_at, casez_alone, function_body, function_end, function_at, keyed_on, member_on, members}
 use Rattle.vast_literal.proofs.Gives.{Soon, by_fuel, same, same2, same3, one_result}
@@ -52,7 +52,7 @@ loop_gives n i x e l m ts us ls ms rest a b il h d = bound _ (after_self OpenPar
 
 loop_parses : (i : List ℕ) (xs cs ls ms : List Token) (x e : NormalExpr) (l : Option (List ℕ)) (m : NormalMembers) → Spells 0 xs x → Spells 0 cs (Binary Less (Name i) e) → IsLabel ls l → MembersParse EndKey ms m →
     MemberParses (Reserved ForKey ∷ (Mark OpenParen ∷ (Reserved GenvarKey ∷ (Word i ∷ (Mark Assign ∷ (xs ++ (Mark Semicolon ∷ (cs ++ (Mark Semicolon ∷ (Word i ∷ (Mark Assign ∷ (Word i ∷ (Operator Plus ∷ (Number (codes "1") ∷ (Mark CloseParen ∷ (Reserved BeginKey ∷ (ls ++ ms))))))))))))))))) (LoopPart i x e l m)
-unfolding lead after after_key after_key_on key_at key_code
+unfolding lead after after_key after_key_on key_at key_text
 loop_parses i xs cs ls ms x e l m ex ec il h = record {
   next_to = λ rest. record { else_word = refl; open_paren = refl; semicolon = refl; colon = refl };
   open_end = no_closer;
@@ -144,7 +144,7 @@ function_gives n d i ts us vs x e f g = bound _ (key_self AutomaticKey ts) (boun
 
 function_parses : (ds is ls bs : List Token) (d : NormalDeclaration) (i l : List NormalDeclaration) (b : NormalStatements) → IsDeclaration ds d → IsList IsInput (Mark Comma) is i → IsMany (IsDeclared is_local_kind) ls l → FunctionBodyParses bs b →
     MemberParses (Reserved FunctionKey ∷ (Reserved AutomaticKey ∷ (ds ++ (Mark OpenParen ∷ (is ++ (Mark CloseParen ∷ (Mark Semicolon ∷ (ls ++ (bs ++ (Reserved EndFunctionKey ∷ [])))))))))) (FunctionPart d i l b)
-unfolding after after_key after_key_on key_at key_code
+unfolding after after_key after_key_on key_at key_text
 function_parses ds is ls bs d i l b id ii il h = record {
   next_to = λ rest. record { else_word = refl; open_paren = refl; semicolon = refl; colon = refl };
   open_end = λ c ic rest. no_closer _ c ic;

@@ -1,10 +1,10 @@
 -- The parser of files agrees, with fuel enough, with the settled one, which so decides what tokens spell.
 use Rattle.std.proofs.Common.{◌≡◌, ℕ, suc, ◌+◌, ◌*◌, ◌<◌, Bool, true, false, cond, bytes_eq, codes, List, [], ◌∷◌, length, Option, Some, None, refl, sym, ap, arith, ◌∙◌}
-use Rattle.vast_literal.specs.Tokens.{Key, ModuleKey, EndModuleKey, ParameterKey, OpenParen, CloseParen, Comma, Semicolon, Hash, Assign, Token, Reserved, MacroWord, Quoted, Mark}
+use Rattle.vast_literal.specs.Tokens.{Key, ModuleKey, EndModuleKey, ParameterKey, OpenParen, CloseParen, Comma, Semicolon, Hash, Assign, Token, Reserved, MacroWord, Quoted, Mark, key_text}
 use Rattle.vast_literal.specs.NormalFile.{NormalPort, ModulePart, IncludePart, NormalFile}
 use Rattle.vast_literal.specs.FileGrammar.{is_direction, IsFile}
 use Rattle.vast_literal.specs.Internal.Parser.{◌>>=◌, after, key_at, word_at, run}
-use Rattle.vast_literal.specs.Internal.StatementParser.{ReadOf, key_code, after_key_on, after_key}
+use Rattle.vast_literal.specs.Internal.StatementParser.{ReadOf, after_key_on, after_key}
 use Rattle.vast_literal.specs.Internal.DeclarationParser.{many_on, declaration_at}
 use Rattle.vast_literal.specs.Internal.FileParser.{path_of, include_on, is_more}
 use Rattle.vast_literal.proofs.FileParser.{parameter_at, port_on, port_at, header_parameters_at, header_ports_at, parameters_on, ports_on, module_at, item_at, file_at}
@@ -103,7 +103,7 @@ include_at_fewer (Mark _ ∷ us) = tt
 include_at_fewer (_ ∷ us) = tt
 
 item_is : (n : ℕ) (ts : List Token) → item_at n ts ≡ either (after_key ModuleKey ts) (λ us. module_at n us) (include_at ts)
-unfolding item_at after_key after_key_on key_at key_code include_at either
+unfolding item_at after_key after_key_on key_at key_text include_at either
 item_is n [] = refl
 item_is n (Reserved ModuleKey ∷ us) = refl
 item_is n (Reserved _ ∷ us) = refl

@@ -1,11 +1,11 @@
 -- The parsers of what a module's members hold agree, with fuel enough, with the settled ones.
 use Rattle.std.proofs.Common.{◌≡◌, ℕ, suc, ◌+◌, ◌*◌, ◌<◌, Bool, true, false, cond, List, [], ◌∷◌, length, Option, Some, None, refl, arith}
-use Rattle.vast_literal.specs.Tokens.{OpenParen, CloseParen, Comma, Semicolon, Dot, Hash, Key, CasezKey, UniqueKey, BeginKey, AutomaticKey, EndFunctionKey, InputKey, Token, Reserved, Word, MacroWord, Mark}
+use Rattle.vast_literal.specs.Tokens.{OpenParen, CloseParen, Comma, Semicolon, Dot, Hash, Key, CasezKey, UniqueKey, BeginKey, AutomaticKey, EndFunctionKey, InputKey, Token, Reserved, Word, MacroWord, Mark, key_text}
 use Rattle.vast_literal.specs.NormalExpr.{NormalExprs}
 use Rattle.vast_literal.specs.NormalFile.{Done, Then, NormalDeclaration, Event, EdgeEvent, NameEvent, NormalConnection, MacroPart, InstancePart, FunctionPart}
 use Rattle.vast_literal.specs.FileGrammar.{is_edge}
 use Rattle.vast_literal.specs.Internal.Parser.{◌>>=◌, Parser, after, key_at, word_at, enclosed_at, arguments, run}
-use Rattle.vast_literal.specs.Internal.StatementParser.{key_code, after_key_on, after_key, cases_at, read_with}
+use Rattle.vast_literal.specs.Internal.StatementParser.{after_key_on, after_key, cases_at, read_with}
 use Rattle.vast_literal.specs.Internal.MemberParser.{event_on, event_at, connection_on, connection_at, given_at, connections_at, givens_at, instance_at, instance_on, semicolon_on, macro_end, macro_member, plain_member, input_at, inputs_at, is_local, local_at, locals_at, casez_alone, function_body, function_end, function_at}
 use Rattle.vast_literal.specs.Internal.Settled.{either, settled, settled_reader}
 use Rattle.vast_literal.specs.Internal.Nexts.{key_with}
@@ -143,7 +143,7 @@ lone_agree n u ts h = chain (cases_agree n (read_with n) settled_reader (reader_
 
 body_is : (n : ℕ) (ts : List Token) → function_body n (key_at ts) ≡ either (after_key BeginKey ts) (λ us. (read_with n).statements us)
     (either (after_key UniqueKey ts) (λ us. after_key CasezKey us >>= λ vs. casez_alone (cases_at (read_with n) true CasezKey true vs)) (after_key CasezKey ts >>= λ us. casez_alone (cases_at (read_with n) false CasezKey true us)))
-unfolding function_body key_at after_key after_key_on key_code either ◌>>=◌
+unfolding function_body key_at after_key after_key_on key_text either ◌>>=◌
 body_is n [] = refl
 body_is n (Reserved BeginKey ∷ us) = refl
 body_is n (Reserved UniqueKey ∷ us) = refl

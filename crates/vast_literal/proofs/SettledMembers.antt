@@ -1,11 +1,11 @@
 -- The parser of a module's members agrees, with fuel enough, with the settled one.
 use Rattle.std.proofs.Common.{◌≡◌, ℕ, zero, suc, ◌+◌, ◌*◌, ◌<◌, Bool, true, false, cond, bytes_eq, codes, List, [], ◌∷◌, length, Option, Some, None, refl, arith}
-use Rattle.vast_literal.specs.Tokens.{Op, Plus, OpenParen, CloseParen, Colon, Semicolon, At, Assign, Key, IfKey, BeginKey, EndKey, AssignKey, GenvarKey, AlwaysCombKey, OrKey, FunctionKey, ForKey, Token, Reserved, Operator, Mark}
+use Rattle.vast_literal.specs.Tokens.{Op, Plus, OpenParen, CloseParen, Colon, Semicolon, At, Assign, Key, IfKey, BeginKey, EndKey, AssignKey, GenvarKey, AlwaysCombKey, OrKey, FunctionKey, ForKey, Token, Reserved, Operator, Mark, key_text}
 use Rattle.vast_literal.specs.NormalExpr.{NormalExpr}
 use Rattle.vast_literal.specs.NormalFile.{DeclarationPart, AssignPart, ParameterPart, AlwaysPart, ConditionalPart, LoopPart, NormalMembers, NoParts, MoreParts}
 use Rattle.vast_literal.specs.FileGrammar.{is_member_kind, is_parameter_word, is_clocked}
 use Rattle.vast_literal.specs.Internal.Parser.{◌>>=◌, after, key_at, word_at, number_at, enclosed_at, selected_at, run}
-use Rattle.vast_literal.specs.Internal.StatementParser.{ReadOf, key_code, after_key_on, after_key, block_at, read_with}
+use Rattle.vast_literal.specs.Internal.StatementParser.{ReadOf, after_key_on, after_key, block_at, read_with}
 use Rattle.vast_literal.specs.Internal.DeclarationParser.{listed_at, declaration_at}
 use Rattle.vast_literal.specs.Internal.MemberParser.{event_at, plain_member, block_with, bound_of, same_word, step_word, label_on, loop_body, loop_at, function_at, keyed_on, member_on, members_on, members}
 use Rattle.vast_literal.specs.Internal.Settled.{either, settled, settled_reader}
@@ -116,7 +116,7 @@ member_is : (n : ℕ) (rest : Key → List Token → ReadOf NormalMembers) (ts :
     (either (key_with is_parameter_word ts) (λ k. declaration_at run n k.1 >>= λ d. after Assign d.1 >>= λ vs. enclosed_at (run n) Semicolon vs >>= λ x. Some (ParameterPart k.0 d.0 x.0, x.1))
     (either (key_with is_clocked ts) (λ k. after At k.1 >>= λ a. after OpenParen a >>= λ b. listed_at n CloseParen (after_key OrKey) (λ j vs. event_at (run j) vs) b >>= λ e. block_with n e.1 >>= λ s. Some (AlwaysPart k.0 e.0 s.0, s.1))
     (cond (begins_with is_member_kind ts) (declaration_at run n ts >>= λ d. after Semicolon d.1 >>= λ vs. Some (DeclarationPart d.0, vs)) (plain_member n ts))))))))
-unfolding member_on keyed_on key_at after_key after_key_on key_code key_with begins_with is_member_kind is_parameter_word is_clocked plain_member either
+unfolding member_on keyed_on key_at after_key after_key_on key_text key_with begins_with is_member_kind is_parameter_word is_clocked plain_member either
 member_is n rest [] = refl
 member_is n rest (Reserved AssignKey ∷ us) = refl
 member_is n rest (Reserved _ ∷ us) = refl

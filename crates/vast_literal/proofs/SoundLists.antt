@@ -1,10 +1,11 @@
 -- What a sound parser of lists answers: a front of the tokens and the items that it spells.
-use Rattle.std.proofs.Common.{◌≡◌, ℕ, zero, suc, Bool, true, false, cond, List, [], ◌∷◌, ◌++◌, get_or, Option, Some, None, refl, sym, subst, ap, append_assoc, eqb-true}
+use Rattle.std.proofs.Common.{◌≡◌, ℕ, zero, suc, Bool, true, false, cond, List, [], ◌∷◌, ◌++◌, Option, Some, None, refl, sym, subst, ap, ◌∙◌, append_assoc}
 use Rattle.std.proofs.lemmas.Option.{same_Some, cond_some}
-use Rattle.vast_literal.specs.Tokens.{Punct, Key, IfKey, reserved_keys, Token, Reserved, Mark}
+use Rattle.std.proofs.lemmas.Slice.Eq.{bytes_eq-Decides}
+use Rattle.vast_literal.specs.Tokens.{Punct, Key, IfKey, reserved_keys, key_written, Token, Reserved, Mark, key_text}
 use Rattle.vast_literal.specs.FileGrammar.{IsMany, no_items, more_items, IsJoined, last_item, next_item, IsList, empty, full}
 use Rattle.vast_literal.specs.Internal.Parser.{after, key_at}
-use Rattle.vast_literal.specs.Internal.StatementParser.{ReadOf, key_code, after_key_on, after_key}
+use Rattle.vast_literal.specs.Internal.StatementParser.{ReadOf, after_key_on, after_key}
 use Rattle.vast_literal.specs.Internal.DeclarationParser.{many_on, many, joined_on, joined_at, listed_on, listed_at}
 use Rattle.vast_literal.proofs.Sound.{bind_some, after_is}
 
@@ -37,8 +38,8 @@ either_way false x y z e f g = g refl e
 
 -- keywords
 
-key_back : (k : Key) → get_or reserved_keys (key_code k) IfKey ≡ k
-unfolding key_code reserved_keys
+key_back : (k : Key) → key_written reserved_keys (key_text k) ≡ Some k
+unfolding key_text reserved_keys
 key_back IfKey = refl
 key_back _ = refl
 
@@ -48,14 +49,15 @@ key_is [] v e = absurd (cc)
 key_is (Reserved k ∷ us) v e = ap (λ (w : Key × List Token). Reserved w.0 ∷ w.1) (same_Some _ _ e)
 key_is (_ ∷ us) v e = absurd (cc)
 
-same_key : (j k : Key) → key_code j ≡ key_code k → j ≡ k
-same_key j k e = let a = key_back j in let b = key_back k in let c = ap (λ n. get_or reserved_keys n IfKey) e in cc (a, b, c)
+-- a keyword is told from the others by its text
+pub same_key : (j k : Key) → key_text j ≡ key_text k → j ≡ k
+same_key j k e = same_Some _ _ (sym (key_back j) ∙ ap (λ w. key_written reserved_keys w) e ∙ key_back k)
 
 after_key_on_is : (k : Key) (ts : List Token) (o : Option (Key × List Token)) (us : List Token) → key_at ts ≡ o → after_key_on k o ≡ Some us → ts ≡ (Reserved k ∷ us)
 unfolding after_key_on
 after_key_on_is k ts None us h e = absurd (cc)
 after_key_on_is k ts (Some v) us h e = let c = cond_some _ _ _ e in let d = key_is ts v h in
-    let same : v.0 ≡ k = same_key v.0 k (eqb-true _ _ c.0) in let rest = c.1 in cc (d, same, rest)
+    let same : v.0 ≡ k = same_key v.0 k ((bytes_eq-Decides (key_text v.0) (key_text k)).0 c.0) in let rest = c.1 in cc (d, same, rest)
 
 pub after_key_is : (k : Key) (ts us : List Token) → after_key k ts ≡ Some us → ts ≡ (Reserved k ∷ us)
 unfolding after_key

@@ -1,20 +1,21 @@
 -- Each statement that the grammar derives is parsed, whatever follows that is no `else`.
-use Rattle.std.proofs.Common.{◌≡◌, Bool, true, false, cond, List, [], ◌∷◌, ◌++◌, Option, Some, None, refl, sym, subst, ap, arith, append_assoc, eq-eqb}
+use Rattle.std.proofs.Common.{◌≡◌, Bool, true, false, cond, List, [], ◌∷◌, ◌++◌, Option, Some, None, refl, sym, subst, ap, arith, append_assoc}
+use Rattle.std.proofs.lemmas.Slice.Eq.{bytes_eq-Decides}
 use Rattle.std.proofs.Common.{IsTrue}
-use Rattle.vast_literal.specs.Tokens.{level, OpenParen, CloseParen, Colon, Semicolon, Assign, Key, IfKey, ElseKey, EndCaseKey, DefaultKey, BeginKey, EndKey, AssignKey, LogicKey, IntegerKey, IntKey, SignedKey, UnsignedKey, Token, Reserved, Mark}
+use Rattle.vast_literal.specs.Tokens.{level, OpenParen, CloseParen, Colon, Semicolon, Assign, Key, IfKey, ElseKey, EndCaseKey, DefaultKey, BeginKey, EndKey, AssignKey, LogicKey, IntegerKey, IntKey, SignedKey, UnsignedKey, Token, Reserved, Mark, key_text}
 use Rattle.vast_literal.specs.NormalExpr.{NormalExpr}
 use Rattle.vast_literal.specs.NormalFile.{NormalStatement, AssignStatement, ChoiceStatement, CaseStatement, NormalStatements, Done, Then, Arms, Only, Otherwise, Or, Labels, NoLabels, Label}
 use Rattle.vast_literal.specs.Grammar.{is_cast_word, Spells}
 use Rattle.vast_literal.specs.FileGrammar.{OneStatement, arrow, assignment, IsUnique, unique, not_unique, IsCase, case_word, casez_word, casex_word, IsStatement, simple, assigned, choice, cases, IsCases, cased, IsAssign, assigns, IsStatements, done, then, IsChoice, only, otherwise, or, IsLabels, no_labels, label, default, IsBody, body, bare}
 use Rattle.vast_literal.specs.Internal.Parser.{◌>>=◌, Parser, lead, key_at, enclosed_at, selected_at}
-use Rattle.vast_literal.specs.Internal.StatementParser.{Reader, key_code, after_key_on, after_key, arrow_at, simple_at, block_at, cases_at, case_of, statement_on, statement_step, statements_on, statements_step, tail_on, choice_on, choice_step, body_on, arm_at, labels_on, labels_step}
+use Rattle.vast_literal.specs.Internal.StatementParser.{Reader, after_key_on, after_key, arrow_at, simple_at, block_at, cases_at, case_of, statement_on, statement_step, statements_on, statements_step, tail_on, choice_on, choice_step, body_on, arm_at, labels_on, labels_step}
 use Rattle.vast_literal.proofs.Gives.{Gives, ReaderGives, now, same, same2, later, later2, later3, one_result, lifted}
 use Rattle.vast_literal.proofs.Moves.{Quiet, bound, after_self, enclosed_gives, stop_selects}
 use Rattle.vast_literal.proofs.Complete.{CastOnly, parses}
 
 pub key_self : (k : Key) (us : List Token) → after_key k (Reserved k ∷ us) ≡ Some us
 unfolding after_key after_key_on key_at
-key_self k us = subst (λ b. cond b (Some us) None ≡ Some us) (sym (eq-eqb (key_code k) (key_code k) refl)) refl
+key_self k us = subst (λ b. cond b (Some us) None ≡ Some us) (sym ((bytes_eq-Decides (key_text k) (key_text k)).1 refl)) refl
 
 -- the words that no expression begins with
 pub data IsPlainWord : Key → Type 0 where
@@ -23,7 +24,7 @@ pub data IsPlainWord : Key → Type 0 where
   at_else : IsPlainWord ElseKey
 
 cast_no_key : (k c : Key) (us : List Token) → IsPlainWord k → IsTrue (is_cast_word c) → after_key_on k (Some (c, us)) ≡ None
-unfolding after_key_on key_code is_cast_word
+unfolding after_key_on key_text is_cast_word
 cast_no_key k LogicKey us at_begin h = refl
 cast_no_key k LogicKey us at_end h = refl
 cast_no_key k LogicKey us at_else h = refl
@@ -135,7 +136,7 @@ unfolding statement_step statement_on key_at
 assigned_step q l r ts us rest e d = bound _ e (bound _ (after_self Assign us) (bound _ (enclosed_gives q.low Semicolon us rest r d) refl))
 
 assigned_parses : (ls rs : List Token) (l r : NormalExpr) → Spells 13 ls l → Spells 0 rs r → StatementParses (Reserved AssignKey ∷ (ls ++ (Mark Assign ∷ (rs ++ (Mark Semicolon ∷ []))))) (AssignStatement l r)
-unfolding lead after_key after_key_on key_at key_code
+unfolding lead after_key after_key_on key_at key_text
 assigned_parses ls rs l r el er = record {
   begins = record { end_word = λ rest. refl; else_word = λ rest. refl };
   parses = λ rest _. simp append_assoc (later2 (λ q e d. assigned_step q l r _ (rs ++ (Mark Semicolon ∷ rest)) rest e d)
@@ -148,7 +149,7 @@ unfolding statement_step statement_on key_at
 choice_statement q a ts rest e = bound _ e refl
 
 choice_parses : (ts : List Token) (a : Arms) → ChoiceParses ts a → StatementParses ts (ChoiceStatement a)
-unfolding after_key after_key_on key_at key_code
+unfolding after_key after_key_on key_at key_text
 choice_parses ts a h = subst (λ (v : List Token). StatementParses v (ChoiceStatement a)) (sym h.whole) (record {
   begins = record { end_word = λ rest. refl; else_word = λ rest. refl };
   parses = λ rest c. later (λ q e. choice_statement q a _ rest e) (h.parses rest c);
@@ -169,7 +170,7 @@ cases_step q us ts u z k x not_unique casez_word e = e
 cases_step q us ts u z k x not_unique casex_word e = e
 
 cases_begin : (us ts : List Token) (u z : Bool) (k : Key) → IsUnique us u → IsCase k z → Begins (us ++ (Reserved k ∷ ts))
-unfolding after_key after_key_on key_at key_code
+unfolding after_key after_key_on key_at key_text
 cases_begin us ts u z k unique c = record { end_word = λ rest. refl; else_word = λ rest. refl }
 cases_begin us ts u z k not_unique case_word = record { end_word = λ rest. refl; else_word = λ rest. refl }
 cases_begin us ts u z k not_unique casez_word = record { end_word = λ rest. refl; else_word = λ rest. refl }
@@ -214,7 +215,7 @@ unfolding statements_step statements_on
 then_step q s ss ts us rest h e d = subst (λ o. statements_on q ts o ≡ Some (Then s ss, rest)) (sym h) (bound _ e (bound _ d refl))
 
 done_parses : StatementsParse (Reserved EndKey ∷ []) Done
-unfolding after_key after_key_on key_at key_code
+unfolding after_key after_key_on key_at key_text
 done_parses = record { else_word = λ rest. refl; parses = λ rest. now (λ q. done_step q rest) }
 
 then_parses : (ts us : List Token) (s : NormalStatement) (ss : NormalStatements) → StatementParses ts s → StatementsParse us ss → StatementsParse (ts ++ us) (Then s ss)

@@ -35,9 +35,7 @@ pub(crate) fn begin_type(
             TypeNode::Package(package) => {
                 return Ok(is_plain_name(&package.package_name) && is_plain_name(&package.name));
             }
-            TypeNode::Scalar(_) => return Ok(true),
-            TypeNode::Integer(_) => return Ok(true),
-            TypeNode::Int(_) => return Ok(true),
+            _ => return Ok(true),
         }
     }
 }

@@ -114,11 +114,6 @@ fn assignment_of(statement: &Statement) -> Option<VastStatement>
 {
     match statement {
         Statement::Assignment(s) => Some(*s),
-        Statement::Continuous(_) => None,
-        Statement::Conditional(_) => None,
-        Statement::Case(_) => None,
-        Statement::BlankLine => None,
-        Statement::Comment(_) => None,
-        Statement::Inline(_) => None,
+        _ => None,
     }
 }

@@ -37,12 +37,7 @@ fn result_kind(ast: &Ast, t: VastDataType) -> DataKind
     match ast.data_type(t) {
         TypeNode::Integer(_) => DataKind::Integer,
         TypeNode::Int(_) => DataKind::Int,
-        TypeNode::Scalar(_) => port_kind(ast, dialect_kind(ast), t),
-        TypeNode::Vector(_, _, _) => port_kind(ast, dialect_kind(ast), t),
-        TypeNode::External(_) => port_kind(ast, dialect_kind(ast), t),
-        TypeNode::Package(_) => port_kind(ast, dialect_kind(ast), t),
-        TypeNode::Packed(_, _) => port_kind(ast, dialect_kind(ast), t),
-        TypeNode::Unpacked(_, _) => port_kind(ast, dialect_kind(ast), t),
+        _ => port_kind(ast, dialect_kind(ast), t),
     }
 }
 
@@ -110,12 +105,7 @@ fn is_one_casez(ast: &Ast, b: VastStatementBlock) -> bool
             CaseKind::CaseZ => true,
             CaseKind::Case | CaseKind::CaseX => false,
         },
-        Statement::Assignment(_) => false,
-        Statement::Continuous(_) => false,
-        Statement::Conditional(_) => false,
-        Statement::BlankLine => false,
-        Statement::Comment(_) => false,
-        Statement::Inline(_) => false,
+        _ => false,
     }
 }
 

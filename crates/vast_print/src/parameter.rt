@@ -29,10 +29,7 @@ fn base_kind(ast: &Ast, t: VastDataType) -> DataKind
         TypeNode::Vector(_, _, _) => DataKind::Logic,
         TypeNode::Integer(_) => DataKind::Integer,
         TypeNode::Int(_) => DataKind::Int,
-        TypeNode::External(_) => DataKind::User,
-        TypeNode::Package(_) => DataKind::User,
-        TypeNode::Packed(_, _) => DataKind::User,
-        TypeNode::Unpacked(_, _) => DataKind::User,
+        _ => DataKind::User,
     }
 }
 

@@ -71,12 +71,7 @@ fn has_packed(ast: &Ast, t: VastDataType) -> bool
                 inner = *element;
             }
             TypeNode::Unpacked(element, _) => inner = *element,
-            TypeNode::Scalar(_) => return false,
-            TypeNode::Vector(_, _, _) => return false,
-            TypeNode::Integer(_) => return false,
-            TypeNode::Int(_) => return false,
-            TypeNode::External(_) => return false,
-            TypeNode::Package(_) => return false,
+            _ => return false,
         }
     }
 }
@@ -96,12 +91,7 @@ fn print_packed(ast: &Ast, t: VastDataType, out: &mut Writer) -> Result<(), Prin
                 inner = *element;
             }
             TypeNode::Unpacked(element, _) => inner = *element,
-            TypeNode::Scalar(_) => return Ok(()),
-            TypeNode::Vector(_, _, _) => return Ok(()),
-            TypeNode::Integer(_) => return Ok(()),
-            TypeNode::Int(_) => return Ok(()),
-            TypeNode::External(_) => return Ok(()),
-            TypeNode::Package(_) => return Ok(()),
+            _ => return Ok(()),
         }
     }
 }
@@ -256,12 +246,7 @@ pub(crate) fn print_dimensions(
                 inner = *element;
             }
             TypeNode::Packed(element, _) => inner = *element,
-            TypeNode::Scalar(_) => return Ok(()),
-            TypeNode::Vector(_, _, _) => return Ok(()),
-            TypeNode::Integer(_) => return Ok(()),
-            TypeNode::Int(_) => return Ok(()),
-            TypeNode::External(_) => return Ok(()),
-            TypeNode::Package(_) => return Ok(()),
+            _ => return Ok(()),
         }
     }
 }

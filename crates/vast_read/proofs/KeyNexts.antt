@@ -1,18 +1,21 @@
 -- Which keyword or sign stands next.
-use Rattle.std.proofs.Common.{◌≡◌, true, false, cond, nat_eq, Bool, List, [], ◌∷◌, Some, None, refl, arith, ◌≢◌, eq-eqb}
-use Rattle.vast_literal.specs.Tokens.{Token, Reserved, Operator, Mark}
+use Rattle.std.proofs.Common.{◌≡◌, true, false, cond, Bool, List, [], ◌∷◌, Some, None, refl, ap, ◌≢◌}
+use Rattle.std.specs.Str.{bytes_eq}
+use Rattle.vast_literal.specs.Tokens.{key_text, Token, Reserved, Operator, Mark}
 use Rattle.vast_literal.specs.declared.token.Sign.{Sign as Op}
 use Rattle.vast_literal.specs.declared.token.Sign.TheVariants.{LessEqual}
 use Rattle.vast_literal.specs.declared.token.Mark.TheVariants.{Assign}
 use Rattle.vast_literal.specs.declared.token.Key.{Key}
 use Rattle.vast_literal.specs.Internal.Parser.{code}
 use Rattle.vast_literal.specs.Internal.Parser.{after, key_at}
-use Rattle.vast_literal.specs.Internal.StatementParser.{key_code, after_key_on, after_key, arrow_at}
+use Rattle.vast_literal.specs.Internal.StatementParser.{after_key_on, after_key, arrow_at}
 use Rattle.vast_literal.specs.Internal.Settled.{either}
 use Rattle.vast_read.specs.Internal.Steps.{sign_in}
 use Rattle.vast_literal.specs.Internal.Nexts.{key_in, key_with, sign_with, is_less_equal}
 use Rattle.vast_read.proofs.Nexts.{sign_is}
-use Rattle.std.proofs.lemmas.Bool.Decides.{nat_tests}
+use Rattle.vast_literal.proofs.SoundLists.{same_key}
+use Rattle.std.proofs.lemmas.Bool.{false_from_ne_true}
+use Rattle.std.proofs.lemmas.Slice.Eq.{bytes_eq-Decides}
 
 key_is : (t : Token) (k : Key) → key_in t ≡ Some k → t ≡ Reserved k
 unfolding key_in
@@ -35,15 +38,15 @@ after_key_other k ts us t e d = rw e (go t d)
     go (Mark p) d = refl
     go _ d = refl
 
-pub after_key_next : (k v : Key) (ts us : List Token) (t : Token) → ts ≡ (t ∷ us) → key_in t ≡ Some v → after_key k ts ≡ cond (nat_eq (key_code v) (key_code k)) (Some us) None
+pub after_key_next : (k v : Key) (ts us : List Token) (t : Token) → ts ≡ (t ∷ us) → key_in t ≡ Some v → after_key k ts ≡ cond (bytes_eq (key_text v) (key_text k)) (Some us) None
 unfolding after_key after_key_on key_at
 after_key_next k v ts us t e d = rw (e, key_is t v d)
 
-pub after_key_same : (k v : Key) (ts us : List Token) (t : Token) → ts ≡ (t ∷ us) → key_in t ≡ Some v → key_code v ≡ key_code k → after_key k ts ≡ Some us
-after_key_same k v ts us t e d n = rw (after_key_next k v ts us t e d) (rw (eq-eqb (key_code v) (key_code k) n))
+pub after_key_same : (k v : Key) (ts us : List Token) (t : Token) → ts ≡ (t ∷ us) → key_in t ≡ Some v → v ≡ k → after_key k ts ≡ Some us
+after_key_same k v ts us t e d n = rw (after_key_next k v ts us t e d) (rw ((bytes_eq-Decides (key_text v) (key_text k)).1 (ap key_text n)))
 
-pub after_key_differs : (k v : Key) (ts us : List Token) (t : Token) → ts ≡ (t ∷ us) → key_in t ≡ Some v → (key_code v ≢ key_code k) → after_key k ts ≡ None
-after_key_differs k v ts us t e d n = rw (after_key_next k v ts us t e d) (let f : nat_eq (key_code v) (key_code k) ≡ false = grind (arith, nat_tests) in rw f)
+pub after_key_differs : (k v : Key) (ts us : List Token) (t : Token) → ts ≡ (t ∷ us) → key_in t ≡ Some v → (v ≢ k) → after_key k ts ≡ None
+after_key_differs k v ts us t e d n = rw (after_key_next k v ts us t e d) (rw (false_from_ne_true (bytes_eq (key_text v) (key_text k)) (λ e. n (same_key v k ((bytes_eq-Decides (key_text v) (key_text k)).0 e)))))
 
 pub ruleset keys = (after_key_nothing, after_key_other, after_key_same, after_key_differs)
 

@@ -1,12 +1,12 @@
 -- What is read from each step of a list of members on.
 use Rattle.std.proofs.Common.{◌≡◌, List, [], ◌∷◌, Some, None, refl, sym, ap, ◌∙◌}
-use Rattle.vast_literal.specs.Tokens.{Token, Reserved}
+use Rattle.vast_literal.specs.Tokens.{Token, Reserved, key_text}
 use Rattle.vast_literal.specs.declared.token.Key.{Key}
 use Rattle.vast_literal.specs.declared.token.Key.TheVariants.{End as EndKey, Begin as BeginKey, Assign as AssignKey, AlwaysComb as AlwaysCombKey, If as IfKey, For as ForKey, Function as FunctionKey}
 use Rattle.vast_literal.specs.NormalExpr.{NormalExpr}
 use Rattle.vast_literal.specs.NormalFile.{NormalMember, NormalMembers, NoParts, MoreParts}
 use Rattle.vast_literal.specs.Internal.Parser.{◌>>=◌, key_at}
-use Rattle.vast_literal.specs.Internal.StatementParser.{ReadOf, after_key, after_key_on, key_code}
+use Rattle.vast_literal.specs.Internal.StatementParser.{ReadOf, after_key, after_key_on}
 use Rattle.vast_literal.specs.Internal.Settled.{either}
 use Rattle.vast_literal.specs.Internal.SettledMembers.{settled_members, settled_function, loop_start, loop_bound, loop_step, loop_label, assign_part, combinational_part, conditional_part}
 use Rattle.vast_literal.proofs.SettledMembersWords.{settled_member, settled_loop, loop_block, loop_end}
@@ -32,7 +32,7 @@ unfolding unlooped_part either
 unlooped ts e = rw (member_reads ts, e)
 
 looped_next : (us : List Token) → settled_member (Reserved ForKey ∷ us) ≡ settled_loop us
-unfolding settled_member after_key after_key_on key_at key_code either
+unfolding settled_member after_key after_key_on key_at key_text either
 looped_next us = refl
 
 looped : (ts us : List Token) → after_key ForKey ts ≡ Some us → settled_member ts ≡ settled_loop us

@@ -1,6 +1,6 @@
 -- The settled parser of statements as the reader goes through it.
 use Rattle.std.proofs.Common.{◌≡◌, Bool, true, false, cond, List, [], ◌∷◌, ◌++◌, Option, Some, None, refl, sym, ap, ◌∙◌}
-use Rattle.vast_literal.specs.Tokens.{Token, Reserved}
+use Rattle.vast_literal.specs.Tokens.{Token, Reserved, key_text}
 use Rattle.vast_literal.specs.declared.token.Mark.TheVariants.{Colon, Semicolon, Assign}
 use Rattle.vast_literal.specs.declared.token.Key.{Key}
 use Rattle.vast_literal.specs.declared.token.Key.TheVariants.{If as IfKey, Else as ElseKey, Case as CaseKey, Casez as CasezKey, Casex as CasexKey, EndCase as EndCaseKey, Default as DefaultKey, Unique as UniqueKey, Begin as BeginKey, End as EndKey, Assign as AssignKey}
@@ -9,7 +9,7 @@ use Rattle.vast_literal.specs.NormalFile.{NormalStatement, AssignStatement, Choi
 use Rattle.vast_literal.specs.Grammar.{is_cast_word}
 use Rattle.vast_literal.specs.FileGrammar.{assignment}
 use Rattle.vast_literal.specs.Internal.Parser.{◌>>=◌, after, key_at, enclosed_at, selected_at, primary}
-use Rattle.vast_literal.specs.Internal.StatementParser.{ReadOf, key_code, after_key_on, after_key, arrow_at, simple_at, block_at, cases_at, case_of, statement_on, statement_step, statements_on, statements_step, tail_on, choice_on, choice_step, body_on, arm_at, labels_on, labels_step}
+use Rattle.vast_literal.specs.Internal.StatementParser.{ReadOf, after_key_on, after_key, arrow_at, simple_at, block_at, cases_at, case_of, statement_on, statement_step, statements_on, statements_step, tail_on, choice_on, choice_step, body_on, arm_at, labels_on, labels_step}
 use Rattle.vast_literal.specs.Internal.Settled.{either, settled, settled_reader}
 use Rattle.vast_literal.proofs.Agree.{chained}
 use Rattle.vast_literal.proofs.SettledStatements.{statements_settled, choice_settled, labels_settled}
@@ -94,7 +94,7 @@ pub step_reads : (ts : List Token) → statement_step settled_reader ts ≡
     (either (after_key IfKey ts) (λ us. choice_statement us)
     (either (after_key UniqueKey ts) (λ us. unique_case us)
     (either (key_with is_case_word ts) (λ k. cases_of false k.0 k.1) (simple_at settled ts))))
-unfolding statement_step statement_on key_at after_key after_key_on key_code either key_with is_case_word is_cast_word case_of assign_at choice_statement unique_case
+unfolding statement_step statement_on key_at after_key after_key_on key_text either key_with is_case_word is_cast_word case_of assign_at choice_statement unique_case
 step_reads [] = rw low_settled
 step_reads (Reserved AssignKey ∷ us) = rw low_settled
 step_reads (Reserved IfKey ∷ us) = refl
@@ -163,7 +163,7 @@ unfolding choice_arm
 choice_arm_reads ts = refl
 
 tail_key : (p : ChoicePart) (ts : List Token) → tail_on settled_reader p.0 p.1 ts (key_at ts) ≡ else_arm (p ∷ []) ts
-unfolding tail_on key_at else_arm more_arms after_key after_key_on key_code either block block_at
+unfolding tail_on key_at else_arm more_arms after_key after_key_on key_text either block block_at
 tail_key p [] = refl
 tail_key p (Reserved IfKey ∷ us) = refl
 tail_key p (Reserved _ ∷ us) = refl
@@ -244,7 +244,7 @@ arm_same z x ts = simp body_same
 labels_key : (z : Bool) (ts : List Token) → labels_on settled_reader z ts (key_at ts) ≡
     either (after_key EndCaseKey ts) (λ us. Some (NoLabels, us))
     (either (after_key DefaultKey ts) (λ us. after Colon us >>= λ vs. arm_at settled_reader z None vs) (enclosed_at settled_reader.low Colon ts >>= λ x. arm_at settled_reader z (Some x.0) x.1))
-unfolding labels_on key_at after_key after_key_on key_code either
+unfolding labels_on key_at after_key after_key_on key_text either
 labels_key z [] = refl
 labels_key z (Reserved EndCaseKey ∷ us) = refl
 labels_key z (Reserved DefaultKey ∷ us) = refl

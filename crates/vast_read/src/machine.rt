@@ -100,19 +100,9 @@ impl<E, P, W> Waiting<E, P, W> {
         ensures { result ≡ binds self.now }
     {
         match self {
-            Waiting::Prefix(_) => Binding::Tight,
+            Waiting::Prefix(_) | Waiting::Target => Binding::Tight,
             Waiting::Infix(_, sign) => Binding::From(sign.level() + 1),
-            Waiting::Then(_) => Binding::Loose,
-            Waiting::Else(_, _) => Binding::Loose,
-            Waiting::Paren => Binding::Loose,
-            Waiting::Index(_) => Binding::Loose,
-            Waiting::Slice(_, _) => Binding::Loose,
-            Waiting::Cast(_) => Binding::Loose,
-            Waiting::PackageCast(_, _) => Binding::Loose,
-            Waiting::WordCast(_) => Binding::Loose,
-            Waiting::Brace => Binding::Loose,
-            Waiting::List(_, _) => Binding::Loose,
-            Waiting::Target => Binding::Tight,
+            _ => Binding::Loose,
         }
     }
 }

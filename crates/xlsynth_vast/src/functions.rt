@@ -51,13 +51,7 @@ impl VastFile {
     {
         match self.ast.data_type(data_type) {
             TypeNode::Unpacked(_, _) => true,
-            TypeNode::Scalar(_)
-            | TypeNode::Vector(_, _, _)
-            | TypeNode::Integer(_)
-            | TypeNode::Int(_)
-            | TypeNode::External(_)
-            | TypeNode::Package(_)
-            | TypeNode::Packed(_, _) => false,
+            _ => false,
         }
     }
 

@@ -83,16 +83,7 @@ impl Node {
     {
         match self {
             Node::AlwaysOverSpare(_) => true,
-            Node::Nothing
-            | Node::Assignment(_)
-            | Node::Container(_)
-            | Node::Port(_)
-            | Node::Module(_)
-            | Node::Function(_)
-            | Node::Definition(_)
-            | Node::Artifact(_)
-            | Node::Instance(_)
-            | Node::Always(_) => false,
+            _ => false,
         }
     }
 
@@ -103,16 +94,7 @@ impl Node {
     {
         match self {
             Node::Container(_) => 1,
-            Node::Nothing
-            | Node::Assignment(_)
-            | Node::Port(_)
-            | Node::Module(_)
-            | Node::Function(_)
-            | Node::Definition(_)
-            | Node::Artifact(_)
-            | Node::Instance(_)
-            | Node::Always(_)
-            | Node::AlwaysOverSpare(_) => 0,
+            _ => 0,
         }
     }
 }

@@ -189,10 +189,7 @@ impl Ast {
     {
         match self.artifact_at(a.id.index) {
             Some(Artifact::Comment(text)) => text.as_str(),
-            Some(Artifact::BlankLine) => unreachable!(),
-            Some(Artifact::Inline(_)) => unreachable!(),
-            Some(Artifact::MacroStatement(_, _)) => unreachable!(),
-            None => unreachable!(),
+            _ => unreachable!(),
         }
     }
 
@@ -204,10 +201,7 @@ impl Ast {
     {
         match self.artifact_at(a.id.index) {
             Some(Artifact::Inline(text)) => text.as_str(),
-            Some(Artifact::BlankLine) => unreachable!(),
-            Some(Artifact::Comment(_)) => unreachable!(),
-            Some(Artifact::MacroStatement(_, _)) => unreachable!(),
-            None => unreachable!(),
+            _ => unreachable!(),
         }
     }
 
@@ -220,10 +214,7 @@ impl Ast {
     {
         match self.artifact_at(a.id.index) {
             Some(Artifact::MacroStatement(call, semicolon)) => (*call, *semicolon),
-            Some(Artifact::BlankLine) => unreachable!(),
-            Some(Artifact::Comment(_)) => unreachable!(),
-            Some(Artifact::Inline(_)) => unreachable!(),
-            None => unreachable!(),
+            _ => unreachable!(),
         }
     }
 

@@ -54,10 +54,7 @@ impl Ast {
     {
         match self.nest_at(b.id.index) {
             Some(Nest::Block(statements)) => statements,
-            Some(Nest::Conditional(_)) => unreachable!(),
-            Some(Nest::Case(_)) => unreachable!(),
-            Some(Nest::Loop(_)) => unreachable!(),
-            None => unreachable!(),
+            _ => unreachable!(),
         }
     }
 }

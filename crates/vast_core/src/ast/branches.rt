@@ -188,10 +188,7 @@ impl Ast {
     {
         match self.nest_at(c.id.index) {
             Some(Nest::Conditional(node)) => node,
-            Some(Nest::Block(_)) => unreachable!(),
-            Some(Nest::Case(_)) => unreachable!(),
-            Some(Nest::Loop(_)) => unreachable!(),
-            None => unreachable!(),
+            _ => unreachable!(),
         }
     }
 
@@ -218,10 +215,7 @@ impl Ast {
     {
         match self.nest_at(c.id.index) {
             Some(Nest::Case(node)) => node,
-            Some(Nest::Block(_)) => unreachable!(),
-            Some(Nest::Conditional(_)) => unreachable!(),
-            Some(Nest::Loop(_)) => unreachable!(),
-            None => unreachable!(),
+            _ => unreachable!(),
         }
     }
 }

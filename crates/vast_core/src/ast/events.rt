@@ -18,22 +18,7 @@ impl Ast {
     {
         match self.expr(e) {
             ExprNode::Name(_, _) | ExprNode::PosEdge(_) | ExprNode::NegEdge(_) => true,
-            ExprNode::Literal(_, _)
-            | ExprNode::StringText(_)
-            | ExprNode::Unary(_, _)
-            | ExprNode::Binary(_, _, _)
-            | ExprNode::Ternary(_, _, _)
-            | ExprNode::Index(_, _)
-            | ExprNode::Slice(_, _, _)
-            | ExprNode::PartSelect(_, _, _)
-            | ExprNode::Concat(_, _)
-            | ExprNode::Pattern(_)
-            | ExprNode::WidthCast(_, _)
-            | ExprNode::TypeCast(_, _)
-            | ExprNode::Macro(_)
-            | ExprNode::MacroCall(_, _)
-            | ExprNode::Call(_, _)
-            | ExprNode::DataType(_) => false,
+            _ => false,
         }
     }
 

@@ -19,17 +19,7 @@ impl Member {
     {
         match self {
             Member::Declaration(_, _, _) => true,
-            Member::ContinuousAssignment(_)
-            | Member::Parameter(_, _, _)
-            | Member::BlankLine
-            | Member::Comment(_)
-            | Member::Inline(_)
-            | Member::Macro(_)
-            | Member::Instantiation(_)
-            | Member::Function(_)
-            | Member::Always(_)
-            | Member::Conditional(_)
-            | Member::Loop(_) => false,
+            _ => false,
         }
     }
 }

@@ -30,11 +30,7 @@ impl Ast {
     {
         match self.data_type(data_type) {
             TypeNode::Unpacked(_, _) | TypeNode::Integer(_) | TypeNode::Int(_) => false,
-            TypeNode::Scalar(_)
-            | TypeNode::Vector(_, _, _)
-            | TypeNode::External(_)
-            | TypeNode::Package(_)
-            | TypeNode::Packed(_, _) => true,
+            _ => true,
         }
     }
 
@@ -45,12 +41,7 @@ impl Ast {
     {
         match self.data_type(data_type) {
             TypeNode::Packed(_, _) | TypeNode::Unpacked(_, _) => false,
-            TypeNode::Scalar(_)
-            | TypeNode::Vector(_, _, _)
-            | TypeNode::Integer(_)
-            | TypeNode::Int(_)
-            | TypeNode::External(_)
-            | TypeNode::Package(_) => true,
+            _ => true,
         }
     }
 
@@ -63,12 +54,7 @@ impl Ast {
         match self.data_type(data_type) {
             TypeNode::Packed(element, dimensions) => Some((*element, dimensions)),
             TypeNode::Unpacked(element, dimensions) => Some((*element, dimensions)),
-            TypeNode::Scalar(_) => None,
-            TypeNode::Vector(_, _, _) => None,
-            TypeNode::Integer(_) => None,
-            TypeNode::Int(_) => None,
-            TypeNode::External(_) => None,
-            TypeNode::Package(_) => None,
+            _ => None,
         }
     }
 
@@ -105,13 +91,7 @@ impl Ast {
     {
         match self.data_type(data_type) {
             TypeNode::Vector(width, _, _) => Some(*width),
-            TypeNode::Scalar(_)
-            | TypeNode::Integer(_)
-            | TypeNode::Int(_)
-            | TypeNode::External(_)
-            | TypeNode::Package(_)
-            | TypeNode::Packed(_, _)
-            | TypeNode::Unpacked(_, _) => None,
+            _ => None,
         }
     }
 
@@ -125,10 +105,7 @@ impl Ast {
             TypeNode::Vector(_, _, signed) => *signed,
             TypeNode::Integer(signed) => *signed,
             TypeNode::Int(signed) => *signed,
-            TypeNode::External(_)
-            | TypeNode::Package(_)
-            | TypeNode::Packed(_, _)
-            | TypeNode::Unpacked(_, _) => false,
+            _ => false,
         }
     }
 }

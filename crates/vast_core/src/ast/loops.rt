@@ -91,10 +91,7 @@ impl Ast {
     {
         match self.nest_at(l.id.index) {
             Some(Nest::Loop(node)) => node,
-            Some(Nest::Block(_)) => unreachable!(),
-            Some(Nest::Conditional(_)) => unreachable!(),
-            Some(Nest::Case(_)) => unreachable!(),
-            None => unreachable!(),
+            _ => unreachable!(),
         }
     }
 }

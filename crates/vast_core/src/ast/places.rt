@@ -147,10 +147,7 @@ impl Ast {
     {
         match self.artifact_at(index) {
             Some(Artifact::BlankLine) => true,
-            Some(Artifact::Comment(_)) => false,
-            Some(Artifact::Inline(_)) => false,
-            Some(Artifact::MacroStatement(_, _)) => false,
-            None => false,
+            _ => false,
         }
     }
 
@@ -160,9 +157,7 @@ impl Ast {
         match self.artifact_at(index) {
             Some(Artifact::BlankLine) => false,
             Some(Artifact::Comment(_)) => true,
-            Some(Artifact::Inline(_)) => false,
-            Some(Artifact::MacroStatement(_, _)) => false,
-            None => false,
+            _ => false,
         }
     }
 
@@ -213,10 +208,7 @@ impl Ast {
     {
         match self.nest_at(index) {
             Some(Nest::Block(_)) => true,
-            Some(Nest::Conditional(_)) => false,
-            Some(Nest::Case(_)) => false,
-            Some(Nest::Loop(_)) => false,
-            None => false,
+            _ => false,
         }
     }
 
@@ -226,9 +218,7 @@ impl Ast {
         match self.nest_at(index) {
             Some(Nest::Block(_)) => false,
             Some(Nest::Conditional(_)) => true,
-            Some(Nest::Case(_)) => false,
-            Some(Nest::Loop(_)) => false,
-            None => false,
+            _ => false,
         }
     }
 

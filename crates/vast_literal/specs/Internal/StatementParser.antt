@@ -1,6 +1,7 @@
 -- A parser of statements, over that of expressions.
-use Rattle.std.specs.Prelude.{ℕ, zero, suc, List, [], ◌∷◌, Bool, true, false, cond, nat_eq, Option, Some, None}
-use Rattle.vast_literal.specs.Tokens.{LessEqual, Key, IfKey, ElseKey, CaseKey, CasezKey, CasexKey, EndCaseKey, DefaultKey, UniqueKey, BeginKey, EndKey, AssignKey, WireKey, RegKey, LogicKey, IntegerKey, IntKey, GenvarKey, SignedKey, UnsignedKey, ModuleKey, EndModuleKey, ParameterKey, LocalparamKey, AlwaysCombKey, AlwaysFFKey, AlwaysKey, PosedgeKey, NegedgeKey, OrKey, FunctionKey, AutomaticKey, EndFunctionKey, InputKey, OutputKey, InOutKey, ForKey}
+use Rattle.std.specs.Prelude.{ℕ, zero, suc, List, [], ◌∷◌, Bool, true, false, cond, Option, Some, None}
+use Rattle.std.specs.Str.{bytes_eq}
+use Rattle.vast_literal.specs.Tokens.{LessEqual, Key, key_text, IfKey, ElseKey, CaseKey, CasezKey, CasexKey, EndCaseKey, DefaultKey, UniqueKey, BeginKey, EndKey, AssignKey, WireKey, RegKey, LogicKey, IntegerKey, IntKey, GenvarKey, SignedKey, UnsignedKey, ModuleKey, EndModuleKey, ParameterKey, LocalparamKey, AlwaysCombKey, AlwaysFFKey, AlwaysKey, PosedgeKey, NegedgeKey, OrKey, FunctionKey, AutomaticKey, EndFunctionKey, InputKey, OutputKey, InOutKey, ForKey}
 use Rattle.vast_literal.specs.Tokens.{OpenParen, CloseParen, Colon, Semicolon, Assign, Token, Operator, Mark}
 use Rattle.vast_literal.specs.NormalExpr.{NormalExpr}
 use Rattle.vast_literal.specs.NormalFile.{NormalStatement, AssignStatement, ChoiceStatement, CaseStatement, NormalStatements, Done, Then, Arms, Only, Otherwise, Or, Labels, NoLabels, Label}
@@ -19,49 +20,10 @@ pub record Reader : Type 0 where
   pub choice : List Token → ReadOf Arms
   pub labels : Bool → List Token → ReadOf Labels
 
--- Numbers that tell the keywords apart.
-unfoldable pub key_code : Key → ℕ
-key_code IfKey = 0
-key_code ElseKey = 1
-key_code CaseKey = 2
-key_code CasezKey = 3
-key_code CasexKey = 4
-key_code EndCaseKey = 5
-key_code DefaultKey = 6
-key_code UniqueKey = 7
-key_code BeginKey = 8
-key_code EndKey = 9
-key_code AssignKey = 10
-key_code WireKey = 11
-key_code RegKey = 12
-key_code LogicKey = 13
-key_code IntegerKey = 14
-key_code IntKey = 15
-key_code GenvarKey = 16
-key_code SignedKey = 17
-key_code UnsignedKey = 18
-key_code ModuleKey = 19
-key_code EndModuleKey = 20
-key_code ParameterKey = 21
-key_code LocalparamKey = 22
-key_code AlwaysCombKey = 23
-key_code AlwaysFFKey = 24
-key_code AlwaysKey = 25
-key_code PosedgeKey = 26
-key_code NegedgeKey = 27
-key_code OrKey = 28
-key_code FunctionKey = 29
-key_code AutomaticKey = 30
-key_code EndFunctionKey = 31
-key_code InputKey = 32
-key_code OutputKey = 33
-key_code InOutKey = 34
-key_code ForKey = 35
-
 -- What is behind this keyword.
 unfoldable pub after_key_on : Key → Option (Key × List Token) → Option (List Token)
 after_key_on k None = None
-after_key_on k (Some v) = cond (nat_eq (key_code v.0) (key_code k)) (Some v.1) None
+after_key_on k (Some v) = cond (bytes_eq (key_text v.0) (key_text k)) (Some v.1) None
 
 unfoldable pub after_key : Key → List Token → Option (List Token)
 after_key k ts = after_key_on k (key_at ts)

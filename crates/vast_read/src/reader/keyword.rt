@@ -8,7 +8,7 @@ ghost use Rattle.vast_literal.specs.Internal.Nexts.{key_with, sign_with, is_less
 
 use crate::fault::Fault;
 use crate::reader::Reader;
-use crate::token::{KeyClass, is_less_equal, is_plus, key_code};
+use crate::token::{KeyClass, is_less_equal, is_plus};
 use vast_literal::{Key, Mark};
 
 impl<'t> Reader<'t> {
@@ -26,7 +26,7 @@ impl<'t> Reader<'t> {
             Some(token) => match token.key() {
                 None => false,
                 Some(found) => {
-                    if key_code(found) == key_code(key) {
+                    if found == key {
                         self.skip();
                         true
                     } else {

@@ -286,14 +286,7 @@ impl<'t> Reader<'t> {
                 self.skip();
                 self.macro_member::<B>(name)
             }
-            Some(Token::Reserved(_)) => Err(Fault::Underived),
-            Some(Token::Keyword(_)) => Err(Fault::Underived),
-            Some(Token::SystemWord(_)) => Err(Fault::Underived),
-            Some(Token::Number(_)) => Err(Fault::Underived),
-            Some(Token::Based(_)) => Err(Fault::Underived),
-            Some(Token::Quoted(_)) => Err(Fault::Underived),
-            Some(Token::Operator(_)) => Err(Fault::Underived),
-            Some(Token::Mark(_)) => Err(Fault::Underived),
+            _ => Err(Fault::Underived),
         }
     }
 }

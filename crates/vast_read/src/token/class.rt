@@ -2,7 +2,6 @@
 
 ghost use Rattle.std.specs.Prelude.{◌≡◌};
 ghost use Rattle.vast_literal.specs.Internal.Nexts.{is_less_equal, is_plus};
-ghost use Rattle.vast_literal.specs.Internal.StatementParser.{key_code};
 ghost use Rattle.vast_literal.specs.Internal.Parser.{code};
 ghost use Rattle.vast_read.specs.Internal.KeyClasses.{class_test};
 ghost use Rattle.vast_read.specs.Internal.StatementSteps.{is_casez};
@@ -77,14 +76,6 @@ pub(crate) fn is_plus(sign: Sign) -> bool
     ensures { result ≡ is_plus sign }
 {
     matches!(sign, Sign::Plus)
-}
-
-/// A number that tells a keyword from the others.
-#[tactic(auto, unfolding(vast_literal::specs::Internal::StatementParser::key_code))]
-pub(crate) fn key_code(key: Key) -> u8
-    ensures { result ≡ key_code key }
-{
-    key as u8
 }
 
 /// A number that tells a mark from the others.
