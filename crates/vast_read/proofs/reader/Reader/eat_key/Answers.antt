@@ -1,11 +1,12 @@
-use Rattle.std.proofs.Common.{◌≡◌, sym, refl}
-use Rattle.vast_literal.specs.Internal.StatementParser.{key_code}
+use denote.Enum.Bare.{same_true, same_false}
+use Rattle.std.proofs.Common.{◌≡◌, ◌∙◌, rules, sym, refl}
+use Rattle.vast_literal.specs.contracts.token.Key.{the_type}
 use Rattle.vast_read.proofs.KeyNexts.{after_key_same, after_key_differs}
 use Rattle.vast_read.proofs.reader.Reader.eat_key.Goals as goal
 
-pub returns-then-key_code-clause-found : goal.returns-then-key_code-clause-found
-returns-then-key_code-clause-found c = let n : key_code c.in-Some-key.found ≡ key_code c.args.key = cc in
+pub returns-then-eq-clause-found : goal.returns-then-eq-clause-found
+returns-then-eq-clause-found c = let n : c.in-Some-key.found ≡ c.args.key = same_true the_type (search rules) _ _ (sym c.eq.ensures ∙ c.if-eq.true) in
     rw c.skip.ensures (after_key_same _ c.in-Some-key.found _ _ _ c.in-Some.ensures (sym c.in-Some-key.ensures) n)
 
-pub returns-else-key_code-clause-found : goal.returns-else-key_code-clause-found
-returns-else-key_code-clause-found c = (after_key_differs _ c.in-Some-key.found _ _ _ c.in-Some.ensures (sym c.in-Some-key.ensures) (λ e. c.if-key_code.false (cc)), refl)
+pub returns-else-eq-clause-found : goal.returns-else-eq-clause-found
+returns-else-eq-clause-found c = (after_key_differs _ c.in-Some-key.found _ _ _ c.in-Some.ensures (sym c.in-Some-key.ensures) (same_false the_type _ _ (sym c.eq.ensures ∙ c.if-eq.false)), refl)
