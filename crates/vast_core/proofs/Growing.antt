@@ -10,7 +10,7 @@ use Rattle.vast_core.specs.declared.node.Function.{Function}
 use Rattle.vast_core.specs.Raw.{Raw}
 use Rattle.vast_core.specs.Nodes.{no_nodes}
 use Rattle.vast_core.specs.Internal.Nodes.{TermsSound}
-use Rattle.vast_core.specs.Records.{ParameterPortRecord, ModuleRecord, Member, InstanceRecord, changed_at, with_port, with_parameter_port, module_record, definition_record, artifact_record, instance_record, file_entry}
+use Rattle.vast_core.specs.Records.{ParameterPort, ModuleRecord, Member, InstanceRecord, changed_at, with_port, with_parameter_port, module_record, instance_record}
 use Rattle.vast_core.specs.Nests.{NestRecord, BlockRecord, ConditionalNestRecord, CaseNestRecord, LoopNestRecord, FunctionVariable, FunctionRecord, nest_kind, is_block_kind, nest_record, function_record, always_record}
 use Rattle.vast_core.specs.Functions.{with_listed_variable}
 use Rattle.vast_core.specs.Bench.{Bench, OwnsBlock, OwnsPort, function_names}
@@ -173,7 +173,7 @@ Grows-listing b l =
       always_blocks = λ i a h. h;
     }
 
-header-sound : (b : Bench) (p : ParameterPortRecord) → ParameterPortSound b p → (x : ModuleRecord) → ModuleSound b x → ModuleSound b (with_parameter_port p x)
+header-sound : (b : Bench) (p : ParameterPort) → ParameterPortSound b p → (x : ModuleRecord) → ModuleSound b x → ModuleSound b (with_parameter_port p x)
 header-sound b p h x k = record { parameters = Each-push (ParameterPortSound b) x.parameters p k.parameters h; ports = k.ports; members = k.members }
 
 member-sound : (b : Bench) (entry : Member) (name : Option (List ℕ)) → MemberSound b entry → (x : ModuleRecord) → ModuleSound b x → ModuleSound b (with_listed entry name x)
@@ -363,11 +363,11 @@ pub record Admitted (b z : Raw) (l : Listing) (f : Fresh) : Type 0 where
   pub ports : z.ports ≡ added b.ports f.port
   pub modules : map module_record z.modules ≡ added (listed_modules l (map module_record b.modules)) f.fresh_module
   pub functions : map function_record z.functions ≡ added (listed_functions l (map function_record b.functions)) f.function
-  pub definitions : map definition_record z.definitions ≡ added (map definition_record b.definitions) f.definition
-  pub artifacts : map artifact_record z.artifacts ≡ added (map artifact_record b.artifacts) f.artifact
+  pub definitions : z.definitions ≡ added b.definitions f.definition
+  pub artifacts : z.artifacts ≡ added b.artifacts f.artifact
   pub instances : map instance_record z.instances ≡ added (map instance_record b.instances) f.instance
   pub always_blocks : map always_record z.always_blocks ≡ added (map always_record b.always_blocks) f.always_block
-  pub items : map file_entry z.items ≡ listed_items l (map file_entry b.items)
+  pub items : z.items ≡ listed_items l b.items
   pub spare : z.spare ≡ listed_spare l (spare_left f.takes_spare b.spare)
 
 there-mapped :
@@ -447,11 +447,11 @@ pub admitted :
     z.ports ≡ added b.ports (fresh_node y.node).port →
     map module_record m1 ≡ listed_modules l (map module_record b.modules) → map module_record z.modules ≡ added (map module_record m1) (fresh_node y.node).fresh_module →
     map function_record f1 ≡ listed_functions l (map function_record b.functions) → map function_record z.functions ≡ added (map function_record f1) (fresh_node y.node).function →
-    map definition_record z.definitions ≡ added (map definition_record b.definitions) (fresh_node y.node).definition →
-    map artifact_record z.artifacts ≡ added (map artifact_record b.artifacts) (fresh_node y.node).artifact →
+    z.definitions ≡ added b.definitions (fresh_node y.node).definition →
+    z.artifacts ≡ added b.artifacts (fresh_node y.node).artifact →
     map instance_record z.instances ≡ added (map instance_record b.instances) (fresh_node y.node).instance →
     map always_record z.always_blocks ≡ added (map always_record b.always_blocks) (fresh_node y.node).always_block →
-    map file_entry z.items ≡ listed_items l (map file_entry b.items) → z.spare ≡ listed_spare l (spare_left (fresh_node y.node).takes_spare b.spare) → Admitted b z l (fresh_of y)
+    z.items ≡ listed_items l b.items → z.spare ≡ listed_spare l (spare_left (fresh_node y.node).takes_spare b.spare) → Admitted b z l (fresh_of y)
 admitted b z l y n1 n2 m1 f1 there file_type id t x p q r ports m modules f functions d a i u items spare =
     record {
       there = there;

@@ -2,13 +2,13 @@
 use Rattle.std.proofs.Common.{ℕ, ◌+◌, ◌-◌, ◌*◌, ◌^◌}
 use Rattle.vast_core.specs.declared.node.Member.{Member}
 use Rattle.vast_core.specs.declared.node.Member.TheVariants.{Declaration as DeclarationEntry, ContinuousAssignment as AssignmentEntry, Parameter as ParameterEntry, BlankLine as BlankEntry, Comment as CommentEntry, Inline as InlineEntry, Macro as MacroEntry, Instantiation as InstanceEntry, Function as FunctionEntry, Always as AlwaysEntry, Conditional as ConditionalEntry, Loop as LoopEntry}
-use Rattle.vast_core.specs.Nests.{StatementEntry, AssignStatement, ContinuousStatement, ConditionalStatement, CasesStatement, BlankStatement, CommentStatement, InlineStatement}
+use Rattle.vast_core.specs.Nests.{Statement, AssignStatement, ContinuousStatement, ConditionalStatement, CasesStatement, BlankStatement, CommentStatement, InlineStatement}
 
 abbrev pub height : ℕ → ℕ
 height i = 8 * (2 ^ 64 - i)
 
 -- of a statement, by the container that it is
-abbrev pub statement_height : StatementEntry → ℕ
+abbrev pub statement_height : Statement → ℕ
 statement_height (AssignStatement s) = 0
 statement_height (ContinuousStatement s) = 0
 statement_height (ConditionalStatement c) = height c.id.index + 5

@@ -5,7 +5,7 @@ use Rattle.vast_core.specs.declared.handle.VastStatementBlock.{VastStatementBloc
 use Rattle.vast_core.specs.declared.node.ElseIf.{ElseIf}
 use Rattle.vast_core.specs.declared.node.CaseArm.{CaseArm}
 use Rattle.vast_core.specs.Records.{Member, DeclarationEntry, AssignmentEntry, ParameterEntry, BlankEntry, CommentEntry, InlineEntry, MacroEntry, InstanceEntry, FunctionEntry, AlwaysEntry, ConditionalEntry, LoopEntry, changed_at}
-use Rattle.vast_core.specs.Nests.{StatementEntry, AssignStatement, ContinuousStatement, ConditionalStatement, CasesStatement, BlankStatement, CommentStatement, InlineStatement, NestRecord, BlockRecord, ConditionalNestRecord, CaseNestRecord, LoopNestRecord, AlwaysRecord, NestKind, NoKind, nest_kind}
+use Rattle.vast_core.specs.Nests.{Statement, AssignStatement, ContinuousStatement, ConditionalStatement, CasesStatement, BlankStatement, CommentStatement, InlineStatement, NestRecord, BlockRecord, ConditionalNestRecord, CaseNestRecord, LoopNestRecord, AlwaysRecord, NestKind, NoKind, nest_kind}
 use Rattle.vast_core.specs.Bench.{Bench, tree_of, maybe_tree_of, trees_of}
 use Rattle.vast_core.specs.Containers.{NestedEntry, StatementEnters, ElseIfEnters, ElseEnters, CaseArmEnters, MemberEnters, with_entry}
 use Rattle.vast_core.specs.FileTree.{Family, BlockFamily, ConditionalFamily, CaseFamily, LoopFamily, block_in, conditional_statement, case_statement, conditional_member, loop_member, statement_in, statements_in, otherwise_in, alternates_in, arms_in, always_in, member_in, members_in, family, unfolded, families}
@@ -23,7 +23,7 @@ kind-there test (x ∷ ns) (suc i) n h = omega (arith, kind-there test ns i n h)
 pub record Agree (i : ℕ) (f g : ℕ → Family) : Type 0 where
   pub at : (j : ℕ) → i < j → f j ≡ g j
 
-statement-same : (b : Bench) (f g : ℕ → Family) (i : ℕ) → Agree i f g → (s : StatementEntry) → StatementSound b i s → statement_in b f s ≡ statement_in b g s
+statement-same : (b : Bench) (f g : ℕ → Family) (i : ℕ) → Agree i f g → (s : Statement) → StatementSound b i s → statement_in b f s ≡ statement_in b g s
 statement-same b f g i q (AssignStatement s) h = refl
 statement-same b f g i q (ContinuousStatement s) h = refl
 statement-same b f g i q (ConditionalStatement c) h = ap conditional_statement (q.at c.id.index h.1)
@@ -32,7 +32,7 @@ statement-same b f g i q BlankStatement h = refl
 statement-same b f g i q (CommentStatement text) h = refl
 statement-same b f g i q (InlineStatement text) h = refl
 
-statements-same : (b : Bench) (f g : ℕ → Family) (i : ℕ) → Agree i f g → (ss : List StatementEntry) → Each (StatementSound b i) ss → statements_in b f ss ≡ statements_in b g ss
+statements-same : (b : Bench) (f g : ℕ → Family) (i : ℕ) → Agree i f g → (ss : List Statement) → Each (StatementSound b i) ss → statements_in b f ss ≡ statements_in b g ss
 statements-same b f g i q [] h = refl
 statements-same b f g i q (s ∷ ss) h =
     ap (λ x. MoreStatements x (statements_in b f ss)) (statement-same b f g i q s h.0)

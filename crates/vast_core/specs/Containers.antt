@@ -8,13 +8,13 @@ use Rattle.vast_literal.specs.declared.kind.CaseKind.{CaseKind}
 use Rattle.vast_core.specs.declared.node.ElseIf.{ElseIf}
 use Rattle.vast_core.specs.declared.node.CaseArm.{CaseArm}
 use Rattle.vast_core.specs.Records.{Member, changed_at}
-use Rattle.vast_core.specs.Nests.{StatementEntry, NestRecord, BlockRecord, ConditionalNestRecord, CaseNestRecord, LoopNestRecord}
+use Rattle.vast_core.specs.Nests.{Statement, NestRecord, BlockRecord, ConditionalNestRecord, CaseNestRecord, LoopNestRecord}
 use Rattle.vast_core.specs.Bench.{Bench}
 use Rattle.vast_core.specs.Growth.{next_id}
 
 -- A new entry of a container.
 pub data NestedEntry : Type 0 where
-  StatementEnters : StatementEntry → NestedEntry
+  StatementEnters : Statement → NestedEntry
   ElseIfEnters : ElseIf → NestedEntry
   ElseEnters : VastStatementBlock → NestedEntry
   CaseArmEnters : CaseArm → NestedEntry
@@ -67,7 +67,7 @@ with_case kind selector b = with_nest (new_case kind selector) b
 abbrev pub with_nest_entry : ℕ → NestedEntry → Bench → Bench
 with_nest_entry place entry b = record b { nests = changed_at place (with_entry entry) b.nests }
 
-abbrev pub with_statement : VastStatementBlock → StatementEntry → Bench → Bench
+abbrev pub with_statement : VastStatementBlock → Statement → Bench → Bench
 with_statement owner s b = with_nest_entry owner.id.index (StatementEnters s) b
 
 -- An arm more, with an empty block.

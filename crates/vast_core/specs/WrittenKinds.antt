@@ -4,7 +4,7 @@ use Rattle.std.specs.Prelude.{Bool, true, false, IsTrue, Option, Some, None}
 use Rattle.vast_literal.specs.WellFormedFile.{is_own_kind, is_local_word}
 use Rattle.vast_core.specs.declared.handle.Expr.{Expr}
 use Rattle.vast_literal.specs.declared.kind.DataKind.{DataKind}
-use Rattle.vast_core.specs.Records.{Member, DeclarationEntry, AssignmentEntry, ParameterEntry, BlankEntry, CommentEntry, InlineEntry, MacroEntry, InstanceEntry, FunctionEntry, AlwaysEntry, ConditionalEntry, LoopEntry, ConnectionRecord}
+use Rattle.vast_core.specs.Records.{Member, DeclarationEntry, AssignmentEntry, ParameterEntry, BlankEntry, CommentEntry, InlineEntry, MacroEntry, InstanceEntry, FunctionEntry, AlwaysEntry, ConditionalEntry, LoopEntry, Connection}
 use Rattle.vast_core.specs.Nests.{FunctionVariable}
 
 -- A module declares such: wire, reg or logic.
@@ -37,5 +37,5 @@ abbrev pub IsGiven : Option Expr → Type 0
 IsGiven None = ⊥
 IsGiven (Some value) = Unit {0}
 
-abbrev pub HasValue : ConnectionRecord → Type 0
+abbrev pub HasValue : Connection → Type 0
 HasValue c = IsGiven c.value

@@ -8,7 +8,7 @@ use Rattle.vast_core.specs.declared.node.Assignment.{Assignment}
 use Rattle.vast_core.specs.declared.node.ExprNode.{ExprNode}
 use Rattle.vast_core.specs.Nodes.{built}
 use Rattle.vast_core.specs.Internal.Nodes.{TermsSound}
-use Rattle.vast_core.specs.Records.{Port, ParameterPortRecord, ModuleRecord, Member, FileEntry, DefinitionRecord, ArtifactRecord, InstanceRecord, with_port, with_parameter_port, with_member, with_named_member, changed_at}
+use Rattle.vast_core.specs.Records.{Port, ParameterPort, ModuleRecord, Member, FileItem, Definition, Artifact, InstanceRecord, with_port, with_parameter_port, with_member, with_named_member, changed_at}
 use Rattle.vast_core.specs.Nests.{NestRecord, BlockRecord, FunctionVariable, FunctionRecord, AlwaysRecord}
 use Rattle.vast_core.specs.Raw.{Raw}
 use Rattle.vast_core.specs.Bench.{Bench, OwnsModule, OwnsPort, OwnsFunction, OwnsBlock, NameIsFree, IsFreeInFunction}
@@ -23,8 +23,8 @@ use Rattle.vast_core.specs.Containers.{NestedEntry, StatementEnters, ElseIfEnter
 -- function's inputs or locals, or into a container. A name is taken from then on. Or a block becomes the file's spare one.
 pub data Listing : Type 0 where
   Nowhere : Listing
-  InFile : FileEntry → Listing
-  InHeader : VastModule → ParameterPortRecord → Listing
+  InFile : FileItem → Listing
+  InHeader : VastModule → ParameterPort → Listing
   InPorts : VastModule → ModulePort → (name : List ℕ) → Listing
   InModule : VastModule → Member → (name : Option (List ℕ)) → Listing
   InFunction : VastFunction → (local : Bool) → FunctionVariable → Listing
@@ -49,7 +49,7 @@ abbrev pub listed_nests : Listing → List NestRecord → List NestRecord
 listed_nests (InNest place entry) nests = changed_at place (with_entry entry) nests
 listed_nests _ nests = nests
 
-abbrev pub listed_items : Listing → List FileEntry → List FileEntry
+abbrev pub listed_items : Listing → List FileItem → List FileItem
 listed_items (InFile entry) items = items ++ entry ∷ []
 listed_items _ items = items
 
@@ -82,8 +82,8 @@ pub record Fresh : Type 0 where
   pub port : Option Port
   pub fresh_module : Option ModuleRecord
   pub function : Option FunctionRecord
-  pub definition : Option DefinitionRecord
-  pub artifact : Option ArtifactRecord
+  pub definition : Option Definition
+  pub artifact : Option Artifact
   pub instance : Option InstanceRecord
   pub always_block : Option AlwaysRecord
   pub takes_spare : Bool
