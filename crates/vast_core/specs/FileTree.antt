@@ -1,6 +1,6 @@
 -- The tree of a file, without handles.
 use Rattle.std.specs.Prelude.{ℕ, zero, suc, Bool, true, false, List, [], ◌∷◌, map, length, Option, Some, None, slice_get}
-use Rattle.vast_literal.specs.Tree.{ExprTree, StatementTree, AssignTree, CommentTree, BlankTree, InlineTree, ConditionalTree, CaseTree, Statements, NoStatements, MoreStatements, Alternates, NoElse, ElseIf, Else, CaseArms, NoCaseArms, CaseArm, MemberTree, DeclarationMember, AssignMember, ParameterMember, CommentMember, BlankMember, InlineMember, MacroMember, InstanceMember, AlwaysMember, ConditionalMember, FunctionMember, LoopMember, Members, NoMembers, MoreMembers, MissingType, Declaration, ParameterName, PlainParameter, IntParameter, DefinedParameter, Connection, PortTree, ParameterPortTree, ModuleTree, FileItemTree, ModuleItem, IncludeItem, CommentItem, BlankItem, FileTree}
+use Rattle.vast_literal.specs.Tree.{ExprTree, StatementTree, AssignTree, CommentTree, BlankTree, InlineTree, ConditionalTree, CaseTree, Statements, NoStatements, MoreStatements, Alternates, NoElse, ElseIf, Else, CaseArms, NoCaseArms, CaseArm, MemberTree, DeclarationMember, AssignMember, ParameterMember, CommentMember, BlankMember, InlineMember, MacroMember, InstanceMember, AlwaysMember, ConditionalMember, FunctionMember, LoopMember, Members, NoMembers, MoreMembers, MissingType, Declaration, ParameterName, PlainParameter, IntParameter, DefinedParameter, Connection as ConnectionTree, PortTree, ParameterPortTree, ModuleTree, FileItemTree, ModuleItem, IncludeItem, CommentItem, BlankItem, FileTree}
 use Rattle.vast_literal.specs.declared.kind.AssignmentForm.{AssignmentForm as AssignForm}
 use Rattle.vast_literal.specs.declared.kind.AssignmentForm.TheVariants.{Blocking, Nonblocking, Continuous}
 use Rattle.vast_literal.specs.declared.kind.DataKind.TheVariants.{Wire as WireKind}
@@ -44,7 +44,7 @@ artifact_member b (Some (CommentArtifact text)) = CommentMember text
 artifact_member b (Some (InlineArtifact text)) = InlineMember text
 artifact_member b (Some (MacroArtifact call semicolon)) = MacroMember (tree_of b (record { id = call.id })) semicolon
 
-abbrev pub connection_tree : Bench → Connection → Connection
+abbrev pub connection_tree : Bench → Connection → ConnectionTree
 connection_tree b c = record { name = c.name; value = maybe_expr_in b.nodes c.value }
 
 abbrev pub instance_member : Bench → Option InstanceRecord → MemberTree

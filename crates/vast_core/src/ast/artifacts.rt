@@ -149,8 +149,7 @@ impl Ast {
               module_name = module_name.now;
               instance_name = instance_name.now;
               parameters = parameters.items;
-              connections = map
-                  connections.items;
+              connections = connections.items;
             })) }
     {
         let module_name = String::from_str(self.alloc, module_name)?;
