@@ -8,12 +8,12 @@ use Rattle.vast_core.specs.declared.handle.VastDataType.{VastDataType}
 use Rattle.vast_core.specs.declared.handle.ModulePort.{ModulePort}
 use Rattle.vast_core.specs.declared.handle.ContinuousAssignment.{ContinuousAssignment}
 use Rattle.vast_core.specs.Nodes.{IsOwned, is_name, is_macro}
-use Rattle.vast_core.specs.Records.{Port, ParameterPort, ModuleRecord, ParameterForm, PlainForm, IntForm, DefinedForm, Member, DeclarationEntry, AssignmentEntry, ParameterEntry, BlankEntry, CommentEntry, InlineEntry, MacroEntry, InstanceEntry, FunctionEntry, AlwaysEntry, ConditionalEntry, LoopEntry, FileItem, ModuleEntry, IncludeEntry, FileCommentEntry, FileBlankEntry, Definition, Artifact, BlankArtifact, CommentArtifact, InlineArtifact, MacroArtifact, Connection, InstanceRecord}
+use Rattle.vast_core.specs.Records.{Port, ParameterPort, ModuleRecord, ParameterForm, PlainForm, IntForm, DefinedForm, Member, DeclarationEntry, AssignmentEntry, ParameterEntry, BlankEntry, CommentEntry, InlineEntry, MacroEntry, InstanceEntry, FunctionEntry, AlwaysEntry, ConditionalEntry, LoopEntry, FileItem, ModuleEntry, Definition, Artifact, BlankArtifact, CommentArtifact, InlineArtifact, MacroArtifact, Connection, InstanceRecord}
 use Rattle.vast_core.specs.declared.handle.LogicRef.{LogicRef}
 use Rattle.vast_core.specs.declared.handle.VastStatementBlock.{VastStatementBlock}
 use Rattle.vast_core.specs.declared.node.ElseIf.{ElseIf}
 use Rattle.vast_core.specs.declared.node.CaseArm.{CaseArm}
-use Rattle.vast_core.specs.Nests.{Statement, AssignStatement, ContinuousStatement, ConditionalStatement, CasesStatement, BlankStatement, CommentStatement, InlineStatement, NestRecord, BlockRecord, ConditionalNestRecord, CaseNestRecord, LoopNestRecord, FunctionVariable, FunctionRecord, AlwaysRecord, NestKind, NoKind, nest_kind, is_block_kind, is_conditional_kind, is_case_kind, is_loop_kind}
+use Rattle.vast_core.specs.Nests.{Statement, AssignStatement, ContinuousStatement, ConditionalStatement, CasesStatement, NestRecord, BlockRecord, ConditionalNestRecord, CaseNestRecord, LoopNestRecord, FunctionVariable, FunctionRecord, AlwaysRecord, NestKind, NoKind, nest_kind, is_block_kind, is_conditional_kind, is_case_kind, is_loop_kind}
 use Rattle.vast_core.specs.Bench.{Bench, OwnsExpr, OwnsType, OwnsLogicRef, OwnsPort, OwnsContinuous, is_continuous, is_comment, is_inline, is_macro_statement}
 use Rattle.vast_core.specs.Sound.{Each, PortSound, AssignmentSound, DefinitionSound, ArtifactSound, ConnectionSound, InstanceSound, FormSound, MemberSound, ParameterPortSound, ModuleSound, EntrySound, RecordsSound, HoldsBlock, StatementSound, ElseIfSound, CaseArmSound, AlwaysNewer, MemberNewer, LoopMemberSound, NestSound, NestsSound, VariableSound, FunctionSound, EventSound, AlwaysSound}
 use Rattle.vast_core.proofs.Lists.{Each-map, below-of, below-test, none-past}
@@ -160,9 +160,7 @@ StatementSound-kept b c g i (AssignStatement s) h = found-kept b c s.id b.assign
 StatementSound-kept b c g i (ContinuousStatement s) h = found-kept b c s.id b.assignments c.assignments g g.assignments h
 StatementSound-kept b c g i (ConditionalStatement x) h = (nest-kept is_conditional_kind b c x.id g never h.0, h.1)
 StatementSound-kept b c g i (CasesStatement x) h = (nest-kept is_case_kind b c x.id g never h.0, h.1)
-StatementSound-kept b c g i BlankStatement h = tt
-StatementSound-kept b c g i (CommentStatement text) h = tt
-StatementSound-kept b c g i (InlineStatement text) h = tt
+StatementSound-kept b c g i _ h = tt
 
 pub ElseIfSound-kept : (b c : Bench) → Grows b c → (i : ℕ) (a : ElseIf) → ElseIfSound b i a → ElseIfSound c i a
 ElseIfSound-kept b c g i a h = (HasExpr-kept b.nodes c.nodes g.nodes a.condition h.0, block-kept b c g i a.block h.1)
@@ -248,9 +246,7 @@ AlwaysSound-kept b c g a h = record { events = Each-map (EventSound-kept b c g) 
 
 pub EntrySound-kept : (b c : Bench) → Grows b c → (e : FileItem) → EntrySound b e → EntrySound c e
 EntrySound-kept b c g (ModuleEntry m) h = index-kept b c m.id (length b.modules) (length c.modules) g g.modules h
-EntrySound-kept b c g (IncludeEntry path) h = tt
-EntrySound-kept b c g (FileCommentEntry text) h = tt
-EntrySound-kept b c g FileBlankEntry h = tt
+EntrySound-kept b c g _ h = tt
 
 -- The records of b are sound in c.
 pub record Carried (b c : Bench) : Type 0 where

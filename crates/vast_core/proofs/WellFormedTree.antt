@@ -109,17 +109,7 @@ members-good b w s f g (m ∷ ms) h k = both_true (member-good b w s f g m h.0 k
 -- A loop declares nothing.
 loop-kind : (b : Bench) (i : ℕ) (m : Member) → MemberNewer b i m → HasOwnKind m
 loop-kind b i (DeclarationEntry kind name t) h = absurd h
-loop-kind b i (AssignmentEntry a) h = tt
-loop-kind b i (ParameterEntry local form value) h = tt
-loop-kind b i BlankEntry h = tt
-loop-kind b i (CommentEntry a) h = tt
-loop-kind b i (InlineEntry a) h = tt
-loop-kind b i (MacroEntry a) h = tt
-loop-kind b i (InstanceEntry x) h = tt
-loop-kind b i (FunctionEntry f) h = tt
-loop-kind b i (AlwaysEntry a) h = tt
-loop-kind b i (ConditionalEntry c) h = tt
-loop-kind b i (LoopEntry l) h = tt
+loop-kind b i _ h = tt
 
 loop_members-good :
     (b : Bench) → AreWellFormed b → FileSound b → (f : ℕ → Family) → ((i : ℕ) → IsGood (f i)) → (n : ℕ) (ms : List Member) → Each (LoopMemberSound b n) ms → are_well_formed_members (members_in b f ms) ≡ true

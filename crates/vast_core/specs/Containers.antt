@@ -8,9 +8,7 @@ use Rattle.vast_literal.specs.declared.kind.CaseKind.{CaseKind}
 -- A new entry of a container.
 pub use Rattle.vast_core.specs.declared.ast.growth.Entry.{Entry}
 pub use Rattle.vast_core.specs.declared.ast.growth.Entry.TheVariants.{Statement as StatementEnters, ElseIf as ElseIfEnters, Else as ElseEnters, CaseArm as CaseArmEnters, Member as MemberEnters}
-use Rattle.vast_core.specs.declared.node.ElseIf.{ElseIf}
-use Rattle.vast_core.specs.declared.node.CaseArm.{CaseArm}
-use Rattle.vast_core.specs.Records.{Member, changed_at}
+use Rattle.vast_core.specs.Records.{changed_at}
 use Rattle.vast_core.specs.Nests.{Statement, NestRecord, BlockRecord, ConditionalNestRecord, CaseNestRecord, LoopNestRecord}
 use Rattle.vast_core.specs.Bench.{Bench}
 use Rattle.vast_core.specs.Growth.{next_id}

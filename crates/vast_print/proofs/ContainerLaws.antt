@@ -18,8 +18,8 @@ use Rattle.vast_core.specs.Sound.{StatementSound}
 use Rattle.vast_core.proofs.Lists.{below-of}
 use Rattle.vast_core.specs.Bench.{Bench, OwnsStatement, tree_of, maybe_tree_of, trees_of}
 use Rattle.vast_core.specs.Nests.{NestRecord, BlockRecord, ConditionalNestRecord, CaseNestRecord, LoopNestRecord}
-use Rattle.vast_core.specs.declared.node.Statement.TheVariants.{Assignment as AssignStatement, Continuous as ContinuousStatement, Conditional as ConditionalStatement, Case as CasesStatement, BlankLine as BlankStatement, Comment as CommentStatement, Inline as InlineStatement}
-use Rattle.vast_core.specs.FileTree.{Family, BlockFamily, ConditionalFamily, CaseFamily, LoopFamily, NoFamily, family, unfolded, families, conditional_statement, case_statement, conditional_member, loop_member, form_of, assigned_tree, continuous_tree, statement_in, statements_tree, block_tree, alternates_tree, case_arms_tree, variable_tree}
+use Rattle.vast_core.specs.declared.node.Statement.TheVariants.{Assignment as AssignStatement, Continuous as ContinuousStatement, Conditional as ConditionalStatement, Case as CasesStatement}
+use Rattle.vast_core.specs.FileTree.{Family, BlockFamily, ConditionalFamily, CaseFamily, LoopFamily, family, unfolded, families, conditional_statement, case_statement, conditional_member, loop_member, form_of, assigned_tree, continuous_tree, statement_in, statements_tree, block_tree, alternates_tree, case_arms_tree, variable_tree}
 use Rattle.vast_print.specs.Internal.Bodies.{assignment_of, bare_assignment}
 use Rattle.vast_print.specs.Printed.{plain_text, ◌⊕◌}
 use Rattle.vast_print.specs.Page.{written}
@@ -150,12 +150,7 @@ pour-bare-entry : (b : Bench) (i d : ℕ) (k : Ink) (e : Statement) (s : VastSta
     pour d k (arm_body_page CaseZ (MoreStatements (statement_in b (families b) e) NoStatements))
     ≡ pour d k (statement_page (assigned_tree b (slice_get b.assignments s.id.index)))
 pour-bare-entry b i d k (AssignStatement t) s h own = let same : s ≡ t = cc in rw same (pour-bare-assigned b d k t own)
-pour-bare-entry b i d k (ContinuousStatement t) s h own = cc
-pour-bare-entry b i d k (ConditionalStatement c) s h own = cc
-pour-bare-entry b i d k (CasesStatement c) s h own = cc
-pour-bare-entry b i d k BlankStatement s h own = cc
-pour-bare-entry b i d k (CommentStatement text) s h own = cc
-pour-bare-entry b i d k (InlineStatement text) s h own = cc
+pour-bare-entry b i d k _ s h own = cc
 
 pub pour-arm-bare : (b : Bench) (i d : ℕ) (k : Ink) (w : CaseWord) (xs : List Statement) (s : VastStatement) → Some s ≡ bare_assignment w xs → All (StatementSound b i) xs →
     pour d k (arm_body_page w (statements_tree b xs)) ≡ pour d k (statement_page (assigned_tree b (slice_get b.assignments s.id.index)))
@@ -175,10 +170,7 @@ other-continuous b (Some a) = refl
 
 other-conditional : (f : Family) → IsOther (conditional_statement f)
 other-conditional (BlockFamily held) = refl
-other-conditional (ConditionalFamily c s rest) = refl
-other-conditional (CaseFamily s) = refl
-other-conditional (LoopFamily m) = refl
-other-conditional NoFamily = refl
+other-conditional _ = refl
 
 other-case-record : (b : Bench) (f : ℕ → Family) (o : Option NestRecord) → IsOther (case_statement (family b f o))
 other-case-record b f None = refl
@@ -200,9 +192,7 @@ not-bare-entry b (AssignStatement t) h = cc
 not-bare-entry b (ContinuousStatement t) h = other-continuous b (slice_get b.assignments t.id.index)
 not-bare-entry b (ConditionalStatement c) h = other-conditional (families b c.id.index)
 not-bare-entry b (CasesStatement c) h = other-case b c.id.index
-not-bare-entry b BlankStatement h = refl
-not-bare-entry b (CommentStatement text) h = refl
-not-bare-entry b (InlineStatement text) h = refl
+not-bare-entry b _ h = refl
 
 not-bare : (b : Bench) (w : CaseWord) (es : List Statement) → None ≡ bare_assignment w es → is_bare_arm w (statements_tree b es) ≡ false
 not-bare b CaseExact es h = refl
@@ -286,9 +276,6 @@ hang-held-loop b d k dialect i genvar start end label ms e = rw e (hang-loop d k
 pub hang-held-conditional-same : (d : ℕ) (k : Ink) (dialect : Dialect) (f : Family) → hang d k (member_page dialect (conditional_member f)) ≡ hang d k (statement_page (conditional_statement f))
 unfolding member_page statement_page
 hang-held-conditional-same d k dialect (BlockFamily held) = refl
-hang-held-conditional-same d k dialect (ConditionalFamily c s rest) = refl
-hang-held-conditional-same d k dialect (CaseFamily s) = refl
-hang-held-conditional-same d k dialect (LoopFamily m) = refl
-hang-held-conditional-same d k dialect NoFamily = refl
+hang-held-conditional-same d k dialect _ = refl
 
 pub ruleset members = (hang-declaration, hang-assign-same, hang-comment-member, hang-blank-member, hang-inline-member, hang-macro, hang-held-conditional-same, stops)

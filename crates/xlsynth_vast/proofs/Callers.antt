@@ -20,7 +20,7 @@ use Rattle.vast_core.specs.declared.node.Definition.{Definition}
 use Rattle.vast_core.specs.declared.node.Artifact.{Artifact}
 use Rattle.vast_core.specs.declared.node.Member.{Member}
 use Rattle.vast_core.specs.declared.node.Port.{Port}
-use Rattle.vast_core.specs.Nests.{NestRecord, BlockRecord, ConditionalNestRecord, CaseNestRecord, LoopNestRecord, FunctionRecord, AlwaysRecord, nest_kind, is_block_kind, is_conditional_kind, is_case_kind, is_loop_kind}
+use Rattle.vast_core.specs.Nests.{NestRecord, BlockRecord, FunctionRecord, AlwaysRecord, nest_kind, is_block_kind, is_conditional_kind, is_case_kind, is_loop_kind}
 use Rattle.vast_core.specs.declared.node.Statement.{Statement}
 use Rattle.vast_core.specs.Bench.{is_continuous, is_blank_line, is_comment, is_inline, is_macro_statement, names_of}
 use Rattle.vast_core.specs.Containers.{with_entry, has_else}
@@ -200,36 +200,28 @@ else-changed f h (x ∷ xs) (suc place) (suc i) = else-changed f h xs place i
 
 statement-else : (s : Statement) (n : NestRecord) → has_else (Some (with_entry (StatementEnters s) n)) ≡ has_else (Some n)
 statement-else s (BlockRecord ss) = refl
-statement-else s (ConditionalNestRecord c) = refl
-statement-else s (CaseNestRecord c) = refl
-statement-else s (LoopNestRecord l) = refl
+statement-else s _ = refl
 
 pub else_after_statement : (s : Statement) (xs : List NestRecord) (place i : ℕ) → has_else (slice_get (changed_at place (with_entry (StatementEnters s)) xs) i) ≡ has_else (slice_get xs i)
 else_after_statement s xs place i = else-changed (with_entry (StatementEnters s)) (statement-else s) xs place i
 
 else_if-else : (a : ElseIf) (n : NestRecord) → has_else (Some (with_entry (ElseIfEnters a) n)) ≡ has_else (Some n)
 else_if-else a (BlockRecord ss) = refl
-else_if-else a (ConditionalNestRecord c) = refl
-else_if-else a (CaseNestRecord c) = refl
-else_if-else a (LoopNestRecord l) = refl
+else_if-else a _ = refl
 
 pub else_after_else_if : (a : ElseIf) (xs : List NestRecord) (place i : ℕ) → has_else (slice_get (changed_at place (with_entry (ElseIfEnters a)) xs) i) ≡ has_else (slice_get xs i)
 else_after_else_if a xs place i = else-changed (with_entry (ElseIfEnters a)) (else_if-else a) xs place i
 
 case_arm-else : (a : CaseArm) (n : NestRecord) → has_else (Some (with_entry (CaseArmEnters a) n)) ≡ has_else (Some n)
 case_arm-else a (BlockRecord ss) = refl
-case_arm-else a (ConditionalNestRecord c) = refl
-case_arm-else a (CaseNestRecord c) = refl
-case_arm-else a (LoopNestRecord l) = refl
+case_arm-else a _ = refl
 
 pub else_after_case_arm : (a : CaseArm) (xs : List NestRecord) (place i : ℕ) → has_else (slice_get (changed_at place (with_entry (CaseArmEnters a)) xs) i) ≡ has_else (slice_get xs i)
 else_after_case_arm a xs place i = else-changed (with_entry (CaseArmEnters a)) (case_arm-else a) xs place i
 
 member-else : (m : Member) (n : NestRecord) → has_else (Some (with_entry (MemberEnters m) n)) ≡ has_else (Some n)
 member-else m (BlockRecord ss) = refl
-member-else m (ConditionalNestRecord c) = refl
-member-else m (CaseNestRecord c) = refl
-member-else m (LoopNestRecord l) = refl
+member-else m _ = refl
 
 pub else_after_member : (m : Member) (xs : List NestRecord) (place i : ℕ) → has_else (slice_get (changed_at place (with_entry (MemberEnters m)) xs) i) ≡ has_else (slice_get xs i)
 else_after_member m xs place i = else-changed (with_entry (MemberEnters m)) (member-else m) xs place i

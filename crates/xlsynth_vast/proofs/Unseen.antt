@@ -15,7 +15,7 @@ use Rattle.vast_core.specs.Nodes.{maybe_type_in, maybe_expr_in}
 use Rattle.vast_core.specs.Records.{ModuleRecord, InstanceRecord}
 use Rattle.vast_core.specs.declared.node.ParameterPort.{ParameterPort}
 use Rattle.vast_core.specs.declared.node.FileItem.{FileItem}
-use Rattle.vast_core.specs.declared.node.FileItem.TheVariants.{Module as ModuleEntry, Include as IncludeEntry, Comment as FileCommentEntry, BlankLine as FileBlankEntry}
+use Rattle.vast_core.specs.declared.node.FileItem.TheVariants.{Module as ModuleEntry, Include as IncludeEntry}
 use Rattle.vast_core.specs.declared.node.Definition.{Definition}
 use Rattle.vast_core.specs.declared.node.Artifact.{Artifact}
 use Rattle.vast_core.specs.declared.node.Artifact.TheVariants.{BlankLine as BlankArtifact, Comment as CommentArtifact, Inline as InlineArtifact, MacroStatement as MacroArtifact}
@@ -27,7 +27,7 @@ use Rattle.vast_core.specs.declared.node.Member.TheVariants.{Declaration as Decl
 use Rattle.vast_core.specs.declared.node.ParameterForm.TheVariants.{Plain as PlainForm, Int as IntForm, Defined as DefinedForm}
 use Rattle.vast_core.specs.Nests.{NestRecord, BlockRecord, ConditionalNestRecord, CaseNestRecord, LoopNestRecord, FunctionRecord, AlwaysRecord}
 use Rattle.vast_core.specs.declared.node.Statement.{Statement}
-use Rattle.vast_core.specs.declared.node.Statement.TheVariants.{Assignment as AssignStatement, Continuous as ContinuousStatement, Conditional as ConditionalStatement, Case as CasesStatement, BlankLine as BlankStatement, Comment as CommentStatement, Inline as InlineStatement}
+use Rattle.vast_core.specs.declared.node.Statement.TheVariants.{Assignment as AssignStatement, Continuous as ContinuousStatement, Conditional as ConditionalStatement, Case as CasesStatement}
 use Rattle.vast_core.specs.declared.node.FunctionVariable.{FunctionVariable}
 use Rattle.vast_core.specs.Bench.{Bench, OwnsExpr, OwnsType, is_continuous, tree_of, type_of, maybe_tree_of, trees_of}
 use Rattle.vast_core.specs.Sound.{Each, HoldsBlock, EventSound, VariableSound, ConnectionSound, PortSound, ParameterPortSound, AssignmentSound, DefinitionSound, ArtifactSound, InstanceSound, MemberSound, StatementSound, ElseIfSound, CaseArmSound, AlwaysNewer, MemberNewer, LoopMemberSound, NestSound, FunctionSound, AlwaysSound, ModuleSound, RecordsSound}
@@ -176,9 +176,7 @@ statement-alike b c a f g i q (AssignStatement s) h = let x = statement-at b c a
 statement-alike b c a f g i q (ContinuousStatement s) h = let x = statement-at b c a s.id.index h.of_kind in rw (x.here, x.there, x.left, x.right) refl
 statement-alike b c a f g i q (ConditionalStatement x) h = ap conditional_statement (q.at x.id.index h.1 (conditional-place b x h.0))
 statement-alike b c a f g i q (CasesStatement x) h = ap case_statement (q.at x.id.index h.1 (case-place b x h.0))
-statement-alike b c a f g i q BlankStatement h = refl
-statement-alike b c a f g i q (CommentStatement text) h = refl
-statement-alike b c a f g i q (InlineStatement text) h = refl
+statement-alike b c a f g i q _ h = refl
 
 statements-alike : (b c : Bench) → Alike b c → (f g : ℕ → Family) (i : ℕ) → Meet b (suc i) f g → (ss : List Statement) → Each (StatementSound b i) ss → statements_in c f ss ≡ statements_in b g ss
 statements-alike b c a f g i q [] h = refl
@@ -217,14 +215,7 @@ From b from (FunctionEntry x) = IfSome (slice_get b.functions x.id.index) (λ (r
 From b from (AlwaysEntry x) = IfSome (slice_get b.always_blocks x.id.index) (λ (r : AlwaysRecord). from ≤ r.block.id.index)
 From b from (ConditionalEntry x) = from ≤ x.id.index
 From b from (LoopEntry x) = from ≤ x.id.index
-From b from (DeclarationEntry kind name t) = Unit {0}
-From b from (AssignmentEntry x) = Unit {0}
-From b from (ParameterEntry local form value) = Unit {0}
-From b from BlankEntry = Unit {0}
-From b from (CommentEntry x) = Unit {0}
-From b from (InlineEntry x) = Unit {0}
-From b from (MacroEntry x) = Unit {0}
-From b from (InstanceEntry x) = Unit {0}
+From b from _ = Unit {0}
 
 function-alike :
     (b c : Bench) → Alike b c → (f g : ℕ → Family) (from : ℕ) → Meet b from f g → (o : Option FunctionRecord) → IfSome o (FunctionSound b) → IfSome o (λ (r : FunctionRecord). from ≤ r.body.id.index) →
@@ -263,18 +254,11 @@ newer-from i None h = tt
 newer-from i (Some x) h = h
 
 from-newer : (b : Bench) (i : ℕ) (m : Member) → MemberNewer b i m → From b (suc i) m
-from-newer b i (DeclarationEntry kind name t) h = tt
-from-newer b i (AssignmentEntry x) h = tt
-from-newer b i (ParameterEntry local form value) h = tt
-from-newer b i BlankEntry h = tt
-from-newer b i (CommentEntry x) h = tt
-from-newer b i (InlineEntry x) h = tt
-from-newer b i (MacroEntry x) h = tt
-from-newer b i (InstanceEntry x) h = tt
 from-newer b i (FunctionEntry x) h = absurd h
 from-newer b i (AlwaysEntry x) h = newer-from i (slice_get b.always_blocks x.id.index) h
 from-newer b i (ConditionalEntry x) h = h
 from-newer b i (LoopEntry x) h = h
+from-newer b i _ h = tt
 
 function-zero : (o : Option FunctionRecord) → IfSome o (λ (r : FunctionRecord). 0 ≤ r.body.id.index)
 function-zero None = tt
@@ -285,18 +269,11 @@ always-zero None = tt
 always-zero (Some x) = zero-le
 
 from-zero : (b : Bench) (m : Member) → From b 0 m
-from-zero b (DeclarationEntry kind name t) = tt
-from-zero b (AssignmentEntry x) = tt
-from-zero b (ParameterEntry local form value) = tt
-from-zero b BlankEntry = tt
-from-zero b (CommentEntry x) = tt
-from-zero b (InlineEntry x) = tt
-from-zero b (MacroEntry x) = tt
-from-zero b (InstanceEntry x) = tt
 from-zero b (FunctionEntry x) = function-zero (slice_get b.functions x.id.index)
 from-zero b (AlwaysEntry x) = always-zero (slice_get b.always_blocks x.id.index)
 from-zero b (ConditionalEntry x) = zero-le
 from-zero b (LoopEntry x) = zero-le
+from-zero b _ = tt
 
 loop-members-alike : (b c : Bench) → Alike b c → (f g : ℕ → Family) (i : ℕ) → Meet b (suc i) f g → (ms : List Member) → Each (LoopMemberSound b i) ms → members_in c f ms ≡ members_in b g ms
 loop-members-alike b c a f g i q [] h = refl
@@ -363,8 +340,7 @@ item-alike b c a (ModuleEntry m) =
     let o = slice_get b.modules m.id.index in
     ap (λ ms. maybe_module_tree c (slice_get ms m.id.index)) a.modules ∙ module-alike b c a o (found (ModuleSound b) b.modules m.id.index o a.sound.modules refl)
 item-alike b c a (IncludeEntry path) = refl
-item-alike b c a (FileCommentEntry text) = refl
-item-alike b c a FileBlankEntry = refl
+item-alike b c a _ = refl
 
 items-alike : (b c : Bench) → Alike b c → (es : List FileItem) → map (item_tree c) es ≡ map (item_tree b) es
 items-alike b c a [] = refl

@@ -1,6 +1,6 @@
 //! Definitions, artifacts and instantiations, which members are made of.
 
-ghost use Rattle.std.specs.Prelude.{◌≡◌, All, Some, slice_get, map};
+ghost use Rattle.std.specs.Prelude.{◌≡◌, All, Some, slice_get};
 ghost use Rattle.vast_core.specs.Records.{instance_record, BlankArtifact, CommentArtifact, InlineArtifact, MacroArtifact};
 ghost use Rattle.vast_core.specs.Bench.{OwnsType, OwnsMacroRef, OwnsDef, OwnsComment, OwnsInline, OwnsMacroStatement, OwnsInstantiation};
 ghost use Rattle.vast_core.specs.WrittenKinds.{HasValue};

@@ -4,16 +4,11 @@ use Rattle.vast_literal.specs.declared.kind.CaseKind.{CaseKind as CaseWord}
 use Rattle.vast_literal.specs.declared.kind.CaseKind.TheVariants.{Case as CaseExact, CaseZ, CaseX}
 use Rattle.vast_core.specs.declared.handle.VastStatement.{VastStatement}
 use Rattle.vast_core.specs.declared.node.Statement.{Statement}
-use Rattle.vast_core.specs.declared.node.Statement.TheVariants.{Assignment as AssignStatement, Continuous as ContinuousStatement, Conditional as ConditionalStatement, Case as CasesStatement, BlankLine as BlankStatement, Comment as CommentStatement, Inline as InlineStatement}
+use Rattle.vast_core.specs.declared.node.Statement.TheVariants.{Assignment as AssignStatement}
 
 abbrev pub assignment_of : Statement → Option VastStatement
 assignment_of (AssignStatement s) = Some s
-assignment_of (ContinuousStatement s) = None
-assignment_of (ConditionalStatement c) = None
-assignment_of (CasesStatement c) = None
-assignment_of BlankStatement = None
-assignment_of (CommentStatement text) = None
-assignment_of (InlineStatement text) = None
+assignment_of _ = None
 
 -- the assignment that is all that a block holds
 abbrev pub sole_assignment : List Statement → Option VastStatement
