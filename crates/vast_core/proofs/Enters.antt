@@ -8,7 +8,7 @@ use Rattle.vast_core.specs.declared.handle.CaseStatement.{CaseStatement}
 use Rattle.vast_core.specs.declared.handle.GenerateLoop.{GenerateLoop}
 use Rattle.vast_literal.specs.declared.kind.CaseKind.{CaseKind}
 use Rattle.vast_core.specs.declared.node.Assignment.{Assignment}
-use Rattle.vast_core.specs.Nests.{StatementEntry, AssignStatement, ContinuousStatement, ConditionalStatement, CasesStatement, BlockRecord, is_block_kind, is_conditional_kind, is_case_kind, is_loop_kind}
+use Rattle.vast_core.specs.Nests.{Statement, AssignStatement, ContinuousStatement, ConditionalStatement, CasesStatement, BlockRecord, is_block_kind, is_conditional_kind, is_case_kind, is_loop_kind}
 use Rattle.vast_core.specs.Bench.{Bench, OwnsExpr, OwnsBlock, OwnsConditional, OwnsCase, OwnsLoop, OwnsStatement}
 use Rattle.vast_core.specs.Growth.{with_assignment, next_id}
 use Rattle.vast_core.specs.Artifacts.{next_statement}
@@ -81,7 +81,7 @@ case-comes b kind selector h = record { terms = tt; port = tt; fresh_module = tt
 
 -- Statements of blocks.
 
-pub statement-enters : (b : Bench) (owner : VastStatementBlock) (s : StatementEntry) → OwnsBlock b owner → StatementSound b owner.id.index s → held_by_statement s ≡ [] → GrowthSound b (InNest owner.id.index (StatementEnters s)) no_fresh
+pub statement-enters : (b : Bench) (owner : VastStatementBlock) (s : Statement) → OwnsBlock b owner → StatementSound b owner.id.index s → held_by_statement s ≡ [] → GrowthSound b (InNest owner.id.index (StatementEnters s)) no_fresh
 statement-enters b owner s h k none = record { fresh = nothing-comes b b; listing = (block-place b owner h, k); placed = rw none refl }
 
 assignment-comes : (b : Bench) (a : Assignment) → AssignmentSound b a → FreshSound b (with_assignment a b) (fresh_assignment a)

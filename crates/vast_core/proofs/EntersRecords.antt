@@ -12,7 +12,7 @@ use Rattle.vast_literal.specs.declared.kind.DataKind.{DataKind}
 use Rattle.vast_literal.specs.declared.kind.ModulePortDirection.{ModulePortDirection}
 use Rattle.vast_core.specs.declared.node.Assignment.{Assignment}
 use Rattle.vast_core.specs.Nodes.{Root, ExprRoot, with_root as with_node}
-use Rattle.vast_core.specs.Records.{Port, ParameterPortRecord, DeclarationEntry, FileEntry, DefinitionRecord, ArtifactRecord, InstanceRecord}
+use Rattle.vast_core.specs.Records.{Port, ParameterPort, DeclarationEntry, FileItem, Definition, Artifact, InstanceRecord}
 use Rattle.vast_core.specs.Nests.{FunctionVariable}
 use Rattle.vast_core.specs.Bench.{Bench, OwnsExpr, OwnsType, OwnsModule, OwnsFunction, NameIsFree, IsFreeInFunction, type_of}
 use Rattle.vast_core.specs.Growth.{next_port, next_logic_ref}
@@ -34,11 +34,11 @@ pub assignment-stands : (b : Bench) (a : Assignment) → AssignmentSound b a →
 assignment-stands b a h =
     record { fresh = record { terms = tt; assignment = h; container = tt; port = tt; fresh_module = tt; function = tt; definition = tt; artifact = tt; instance = tt; always_block = tt }; listing = tt; placed = refl }
 
-pub definition-stands : (b : Bench) (d : DefinitionRecord) → DefinitionSound b d → GrowthSound b Nowhere (record no_fresh { definition = Some d })
+pub definition-stands : (b : Bench) (d : Definition) → DefinitionSound b d → GrowthSound b Nowhere (record no_fresh { definition = Some d })
 definition-stands b d h =
     record { fresh = record { terms = tt; assignment = tt; container = tt; port = tt; fresh_module = tt; function = tt; definition = h; artifact = tt; instance = tt; always_block = tt }; listing = tt; placed = refl }
 
-pub artifact-stands : (b : Bench) (a : ArtifactRecord) → ArtifactSound b a → GrowthSound b Nowhere (record no_fresh { artifact = Some a })
+pub artifact-stands : (b : Bench) (a : Artifact) → ArtifactSound b a → GrowthSound b Nowhere (record no_fresh { artifact = Some a })
 artifact-stands b a h =
     let f : Fresh = record no_fresh { artifact = Some a } in
     record {
@@ -58,7 +58,7 @@ instance-stands b i h k =
 
 -- Items of the file.
 
-pub item-enters : (b : Bench) (e : FileEntry) → EntrySound b e → GrowthSound b (InFile e) no_fresh
+pub item-enters : (b : Bench) (e : FileItem) → EntrySound b e → GrowthSound b (InFile e) no_fresh
 item-enters b e h = record { fresh = nothing-comes b b; listing = h; placed = refl }
 
 -- Members of a module.
@@ -82,7 +82,7 @@ declaration-enters-as b owner kind n own taken name t e f h own_kind k free = rw
 -- The header and the ports of a module.
 
 pub header-enters :
-    (b : Bench) (owner : VastModule) (p : ParameterPortRecord) (name : List ℕ) (type : Option VastDataType) → OwnsModule b owner → IfSome p.data_type (OwnsType b) → OwnsExpr b p.value → IfSome type (OwnsType b) →
+    (b : Bench) (owner : VastModule) (p : ParameterPort) (name : List ℕ) (type : Option VastDataType) → OwnsModule b owner → IfSome p.data_type (OwnsType b) → OwnsExpr b p.value → IfSome type (OwnsType b) →
     GrowthSound b (InHeader owner p) (fresh_name name type)
 header-enters b owner p name type h k l m =
     let f : Fresh = fresh_name name type in

@@ -9,7 +9,7 @@ use Rattle.vast_core.specs.declared.handle.GenerateLoop.{GenerateLoop}
 use Rattle.vast_core.specs.declared.handle.VastDataType.{VastDataType}
 use Rattle.vast_core.specs.declared.handle.VastStatementBlock.{VastStatementBlock}
 use Rattle.vast_literal.specs.declared.kind.AlwaysKind.{AlwaysKind}
-use Rattle.vast_core.specs.Records.{Member, DeclarationEntry, AssignmentEntry, ParameterEntry, BlankEntry, CommentEntry, InlineEntry, MacroEntry, InstanceEntry, FunctionEntry, AlwaysEntry, ConditionalEntry, LoopEntry, ParameterForm}
+use Rattle.vast_core.specs.Records.{Member, DeclarationEntry, AssignmentEntry, ParameterEntry, FunctionEntry, AlwaysEntry, ConditionalEntry, LoopEntry, ParameterForm}
 use Rattle.vast_core.specs.Nests.{LoopNestRecord, FunctionRecord}
 use Rattle.vast_core.specs.Bench.{Bench, OwnsExpr, OwnsType, OwnsBlock}
 use Rattle.vast_core.specs.DeclaredNames.{names_by_member}
@@ -41,31 +41,13 @@ IsUnnamed _ = Unit {0}
 
 no-names : (fs : List FunctionRecord) (m : Member) → IsUnnamed m → names_by_member fs m ≡ []
 no-names fs (DeclarationEntry kind name data_type) h = absurd h
-no-names fs (AssignmentEntry a) h = refl
-no-names fs (ParameterEntry local form value) h = refl
-no-names fs BlankEntry h = refl
-no-names fs (CommentEntry a) h = refl
-no-names fs (InlineEntry a) h = refl
-no-names fs (MacroEntry a) h = refl
-no-names fs (InstanceEntry i) h = refl
 no-names fs (FunctionEntry f) h = absurd h
-no-names fs (AlwaysEntry a) h = refl
-no-names fs (ConditionalEntry c) h = refl
-no-names fs (LoopEntry l) h = refl
+no-names fs _ h = refl
 
 own-kind : (m : Member) → IsUnnamed m → HasOwnKind m
 own-kind (DeclarationEntry kind name data_type) h = absurd h
-own-kind (AssignmentEntry a) h = tt
-own-kind (ParameterEntry local form value) h = tt
-own-kind BlankEntry h = tt
-own-kind (CommentEntry a) h = tt
-own-kind (InlineEntry a) h = tt
-own-kind (MacroEntry a) h = tt
-own-kind (InstanceEntry i) h = tt
 own-kind (FunctionEntry f) h = absurd h
-own-kind (AlwaysEntry a) h = tt
-own-kind (ConditionalEntry c) h = tt
-own-kind (LoopEntry l) h = tt
+own-kind _ h = tt
 
 -- What the member holds is newer than the loop that holds it.
 abbrev NewerIn : Scope → Bench → Member → Type 0
@@ -89,45 +71,24 @@ newer-in b c (ScopeLoop owner) m o h = h owner.id.index (loop-place b owner o)
 
 shared-unnamed : (m : Member) → IsShared m → IsUnnamed m
 shared-unnamed (DeclarationEntry kind name data_type) h = h
-shared-unnamed (AssignmentEntry a) h = tt
-shared-unnamed (ParameterEntry local form value) h = tt
-shared-unnamed BlankEntry h = tt
-shared-unnamed (CommentEntry a) h = tt
-shared-unnamed (InlineEntry a) h = tt
-shared-unnamed (MacroEntry a) h = tt
-shared-unnamed (InstanceEntry i) h = tt
 shared-unnamed (FunctionEntry f) h = h
-shared-unnamed (AlwaysEntry a) h = tt
-shared-unnamed (ConditionalEntry c) h = tt
-shared-unnamed (LoopEntry l) h = tt
+shared-unnamed _ h = tt
 
 shared-newer : (c : Bench) (i : ℕ) (m : Member) → IsShared m → MemberNewer c i m
 shared-newer c i (DeclarationEntry kind name data_type) h = h
-shared-newer c i (AssignmentEntry a) h = tt
-shared-newer c i (ParameterEntry local form value) h = tt
-shared-newer c i BlankEntry h = tt
-shared-newer c i (CommentEntry a) h = tt
-shared-newer c i (InlineEntry a) h = tt
-shared-newer c i (MacroEntry a) h = tt
-shared-newer c i (InstanceEntry x) h = tt
 shared-newer c i (FunctionEntry f) h = h
 shared-newer c i (AlwaysEntry a) h = absurd h
 shared-newer c i (ConditionalEntry x) h = absurd h
 shared-newer c i (LoopEntry l) h = absurd h
+shared-newer c i _ h = tt
 
 shared-alone : (m : Member) → IsShared m → held_by_member m ≡ []
 shared-alone (DeclarationEntry kind name data_type) h = absurd h
-shared-alone (AssignmentEntry a) h = refl
-shared-alone (ParameterEntry local form value) h = refl
-shared-alone BlankEntry h = refl
-shared-alone (CommentEntry a) h = refl
-shared-alone (InlineEntry a) h = refl
-shared-alone (MacroEntry a) h = refl
-shared-alone (InstanceEntry i) h = refl
 shared-alone (FunctionEntry f) h = absurd h
 shared-alone (AlwaysEntry a) h = absurd h
 shared-alone (ConditionalEntry c) h = absurd h
 shared-alone (LoopEntry l) h = absurd h
+shared-alone _ h = refl
 
 pub shared-enters : (b : Bench) (scope : Scope) (m : Member) → OwnsScope b scope → MemberSound b m → IsShared m → GrowthSound b (listing_in scope m) no_fresh
 shared-enters b scope m o k shared =

@@ -10,7 +10,7 @@ use Rattle.vast_core.specs.declared.node.Function.{Function}
 use Rattle.vast_core.specs.Raw.{Raw}
 use Rattle.vast_core.specs.Nodes.{no_nodes}
 use Rattle.vast_core.specs.Internal.Nodes.{TermsSound}
-use Rattle.vast_core.specs.Records.{ParameterPortRecord, ModuleRecord, Member, InstanceRecord, changed_at, with_port, with_parameter_port, module_record, definition_record, artifact_record, instance_record, file_entry}
+use Rattle.vast_core.specs.Records.{ParameterPort, ModuleRecord, Member, InstanceRecord, changed_at, with_port, with_parameter_port, module_record, instance_record}
 use Rattle.vast_core.specs.Nests.{NestRecord, BlockRecord, ConditionalNestRecord, CaseNestRecord, LoopNestRecord, FunctionVariable, FunctionRecord, nest_kind, is_block_kind, nest_record, function_record, always_record}
 use Rattle.vast_core.specs.Functions.{with_listed_variable}
 use Rattle.vast_core.specs.Bench.{Bench, OwnsBlock, OwnsPort, function_names}
@@ -21,7 +21,7 @@ use Rattle.vast_core.specs.DeclaredNames.{NamesSound}
 use Rattle.vast_core.specs.Parents.{Part, places, held_by_module}
 use Rattle.vast_core.specs.Sound.{Each, PortSound, AssignmentSound, MemberSound, ParameterPortSound, ModuleSound, EntrySound, DefinitionSound, ArtifactSound, InstanceSound, NestSound, NestsSound, VariableSound, FunctionSound, AlwaysSound, RecordsSound, FileSound, AreDistinct}
 use Rattle.vast_core.specs.Internal.Sound.{IsSound}
-use Rattle.vast_core.specs.Containers.{NestedEntry, StatementEnters, ElseIfEnters, ElseEnters, CaseArmEnters, MemberEnters, with_entry}
+use Rattle.vast_core.specs.Containers.{Entry, StatementEnters, ElseIfEnters, ElseEnters, CaseArmEnters, MemberEnters, with_entry}
 use Rattle.vast_core.specs.Internal.Containers.{Listing, Nowhere, InFile, InHeader, InPorts, InModule, InFunction, InNest, AsSpare, with_listed, listed_modules, listed_functions, listed_nests, listed_items, listed_spare, with_listing, added, with_empty_block, spare_left, with_fresh, Fresh, FreshSound, EntersSound, ListingSound, GrowthSound, ComesEmpty, FunctionComes, InstanceComes, read_off, after_growth}
 use Rattle.vast_core.specs.Internal.Arrivals.{ListingThere, fresh_node, fresh_of, terms_of}
 use Rattle.vast_core.specs.declared.ast.arrivals.Arrivals.{Arrivals}
@@ -107,7 +107,7 @@ RecordsSound-fresh b f s h =
 
 -- A new entry of a container.
 
-entry-sound : (b : Bench) (i : ℕ) (e : NestedEntry) → EntersSound b i e → (n : NestRecord) → NestSound b i n → NestSound b i (with_entry e n)
+entry-sound : (b : Bench) (i : ℕ) (e : Entry) → EntersSound b i e → (n : NestRecord) → NestSound b i n → NestSound b i (with_entry e n)
 entry-sound b i (StatementEnters s) h (BlockRecord ss) k = Each-push _ ss s k h
 entry-sound b i (StatementEnters s) h (ConditionalNestRecord c) k = k
 entry-sound b i (StatementEnters s) h (CaseNestRecord c) k = k
@@ -129,7 +129,7 @@ entry-sound b i (MemberEnters m) h (ConditionalNestRecord c) k = k
 entry-sound b i (MemberEnters m) h (CaseNestRecord c) k = k
 entry-sound b i (MemberEnters m) h (LoopNestRecord l) k = record { genvar = k.genvar; start = k.start; end = k.end; members = Each-push _ l.members m k.members h }
 
-EntersSound-kept : (b c : Bench) → Grows b c → (i : ℕ) (e : NestedEntry) → EntersSound b i e → EntersSound c i e
+EntersSound-kept : (b c : Bench) → Grows b c → (i : ℕ) (e : Entry) → EntersSound b i e → EntersSound c i e
 EntersSound-kept b c g i (StatementEnters s) h = StatementSound-kept b c g i s h
 EntersSound-kept b c g i (ElseIfEnters a) h = ElseIfSound-kept b c g i a h
 EntersSound-kept b c g i (ElseEnters x) h = block-kept b c g i x h
@@ -142,21 +142,11 @@ modules-count : (l : Listing) (ms : List ModuleRecord) → length (listed_module
 modules-count (InHeader owner p) ms = length-changed_at (with_parameter_port p) ms owner.id.index
 modules-count (InPorts owner port name) ms = length-changed_at (with_port port name) ms owner.id.index
 modules-count (InModule owner entry name) ms = length-changed_at (with_listed entry name) ms owner.id.index
-modules-count Nowhere ms = refl
-modules-count (InFile entry) ms = refl
-modules-count (InFunction f local v) ms = refl
-modules-count (InNest place entry) ms = refl
-modules-count (AsSpare block) ms = refl
+modules-count _ ms = refl
 
 nests-kinds : (l : Listing) (ns : List NestRecord) (i : ℕ) → nest_kind (slice_get (listed_nests l ns) i) ≡ nest_kind (slice_get ns i)
 nests-kinds (InNest place entry) ns i = kind-changed (with_entry entry) (entry-kind entry) ns place i
-nests-kinds Nowhere ns i = refl
-nests-kinds (InFile entry) ns i = refl
-nests-kinds (InHeader owner p) ns i = refl
-nests-kinds (InPorts owner port name) ns i = refl
-nests-kinds (InModule owner entry name) ns i = refl
-nests-kinds (InFunction f local v) ns i = refl
-nests-kinds (AsSpare block) ns i = refl
+nests-kinds _ ns i = refl
 
 pub Grows-listing : (b : Bench) (l : Listing) → Grows b (with_listing l b)
 Grows-listing b l =
@@ -173,7 +163,7 @@ Grows-listing b l =
       always_blocks = λ i a h. h;
     }
 
-header-sound : (b : Bench) (p : ParameterPortRecord) → ParameterPortSound b p → (x : ModuleRecord) → ModuleSound b x → ModuleSound b (with_parameter_port p x)
+header-sound : (b : Bench) (p : ParameterPort) → ParameterPortSound b p → (x : ModuleRecord) → ModuleSound b x → ModuleSound b (with_parameter_port p x)
 header-sound b p h x k = record { parameters = Each-push (ParameterPortSound b) x.parameters p k.parameters h; ports = k.ports; members = k.members }
 
 member-sound : (b : Bench) (entry : Member) (name : Option (List ℕ)) → MemberSound b entry → (x : ModuleRecord) → ModuleSound b x → ModuleSound b (with_listed entry name x)
@@ -185,21 +175,11 @@ listing-modules b c d (InHeader owner p) g h ms k = Each-changed_at (ModuleSound
 listing-modules b c d (InPorts owner port name) g h ms k =
     Each-changed_at (ModuleSound d) (with_port port name) (λ x e. record { parameters = e.parameters; ports = Each-push (OwnsPort d) x.ports port e.ports (port_stays c d g port h.port_there); members = e.members }) ms owner.id.index k
 listing-modules b c d (InModule owner entry name) g h ms k = Each-changed_at (ModuleSound d) (with_listed entry name) (member-sound d entry name (MemberSound-kept c d g entry h.member)) ms owner.id.index k
-listing-modules b c d Nowhere g h ms k = k
-listing-modules b c d (InFile entry) g h ms k = k
-listing-modules b c d (InFunction f local v) g h ms k = k
-listing-modules b c d (InNest place entry) g h ms k = k
-listing-modules b c d (AsSpare block) g h ms k = k
+listing-modules b c d _ g h ms k = k
 
 listing-nests : (b c d : Bench) (l : Listing) → Grows c d → ListingSound b c l → (ns : List NestRecord) → NestsSound d 0 ns → NestsSound d 0 (listed_nests l ns)
 listing-nests b c d (InNest place entry) g h ns k = nests-changed d 0 ns place place (with_entry entry) (omega arith) (entry-sound d place entry (EntersSound-kept c d g place entry h.1)) k
-listing-nests b c d Nowhere g h ns k = k
-listing-nests b c d (InFile entry) g h ns k = k
-listing-nests b c d (InHeader owner p) g h ns k = k
-listing-nests b c d (InPorts owner port name) g h ns k = k
-listing-nests b c d (InModule owner entry name) g h ns k = k
-listing-nests b c d (InFunction f local v) g h ns k = k
-listing-nests b c d (AsSpare block) g h ns k = k
+listing-nests b c d _ g h ns k = k
 
 distinct-listed : (b : Bench) (local : Bool) (v : FunctionVariable) (x : FunctionRecord) → IsFree v.name x.names → FunctionSound b x → AreDistinct (declared_names (with_listed_variable local v x))
 distinct-listed b local v x n k = (gains-variable local x v).distinct ((k.taken v.name).0 n) k.distinct
@@ -234,22 +214,11 @@ listing-functions b c d (InFunction f local v) g h k =
     Each-changed_there (FunctionSound d) (with_listed_variable local v) c.functions f.id.index
     (λ x e. variable-listed d local v (VariableSound-kept c d g v h.variable) x (free-there v.name (slice_get c.functions f.id.index) x e h.free)) k
 listing-functions b c d Nowhere g h k = k
-listing-functions b c d (InFile entry) g h k = k
-listing-functions b c d (InHeader owner p) g h k = k
-listing-functions b c d (InPorts owner port name) g h k = k
-listing-functions b c d (InModule owner entry name) g h k = k
-listing-functions b c d (InNest place entry) g h k = k
-listing-functions b c d (AsSpare block) g h k = k
+listing-functions b c d _ g h k = k
 
 listing-items : (b c d : Bench) (l : Listing) → Grows c d → ListingSound b c l → Each (EntrySound d) c.items → Each (EntrySound d) (listed_items l c.items)
 listing-items b c d (InFile entry) g h k = Each-push (EntrySound d) c.items entry k (EntrySound-kept c d g entry h)
-listing-items b c d Nowhere g h k = k
-listing-items b c d (InHeader owner p) g h k = k
-listing-items b c d (InPorts owner port name) g h k = k
-listing-items b c d (InModule owner entry name) g h k = k
-listing-items b c d (InFunction f local v) g h k = k
-listing-items b c d (InNest place entry) g h k = k
-listing-items b c d (AsSpare block) g h k = k
+listing-items b c d _ g h k = k
 
 RecordsSound-listing : (b c : Bench) (l : Listing) → RecordsSound c → ListingSound b c l → RecordsSound (with_listing l c)
 RecordsSound-listing b c l s h =
@@ -281,13 +250,7 @@ spare-fresh c true o h = tt
 
 spare-listing : (b c d : Bench) (l : Listing) → Grows c d → ListingSound b c l → IfSome c.spare (OwnsBlock d) → IfSome (listed_spare l c.spare) (OwnsBlock d)
 spare-listing b c d (AsSpare block) g h k = nest-kept is_block_kind c d block.id g never h
-spare-listing b c d Nowhere g h k = k
-spare-listing b c d (InFile entry) g h k = k
-spare-listing b c d (InHeader owner p) g h k = k
-spare-listing b c d (InPorts owner port name) g h k = k
-spare-listing b c d (InModule owner entry name) g h k = k
-spare-listing b c d (InFunction f local v) g h k = k
-spare-listing b c d (InNest place entry) g h k = k
+spare-listing b c d _ g h k = k
 
 -- A file stays sound.
 pub FileSound-growth : (b : Bench) (l : Listing) (f : Fresh) → FileSound b → GrowthSound b l f → FileSound (after_growth l f b)
@@ -325,32 +288,17 @@ swapped-nests :
 swapped-nests (InNest place entry) m k ns o block h =
     ap (with_empty_block block) (before-added (with_entry entry) ns o place h) ∙ before-block (with_entry entry) (added ns o) block place (omega (arith, length-added ns o, h))
 swapped-nests Nowhere m k ns o block h = refl
-swapped-nests (InFile entry) m k ns o block h = refl
-swapped-nests (InHeader owner p) m k ns o block h = refl
-swapped-nests (InPorts owner port name) m k ns o block h = refl
-swapped-nests (InModule owner entry name) m k ns o block h = refl
-swapped-nests (InFunction f local v) m k ns o block h = refl
-swapped-nests (AsSpare x) m k ns o block h = refl
+swapped-nests _ m k ns o block h = refl
 
 swapped-modules : (l : Listing) (n k : ℕ) (ms : List ModuleRecord) (o : Option ModuleRecord) → ListingThere (length ms) n k l → added (listed_modules l ms) o ≡ listed_modules l (added ms o)
 swapped-modules (InHeader owner p) n k ms o h = before-added (with_parameter_port p) ms o owner.id.index h
 swapped-modules (InPorts owner port name) n k ms o h = before-added (with_port port name) ms o owner.id.index h
 swapped-modules (InModule owner entry name) n k ms o h = before-added (with_listed entry name) ms o owner.id.index h
-swapped-modules Nowhere n k ms o h = refl
-swapped-modules (InFile entry) n k ms o h = refl
-swapped-modules (InFunction f local v) n k ms o h = refl
-swapped-modules (InNest place entry) n k ms o h = refl
-swapped-modules (AsSpare x) n k ms o h = refl
+swapped-modules _ n k ms o h = refl
 
 swapped-functions : (l : Listing) (m n : ℕ) (fs : List FunctionRecord) (o : Option FunctionRecord) → ListingThere m n (length fs) l → added (listed_functions l fs) o ≡ listed_functions l (added fs o)
 swapped-functions (InFunction f local v) m n fs o h = before-added (with_listed_variable local v) fs o f.id.index h
-swapped-functions Nowhere m n fs o h = refl
-swapped-functions (InFile entry) m n fs o h = refl
-swapped-functions (InHeader owner p) m n fs o h = refl
-swapped-functions (InPorts owner port name) m n fs o h = refl
-swapped-functions (InModule owner entry name) m n fs o h = refl
-swapped-functions (InNest place entry) m n fs o h = refl
-swapped-functions (AsSpare x) m n fs o h = refl
+swapped-functions _ m n fs o h = refl
 
 -- What the arenas hold once the code is done: those of b, with the entry and the nodes.
 pub record Admitted (b z : Raw) (l : Listing) (f : Fresh) : Type 0 where
@@ -363,11 +311,11 @@ pub record Admitted (b z : Raw) (l : Listing) (f : Fresh) : Type 0 where
   pub ports : z.ports ≡ added b.ports f.port
   pub modules : map module_record z.modules ≡ added (listed_modules l (map module_record b.modules)) f.fresh_module
   pub functions : map function_record z.functions ≡ added (listed_functions l (map function_record b.functions)) f.function
-  pub definitions : map definition_record z.definitions ≡ added (map definition_record b.definitions) f.definition
-  pub artifacts : map artifact_record z.artifacts ≡ added (map artifact_record b.artifacts) f.artifact
+  pub definitions : z.definitions ≡ added b.definitions f.definition
+  pub artifacts : z.artifacts ≡ added b.artifacts f.artifact
   pub instances : map instance_record z.instances ≡ added (map instance_record b.instances) f.instance
   pub always_blocks : map always_record z.always_blocks ≡ added (map always_record b.always_blocks) f.always_block
-  pub items : map file_entry z.items ≡ listed_items l (map file_entry b.items)
+  pub items : z.items ≡ listed_items l b.items
   pub spare : z.spare ≡ listed_spare l (spare_left f.takes_spare b.spare)
 
 there-mapped :
@@ -447,11 +395,11 @@ pub admitted :
     z.ports ≡ added b.ports (fresh_node y.node).port →
     map module_record m1 ≡ listed_modules l (map module_record b.modules) → map module_record z.modules ≡ added (map module_record m1) (fresh_node y.node).fresh_module →
     map function_record f1 ≡ listed_functions l (map function_record b.functions) → map function_record z.functions ≡ added (map function_record f1) (fresh_node y.node).function →
-    map definition_record z.definitions ≡ added (map definition_record b.definitions) (fresh_node y.node).definition →
-    map artifact_record z.artifacts ≡ added (map artifact_record b.artifacts) (fresh_node y.node).artifact →
+    z.definitions ≡ added b.definitions (fresh_node y.node).definition →
+    z.artifacts ≡ added b.artifacts (fresh_node y.node).artifact →
     map instance_record z.instances ≡ added (map instance_record b.instances) (fresh_node y.node).instance →
     map always_record z.always_blocks ≡ added (map always_record b.always_blocks) (fresh_node y.node).always_block →
-    map file_entry z.items ≡ listed_items l (map file_entry b.items) → z.spare ≡ listed_spare l (spare_left (fresh_node y.node).takes_spare b.spare) → Admitted b z l (fresh_of y)
+    z.items ≡ listed_items l b.items → z.spare ≡ listed_spare l (spare_left (fresh_node y.node).takes_spare b.spare) → Admitted b z l (fresh_of y)
 admitted b z l y n1 n2 m1 f1 there file_type id t x p q r ports m modules f functions d a i u items spare =
     record {
       there = there;
@@ -474,14 +422,12 @@ admitted b z l y n1 n2 m1 f1 there file_type id t x p q r ports m modules f func
 -- The list that gains the entry is there.
 
 listing-there : (a b : Raw) (c : Bench) (l : Listing) → b ≡ a → ListingSound (bench a) c l → ListingThere (length b.modules) (length b.nests) (length b.functions) l
-listing-there a b c Nowhere e h = tt
-listing-there a b c (InFile entry) e h = tt
 listing-there a b c (InHeader owner p) e h = module-below a b owner.id.index e h.0.of_kind
 listing-there a b c (InPorts owner port name) e h = module-below a b owner.id.index e h.owner_there.of_kind
 listing-there a b c (InModule owner entry name) e h = module-below a b owner.id.index e h.owner_there.of_kind
 listing-there a b c (InFunction f local v) e h = function-below a b f.id.index e h.function_there.of_kind
 listing-there a b c (InNest place entry) e h = let k : place < length (bench a).nests = h.0 in rw (length-nests a b e) at k
-listing-there a b c (AsSpare block) e h = tt
+listing-there a b c _ e h = tt
 
 pub growth-there : (a b : Raw) (l : Listing) (f : Fresh) → b ≡ a → GrowthSound (bench a) l f → ListingThere (length b.modules) (length b.nests) (length b.functions) l
 growth-there a b l f e h = listing-there a b (with_fresh f (bench a)) l e h.listing

@@ -104,15 +104,6 @@ Each-get P [] i x h e = cc
 Each-get P (y ∷ xs) zero x h e = let same : x ≡ y = cc in rw same h.0
 Each-get P (y ∷ xs) (suc i) x h e = Each-get P xs i x h.1 e
 
-pub All-Each : {A B : Type 0} (v : A → B) (P : B → Type 0) (xs : List A) → Each P (map v xs) → All (λ x. P (v x)) xs
-All-Each v P [] h k d below = absurd (omega arith)
-All-Each v P (x ∷ xs) h zero d below = h.0
-All-Each v P (x ∷ xs) h (suc k) d below = All-Each v P xs h.1 k d (omega arith)
-
-pub Each-All : {A B : Type 0} (v : A → B) (P : B → Type 0) (xs : List A) → All (λ x. P (v x)) xs → Each P (map v xs)
-Each-All v P [] h = tt
-Each-All v P (x ∷ xs) h = (h 0 x (omega arith), Each-All v P xs (λ k d below. h (suc k) d (omega arith)))
-
 pub All-own : {A : Type 0} (P : A → Type 0) (xs : List A) → Each P xs → All P xs
 All-own P [] h k d below = absurd (omega arith)
 All-own P (x ∷ xs) h zero d below = h.0

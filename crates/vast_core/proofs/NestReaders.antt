@@ -8,7 +8,7 @@ use Rattle.vast_core.specs.declared.node.Function.{Function}
 use Rattle.vast_core.specs.declared.node.AlwaysBlock.{AlwaysBlock}
 use Rattle.vast_core.specs.Raw.{Raw}
 use Rattle.vast_core.specs.Records.{changed_at}
-use Rattle.vast_core.specs.Nests.{NestRecord, BlockRecord, ConditionalNestRecord, CaseNestRecord, LoopNestRecord, nest_record, function_record, always_record, nest_kind}
+use Rattle.vast_core.specs.Nests.{NestRecord, BlockRecord, CaseNestRecord, nest_record, function_record, always_record, nest_kind}
 use Rattle.vast_core.specs.Bench.{Bench, OwnsBlock}
 use Rattle.vast_core.specs.View.{bench}
 use Rattle.vast_core.specs.Containers.{with_unique}
@@ -65,15 +65,11 @@ events-all b es h = All-own (EventSound b) es h
 
 unique-kind : (u : Bool) (n : NestRecord) → nest_kind (Some (with_unique u n)) ≡ nest_kind (Some n)
 unique-kind u (BlockRecord ss) = refl
-unique-kind u (ConditionalNestRecord c) = refl
-unique-kind u (CaseNestRecord c) = refl
-unique-kind u (LoopNestRecord l) = refl
+unique-kind u _ = refl
 
 unique-sound : (b : Bench) (i : ℕ) (u : Bool) (n : NestRecord) → NestSound b i n → NestSound b i (with_unique u n)
-unique-sound b i u (BlockRecord ss) h = h
-unique-sound b i u (ConditionalNestRecord c) h = h
 unique-sound b i u (CaseNestRecord c) h = record { selector = h.selector; arms = h.arms }
-unique-sound b i u (LoopNestRecord l) h = h
+unique-sound b i u _ h = h
 
 pub Grows-unique : (b : Bench) (i : ℕ) (u : Bool) → Grows b (record b { nests = changed_at i (with_unique u) b.nests })
 Grows-unique b i u =

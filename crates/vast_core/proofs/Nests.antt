@@ -4,10 +4,10 @@ use Rattle.std.specs.Prelude.{IfSome}
 use Rattle.vast_core.specs.declared.handle.VastStatementBlock.{VastStatementBlock}
 use Rattle.vast_core.specs.declared.node.ElseIf.{ElseIf}
 use Rattle.vast_core.specs.declared.node.CaseArm.{CaseArm}
-use Rattle.vast_core.specs.Records.{Member, DeclarationEntry, AssignmentEntry, ParameterEntry, BlankEntry, CommentEntry, InlineEntry, MacroEntry, InstanceEntry, FunctionEntry, AlwaysEntry, ConditionalEntry, LoopEntry, changed_at}
-use Rattle.vast_core.specs.Nests.{StatementEntry, AssignStatement, ContinuousStatement, ConditionalStatement, CasesStatement, BlankStatement, CommentStatement, InlineStatement, NestRecord, BlockRecord, ConditionalNestRecord, CaseNestRecord, LoopNestRecord, AlwaysRecord, NestKind, NoKind, nest_kind}
+use Rattle.vast_core.specs.Records.{Member, DeclarationEntry, FunctionEntry, AlwaysEntry, ConditionalEntry, LoopEntry, changed_at}
+use Rattle.vast_core.specs.Nests.{Statement, ConditionalStatement, CasesStatement, NestRecord, BlockRecord, ConditionalNestRecord, CaseNestRecord, LoopNestRecord, AlwaysRecord, NestKind, NoKind, nest_kind}
 use Rattle.vast_core.specs.Bench.{Bench, tree_of, maybe_tree_of, trees_of}
-use Rattle.vast_core.specs.Containers.{NestedEntry, StatementEnters, ElseIfEnters, ElseEnters, CaseArmEnters, MemberEnters, with_entry}
+use Rattle.vast_core.specs.Containers.{Entry, StatementEnters, ElseIfEnters, ElseEnters, CaseArmEnters, MemberEnters, with_entry}
 use Rattle.vast_core.specs.FileTree.{Family, BlockFamily, ConditionalFamily, CaseFamily, LoopFamily, block_in, conditional_statement, case_statement, conditional_member, loop_member, statement_in, statements_in, otherwise_in, alternates_in, arms_in, always_in, member_in, members_in, family, unfolded, families}
 use Rattle.vast_literal.specs.Tree.{ElseIf as ElseIfTree, Else, CaseArm as CaseArmTree, MoreStatements, MoreMembers, CaseTree, LoopMember, AlwaysMember}
 use Rattle.vast_core.specs.Sound.{Each, HoldsBlock, StatementSound, ElseIfSound, CaseArmSound, AlwaysNewer, MemberNewer, LoopMemberSound, NestSound, NestsSound}
@@ -23,16 +23,12 @@ kind-there test (x ∷ ns) (suc i) n h = omega (arith, kind-there test ns i n h)
 pub record Agree (i : ℕ) (f g : ℕ → Family) : Type 0 where
   pub at : (j : ℕ) → i < j → f j ≡ g j
 
-statement-same : (b : Bench) (f g : ℕ → Family) (i : ℕ) → Agree i f g → (s : StatementEntry) → StatementSound b i s → statement_in b f s ≡ statement_in b g s
-statement-same b f g i q (AssignStatement s) h = refl
-statement-same b f g i q (ContinuousStatement s) h = refl
+statement-same : (b : Bench) (f g : ℕ → Family) (i : ℕ) → Agree i f g → (s : Statement) → StatementSound b i s → statement_in b f s ≡ statement_in b g s
 statement-same b f g i q (ConditionalStatement c) h = ap conditional_statement (q.at c.id.index h.1)
 statement-same b f g i q (CasesStatement c) h = ap case_statement (q.at c.id.index h.1)
-statement-same b f g i q BlankStatement h = refl
-statement-same b f g i q (CommentStatement text) h = refl
-statement-same b f g i q (InlineStatement text) h = refl
+statement-same b f g i q _ h = refl
 
-statements-same : (b : Bench) (f g : ℕ → Family) (i : ℕ) → Agree i f g → (ss : List StatementEntry) → Each (StatementSound b i) ss → statements_in b f ss ≡ statements_in b g ss
+statements-same : (b : Bench) (f g : ℕ → Family) (i : ℕ) → Agree i f g → (ss : List Statement) → Each (StatementSound b i) ss → statements_in b f ss ≡ statements_in b g ss
 statements-same b f g i q [] h = refl
 statements-same b f g i q (s ∷ ss) h =
     ap (λ x. MoreStatements x (statements_in b f ss)) (statement-same b f g i q s h.0)
@@ -62,17 +58,11 @@ always-same b f g i q (Some a) h = ap (λ x. AlwaysMember a.kind (trees_of b a.e
 
 member-same : (b : Bench) (f g : ℕ → Family) (i : ℕ) → Agree i f g → (m : Member) → MemberNewer b i m → member_in b f m ≡ member_in b g m
 member-same b f g i q (DeclarationEntry kind name t) h = absurd h
-member-same b f g i q (AssignmentEntry a) h = refl
-member-same b f g i q (ParameterEntry local form value) h = refl
-member-same b f g i q BlankEntry h = refl
-member-same b f g i q (CommentEntry a) h = refl
-member-same b f g i q (InlineEntry a) h = refl
-member-same b f g i q (MacroEntry a) h = refl
-member-same b f g i q (InstanceEntry x) h = refl
 member-same b f g i q (FunctionEntry x) h = absurd h
 member-same b f g i q (AlwaysEntry a) h = always-same b f g i q (slice_get b.always_blocks a.id.index) h
 member-same b f g i q (ConditionalEntry c) h = ap conditional_member (q.at c.id.index h)
 member-same b f g i q (LoopEntry l) h = ap loop_member (q.at l.id.index h)
+member-same b f g i q _ h = refl
 
 members-same : (b : Bench) (f g : ℕ → Family) (i : ℕ) → Agree i f g → (ms : List Member) → Each (LoopMemberSound b i) ms → members_in b f ms ≡ members_in b g ms
 members-same b f g i q [] h = refl
@@ -157,7 +147,7 @@ changed-before f (x ∷ xs) ys zero h = refl
 changed-before f (x ∷ xs) ys (suc i) h = ap (λ r. x ∷ r) (changed-before f xs ys i (omega arith))
 
 -- A container has the kind that it had before an entry came.
-pub entry-kind : (e : NestedEntry) (n : NestRecord) → nest_kind (Some (with_entry e n)) ≡ nest_kind (Some n)
+pub entry-kind : (e : Entry) (n : NestRecord) → nest_kind (Some (with_entry e n)) ≡ nest_kind (Some n)
 entry-kind (StatementEnters s) (BlockRecord ss) = refl
 entry-kind (StatementEnters s) (ConditionalNestRecord c) = refl
 entry-kind (StatementEnters s) (CaseNestRecord c) = refl

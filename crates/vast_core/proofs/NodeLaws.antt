@@ -9,7 +9,7 @@ use Rattle.vast_core.specs.declared.handle.VastDataType.{VastDataType}
 use Rattle.vast_core.specs.declared.node.ExprNode.{ExprNode}
 use Rattle.vast_core.specs.declared.node.ExprNode.TheVariants.{Name, Literal, StringText, Unary, Binary, Ternary, Index, Slice, PartSelect, Concat, Pattern, WidthCast, TypeCast, PosEdge, NegEdge, Macro, MacroCall, Call, DataType}
 use Rattle.vast_core.specs.declared.node.TypeNode.{TypeNode}
-use Rattle.vast_core.specs.declared.node.TypeNode.TheVariants.{Scalar, Vector, Integer, Int, External, Package, Packed, Unpacked}
+use Rattle.vast_core.specs.declared.node.TypeNode.TheVariants.{Vector, Packed, Unpacked}
 use Rattle.vast_core.specs.Handles.{rank, type_rank}
 use Rattle.vast_core.specs.Nodes.{Root, ExprRoot, TypeRoot, Nodes, no_nodes, with_root, is_expr_root, is_type_root, is_root_of, expr_of_root, type_of_root, expr_in, type_in, maybe_type_in, maybe_expr_in, exprs_in, expr_tree, type_tree, term_root, ExprChildrenHold, TypeChildrenHold, built}
 use Rattle.vast_core.specs.Internal.Nodes.{HasExpr, HasType, ChildrenHold, RootFits, RootWellFormed, TermsSound, IsNodeAt}
@@ -133,8 +133,6 @@ expr_children-map :
     ExprChildrenHold P Q n →
     ExprChildrenHold P2 Q2 n
 expr_children-map f g (Name name type) h = IfSome_then type h g
-expr_children-map f g (Literal text value) h = tt
-expr_children-map f g (StringText text) h = tt
 expr_children-map f g (Unary operator operand) h = f operand h
 expr_children-map f g (Binary operator left right) h = (f left h.0, f right h.1)
 expr_children-map f g (Ternary condition consequent alternate) h = (f condition h.0, f consequent h.1, f alternate h.2)
@@ -147,10 +145,10 @@ expr_children-map f g (WidthCast width operand) h = (f width h.0, f operand h.1)
 expr_children-map f g (TypeCast type operand) h = (g type h.0, f operand h.1)
 expr_children-map f g (PosEdge operand) h = f operand h
 expr_children-map f g (NegEdge operand) h = f operand h
-expr_children-map f g (Macro name) h = tt
 expr_children-map f g (MacroCall name arguments) h = All-implies f arguments.items h
 expr_children-map f g (Call name arguments) h = All-implies f arguments.items h
 expr_children-map f g (DataType n) h = h
+expr_children-map f g _ h = tt
 
 type_children-map :
     {P P2 : Expr → Type 0} {Q Q2 : VastDataType → Type 0} →
@@ -159,14 +157,10 @@ type_children-map :
     (n : TypeNode) →
     TypeChildrenHold P Q n →
     TypeChildrenHold P2 Q2 n
-type_children-map f g (Scalar signed) h = tt
 type_children-map f g (Vector width value signed) h = f width h
-type_children-map f g (Integer signed) h = tt
-type_children-map f g (Int signed) h = tt
-type_children-map f g (External name) h = tt
-type_children-map f g (Package p) h = tt
 type_children-map f g (Packed element dimensions) h = g element h
 type_children-map f g (Unpacked element dimensions) h = g element h
+type_children-map f g _ h = tt
 
 children-map :
     {P P2 : Expr → Type 0} {Q Q2 : VastDataType → Type 0} →
@@ -192,8 +186,6 @@ exprs-kept b c x (e ∷ es) h = cc (expr_in-kept b c x e (All-head (HasExpr b) e
 
 expr_tree-kept : (b c : Nodes) → Extends b c → (n : ExprNode) → ExprChildrenHold (HasExpr b) (HasType b) n → expr_tree c n ≡ expr_tree b n
 expr_tree-kept b c x (Name name type) h = cc (maybe_type-kept b c x type h)
-expr_tree-kept b c x (Literal text value) h = refl
-expr_tree-kept b c x (StringText text) h = refl
 expr_tree-kept b c x (Unary operator operand) h = cc (expr_in-kept b c x operand h)
 expr_tree-kept b c x (Binary operator left right) h = cc (expr_in-kept b c x left h.0, expr_in-kept b c x right h.1)
 expr_tree-kept b c x (Ternary condition consequent alternate) h = cc (expr_in-kept b c x condition h.0, expr_in-kept b c x consequent h.1, expr_in-kept b c x alternate h.2)
@@ -206,20 +198,15 @@ expr_tree-kept b c x (WidthCast width operand) h = cc (expr_in-kept b c x width 
 expr_tree-kept b c x (TypeCast type operand) h = cc (type_in-kept b c x type h.0, expr_in-kept b c x operand h.1)
 expr_tree-kept b c x (PosEdge operand) h = cc (expr_in-kept b c x operand h)
 expr_tree-kept b c x (NegEdge operand) h = cc (expr_in-kept b c x operand h)
-expr_tree-kept b c x (Macro name) h = refl
 expr_tree-kept b c x (MacroCall name arguments) h = cc (exprs-kept b c x arguments.items h)
 expr_tree-kept b c x (Call name arguments) h = cc (exprs-kept b c x arguments.items h)
-expr_tree-kept b c x (DataType n) h = refl
+expr_tree-kept b c x _ h = refl
 
 type_tree-kept : (b c : Nodes) → Extends b c → (n : TypeNode) → TypeChildrenHold (HasExpr b) (HasType b) n → type_tree c n ≡ type_tree b n
-type_tree-kept b c x (Scalar signed) h = refl
 type_tree-kept b c x (Vector width value signed) h = cc (expr_in-kept b c x width h)
-type_tree-kept b c x (Integer signed) h = refl
-type_tree-kept b c x (Int signed) h = refl
-type_tree-kept b c x (External name) h = refl
-type_tree-kept b c x (Package p) h = refl
 type_tree-kept b c x (Packed element dimensions) h = cc (type_in-kept b c x element h)
 type_tree-kept b c x (Unpacked element dimensions) h = cc (type_in-kept b c x element h)
+type_tree-kept b c x _ h = refl
 
 term_root-kept : (b c : Nodes) → Extends b c → (t : ExprNode) → ChildrenHold (HasExpr b) (HasType b) t → term_root c t ≡ term_root b t
 term_root-kept b c x (DataType n) h = ap TypeRoot (type_tree-kept b c x n h)
@@ -257,32 +244,20 @@ expr_node-well_formed : (b : Nodes) (n : ExprNode) → ExprChildrenHold (λ e. E
 expr_node-well_formed b (Name name type) h f = maybe_type-well_formed b type h
 expr_node-well_formed b (Literal text value) h f = f
 expr_node-well_formed b (StringText text) h f = f
-expr_node-well_formed b (Unary operator operand) h f = h
-expr_node-well_formed b (Binary operator left right) h f = h
-expr_node-well_formed b (Ternary condition consequent alternate) h f = h
-expr_node-well_formed b (Index subject index) h f = h
-expr_node-well_formed b (Slice subject high low) h f = h
 expr_node-well_formed b (PartSelect subject start width) h f = (f, h.0, h.1)
 expr_node-well_formed b (Concat count parts) h f = (maybe_expr-well_formed b count h.0, exprs-well_formed b parts.items h.1)
 expr_node-well_formed b (Pattern parts) h f = exprs-well_formed b parts.items h
-expr_node-well_formed b (WidthCast width operand) h f = h
 expr_node-well_formed b (TypeCast type operand) h f = (f, h.0, h.1)
-expr_node-well_formed b (PosEdge operand) h f = h
-expr_node-well_formed b (NegEdge operand) h f = h
 expr_node-well_formed b (Macro name) h f = tt
 expr_node-well_formed b (MacroCall name arguments) h f = exprs-well_formed b arguments.items h
 expr_node-well_formed b (Call name arguments) h f = exprs-well_formed b arguments.items h
-expr_node-well_formed b (DataType n) h f = h
+expr_node-well_formed b _ h f = h
 
 type_node-well_formed : (b : Nodes) (n : TypeNode) → TypeChildrenHold (λ e. ExprWellFormed (expr_in b e)) (λ t. TypeWellFormed (type_in b t)) n → TypeFits (type_tree b n) → TypeWellFormed (type_tree b n)
-type_node-well_formed b (Scalar signed) h f = tt
 type_node-well_formed b (Vector width value signed) h f = (f, h)
-type_node-well_formed b (Integer signed) h f = tt
-type_node-well_formed b (Int signed) h f = tt
-type_node-well_formed b (External name) h f = tt
-type_node-well_formed b (Package p) h f = tt
 type_node-well_formed b (Packed element dimensions) h f = (f, h)
 type_node-well_formed b (Unpacked element dimensions) h f = (f, h)
+type_node-well_formed b _ h f = tt
 
 node-well_formed : (b : Nodes) (t : ExprNode) → Each RootWellFormed b.roots → ChildrenHold (HasExpr b) (HasType b) t → RootFits (term_root b t) → RootWellFormed (term_root b t)
 node-well_formed b (DataType n) w h f = type_node-well_formed b n (type_children-map (expr-well_formed b w) (type-well_formed b w) n h) f

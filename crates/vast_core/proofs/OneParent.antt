@@ -8,7 +8,7 @@ use Rattle.vast_core.specs.Nests.{ConditionalRecord, NestRecord, BlockRecord, Co
 use Rattle.vast_core.specs.Bench.{Bench}
 use Rattle.vast_core.specs.Functions.{with_listed_variable}
 use Rattle.vast_core.specs.Hoisting.{with_hoisted, with_members_hoisted}
-use Rattle.vast_core.specs.Containers.{NestedEntry, StatementEnters, ElseIfEnters, ElseEnters, CaseArmEnters, MemberEnters, with_entry, with_unique, with_case_unique}
+use Rattle.vast_core.specs.Containers.{Entry, StatementEnters, ElseIfEnters, ElseEnters, CaseArmEnters, MemberEnters, with_entry, with_unique, with_case_unique}
 use Rattle.vast_core.specs.Internal.Containers.{Listing, Nowhere, InFile, InHeader, InPorts, InModule, InFunction, InNest, AsSpare, with_listed, listed_functions, listed_nests, with_listing, added, Fresh, with_fresh, with_empty_block, spare_left, after_growth, read_off, held_by_entry, held_by_listing, held_by_fresh, made_containers, made, spare_used}
 use Rattle.vast_core.specs.Parents.{Part, ContainerPart, FunctionPart, AlwaysPart, is_same, held_by_statement, held_by_member, held_by_else_if, held_by_block, held_by_case_arm, held_by_conditional, held_by_container, held_by_function, held_by_always, held_by_module, held, places, present, HasOneParent}
 use Rattle.vast_core.proofs.Lists.{length-changed_at, length-push}
@@ -23,7 +23,7 @@ conditional-places p c =
     omega (arith, outer, inner)
 
 -- A container gains at most what its new entry places.
-entered : (p : Part) (e : NestedEntry) (n : NestRecord) → places p (held_by_container (with_entry e n)) ≤ places p (held_by_container n) + places p (held_by_entry e)
+entered : (p : Part) (e : Entry) (n : NestRecord) → places p (held_by_container (with_entry e n)) ≤ places p (held_by_container n) + places p (held_by_entry e)
 entered p (StatementEnters s) (BlockRecord statements) = let e = over-push (is_same p) held_by_statement statements s in omega (arith, e)
 entered p (StatementEnters s) (ConditionalNestRecord c) = omega arith
 entered p (StatementEnters s) (CaseNestRecord c) = omega arith
@@ -214,23 +214,11 @@ present-made (AlwaysPart i) f b =
 
 length-nests : (l : Listing) (ns : List NestRecord) → length (listed_nests l ns) ≡ length ns
 length-nests (InNest place entry) ns = length-changed_at (with_entry entry) ns place
-length-nests Nowhere ns = refl
-length-nests (InFile entry) ns = refl
-length-nests (InHeader owner x) ns = refl
-length-nests (InPorts owner port name) ns = refl
-length-nests (InModule owner entry name) ns = refl
-length-nests (InFunction f local v) ns = refl
-length-nests (AsSpare block) ns = refl
+length-nests _ ns = refl
 
 pub length-functions : (l : Listing) (fs : List FunctionRecord) → length (listed_functions l fs) ≡ length fs
 length-functions (InFunction f local v) fs = length-changed_at (with_listed_variable local v) fs f.id.index
-length-functions Nowhere fs = refl
-length-functions (InFile entry) fs = refl
-length-functions (InHeader owner x) fs = refl
-length-functions (InPorts owner port name) fs = refl
-length-functions (InModule owner entry name) fs = refl
-length-functions (InNest place entry) fs = refl
-length-functions (AsSpare block) fs = refl
+length-functions _ fs = refl
 
 present-listed : (p : Part) (l : Listing) (b : Bench) → present (with_listing l b) p ≡ present b p
 present-listed (ContainerPart i) l b = ap (below i) (length-nests l b.nests)
@@ -271,9 +259,7 @@ HasOneParent-hoisted b owner start h =
 
 same-unique : (p : Part) (unique : Bool) (n : NestRecord) → places p (held_by_container (with_unique unique n)) ≤ places p (held_by_container n) + 0
 same-unique p unique (BlockRecord statements) = omega arith
-same-unique p unique (ConditionalNestRecord c) = omega arith
-same-unique p unique (CaseNestRecord c) = omega arith
-same-unique p unique (LoopNestRecord l) = omega arith
+same-unique p unique _ = omega arith
 
 present-unique : (p : Part) (c : CaseStatement) (unique : Bool) (b : Bench) → present (with_case_unique c unique b) p ≡ present b p
 present-unique (ContainerPart i) c unique b = ap (below i) (length-changed_at (with_unique unique) b.nests c.id.index)

@@ -3,7 +3,7 @@ use Rattle.std.proofs.Common.{◌≡◌, zero, suc, ℕ, ◌+◌, ◌*◌, ◌<�
 use Rattle.std.proofs.lemmas.Int.{ints, by_lt_z, fits_signed_from_abs}
 use Rattle.std.proofs.Math.IntN.{pos-*ℤ-pos, *ℤ_comm}
 use Rattle.std.proofs.Math.Nat.{mul_assoc, mul_comm, suc-mul}
-use Rattle.vast_literal.specs.Tree.{TypeTree, ScalarTree, VectorTree, IntegerTree, IntTree, ExternalTree, PackageTree, PackedTree, UnpackedTree, MissingType}
+use Rattle.vast_literal.specs.Tree.{TypeTree, PackedTree, UnpackedTree}
 use Rattle.vast_core.specs.Types.{TypeWellFormed}
 use Rattle.vast_core.specs.BitCount.{product, dimensions_of}
 use Rattle.vast_core.proofs.Lists.{All-head, All-tail, All-cons}
@@ -79,13 +79,7 @@ All-append P (x ∷ xs) ys h k = All-cons P x (xs ++ ys) (All-head P x xs h) (Al
 pub dimensions-positive : (t : TypeTree) → TypeWellFormed t → All (λ d. pos 1 ≤ℤ d) (dimensions_of t)
 dimensions-positive (PackedTree element ds) h = All-append (λ d. pos 1 ≤ℤ d) ds (dimensions_of element) h.0.1.each (dimensions-positive element h.1)
 dimensions-positive (UnpackedTree element ds) h = All-append (λ d. pos 1 ≤ℤ d) ds (dimensions_of element) h.0.each (dimensions-positive element h.1)
-dimensions-positive (ScalarTree signed) h = λ k d below. absurd (omega arith)
-dimensions-positive (VectorTree width value signed) h = λ k d below. absurd (omega arith)
-dimensions-positive (IntegerTree signed) h = λ k d below. absurd (omega arith)
-dimensions-positive (IntTree signed) h = λ k d below. absurd (omega arith)
-dimensions-positive (ExternalTree name) h = λ k d below. absurd (omega arith)
-dimensions-positive (PackageTree package_name name) h = λ k d below. absurd (omega arith)
-dimensions-positive MissingType h = λ k d below. absurd (omega arith)
+dimensions-positive _ h = λ k d below. absurd (omega arith)
 
 -- A product of all numbers of two lists.
 pub product-append : (ds es : List ℤ) → All (λ d. pos 1 ≤ℤ d) ds → All (λ d. pos 1 ≤ℤ d) es → product (ds ++ es) ≡ product ds *ℤ product es

@@ -1,5 +1,5 @@
 -- What the readers of records cite.
-use Rattle.std.proofs.Common.{◌≡◌, ℕ, ◌<◌, ◌≤◌, IsTrue, List, [], ◌∷◌, length, get_or, map, nat_lt, Option, Some, None, slice_get, All, refl, ap, ◌∙◌, arith, subst}
+use Rattle.std.proofs.Common.{◌≡◌, ℕ, ◌<◌, ◌≤◌, IsTrue, List, length, get_or, nat_lt, Option, Some, None, slice_get, All, refl, ap, ◌∙◌, arith, subst}
 use Rattle.vast_core.specs.declared.node.Port.{Port}
 use Rattle.vast_core.specs.declared.node.Module.{Module}
 use Rattle.vast_core.specs.declared.node.Assignment.{Assignment}
@@ -7,7 +7,7 @@ use Rattle.vast_core.specs.declared.node.Definition.{Definition}
 use Rattle.vast_core.specs.declared.node.Artifact.{Artifact}
 use Rattle.vast_core.specs.declared.node.Instance.{Instance}
 use Rattle.vast_core.specs.Raw.{Raw}
-use Rattle.vast_core.specs.Records.{module_record, definition_record, artifact_record, instance_record, file_entry}
+use Rattle.vast_core.specs.Records.{module_record, instance_record}
 use Rattle.vast_core.specs.Bench.{is_continuous}
 use Rattle.vast_core.specs.View.{bench}
 use Rattle.vast_core.specs.Sound.{PortSound, AssignmentSound, ModuleSound, DefinitionSound, ArtifactSound, InstanceSound, EntrySound}
@@ -18,14 +18,10 @@ use Rattle.vast_core.specs.FileTree.{family, families}
 use Rattle.vast_core.specs.Sound.{NestSound, NestsSound}
 use Rattle.std.proofs.lemmas.List.{length-map}
 use Rattle.vast_core.proofs.Nests.{nest-at, family-at}
-use Rattle.vast_core.proofs.Lists.{below-of, slice_get-map, slice_get-at, slice_get-past, Each-at, All-Each}
+use Rattle.vast_core.proofs.Lists.{below-of, slice_get-map, slice_get-at, slice_get-past, Each-at, Each-get, All-own}
 use Rattle.std.proofs.lemmas.Option.{slice_get_within}
 use Rattle.vast_core.proofs.Terms.{length-modules, length-ports, length-assignments}
 use Rattle.vast_core.proofs.Terms.{length-definitions, length-artifacts, length-instances}
-
-map-same : {A : Type 0} (xs : List A) → map (λ x. x) xs ≡ xs
-map-same [] = refl
-map-same (x ∷ xs) = ap (λ r. x ∷ r) (map-same xs)
 
 pub module-below : (a b : Raw) (i : ℕ) → b ≡ a → IsTrue (nat_lt i (length (bench a).modules)) → i < length b.modules
 module-below a b i e h = let k : i < length (bench a).modules = below-of i (length (bench a).modules) h in rw (length-modules a b e) at k
@@ -50,7 +46,7 @@ port-there a b i x e below is = rw (← e) (slice_get-at b.ports i x below is)
 
 port-own : (b : Raw) (i : ℕ) (x : Port) → IsSound b → i < length b.ports → x ≡ get_or b.ports i x → PortSound (bench b) x
 unfolding bench
-port-own b i x s below is = Each-at (λ y. y) (PortSound (bench b)) b.ports i x (rw map-same s.file.records.ports) below is
+port-own b i x s below is = Each-get (PortSound (bench b)) b.ports i x s.file.records.ports (slice_get-at b.ports i x below is)
 
 pub port-sound : (a b : Raw) (i : ℕ) (x : Port) → b ≡ a → IsSound b → i < length b.ports → x ≡ get_or b.ports i x → PortSound (bench a) x
 port-sound a b i x e s below is = let P : Raw → Type 0 = λ r. PortSound (bench r) x in subst P e (port-own b i x s below is)
@@ -71,49 +67,49 @@ assignment-there a b i x e below is = assignment-read a b i e ∙ slice_get-at b
 
 assignment-own : (b : Raw) (i : ℕ) (x : Assignment) → IsSound b → i < length b.assignments → x ≡ get_or b.assignments i x → AssignmentSound (bench b) x
 unfolding bench
-assignment-own b i x s below is = Each-at (λ y. y) (AssignmentSound (bench b)) b.assignments i x (rw map-same s.file.records.assignments) below is
+assignment-own b i x s below is = Each-get (AssignmentSound (bench b)) b.assignments i x s.file.records.assignments (slice_get-at b.assignments i x below is)
 
 pub assignment-sound : (a b : Raw) (i : ℕ) (x : Assignment) → b ≡ a → IsSound b → i < length b.assignments → x ≡ get_or b.assignments i x → AssignmentSound (bench a) x
 assignment-sound a b i x e s below is = let P : Raw → Type 0 = λ r. AssignmentSound (bench r) x in subst P e (assignment-own b i x s below is)
 
-item-all : (b : Raw) → IsSound b → All (λ x. EntrySound (bench b) (file_entry x)) b.items
+item-all : (b : Raw) → IsSound b → All (EntrySound (bench b)) b.items
 unfolding bench
-item-all b s = All-Each file_entry (EntrySound (bench b)) b.items s.file.records.items
+item-all b s = All-own (EntrySound (bench b)) b.items s.file.records.items
 
-pub items-sound : (a b : Raw) → b ≡ a → IsSound b → All (λ x. EntrySound (bench a) (file_entry x)) b.items
-items-sound a b e s = let P : Raw → Type 0 = λ r. All (λ x. EntrySound (bench r) (file_entry x)) b.items in subst P e (item-all b s)
+pub items-sound : (a b : Raw) → b ≡ a → IsSound b → All (EntrySound (bench a)) b.items
+items-sound a b e s = let P : Raw → Type 0 = λ r. All (EntrySound (bench r)) b.items in subst P e (item-all b s)
 
-pub items-of : (a b : Raw) → b ≡ a → (bench a).items ≡ map file_entry b.items
+pub items-of : (a b : Raw) → b ≡ a → (bench a).items ≡ b.items
 unfolding bench
 items-of a b e = rw (← e) refl
 
 pub definition-below : (a b : Raw) (i : ℕ) → b ≡ a → IsTrue (nat_lt i (length (bench a).definitions)) → i < length b.definitions
 definition-below a b i e h = let k : i < length (bench a).definitions = below-of i (length (bench a).definitions) h in rw (length-definitions a b e) at k
 
-pub definition-there : (a b : Raw) (i : ℕ) (x : Definition) → b ≡ a → i < length b.definitions → x ≡ get_or b.definitions i x → slice_get (bench a).definitions i ≡ Some (definition_record x)
+pub definition-there : (a b : Raw) (i : ℕ) (x : Definition) → b ≡ a → i < length b.definitions → x ≡ get_or b.definitions i x → slice_get (bench a).definitions i ≡ Some x
 unfolding bench
-definition-there a b i x e below is = rw (← e) (slice_get-map definition_record b.definitions i x below is)
+definition-there a b i x e below is = rw (← e) (slice_get-at b.definitions i x below is)
 
-definition-own : (b : Raw) (i : ℕ) (x : Definition) → IsSound b → i < length b.definitions → x ≡ get_or b.definitions i x → DefinitionSound (bench b) (definition_record x)
+definition-own : (b : Raw) (i : ℕ) (x : Definition) → IsSound b → i < length b.definitions → x ≡ get_or b.definitions i x → DefinitionSound (bench b) x
 unfolding bench
-definition-own b i x s below is = Each-at definition_record (DefinitionSound (bench b)) b.definitions i x s.file.records.definitions below is
+definition-own b i x s below is = Each-get (DefinitionSound (bench b)) b.definitions i x s.file.records.definitions (slice_get-at b.definitions i x below is)
 
-pub definition-sound : (a b : Raw) (i : ℕ) (x : Definition) → b ≡ a → IsSound b → i < length b.definitions → x ≡ get_or b.definitions i x → DefinitionSound (bench a) (definition_record x)
-definition-sound a b i x e s below is = let P : Raw → Type 0 = λ r. DefinitionSound (bench r) (definition_record x) in subst P e (definition-own b i x s below is)
+pub definition-sound : (a b : Raw) (i : ℕ) (x : Definition) → b ≡ a → IsSound b → i < length b.definitions → x ≡ get_or b.definitions i x → DefinitionSound (bench a) x
+definition-sound a b i x e s below is = let P : Raw → Type 0 = λ r. DefinitionSound (bench r) x in subst P e (definition-own b i x s below is)
 
 pub artifact-past : (a b : Raw) (i : ℕ) → b ≡ a → length b.artifacts ≤ i → slice_get (bench a).artifacts i ≡ None
 artifact-past a b i e past = slice_get-past (bench a).artifacts i (rw (length-artifacts a b e) past)
 
-pub artifact-there : (a b : Raw) (i : ℕ) (x : Artifact) → b ≡ a → i < length b.artifacts → x ≡ get_or b.artifacts i x → slice_get (bench a).artifacts i ≡ Some (artifact_record x)
+pub artifact-there : (a b : Raw) (i : ℕ) (x : Artifact) → b ≡ a → i < length b.artifacts → x ≡ get_or b.artifacts i x → slice_get (bench a).artifacts i ≡ Some x
 unfolding bench
-artifact-there a b i x e below is = rw (← e) (slice_get-map artifact_record b.artifacts i x below is)
+artifact-there a b i x e below is = rw (← e) (slice_get-at b.artifacts i x below is)
 
-artifact-own : (b : Raw) (i : ℕ) (x : Artifact) → IsSound b → i < length b.artifacts → x ≡ get_or b.artifacts i x → ArtifactSound (bench b) (artifact_record x)
+artifact-own : (b : Raw) (i : ℕ) (x : Artifact) → IsSound b → i < length b.artifacts → x ≡ get_or b.artifacts i x → ArtifactSound (bench b) x
 unfolding bench
-artifact-own b i x s below is = Each-at artifact_record (ArtifactSound (bench b)) b.artifacts i x s.file.records.artifacts below is
+artifact-own b i x s below is = Each-get (ArtifactSound (bench b)) b.artifacts i x s.file.records.artifacts (slice_get-at b.artifacts i x below is)
 
-pub artifact-sound : (a b : Raw) (i : ℕ) (x : Artifact) → b ≡ a → IsSound b → i < length b.artifacts → x ≡ get_or b.artifacts i x → ArtifactSound (bench a) (artifact_record x)
-artifact-sound a b i x e s below is = let P : Raw → Type 0 = λ r. ArtifactSound (bench r) (artifact_record x) in subst P e (artifact-own b i x s below is)
+pub artifact-sound : (a b : Raw) (i : ℕ) (x : Artifact) → b ≡ a → IsSound b → i < length b.artifacts → x ≡ get_or b.artifacts i x → ArtifactSound (bench a) x
+artifact-sound a b i x e s below is = let P : Raw → Type 0 = λ r. ArtifactSound (bench r) x in subst P e (artifact-own b i x s below is)
 
 pub instance-below : (a b : Raw) (i : ℕ) → b ≡ a → IsTrue (nat_lt i (length (bench a).instances)) → i < length b.instances
 instance-below a b i e h = let k : i < length (bench a).instances = below-of i (length (bench a).instances) h in rw (length-instances a b e) at k

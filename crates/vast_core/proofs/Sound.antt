@@ -8,12 +8,12 @@ use Rattle.vast_core.specs.declared.handle.VastDataType.{VastDataType}
 use Rattle.vast_core.specs.declared.handle.ModulePort.{ModulePort}
 use Rattle.vast_core.specs.declared.handle.ContinuousAssignment.{ContinuousAssignment}
 use Rattle.vast_core.specs.Nodes.{IsOwned, is_name, is_macro}
-use Rattle.vast_core.specs.Records.{Port, ParameterPortRecord, ModuleRecord, ParameterForm, PlainForm, IntForm, DefinedForm, Member, DeclarationEntry, AssignmentEntry, ParameterEntry, BlankEntry, CommentEntry, InlineEntry, MacroEntry, InstanceEntry, FunctionEntry, AlwaysEntry, ConditionalEntry, LoopEntry, FileEntry, ModuleEntry, IncludeEntry, FileCommentEntry, FileBlankEntry, DefinitionRecord, ArtifactRecord, BlankLineRecord, CommentRecord, InlineRecord, MacroRecord, ConnectionRecord, InstanceRecord}
+use Rattle.vast_core.specs.Records.{Port, ParameterPort, ModuleRecord, ParameterForm, PlainForm, IntForm, DefinedForm, Member, DeclarationEntry, AssignmentEntry, ParameterEntry, BlankEntry, CommentEntry, InlineEntry, MacroEntry, InstanceEntry, FunctionEntry, AlwaysEntry, ConditionalEntry, LoopEntry, FileItem, ModuleEntry, Definition, Artifact, BlankArtifact, CommentArtifact, InlineArtifact, MacroArtifact, Connection, InstanceRecord}
 use Rattle.vast_core.specs.declared.handle.LogicRef.{LogicRef}
 use Rattle.vast_core.specs.declared.handle.VastStatementBlock.{VastStatementBlock}
 use Rattle.vast_core.specs.declared.node.ElseIf.{ElseIf}
 use Rattle.vast_core.specs.declared.node.CaseArm.{CaseArm}
-use Rattle.vast_core.specs.Nests.{StatementEntry, AssignStatement, ContinuousStatement, ConditionalStatement, CasesStatement, BlankStatement, CommentStatement, InlineStatement, NestRecord, BlockRecord, ConditionalNestRecord, CaseNestRecord, LoopNestRecord, FunctionVariable, FunctionRecord, AlwaysRecord, NestKind, NoKind, nest_kind, is_block_kind, is_conditional_kind, is_case_kind, is_loop_kind}
+use Rattle.vast_core.specs.Nests.{Statement, AssignStatement, ContinuousStatement, ConditionalStatement, CasesStatement, NestRecord, BlockRecord, ConditionalNestRecord, CaseNestRecord, LoopNestRecord, FunctionVariable, FunctionRecord, AlwaysRecord, NestKind, NoKind, nest_kind, is_block_kind, is_conditional_kind, is_case_kind, is_loop_kind}
 use Rattle.vast_core.specs.Bench.{Bench, OwnsExpr, OwnsType, OwnsLogicRef, OwnsPort, OwnsContinuous, is_continuous, is_comment, is_inline, is_macro_statement}
 use Rattle.vast_core.specs.Sound.{Each, PortSound, AssignmentSound, DefinitionSound, ArtifactSound, ConnectionSound, InstanceSound, FormSound, MemberSound, ParameterPortSound, ModuleSound, EntrySound, RecordsSound, HoldsBlock, StatementSound, ElseIfSound, CaseArmSound, AlwaysNewer, MemberNewer, LoopMemberSound, NestSound, NestsSound, VariableSound, FunctionSound, EventSound, AlwaysSound}
 use Rattle.vast_core.proofs.Lists.{Each-map, below-of, below-test, none-past}
@@ -28,7 +28,7 @@ pub record Grows (b c : Bench) : Type 0 where
   pub assignments : (i : ℕ) (a : Assignment) → slice_get b.assignments i ≡ Some a → slice_get c.assignments i ≡ Some a
   pub modules : length b.modules ≤ length c.modules
   pub definitions : length b.definitions ≤ length c.definitions
-  pub artifacts : (i : ℕ) (a : ArtifactRecord) → slice_get b.artifacts i ≡ Some a → slice_get c.artifacts i ≡ Some a
+  pub artifacts : (i : ℕ) (a : Artifact) → slice_get b.artifacts i ≡ Some a → slice_get c.artifacts i ≡ Some a
   pub instances : length b.instances ≤ length c.instances
   pub nests : (i : ℕ) → i < length b.nests → nest_kind (slice_get c.nests i) ≡ nest_kind (slice_get b.nests i)
   pub functions : length b.functions ≤ length c.functions
@@ -48,7 +48,7 @@ pub index-kept : (b c : Bench) (id : Id) (m n : ℕ) → Grows b c → m ≤ n �
 index-kept b c id m n g le h = record { of_file = h.of_file ∙ sym g.nodes.same_id; of_kind = within id.index m n le h.of_kind }
 
 pub artifact-kept :
-    (test : Option ArtifactRecord → Bool) (b c : Bench) (id : Id) → Grows b c → (IsTrue (test None) → ⊥) →
+    (test : Option Artifact → Bool) (b c : Bench) (id : Id) → Grows b c → (IsTrue (test None) → ⊥) →
     IsOwned b.nodes.id id (test (slice_get b.artifacts id.index)) → IsOwned c.nodes.id id (test (slice_get c.artifacts id.index))
 artifact-kept test b c id g n h =
     record { of_file = h.of_file ∙ sym g.nodes.same_id; of_kind = test-kept test b.artifacts c.artifacts id.index (slice_get b.artifacts id.index) refl (g.artifacts id.index) n h.of_kind }
@@ -93,17 +93,17 @@ PortSound-kept b c g p h = (
 AssignmentSound-kept : (b c : Bench) → Grows b c → (a : Assignment) → AssignmentSound b a → AssignmentSound c a
 AssignmentSound-kept b c g a h = (HasExpr-kept b.nodes c.nodes g.nodes a.lhs h.0, HasExpr-kept b.nodes c.nodes g.nodes a.rhs h.1)
 
-pub DefinitionSound-kept : (b c : Bench) → Grows b c → (d : DefinitionRecord) → DefinitionSound b d → DefinitionSound c d
+pub DefinitionSound-kept : (b c : Bench) → Grows b c → (d : Definition) → DefinitionSound b d → DefinitionSound c d
 DefinitionSound-kept b c g d h = HasType-kept b.nodes c.nodes g.nodes d.data_type h
 
-pub ArtifactSound-kept : (b c : Bench) → Grows b c → (a : ArtifactRecord) → ArtifactSound b a → ArtifactSound c a
-ArtifactSound-kept b c g BlankLineRecord h = tt
-ArtifactSound-kept b c g (CommentRecord text) h = tt
-ArtifactSound-kept b c g (InlineRecord text) h = tt
-ArtifactSound-kept b c g (MacroRecord call semicolon) h =
+pub ArtifactSound-kept : (b c : Bench) → Grows b c → (a : Artifact) → ArtifactSound b a → ArtifactSound c a
+ArtifactSound-kept b c g BlankArtifact h = tt
+ArtifactSound-kept b c g (CommentArtifact text) h = tt
+ArtifactSound-kept b c g (InlineArtifact text) h = tt
+ArtifactSound-kept b c g (MacroArtifact call semicolon) h =
     record { of_file = h.of_file ∙ sym g.nodes.same_id; of_kind = shape-kept is_macro b.nodes c.nodes g.nodes call.id.index h.of_kind }
 
-ConnectionSound-kept : (b c : Bench) → Grows b c → (x : ConnectionRecord) → ConnectionSound b x → ConnectionSound c x
+ConnectionSound-kept : (b c : Bench) → Grows b c → (x : Connection) → ConnectionSound b x → ConnectionSound c x
 ConnectionSound-kept b c g x h = maybe-expr-kept b c g x.value h
 
 pub InstanceSound-kept : (b c : Bench) → Grows b c → (i : InstanceRecord) → InstanceSound b i → InstanceSound c i
@@ -139,7 +139,7 @@ MemberSound-kept b c g (AlwaysEntry a) h = found-kept b c a.id b.always_blocks c
 MemberSound-kept b c g (ConditionalEntry x) h = nest-kept is_conditional_kind b c x.id g never h
 MemberSound-kept b c g (LoopEntry l) h = nest-kept is_loop_kind b c l.id g never h
 
-pub ParameterPortSound-kept : (b c : Bench) → Grows b c → (p : ParameterPortRecord) → ParameterPortSound b p → ParameterPortSound c p
+pub ParameterPortSound-kept : (b c : Bench) → Grows b c → (p : ParameterPort) → ParameterPortSound b p → ParameterPortSound c p
 ParameterPortSound-kept b c g p h = (maybe-type-kept b c g p.data_type h.0, HasExpr-kept b.nodes c.nodes g.nodes p.value h.1)
 
 pub ModuleSound-kept : (b c : Bench) → Grows b c → (m : ModuleRecord) → ModuleSound b m → ModuleSound c m
@@ -155,14 +155,12 @@ ModuleSound-kept b c g m h =
 pub block-kept : (b c : Bench) → Grows b c → (i : ℕ) (x : VastStatementBlock) → HoldsBlock b i x → HoldsBlock c i x
 block-kept b c g i x h = (nest-kept is_block_kind b c x.id g never h.0, h.1)
 
-pub StatementSound-kept : (b c : Bench) → Grows b c → (i : ℕ) (s : StatementEntry) → StatementSound b i s → StatementSound c i s
+pub StatementSound-kept : (b c : Bench) → Grows b c → (i : ℕ) (s : Statement) → StatementSound b i s → StatementSound c i s
 StatementSound-kept b c g i (AssignStatement s) h = found-kept b c s.id b.assignments c.assignments g g.assignments h
 StatementSound-kept b c g i (ContinuousStatement s) h = found-kept b c s.id b.assignments c.assignments g g.assignments h
 StatementSound-kept b c g i (ConditionalStatement x) h = (nest-kept is_conditional_kind b c x.id g never h.0, h.1)
 StatementSound-kept b c g i (CasesStatement x) h = (nest-kept is_case_kind b c x.id g never h.0, h.1)
-StatementSound-kept b c g i BlankStatement h = tt
-StatementSound-kept b c g i (CommentStatement text) h = tt
-StatementSound-kept b c g i (InlineStatement text) h = tt
+StatementSound-kept b c g i _ h = tt
 
 pub ElseIfSound-kept : (b c : Bench) → Grows b c → (i : ℕ) (a : ElseIf) → ElseIfSound b i a → ElseIfSound c i a
 ElseIfSound-kept b c g i a h = (HasExpr-kept b.nodes c.nodes g.nodes a.condition h.0, block-kept b c g i a.block h.1)
@@ -246,11 +244,9 @@ EventSound-kept b c g e h = (HasExpr-kept b.nodes c.nodes g.nodes e h.0, rw (exp
 pub AlwaysSound-kept : (b c : Bench) → Grows b c → (a : AlwaysRecord) → AlwaysSound b a → AlwaysSound c a
 AlwaysSound-kept b c g a h = record { events = Each-map (EventSound-kept b c g) a.events h.events; block = nest-kept is_block_kind b c a.block.id g never h.block }
 
-pub EntrySound-kept : (b c : Bench) → Grows b c → (e : FileEntry) → EntrySound b e → EntrySound c e
+pub EntrySound-kept : (b c : Bench) → Grows b c → (e : FileItem) → EntrySound b e → EntrySound c e
 EntrySound-kept b c g (ModuleEntry m) h = index-kept b c m.id (length b.modules) (length c.modules) g g.modules h
-EntrySound-kept b c g (IncludeEntry path) h = tt
-EntrySound-kept b c g (FileCommentEntry text) h = tt
-EntrySound-kept b c g FileBlankEntry h = tt
+EntrySound-kept b c g _ h = tt
 
 -- The records of b are sound in c.
 pub record Carried (b c : Bench) : Type 0 where

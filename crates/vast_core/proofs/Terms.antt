@@ -53,11 +53,11 @@ leaves-same old new (Err x) answer one other e h = h
 
 pub length-definitions : (a b : Raw) → b ≡ a → length (bench a).definitions ≡ length b.definitions
 unfolding bench
-length-definitions a b e = rw (← e) (simp length-map)
+length-definitions a b e = rw (← e) refl
 
 pub length-artifacts : (a b : Raw) → b ≡ a → length (bench a).artifacts ≡ length b.artifacts
 unfolding bench
-length-artifacts a b e = rw (← e) (simp length-map)
+length-artifacts a b e = rw (← e) refl
 
 pub length-instances : (a b : Raw) → b ≡ a → length (bench a).instances ≡ length b.instances
 unfolding bench

@@ -2,7 +2,7 @@
 use Rattle.std.proofs.Common.{◌≡◌, zero, suc, ℤ, pos, negsuc, true, IsTrue, refl}
 use Rattle.std.specs.Prelude.{◌≤ℤ◌}
 use Rattle.std.specs.Cmp.Derive.{both_true}
-use Rattle.vast_literal.specs.Tree.{ExprTree, NameTree, LiteralTree, StringTree, UnaryTree, BinaryTree, TernaryTree, IndexTree, SliceTree, PartSelectTree, ConcatTree, PatternTree, WidthCastTree, TypeCastTree, PosEdgeTree, NegEdgeTree, MacroTree, CallTree, MissingExpr, TypeTree, ScalarTree, VectorTree, IntegerTree, IntTree, ExternalTree, PackageTree, PackedTree, UnpackedTree, MissingType, NoExpr, SomeExpr, Exprs, NoExprs, MoreExprs, NoArguments, SomeArguments}
+use Rattle.vast_literal.specs.Tree.{ExprTree, NameTree, LiteralTree, StringTree, UnaryTree, BinaryTree, TernaryTree, IndexTree, SliceTree, PartSelectTree, ConcatTree, PatternTree, WidthCastTree, TypeCastTree, PosEdgeTree, NegEdgeTree, MacroTree, CallTree, MissingExpr, TypeTree, VectorTree, PackedTree, UnpackedTree, MissingType, NoExpr, SomeExpr, Exprs, NoExprs, MoreExprs, NoArguments, SomeArguments}
 use Rattle.vast_literal.specs.WellFormed.{is_positive, is_cast_type, is_well_formed, is_well_formed_type, are_well_formed}
 use Rattle.vast_core.specs.Types.{is_castable, ExprWellFormed, TypeWellFormed, ExprsWellFormed}
 
@@ -12,15 +12,10 @@ positive (pos (suc n)) h = refl
 positive (negsuc n) h = absurd h.le
 
 castable : (t : TypeTree) → IsTrue (is_castable t) → TypeWellFormed t → is_cast_type t ≡ true
-castable (ScalarTree signed) c h = refl
-castable (VectorTree width value signed) c h = refl
-castable (IntegerTree signed) c h = refl
-castable (IntTree signed) c h = refl
-castable (ExternalTree name) c h = refl
-castable (PackageTree package_name name) c h = refl
 castable (PackedTree element dimensions) c h = c
 castable (UnpackedTree element dimensions) c h = c
 castable MissingType c h = absurd h
+castable _ c h = refl
 
 mutual
   pub well_formed : (e : ExprTree) → ExprWellFormed e → is_well_formed e ≡ true
@@ -46,15 +41,11 @@ mutual
   well_formed MissingExpr h = absurd h
 
   pub type_well_formed : (t : TypeTree) → TypeWellFormed t → is_well_formed_type t ≡ true
-  type_well_formed (ScalarTree signed) h = refl
   type_well_formed (VectorTree width value signed) h = well_formed width h.1
-  type_well_formed (IntegerTree signed) h = refl
-  type_well_formed (IntTree signed) h = refl
-  type_well_formed (ExternalTree name) h = refl
-  type_well_formed (PackageTree package_name name) h = refl
   type_well_formed (PackedTree element dimensions) h = type_well_formed element h.1
   type_well_formed (UnpackedTree element dimensions) h = type_well_formed element h.1
   type_well_formed MissingType h = absurd h
+  type_well_formed _ h = refl
 
   pub each_well_formed : (es : Exprs) → ExprsWellFormed es → are_well_formed es ≡ true
   each_well_formed NoExprs h = refl

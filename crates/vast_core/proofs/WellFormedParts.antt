@@ -2,7 +2,7 @@
 use Rattle.std.proofs.Common.{◌≡◌, ℕ, zero, suc, true, IsTrue, List, [], ◌∷◌, Option, Some, None, slice_get, refl}
 use Rattle.std.specs.Prelude.{IfSome}
 use Rattle.std.specs.Cmp.Derive.{both_true}
-use Rattle.vast_literal.specs.Tree.{ExprTree, NameTree, LiteralTree, StringTree, UnaryTree, BinaryTree, TernaryTree, IndexTree, SliceTree, PartSelectTree, ConcatTree, PatternTree, WidthCastTree, TypeCastTree, PosEdgeTree, NegEdgeTree, MacroTree, CallTree, MissingExpr}
+use Rattle.vast_literal.specs.Tree.{ExprTree, NameTree, PosEdgeTree, NegEdgeTree, MacroTree}
 use Rattle.vast_literal.specs.WellFormed.{is_well_formed, is_well_formed_type}
 use Rattle.vast_literal.specs.WellFormedFile.{is_well_formed_maybe, is_macro, is_well_formed_statement, are_well_formed_statements, are_well_formed_alternates, are_well_formed_arms, is_well_formed_event, are_well_formed_events, is_well_formed_member}
 use Rattle.vast_core.specs.declared.handle.Expr.{Expr}
@@ -13,7 +13,7 @@ use Rattle.vast_core.specs.declared.node.ElseIf.{ElseIf}
 use Rattle.vast_core.specs.declared.node.CaseArm.{CaseArm}
 use Rattle.vast_core.specs.declared.node.Assignment.{Assignment}
 use Rattle.vast_core.specs.Nodes.{Root, ExprRoot, TypeRoot, expr_in, expr_of_root, is_expr_root, is_root_of, is_macro as is_macro_root}
-use Rattle.vast_core.specs.Nests.{StatementEntry, AssignStatement, ContinuousStatement, ConditionalStatement, CasesStatement, BlankStatement, CommentStatement, InlineStatement}
+use Rattle.vast_core.specs.Nests.{Statement, AssignStatement, ContinuousStatement, ConditionalStatement, CasesStatement}
 use Rattle.vast_core.specs.Bench.{Bench, OwnsExpr, OwnsType, OwnsMacroRef, AreWellFormed, tree_of, type_of, maybe_tree_of, trees_of}
 use Rattle.vast_core.specs.Sound.{Each, AssignmentSound, ElseIfSound, CaseArmSound, EventSound, RecordsSound, is_event}
 use Rattle.vast_core.specs.FileTree.{Family, BlockFamily, ConditionalFamily, CaseFamily, LoopFamily, NoFamily, block_in, conditional_statement, case_statement, conditional_member, loop_member, assigned_tree, continuous_tree, statement_in, statements_in, otherwise_in, alternates_in, arms_in}
@@ -46,23 +46,7 @@ macro-expr (Some (TypeRoot t)) h = h
 
 same-macro : (e : ExprTree) → IsTrue (is_macro_root e) → is_macro e ≡ true
 same-macro (MacroTree name given) h = refl
-same-macro (NameTree name type) h = h
-same-macro (LiteralTree text value) h = h
-same-macro (StringTree text) h = h
-same-macro (UnaryTree op operand) h = h
-same-macro (BinaryTree op left right) h = h
-same-macro (TernaryTree condition consequent alternate) h = h
-same-macro (IndexTree subject index) h = h
-same-macro (SliceTree subject high low) h = h
-same-macro (PartSelectTree subject start width) h = h
-same-macro (ConcatTree count parts) h = h
-same-macro (PatternTree parts) h = h
-same-macro (WidthCastTree width operand) h = h
-same-macro (TypeCastTree type operand) h = h
-same-macro (PosEdgeTree operand) h = h
-same-macro (NegEdgeTree operand) h = h
-same-macro (CallTree name arguments) h = h
-same-macro MissingExpr h = h
+same-macro _ h = h
 
 macro-root : (o : Option Root) → IsTrue (is_root_of is_macro_root o) → is_macro (expr_of_root o) ≡ true
 macro-root None h = h
@@ -82,21 +66,7 @@ event-good : (e : ExprTree) → IsTrue (is_event e) → is_well_formed e ≡ tru
 event-good (NameTree name type) h k = refl
 event-good (PosEdgeTree operand) h k = k
 event-good (NegEdgeTree operand) h k = k
-event-good (LiteralTree text value) h k = h
-event-good (StringTree text) h k = h
-event-good (UnaryTree op operand) h k = h
-event-good (BinaryTree op left right) h k = h
-event-good (TernaryTree condition consequent alternate) h k = h
-event-good (IndexTree subject index) h k = h
-event-good (SliceTree subject high low) h k = h
-event-good (PartSelectTree subject start width) h k = h
-event-good (ConcatTree count parts) h k = h
-event-good (PatternTree parts) h k = h
-event-good (WidthCastTree width operand) h k = h
-event-good (TypeCastTree type operand) h k = h
-event-good (MacroTree name given) h k = h
-event-good (CallTree name arguments) h k = h
-event-good MissingExpr h k = h
+event-good _ h k = h
 
 pub events-good : (b : Bench) → AreWellFormed b → (es : List Expr) → Each (EventSound b) es → are_well_formed_events (trees_of b es) ≡ true
 events-good b w [] h = refl
@@ -113,38 +83,23 @@ IsGood NoFamily = Unit {0}
 
 pub block-good : (x : Family) → IsGood x → are_well_formed_statements (block_in x) ≡ true
 block-good (BlockFamily held) h = h
-block-good (ConditionalFamily condition consequent alternates) h = refl
-block-good (CaseFamily s) h = refl
-block-good (LoopFamily m) h = refl
-block-good NoFamily h = refl
+block-good _ h = refl
 
 conditional-good : (x : Family) → IsGood x → is_well_formed_statement (conditional_statement x) ≡ true
 conditional-good (ConditionalFamily condition consequent alternates) h = both_true h.0 (both_true h.1 h.2)
-conditional-good (BlockFamily held) h = refl
-conditional-good (CaseFamily s) h = refl
-conditional-good (LoopFamily m) h = refl
-conditional-good NoFamily h = refl
+conditional-good _ h = refl
 
 case-good : (x : Family) → IsGood x → is_well_formed_statement (case_statement x) ≡ true
 case-good (CaseFamily s) h = h
-case-good (BlockFamily held) h = refl
-case-good (ConditionalFamily condition consequent alternates) h = refl
-case-good (LoopFamily m) h = refl
-case-good NoFamily h = refl
+case-good _ h = refl
 
 pub conditional_member-good : (x : Family) → IsGood x → is_well_formed_member (conditional_member x) ≡ true
 conditional_member-good (ConditionalFamily condition consequent alternates) h = both_true h.0 (both_true h.1 h.2)
-conditional_member-good (BlockFamily held) h = refl
-conditional_member-good (CaseFamily s) h = refl
-conditional_member-good (LoopFamily m) h = refl
-conditional_member-good NoFamily h = refl
+conditional_member-good _ h = refl
 
 pub loop_member-good : (x : Family) → IsGood x → is_well_formed_member (loop_member x) ≡ true
 loop_member-good (LoopFamily m) h = h
-loop_member-good (BlockFamily held) h = refl
-loop_member-good (ConditionalFamily condition consequent alternates) h = refl
-loop_member-good (CaseFamily s) h = refl
-loop_member-good NoFamily h = refl
+loop_member-good _ h = refl
 
 -- Statements over such containers.
 
@@ -157,17 +112,15 @@ continuous-good b w None h = refl
 continuous-good b w (Some a) h = both_true (expr-good b w a.lhs h.0) (expr-good b w a.rhs h.1)
 
 statement-good :
-    (b : Bench) → AreWellFormed b → RecordsSound b → (f : ℕ → Family) → ((i : ℕ) → IsGood (f i)) → (s : StatementEntry) → is_well_formed_statement (statement_in b f s) ≡ true
+    (b : Bench) → AreWellFormed b → RecordsSound b → (f : ℕ → Family) → ((i : ℕ) → IsGood (f i)) → (s : Statement) → is_well_formed_statement (statement_in b f s) ≡ true
 statement-good b w r f g (AssignStatement s) = assigned-good b w (slice_get b.assignments s.id.index) (Each-read (AssignmentSound b) b.assignments s.id.index r.assignments)
 statement-good b w r f g (ContinuousStatement s) = continuous-good b w (slice_get b.assignments s.id.index) (Each-read (AssignmentSound b) b.assignments s.id.index r.assignments)
 statement-good b w r f g (ConditionalStatement c) = conditional-good (f c.id.index) (g c.id.index)
 statement-good b w r f g (CasesStatement c) = case-good (f c.id.index) (g c.id.index)
-statement-good b w r f g BlankStatement = refl
-statement-good b w r f g (CommentStatement text) = refl
-statement-good b w r f g (InlineStatement text) = refl
+statement-good b w r f g _ = refl
 
 pub statements-good :
-    (b : Bench) → AreWellFormed b → RecordsSound b → (f : ℕ → Family) → ((i : ℕ) → IsGood (f i)) → (ss : List StatementEntry) → are_well_formed_statements (statements_in b f ss) ≡ true
+    (b : Bench) → AreWellFormed b → RecordsSound b → (f : ℕ → Family) → ((i : ℕ) → IsGood (f i)) → (ss : List Statement) → are_well_formed_statements (statements_in b f ss) ≡ true
 statements-good b w r f g [] = refl
 statements-good b w r f g (s ∷ ss) = both_true (statement-good b w r f g s) (statements-good b w r f g ss)
 

@@ -10,7 +10,7 @@ use Rattle.vast_core.specs.declared.handle.ModulePort.{ModulePort}
 use Rattle.vast_core.specs.declared.handle.VastDataType.{VastDataType}
 use Rattle.vast_core.specs.declared.node.Assignment.{Assignment}
 use Rattle.vast_core.specs.Nodes.{maybe_type_in}
-use Rattle.vast_core.specs.Records.{ParameterPortRecord, ModuleRecord, Member, DeclarationEntry, AssignmentEntry, ParameterEntry, BlankEntry, CommentEntry, InlineEntry, MacroEntry, InstanceEntry, FunctionEntry, AlwaysEntry, ConditionalEntry, LoopEntry, ParameterForm, PlainForm, IntForm, DefinedForm, FileEntry, ModuleEntry, IncludeEntry, FileCommentEntry, FileBlankEntry, ArtifactRecord, BlankLineRecord, CommentRecord, InlineRecord, MacroRecord, ConnectionRecord, InstanceRecord}
+use Rattle.vast_core.specs.Records.{ParameterPort, ModuleRecord, Member, DeclarationEntry, AssignmentEntry, ParameterEntry, BlankEntry, CommentEntry, InlineEntry, MacroEntry, InstanceEntry, FunctionEntry, AlwaysEntry, ConditionalEntry, LoopEntry, ParameterForm, PlainForm, IntForm, DefinedForm, FileItem, ModuleEntry, IncludeEntry, FileCommentEntry, FileBlankEntry, Artifact, BlankArtifact, CommentArtifact, InlineArtifact, MacroArtifact, Connection, InstanceRecord}
 use Rattle.vast_core.specs.Nests.{NestRecord, BlockRecord, ConditionalNestRecord, CaseNestRecord, LoopNestRecord, FunctionVariable, FunctionRecord, AlwaysRecord}
 use Rattle.vast_core.specs.Bench.{Bench, OwnsExpr, OwnsType, OwnsPort, AreWellFormed, maybe_tree_of}
 use Rattle.vast_core.specs.WrittenKinds.{IsGiven, HasOwnKind, HasLocalKind, HasValue}
@@ -39,18 +39,18 @@ assignment-good : (b : Bench) → AreWellFormed b → (o : Option Assignment) �
 assignment-good b w None h = refl
 assignment-good b w (Some a) h = both_true (expr-good b w a.lhs h.0) (expr-good b w a.rhs h.1)
 
-artifact-good : (b : Bench) → AreWellFormed b → (o : Option ArtifactRecord) → IfSome o (ArtifactSound b) → is_well_formed_member (artifact_member b o) ≡ true
+artifact-good : (b : Bench) → AreWellFormed b → (o : Option Artifact) → IfSome o (ArtifactSound b) → is_well_formed_member (artifact_member b o) ≡ true
 artifact-good b w None h = refl
-artifact-good b w (Some BlankLineRecord) h = refl
-artifact-good b w (Some (CommentRecord text)) h = refl
-artifact-good b w (Some (InlineRecord text)) h = refl
-artifact-good b w (Some (MacroRecord call semicolon)) h = both_true (macro-is b call h) (macro-good b w call h)
+artifact-good b w (Some BlankArtifact) h = refl
+artifact-good b w (Some (CommentArtifact text)) h = refl
+artifact-good b w (Some (InlineArtifact text)) h = refl
+artifact-good b w (Some (MacroArtifact call semicolon)) h = both_true (macro-is b call h) (macro-good b w call h)
 
-connections-good : (b : Bench) → AreWellFormed b → (cs : List ConnectionRecord) → Each (ConnectionSound b) cs → are_well_formed_connections (map (connection_tree b) cs) ≡ true
+connections-good : (b : Bench) → AreWellFormed b → (cs : List Connection) → Each (ConnectionSound b) cs → are_well_formed_connections (map (connection_tree b) cs) ≡ true
 connections-good b w [] h = refl
 connections-good b w (c ∷ cs) h = both_true (maybe-good b w c.value h.0) (connections-good b w cs h.1)
 
-given-good : (b : Bench) → AreWellFormed b → (cs : List ConnectionRecord) → Each (ConnectionSound b) cs → Each HasValue cs → are_given (map (connection_tree b) cs) ≡ true
+given-good : (b : Bench) → AreWellFormed b → (cs : List Connection) → Each (ConnectionSound b) cs → Each HasValue cs → are_given (map (connection_tree b) cs) ≡ true
 given-good b w [] h k = refl
 given-good b w (c ∷ cs) h k = both_true (value-good c.value h.0 k.0) (given-good b w cs h.1 k.1)
   where
@@ -109,17 +109,7 @@ members-good b w s f g (m ∷ ms) h k = both_true (member-good b w s f g m h.0 k
 -- A loop declares nothing.
 loop-kind : (b : Bench) (i : ℕ) (m : Member) → MemberNewer b i m → HasOwnKind m
 loop-kind b i (DeclarationEntry kind name t) h = absurd h
-loop-kind b i (AssignmentEntry a) h = tt
-loop-kind b i (ParameterEntry local form value) h = tt
-loop-kind b i BlankEntry h = tt
-loop-kind b i (CommentEntry a) h = tt
-loop-kind b i (InlineEntry a) h = tt
-loop-kind b i (MacroEntry a) h = tt
-loop-kind b i (InstanceEntry x) h = tt
-loop-kind b i (FunctionEntry f) h = tt
-loop-kind b i (AlwaysEntry a) h = tt
-loop-kind b i (ConditionalEntry c) h = tt
-loop-kind b i (LoopEntry l) h = tt
+loop-kind b i _ h = tt
 
 loop_members-good :
     (b : Bench) → AreWellFormed b → FileSound b → (f : ℕ → Family) → ((i : ℕ) → IsGood (f i)) → (n : ℕ) (ms : List Member) → Each (LoopMemberSound b n) ms → are_well_formed_members (members_in b f ms) ≡ true
@@ -153,7 +143,7 @@ typed-good : (b : Bench) → AreWellFormed b → (t : Option VastDataType) → I
 typed-good b w None h = refl
 typed-good b w (Some t) h = type-good b w t h
 
-parameters-good : (b : Bench) → AreWellFormed b → (ps : List ParameterPortRecord) → Each (ParameterPortSound b) ps → are_well_formed_parameters (map (parameter_port_tree b) ps) ≡ true
+parameters-good : (b : Bench) → AreWellFormed b → (ps : List ParameterPort) → Each (ParameterPortSound b) ps → are_well_formed_parameters (map (parameter_port_tree b) ps) ≡ true
 parameters-good b w [] h = refl
 parameters-good b w (p ∷ ps) h = both_true (both_true (typed-good b w p.data_type h.0.0) (expr-good b w p.value h.0.1)) (parameters-good b w ps h.1)
 
@@ -169,7 +159,7 @@ module_item-good b w s None h k items e = e
 module_item-good b w s (Some m) h k items e =
     both_true (both_true (parameters-good b w m.parameters h.parameters) (both_true (ports-good b w s.records m.ports h.ports) (members-good b w s (families b) (families-good b w s) m.members h.members k))) e
 
-items-good : (b : Bench) → AreWellFormed b → FileSound b → (es : List FileEntry) → are_well_formed_items (map (item_tree b) es) ≡ true
+items-good : (b : Bench) → AreWellFormed b → FileSound b → (es : List FileItem) → are_well_formed_items (map (item_tree b) es) ≡ true
 items-good b w s [] = refl
 items-good b w s (ModuleEntry m ∷ es) =
     module_item-good b w s (slice_get b.modules m.id.index) (Each-read (ModuleSound b) b.modules m.id.index s.records.modules) (Each-read DeclaresOwnKinds b.modules m.id.index s.kinds.declarations) (map (item_tree b) es)

@@ -8,14 +8,14 @@ use Rattle.vast_core.specs.declared.handle.InlineVerilogStatement.{InlineVerilog
 use Rattle.vast_core.specs.declared.handle.MacroStatement.{MacroStatement}
 use Rattle.vast_core.specs.declared.handle.Instantiation.{Instantiation}
 use Rattle.vast_core.specs.declared.handle.VastStatement.{VastStatement}
-use Rattle.vast_core.specs.Records.{DefinitionRecord, ArtifactRecord, InstanceRecord}
+use Rattle.vast_core.specs.Records.{Definition, Artifact, InstanceRecord}
 use Rattle.vast_core.specs.Bench.{Bench}
 use Rattle.vast_core.specs.Growth.{next_id}
 
 abbrev pub next_def : Bench → Def
 next_def b = record { id = next_id b (length b.definitions) }
 
-abbrev pub with_definition : DefinitionRecord → Bench → Bench
+abbrev pub with_definition : Definition → Bench → Bench
 with_definition d b = record b { definitions = b.definitions ++ d ∷ [] }
 
 abbrev pub next_artifact : Bench → Id
@@ -33,7 +33,7 @@ next_inline b = record { id = next_artifact b }
 abbrev pub next_macro_statement : Bench → MacroStatement
 next_macro_statement b = record { id = next_artifact b }
 
-abbrev pub with_artifact : ArtifactRecord → Bench → Bench
+abbrev pub with_artifact : Artifact → Bench → Bench
 with_artifact a b = record b { artifacts = b.artifacts ++ a ∷ [] }
 
 abbrev pub next_instantiation : Bench → Instantiation

@@ -30,7 +30,7 @@ use Rattle.vast_literal.specs.declared.kind.VastFileType.{VastFileType}
 use Rattle.vast_core.specs.declared.node.Assignment.{Assignment}
 use Rattle.vast_core.specs.Nodes.{Nodes, no_nodes, IsOwned, is_expr_root, is_type_root, is_root_of, is_name, is_index, is_slice, is_macro, expr_in, type_in, maybe_expr_in, exprs_in}
 use Rattle.vast_core.specs.Types.{ExprWellFormed, TypeWellFormed}
-use Rattle.vast_core.specs.Records.{Port, ModuleRecord, DefinitionRecord, ArtifactRecord, BlankLineRecord, CommentRecord, InlineRecord, MacroRecord, InstanceRecord, FileEntry, IsFree}
+use Rattle.vast_core.specs.Records.{Port, ModuleRecord, Definition, Artifact, BlankArtifact, CommentArtifact, InlineArtifact, MacroArtifact, InstanceRecord, FileItem, IsFree}
 use Rattle.vast_core.specs.Nests.{NestRecord, FunctionRecord, AlwaysRecord, nest_kind, is_block_kind, is_conditional_kind, is_case_kind, is_loop_kind}
 
 pub record Bench : Type 0 where
@@ -41,11 +41,11 @@ pub record Bench : Type 0 where
   pub assignments : List Assignment
   pub modules : List ModuleRecord
   pub functions : List FunctionRecord
-  pub definitions : List DefinitionRecord
-  pub artifacts : List ArtifactRecord
+  pub definitions : List Definition
+  pub artifacts : List Artifact
   pub instances : List InstanceRecord
   pub always_blocks : List AlwaysRecord
-  pub items : List FileEntry
+  pub items : List FileItem
   -- A block that nothing holds yet, for an always block to take.
   pub spare : Option VastStatementBlock
 
@@ -140,20 +140,20 @@ abbrev pub OwnsContinuous : Bench → ContinuousAssignment → Type 0
 OwnsContinuous b a = IsOwned b.nodes.id a.id (is_continuous (slice_get b.assignments a.id.index))
 
 -- Artifacts of a kind.
-abbrev pub is_blank_line : Option ArtifactRecord → Bool
-is_blank_line (Some BlankLineRecord) = true
+abbrev pub is_blank_line : Option Artifact → Bool
+is_blank_line (Some BlankArtifact) = true
 is_blank_line _ = false
 
-abbrev pub is_comment : Option ArtifactRecord → Bool
-is_comment (Some (CommentRecord text)) = true
+abbrev pub is_comment : Option Artifact → Bool
+is_comment (Some (CommentArtifact text)) = true
 is_comment _ = false
 
-abbrev pub is_inline : Option ArtifactRecord → Bool
-is_inline (Some (InlineRecord text)) = true
+abbrev pub is_inline : Option Artifact → Bool
+is_inline (Some (InlineArtifact text)) = true
 is_inline _ = false
 
-abbrev pub is_macro_statement : Option ArtifactRecord → Bool
-is_macro_statement (Some (MacroRecord call semicolon)) = true
+abbrev pub is_macro_statement : Option Artifact → Bool
+is_macro_statement (Some (MacroArtifact call semicolon)) = true
 is_macro_statement _ = false
 
 abbrev pub OwnsBlankLine : Bench → BlankLine → Type 0

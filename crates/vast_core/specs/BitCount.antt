@@ -1,6 +1,6 @@
 -- How many bits a type has: the product of its dimensions and of the bits of the type within.
 use Rattle.std.specs.Prelude.{◌≡◌, ◌≤ℤ◌, ◌*ℤ◌, ◌^◌, pos, ℤ, IsTrue, List, [], ◌∷◌, ◌++◌, Option, Some, None}
-use Rattle.vast_literal.specs.Tree.{TypeTree, ScalarTree, VectorTree, IntegerTree, IntTree, ExternalTree, PackageTree, PackedTree, UnpackedTree, MissingType, SomeExpr, NoExpr}
+use Rattle.vast_literal.specs.Tree.{TypeTree, ScalarTree, VectorTree, IntegerTree, IntTree, PackedTree, UnpackedTree, SomeExpr, NoExpr}
 use Rattle.vast_core.specs.declared.bits.BitCountFault.{BitCountFault}
 use Rattle.vast_core.specs.declared.bits.BitCountFault.TheVariants.{Overflow, Symbolic, External}
 use Rattle.vast_core.specs.declared.bits.WidthFault.{WidthFault}
@@ -17,13 +17,7 @@ product (d ∷ ds) = d *ℤ product ds
 abbrev pub dimensions_of : TypeTree → List ℤ
 dimensions_of (PackedTree element dimensions) = dimensions ++ dimensions_of element
 dimensions_of (UnpackedTree element dimensions) = dimensions ++ dimensions_of element
-dimensions_of (ScalarTree signed) = []
-dimensions_of (VectorTree width value signed) = []
-dimensions_of (IntegerTree signed) = []
-dimensions_of (IntTree signed) = []
-dimensions_of (ExternalTree name) = []
-dimensions_of (PackageTree package_name name) = []
-dimensions_of MissingType = []
+dimensions_of _ = []
 
 -- The bits of a type that is no array, where they are known.
 abbrev pub base_bits : TypeTree → Option ℤ

@@ -1,6 +1,6 @@
 -- The tree of a file, without handles.
 use Rattle.std.specs.Prelude.{ℕ, zero, suc, Bool, true, false, List, [], ◌∷◌, map, length, Option, Some, None, slice_get}
-use Rattle.vast_literal.specs.Tree.{ExprTree, StatementTree, AssignTree, CommentTree, BlankTree, InlineTree, ConditionalTree, CaseTree, Statements, NoStatements, MoreStatements, Alternates, NoElse, ElseIf, Else, CaseArms, NoCaseArms, CaseArm, MemberTree, DeclarationMember, AssignMember, ParameterMember, CommentMember, BlankMember, InlineMember, MacroMember, InstanceMember, AlwaysMember, ConditionalMember, FunctionMember, LoopMember, Members, NoMembers, MoreMembers, MissingType, Declaration, ParameterName, PlainParameter, IntParameter, DefinedParameter, Connection, PortTree, ParameterPortTree, ModuleTree, FileItemTree, ModuleItem, IncludeItem, CommentItem, BlankItem, FileTree}
+use Rattle.vast_literal.specs.Tree.{ExprTree, StatementTree, AssignTree, CommentTree, BlankTree, InlineTree, ConditionalTree, CaseTree, Statements, NoStatements, MoreStatements, Alternates, NoElse, ElseIf, Else, CaseArms, NoCaseArms, CaseArm, MemberTree, DeclarationMember, AssignMember, ParameterMember, CommentMember, BlankMember, InlineMember, MacroMember, InstanceMember, AlwaysMember, ConditionalMember, FunctionMember, LoopMember, Members, NoMembers, MoreMembers, MissingType, Declaration, ParameterName, PlainParameter, IntParameter, DefinedParameter, Connection as ConnectionTree, PortTree, ParameterPortTree, ModuleTree, FileItemTree, ModuleItem, IncludeItem, CommentItem, BlankItem, FileTree}
 use Rattle.vast_literal.specs.declared.kind.AssignmentForm.{AssignmentForm as AssignForm}
 use Rattle.vast_literal.specs.declared.kind.AssignmentForm.TheVariants.{Blocking, Nonblocking, Continuous}
 use Rattle.vast_literal.specs.declared.kind.DataKind.TheVariants.{Wire as WireKind}
@@ -13,8 +13,8 @@ use Rattle.vast_core.specs.declared.node.ElseIf.{ElseIf as ElseIfNode}
 use Rattle.vast_core.specs.declared.node.CaseArm.{CaseArm as CaseArmNode}
 use Rattle.vast_core.specs.declared.node.Assignment.{Assignment}
 use Rattle.vast_core.specs.Nodes.{maybe_type_in, maybe_expr_in}
-use Rattle.vast_core.specs.Records.{Port, ParameterPortRecord, ModuleRecord, ParameterForm, PlainForm, IntForm, DefinedForm, Member, DeclarationEntry, AssignmentEntry, ParameterEntry, BlankEntry, CommentEntry, InlineEntry, MacroEntry, InstanceEntry, FunctionEntry, AlwaysEntry, ConditionalEntry, LoopEntry, FileEntry, ModuleEntry, IncludeEntry, FileCommentEntry, FileBlankEntry, DefinitionRecord, ArtifactRecord, BlankLineRecord, CommentRecord, InlineRecord, MacroRecord, ConnectionRecord, InstanceRecord}
-use Rattle.vast_core.specs.Nests.{StatementEntry, AssignStatement, ContinuousStatement, ConditionalStatement, CasesStatement, BlankStatement, CommentStatement, InlineStatement, NestRecord, BlockRecord, ConditionalNestRecord, CaseNestRecord, LoopNestRecord, FunctionVariable, FunctionRecord, AlwaysRecord}
+use Rattle.vast_core.specs.Records.{Port, ParameterPort, ModuleRecord, ParameterForm, PlainForm, IntForm, DefinedForm, Member, DeclarationEntry, AssignmentEntry, ParameterEntry, BlankEntry, CommentEntry, InlineEntry, MacroEntry, InstanceEntry, FunctionEntry, AlwaysEntry, ConditionalEntry, LoopEntry, FileItem, ModuleEntry, IncludeEntry, FileCommentEntry, FileBlankEntry, Definition, Artifact, BlankArtifact, CommentArtifact, InlineArtifact, MacroArtifact, Connection, InstanceRecord}
+use Rattle.vast_core.specs.Nests.{Statement, AssignStatement, ContinuousStatement, ConditionalStatement, CasesStatement, BlankStatement, CommentStatement, InlineStatement, NestRecord, BlockRecord, ConditionalNestRecord, CaseNestRecord, LoopNestRecord, FunctionVariable, FunctionRecord, AlwaysRecord}
 use Rattle.vast_core.specs.Bench.{Bench, tree_of, type_of, maybe_tree_of, trees_of}
 
 abbrev pub declared : Bench → DataKind → List ℕ → VastDataType → Declaration
@@ -24,7 +24,7 @@ abbrev pub missing_declaration : Declaration
 missing_declaration = record { kind = WireKind; type = MissingType; name = [] }
 
 -- The declaration of a definition.
-abbrev pub definition_tree : Bench → Option DefinitionRecord → Declaration
+abbrev pub definition_tree : Bench → Option Definition → Declaration
 definition_tree b None = missing_declaration
 definition_tree b (Some d) = declared b d.kind d.name d.data_type
 
@@ -37,14 +37,14 @@ abbrev pub assignment_member : Bench → Option Assignment → MemberTree
 assignment_member b None = BlankMember
 assignment_member b (Some a) = AssignMember (tree_of b a.lhs) (tree_of b a.rhs)
 
-abbrev pub artifact_member : Bench → Option ArtifactRecord → MemberTree
+abbrev pub artifact_member : Bench → Option Artifact → MemberTree
 artifact_member b None = BlankMember
-artifact_member b (Some BlankLineRecord) = BlankMember
-artifact_member b (Some (CommentRecord text)) = CommentMember text
-artifact_member b (Some (InlineRecord text)) = InlineMember text
-artifact_member b (Some (MacroRecord call semicolon)) = MacroMember (tree_of b (record { id = call.id })) semicolon
+artifact_member b (Some BlankArtifact) = BlankMember
+artifact_member b (Some (CommentArtifact text)) = CommentMember text
+artifact_member b (Some (InlineArtifact text)) = InlineMember text
+artifact_member b (Some (MacroArtifact call semicolon)) = MacroMember (tree_of b (record { id = call.id })) semicolon
 
-abbrev pub connection_tree : Bench → ConnectionRecord → Connection
+abbrev pub connection_tree : Bench → Connection → ConnectionTree
 connection_tree b c = record { name = c.name; value = maybe_expr_in b.nodes c.value }
 
 abbrev pub instance_member : Bench → Option InstanceRecord → MemberTree
@@ -93,7 +93,7 @@ abbrev pub continuous_tree : Bench → Option Assignment → StatementTree
 continuous_tree b None = BlankTree
 continuous_tree b (Some a) = AssignTree Continuous (tree_of b a.lhs) (tree_of b a.rhs)
 
-abbrev pub statement_in : Bench → (ℕ → Family) → StatementEntry → StatementTree
+abbrev pub statement_in : Bench → (ℕ → Family) → Statement → StatementTree
 statement_in b f (AssignStatement s) = assigned_tree b (slice_get b.assignments s.id.index)
 statement_in b f (ContinuousStatement s) = continuous_tree b (slice_get b.assignments s.id.index)
 statement_in b f (ConditionalStatement c) = conditional_statement (f c.id.index)
@@ -102,7 +102,7 @@ statement_in b f BlankStatement = BlankTree
 statement_in b f (CommentStatement text) = CommentTree text
 statement_in b f (InlineStatement text) = InlineTree text
 
-abbrev pub statements_in : Bench → (ℕ → Family) → List StatementEntry → Statements
+abbrev pub statements_in : Bench → (ℕ → Family) → List Statement → Statements
 statements_in b f [] = NoStatements
 statements_in b f (s ∷ ss) = MoreStatements (statement_in b f s) (statements_in b f ss)
 
@@ -167,7 +167,7 @@ families b i = unfolded b (length b.nests) i
 abbrev pub block_tree : Bench → VastStatementBlock → Statements
 block_tree b c = block_in (families b c.id.index)
 
-abbrev pub statements_tree : Bench → List StatementEntry → Statements
+abbrev pub statements_tree : Bench → List Statement → Statements
 statements_tree b statements = statements_in b (families b) statements
 
 abbrev pub alternates_tree : Bench → List ElseIfNode → Option VastStatementBlock → Alternates
@@ -195,7 +195,7 @@ maybe_port_tree b (Some p) = declared_port b p
 abbrev pub port_tree : Bench → ModulePort → PortTree
 port_tree b p = maybe_port_tree b (slice_get b.ports p.id.index)
 
-abbrev pub parameter_port_tree : Bench → ParameterPortRecord → ParameterPortTree
+abbrev pub parameter_port_tree : Bench → ParameterPort → ParameterPortTree
 parameter_port_tree b p = record { name = p.name; type = maybe_type_in b.nodes p.data_type; value = tree_of b p.value }
 
 abbrev pub module_tree : Bench → ModuleRecord → ModuleTree
@@ -205,7 +205,7 @@ abbrev pub maybe_module_tree : Bench → Option ModuleRecord → FileItemTree
 maybe_module_tree b None = BlankItem
 maybe_module_tree b (Some m) = ModuleItem (module_tree b m)
 
-abbrev pub item_tree : Bench → FileEntry → FileItemTree
+abbrev pub item_tree : Bench → FileItem → FileItemTree
 item_tree b (ModuleEntry m) = maybe_module_tree b (slice_get b.modules m.id.index)
 item_tree b (IncludeEntry path) = IncludeItem path
 item_tree b (FileCommentEntry text) = CommentItem text

@@ -20,7 +20,7 @@ use Rattle.vast_core.specs.declared.node.Assignment.{Assignment}
 use Rattle.vast_core.specs.Raw.{Raw}
 use Rattle.vast_core.specs.View.{bench}
 use Rattle.vast_core.specs.Nodes.{Root, ExprRoot, TypeRoot, with_root as with_node}
-use Rattle.vast_core.specs.Records.{FileEntry, ModuleEntry, Member, DeclarationEntry, new_module, with_port as with_listed_port, with_member as with_listed_member, with_named_member as with_listed_name, changed_at}
+use Rattle.vast_core.specs.Records.{FileItem, ModuleEntry, Member, DeclarationEntry, new_module, with_port as with_listed_port, with_member as with_listed_member, with_named_member as with_listed_name, changed_at}
 use Rattle.vast_core.specs.Bench.{Bench, tree_of, trees_of, type_of}
 
 -- The call answers this and leaves this, both of what the file held; or memory was refused and nothing changed.
@@ -151,5 +151,5 @@ abbrev pub with_declaration : VastModule → DataKind → List ℕ → VastDataT
 with_declaration m kind name data_type b = with_expr (NameTree name (Typed (type_of b data_type))) (with_named_member m (DeclarationEntry kind name data_type) name b)
 
 -- An item more at the end of the file.
-abbrev pub with_item : FileEntry → Bench → Bench
+abbrev pub with_item : FileItem → Bench → Bench
 with_item entry b = record b { items = b.items ++ entry ∷ [] }

@@ -1,17 +1,15 @@
--- The records of containers, functions and always blocks: nodes with the bytes of their texts.
+-- Containers, functions and always blocks in contracts: the records of their nodes. A statement is the node itself.
 use Rattle.std.specs.Prelude.{ℕ, Bool, true, false, List, ◌∷◌, ◌++◌, map, Option, Some, None, string_bytes, String}
 use Rattle.std.specs.declared.alloc.Global.{Global}
 use Rattle.vast_core.specs.declared.handle.Expr.{Expr}
 use Rattle.vast_core.specs.declared.handle.LogicRef.{LogicRef}
 use Rattle.vast_core.specs.declared.handle.VastDataType.{VastDataType}
-use Rattle.vast_core.specs.declared.handle.VastStatement.{VastStatement}
 use Rattle.vast_core.specs.declared.handle.VastStatementBlock.{VastStatementBlock}
-use Rattle.vast_core.specs.declared.handle.Conditional.{Conditional}
-use Rattle.vast_core.specs.declared.handle.CaseStatement.{CaseStatement}
 use Rattle.vast_literal.specs.declared.kind.AlwaysKind.{AlwaysKind}
 use Rattle.vast_literal.specs.declared.kind.CaseKind.{CaseKind}
-use Rattle.vast_core.specs.declared.node.Statement.{Statement}
-use Rattle.vast_core.specs.declared.node.Statement.TheVariants.{Assignment as AssignmentOf, Continuous as ContinuousOf, Conditional as ConditionalOf, Case as CaseOf, BlankLine as BlankOf, Comment as CommentOf, Inline as InlineOf}
+-- A statement of a block names an assignment or a container, which stays where it is.
+pub use Rattle.vast_core.specs.declared.node.Statement.{Statement}
+pub use Rattle.vast_core.specs.declared.node.Statement.TheVariants.{Assignment as AssignStatement, Continuous as ContinuousStatement, Conditional as ConditionalStatement, Case as CasesStatement, BlankLine as BlankStatement, Comment as CommentStatement, Inline as InlineStatement}
 use Rattle.vast_core.specs.declared.node.ElseIf.{ElseIf}
 use Rattle.vast_core.specs.declared.node.CaseArm.{CaseArm}
 use Rattle.vast_core.specs.declared.node.ConditionalNode.{ConditionalNode}
@@ -24,16 +22,6 @@ pub use Rattle.vast_core.specs.declared.node.FunctionVariable.{FunctionVariable}
 use Rattle.vast_core.specs.declared.node.Function.{Function}
 use Rattle.vast_core.specs.declared.node.AlwaysBlock.{AlwaysBlock}
 use Rattle.vast_core.specs.Records.{Member, in_byte_order}
-
--- A statement of a block. An assignment or a container stays where it is, and its statement names it.
-pub data StatementEntry : Type 0 where
-  AssignStatement : VastStatement → StatementEntry
-  ContinuousStatement : VastStatement → StatementEntry
-  ConditionalStatement : Conditional → StatementEntry
-  CasesStatement : CaseStatement → StatementEntry
-  BlankStatement : StatementEntry
-  CommentStatement : (text : List ℕ) → StatementEntry
-  InlineStatement : (text : List ℕ) → StatementEntry
 
 -- A conditional: its first arm, its arms `else if`, and its `else` where it has one.
 pub record ConditionalRecord : Type 0 where
@@ -60,7 +48,7 @@ pub record LoopRecord : Type 0 where
 
 -- A container.
 pub data NestRecord : Type 0 where
-  BlockRecord : List StatementEntry → NestRecord
+  BlockRecord : List Statement → NestRecord
   ConditionalNestRecord : ConditionalRecord → NestRecord
   CaseNestRecord : CaseRecord → NestRecord
   LoopNestRecord : LoopRecord → NestRecord
@@ -89,15 +77,6 @@ pub record AlwaysRecord : Type 0 where
 
 -- The records of nodes.
 
-abbrev pub statement_entry : Statement → StatementEntry
-statement_entry (AssignmentOf s) = AssignStatement s
-statement_entry (ContinuousOf s) = ContinuousStatement s
-statement_entry (ConditionalOf c) = ConditionalStatement c
-statement_entry (CaseOf c) = CasesStatement c
-statement_entry BlankOf = BlankStatement
-statement_entry (CommentOf text) = CommentStatement (string_bytes text)
-statement_entry (InlineOf text) = InlineStatement (string_bytes text)
-
 abbrev pub conditional_record : ConditionalNode → ConditionalRecord
 conditional_record c = record { condition = c.condition; consequent = c.consequent; else_ifs = c.else_ifs.items; otherwise = c.otherwise }
 
@@ -112,7 +91,7 @@ abbrev pub loop_record : LoopNode → LoopRecord
 loop_record l = record { genvar = l.genvar; name = string_bytes l.name; start = l.start; end = l.end; label = label_bytes l.label; members = l.members.items }
 
 abbrev pub nest_record : Nest → NestRecord
-nest_record (BlockNode statements) = BlockRecord (map statement_entry statements.items)
+nest_record (BlockNode statements) = BlockRecord statements.items
 nest_record (ConditionalNest c) = ConditionalNestRecord (conditional_record c)
 nest_record (CaseNest c) = CaseNestRecord (case_record c)
 nest_record (LoopNest l) = LoopNestRecord (loop_record l.value)

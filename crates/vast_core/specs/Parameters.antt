@@ -8,7 +8,7 @@ use Rattle.vast_core.specs.declared.handle.VastDataType.{VastDataType}
 use Rattle.vast_core.specs.declared.handle.ParameterRef.{ParameterRef}
 use Rattle.vast_core.specs.declared.handle.LocalparamRef.{LocalparamRef}
 use Rattle.vast_core.specs.Nodes.{maybe_type_in}
-use Rattle.vast_core.specs.Records.{ParameterPortRecord, DefinitionRecord, ParameterForm, PlainForm, IntForm, DefinedForm, ParameterEntry, with_parameter_port as with_listed_parameter, changed_at}
+use Rattle.vast_core.specs.Records.{ParameterPort, Definition, ParameterForm, PlainForm, IntForm, DefinedForm, ParameterEntry, with_parameter_port as with_listed_parameter, changed_at}
 use Rattle.vast_core.specs.Bench.{Bench, type_of}
 use Rattle.vast_core.specs.Growth.{next_id, with_expr, with_member}
 
@@ -19,7 +19,7 @@ abbrev pub next_localparam_ref : Bench → LocalparamRef
 next_localparam_ref b = record { id = next_id b (length b.nodes.roots) }
 
 -- A parameter more in the module's header: its place at the end, and its name as an expression.
-abbrev pub with_parameter_listed : VastModule → ParameterPortRecord → Bench → Bench
+abbrev pub with_parameter_listed : VastModule → ParameterPort → Bench → Bench
 with_parameter_listed m p b = record b { modules = changed_at m.id.index (with_listed_parameter p) b.modules }
 
 abbrev pub with_parameter_port : VastModule → List ℕ → Option VastDataType → Expr → Bench → Bench
@@ -38,7 +38,7 @@ abbrev pub with_int_parameter : VastModule → Bool → List ℕ → Expr → Be
 with_int_parameter m local name value b = with_parameter_named m local (IntForm name) value (NameTree name Untyped) b
 
 -- A definition's name as an expression, of the definition's type.
-abbrev pub defined_name : Bench → Option DefinitionRecord → ExprTree
+abbrev pub defined_name : Bench → Option Definition → ExprTree
 defined_name b None = NameTree [] Untyped
 defined_name b (Some d) = NameTree d.name (Typed (type_of b d.data_type))
 

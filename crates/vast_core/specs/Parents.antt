@@ -4,7 +4,7 @@ use Rattle.vast_core.specs.declared.handle.VastStatementBlock.{VastStatementBloc
 use Rattle.vast_core.specs.declared.node.ElseIf.{ElseIf}
 use Rattle.vast_core.specs.declared.node.CaseArm.{CaseArm}
 use Rattle.vast_core.specs.Records.{Member, FunctionEntry, AlwaysEntry, ConditionalEntry, LoopEntry, ModuleRecord}
-use Rattle.vast_core.specs.Nests.{StatementEntry, ConditionalStatement, CasesStatement, ConditionalRecord, NestRecord, BlockRecord, ConditionalNestRecord, CaseNestRecord, LoopNestRecord, FunctionRecord, AlwaysRecord}
+use Rattle.vast_core.specs.Nests.{Statement, ConditionalStatement, CasesStatement, ConditionalRecord, NestRecord, BlockRecord, ConditionalNestRecord, CaseNestRecord, LoopNestRecord, FunctionRecord, AlwaysRecord}
 use Rattle.vast_core.specs.Bench.{Bench}
 
 -- What stands in a place of the file: a container, a function or an always block, by its number among its like.
@@ -21,7 +21,7 @@ is_same _ _ = false
 
 -- The parts that each holds directly: a statement, a member, an arm, a container, a function, an always block, a module.
 
-abbrev pub held_by_statement : StatementEntry → List Part
+abbrev pub held_by_statement : Statement → List Part
 held_by_statement (ConditionalStatement c) = ContainerPart c.id.index ∷ []
 held_by_statement (CasesStatement c) = ContainerPart c.id.index ∷ []
 held_by_statement _ = []

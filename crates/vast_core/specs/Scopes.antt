@@ -4,7 +4,7 @@ use Rattle.vast_core.specs.declared.handle.Expr.{Expr}
 use Rattle.vast_core.specs.declared.handle.VastStatementBlock.{VastStatementBlock}
 use Rattle.vast_core.specs.declared.ast.scope.Scope.{Scope}
 use Rattle.vast_core.specs.declared.ast.scope.Scope.TheVariants.{Module as ScopeModule, Loop as ScopeLoop}
-use Rattle.vast_core.specs.Records.{Member, DeclarationEntry, AssignmentEntry, ParameterEntry, BlankEntry, CommentEntry, InlineEntry, MacroEntry, InstanceEntry, FunctionEntry, AlwaysEntry, ConditionalEntry, LoopEntry, ParameterForm}
+use Rattle.vast_core.specs.Records.{Member, DeclarationEntry, ParameterEntry, FunctionEntry, AlwaysEntry, ConditionalEntry, LoopEntry, ParameterForm}
 use Rattle.vast_core.specs.Bench.{Bench, OwnsModule, OwnsLoop}
 use Rattle.vast_core.specs.Growth.{with_expr, with_member}
 use Rattle.vast_core.specs.Parameters.{form_name}
@@ -25,17 +25,11 @@ with_scope_parameter scope local form value b = with_expr (form_name b form) (wi
 -- The member may be given to more scopes than one: it declares no name, and holds no container and no function.
 abbrev pub IsShared : Member → Type 0
 IsShared (DeclarationEntry kind name data_type) = ⊥
-IsShared (AssignmentEntry a) = Unit {0}
-IsShared (ParameterEntry local form value) = Unit {0}
-IsShared BlankEntry = Unit {0}
-IsShared (CommentEntry a) = Unit {0}
-IsShared (InlineEntry a) = Unit {0}
-IsShared (MacroEntry a) = Unit {0}
-IsShared (InstanceEntry i) = Unit {0}
 IsShared (FunctionEntry f) = ⊥
 IsShared (AlwaysEntry a) = ⊥
 IsShared (ConditionalEntry c) = ⊥
 IsShared (LoopEntry l) = ⊥
+IsShared _ = Unit {0}
 
 -- A loop may hold the block where it is older; a module always may.
 abbrev pub IsOlder : Scope → VastStatementBlock → Type 0

@@ -6,9 +6,9 @@ use Rattle.vast_core.specs.declared.handle.Expr.{Expr}
 use Rattle.vast_core.specs.declared.handle.VastStatementBlock.{VastStatementBlock}
 use Rattle.vast_core.specs.declared.node.ElseIf.{ElseIf}
 use Rattle.vast_core.specs.declared.node.CaseArm.{CaseArm}
-use Rattle.vast_core.specs.Nests.{StatementEntry, AssignStatement, ContinuousStatement, ConditionalStatement, CasesStatement, BlankStatement, CommentStatement, InlineStatement, ConditionalRecord, CaseRecord, LoopRecord, NestRecord, BlockRecord, ConditionalNestRecord, CaseNestRecord, LoopNestRecord, FunctionVariable, FunctionRecord, AlwaysRecord, declared_names}
+use Rattle.vast_core.specs.Nests.{Statement, AssignStatement, ContinuousStatement, ConditionalStatement, CasesStatement, ConditionalRecord, CaseRecord, LoopRecord, NestRecord, BlockRecord, ConditionalNestRecord, CaseNestRecord, LoopNestRecord, FunctionVariable, FunctionRecord, AlwaysRecord, declared_names}
 use Rattle.vast_core.specs.declared.node.Assignment.{Assignment}
-use Rattle.vast_core.specs.Records.{Port, ParameterPortRecord, ModuleRecord, ParameterForm, PlainForm, IntForm, DefinedForm, Member, DeclarationEntry, AssignmentEntry, ParameterEntry, BlankEntry, CommentEntry, InlineEntry, MacroEntry, InstanceEntry, FunctionEntry, AlwaysEntry, ConditionalEntry, LoopEntry, FileEntry, ModuleEntry, IncludeEntry, FileCommentEntry, FileBlankEntry, DefinitionRecord, ArtifactRecord, BlankLineRecord, CommentRecord, InlineRecord, MacroRecord, ConnectionRecord, InstanceRecord, IsFree}
+use Rattle.vast_core.specs.Records.{Port, ParameterPort, ModuleRecord, ParameterForm, PlainForm, IntForm, DefinedForm, Member, DeclarationEntry, AssignmentEntry, ParameterEntry, BlankEntry, CommentEntry, InlineEntry, MacroEntry, InstanceEntry, FunctionEntry, AlwaysEntry, ConditionalEntry, LoopEntry, FileItem, ModuleEntry, Definition, Artifact, MacroArtifact, Connection, InstanceRecord, IsFree}
 use Rattle.vast_core.specs.Bench.{Bench, OwnsExpr, OwnsType, OwnsLogicRef, OwnsPort, OwnsContinuous, OwnsModule, OwnsDef, OwnsMacroRef, OwnsComment, OwnsInline, OwnsMacroStatement, OwnsInstantiation, OwnsFunction, OwnsAlways, OwnsStatement, OwnsBlock, OwnsConditional, OwnsCase, OwnsLoop, tree_of}
 use Rattle.vast_core.specs.DeclaredNames.{NamesSound}
 use Rattle.vast_core.specs.Parents.{HasOneParent}
@@ -24,16 +24,14 @@ PortSound b p = OwnsType b p.data_type × OwnsLogicRef b p.logic_ref
 abbrev pub AssignmentSound : Bench → Assignment → Type 0
 AssignmentSound b a = OwnsExpr b a.lhs × OwnsExpr b a.rhs
 
-abbrev pub DefinitionSound : Bench → DefinitionRecord → Type 0
+abbrev pub DefinitionSound : Bench → Definition → Type 0
 DefinitionSound b d = OwnsType b d.data_type
 
-abbrev pub ArtifactSound : Bench → ArtifactRecord → Type 0
-ArtifactSound b BlankLineRecord = Unit {0}
-ArtifactSound b (CommentRecord text) = Unit {0}
-ArtifactSound b (InlineRecord text) = Unit {0}
-ArtifactSound b (MacroRecord call semicolon) = OwnsMacroRef b call
+abbrev pub ArtifactSound : Bench → Artifact → Type 0
+ArtifactSound b (MacroArtifact call semicolon) = OwnsMacroRef b call
+ArtifactSound b _ = Unit {0}
 
-abbrev pub ConnectionSound : Bench → ConnectionRecord → Type 0
+abbrev pub ConnectionSound : Bench → Connection → Type 0
 ConnectionSound b c = IfSome c.value (OwnsExpr b)
 
 pub record InstanceSound (b : Bench) (i : InstanceRecord) : Type 0 where
@@ -63,14 +61,12 @@ MemberSound b (LoopEntry l) = OwnsLoop b l
 abbrev pub HoldsBlock : Bench → ℕ → VastStatementBlock → Type 0
 HoldsBlock b i c = OwnsBlock b c × i < c.id.index
 
-abbrev pub StatementSound : Bench → ℕ → StatementEntry → Type 0
+abbrev pub StatementSound : Bench → ℕ → Statement → Type 0
 StatementSound b i (AssignStatement s) = OwnsStatement b s
 StatementSound b i (ContinuousStatement s) = OwnsStatement b s
 StatementSound b i (ConditionalStatement c) = OwnsConditional b c × i < c.id.index
 StatementSound b i (CasesStatement c) = OwnsCase b c × i < c.id.index
-StatementSound b i BlankStatement = Unit {0}
-StatementSound b i (CommentStatement text) = Unit {0}
-StatementSound b i (InlineStatement text) = Unit {0}
+StatementSound b i _ = Unit {0}
 
 abbrev pub ElseIfSound : Bench → ℕ → ElseIf → Type 0
 ElseIfSound b i a = OwnsExpr b a.condition × HoldsBlock b i a.block
@@ -96,17 +92,11 @@ AlwaysNewer i (Some a) = i < a.block.id.index
 -- What a member of loop i holds is newer than the loop. Loops declare nothing and hold no functions.
 abbrev pub MemberNewer : Bench → ℕ → Member → Type 0
 MemberNewer b i (DeclarationEntry kind name data_type) = ⊥
-MemberNewer b i (AssignmentEntry a) = Unit {0}
-MemberNewer b i (ParameterEntry local form value) = Unit {0}
-MemberNewer b i BlankEntry = Unit {0}
-MemberNewer b i (CommentEntry a) = Unit {0}
-MemberNewer b i (InlineEntry a) = Unit {0}
-MemberNewer b i (MacroEntry a) = Unit {0}
-MemberNewer b i (InstanceEntry x) = Unit {0}
 MemberNewer b i (FunctionEntry f) = ⊥
 MemberNewer b i (AlwaysEntry a) = AlwaysNewer i (slice_get b.always_blocks a.id.index)
 MemberNewer b i (ConditionalEntry c) = i < c.id.index
 MemberNewer b i (LoopEntry l) = i < l.id.index
+MemberNewer b i _ = Unit {0}
 
 abbrev pub LoopMemberSound : Bench → ℕ → Member → Type 0
 LoopMemberSound b i entry = MemberSound b entry × MemberNewer b i entry
@@ -162,7 +152,7 @@ pub record AlwaysSound (b : Bench) (a : AlwaysRecord) : Type 0 where
   pub events : Each (EventSound b) a.events
   pub block : OwnsBlock b a.block
 
-abbrev pub ParameterPortSound : Bench → ParameterPortRecord → Type 0
+abbrev pub ParameterPortSound : Bench → ParameterPort → Type 0
 ParameterPortSound b p = IfSome p.data_type (OwnsType b) × OwnsExpr b p.value
 
 pub record ModuleSound (b : Bench) (m : ModuleRecord) : Type 0 where
@@ -170,11 +160,9 @@ pub record ModuleSound (b : Bench) (m : ModuleRecord) : Type 0 where
   pub ports : Each (OwnsPort b) m.ports
   pub members : Each (MemberSound b) m.members
 
-abbrev pub EntrySound : Bench → FileEntry → Type 0
+abbrev pub EntrySound : Bench → FileItem → Type 0
 EntrySound b (ModuleEntry m) = OwnsModule b m
-EntrySound b (IncludeEntry path) = Unit {0}
-EntrySound b (FileCommentEntry text) = Unit {0}
-EntrySound b FileBlankEntry = Unit {0}
+EntrySound b _ = Unit {0}
 
 pub record RecordsSound (b : Bench) : Type 0 where
   pub ports : Each (PortSound b) b.ports

@@ -8,7 +8,7 @@ use Rattle.vast_core.specs.declared.ast.spot.Spot.TheVariants.{Scope as ScopeSpo
 use Rattle.vast_literal.specs.declared.kind.AssignmentForm.{AssignmentForm}
 use Rattle.vast_literal.specs.declared.kind.AssignmentForm.TheVariants.{Blocking, Nonblocking, Continuous}
 use Rattle.vast_core.specs.Records.{AssignmentEntry, ConditionalEntry}
-use Rattle.vast_core.specs.Nests.{StatementEntry, AssignStatement, ContinuousStatement, ConditionalStatement}
+use Rattle.vast_core.specs.Nests.{Statement, AssignStatement, ContinuousStatement, ConditionalStatement}
 use Rattle.vast_core.specs.Bench.{Bench, OwnsBlock}
 use Rattle.vast_core.specs.Growth.{next_continuous, with_assignment}
 use Rattle.vast_core.specs.Artifacts.{next_statement}
@@ -35,7 +35,7 @@ abbrev pub assigned : AssignmentForm → Expr → Expr → Assignment
 assigned form lhs rhs = record { lhs = lhs; rhs = rhs; nonblocking = is_nonblocking form }
 
 -- The statement of a block that is written so.
-abbrev pub statement_of : AssignmentForm → VastStatement → StatementEntry
+abbrev pub statement_of : AssignmentForm → VastStatement → Statement
 statement_of Continuous a = ContinuousStatement a
 statement_of Blocking a = AssignStatement a
 statement_of Nonblocking a = AssignStatement a

@@ -2,7 +2,7 @@
 use Rattle.std.specs.Prelude.{◌≡◌, ℤ, ◌<◌, ◌≤ℤ◌, pos, Bool, true, false, IsTrue, List, length, Option, None, IfSome, All}
 use Rattle.vast_literal.specs.LiteralToken.{is_literal_text, is_string_text}
 use Rattle.vast_literal.specs.Shape.{base_of}
-use Rattle.vast_literal.specs.Tree.{ExprTree, NameTree, LiteralTree, StringTree, UnaryTree, BinaryTree, TernaryTree, IndexTree, SliceTree, PartSelectTree, ConcatTree, PatternTree, WidthCastTree, TypeCastTree, PosEdgeTree, NegEdgeTree, MacroTree, CallTree, MissingExpr, TypeTree, ScalarTree, VectorTree, IntegerTree, IntTree, ExternalTree, PackageTree, PackedTree, UnpackedTree, MissingType, MaybeType, Untyped, Typed, MaybeExpr, NoExpr, SomeExpr, Exprs, NoExprs, MoreExprs, MaybeExprs, NoArguments, SomeArguments}
+use Rattle.vast_literal.specs.Tree.{ExprTree, NameTree, LiteralTree, StringTree, UnaryTree, BinaryTree, TernaryTree, IndexTree, SliceTree, PartSelectTree, ConcatTree, PatternTree, WidthCastTree, TypeCastTree, PosEdgeTree, NegEdgeTree, MacroTree, CallTree, MissingExpr, TypeTree, ScalarTree, VectorTree, IntegerTree, IntTree, PackedTree, UnpackedTree, MissingType, MaybeType, Untyped, Typed, MaybeExpr, NoExpr, SomeExpr, Exprs, NoExprs, MoreExprs, MaybeExprs, NoArguments, SomeArguments}
 
 -- A literal's value, where that is known.
 abbrev pub literal_value : ExprTree → Option ℤ
@@ -91,15 +91,11 @@ abbrev mutual
   ExprWellFormed MissingExpr = ⊥
 
   pub TypeWellFormed : TypeTree → Type 0
-  TypeWellFormed (ScalarTree signed) = Unit {0}
   TypeWellFormed (VectorTree width value signed) = (IsUsableWidth width × (value ≡ literal_value width)) × ExprWellFormed width
-  TypeWellFormed (IntegerTree signed) = Unit {0}
-  TypeWellFormed (IntTree signed) = Unit {0}
-  TypeWellFormed (ExternalTree name) = Unit {0}
-  TypeWellFormed (PackageTree package_name name) = Unit {0}
   TypeWellFormed (PackedTree element dimensions) = (IsTrue (is_packable element) × AreDimensions dimensions) × TypeWellFormed element
   TypeWellFormed (UnpackedTree element dimensions) = AreDimensions dimensions × TypeWellFormed element
   TypeWellFormed MissingType = ⊥
+  TypeWellFormed _ = Unit {0}
 
   pub MaybeTypeWellFormed : MaybeType → Type 0
   MaybeTypeWellFormed Untyped = Unit {0}

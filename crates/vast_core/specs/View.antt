@@ -2,7 +2,7 @@
 use Rattle.std.specs.Prelude.{map}
 use Rattle.vast_core.specs.Raw.{Raw}
 use Rattle.vast_core.specs.Nodes.{no_nodes, built}
-use Rattle.vast_core.specs.Records.{module_record, definition_record, artifact_record, instance_record, file_entry}
+use Rattle.vast_core.specs.Records.{module_record, instance_record}
 use Rattle.vast_core.specs.Nests.{nest_record, function_record, always_record}
 use Rattle.vast_core.specs.Bench.{Bench}
 
@@ -16,10 +16,10 @@ bench a =
       assignments = a.assignments;
       modules = map module_record a.modules;
       functions = map function_record a.functions;
-      definitions = map definition_record a.definitions;
-      artifacts = map artifact_record a.artifacts;
+      definitions = a.definitions;
+      artifacts = a.artifacts;
       instances = map instance_record a.instances;
       always_blocks = map always_record a.always_blocks;
-      items = map file_entry a.items;
+      items = a.items;
       spare = a.spare;
     }

@@ -4,7 +4,7 @@ use Rattle.std.specs.Prelude.{Bool, true, false, IsTrue, Option, Some, None}
 use Rattle.vast_literal.specs.WellFormedFile.{is_own_kind, is_local_word}
 use Rattle.vast_core.specs.declared.handle.Expr.{Expr}
 use Rattle.vast_literal.specs.declared.kind.DataKind.{DataKind}
-use Rattle.vast_core.specs.Records.{Member, DeclarationEntry, AssignmentEntry, ParameterEntry, BlankEntry, CommentEntry, InlineEntry, MacroEntry, InstanceEntry, FunctionEntry, AlwaysEntry, ConditionalEntry, LoopEntry, ConnectionRecord}
+use Rattle.vast_core.specs.Records.{Member, DeclarationEntry, Connection}
 use Rattle.vast_core.specs.Nests.{FunctionVariable}
 
 -- A module declares such: wire, reg or logic.
@@ -18,17 +18,7 @@ IsVariableKind true kind = IsTrue (is_local_word kind)
 
 abbrev pub HasOwnKind : Member → Type 0
 HasOwnKind (DeclarationEntry kind name data_type) = IsOwnKind kind
-HasOwnKind (AssignmentEntry a) = Unit {0}
-HasOwnKind (ParameterEntry local form value) = Unit {0}
-HasOwnKind BlankEntry = Unit {0}
-HasOwnKind (CommentEntry a) = Unit {0}
-HasOwnKind (InlineEntry a) = Unit {0}
-HasOwnKind (MacroEntry a) = Unit {0}
-HasOwnKind (InstanceEntry i) = Unit {0}
-HasOwnKind (FunctionEntry f) = Unit {0}
-HasOwnKind (AlwaysEntry a) = Unit {0}
-HasOwnKind (ConditionalEntry c) = Unit {0}
-HasOwnKind (LoopEntry l) = Unit {0}
+HasOwnKind _ = Unit {0}
 
 abbrev pub HasLocalKind : FunctionVariable → Type 0
 HasLocalKind v = IsVariableKind true v.kind
@@ -37,5 +27,5 @@ abbrev pub IsGiven : Option Expr → Type 0
 IsGiven None = ⊥
 IsGiven (Some value) = Unit {0}
 
-abbrev pub HasValue : ConnectionRecord → Type 0
+abbrev pub HasValue : Connection → Type 0
 HasValue c = IsGiven c.value

@@ -9,7 +9,7 @@ use crate::handle::{
 use vast_literal::{
     AlwaysKind, BinaryOperator, CaseKind, DataKind, ModulePortDirection, UnaryOperator,
 };
-use vast_names::{NameTable, Word};
+use vast_names::{NameTable, Text, Word};
 
 /// A node of the arena that expressions and types share: an expression, or a data type. Types hold widths and names hold
 /// types, so that "children are older" is one order. It is one flat enum, and the names of a package's type are boxed,
@@ -132,7 +132,7 @@ pub enum Member {
 /// A parameter of a module's header.
 #[derive(Drop)]
 pub struct ParameterPort {
-    pub name: String,
+    pub name: Text,
     pub data_type: Option<VastDataType>,
     pub value: Expr,
 }
@@ -152,8 +152,8 @@ pub struct Module {
 pub enum FileItem {
     Module(VastModule),
     /// The path of an included file.
-    Include(String),
-    Comment(String),
+    Include(Text),
+    Comment(Text),
     BlankLine,
 }
 
@@ -180,7 +180,7 @@ pub struct Function {
 /// A definition, from which parameters take kind, type and name.
 #[derive(Drop)]
 pub struct Definition {
-    pub name: String,
+    pub name: Text,
     pub kind: DataKind,
     pub data_type: VastDataType,
 }
@@ -189,8 +189,8 @@ pub struct Definition {
 #[derive(Drop)]
 pub enum Artifact {
     BlankLine,
-    Comment(String),
-    Inline(String),
+    Comment(Text),
+    Inline(Text),
     /// The use of a macro, with a semicolon or without.
     MacroStatement(MacroRef, bool),
 }
@@ -198,7 +198,7 @@ pub enum Artifact {
 /// What an instantiation gives to a parameter or to a port of this name; an open port has no expression.
 #[derive(Drop)]
 pub struct Connection {
-    pub name: String,
+    pub name: Text,
     pub value: Option<Expr>,
 }
 
@@ -229,8 +229,8 @@ pub enum Statement {
     Conditional(Conditional),
     Case(CaseStatement),
     BlankLine,
-    Comment(String),
-    Inline(String),
+    Comment(Text),
+    Inline(Text),
 }
 
 /// An arm `else if` of a conditional.

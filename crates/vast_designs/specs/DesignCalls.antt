@@ -5,7 +5,7 @@ use Rattle.vast_literal.specs.declared.kind.ModulePortDirection.TheVariants.{Inp
 use Rattle.vast_literal.specs.declared.kind.DataKind.TheVariants.{Wire, Reg}
 use Rattle.vast_literal.specs.declared.kind.CaseKind.TheVariants.{CaseZ}
 use Rattle.vast_literal.specs.PlainFile.{is_plain_file}
-use Rattle.vast_core.specs.Nests.{CommentStatement}
+use Rattle.vast_core.specs.declared.node.Statement.TheVariants.{Comment as CommentStatement}
 use Rattle.vast_core.specs.Growth.{decimal_literal}
 use Rattle.vast_core.specs.Bench.{start}
 use Rattle.vast_core.specs.FileTree.{tree}

@@ -15,7 +15,7 @@ use Rattle.vast_literal.specs.Digits.{is_digit_or_gap, is_numeral, number_in, we
 use Rattle.vast_literal.specs.Literal.{Bits, split_at, typed_parts, without_sign, has_minus, marked_radix, radix_or_ten, digits_or_all, radix_and_digits, is_decimal, width_of, fits_in, modulo_width, magnitude_of, fitted, value_of, literal_of}
 use Rattle.vast_literal.specs.Denotes.{IsSign, IsRadixMark, IsModulo, Denotes}
 use Rattle.vast_literal.specs.Denotes.IsSign.{NoSign, PlusSign, MinusSign}
-use Rattle.vast_literal.specs.Denotes.IsRadixMark.{NoMark, LowerHexMark, UpperHexMark, LowerBinaryMark, UpperBinaryMark, LowerOctalMark, UpperOctalMark}
+use Rattle.vast_literal.specs.Denotes.IsRadixMark.{NoMark}
 use Rattle.vast_literal.proofs.Parts.{starts_not}
 
 -- the width has no bracket, so the text is cut behind it
@@ -63,12 +63,7 @@ plain_digits (z ∷ m ∷ ds) h =
 mark_read : (mark digits : List ℕ) (radix : ℕ) → IsRadixMark mark radix → is_numeral radix digits ≡ true → radix_and_digits (mark ++ digits) ≡ (radix, digits)
 unfolding radix_and_digits
 mark_read mark digits radix NoMark h = plain_digits digits h
-mark_read mark digits radix LowerHexMark h = refl
-mark_read mark digits radix UpperHexMark h = refl
-mark_read mark digits radix LowerBinaryMark h = refl
-mark_read mark digits radix UpperBinaryMark h = refl
-mark_read mark digits radix LowerOctalMark h = refl
-mark_read mark digits radix UpperOctalMark h = refl
+mark_read mark digits radix _ h = refl
 
 no_sign_first : (c : ℕ) (cs : List ℕ) → (c ≡ 95) ⊎ IsInRange 48 57 c → (has_minus (c ∷ cs) ≡ false) × (without_sign (c ∷ cs) ≡ c ∷ cs)
 unfolding has_minus without_sign
@@ -85,12 +80,7 @@ no_sign_digits (c ∷ cs) h =
 no_sign : (mark digits : List ℕ) (radix : ℕ) → IsRadixMark mark radix → is_numeral radix digits ≡ true → (has_minus (mark ++ digits) ≡ false) × (without_sign (mark ++ digits) ≡ mark ++ digits)
 unfolding has_minus without_sign
 no_sign mark digits radix NoMark h = no_sign_digits digits h
-no_sign mark digits radix LowerHexMark h = (refl, refl)
-no_sign mark digits radix UpperHexMark h = (refl, refl)
-no_sign mark digits radix LowerBinaryMark h = (refl, refl)
-no_sign mark digits radix UpperBinaryMark h = (refl, refl)
-no_sign mark digits radix LowerOctalMark h = (refl, refl)
-no_sign mark digits radix UpperOctalMark h = (refl, refl)
+no_sign mark digits radix _ h = (refl, refl)
 
 sign_read : (sign number : List ℕ) (negative : Bool) → IsSign sign negative → (has_minus number ≡ false) × (without_sign number ≡ number) → (has_minus (sign ++ number) ≡ negative) × (without_sign (sign ++ number) ≡ number)
 unfolding has_minus without_sign

@@ -3,7 +3,7 @@ use Rattle.std.specs.Prelude.{ℕ, List, [], ◌∷◌, ◌++◌, Bool, true, fa
 use Rattle.std.specs.Fmt.{signed_decimal}
 use Rattle.vast_literal.specs.Tokens.{Key, LogicKey, IntegerKey, IntKey, PosedgeKey, NegedgeKey, OpenParen, CloseParen, OpenBracket, CloseBracket, OpenBrace, CloseBrace, Comma, Colon, Question, DoubleColon, PlusColon, Apostrophe, Token, Reserved, Word, SystemWord, MacroWord, Number, Quoted, Operator, Mark}
 use Rattle.vast_literal.specs.Tree.{ExprTree, NameTree, LiteralTree, StringTree, UnaryTree, BinaryTree, TernaryTree, IndexTree, SliceTree, PartSelectTree, ConcatTree, PatternTree, WidthCastTree, TypeCastTree, PosEdgeTree, NegEdgeTree, MacroTree, CallTree, MissingExpr}
-use Rattle.vast_literal.specs.Tree.{TypeTree, ScalarTree, VectorTree, IntegerTree, IntTree, ExternalTree, PackageTree, PackedTree, UnpackedTree, MissingType}
+use Rattle.vast_literal.specs.Tree.{TypeTree, ScalarTree, VectorTree, IntegerTree, IntTree, ExternalTree, PackageTree}
 use Rattle.vast_literal.specs.Tree.{NoExpr, SomeExpr, Exprs, NoExprs, MoreExprs, NoArguments, SomeArguments}
 use Rattle.vast_literal.specs.NormalExpr.{unary_operator_token, binary_operator_token, signing_key, scalar_sign, integer_sign}
 use Rattle.vast_literal.specs.Shape.{is_elided_index, is_elided_slice, unary_wraps, left_child_wraps, right_child_wraps, ternary_wraps, select_wraps}
@@ -91,9 +91,7 @@ unfoldable mutual
   cast_tokens (IntTree signed) ts = word_cast_tokens (integer_sign signed) IntKey ts
   cast_tokens (ExternalTree name) ts = Word name ∷ cast_operand ts
   cast_tokens (PackageTree package_name name) ts = Word package_name ∷ (Mark DoubleColon ∷ (Word name ∷ cast_operand ts))
-  cast_tokens (PackedTree element dimensions) ts = ts
-  cast_tokens (UnpackedTree element dimensions) ts = ts
-  cast_tokens MissingType ts = ts
+  cast_tokens _ ts = ts
 
   pub each_tokens : Exprs → List (List Token)
   each_tokens NoExprs = []

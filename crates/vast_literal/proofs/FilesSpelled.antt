@@ -1,7 +1,7 @@
 -- The tokens of a file's page spell its normal form.
 use Rattle.std.proofs.Common.{◌≡◌, ℕ, List, [], ◌∷◌, ◌++◌, map, true, ◌&&◌, IsTrue, refl}
 use Rattle.vast_literal.specs.Tokens.{Assign, EndModuleKey, ParameterKey, Reserved, Mark}
-use Rattle.vast_literal.specs.Tree.{Dialect, MaybeType, Untyped, Typed, PortDirection, InputDirection, OutputDirection, InOutDirection, PortTree, ParameterPortTree, ModuleTree, FileItemTree, ModuleItem, IncludeItem, CommentItem, BlankItem, FileTree}
+use Rattle.vast_literal.specs.Tree.{Dialect, MaybeType, Untyped, Typed, PortDirection, InputDirection, PortTree, ParameterPortTree, ModuleTree, FileItemTree, ModuleItem, IncludeItem, CommentItem, BlankItem, FileTree}
 use Rattle.vast_literal.specs.NormalFile.{ModulePart}
 use Rattle.vast_literal.specs.FileGrammar.{IsMany, no_items, more_items, absent, no_type, IsDeclaration, declares, is_direction, IsParameter, header_parameter, IsPort, port, IsParameters, no_header_parameters, header_parameters, IsPorts, no_ports, ports, IsItem, module_item, include_item, IsFile, file}
 use Rattle.vast_literal.specs.Plain.{is_plain_name, is_plain}
@@ -20,8 +20,7 @@ use Rattle.vast_literal.specs.LiteralToken.{every}
 direction_spelled : (d : PortDirection) → IsTrue (is_direction (direction_key d))
 unfolding direction_key is_direction
 direction_spelled InputDirection = refl
-direction_spelled OutputDirection = refl
-direction_spelled InOutDirection = refl
+direction_spelled _ = refl
 
 port_spelled : (dialect : Dialect) (p : PortTree) → is_plain_declared p.declaration ≡ true → is_well_formed_type p.declaration.type ≡ true → IsPort (Reserved (direction_key p.direction) ∷ port_declaration_tokens dialect p.declaration) (normal_port dialect p)
 unfolding normal_port

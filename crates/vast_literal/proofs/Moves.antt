@@ -5,35 +5,29 @@ use Rattle.vast_literal.specs.Tokens.{Op, level, is_unary, Punct, OpenParen, Clo
 use Rattle.vast_literal.specs.NormalExpr.{NormalExpr, Name, Literal, Text, MacroAlone, Unary, Binary, Ternary, Index, Slice, PartSelect, Concat, Pattern, Replicated, Call, MacroCall, Cast, PackageCast, WordCast, NormalExprs, NoNormals, MoreNormals}
 use Rattle.vast_literal.specs.Grammar.{is_cast_word}
 use Rattle.vast_literal.specs.Internal.Parser.{code}
-use Rattle.vast_literal.specs.Internal.Parser.{◌>>=◌, Parser, Lead, Ends, Opens, Ticks, Scopes, Brackets, Asks, Closes, Colons, PlusColons, Infix, lead, after, prefix, word_at, number_at, enclosed_at, cast, list_on, list_step, arguments_on, arguments, applied_at, word_on, number_on, macro_on, paren_on, brace_next, brace_on, primary, select, selects_on, selects_step, selected_at, operand_on, operand_step, climb_on, climb_step, binary_step, expression_on, expression_step}
+use Rattle.vast_literal.specs.Internal.Parser.{◌>>=◌, Parser, Lead, Opens, Ticks, Scopes, Brackets, Asks, Infix, lead, after, prefix, word_at, number_at, enclosed_at, cast, list_on, list_step, arguments_on, arguments, applied_at, word_on, number_on, macro_on, paren_on, brace_next, brace_on, primary, select, selects_on, selects_step, selected_at, operand_on, operand_step, climb_on, climb_step, binary_step, expression_on, expression_step}
 
 -- what stands next goes on with no expression of this level
 abbrev pub QuietAt : ℕ → Lead → Type 0
-QuietAt k Ends = Unit {0}
 QuietAt k (Opens us) = ⊥
 QuietAt k (Ticks us) = ⊥
 QuietAt k (Scopes us) = ⊥
 QuietAt k (Brackets us) = 13 < k
 QuietAt k (Asks us) = 0 < k
-QuietAt k (Closes us) = Unit {0}
-QuietAt k (Colons us) = Unit {0}
-QuietAt k (PlusColons us) = Unit {0}
 QuietAt k (Infix op us) = level op < k
+QuietAt k _ = Unit {0}
 
 abbrev pub Quiet : ℕ → List Token → Type 0
 Quiet k ts = QuietAt k (lead ts)
 
 quieter_at : (a b : ℕ) → a ≤ b → (l : Lead) → QuietAt a l → QuietAt b l
-quieter_at a b h Ends q = tt
 quieter_at a b h (Opens us) q = q
 quieter_at a b h (Ticks us) q = q
 quieter_at a b h (Scopes us) q = q
 quieter_at a b h (Brackets us) q = omega arith
 quieter_at a b h (Asks us) q = omega arith
-quieter_at a b h (Closes us) q = tt
-quieter_at a b h (Colons us) q = tt
-quieter_at a b h (PlusColons us) q = tt
 quieter_at a b h (Infix op us) q = omega arith
+quieter_at a b h _ q = tt
 
 pub quieter : (a b : ℕ) (ts : List Token) → a ≤ b → Quiet a ts → Quiet b ts
 quieter a b ts h q = quieter_at a b h (lead ts) q

@@ -2,7 +2,7 @@
 use Rattle.std.proofs.Common.{◌≡◌, ℕ, List, [], ◌∷◌, ◌++◌, Bool, true, false, cond, not, eqb-true, ◌&&◌, ◌||◌, eqb, Option, Some, None, refl, sym, ◌∙◌, ap, append_assoc, append-nil, arith}
 use Rattle.std.proofs.lemmas.Bool.Decides.{nat_tests}
 use Rattle.vast_literal.specs.Keyword.{is_keyword}
-use Rattle.vast_literal.specs.Tokens.{Op, LogicOr, LogicAnd, BitOr, BitXor, BitAnd, NotEqual, CaseNotEqual, Equal, CaseEqual, GreaterEqual, Greater, LessEqual, Less, ShiftLeft, ShiftRightSigned, ShiftRight, Plus, Minus, Times, Divide, Modulo, Power, BitNot, LogicNot, OpenParen, Colon, Apostrophe, Key, IfKey, key_text, reserved_keys, Token, Reserved, Word, SystemWord, MacroWord, Number, Based, Quoted, Operator, Mark, word_token}
+use Rattle.vast_literal.specs.Tokens.{Op, LogicOr, BitOr, BitAnd, LogicNot, OpenParen, Colon, Apostrophe, Key, IfKey, key_text, reserved_keys, Token, Reserved, Word, SystemWord, MacroWord, Number, Based, Quoted, Operator, Mark, word_token}
 use Rattle.vast_literal.specs.Scan.{is_letter, is_digit, is_word_byte, is_based_digit, is_radix, is_filler, State, Gap, InWord, InSystemWord, InMacroWord, InNumber, AfterTick, InRadix, InBased, InString, InEscape, Pending, cons_token, add_tokens, join_tokens, keep, follow, start, grown, step, flush, scan}
 use Rattle.vast_literal.specs.Tokens.{op_text}
 use Rattle.vast_literal.specs.LiteralToken.{every, is_number, is_done, is_string_rest, is_string_text}
@@ -171,29 +171,7 @@ scan_string (c ∷ t) rest h = rw (eqb-true c 34 (and_left _ _ h)) (scan_string_
 pub scan_operator : (op : Op) (rest : List ℕ) → scan Gap (op_text op ++ (32 ∷ rest)) ≡ cons_token (Operator op) (scan Gap rest)
 unfolding scan
 scan_operator LogicOr rest = refl
-scan_operator LogicAnd rest = refl
-scan_operator BitOr rest = refl
-scan_operator BitXor rest = refl
-scan_operator BitAnd rest = refl
-scan_operator NotEqual rest = refl
-scan_operator CaseNotEqual rest = refl
-scan_operator Equal rest = refl
-scan_operator CaseEqual rest = refl
-scan_operator GreaterEqual rest = refl
-scan_operator Greater rest = refl
-scan_operator LessEqual rest = refl
-scan_operator Less rest = refl
-scan_operator ShiftLeft rest = refl
-scan_operator ShiftRightSigned rest = refl
-scan_operator ShiftRight rest = refl
-scan_operator Plus rest = refl
-scan_operator Minus rest = refl
-scan_operator Times rest = refl
-scan_operator Divide rest = refl
-scan_operator Modulo rest = refl
-scan_operator Power rest = refl
-scan_operator BitNot rest = refl
-scan_operator LogicNot rest = refl
+scan_operator _ rest = refl
 
 opens_assign : (tight : Bool) (c : ℕ) (cs : List ℕ) → opens tight (c ∷ cs) ≡ true → eqb c 61 ≡ false
 opens_assign tight c cs h = not_or_left (eqb c 61) (eqb c 58) (and_left _ _ h)

@@ -2,7 +2,7 @@
 use Rattle.std.proofs.Common.{◌≡◌, ℕ, suc, ◌≤◌, List, [], ◌∷◌, ◌++◌, Bool, true, false, cond, not, ◌&&◌, eqb, IsTrue, refl, sym, subst, append_assoc, append-nil, arith}
 use Rattle.std.specs.Fmt.{signed_decimal}
 use Rattle.vast_literal.specs.Tokens.{Minus, level, is_unary, OpenParen, CloseParen, Key, LogicKey, SignedKey, UnsignedKey, IntegerKey, IntKey, Token, Word, SystemWord, Number, Based, Operator, Mark}
-use Rattle.vast_literal.specs.Tree.{UnaryOp, NegateOp, ExprTree, NameTree, LiteralTree, StringTree, UnaryTree, BinaryTree, TernaryTree, IndexTree, SliceTree, PartSelectTree, ConcatTree, PatternTree, WidthCastTree, TypeCastTree, PosEdgeTree, NegEdgeTree, MacroTree, CallTree, MissingExpr, TypeTree, ScalarTree, VectorTree, IntegerTree, IntTree, ExternalTree, PackageTree, PackedTree, UnpackedTree, MissingType, NoExpr, SomeExpr, Exprs, NoExprs, MoreExprs, NoArguments, SomeArguments}
+use Rattle.vast_literal.specs.Tree.{UnaryOp, NegateOp, ExprTree, NameTree, LiteralTree, StringTree, UnaryTree, BinaryTree, TernaryTree, IndexTree, SliceTree, PartSelectTree, ConcatTree, PatternTree, WidthCastTree, TypeCastTree, PosEdgeTree, NegEdgeTree, MacroTree, CallTree, MissingExpr, TypeTree, ScalarTree, VectorTree, IntegerTree, IntTree, ExternalTree, PackageTree, NoExpr, SomeExpr, Exprs, NoExprs, MoreExprs, NoArguments, SomeArguments}
 use Rattle.vast_literal.specs.Shape.{is_scalar_name, is_zero, is_elided_index, is_elided_slice, unary_wraps, left_child_wraps, right_child_wraps, ternary_wraps, select_wraps}
 use Rattle.vast_literal.specs.NormalExpr.{NormalExpr, Name, Literal, Unary, Call, Cast, NormalExprs, NoNormals, MoreNormals, unary_operator_token, binary_operator_token, normal_literal, signing_key, normal_word_cast, scalar_sign, integer_sign, normal, normal_cast, normals}
 use Rattle.vast_literal.specs.Grammar.{is_cast_word, Spells, ternary, binary, unary, index, slice, part_select, name, number, based, quoted, paren, call, system_call, concat, replicated, array_pattern, macro_alone, macro_call, number_cast, name_cast, package_cast, paren_cast, word_cast, SpellsList, none, some, SpellsJoined, last, next}
@@ -211,9 +211,7 @@ mutual
   cast_spelled (IntTree signed) e c l w = below (integer_spells_cast signed IntKey refl e)
   cast_spelled (ExternalTree n) e c l w = below (name_cast n e)
   cast_spelled (PackageTree p n) e c l w = below (package_cast p n e)
-  cast_spelled (PackedTree element dimensions) e c l w = absurd (cc c)
-  cast_spelled (UnpackedTree element dimensions) e c l w = absurd (cc c)
-  cast_spelled MissingType e c l w = absurd (cc c)
+  cast_spelled _ e c l w = absurd (cc c)
 
   pub each_spelled : (es : Exprs) → are_plain es ≡ true → are_well_formed es ≡ true → EachSpelled (each_tokens es) (normals es)
   each_spelled NoExprs l w = no_parts

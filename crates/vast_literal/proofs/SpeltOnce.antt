@@ -8,7 +8,7 @@ use Rattle.std.proofs.lemmas.Bool.Decides.{nat_tests}
 use Rattle.std.proofs.lemmas.Nat.{same_from_place, mul-add-lt}
 use Rattle.std.proofs.Math.Nat.{add_comm, pow-zero, pow-succ', mod-eq_of_lt, mul_comm}
 use Rattle.vast_literal.specs.declared.literal.LiteralFormat.{LiteralFormat}
-use Rattle.vast_literal.specs.declared.literal.LiteralFormat.TheVariants.{Binary, Hex, SignedDecimal, UnsignedDecimal, UnsizedBinary, UnsizedDecimal, UnsizedHex}
+use Rattle.vast_literal.specs.declared.literal.LiteralFormat.TheVariants.{Binary}
 use Rattle.vast_literal.specs.Digits.{is_gap, is_digit_or_gap, is_numeral, digits_in, number_in, weighted}
 use Rattle.vast_literal.specs.Denotes.{IsModulo}
 use Rattle.vast_literal.specs.Spells.{is_no_capital, IsWritten, AreFours, IsGrouped, IsSeparated, Spells, has_format_minus, format_head, format_radix, format_count, groups_digits, minus_text}
@@ -165,12 +165,7 @@ number_once n v m k false l h a b = sym (mod-eq_of_lt l) ∙ sym a.same ∙ b.sa
 
 small_radix : (format : LiteralFormat) → format_radix format ≤ 16
 small_radix Binary = lit≤ tt
-small_radix Hex = lit≤ tt
-small_radix SignedDecimal = lit≤ tt
-small_radix UnsignedDecimal = lit≤ tt
-small_radix UnsizedBinary = lit≤ tt
-small_radix UnsizedDecimal = lit≤ tt
-small_radix UnsizedHex = lit≤ tt
+small_radix _ = lit≤ tt
 
 pub spells_once : (format : LiteralFormat) (n v : ℕ) (s t : List ℕ) → Spells format n v s → Spells format n v t → s ≡ t
 spells_once format n v s t a b =

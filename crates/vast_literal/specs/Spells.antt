@@ -43,11 +43,9 @@ IsSeparated false digits = digits_in digits ≡ digits
 abbrev pub format_radix : LiteralFormat → ℕ
 format_radix Binary = 2
 format_radix Hex = 16
-format_radix SignedDecimal = 10
-format_radix UnsignedDecimal = 10
 format_radix UnsizedBinary = 2
-format_radix UnsizedDecimal = 10
 format_radix UnsizedHex = 16
+format_radix _ = 10
 
 -- What stands before the digits, behind a minus.
 abbrev pub format_head : LiteralFormat → ℕ → List ℕ
@@ -63,31 +61,21 @@ format_head UnsizedHex n = codes "'h"
 abbrev pub groups_digits : LiteralFormat → Bool
 groups_digits Binary = true
 groups_digits Hex = true
-groups_digits SignedDecimal = false
-groups_digits UnsignedDecimal = false
-groups_digits UnsizedBinary = false
-groups_digits UnsizedDecimal = false
 groups_digits UnsizedHex = true
+groups_digits _ = false
 
 -- How many digits a format writes a number of n bits with.
 abbrev pub format_count : LiteralFormat → ℕ → ℕ → ℕ
 format_count Binary n number = padded_count 1 n number
 format_count Hex n number = padded_count 4 n number
-format_count SignedDecimal n number = digit_count 10 number
-format_count UnsignedDecimal n number = digit_count 10 number
 format_count UnsizedBinary n number = digit_count 2 number
-format_count UnsizedDecimal n number = digit_count 10 number
 format_count UnsizedHex n number = digit_count 16 number
+format_count _ n number = digit_count 10 number
 
 -- Whether a format writes a number of n bits with a minus.
 abbrev pub has_format_minus : LiteralFormat → ℕ → ℕ → Bool
 has_format_minus SignedDecimal n v = not (is_below_half n v)
-has_format_minus Binary n v = false
-has_format_minus Hex n v = false
-has_format_minus UnsignedDecimal n v = false
-has_format_minus UnsizedBinary n v = false
-has_format_minus UnsizedDecimal n v = false
-has_format_minus UnsizedHex n v = false
+has_format_minus _ n v = false
 
 -- A minus or nothing.
 abbrev pub minus_text : Bool → List ℕ

@@ -2,7 +2,7 @@
 use Rattle.std.specs.Prelude.{suc, ℤ, pos, Bool, true, false, ◌&&◌}
 use Rattle.vast_literal.specs.LiteralToken.{is_literal_text, is_string_text}
 use Rattle.vast_literal.specs.Tree.{ExprTree, NameTree, LiteralTree, StringTree, UnaryTree, BinaryTree, TernaryTree, IndexTree, SliceTree, PartSelectTree, ConcatTree, PatternTree, WidthCastTree, TypeCastTree, PosEdgeTree, NegEdgeTree, MacroTree, CallTree, MissingExpr}
-use Rattle.vast_literal.specs.Tree.{TypeTree, ScalarTree, VectorTree, IntegerTree, IntTree, ExternalTree, PackageTree, PackedTree, UnpackedTree, MissingType}
+use Rattle.vast_literal.specs.Tree.{TypeTree, VectorTree, PackedTree, UnpackedTree, MissingType}
 use Rattle.vast_literal.specs.Tree.{NoExpr, SomeExpr, Exprs, NoExprs, MoreExprs, NoArguments, SomeArguments}
 
 -- A number of at least 1.
@@ -47,12 +47,8 @@ abbrev mutual
   is_well_formed_type (VectorTree width value signed) = is_well_formed width
   is_well_formed_type (PackedTree element dimensions) = is_well_formed_type element
   is_well_formed_type (UnpackedTree element dimensions) = is_well_formed_type element
-  is_well_formed_type (ScalarTree signed) = true
-  is_well_formed_type (IntegerTree signed) = true
-  is_well_formed_type (IntTree signed) = true
-  is_well_formed_type (ExternalTree name) = true
-  is_well_formed_type (PackageTree package_name name) = true
   is_well_formed_type MissingType = false
+  is_well_formed_type _ = true
 
   pub are_well_formed : Exprs → Bool
   are_well_formed NoExprs = true

@@ -2,9 +2,9 @@
 use Rattle.std.specs.Prelude.{List, [], ◌∷◌, Bool, true, false, ◌&&◌}
 use Rattle.vast_literal.specs.Tree.{ExprTree, NameTree, PosEdgeTree, NegEdgeTree, MacroTree, Kind, WireKind, RegKind, LogicKind}
 use Rattle.vast_literal.specs.Tree.{MaybeExpr, NoExpr, SomeExpr, Exprs, NoExprs, MoreExprs, MaybeType, Untyped, Typed, Declaration}
-use Rattle.vast_literal.specs.Tree.{StatementTree, AssignTree, CommentTree, BlankTree, InlineTree, ConditionalTree, CaseTree, Statements, NoStatements, MoreStatements, Alternates, NoElse, ElseIf, Else, CaseArms, NoCaseArms, CaseArm}
+use Rattle.vast_literal.specs.Tree.{StatementTree, AssignTree, ConditionalTree, CaseTree, Statements, NoStatements, MoreStatements, Alternates, NoElse, ElseIf, Else, CaseArms, NoCaseArms, CaseArm}
 use Rattle.vast_literal.specs.Tree.{ParameterName, PlainParameter, IntParameter, DefinedParameter, Connection, FunctionTree}
-use Rattle.vast_literal.specs.Tree.{MemberTree, DeclarationMember, AssignMember, ParameterMember, CommentMember, BlankMember, InlineMember, MacroMember, InstanceMember, AlwaysMember, ConditionalMember, FunctionMember, LoopMember, Members, NoMembers, MoreMembers}
+use Rattle.vast_literal.specs.Tree.{MemberTree, DeclarationMember, AssignMember, ParameterMember, MacroMember, InstanceMember, AlwaysMember, ConditionalMember, FunctionMember, LoopMember, Members, NoMembers, MoreMembers}
 use Rattle.vast_literal.specs.Tree.{PortTree, ParameterPortTree, ModuleTree, FileItemTree, ModuleItem, IncludeItem, CommentItem, BlankItem, FileTree}
 use Rattle.vast_literal.specs.WellFormed.{is_well_formed, is_well_formed_type}
 
@@ -31,11 +31,9 @@ is_macro _ = false
 abbrev mutual
   pub is_well_formed_statement : StatementTree → Bool
   is_well_formed_statement (AssignTree form left right) = is_well_formed left && is_well_formed right
-  is_well_formed_statement (CommentTree text) = true
-  is_well_formed_statement BlankTree = true
-  is_well_formed_statement (InlineTree text) = true
   is_well_formed_statement (ConditionalTree condition consequent alternates) = is_well_formed condition && (are_well_formed_statements consequent && are_well_formed_alternates alternates)
   is_well_formed_statement (CaseTree unique word selector arms) = is_well_formed selector && are_well_formed_arms arms
+  is_well_formed_statement _ = true
 
   pub are_well_formed_statements : Statements → Bool
   are_well_formed_statements NoStatements = true
@@ -95,15 +93,13 @@ abbrev mutual
   is_well_formed_member (DeclarationMember d) = is_own_kind d.kind && is_well_formed_type d.type
   is_well_formed_member (AssignMember left right) = is_well_formed left && is_well_formed right
   is_well_formed_member (ParameterMember local parameter value) = is_well_formed_parameter_name parameter && is_well_formed value
-  is_well_formed_member (CommentMember text) = true
-  is_well_formed_member BlankMember = true
-  is_well_formed_member (InlineMember text) = true
   is_well_formed_member (MacroMember call semicolon) = is_macro call && is_well_formed call
   is_well_formed_member (InstanceMember i) = are_given i.parameters && are_well_formed_connections i.connections
   is_well_formed_member (AlwaysMember word events body) = are_well_formed_events events && are_well_formed_statements body
   is_well_formed_member (ConditionalMember condition consequent alternates) = is_well_formed condition && (are_well_formed_statements consequent && are_well_formed_alternates alternates)
   is_well_formed_member (FunctionMember f) = is_well_formed_function f
   is_well_formed_member (LoopMember genvar start end label members) = (is_well_formed start && is_well_formed end) && are_well_formed_members members
+  is_well_formed_member _ = true
 
   pub are_well_formed_members : Members → Bool
   are_well_formed_members NoMembers = true

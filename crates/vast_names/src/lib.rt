@@ -1,4 +1,4 @@
-//! Words, of which the short ones take no memory, and a table of names in one buffer.
+//! Words, of which the short ones take no memory, texts, and a table of names in one buffer.
 //!
 //! Whoever chooses the names can't make it slow: a chain of names in one slot has a bound, behind which names lie in a
 //! tree.
@@ -8,9 +8,11 @@ mod hash;
 mod index;
 mod map;
 mod table;
+mod text;
 mod texts;
 mod word;
 
 pub use map::NameMap;
 pub use table::NameTable;
+pub use text::Text;
 pub use word::Word;

@@ -8,7 +8,6 @@ use Rattle.vast_literal.specs.PlainFile.{is_plain_module, is_path_byte, are_plai
 use Rattle.vast_core.specs.declared.node.Function.{Function}
 use Rattle.vast_core.specs.declared.node.FileItem.{FileItem}
 use Rattle.vast_core.specs.Bench.{Bench}
-use Rattle.vast_core.specs.Records.{file_entry}
 use Rattle.vast_core.specs.Nests.{function_record}
 use Rattle.vast_core.specs.Sound.{VariableSound, FunctionSound}
 use Rattle.vast_core.specs.FileTree.{item_tree, tree}
@@ -31,7 +30,7 @@ all-left one all step (y ∷ xs) (suc i) x h e = rw add-one (rw add-one at (all-
 
 -- the items of a file
 
-pub all-items : (b : Bench) (items : List FileItem) → b.items ≡ map file_entry items → is_plain_file (tree b) ≡ are_plain_items (map (item_tree b) (map file_entry items))
+pub all-items : (b : Bench) (items : List FileItem) → b.items ≡ items → is_plain_file (tree b) ≡ are_plain_items (map (item_tree b) items)
 unfolding tree
 all-items b items e = ap (λ xs. are_plain_items (map (item_tree b) xs)) e
 
@@ -46,11 +45,11 @@ item-step (CommentItem text) xs = refl
 item-step BlankItem xs = refl
 
 pub items-left : (b : Bench) (xs : List FileItem) (i : ℕ) (x : FileItem) → i < length xs → x ≡ get_or xs i x →
-    are_plain_items (map (item_tree b) (map file_entry (drop i xs)))
-    ≡ (are_plain_items (item_tree b (file_entry x) ∷ []) && are_plain_items (map (item_tree b) (map file_entry (drop (i + 1) xs))))
+    are_plain_items (map (item_tree b) (drop i xs))
+    ≡ (are_plain_items (item_tree b x ∷ []) && are_plain_items (map (item_tree b) (drop (i + 1) xs)))
 items-left b xs i x h e =
-    all-left (λ y. are_plain_items (item_tree b (file_entry y) ∷ [])) (λ ys. are_plain_items (map (item_tree b) (map file_entry ys)))
-    (λ y ys. item-step (item_tree b (file_entry y)) (map (item_tree b) (map file_entry ys))) xs i x h e
+    all-left (λ y. are_plain_items (item_tree b y ∷ [])) (λ ys. are_plain_items (map (item_tree b) ys))
+    (λ y ys. item-step (item_tree b y) (map (item_tree b) ys)) xs i x h e
 
 -- the inputs and the locals of a function
 

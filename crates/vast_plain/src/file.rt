@@ -2,7 +2,6 @@
 
 ghost use Rattle.std.specs.Prelude.{◌≡◌, [], ◌∷◌, IfOk};
 ghost use Rattle.vast_literal.specs.PlainFile.{are_plain_items, is_plain_file};
-ghost use Rattle.vast_core.specs.Records.{file_entry};
 ghost use Rattle.vast_core.specs.Sound.{EntrySound};
 ghost use Rattle.vast_core.specs.FileTree.{tree, item_tree};
 ghost use Rattle.vast_core.specs.View.{bench};
@@ -16,12 +15,12 @@ use vast_core::{Ast, FileItem};
 /// Whether an item of the file is plain.
 #[tactic(auto, using(crate::proofs::Lists::bytes))]
 fn is_plain_item(ast: &Ast, item: &FileItem) -> Result<bool, AllocError>
-    requires { EntrySound (bench ast.now) (file_entry item.now) }
-    ensures { Answers (are_plain_items (item_tree (bench ast.now) (file_entry item.now) ∷ [])) result }
+    requires { EntrySound (bench ast.now) item.now }
+    ensures { Answers (are_plain_items (item_tree (bench ast.now) item.now ∷ [])) result }
 {
     match item {
         FileItem::Module(m) => is_plain_module(ast, ast.module(*m)),
-        FileItem::Include(path) => Ok(is_plain_path(path)),
+        FileItem::Include(path) => Ok(is_plain_path(path.as_str())),
         FileItem::Comment(_) => Ok(true),
         FileItem::BlankLine => Ok(true),
     }

@@ -4,7 +4,6 @@ ghost use Rattle.std.specs.Prelude.{◌&&◌, All, map, slice_get};
 ghost use Rattle.vast_literal.specs.Plain.{is_plain_name, is_plain};
 ghost use Rattle.vast_literal.specs.PlainFile.{is_plain_maybe, are_plain_connections, is_plain_declared, are_plain_events, are_plain_awaited, is_plain_parameter_name, is_plain_member};
 ghost use Rattle.vast_core.specs.Bench.{OwnsExpr, OwnsInstantiation, OwnsAlways, OwnsFunction, tree_of, trees_of, maybe_tree_of};
-ghost use Rattle.vast_core.specs.Records.{connection_record};
 ghost use Rattle.vast_core.specs.declared.node.Member.TheVariants.{Instantiation as InstanceEntry};
 ghost use Rattle.vast_core.specs.Sound.{FormSound, ConnectionSound, VariableSound, EventSound};
 ghost use Rattle.vast_core.specs.FileTree.{families, form_tree, connection_tree, variable_tree, always_in, function_in, member_tree};
@@ -33,7 +32,7 @@ fn is_plain_form(ast: &Ast, form: &ParameterForm) -> Result<bool, AllocError>
         ParameterForm::Int(name) => Ok(is_plain_name(name.as_str())),
         ParameterForm::Defined(definition) => {
             let definition = ast.definition(*definition);
-            is_plain_declaration(ast, definition.data_type, &definition.name)
+            is_plain_declaration(ast, definition.data_type, definition.name.as_str())
         }
     }
 }
@@ -55,20 +54,20 @@ pub(crate) fn is_plain_parameter(
 
 /// Whether a connection's name and value are plain.
 fn is_plain_connection(ast: &Ast, connection: &Connection) -> Result<bool, AllocError>
-    requires { ConnectionSound (bench ast.now) (connection_record connection.now) }
+    requires { ConnectionSound (bench ast.now) connection.now }
     ensures { Answers
-        (is_plain_name (connection_record connection.now).name
+        (is_plain_name connection.now.name
         && is_plain_maybe (maybe_tree_of (bench ast.now) connection.now.value)) result }
 {
-    Ok(is_plain_name(&connection.name) && is_plain_maybe(ast, connection.value)?)
+    Ok(is_plain_name(connection.name.as_str()) && is_plain_maybe(ast, connection.value)?)
 }
 
 /// Whether each connection's name and value are plain.
 fn are_plain_connections(ast: &Ast, connections: &[Connection]) -> Result<bool, AllocError>
-    requires { All (λ c. ConnectionSound (bench ast.now) (connection_record c)) connections.now }
+    requires { All (ConnectionSound (bench ast.now)) connections.now }
     ensures { Answers
         (are_plain_connections
-        (map (connection_tree (bench ast.now)) (map connection_record connections.now)))
+        (map (connection_tree (bench ast.now)) connections.now))
         result }
 {
     for connection in connections {

@@ -4,7 +4,6 @@ ghost use Rattle.std.specs.Prelude.{◌&&◌, IfSome};
 ghost use Rattle.vast_literal.specs.PlainFile.{is_plain_maybe, is_plain_assignment, is_plain_statement, are_plain_statements};
 ghost use Rattle.vast_core.specs.Bench.{OwnsBlock, OwnsCase, OwnsConditional, OwnsExpr, tree_of, maybe_tree_of};
 ghost use Rattle.vast_core.specs.Internal.Entries.{OwnsEntry};
-ghost use Rattle.vast_core.specs.Nests.{statement_entry};
 ghost use Rattle.vast_core.specs.FileTree.{families, statement_in, conditional_statement, case_statement, block_tree};
 ghost use Rattle.vast_core.specs.View.{bench};
 ghost use Rattle.vast_plain.specs.Internal.Values.{Answers};
@@ -48,11 +47,11 @@ pub(crate) fn is_plain_block(ast: &Ast, b: VastStatementBlock) -> Result<bool, A
 /// Whether the statement is no inline text, and all that it holds is plain.
 #[cycle(statements)]
 fn is_plain_statement(ast: &Ast, statement: &Statement) -> Result<bool, AllocError>
-    requires { OwnsEntry (bench ast.now) (statement_entry statement.now) }
+    requires { OwnsEntry (bench ast.now) statement.now }
     ensures { Answers
         (is_plain_statement
         (statement_in (bench ast.now) (families (bench ast.now))
-        (statement_entry statement.now))) result }
+        statement.now)) result }
 {
     match statement {
         Statement::Assignment(s) => is_plain_assignment(ast, ast.assignment(*s)),

@@ -1,5 +1,5 @@
 -- Laws of writing what the arena holds.
-use Rattle.std.proofs.Common.{◌≡◌, ◌<◌, ◌≤◌, ℕ, zero, suc, ◌+◌, ltb, List, [], ◌∷◌, length, get_or, map, drop, refl, sym, ◌∙◌, ap, codes, arith, add-one, Option, Some, None}
+use Rattle.std.proofs.Common.{◌≡◌, ◌<◌, ◌≤◌, ℕ, zero, suc, ◌+◌, List, [], ◌∷◌, length, get_or, map, drop, refl, sym, ◌∙◌, ap, codes, arith, add-one, Option, Some, None}
 use Rattle.std.proofs.lemmas.List.{drop_all}
 use Rattle.std.proofs.Common.{Err, subst}
 use Rattle.vast_literal.specs.declared.error.VastFault.{VastFault}
@@ -7,12 +7,10 @@ use Rattle.vast_literal.specs.declared.error.VastFault.TheVariants.{Refused as R
 use Rattle.vast_literal.specs.Tree.{PortTree, ParameterPortTree, Connection as ConnectionTree}
 use Rattle.vast_literal.specs.declared.kind.VastFileType.{VastFileType as Dialect}
 use Rattle.vast_core.specs.declared.node.Member.{Member}
-use Rattle.vast_core.specs.declared.node.ParameterPort.{ParameterPort}
 use Rattle.vast_core.specs.declared.node.Connection.{Connection}
 use Rattle.vast_core.specs.declared.node.FileItem.{FileItem}
 use Rattle.vast_core.specs.Bench.{Bench}
-use Rattle.vast_core.specs.Records.{parameter_port_record, connection_record, file_entry}
-use Rattle.vast_core.specs.FileTree.{member_tree, members_tree, parameter_port_tree, connection_tree, item_tree, tree}
+use Rattle.vast_core.specs.FileTree.{member_tree, members_tree, connection_tree, item_tree, tree}
 use Rattle.vast_print.specs.Printed.{Printed, plain_text}
 use Rattle.vast_print.specs.Page.{Page, written, print}
 use Rattle.vast_print.specs.Ink.{Ink, Wet, Stopped, word, next, hang, pour}
@@ -23,15 +21,13 @@ use Rattle.vast_print.specs.Internal.Emits.{Faults}
 use Rattle.vast_print.specs.declared.refusal.Refusal.{Refusal}
 use Rattle.vast_print.specs.declared.refusal.PrintFault.{PrintFault}
 use Rattle.vast_print.specs.declared.refusal.PrintFault.TheVariants.{Refused, Memory}
-use Rattle.vast_print.specs.Internal.Words.{comma}
 use Rattle.vast_print.specs.Members.{member_page, members_page, entries_page, connection_text, connections_page, instance_head_page}
-use Rattle.vast_print.specs.Layout.{body_page, header_page, ports_page, parameter_port_text, parameter_ports_page, items_page, layout}
+use Rattle.vast_print.specs.Layout.{body_page, header_page, ports_page, parameter_ports_page, items_page, layout}
 use Rattle.vast_print.proofs.InkLaws.{pour-then, pour-word, hang-stopped, pour-stopped, whole-page, whole-fault, line-text, line-fault}
 use Rattle.vast_print.proofs.Lines.{word-stopped, next-stopped}
 use Rattle.vast_print.proofs.DeclarationLaws.{pour-declaration, pour-port, pour-untyped-parameter, pour-typed-parameter}
-use Rattle.vast_print.proofs.ListLaws.{entries-end, entries-step}
 use Rattle.vast_print.proofs.MemberLaws.{hang-members-none, hang-members, hang-declaration, hang-macro, hang-parameter, pour-plain-parameter, pour-int-parameter, hang-instance, hang-instance-head, hang-instance-parameters, hang-no-connections, hang-connections, pour-connection, pour-open-connection}
-use Rattle.vast_print.proofs.ModuleLaws.{hang-body-none, hang-body, hang-header-bare, hang-header-ports, hang-header-parameters, hang-header-both, hang-module, parameters-end, parameters-step, hang-include, hang-comment-item, hang-blank-item}
+use Rattle.vast_print.proofs.ModuleLaws.{hang-body-none, hang-body, hang-header-bare, hang-header-ports, hang-header-parameters, hang-header-both, hang-module, hang-include, hang-comment-item, hang-blank-item}
 
 -- a refusal stays
 
@@ -103,47 +99,13 @@ pub ruleset members = (hang-declaration, hang-macro, stops)
 
 pub ruleset parameters = (hang-parameter, pour-plain-parameter, pour-int-parameter, pour-then, pour-word, stops)
 
--- a list of records, each read from a node
-
-pub map-map : {A B C : Type 0} (f : A → B) (g : B → C) (xs : List A) → map g (map f xs) ≡ map (λ x. g (f x)) xs
-map-map f g [] = refl
-map-map f g (x ∷ xs) = ap (λ r. g (f x) ∷ r) (map-map f g xs)
-
--- parameters of a header
-
-parameters-map : (b : Bench) (xs : List ParameterPort) → map (parameter_port_tree b) (map parameter_port_record xs) ≡ map (λ x. parameter_port_tree b (parameter_port_record x)) xs
-parameters-map b xs = map-map parameter_port_record (parameter_port_tree b) xs
-
-pub parameter-ports-end : (dialect : Dialect) (b : Bench) (d : ℕ) (k : Ink) (xs : List ParameterPort) (i : ℕ) → length xs ≤ i → hang d k (parameter_ports_page dialect (map (parameter_port_tree b) (map parameter_port_record (drop i xs)))) ≡ k
-parameter-ports-end dialect b d k xs i h = rw (parameters-map b (drop i xs)) (parameters-end dialect (λ x. parameter_port_tree b (parameter_port_record x)) d k xs i h)
-
-pub parameter-ports-step :
-    (dialect : Dialect) (b : Bench) (d : ℕ) (k : Ink) (xs : List ParameterPort) (i : ℕ) (x : ParameterPort) → i < length xs → x ≡ get_or xs i x →
-    hang d k (parameter_ports_page dialect (map (parameter_port_tree b) (map parameter_port_record (drop i xs))))
-    ≡ hang d (word (pour d (next (d + 1) k) (written (parameter_port_text dialect (parameter_port_tree b (parameter_port_record x))))) (comma (ltb (i + 1) (length xs)))) (parameter_ports_page dialect (map (parameter_port_tree b) (map parameter_port_record (drop (i + 1) xs))))
-parameter-ports-step dialect b d k xs i x h e =
-    rw (parameters-map b (drop i xs), parameters-map b (drop (i + 1) xs)) (parameters-step dialect (λ y. parameter_port_tree b (parameter_port_record y)) d k xs i x h e)
-
 -- instantiations
 
 abbrev Connected : Bench → List Connection → List ConnectionTree
-Connected b xs = map (connection_tree b) (map connection_record xs)
-
-connected-map : (b : Bench) (xs : List Connection) → Connected b xs ≡ map (λ x. connection_tree b (connection_record x)) xs
-connected-map b xs = map-map connection_record (connection_tree b) xs
+Connected b xs = map (connection_tree b) xs
 
 connected-length : (b : Bench) (xs : List Connection) → length (Connected b xs) ≡ length xs
-connected-length b xs = length-records (connection_tree b) (map connection_record xs) ∙ length-records connection_record xs
-
-pub connected-end : (b : Bench) (d : ℕ) (k : Ink) (xs : List Connection) (i : ℕ) → length xs ≤ i → hang d k (entries_page (map connection_text (Connected b (drop i xs)))) ≡ k
-connected-end b d k xs i h = rw (connected-map b (drop i xs)) (entries-end connection_text (λ x. connection_tree b (connection_record x)) d k xs i h)
-
-pub connected-step :
-    (b : Bench) (d : ℕ) (k : Ink) (xs : List Connection) (i : ℕ) (x : Connection) → i < length xs → x ≡ get_or xs i x →
-    hang d k (entries_page (map connection_text (Connected b (drop i xs))))
-    ≡ hang d (word (pour d (next (d + 1) k) (written (connection_text (connection_tree b (connection_record x))))) (comma (ltb (i + 1) (length xs)))) (entries_page (map connection_text (Connected b (drop (i + 1) xs))))
-connected-step b d k xs i x h e =
-    rw (connected-map b (drop i xs), connected-map b (drop (i + 1) xs)) (entries-step connection_text (λ y. connection_tree b (connection_record y)) d k xs i x h e)
+connected-length b xs = length-records (connection_tree b) xs
 
 pub hang-head-bare : (b : Bench) (d : ℕ) (k : Ink) (name instance : List ℕ) (xs : List Connection) → length xs ≡ 0 →
     hang d k (instance_head_page name (Connected b xs) instance)
@@ -169,10 +131,9 @@ pub ruleset instances = (hang-instance, hang-head-bare, hang-head-parameters, ha
 
 pub ruleset items = (hang-include, hang-comment-item, hang-blank-item, stops)
 
-pub layout-items : (b : Bench) (items : List FileItem) → b.items ≡ map file_entry items → layout (tree b) ≡ items_page b.file_type (map (λ x. item_tree b (file_entry x)) items)
+pub layout-items : (b : Bench) (items : List FileItem) → b.items ≡ items → layout (tree b) ≡ items_page b.file_type (map (item_tree b) items)
 unfolding layout tree
-layout-items b items e =
-    ap (λ xs. items_page b.file_type (map (item_tree b) xs)) e ∙ ap (items_page b.file_type) (map-map file_entry (item_tree b) items)
+layout-items b items e = ap (λ xs. items_page b.file_type (map (item_tree b) xs)) e
 
 -- what a call answers that prints
 

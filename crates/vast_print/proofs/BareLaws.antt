@@ -6,7 +6,7 @@ use Rattle.std.specs.List.{list_all}
 use Rattle.std.proofs.lemmas.Bool.{and_from, and_parts, and_right, or_from, false_from_ne_true}
 use Rattle.std.proofs.lemmas.List.Folds.{list_all-append}
 use Rattle.vast_literal.specs.declared.operator.UnaryOperator.{UnaryOperator as UnaryOp}
-use Rattle.vast_literal.specs.declared.operator.UnaryOperator.TheVariants.{Negate as NegateOp, BitwiseNot as BitwiseNotOp, LogicalNot as LogicalNotOp, AndReduce as AndReduceOp, OrReduce as OrReduceOp, XorReduce as XorReduceOp}
+use Rattle.vast_literal.specs.declared.operator.UnaryOperator.TheVariants.{Negate as NegateOp}
 use Rattle.vast_literal.specs.declared.operator.BinaryOperator.{BinaryOperator as BinaryOp}
 use Rattle.vast_literal.specs.Tree.{ExprTree, NameTree, LiteralTree, StringTree, UnaryTree, BinaryTree, TernaryTree, IndexTree, SliceTree, PartSelectTree, ConcatTree, PatternTree, WidthCastTree, TypeCastTree, PosEdgeTree, NegEdgeTree, MacroTree, CallTree, MissingExpr}
 use Rattle.vast_literal.specs.Tree.{TypeTree, ScalarTree, VectorTree, IntegerTree, IntTree, ExternalTree, PackageTree, PackedTree, UnpackedTree, MissingType}
@@ -92,11 +92,7 @@ broken-cast head p = broken-ends (head ⊕ plain_text (codes "'(") ⊕ p) (codes
 broken-unary : (o : UnaryOp) → Broken (unary_operator_text o)
 unfolding unary_operator_token
 broken-unary NegateOp = record { broken = refl }
-broken-unary BitwiseNotOp = record { broken = refl }
-broken-unary LogicalNotOp = record { broken = refl }
-broken-unary AndReduceOp = record { broken = refl }
-broken-unary OrReduceOp = record { broken = refl }
-broken-unary XorReduceOp = record { broken = refl }
+broken-unary _ = record { broken = refl }
 
 broken-binary : (o : BinaryOp) → Broken (binary_operator_text o)
 broken-binary o = record { broken = refl }

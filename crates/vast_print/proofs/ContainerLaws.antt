@@ -17,8 +17,9 @@ use Rattle.vast_core.specs.declared.node.FunctionVariable.{FunctionVariable}
 use Rattle.vast_core.specs.Sound.{StatementSound}
 use Rattle.vast_core.proofs.Lists.{below-of}
 use Rattle.vast_core.specs.Bench.{Bench, OwnsStatement, tree_of, maybe_tree_of, trees_of}
-use Rattle.vast_core.specs.Nests.{StatementEntry, AssignStatement, ContinuousStatement, ConditionalStatement, CasesStatement, BlankStatement, CommentStatement, InlineStatement, NestRecord, BlockRecord, ConditionalNestRecord, CaseNestRecord, LoopNestRecord, statement_entry}
-use Rattle.vast_core.specs.FileTree.{Family, BlockFamily, ConditionalFamily, CaseFamily, LoopFamily, NoFamily, family, unfolded, families, conditional_statement, case_statement, conditional_member, loop_member, form_of, assigned_tree, continuous_tree, statement_in, statements_tree, block_tree, alternates_tree, case_arms_tree, variable_tree}
+use Rattle.vast_core.specs.Nests.{NestRecord, BlockRecord, ConditionalNestRecord, CaseNestRecord, LoopNestRecord}
+use Rattle.vast_core.specs.declared.node.Statement.TheVariants.{Assignment as AssignStatement, Continuous as ContinuousStatement, Conditional as ConditionalStatement, Case as CasesStatement}
+use Rattle.vast_core.specs.FileTree.{Family, BlockFamily, ConditionalFamily, CaseFamily, LoopFamily, family, unfolded, families, conditional_statement, case_statement, conditional_member, loop_member, form_of, assigned_tree, continuous_tree, statement_in, statements_tree, block_tree, alternates_tree, case_arms_tree, variable_tree}
 use Rattle.vast_print.specs.Internal.Bodies.{assignment_of, bare_assignment}
 use Rattle.vast_print.specs.Printed.{plain_text, ◌⊕◌}
 use Rattle.vast_print.specs.Page.{written}
@@ -59,14 +60,14 @@ pub ruleset assignments = (hang-assign, stops)
 
 -- blocks
 
-pub pour-block-empty : (b : Bench) (d : ℕ) (k : Ink) (xs : List Statement) → length xs ≡ 0 → pour d k (block_page (statements_tree b (map statement_entry xs))) ≡ word k (codes "begin end")
+pub pour-block-empty : (b : Bench) (d : ℕ) (k : Ink) (xs : List Statement) → length xs ≡ 0 → pour d k (block_page (statements_tree b xs)) ≡ word k (codes "begin end")
 pour-block-empty b d k [] h = pour-block-none d k
 pour-block-empty b d k (x ∷ xs) h = absurd (omega arith)
 
 pub pour-block-full : (b : Bench) (d : ℕ) (k : Ink) (xs : List Statement) → 0 < length xs →
-    pour d k (block_page (statements_tree b (map statement_entry xs))) ≡ word (next d (hang (d + 1) (word k (codes "begin")) (statements_page (statements_tree b (map statement_entry xs))))) (codes "end")
+    pour d k (block_page (statements_tree b xs)) ≡ word (next d (hang (d + 1) (word k (codes "begin")) (statements_page (statements_tree b xs)))) (codes "end")
 pour-block-full b d k [] h = absurd (omega arith)
-pour-block-full b d k (x ∷ xs) h = pour-block d k (statement_in b (families b) (statement_entry x)) (statements_tree b (map statement_entry xs))
+pour-block-full b d k (x ∷ xs) h = pour-block d k (statement_in b (families b) x) (statements_tree b xs)
 
 pub ruleset blocks = (pour-block-empty, pour-block-full, stops)
 
@@ -74,12 +75,12 @@ pub ruleset statements = (hang-assigned, hang-comment, hang-blank-statement, han
 
 -- what is left of a block
 pub block-step : (b : Bench) (d : ℕ) (k : Ink) (xs : List Statement) (i : ℕ) (x : Statement) → i < length xs → x ≡ get_or xs i x →
-    hang d k (statements_page (statements_tree b (map statement_entry (drop i xs))))
-    ≡ hang d (hang d k (statement_page (statement_in b (families b) (statement_entry x)))) (statements_page (statements_tree b (map statement_entry (drop (i + 1) xs))))
-block-step b d k xs i x h e = statements-step (λ ys. statements_tree b (map statement_entry ys)) (λ y. statement_in b (families b) (statement_entry y)) (λ y ys. refl) d k xs i x h e
+    hang d k (statements_page (statements_tree b (drop i xs)))
+    ≡ hang d (hang d k (statement_page (statement_in b (families b) x))) (statements_page (statements_tree b (drop (i + 1) xs)))
+block-step b d k xs i x h e = statements-step (statements_tree b) (statement_in b (families b)) (λ y ys. refl) d k xs i x h e
 
-pub block-end : (b : Bench) (d : ℕ) (k : Ink) (xs : List Statement) (i : ℕ) → length xs ≤ i → hang d k (statements_page (statements_tree b (map statement_entry (drop i xs)))) ≡ k
-block-end b d k xs i h = statements-end (λ ys. statements_tree b (map statement_entry ys)) refl d k xs i h
+pub block-end : (b : Bench) (d : ℕ) (k : Ink) (xs : List Statement) (i : ℕ) → length xs ≤ i → hang d k (statements_page (statements_tree b (drop i xs))) ≡ k
+block-end b d k xs i h = statements-end (statements_tree b) refl d k xs i h
 
 -- conditionals
 
@@ -145,22 +146,17 @@ pour-bare-assigned : (b : Bench) (d : ℕ) (k : Ink) (s : VastStatement) → Own
 pour-bare-assigned b d k s h =
     let t = assigned-there b s h in rw t.1 (pour-bare d k t.0.nonblocking (tree_of b t.0.lhs) (tree_of b t.0.rhs))
 
-pour-bare-entry : (b : Bench) (i d : ℕ) (k : Ink) (e : StatementEntry) (s : VastStatement) → Some s ≡ assignment_of e → StatementSound b i e →
+pour-bare-entry : (b : Bench) (i d : ℕ) (k : Ink) (e : Statement) (s : VastStatement) → Some s ≡ assignment_of e → StatementSound b i e →
     pour d k (arm_body_page CaseZ (MoreStatements (statement_in b (families b) e) NoStatements))
     ≡ pour d k (statement_page (assigned_tree b (slice_get b.assignments s.id.index)))
 pour-bare-entry b i d k (AssignStatement t) s h own = let same : s ≡ t = cc in rw same (pour-bare-assigned b d k t own)
-pour-bare-entry b i d k (ContinuousStatement t) s h own = cc
-pour-bare-entry b i d k (ConditionalStatement c) s h own = cc
-pour-bare-entry b i d k (CasesStatement c) s h own = cc
-pour-bare-entry b i d k BlankStatement s h own = cc
-pour-bare-entry b i d k (CommentStatement text) s h own = cc
-pour-bare-entry b i d k (InlineStatement text) s h own = cc
+pour-bare-entry b i d k _ s h own = cc
 
-pub pour-arm-bare : (b : Bench) (i d : ℕ) (k : Ink) (w : CaseWord) (xs : List Statement) (s : VastStatement) → Some s ≡ bare_assignment w (map statement_entry xs) → All (λ x. StatementSound b i (statement_entry x)) xs →
-    pour d k (arm_body_page w (statements_tree b (map statement_entry xs))) ≡ pour d k (statement_page (assigned_tree b (slice_get b.assignments s.id.index)))
+pub pour-arm-bare : (b : Bench) (i d : ℕ) (k : Ink) (w : CaseWord) (xs : List Statement) (s : VastStatement) → Some s ≡ bare_assignment w xs → All (StatementSound b i) xs →
+    pour d k (arm_body_page w (statements_tree b xs)) ≡ pour d k (statement_page (assigned_tree b (slice_get b.assignments s.id.index)))
 pour-arm-bare b i d k CaseExact xs s h sound = cc
 pour-arm-bare b i d k CaseZ [] s h sound = cc
-pour-arm-bare b i d k CaseZ (x ∷ []) s h sound = pour-bare-entry b i d k (statement_entry x) s h (sound 0 x (omega arith))
+pour-arm-bare b i d k CaseZ (x ∷ []) s h sound = pour-bare-entry b i d k x s h (sound 0 x (omega arith))
 pour-arm-bare b i d k CaseZ (x ∷ y ∷ xs) s h sound = cc
 pour-arm-bare b i d k CaseX xs s h sound = cc
 
@@ -174,10 +170,7 @@ other-continuous b (Some a) = refl
 
 other-conditional : (f : Family) → IsOther (conditional_statement f)
 other-conditional (BlockFamily held) = refl
-other-conditional (ConditionalFamily c s rest) = refl
-other-conditional (CaseFamily s) = refl
-other-conditional (LoopFamily m) = refl
-other-conditional NoFamily = refl
+other-conditional _ = refl
 
 other-case-record : (b : Bench) (f : ℕ → Family) (o : Option NestRecord) → IsOther (case_statement (family b f o))
 other-case-record b f None = refl
@@ -194,16 +187,14 @@ other-case : (b : Bench) (i : ℕ) → IsOther (case_statement (families b i))
 unfolding families
 other-case b i = other-unfolded b (length b.nests) i
 
-not-bare-entry : (b : Bench) (e : StatementEntry) → None ≡ assignment_of e → IsOther (statement_in b (families b) e)
+not-bare-entry : (b : Bench) (e : Statement) → None ≡ assignment_of e → IsOther (statement_in b (families b) e)
 not-bare-entry b (AssignStatement t) h = cc
 not-bare-entry b (ContinuousStatement t) h = other-continuous b (slice_get b.assignments t.id.index)
 not-bare-entry b (ConditionalStatement c) h = other-conditional (families b c.id.index)
 not-bare-entry b (CasesStatement c) h = other-case b c.id.index
-not-bare-entry b BlankStatement h = refl
-not-bare-entry b (CommentStatement text) h = refl
-not-bare-entry b (InlineStatement text) h = refl
+not-bare-entry b _ h = refl
 
-not-bare : (b : Bench) (w : CaseWord) (es : List StatementEntry) → None ≡ bare_assignment w es → is_bare_arm w (statements_tree b es) ≡ false
+not-bare : (b : Bench) (w : CaseWord) (es : List Statement) → None ≡ bare_assignment w es → is_bare_arm w (statements_tree b es) ≡ false
 not-bare b CaseExact es h = refl
 not-bare b CaseZ [] h = refl
 not-bare b CaseZ (e ∷ []) h = not-bare-entry b e h
@@ -220,9 +211,9 @@ not-bare b CaseZ (e ∷ g ∷ es) h = more (statement_in b (families b) e)
     more (CaseTree unique u x arms) = refl
 not-bare b CaseX es h = refl
 
-pub pour-arm-full : (b : Bench) (d : ℕ) (k : Ink) (w : CaseWord) (xs : List Statement) → None ≡ bare_assignment w (map statement_entry xs) →
-    pour d k (arm_body_page w (statements_tree b (map statement_entry xs))) ≡ pour d k (block_page (statements_tree b (map statement_entry xs)))
-pour-arm-full b d k w xs h = pour-arm-block d k w (statements_tree b (map statement_entry xs)) (not-bare b w (map statement_entry xs) h)
+pub pour-arm-full : (b : Bench) (d : ℕ) (k : Ink) (w : CaseWord) (xs : List Statement) → None ≡ bare_assignment w xs →
+    pour d k (arm_body_page w (statements_tree b xs)) ≡ pour d k (block_page (statements_tree b xs))
+pour-arm-full b d k w xs h = pour-arm-block d k w (statements_tree b xs) (not-bare b w xs h)
 
 pub ruleset cases = (hang-arm, stops)
 
@@ -263,7 +254,7 @@ no-locals-left dialect b d k xs i h = locals-end dialect (variable_tree b) d k x
 
 -- blocks that are one casez
 
-pub casez-among : (b : Bench) (xs : List Statement) → (length xs ≡ 1 → ⊥) → is_one_casez (statements_tree b (map statement_entry xs)) ≡ false
+pub casez-among : (b : Bench) (xs : List Statement) → (length xs ≡ 1 → ⊥) → is_one_casez (statements_tree b xs) ≡ false
 casez-among b [] h = refl
 casez-among b (y ∷ []) h = absurd (h refl)
 casez-among b (y ∷ z ∷ xs) h = refl
@@ -285,9 +276,6 @@ hang-held-loop b d k dialect i genvar start end label ms e = rw e (hang-loop d k
 pub hang-held-conditional-same : (d : ℕ) (k : Ink) (dialect : Dialect) (f : Family) → hang d k (member_page dialect (conditional_member f)) ≡ hang d k (statement_page (conditional_statement f))
 unfolding member_page statement_page
 hang-held-conditional-same d k dialect (BlockFamily held) = refl
-hang-held-conditional-same d k dialect (ConditionalFamily c s rest) = refl
-hang-held-conditional-same d k dialect (CaseFamily s) = refl
-hang-held-conditional-same d k dialect (LoopFamily m) = refl
-hang-held-conditional-same d k dialect NoFamily = refl
+hang-held-conditional-same d k dialect _ = refl
 
 pub ruleset members = (hang-declaration, hang-assign-same, hang-comment-member, hang-blank-member, hang-inline-member, hang-macro, hang-held-conditional-same, stops)

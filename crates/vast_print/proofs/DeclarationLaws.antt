@@ -5,7 +5,7 @@ use Rattle.std.specs.Fmt.{signed_decimal}
 use Rattle.vast_literal.specs.Tree.{ExprTree, TypeTree, PortTree, Untyped, Typed}
 use Rattle.vast_literal.specs.declared.kind.VastFileType.{VastFileType as Dialect}
 use Rattle.vast_literal.specs.declared.kind.DataKind.{DataKind as Kind}
-use Rattle.vast_literal.specs.declared.kind.DataKind.TheVariants.{Reg as RegKind, Wire as WireKind, Logic as LogicKind, Integer as IntegerKind, Int as IntKind, User as UserKind, UntypedEnum as UntypedEnumKind, Genvar as GenvarKind}
+use Rattle.vast_literal.specs.declared.kind.DataKind.TheVariants.{Reg as RegKind}
 use Rattle.vast_literal.specs.declared.kind.ModulePortDirection.{ModulePortDirection as PortDirection}
 use Rattle.vast_literal.specs.declared.kind.ModulePortDirection.TheVariants.{Input as InputDirection, Output as OutputDirection, InOut as InOutDirection}
 use Rattle.vast_literal.specs.Shape.{base_kind, base_of, unpacked_dimensions, highest_index_wraps}
@@ -27,13 +27,7 @@ plain-append a b = refl
 pour-kind : (d : ℕ) (k : Ink) (kind : Kind) → pour d k (written (spaced (plain_text (kind_word kind)))) ≡ word k (kind_opening kind)
 unfolding pour written spaced plain_text ◌⊕◌ written_lines beside_lines pour_lines hang_lines stop
 pour-kind d k RegKind = refl
-pour-kind d k WireKind = refl
-pour-kind d k LogicKind = refl
-pour-kind d k IntegerKind = refl
-pour-kind d k IntKind = refl
-pour-kind d k UserKind = refl
-pour-kind d k UntypedEnumKind = refl
-pour-kind d k GenvarKind = refl
+pour-kind d k _ = refl
 
 pub pour-declaration : (d : ℕ) (k : Ink) (dialect : Dialect) (kind : Kind) (t : TypeTree) (name : List ℕ) →
     pour d k (written (declaration_text dialect kind t name))

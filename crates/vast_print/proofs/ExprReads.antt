@@ -8,7 +8,7 @@ use Rattle.vast_literal.specs.declared.token.Key.TheVariants.{Logic as LogicKey,
 use Rattle.vast_literal.specs.declared.operator.UnaryOperator.{UnaryOperator as UnaryOp}
 use Rattle.vast_literal.specs.declared.operator.BinaryOperator.{BinaryOperator as BinaryOp}
 use Rattle.vast_literal.specs.Tree.{ExprTree, NameTree, LiteralTree, StringTree, UnaryTree, BinaryTree, TernaryTree, IndexTree, SliceTree, PartSelectTree, ConcatTree, PatternTree, WidthCastTree, TypeCastTree, PosEdgeTree, NegEdgeTree, MacroTree, CallTree, MissingExpr}
-use Rattle.vast_literal.specs.Tree.{TypeTree, ScalarTree, VectorTree, IntegerTree, IntTree, ExternalTree, PackageTree, PackedTree, UnpackedTree, MissingType}
+use Rattle.vast_literal.specs.Tree.{TypeTree, ScalarTree, VectorTree, IntegerTree, IntTree, ExternalTree, PackageTree}
 use Rattle.vast_literal.specs.Tree.{NoExpr, SomeExpr, Exprs, NoExprs, MoreExprs, NoArguments, SomeArguments}
 use Rattle.vast_literal.specs.Scan as Scan
 use Rattle.vast_literal.specs.Scan.{tokens}
@@ -231,9 +231,7 @@ mutual
   type_reads (IntTree signed) q p c w r = number_cast_told IntKey (codes "int") signed q refl r
   type_reads (ExternalTree n) q p c w r = name_cast_told n q p r
   type_reads (PackageTree s n) q p c w r = package_cast_told s n q (and_left _ _ p) (and_right (is_plain_name s) (is_plain_name n) p) r
-  type_reads (PackedTree t ds) q p c w r = absurd (cc c)
-  type_reads (UnpackedTree t ds) q p c w r = absurd (cc c)
-  type_reads MissingType q p c w r = absurd (cc c)
+  type_reads _ q p c w r = absurd (cc c)
 
   list_reads : (es : Exprs) → are_plain es ≡ true → are_well_formed es ≡ true → ListTold es
   list_reads NoExprs p w = list_none

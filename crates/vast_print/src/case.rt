@@ -1,8 +1,7 @@
 //! Case statements.
 
-ghost use Rattle.std.specs.Prelude.{◌≡◌, codes, map, IfSome};
+ghost use Rattle.std.specs.Prelude.{◌≡◌, codes, IfSome};
 ghost use Rattle.vast_core.specs.Bench.{OwnsExpr, OwnsBlock, OwnsCase, tree_of, maybe_tree_of};
-ghost use Rattle.vast_core.specs.Nests.{statement_entry};
 ghost use Rattle.vast_core.specs.FileTree.{families, case_statement, block_tree};
 ghost use Rattle.vast_core.specs.View.{bench};
 ghost use Rattle.vast_print.specs.Internal.Bodies.{assignment_of, bare_assignment};
@@ -98,7 +97,7 @@ fn print_label(ast: &Ast, label: Option<Expr>, out: &mut Writer) -> Result<(), P
 
 /// The assignment that stands without begin and end in an arm that holds these statements.
 fn bare_assignment(kind: CaseKind, statements: &[Statement]) -> Option<VastStatement>
-    ensures { result ≡ bare_assignment kind (map statement_entry statements.now) }
+    ensures { result ≡ bare_assignment kind statements.now }
 {
     if statements.len() != 1 {
         return None;
@@ -110,7 +109,7 @@ fn bare_assignment(kind: CaseKind, statements: &[Statement]) -> Option<VastState
 }
 
 fn assignment_of(statement: &Statement) -> Option<VastStatement>
-    ensures { result ≡ assignment_of (statement_entry statement.now) }
+    ensures { result ≡ assignment_of statement.now }
 {
     match statement {
         Statement::Assignment(s) => Some(*s),

@@ -1,7 +1,6 @@
 //! Whole files, and single expressions.
 
 ghost use Rattle.std.specs.Prelude.{IfOk, string_bytes};
-ghost use Rattle.vast_core.specs.Records.{file_entry};
 ghost use Rattle.vast_core.specs.Bench.{OwnsExpr, tree_of};
 ghost use Rattle.vast_core.specs.Sound.{EntrySound};
 ghost use Rattle.vast_core.specs.FileTree.{tree, item_tree};
@@ -40,14 +39,14 @@ fn print_include(ast: &Ast, path: &str, out: &mut Writer) -> Result<(), PrintFau
 /// Writes an item of the file on lines of its own.
 #[tactic(auto, using(crate::proofs::ArenaLaws::items))]
 fn print_item(ast: &Ast, item: &FileItem, out: &mut Writer) -> Result<(), PrintFault>
-    requires { EntrySound (bench ast.now) (file_entry item.now) }
+    requires { EntrySound (bench ast.now) item.now }
     ensures { WritesLines out.old out.new result
-        (item_page (bench ast.now).file_type (item_tree (bench ast.now) (file_entry item.now))) }
+        (item_page (bench ast.now).file_type (item_tree (bench ast.now) item.now)) }
 {
     match item {
         FileItem::Module(m) => print_module(ast, *m, out),
-        FileItem::Include(path) => print_include(ast, path, out),
-        FileItem::Comment(text) => Ok(out.comment(text)?),
+        FileItem::Include(path) => print_include(ast, path.as_str(), out),
+        FileItem::Comment(text) => Ok(out.comment(text.as_str())?),
         FileItem::BlankLine => Ok(out.next()?),
     }
 }

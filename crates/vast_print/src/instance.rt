@@ -1,7 +1,7 @@
 //! Instantiations of modules.
 
 ghost use Rattle.std.specs.Prelude.{All, map};
-ghost use Rattle.vast_core.specs.Records.{connection_record, instance_record};
+ghost use Rattle.vast_core.specs.Records.{instance_record};
 ghost use Rattle.vast_core.specs.Bench.{OwnsInstantiation};
 ghost use Rattle.vast_core.specs.Sound.{ConnectionSound};
 ghost use Rattle.vast_core.specs.declared.node.Member.TheVariants.{Instantiation as InstanceEntry};
@@ -19,12 +19,12 @@ use vast_core::{Ast, Connection, Instance, Instantiation};
 /// Writes `.name(value)` behind the last line; an open port has nothing between its parentheses.
 #[tactic(auto, using(crate::proofs::ArenaLaws::instances))]
 fn print_connection(ast: &Ast, connection: &Connection, out: &mut Writer) -> Result<(), PrintFault>
-    requires { ConnectionSound (bench ast.now) (connection_record connection.now) }
+    requires { ConnectionSound (bench ast.now) connection.now }
     ensures { WritesText out.old out.new result
-        (connection_text (connection_tree (bench ast.now) (connection_record connection.now))) }
+        (connection_text (connection_tree (bench ast.now) connection.now)) }
 {
     out.word(".")?;
-    out.written(&connection.name)?;
+    out.written(connection.name.as_str())?;
     match connection.value {
         Some(value) => {
             out.word("(")?;
@@ -38,11 +38,11 @@ fn print_connection(ast: &Ast, connection: &Connection, out: &mut Writer) -> Res
 
 /// Writes connections, each on a line one deeper.
 fn print_entries(ast: &Ast, connections: &[Connection], out: &mut Writer) -> Result<(), PrintFault>
-    requires owned { All (λ c. ConnectionSound (bench ast.now) (connection_record c))
+    requires owned { All (ConnectionSound (bench ast.now))
         connections.now }
     ensures { WritesLines out.old out.new result
         (entries_page (map connection_text
-        (map (connection_tree (bench ast.now)) (map connection_record connections.now)))) }
+        (map (connection_tree (bench ast.now)) connections.now))) }
 {
     for (i, connection) in connections.iter().enumerate() {
         out.next_inner()?;
@@ -55,12 +55,12 @@ fn print_entries(ast: &Ast, connections: &[Connection], out: &mut Writer) -> Res
 /// Writes an instantiation up to the list of its connections.
 #[tactic(auto, using(crate::proofs::ArenaLaws::instances))]
 fn print_head(ast: &Ast, instance: &Instance, out: &mut Writer) -> Result<(), PrintFault>
-    requires owned { All (λ c. ConnectionSound (bench ast.now) (connection_record c))
+    requires owned { All (ConnectionSound (bench ast.now))
         instance.now.parameters.items }
     ensures { WritesLines out.old out.new result
         (instance_head_page (instance_record instance.now).module_name
         (map (connection_tree (bench ast.now))
-        (map connection_record instance.now.parameters.items))
+        instance.now.parameters.items)
         (instance_record instance.now).instance_name) }
 {
     out.next()?;
@@ -85,11 +85,11 @@ fn print_connections(
     connections: &[Connection],
     out: &mut Writer,
 ) -> Result<(), PrintFault>
-    requires owned { All (λ c. ConnectionSound (bench ast.now) (connection_record c))
+    requires owned { All (ConnectionSound (bench ast.now))
         connections.now }
     ensures { WritesLines out.old out.new result
         (connections_page
-        (map (connection_tree (bench ast.now)) (map connection_record connections.now))) }
+        (map (connection_tree (bench ast.now)) connections.now)) }
 {
     if connections.is_empty() {
         out.next()?;

@@ -2,7 +2,8 @@
 
 ghost use Rattle.std.specs.Prelude.{All, map, codes};
 ghost use Rattle.vast_core.specs.Bench.{OwnsModule, OwnsPort};
-ghost use Rattle.vast_core.specs.Records.{module_record, parameter_port_record, ModuleEntry};
+ghost use Rattle.vast_core.specs.Records.{module_record};
+ghost use Rattle.vast_core.specs.declared.node.FileItem.TheVariants.{Module as ModuleEntry};
 ghost use Rattle.vast_core.specs.Sound.{MemberSound, ParameterPortSound};
 ghost use Rattle.vast_core.specs.FileTree.{parameter_port_tree, port_tree, members_tree, module_tree, item_tree};
 ghost use Rattle.vast_core.specs.View.{bench};
@@ -62,13 +63,13 @@ fn print_opening(name: &str, end: &str, out: &mut Writer) -> Result<(), PrintFau
 /// Writes a module's header; a list that is empty isn't written.
 #[tactic(auto, using(crate::proofs::ArenaLaws::modules))]
 fn print_header(ast: &Ast, node: &Module, out: &mut Writer) -> Result<(), PrintFault>
-    requires parameters { All (λ p. ParameterPortSound (bench ast.now) (parameter_port_record p))
+    requires parameters { All (ParameterPortSound (bench ast.now))
         node.now.parameters.items }
     requires ports { All (OwnsPort (bench ast.now)) node.now.ports.items }
     ensures { WritesLines out.old out.new result
         (header_page (bench ast.now).file_type (module_record node.now).name
         (map (parameter_port_tree (bench ast.now))
-        (map parameter_port_record node.now.parameters.items))
+        node.now.parameters.items)
         (map (port_tree (bench ast.now)) node.now.ports.items)) }
 {
     if !node.parameters.is_empty() {
@@ -113,7 +114,7 @@ fn print_body(ast: &Ast, members: &[Member], out: &mut Writer) -> Result<(), Pri
 /// Writes a module: its header, its members and its end.
 #[tactic(auto, using(crate::proofs::ArenaLaws::modules))]
 fn print_parts(ast: &Ast, node: &Module, out: &mut Writer) -> Result<(), PrintFault>
-    requires parameters { All (λ p. ParameterPortSound (bench ast.now) (parameter_port_record p))
+    requires parameters { All (ParameterPortSound (bench ast.now))
         node.now.parameters.items }
     requires ports { All (OwnsPort (bench ast.now)) node.now.ports.items }
     requires members { All (MemberSound (bench ast.now))

@@ -4,7 +4,6 @@ ghost use Rattle.std.specs.Prelude.{◌≡◌, All, map};
 ghost use Rattle.vast_literal.specs.Tree.{ParameterMember};
 ghost use Rattle.vast_literal.specs.Shape.{base_kind, base_of};
 ghost use Rattle.vast_core.specs.Bench.{OwnsExpr, OwnsType, tree_of, type_of};
-ghost use Rattle.vast_core.specs.Records.{parameter_port_record};
 ghost use Rattle.vast_core.specs.Sound.{FormSound, ParameterPortSound};
 ghost use Rattle.vast_core.specs.FileTree.{form_tree, parameter_port_tree};
 ghost use Rattle.vast_core.specs.View.{bench};
@@ -40,12 +39,12 @@ fn print_parameter_port(
     parameter: &ParameterPort,
     out: &mut Writer,
 ) -> Result<(), PrintFault>
-    requires { ParameterPortSound (bench ast.now) (parameter_port_record parameter.now) }
+    requires { ParameterPortSound (bench ast.now) parameter.now }
     ensures { WritesText out.old out.new result
         (parameter_port_text (bench ast.now).file_type
-        (parameter_port_tree (bench ast.now) (parameter_port_record parameter.now))) }
+        (parameter_port_tree (bench ast.now) parameter.now)) }
 {
-    let name = &parameter.name;
+    let name = parameter.name.as_str();
     out.word("parameter ")?;
     match parameter.data_type {
         Some(t) => print_declaration(ast, base_kind(ast, t), t, name, out)?,
@@ -61,11 +60,11 @@ pub(crate) fn print_parameter_ports(
     parameters: &[ParameterPort],
     out: &mut Writer,
 ) -> Result<(), PrintFault>
-    requires owned { All (λ p. ParameterPortSound (bench ast.now) (parameter_port_record p))
+    requires owned { All (ParameterPortSound (bench ast.now))
         parameters.now }
     ensures { WritesLines out.old out.new result
         (parameter_ports_page (bench ast.now).file_type
-        (map (parameter_port_tree (bench ast.now)) (map parameter_port_record parameters.now))) }
+        (map (parameter_port_tree (bench ast.now)) parameters.now)) }
 {
     for (i, parameter) in parameters.iter().enumerate() {
         out.next_inner()?;
@@ -90,7 +89,7 @@ fn print_form(ast: &Ast, form: &ParameterForm, out: &mut Writer) -> Result<(), P
         }
         ParameterForm::Defined(definition) => {
             let definition = ast.definition(*definition);
-            let name = &definition.name;
+            let name = definition.name.as_str();
             print_declaration(ast, definition.kind, definition.data_type, name, out)?;
         }
     }

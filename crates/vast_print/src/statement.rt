@@ -2,7 +2,6 @@
 
 ghost use Rattle.vast_core.specs.Bench.{OwnsBlock};
 ghost use Rattle.vast_core.specs.Internal.Entries.{OwnsEntry};
-ghost use Rattle.vast_core.specs.Nests.{statement_entry};
 ghost use Rattle.vast_core.specs.FileTree.{families, statement_in, block_tree};
 ghost use Rattle.vast_core.specs.View.{bench};
 ghost use Rattle.vast_print.specs.Ink.{Wet, next, pour};
@@ -63,10 +62,10 @@ pub(crate) fn print_statements(
 #[cycle(print)]
 #[tactic(auto, using(crate::proofs::ContainerLaws::statements))]
 fn print_statement(ast: &Ast, statement: &Statement, out: &mut Writer) -> Result<(), PrintFault>
-    requires { OwnsEntry (bench ast.now) (statement_entry statement.now) }
+    requires { OwnsEntry (bench ast.now) statement.now }
     ensures { WritesLines out.old out.new result
         (statement_page
-        (statement_in (bench ast.now) (families (bench ast.now)) (statement_entry statement.now))) }
+        (statement_in (bench ast.now) (families (bench ast.now)) statement.now)) }
 {
     match statement {
         Statement::Assignment(s) => {
@@ -77,8 +76,8 @@ fn print_statement(ast: &Ast, statement: &Statement, out: &mut Writer) -> Result
         Statement::Conditional(c) => print_conditional(ast, *c, out),
         Statement::Case(c) => print_case(ast, *c, out),
         Statement::BlankLine => Ok(out.next()?),
-        Statement::Comment(text) => Ok(out.comment(text)?),
-        Statement::Inline(text) => print_inline(text, out),
+        Statement::Comment(text) => Ok(out.comment(text.as_str())?),
+        Statement::Inline(text) => print_inline(text.as_str(), out),
     }
 }
 

@@ -1,6 +1,6 @@
 -- What calls of parts keep.
 use Rattle.std.specs.Prelude.{ℕ, Bool, true, false, nat_eq, ◌&&◌, List, length, map, Option, string_bytes}
-use Rattle.vast_core.specs.Records.{BlankLineRecord, CommentRecord, InlineRecord, MacroRecord}
+use Rattle.vast_core.specs.declared.node.Artifact.TheVariants.{BlankLine as BlankArtifact, Comment as CommentArtifact, Inline as InlineArtifact, MacroStatement as MacroArtifact}
 use Rattle.vast_core.specs.declared.node.Member.TheVariants.{ContinuousAssignment as AssignmentEntry, BlankLine as BlankEntry, Comment as CommentEntry, Inline as InlineEntry, Macro as MacroEntry, Instantiation as InstanceEntry}
 use Rattle.vast_core.specs.Growth.{with_member, next_continuous, with_assignment}
 use Rattle.vast_core.specs.Artifacts.{next_def, with_definition, next_macro_statement, with_artifact, next_instantiation, with_instance, next_statement}
@@ -22,10 +22,10 @@ make_instantiation-keeps module_name instance_name parameters values ports wires
 
 pub artifact-keeps : (step : ArtifactStep) → CallKeeps (artifact_call step)
 artifact-keeps (MakeDef name kind type) = λ b answers. given-keeps b (one a_type b answers type) (λ type. Made (Def (next_def b)) (with_definition (record { name = (string_bytes name); kind = kind; data_type = type }) b)) (λ type. definition-kept (record { name = (string_bytes name); kind = kind; data_type = type }) b)
-artifact-keeps MakeBlankLine = λ b answers. artifact-kept BlankLineRecord b
-artifact-keeps (MakeComment text) = λ b answers. artifact-kept (CommentRecord (string_bytes text)) b
-artifact-keeps (MakeInlineVerilogStatement text) = λ b answers. artifact-kept (InlineRecord (string_bytes text)) b
-artifact-keeps (MakeMacroStatement use_of semicolon) = λ b answers. given-keeps b (one a_macro_ref b answers use_of) (λ use_of. Made (MacroStatement (next_macro_statement b)) (with_artifact (MacroRecord use_of semicolon) b)) (λ use_of. artifact-kept (MacroRecord use_of semicolon) b)
+artifact-keeps MakeBlankLine = λ b answers. artifact-kept BlankArtifact b
+artifact-keeps (MakeComment text) = λ b answers. artifact-kept (CommentArtifact (string_bytes text)) b
+artifact-keeps (MakeInlineVerilogStatement text) = λ b answers. artifact-kept (InlineArtifact (string_bytes text)) b
+artifact-keeps (MakeMacroStatement use_of semicolon) = λ b answers. given-keeps b (one a_macro_ref b answers use_of) (λ use_of. Made (MacroStatement (next_macro_statement b)) (with_artifact (MacroArtifact use_of semicolon) b)) (λ use_of. artifact-kept (MacroArtifact use_of semicolon) b)
 artifact-keeps (MakeContinuousAssignment left right) = λ b answers. given-keeps b (two an_expr an_expr b answers left right) (λ (left, right). Made (ContinuousAssignment (next_continuous b)) (with_assignment (record { lhs = left; rhs = right; nonblocking = false }) b)) (λ (left, right). assignment-kept (record { lhs = left; rhs = right; nonblocking = false }) b)
 artifact-keeps (MakeNonblockingAssignment left right) = make_assignment-keeps true left right
 artifact-keeps (MakeBlockingAssignment left right) = make_assignment-keeps false left right

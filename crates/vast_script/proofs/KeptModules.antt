@@ -4,7 +4,8 @@ use Rattle.vast_literal.specs.declared.kind.ModulePortDirection.{ModulePortDirec
 use Rattle.vast_literal.specs.declared.kind.ModulePortDirection.TheVariants.{Input, Output, InOut}
 use Rattle.vast_literal.specs.declared.kind.DataKind.{DataKind}
 use Rattle.vast_literal.specs.declared.kind.DataKind.TheVariants.{Wire, Reg, Logic}
-use Rattle.vast_core.specs.Records.{FileEntry, IncludeEntry, FileBlankEntry, FileCommentEntry}
+use Rattle.vast_core.specs.declared.node.FileItem.{FileItem}
+use Rattle.vast_core.specs.declared.node.FileItem.TheVariants.{Include as IncludeEntry, BlankLine as FileBlankEntry, Comment as FileCommentEntry}
 use Rattle.vast_core.specs.Growth.{with_item, next_logic_ref, with_port, with_declaration}
 use Rattle.vast_core.specs.Parameters.{next_parameter_ref, next_localparam_ref, with_parameter_port, with_plain_parameter, with_int_parameter, with_defined_parameter}
 use Rattle.vast_core.specs.Hoisting.{with_hoisted}
@@ -21,7 +22,7 @@ use Rattle.vast_script.proofs.KeptOutcomes.{CallKeeps, given-keeps, provided-kee
 use Rattle.xlsynth_vast.proofs.KeptWords.{declaration-kept, defined_parameter-kept, hoisted-kept, int_parameter-kept, item-kept, module-kept, parameter_port-kept, plain_parameter-kept, port-kept}
 use Rattle.vast_script.specs.Modules.{add_item, add_module, add_port, add_wire, add_variable, module_call}
 
-add_item-keeps : (entry : FileEntry) → CallKeeps (add_item entry)
+add_item-keeps : (entry : FileItem) → CallKeeps (add_item entry)
 add_item-keeps entry b answers = item-kept entry b
 
 add_module-keeps : (name : List ℕ) → CallKeeps (add_module name)

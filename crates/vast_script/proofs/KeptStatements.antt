@@ -7,7 +7,8 @@ use Rattle.vast_literal.specs.declared.kind.AlwaysKind.TheVariants.{AlwaysFF, Al
 use Rattle.vast_literal.specs.declared.kind.CaseKind.{CaseKind}
 use Rattle.vast_literal.specs.declared.kind.CaseKind.TheVariants.{Case, CaseZ, CaseX}
 use Rattle.vast_core.specs.declared.node.Member.TheVariants.{Conditional as ConditionalEntry}
-use Rattle.vast_core.specs.Nests.{StatementEntry, AssignStatement, ContinuousStatement, ConditionalStatement, CasesStatement, BlankStatement, CommentStatement, InlineStatement}
+use Rattle.vast_core.specs.declared.node.Statement.{Statement}
+use Rattle.vast_core.specs.declared.node.Statement.TheVariants.{Assignment as AssignStatement, Continuous as ContinuousStatement, Conditional as ConditionalStatement, Case as CasesStatement, BlankLine as BlankStatement, Comment as CommentStatement, Inline as InlineStatement}
 use Rattle.vast_core.specs.Bench.{type_of}
 use Rattle.vast_core.specs.Growth.{next_logic_ref, with_member, with_assignment}
 use Rattle.vast_core.specs.Artifacts.{next_statement}
@@ -42,7 +43,7 @@ add_always-keeps kind word owner events b answers = given-keeps b (one_and_many 
 block_add_assignment-keeps : (nonblocking : Bool) (block : ℕ) (left : ℕ) (right : ℕ) → CallKeeps (block_add_assignment nonblocking block left right)
 block_add_assignment-keeps nonblocking block left right b answers = given-keeps b (three a_block an_expr an_expr b answers block left right) (λ (block, left, right). Made (VastStatement (next_statement b)) (with_statement block (AssignStatement (next_statement b)) (with_assignment (record { lhs = left; rhs = right; nonblocking = nonblocking }) b))) (λ (block, left, right). keeps-then b (with_assignment (record { lhs = left; rhs = right; nonblocking = nonblocking }) b) _ (assignment-kept (record { lhs = left; rhs = right; nonblocking = nonblocking }) b) (statement-kept block (AssignStatement (next_statement b)) (with_assignment (record { lhs = left; rhs = right; nonblocking = nonblocking }) b)))
 
-block_add-keeps : (entry : StatementEntry) (block : ℕ) → CallKeeps (block_add entry block)
+block_add-keeps : (entry : Statement) (block : ℕ) → CallKeeps (block_add entry block)
 block_add-keeps entry block b answers = given-keeps b (one a_block b answers block) (λ block. Made Nothing (with_statement block entry b)) (λ block. statement-kept block entry b)
 
 block_add_case-keeps : (kind : CaseKind) (block : ℕ) (selector : ℕ) → CallKeeps (block_add_case kind block selector)

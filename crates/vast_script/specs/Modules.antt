@@ -4,7 +4,8 @@ use Rattle.vast_literal.specs.declared.kind.ModulePortDirection.{ModulePortDirec
 use Rattle.vast_literal.specs.declared.kind.ModulePortDirection.TheVariants.{Input, Output, InOut}
 use Rattle.vast_literal.specs.declared.kind.DataKind.{DataKind}
 use Rattle.vast_literal.specs.declared.kind.DataKind.TheVariants.{Wire, Reg, Logic}
-use Rattle.vast_core.specs.Records.{FileEntry, IncludeEntry, FileBlankEntry, FileCommentEntry}
+use Rattle.vast_core.specs.declared.node.FileItem.{FileItem}
+use Rattle.vast_core.specs.declared.node.FileItem.TheVariants.{Include as IncludeEntry, BlankLine as FileBlankEntry, Comment as FileCommentEntry}
 use Rattle.vast_core.specs.Growth.{next_module, with_module, with_item, next_logic_ref, with_port, with_declaration}
 use Rattle.vast_core.specs.Parameters.{next_parameter_ref, next_localparam_ref, with_parameter_port, with_plain_parameter, with_int_parameter, with_defined_parameter}
 use Rattle.vast_core.specs.Hoisting.{with_hoisted}
@@ -18,7 +19,7 @@ use Rattle.vast_script.specs.Outcome.{Call, Made, provided, allowed, makes}
 use Rattle.vast_script.specs.Kinds.{a_module, a_type, an_expr, a_definition, a_blank_line}
 use Rattle.vast_script.specs.Arguments.{takes_one, takes_two, takes_three}
 
-abbrev pub add_item : FileEntry → Call
+abbrev pub add_item : FileItem → Call
 add_item entry b answers = Made Nothing (with_item entry b)
 
 abbrev pub add_module : List ℕ → Call

@@ -7,7 +7,8 @@ use Rattle.vast_literal.specs.declared.kind.AlwaysKind.TheVariants.{AlwaysFF, Al
 use Rattle.vast_literal.specs.declared.kind.CaseKind.{CaseKind}
 use Rattle.vast_literal.specs.declared.kind.CaseKind.TheVariants.{Case, CaseZ, CaseX}
 use Rattle.vast_core.specs.declared.node.Member.TheVariants.{Conditional as ConditionalEntry}
-use Rattle.vast_core.specs.Nests.{StatementEntry, AssignStatement, ContinuousStatement, ConditionalStatement, CasesStatement, BlankStatement, CommentStatement, InlineStatement}
+use Rattle.vast_core.specs.declared.node.Statement.{Statement}
+use Rattle.vast_core.specs.declared.node.Statement.TheVariants.{Assignment as AssignStatement, Continuous as ContinuousStatement, Conditional as ConditionalStatement, Case as CasesStatement, BlankLine as BlankStatement, Comment as CommentStatement, Inline as InlineStatement}
 use Rattle.vast_core.specs.Bench.{type_of}
 use Rattle.vast_core.specs.Growth.{next_logic_ref, with_member, with_assignment}
 use Rattle.vast_core.specs.Artifacts.{next_statement}
@@ -47,7 +48,7 @@ block_add_assignment nonblocking block left right =
     (λ block left right b. Made (VastStatement (next_statement b)) (with_statement block (AssignStatement (next_statement b)) (with_assignment (record { lhs = left; rhs = right; nonblocking = nonblocking }) b)))
 
 -- A statement that holds no handle.
-abbrev pub block_add : StatementEntry → ℕ → Call
+abbrev pub block_add : Statement → ℕ → Call
 block_add entry block = takes_one a_block block (λ block b. Made Nothing (with_statement block entry b))
 
 abbrev pub block_add_case : CaseKind → (block selector : ℕ) → Call

@@ -14,12 +14,17 @@ use Rattle.vast_core.specs.declared.node.Assignment.{Assignment}
 use Rattle.vast_core.specs.declared.node.ElseIf.{ElseIf}
 use Rattle.vast_core.specs.declared.node.CaseArm.{CaseArm}
 use Rattle.vast_core.specs.Nodes.{Root, expr_in, type_in, expr_of_root, type_of_root, is_expr_root, is_type_root, is_root_of, is_name, is_index, is_slice, is_macro}
-use Rattle.vast_core.specs.Records.{ModuleRecord, ParameterPortRecord, DefinitionRecord, ArtifactRecord, InstanceRecord, changed_at, with_name, with_port, with_parameter_port, with_member, with_named_member}
+use Rattle.vast_core.specs.Records.{ModuleRecord, InstanceRecord, changed_at, with_name, with_port, with_parameter_port, with_member, with_named_member}
+use Rattle.vast_core.specs.declared.node.ParameterPort.{ParameterPort}
+use Rattle.vast_core.specs.declared.node.Definition.{Definition}
+use Rattle.vast_core.specs.declared.node.Artifact.{Artifact}
 use Rattle.vast_core.specs.declared.node.Member.{Member}
 use Rattle.vast_core.specs.declared.node.Port.{Port}
-use Rattle.vast_core.specs.Nests.{StatementEntry, NestRecord, BlockRecord, ConditionalNestRecord, CaseNestRecord, LoopNestRecord, FunctionRecord, AlwaysRecord, nest_kind, is_block_kind, is_conditional_kind, is_case_kind, is_loop_kind}
+use Rattle.vast_core.specs.Nests.{NestRecord, BlockRecord, FunctionRecord, AlwaysRecord, nest_kind, is_block_kind, is_conditional_kind, is_case_kind, is_loop_kind}
+use Rattle.vast_core.specs.declared.node.Statement.{Statement}
 use Rattle.vast_core.specs.Bench.{is_continuous, is_blank_line, is_comment, is_inline, is_macro_statement, names_of}
-use Rattle.vast_core.specs.Containers.{StatementEnters, ElseIfEnters, ElseEnters, CaseArmEnters, MemberEnters, with_entry, has_else}
+use Rattle.vast_core.specs.Containers.{with_entry, has_else}
+use Rattle.vast_core.specs.declared.ast.growth.Entry.TheVariants.{Statement as StatementEnters, ElseIf as ElseIfEnters, Else as ElseEnters, CaseArm as CaseArmEnters, Member as MemberEnters}
 use Rattle.vast_print.specs.Emits.{Emits}
 use Rattle.vast_print.specs.Layout.{IsFileText, layout}
 use Rattle.vast_core.proofs.Lists.{slice_get-seam, length-push, length-changed_at}
@@ -102,7 +107,7 @@ more_ports xs x = length-push xs x
 pub more_instances : (xs : List InstanceRecord) (x : InstanceRecord) → length (xs ++ x ∷ []) ≡ suc (length xs)
 more_instances xs x = length-push xs x
 
-pub more_definitions : (xs : List DefinitionRecord) (x : DefinitionRecord) → length (xs ++ x ∷ []) ≡ suc (length xs)
+pub more_definitions : (xs : List Definition) (x : Definition) → length (xs ++ x ∷ []) ≡ suc (length xs)
 more_definitions xs x = length-push xs x
 
 pub more_always_blocks : (xs : List AlwaysRecord) (x : AlwaysRecord) → length (xs ++ x ∷ []) ≡ suc (length xs)
@@ -123,26 +128,26 @@ continuous_stays xs ys i h = still is_continuous never xs ys i h
 pub last_assignment : (xs : List Assignment) (a : Assignment) → slice_get (xs ++ a ∷ []) (length xs) ≡ Some a
 last_assignment xs a = slice_get-seam xs a
 
-pub blank_line_stays : (xs ys : List ArtifactRecord) (i : ℕ) → IsTrue (is_blank_line (slice_get xs i)) → IsTrue (is_blank_line (slice_get (xs ++ ys) i))
+pub blank_line_stays : (xs ys : List Artifact) (i : ℕ) → IsTrue (is_blank_line (slice_get xs i)) → IsTrue (is_blank_line (slice_get (xs ++ ys) i))
 blank_line_stays xs ys i h = still is_blank_line never xs ys i h
 
-pub comment_stays : (xs ys : List ArtifactRecord) (i : ℕ) → IsTrue (is_comment (slice_get xs i)) → IsTrue (is_comment (slice_get (xs ++ ys) i))
+pub comment_stays : (xs ys : List Artifact) (i : ℕ) → IsTrue (is_comment (slice_get xs i)) → IsTrue (is_comment (slice_get (xs ++ ys) i))
 comment_stays xs ys i h = still is_comment never xs ys i h
 
-pub inline_stays : (xs ys : List ArtifactRecord) (i : ℕ) → IsTrue (is_inline (slice_get xs i)) → IsTrue (is_inline (slice_get (xs ++ ys) i))
+pub inline_stays : (xs ys : List Artifact) (i : ℕ) → IsTrue (is_inline (slice_get xs i)) → IsTrue (is_inline (slice_get (xs ++ ys) i))
 inline_stays xs ys i h = still is_inline never xs ys i h
 
-pub macro_statement_stays : (xs ys : List ArtifactRecord) (i : ℕ) → IsTrue (is_macro_statement (slice_get xs i)) → IsTrue (is_macro_statement (slice_get (xs ++ ys) i))
+pub macro_statement_stays : (xs ys : List Artifact) (i : ℕ) → IsTrue (is_macro_statement (slice_get xs i)) → IsTrue (is_macro_statement (slice_get (xs ++ ys) i))
 macro_statement_stays xs ys i h = still is_macro_statement never xs ys i h
 
-pub last_artifact : (xs : List ArtifactRecord) (a : ArtifactRecord) → slice_get (xs ++ a ∷ []) (length xs) ≡ Some a
+pub last_artifact : (xs : List Artifact) (a : Artifact) → slice_get (xs ++ a ∷ []) (length xs) ≡ Some a
 last_artifact xs a = slice_get-seam xs a
 
 pub ruleset records = (more_modules, more_functions, more_ports, more_instances, more_definitions, more_always_blocks, more_assignments, changed_modules, changed_functions, continuous_stays, last_assignment, blank_line_stays, comment_stays, inline_stays, macro_statement_stays, last_artifact)
 
 -- Containers.
 
-pub kind_after_statement : (s : StatementEntry) (xs : List NestRecord) (place i : ℕ) → nest_kind (slice_get (changed_at place (with_entry (StatementEnters s)) xs) i) ≡ nest_kind (slice_get xs i)
+pub kind_after_statement : (s : Statement) (xs : List NestRecord) (place i : ℕ) → nest_kind (slice_get (changed_at place (with_entry (StatementEnters s)) xs) i) ≡ nest_kind (slice_get xs i)
 kind_after_statement s xs place i = kind-changed (with_entry (StatementEnters s)) (entry-kind (StatementEnters s)) xs place i
 
 pub kind_after_else_if : (a : ElseIf) (xs : List NestRecord) (place i : ℕ) → nest_kind (slice_get (changed_at place (with_entry (ElseIfEnters a)) xs) i) ≡ nest_kind (slice_get xs i)
@@ -193,38 +198,30 @@ else-changed f h (x ∷ xs) zero (suc i) = refl
 else-changed f h (x ∷ xs) (suc place) zero = refl
 else-changed f h (x ∷ xs) (suc place) (suc i) = else-changed f h xs place i
 
-statement-else : (s : StatementEntry) (n : NestRecord) → has_else (Some (with_entry (StatementEnters s) n)) ≡ has_else (Some n)
+statement-else : (s : Statement) (n : NestRecord) → has_else (Some (with_entry (StatementEnters s) n)) ≡ has_else (Some n)
 statement-else s (BlockRecord ss) = refl
-statement-else s (ConditionalNestRecord c) = refl
-statement-else s (CaseNestRecord c) = refl
-statement-else s (LoopNestRecord l) = refl
+statement-else s _ = refl
 
-pub else_after_statement : (s : StatementEntry) (xs : List NestRecord) (place i : ℕ) → has_else (slice_get (changed_at place (with_entry (StatementEnters s)) xs) i) ≡ has_else (slice_get xs i)
+pub else_after_statement : (s : Statement) (xs : List NestRecord) (place i : ℕ) → has_else (slice_get (changed_at place (with_entry (StatementEnters s)) xs) i) ≡ has_else (slice_get xs i)
 else_after_statement s xs place i = else-changed (with_entry (StatementEnters s)) (statement-else s) xs place i
 
 else_if-else : (a : ElseIf) (n : NestRecord) → has_else (Some (with_entry (ElseIfEnters a) n)) ≡ has_else (Some n)
 else_if-else a (BlockRecord ss) = refl
-else_if-else a (ConditionalNestRecord c) = refl
-else_if-else a (CaseNestRecord c) = refl
-else_if-else a (LoopNestRecord l) = refl
+else_if-else a _ = refl
 
 pub else_after_else_if : (a : ElseIf) (xs : List NestRecord) (place i : ℕ) → has_else (slice_get (changed_at place (with_entry (ElseIfEnters a)) xs) i) ≡ has_else (slice_get xs i)
 else_after_else_if a xs place i = else-changed (with_entry (ElseIfEnters a)) (else_if-else a) xs place i
 
 case_arm-else : (a : CaseArm) (n : NestRecord) → has_else (Some (with_entry (CaseArmEnters a) n)) ≡ has_else (Some n)
 case_arm-else a (BlockRecord ss) = refl
-case_arm-else a (ConditionalNestRecord c) = refl
-case_arm-else a (CaseNestRecord c) = refl
-case_arm-else a (LoopNestRecord l) = refl
+case_arm-else a _ = refl
 
 pub else_after_case_arm : (a : CaseArm) (xs : List NestRecord) (place i : ℕ) → has_else (slice_get (changed_at place (with_entry (CaseArmEnters a)) xs) i) ≡ has_else (slice_get xs i)
 else_after_case_arm a xs place i = else-changed (with_entry (CaseArmEnters a)) (case_arm-else a) xs place i
 
 member-else : (m : Member) (n : NestRecord) → has_else (Some (with_entry (MemberEnters m) n)) ≡ has_else (Some n)
 member-else m (BlockRecord ss) = refl
-member-else m (ConditionalNestRecord c) = refl
-member-else m (CaseNestRecord c) = refl
-member-else m (LoopNestRecord l) = refl
+member-else m _ = refl
 
 pub else_after_member : (m : Member) (xs : List NestRecord) (place i : ℕ) → has_else (slice_get (changed_at place (with_entry (MemberEnters m)) xs) i) ≡ has_else (slice_get xs i)
 else_after_member m xs place i = else-changed (with_entry (MemberEnters m)) (member-else m) xs place i
@@ -245,7 +242,7 @@ names-changed f h (x ∷ xs) (suc i) (suc j) = names-changed f h xs i j
 pub names_after_member : (e : Member) (xs : List ModuleRecord) (i j : ℕ) → names_of (slice_get (changed_at i (with_member e) xs) j) ≡ names_of (slice_get xs j)
 names_after_member e xs i j = names-changed (with_member e) (λ m. refl) xs i j
 
-pub names_after_parameter : (p : ParameterPortRecord) (xs : List ModuleRecord) (i j : ℕ) → names_of (slice_get (changed_at i (with_parameter_port p) xs) j) ≡ names_of (slice_get xs j)
+pub names_after_parameter : (p : ParameterPort) (xs : List ModuleRecord) (i j : ℕ) → names_of (slice_get (changed_at i (with_parameter_port p) xs) j) ≡ names_of (slice_get xs j)
 names_after_parameter p xs i j = names-changed (with_parameter_port p) (λ m. refl) xs i j
 
 names-there :

@@ -3,11 +3,10 @@ use Rattle.std.proofs.Common.{◌≡◌, ℕ, zero, suc, ◌+◌, ◌<◌, List,
 use Rattle.std.proofs.lemmas.List.{map-append}
 use Rattle.vast_core.specs.declared.node.Connection.{Connection}
 use Rattle.vast_core.specs.declared.handle.Expr.{Expr}
-use Rattle.vast_core.specs.Records.{connection_record}
 use Rattle.vast_core.specs.Bench.{Bench, OwnsExpr}
 use Rattle.vast_core.specs.Sound.{Each, ConnectionSound}
 use Rattle.vast_core.specs.WrittenKinds.{HasValue}
-use Rattle.vast_core.proofs.Lists.{All-Each, All-head, All-tail}
+use Rattle.vast_core.proofs.Lists.{All-own, All-head, All-tail}
 use Rattle.xlsynth_vast.specs.Instances.{connected}
 
 -- One name and one expression more.
@@ -23,11 +22,11 @@ connected-more f g (m ∷ ns) (w ∷ vs) (suc i) n d v e below under is at = ap 
 pub one_more :
     {A B : Type 0} (f : A → List ℕ) (g : B → Option Expr) (ns : List A) (vs : List B) (i : ℕ) (n d : A) (v e : B) (made : List Connection) (c : Connection) →
     i < length ns → i < length vs → n ≡ get_or ns i d → v ≡ get_or vs i e →
-    map connection_record made ≡ connected (map f (take i ns)) (map g (take i vs)) →
-    connection_record c ≡ record { name = f n; value = g v } →
-    map connection_record (made ++ c ∷ []) ≡ connected (map f (take (i + 1) ns)) (map g (take (i + 1) vs))
+    made ≡ connected (map f (take i ns)) (map g (take i vs)) →
+    c ≡ record { name = f n; value = g v } →
+    (made ++ c ∷ []) ≡ connected (map f (take (i + 1) ns)) (map g (take (i + 1) vs))
 one_more f g ns vs i n d v e made c below under is at so_far given =
-    rw (add-one, connected-more f g ns vs i n d v e below under is at, map-append connection_record made (c ∷ []), so_far, given) refl
+    rw (add-one, connected-more f g ns vs i n d v e below under is at, map-append made (c ∷ []), so_far, given) refl
 
 -- What it gives is the file's, where its expressions are.
 
@@ -36,8 +35,8 @@ each-connected b [] values h = tt
 each-connected b (name ∷ names) [] h = tt
 each-connected b (name ∷ names) (value ∷ values) h = (h.0, each-connected b names values h.1)
 
-pub connected-sound : (b : Bench) (names : List (List ℕ)) (values : List (Option Expr)) (made : List Connection) → map connection_record made ≡ connected names values → Each (λ o. IfSome o (OwnsExpr b)) values → All (λ c. ConnectionSound b (connection_record c)) made
-connected-sound b names values made e h = All-Each connection_record (ConnectionSound b) made (rw e (each-connected b names values h))
+pub connected-sound : (b : Bench) (names : List (List ℕ)) (values : List (Option Expr)) (made : List Connection) → made ≡ connected names values → Each (λ o. IfSome o (OwnsExpr b)) values → All (ConnectionSound b) made
+connected-sound b names values made e h = All-own (ConnectionSound b) made (rw e (each-connected b names values h))
 
 -- Each parameter that it gives has a value.
 
@@ -46,8 +45,8 @@ each-valued f [] values = tt
 each-valued f (name ∷ names) [] = tt
 each-valued f (name ∷ names) (value ∷ values) = (tt, each-valued f names values)
 
-pub connected-valued : {B : Type 0} (f : B → Expr) (names : List (List ℕ)) (values : List B) (made : List Connection) → map connection_record made ≡ connected names (map (λ v. Some (f v)) values) → All (λ c. HasValue (connection_record c)) made
-connected-valued f names values made e = All-Each connection_record HasValue made (rw e (each-valued f names values))
+pub connected-valued : {B : Type 0} (f : B → Expr) (names : List (List ℕ)) (values : List B) (made : List Connection) → made ≡ connected names (map (λ v. Some (f v)) values) → All HasValue made
+connected-valued f names values made e = All-own HasValue made (rw e (each-valued f names values))
 
 some-owned : (b : Bench) (e : Option (Bor Expr)) → IfSome e (λ x. OwnsExpr b x.now) → IfSome (option_copied e) (OwnsExpr b)
 some-owned b None h = tt

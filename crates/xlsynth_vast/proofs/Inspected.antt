@@ -8,7 +8,7 @@ use Rattle.vast_core.specs.declared.handle.Expr.{Expr}
 use Rattle.vast_core.specs.declared.handle.VastDataType.{VastDataType}
 use Rattle.vast_core.specs.declared.handle.ModulePort.{ModulePort}
 use Rattle.vast_core.specs.declared.node.ExprNode.{ExprNode}
-use Rattle.vast_core.specs.declared.node.ExprNode.TheVariants.{Name, Literal, StringText, Unary, Binary, Ternary, Index, Slice, PartSelect, Concat, Pattern, WidthCast, TypeCast, PosEdge, NegEdge, Macro, MacroCall, Call, DataType}
+use Rattle.vast_core.specs.declared.node.ExprNode.TheVariants.{Name}
 use Rattle.vast_core.specs.declared.bits.BitCountFault.{BitCountFault}
 use Rattle.vast_core.specs.declared.bits.BitCountFault.TheVariants.{Overflow, Symbolic, External}
 use Rattle.vast_core.specs.Nodes.{Nodes, Root, ExprRoot, TypeRoot, is_name, is_root_of, expr_of_root, expr_tree, expr_in}
@@ -32,24 +32,7 @@ tree-named b e h = root-named _ h
 
 pub no_other_node : (b : Nodes) (node : ExprNode) → is_name (expr_tree b node) ≡ true → ((name : List ℕ) (type : Option VastDataType) → node ≡ Name name type → ⊥) → ⊥
 no_other_node b (Name name type) h other = other name type refl
-no_other_node b (Literal text value) h other = cc
-no_other_node b (StringText text) h other = cc
-no_other_node b (Unary operator operand) h other = cc
-no_other_node b (Binary operator left right) h other = cc
-no_other_node b (Ternary condition consequent alternate) h other = cc
-no_other_node b (Index subject index) h other = cc
-no_other_node b (Slice subject high low) h other = cc
-no_other_node b (PartSelect subject start width) h other = cc
-no_other_node b (Concat count parts) h other = cc
-no_other_node b (Pattern parts) h other = cc
-no_other_node b (WidthCast width operand) h other = cc
-no_other_node b (TypeCast type operand) h other = cc
-no_other_node b (PosEdge operand) h other = cc
-no_other_node b (NegEdge operand) h other = cc
-no_other_node b (Macro name) h other = cc
-no_other_node b (MacroCall name given) h other = cc
-no_other_node b (Call name given) h other = cc
-no_other_node b (DataType n) h other = cc
+no_other_node b _ h other = cc
 
 -- Bits that aren't known.
 

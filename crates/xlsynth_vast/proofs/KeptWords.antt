@@ -17,10 +17,14 @@ use Rattle.vast_literal.specs.declared.kind.ModulePortDirection.{ModulePortDirec
 use Rattle.vast_literal.specs.declared.kind.DataKind.{DataKind}
 use Rattle.vast_literal.specs.declared.kind.AlwaysKind.{AlwaysKind}
 use Rattle.vast_literal.specs.declared.kind.CaseKind.{CaseKind}
-use Rattle.vast_core.specs.Records.{FileEntry, ModuleEntry, ArtifactRecord, DefinitionRecord, InstanceRecord, new_module}
+use Rattle.vast_core.specs.Records.{InstanceRecord, new_module}
+use Rattle.vast_core.specs.declared.node.FileItem.{FileItem}
+use Rattle.vast_core.specs.declared.node.FileItem.TheVariants.{Module as ModuleEntry}
+use Rattle.vast_core.specs.declared.node.Artifact.{Artifact}
+use Rattle.vast_core.specs.declared.node.Definition.{Definition}
 use Rattle.vast_core.specs.declared.node.Member.{Member}
 use Rattle.vast_core.specs.declared.node.Member.TheVariants.{Always as AlwaysEntry}
-use Rattle.vast_core.specs.Nests.{StatementEntry}
+use Rattle.vast_core.specs.declared.node.Statement.{Statement}
 use Rattle.vast_core.specs.declared.node.FunctionVariable.{FunctionVariable}
 use Rattle.vast_core.specs.Bench.{Bench}
 use Rattle.vast_core.specs.Growth.{with_item, next_module, with_module, with_port, with_declaration, with_member, with_assignment, with_fixed_index, with_fixed_slice, with_fixed_replication}
@@ -28,7 +32,8 @@ use Rattle.vast_core.specs.Artifacts.{with_artifact, with_definition, with_insta
 use Rattle.vast_core.specs.Parameters.{with_parameter_port, with_plain_parameter, with_int_parameter, with_defined_parameter}
 use Rattle.vast_core.specs.Hoisting.{with_hoisted}
 use Rattle.vast_core.specs.Functions.{with_variable}
-use Rattle.vast_core.specs.Containers.{StatementEnters, ElseIfEnters, ElseEnters, CaseArmEnters, MemberEnters, next_block, with_block, with_conditional, new_conditional, with_case, new_case, with_statement, with_else_if, with_else, with_case_arm, with_case_unique}
+use Rattle.vast_core.specs.Containers.{next_block, with_block, with_conditional, new_conditional, with_case, new_case, with_statement, with_else_if, with_else, with_case_arm, with_case_unique}
+use Rattle.vast_core.specs.declared.ast.growth.Entry.TheVariants.{Statement as StatementEnters, ElseIf as ElseIfEnters, Else as ElseEnters, CaseArm as CaseArmEnters, Member as MemberEnters}
 use Rattle.vast_core.specs.Internal.Containers.{InFile, InPorts, InFunction, InNest, no_fresh, fresh_assignment, fresh_block}
 use Rattle.vast_core.proofs.Containers.{fresh_container}
 use Rattle.vast_core.specs.Scopes.{with_scope_member}
@@ -55,7 +60,7 @@ fixed_replication-kept count parts b = keeps-then b _ _ (keeps-root b _) (keeps-
 
 -- Items, ports and members.
 
-pub item-kept : (entry : FileEntry) (b : Bench) → Keeps b (with_item entry b)
+pub item-kept : (entry : FileItem) (b : Bench) → Keeps b (with_item entry b)
 item-kept entry b = keeps-listing b (InFile entry)
 
 pub module-kept : (name : List ℕ) (b : Bench) → Keeps b (with_module name b)
@@ -102,10 +107,10 @@ pub loop_always-kept : (owner : GenerateLoop) (kind : AlwaysKind) (events : List
 loop_always-kept owner kind events b =
     keeps-then b _ _ (keeps-fresh b (record fresh_block { always_block = Some _ })) (keeps-listing (with_always kind events b) (InNest owner.id.index (MemberEnters (AlwaysEntry (next_always b)))))
 
-pub artifact-kept : (part : ArtifactRecord) (b : Bench) → Keeps b (with_artifact part b)
+pub artifact-kept : (part : Artifact) (b : Bench) → Keeps b (with_artifact part b)
 artifact-kept part b = keeps-fresh b (record no_fresh { artifact = Some part })
 
-pub definition-kept : (definition : DefinitionRecord) (b : Bench) → Keeps b (with_definition definition b)
+pub definition-kept : (definition : Definition) (b : Bench) → Keeps b (with_definition definition b)
 definition-kept definition b = keeps-fresh b (record no_fresh { definition = Some definition })
 
 pub instance-kept : (part : InstanceRecord) (b : Bench) → Keeps b (with_instance part b)
@@ -116,7 +121,7 @@ assignment-kept assignment b = keeps-fresh b (fresh_assignment assignment)
 
 -- Containers.
 
-pub statement-kept : (owner : VastStatementBlock) (statement : StatementEntry) (b : Bench) → Keeps b (with_statement owner statement b)
+pub statement-kept : (owner : VastStatementBlock) (statement : Statement) (b : Bench) → Keeps b (with_statement owner statement b)
 statement-kept owner statement b = keeps-listing b (InNest owner.id.index (StatementEnters statement))
 
 pub conditional-kept : (condition : Expr) (b : Bench) → Keeps b (with_conditional condition b)

@@ -4,11 +4,17 @@ use Rattle.vast_literal.specs.Tree.{BlankMember, BlankTree, BlankItem}
 use Rattle.vast_core.specs.declared.handle.ModulePort.{ModulePort}
 use Rattle.vast_core.specs.declared.handle.VastStatementBlock.{VastStatementBlock}
 use Rattle.vast_core.specs.declared.node.Assignment.{Assignment}
-use Rattle.vast_core.specs.Records.{ModuleRecord, FileEntry, ModuleEntry, IncludeEntry, FileCommentEntry, FileBlankEntry, ArtifactRecord, BlankLineRecord, CommentRecord, InlineRecord, MacroRecord, InstanceRecord}
+use Rattle.vast_core.specs.Records.{ModuleRecord, InstanceRecord}
+use Rattle.vast_core.specs.declared.node.FileItem.{FileItem}
+use Rattle.vast_core.specs.declared.node.FileItem.TheVariants.{Module as ModuleEntry, Include as IncludeEntry, Comment as FileCommentEntry, BlankLine as FileBlankEntry}
+use Rattle.vast_core.specs.declared.node.Artifact.{Artifact}
+use Rattle.vast_core.specs.declared.node.Artifact.TheVariants.{BlankLine as BlankArtifact, Comment as CommentArtifact, Inline as InlineArtifact, MacroStatement as MacroArtifact}
 use Rattle.vast_core.specs.declared.node.Member.{Member}
 use Rattle.vast_core.specs.declared.node.Member.TheVariants.{Declaration as DeclarationEntry, ContinuousAssignment as AssignmentEntry, Parameter as ParameterEntry, BlankLine as BlankEntry, Comment as CommentEntry, Inline as InlineEntry, Macro as MacroEntry, Instantiation as InstanceEntry, Function as FunctionEntry, Always as AlwaysEntry, Conditional as ConditionalEntry, Loop as LoopEntry}
 use Rattle.vast_core.specs.declared.node.ParameterForm.TheVariants.{Plain as PlainForm, Int as IntForm, Defined as DefinedForm}
-use Rattle.vast_core.specs.Nests.{StatementEntry, AssignStatement, ContinuousStatement, ConditionalStatement, CasesStatement, BlankStatement, CommentStatement, InlineStatement, NestRecord, BlockRecord, ConditionalNestRecord, CaseNestRecord, LoopNestRecord, FunctionRecord, AlwaysRecord}
+use Rattle.vast_core.specs.Nests.{NestRecord, BlockRecord, ConditionalNestRecord, CaseNestRecord, LoopNestRecord, FunctionRecord, AlwaysRecord}
+use Rattle.vast_core.specs.declared.node.Statement.{Statement}
+use Rattle.vast_core.specs.declared.node.Statement.TheVariants.{Assignment as AssignStatement, Continuous as ContinuousStatement, Conditional as ConditionalStatement, Case as CasesStatement, BlankLine as BlankStatement, Comment as CommentStatement, Inline as InlineStatement}
 use Rattle.vast_core.specs.Bench.{Bench, OwnsBlock, OwnsPort, is_continuous, is_comment, is_inline, is_macro_statement, is_block, is_conditional, is_case, is_loop}
 use Rattle.vast_core.specs.FileTree.{Family, family, families, block_in, conditional_statement, case_statement, conditional_member, loop_member, assignment_member, artifact_member, instance_member, assigned_tree, continuous_tree, function_in, always_in, member_tree, maybe_module_tree}
 use Rattle.vast_core.specs.Sound.{Each, MemberSound, StatementSound, NestSound, NestsSound, ModuleSound, EntrySound, RecordsSound}
@@ -31,26 +37,26 @@ assigned : (b : Bench) (o : Option Assignment) → IsTrue (is_continuous o) → 
 assigned b None h e = never h
 assigned b (Some a) h e = cc
 
-commented : (b : Bench) (o : Option ArtifactRecord) → IsTrue (is_comment o) → artifact_member b o ≡ BlankMember → ⊥
+commented : (b : Bench) (o : Option Artifact) → IsTrue (is_comment o) → artifact_member b o ≡ BlankMember → ⊥
 commented b None h e = never h
-commented b (Some BlankLineRecord) h e = never h
-commented b (Some (CommentRecord text)) h e = cc
-commented b (Some (InlineRecord text)) h e = never h
-commented b (Some (MacroRecord call semicolon)) h e = never h
+commented b (Some BlankArtifact) h e = never h
+commented b (Some (CommentArtifact text)) h e = cc
+commented b (Some (InlineArtifact text)) h e = never h
+commented b (Some (MacroArtifact call semicolon)) h e = never h
 
-inlined : (b : Bench) (o : Option ArtifactRecord) → IsTrue (is_inline o) → artifact_member b o ≡ BlankMember → ⊥
+inlined : (b : Bench) (o : Option Artifact) → IsTrue (is_inline o) → artifact_member b o ≡ BlankMember → ⊥
 inlined b None h e = never h
-inlined b (Some BlankLineRecord) h e = never h
-inlined b (Some (CommentRecord text)) h e = never h
-inlined b (Some (InlineRecord text)) h e = cc
-inlined b (Some (MacroRecord call semicolon)) h e = never h
+inlined b (Some BlankArtifact) h e = never h
+inlined b (Some (CommentArtifact text)) h e = never h
+inlined b (Some (InlineArtifact text)) h e = cc
+inlined b (Some (MacroArtifact call semicolon)) h e = never h
 
-called : (b : Bench) (o : Option ArtifactRecord) → IsTrue (is_macro_statement o) → artifact_member b o ≡ BlankMember → ⊥
+called : (b : Bench) (o : Option Artifact) → IsTrue (is_macro_statement o) → artifact_member b o ≡ BlankMember → ⊥
 called b None h e = never h
-called b (Some BlankLineRecord) h e = never h
-called b (Some (CommentRecord text)) h e = never h
-called b (Some (InlineRecord text)) h e = never h
-called b (Some (MacroRecord call semicolon)) h e = cc
+called b (Some BlankArtifact) h e = never h
+called b (Some (CommentArtifact text)) h e = never h
+called b (Some (InlineArtifact text)) h e = never h
+called b (Some (MacroArtifact call semicolon)) h e = cc
 
 instanced : (b : Bench) (o : Option InstanceRecord) → (o ≡ None → ⊥) → instance_member b o ≡ BlankMember → ⊥
 instanced b None h e = h refl
@@ -101,7 +107,7 @@ selected b f (Some (CaseNestRecord c)) h e = cc
 selected b f (Some (LoopNestRecord l)) h e = never h
 
 block_at : (b : Bench) (i : ℕ) (o : Option NestRecord) → NestsSound b 0 b.nests → slice_get b.nests i ≡ o → IsTrue (is_block o) →
-    (statements : List StatementEntry) × (slice_get b.nests i ≡ Some (BlockRecord statements)) × (block_in (families b i) ≡ block_in (family b (families b) (Some (BlockRecord statements))))
+    (statements : List Statement) × (slice_get b.nests i ≡ Some (BlockRecord statements)) × (block_in (families b i) ≡ block_in (family b (families b) (Some (BlockRecord statements))))
 block_at b i None s e h = absurd (never h)
 block_at b i (Some (BlockRecord statements)) s e h = (statements, e, ap block_in (family-at b i s ∙ ap (family b (families b)) e))
 block_at b i (Some (ConditionalNestRecord c)) s e h = absurd (never h)
@@ -149,7 +155,7 @@ module _ (b : Bench) (s : NestsSound b 0 b.nests) where
   member_is_there : (entry : Member) → MemberSound b entry → MemberIsThere b entry
   member_is_there entry h = (member_shows entry h, definition_is_there entry h)
 
-  statement_is_there : (i : ℕ) (entry : StatementEntry) → StatementSound b i entry → StatementIsThere b entry
+  statement_is_there : (i : ℕ) (entry : Statement) → StatementSound b i entry → StatementIsThere b entry
   statement_is_there i (AssignStatement a) h e = absurd (set b (slice_get b.assignments a.id.index) (present b.assignments a.id.index h.of_kind) e)
   statement_is_there i (ContinuousStatement a) h e = absurd (driven b (slice_get b.assignments a.id.index) (present b.assignments a.id.index h.of_kind) e)
   statement_is_there i (ConditionalStatement c) h e = absurd (chosen_between b (families b) (slice_get b.nests c.id.index) h.0.of_kind (sym (ap conditional_statement (family-at b c.id.index s)) ∙ e))
@@ -182,7 +188,7 @@ module _ (b : Bench) (s : NestsSound b 0 b.nests) where
   maybe_module None h e = h refl
   maybe_module (Some m) h e = cc
 
-  item_is_there : (entry : FileEntry) → EntrySound b entry → ItemIsThere b entry
+  item_is_there : (entry : FileItem) → EntrySound b entry → ItemIsThere b entry
   item_is_there (ModuleEntry m) h e = absurd (maybe_module (slice_get b.modules m.id.index) (present b.modules m.id.index h.of_kind) e)
   item_is_there (IncludeEntry path) h e = cc
   item_is_there (FileCommentEntry text) h e = cc

@@ -9,11 +9,14 @@ use Rattle.vast_core.specs.declared.handle.Expr.{Expr}
 use Rattle.vast_core.specs.declared.handle.VastStatementBlock.{VastStatementBlock}
 use Rattle.vast_core.specs.declared.node.Assignment.{Assignment}
 use Rattle.vast_core.specs.Nodes.{ExprRoot}
-use Rattle.vast_core.specs.Nests.{StatementEntry, AssignStatement, BlockRecord}
+use Rattle.vast_core.specs.Nests.{BlockRecord}
+use Rattle.vast_core.specs.declared.node.Statement.{Statement}
+use Rattle.vast_core.specs.declared.node.Statement.TheVariants.{Assignment as AssignStatement}
 use Rattle.vast_core.specs.Bench.{Bench, OwnsExpr, tree_of}
 use Rattle.vast_core.specs.Growth.{with_assignment}
 use Rattle.vast_core.specs.Artifacts.{next_statement}
-use Rattle.vast_core.specs.Containers.{StatementEnters, with_entry}
+use Rattle.vast_core.specs.Containers.{with_entry}
+use Rattle.vast_core.specs.declared.ast.growth.Entry.TheVariants.{Statement as StatementEnters}
 use Rattle.vast_core.specs.FileTree.{Family, statement_in, statements_in}
 use Rattle.vast_core.proofs.Laws.{next_owned, next_tree}
 use Rattle.vast_core.proofs.Lists.{All-head, All-tail, slice_get-seam}
@@ -27,11 +30,11 @@ use Rattle.xlsynth_vast.proofs.RegisterParts.{Wider, wider-wider, wider_owned, w
 
 -- Container i is a block of statements that read so, as long as the file's expressions and assignments stay.
 
-abbrev pub Reads : Bench → List StatementEntry → List StatementTree → Type 0
+abbrev pub Reads : Bench → List Statement → List StatementTree → Type 0
 Reads b statements trees = (c : Bench) → Wider b c → (f : ℕ → Family) → statements_in c f statements ≡ block_of trees
 
 pub record Stands (b : Bench) (i : ℕ) (trees : List StatementTree) : Type 0 where
-  pub statements : List StatementEntry
+  pub statements : List Statement
   pub there : slice_get b.nests i ≡ Some (BlockRecord statements)
   pub reads : Reads b statements trees
 
@@ -39,7 +42,7 @@ pub stands-kept : (i j : ℕ) (b c : Bench) (trees : List StatementTree) → Cha
 stands-kept i j b c trees k other h = record { statements = h.statements; there = k.containers i _ other h.there; reads = λ d w f. h.reads d (wider-wider b c d k.wider w) f }
 
 pub statements-append :
-    (d : Bench) (f : ℕ → Family) (ss more : List StatementEntry) (ts others : List StatementTree) → statements_in d f ss ≡ block_of ts → statements_in d f more ≡ block_of others →
+    (d : Bench) (f : ℕ → Family) (ss more : List Statement) (ts others : List StatementTree) → statements_in d f ss ≡ block_of ts → statements_in d f more ≡ block_of others →
     statements_in d f (ss ++ more) ≡ block_of (ts ++ others)
 statements-append d f [] more [] others h k = k
 statements-append d f [] more (t ∷ ts) others h k = cc
@@ -124,7 +127,7 @@ given-stands :
 given-stands block target None t b trees h k s = rw (k, append-nil trees) s
 given-stands block target (Some value) t b trees h k s =
     let a : Assignment = record { lhs = target; rhs = value; nonblocking = true } in
-    let x : StatementEntry = AssignStatement (next_statement b) in
+    let x : Statement = AssignStatement (next_statement b) in
     let c : Bench = with_given block target (Some value) b in
     let w : Wider b c = (given-changes block target (Some value) b).wider in
     let one : Reads c (x ∷ []) (AssignTree Nonblocking (tree_of b target) (tree_of b value) ∷ []) =

@@ -3,7 +3,7 @@ use Rattle.std.proofs.Common.{◌≡◌, ◌≢◌, ℕ, suc, zero, Bool, true, 
 use Rattle.std.specs.List.{list_any}
 use Rattle.std.proofs.lemmas.Bool.{eq-eqb}
 use Rattle.std.specs.Cmp.Lexicographic.{pointwise, same_text}
-use Rattle.vast_literal.specs.Tree.{ExprTree, NameTree, LiteralTree, StringTree, UnaryTree, BinaryTree, TernaryTree, IndexTree, SliceTree, PartSelectTree, ConcatTree, PatternTree, WidthCastTree, TypeCastTree, PosEdgeTree, NegEdgeTree, MacroTree, CallTree, MissingExpr, StatementTree, ConditionalTree, Else}
+use Rattle.vast_literal.specs.Tree.{ExprTree, NameTree, TernaryTree, StatementTree, ConditionalTree, Else}
 use Rattle.vast_core.specs.Nodes.{is_name}
 use Rattle.vast_core.specs.Bench.{Bench}
 use Rattle.xlsynth_vast.specs.declared.helpers.registers.RegisterDefinition.{RegisterDefinition}
@@ -23,63 +23,15 @@ not-same name other false e h = e
 
 name-self : (t : ExprTree) → IsTrue (is_name t) → is_named (name_in t) t ≡ true
 name-self (NameTree name type) h = pointwise-self name
-name-self (LiteralTree text value) h = absurd cc
-name-self (StringTree text) h = absurd cc
-name-self (UnaryTree operator operand) h = absurd cc
-name-self (BinaryTree operator left right) h = absurd cc
-name-self (TernaryTree condition consequent alternate) h = absurd cc
-name-self (IndexTree subject index) h = absurd cc
-name-self (SliceTree subject high low) h = absurd cc
-name-self (PartSelectTree subject start width) h = absurd cc
-name-self (ConcatTree count parts) h = absurd cc
-name-self (PatternTree parts) h = absurd cc
-name-self (WidthCastTree width operand) h = absurd cc
-name-self (TypeCastTree type operand) h = absurd cc
-name-self (PosEdgeTree operand) h = absurd cc
-name-self (NegEdgeTree operand) h = absurd cc
-name-self (MacroTree name list) h = absurd cc
-name-self (CallTree name parts) h = absurd cc
-name-self MissingExpr h = absurd cc
+name-self _ h = absurd cc
 
 name-other : (t : ExprTree) (name : List ℕ) → name_in t ≢ name → is_named name t ≡ false
 name-other (NameTree other type) name h = not-same name other (pointwise nat_eq name other) refl h
-name-other (LiteralTree text value) name h = refl
-name-other (StringTree text) name h = refl
-name-other (UnaryTree operator operand) name h = refl
-name-other (BinaryTree operator left right) name h = refl
-name-other (TernaryTree condition consequent alternate) name h = refl
-name-other (IndexTree subject index) name h = refl
-name-other (SliceTree subject high low) name h = refl
-name-other (PartSelectTree subject start width) name h = refl
-name-other (ConcatTree count parts) name h = refl
-name-other (PatternTree parts) name h = refl
-name-other (WidthCastTree width operand) name h = refl
-name-other (TypeCastTree type operand) name h = refl
-name-other (PosEdgeTree operand) name h = refl
-name-other (NegEdgeTree operand) name h = refl
-name-other (MacroTree other list) name h = refl
-name-other (CallTree other parts) name h = refl
-name-other MissingExpr name h = refl
+name-other _ name h = refl
 
 settle-name : (v : ExprTree → Bool) (t : ExprTree) → IsTrue (is_name t) → settle v t ≡ t
-settle-name v (NameTree name type) h = refl
-settle-name v (LiteralTree text value) h = refl
-settle-name v (StringTree text) h = refl
-settle-name v (UnaryTree operator operand) h = refl
-settle-name v (BinaryTree operator left right) h = refl
 settle-name v (TernaryTree condition consequent alternate) h = absurd cc
-settle-name v (IndexTree subject index) h = refl
-settle-name v (SliceTree subject high low) h = refl
-settle-name v (PartSelectTree subject start width) h = refl
-settle-name v (ConcatTree count parts) h = refl
-settle-name v (PatternTree parts) h = refl
-settle-name v (WidthCastTree width operand) h = refl
-settle-name v (TypeCastTree type operand) h = refl
-settle-name v (PosEdgeTree operand) h = refl
-settle-name v (NegEdgeTree operand) h = refl
-settle-name v (MacroTree name list) h = refl
-settle-name v (CallTree name parts) h = refl
-settle-name v MissingExpr h = refl
+settle-name v _ h = refl
 
 -- Lists of assignments.
 

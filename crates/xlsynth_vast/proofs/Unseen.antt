@@ -12,13 +12,22 @@ use Rattle.vast_core.specs.declared.node.Assignment.{Assignment}
 use Rattle.vast_core.specs.declared.node.ElseIf.{ElseIf}
 use Rattle.vast_core.specs.declared.node.CaseArm.{CaseArm}
 use Rattle.vast_core.specs.Nodes.{maybe_type_in, maybe_expr_in}
-use Rattle.vast_core.specs.Records.{ParameterPortRecord, ModuleRecord, FileEntry, ModuleEntry, IncludeEntry, FileCommentEntry, FileBlankEntry, DefinitionRecord, ArtifactRecord, BlankLineRecord, CommentRecord, InlineRecord, MacroRecord, ConnectionRecord, InstanceRecord}
+use Rattle.vast_core.specs.Records.{ModuleRecord, InstanceRecord}
+use Rattle.vast_core.specs.declared.node.ParameterPort.{ParameterPort}
+use Rattle.vast_core.specs.declared.node.FileItem.{FileItem}
+use Rattle.vast_core.specs.declared.node.FileItem.TheVariants.{Module as ModuleEntry, Include as IncludeEntry}
+use Rattle.vast_core.specs.declared.node.Definition.{Definition}
+use Rattle.vast_core.specs.declared.node.Artifact.{Artifact}
+use Rattle.vast_core.specs.declared.node.Artifact.TheVariants.{BlankLine as BlankArtifact, Comment as CommentArtifact, Inline as InlineArtifact, MacroStatement as MacroArtifact}
+use Rattle.vast_core.specs.declared.node.Connection.{Connection}
 use Rattle.vast_core.specs.declared.node.Port.{Port}
 use Rattle.vast_core.specs.declared.node.ParameterForm.{ParameterForm}
 use Rattle.vast_core.specs.declared.node.Member.{Member}
 use Rattle.vast_core.specs.declared.node.Member.TheVariants.{Declaration as DeclarationEntry, ContinuousAssignment as AssignmentEntry, Parameter as ParameterEntry, BlankLine as BlankEntry, Comment as CommentEntry, Inline as InlineEntry, Macro as MacroEntry, Instantiation as InstanceEntry, Function as FunctionEntry, Always as AlwaysEntry, Conditional as ConditionalEntry, Loop as LoopEntry}
 use Rattle.vast_core.specs.declared.node.ParameterForm.TheVariants.{Plain as PlainForm, Int as IntForm, Defined as DefinedForm}
-use Rattle.vast_core.specs.Nests.{StatementEntry, AssignStatement, ContinuousStatement, ConditionalStatement, CasesStatement, BlankStatement, CommentStatement, InlineStatement, NestRecord, BlockRecord, ConditionalNestRecord, CaseNestRecord, LoopNestRecord, FunctionRecord, AlwaysRecord}
+use Rattle.vast_core.specs.Nests.{NestRecord, BlockRecord, ConditionalNestRecord, CaseNestRecord, LoopNestRecord, FunctionRecord, AlwaysRecord}
+use Rattle.vast_core.specs.declared.node.Statement.{Statement}
+use Rattle.vast_core.specs.declared.node.Statement.TheVariants.{Assignment as AssignStatement, Continuous as ContinuousStatement, Conditional as ConditionalStatement, Case as CasesStatement}
 use Rattle.vast_core.specs.declared.node.FunctionVariable.{FunctionVariable}
 use Rattle.vast_core.specs.Bench.{Bench, OwnsExpr, OwnsType, is_continuous, tree_of, type_of, maybe_tree_of, trees_of}
 use Rattle.vast_core.specs.Sound.{Each, HoldsBlock, EventSound, VariableSound, ConnectionSound, PortSound, ParameterPortSound, AssignmentSound, DefinitionSound, ArtifactSound, InstanceSound, MemberSound, StatementSound, ElseIfSound, CaseArmSound, AlwaysNewer, MemberNewer, LoopMemberSound, NestSound, FunctionSound, AlwaysSound, ModuleSound, RecordsSound}
@@ -122,7 +131,7 @@ continuous-there (Some x) h e = cc
 continuous-at : (b c : Bench) → Alike b c → (i : ℕ) → IsTrue (is_continuous (slice_get b.assignments i)) → AssignmentAt b c i
 continuous-at b c a i h = assignment-at b c a i (slice_get b.assignments i) refl (continuous-there (slice_get b.assignments i) h)
 
-definition-alike : (b c : Bench) → Alike b c → (o : Option DefinitionRecord) → IfSome o (DefinitionSound b) → definition_tree c o ≡ definition_tree b o
+definition-alike : (b c : Bench) → Alike b c → (o : Option Definition) → IfSome o (DefinitionSound b) → definition_tree c o ≡ definition_tree b o
 definition-alike b c a None h = refl
 definition-alike b c a (Some d) h = rw (type-alike b c a d.data_type h) refl
 
@@ -132,17 +141,17 @@ form-alike b c a (IntForm name) = refl
 form-alike b c a (DefinedForm d) =
     rw (a.definitions, definition-alike b c a (slice_get b.definitions d.id.index) (found (DefinitionSound b) b.definitions d.id.index (slice_get b.definitions d.id.index) a.sound.definitions refl)) refl
 
-artifact-alike : (b c : Bench) → Alike b c → (o : Option ArtifactRecord) → IfSome o (ArtifactSound b) → artifact_member c o ≡ artifact_member b o
+artifact-alike : (b c : Bench) → Alike b c → (o : Option Artifact) → IfSome o (ArtifactSound b) → artifact_member c o ≡ artifact_member b o
 artifact-alike b c a None h = refl
-artifact-alike b c a (Some BlankLineRecord) h = refl
-artifact-alike b c a (Some (CommentRecord text)) h = refl
-artifact-alike b c a (Some (InlineRecord text)) h = refl
-artifact-alike b c a (Some (MacroRecord call semicolon)) h = rw (expr-alike b c a (record { id = call.id }) (macro_ref_is_expr b call h)) refl
+artifact-alike b c a (Some BlankArtifact) h = refl
+artifact-alike b c a (Some (CommentArtifact text)) h = refl
+artifact-alike b c a (Some (InlineArtifact text)) h = refl
+artifact-alike b c a (Some (MacroArtifact call semicolon)) h = rw (expr-alike b c a (record { id = call.id }) (macro_ref_is_expr b call h)) refl
 
 artifact-at : (b c : Bench) → Alike b c → (i : ℕ) → artifact_member c (slice_get c.artifacts i) ≡ artifact_member b (slice_get b.artifacts i)
 artifact-at b c a i = rw a.artifacts (artifact-alike b c a (slice_get b.artifacts i) (found (ArtifactSound b) b.artifacts i (slice_get b.artifacts i) a.sound.artifacts refl))
 
-connections-alike : (b c : Bench) → Alike b c → (xs : List ConnectionRecord) → Each (ConnectionSound b) xs → map (connection_tree c) xs ≡ map (connection_tree b) xs
+connections-alike : (b c : Bench) → Alike b c → (xs : List Connection) → Each (ConnectionSound b) xs → map (connection_tree c) xs ≡ map (connection_tree b) xs
 connections-alike b c a [] h = refl
 connections-alike b c a (x ∷ xs) h = rw (maybe-expr b c a x.value h.0, connections-alike b c a xs h.1) refl
 
@@ -162,16 +171,14 @@ variables-alike b c a (x ∷ xs) h = rw (type-alike b c a x.data_type h.0, varia
 pub record Meet (b : Bench) (from : ℕ) (f g : ℕ → Family) : Type 0 where
   pub at : (j : ℕ) → from ≤ j → j < length b.nests → f j ≡ g j
 
-statement-alike : (b c : Bench) → Alike b c → (f g : ℕ → Family) (i : ℕ) → Meet b (suc i) f g → (s : StatementEntry) → StatementSound b i s → statement_in c f s ≡ statement_in b g s
+statement-alike : (b c : Bench) → Alike b c → (f g : ℕ → Family) (i : ℕ) → Meet b (suc i) f g → (s : Statement) → StatementSound b i s → statement_in c f s ≡ statement_in b g s
 statement-alike b c a f g i q (AssignStatement s) h = let x = statement-at b c a s.id.index h.of_kind in rw (x.here, x.there, x.left, x.right) refl
 statement-alike b c a f g i q (ContinuousStatement s) h = let x = statement-at b c a s.id.index h.of_kind in rw (x.here, x.there, x.left, x.right) refl
 statement-alike b c a f g i q (ConditionalStatement x) h = ap conditional_statement (q.at x.id.index h.1 (conditional-place b x h.0))
 statement-alike b c a f g i q (CasesStatement x) h = ap case_statement (q.at x.id.index h.1 (case-place b x h.0))
-statement-alike b c a f g i q BlankStatement h = refl
-statement-alike b c a f g i q (CommentStatement text) h = refl
-statement-alike b c a f g i q (InlineStatement text) h = refl
+statement-alike b c a f g i q _ h = refl
 
-statements-alike : (b c : Bench) → Alike b c → (f g : ℕ → Family) (i : ℕ) → Meet b (suc i) f g → (ss : List StatementEntry) → Each (StatementSound b i) ss → statements_in c f ss ≡ statements_in b g ss
+statements-alike : (b c : Bench) → Alike b c → (f g : ℕ → Family) (i : ℕ) → Meet b (suc i) f g → (ss : List Statement) → Each (StatementSound b i) ss → statements_in c f ss ≡ statements_in b g ss
 statements-alike b c a f g i q [] h = refl
 statements-alike b c a f g i q (s ∷ ss) h =
     ap (λ x. MoreStatements x (statements_in c f ss)) (statement-alike b c a f g i q s h.0)
@@ -208,14 +215,7 @@ From b from (FunctionEntry x) = IfSome (slice_get b.functions x.id.index) (λ (r
 From b from (AlwaysEntry x) = IfSome (slice_get b.always_blocks x.id.index) (λ (r : AlwaysRecord). from ≤ r.block.id.index)
 From b from (ConditionalEntry x) = from ≤ x.id.index
 From b from (LoopEntry x) = from ≤ x.id.index
-From b from (DeclarationEntry kind name t) = Unit {0}
-From b from (AssignmentEntry x) = Unit {0}
-From b from (ParameterEntry local form value) = Unit {0}
-From b from BlankEntry = Unit {0}
-From b from (CommentEntry x) = Unit {0}
-From b from (InlineEntry x) = Unit {0}
-From b from (MacroEntry x) = Unit {0}
-From b from (InstanceEntry x) = Unit {0}
+From b from _ = Unit {0}
 
 function-alike :
     (b c : Bench) → Alike b c → (f g : ℕ → Family) (from : ℕ) → Meet b from f g → (o : Option FunctionRecord) → IfSome o (FunctionSound b) → IfSome o (λ (r : FunctionRecord). from ≤ r.body.id.index) →
@@ -254,18 +254,11 @@ newer-from i None h = tt
 newer-from i (Some x) h = h
 
 from-newer : (b : Bench) (i : ℕ) (m : Member) → MemberNewer b i m → From b (suc i) m
-from-newer b i (DeclarationEntry kind name t) h = tt
-from-newer b i (AssignmentEntry x) h = tt
-from-newer b i (ParameterEntry local form value) h = tt
-from-newer b i BlankEntry h = tt
-from-newer b i (CommentEntry x) h = tt
-from-newer b i (InlineEntry x) h = tt
-from-newer b i (MacroEntry x) h = tt
-from-newer b i (InstanceEntry x) h = tt
 from-newer b i (FunctionEntry x) h = absurd h
 from-newer b i (AlwaysEntry x) h = newer-from i (slice_get b.always_blocks x.id.index) h
 from-newer b i (ConditionalEntry x) h = h
 from-newer b i (LoopEntry x) h = h
+from-newer b i _ h = tt
 
 function-zero : (o : Option FunctionRecord) → IfSome o (λ (r : FunctionRecord). 0 ≤ r.body.id.index)
 function-zero None = tt
@@ -276,18 +269,11 @@ always-zero None = tt
 always-zero (Some x) = zero-le
 
 from-zero : (b : Bench) (m : Member) → From b 0 m
-from-zero b (DeclarationEntry kind name t) = tt
-from-zero b (AssignmentEntry x) = tt
-from-zero b (ParameterEntry local form value) = tt
-from-zero b BlankEntry = tt
-from-zero b (CommentEntry x) = tt
-from-zero b (InlineEntry x) = tt
-from-zero b (MacroEntry x) = tt
-from-zero b (InstanceEntry x) = tt
 from-zero b (FunctionEntry x) = function-zero (slice_get b.functions x.id.index)
 from-zero b (AlwaysEntry x) = always-zero (slice_get b.always_blocks x.id.index)
 from-zero b (ConditionalEntry x) = zero-le
 from-zero b (LoopEntry x) = zero-le
+from-zero b _ = tt
 
 loop-members-alike : (b c : Bench) → Alike b c → (f g : ℕ → Family) (i : ℕ) → Meet b (suc i) f g → (ms : List Member) → Each (LoopMemberSound b i) ms → members_in c f ms ≡ members_in b g ms
 loop-members-alike b c a f g i q [] h = refl
@@ -336,7 +322,7 @@ ports-alike b c a (p ∷ ps) =
     let o = slice_get b.ports p.id.index in
     rw (a.ports, port-alike b c a o (found (PortSound b) b.ports p.id.index o a.sound.ports refl), ports-alike b c a ps) refl
 
-parameters-alike : (b c : Bench) → Alike b c → (ps : List ParameterPortRecord) → Each (ParameterPortSound b) ps → map (parameter_port_tree c) ps ≡ map (parameter_port_tree b) ps
+parameters-alike : (b c : Bench) → Alike b c → (ps : List ParameterPort) → Each (ParameterPortSound b) ps → map (parameter_port_tree c) ps ≡ map (parameter_port_tree b) ps
 parameters-alike b c a [] h = refl
 parameters-alike b c a (p ∷ ps) h = rw (maybe-type b c a p.data_type h.0.0, expr-alike b c a p.value h.0.1, parameters-alike b c a ps h.1) refl
 
@@ -349,15 +335,14 @@ module-alike b c a (Some m) h =
       members-alike b c a (families c) (families b) (record { at = λ j from below. families-alike b c a j below }) m.members h.members,
     ) refl
 
-item-alike : (b c : Bench) → Alike b c → (e : FileEntry) → item_tree c e ≡ item_tree b e
+item-alike : (b c : Bench) → Alike b c → (e : FileItem) → item_tree c e ≡ item_tree b e
 item-alike b c a (ModuleEntry m) =
     let o = slice_get b.modules m.id.index in
     ap (λ ms. maybe_module_tree c (slice_get ms m.id.index)) a.modules ∙ module-alike b c a o (found (ModuleSound b) b.modules m.id.index o a.sound.modules refl)
 item-alike b c a (IncludeEntry path) = refl
-item-alike b c a (FileCommentEntry text) = refl
-item-alike b c a FileBlankEntry = refl
+item-alike b c a _ = refl
 
-items-alike : (b c : Bench) → Alike b c → (es : List FileEntry) → map (item_tree c) es ≡ map (item_tree b) es
+items-alike : (b c : Bench) → Alike b c → (es : List FileItem) → map (item_tree c) es ≡ map (item_tree b) es
 items-alike b c a [] = refl
 items-alike b c a (e ∷ es) = rw (item-alike b c a e, items-alike b c a es) refl
 

@@ -2,7 +2,7 @@
 use Rattle.std.proofs.Common.{◌≡◌, ℕ, List, IsTrue, Option, Some, None, Result, Ok, Err, IfOk, MatchResult, String, string_bytes, ◌++◌, true≢false, append_assoc, subst, refl, ap, ◌∙◌, sym, codes}
 use Rattle.std.specs.declared.alloc.AllocError.{AllocError}
 use Rattle.std.specs.declared.alloc.Global.{Global}
-use Rattle.vast_literal.specs.Tree.{ExprTree, TypeTree, ScalarTree, VectorTree, IntegerTree, IntTree, ExternalTree, PackageTree, PackedTree, UnpackedTree, MissingType, SomeExpr, NoExpr}
+use Rattle.vast_literal.specs.Tree.{ExprTree, TypeTree, VectorTree, ExternalTree, PackageTree, SomeExpr, NoExpr}
 use Rattle.vast_literal.specs.declared.error.VastFault.{VastFault}
 use Rattle.vast_literal.specs.declared.error.VastFault.TheVariants.{Refused, Memory}
 use Rattle.vast_literal.specs.Fault.{HasText, OnlyRefusedBy}
@@ -59,26 +59,12 @@ refused_by rule words (Memory e) is has = rw is refl
 symbolic : (t : TypeTree) (e : ExprTree) → vector_width t ≡ SomeExpr e → (undeclared t ≡ no_literal (expr_text e)) × (uncounted t ≡ no_literal (expr_text e))
 unfolding undeclared uncounted
 symbolic (VectorTree width value signed) e h = let same : width ≡ e = cc in rw same (refl, refl)
-symbolic (ScalarTree signed) e h = absurd cc
-symbolic (IntegerTree signed) e h = absurd cc
-symbolic (IntTree signed) e h = absurd cc
-symbolic (ExternalTree name) e h = absurd cc
-symbolic (PackageTree package_name name) e h = absurd cc
-symbolic (PackedTree element dimensions) e h = absurd cc
-symbolic (UnpackedTree element dimensions) e h = absurd cc
-symbolic MissingType e h = absurd cc
+symbolic _ e h = absurd cc
 
 without_width : (t : TypeTree) → vector_width t ≡ NoExpr → undeclared t ≡ codes "data type does not have a declared bit-vector width"
 unfolding undeclared
 without_width (VectorTree width value signed) h = absurd cc
-without_width (ScalarTree signed) h = refl
-without_width (IntegerTree signed) h = refl
-without_width (IntTree signed) h = refl
-without_width (ExternalTree name) h = refl
-without_width (PackageTree package_name name) h = refl
-without_width (PackedTree element dimensions) h = refl
-without_width (UnpackedTree element dimensions) h = refl
-without_width MissingType h = refl
+without_width _ h = refl
 
 pub symbolic_width : (t : TypeTree) (e : ExprTree) → vector_width (base_of t) ≡ SomeExpr e → declared_bits (base_of t) ≡ None → declared_width t ≡ Err (no_literal (expr_text e))
 symbolic_width t e h none = rw none (ap Err (symbolic (base_of t) e h).0)
@@ -93,13 +79,7 @@ symbolic_count t e h none = rw none (ap Err (symbolic (base_of t) e h).1)
 pub unknown-external : (t : TypeTree) → IsTrue (is_external t) → base_bits t ≡ None
 unknown-external (ExternalTree name) h = refl
 unknown-external (PackageTree package_name name) h = refl
-unknown-external (ScalarTree signed) h = absurd (true≢false (sym h))
-unknown-external (VectorTree width value signed) h = absurd (true≢false (sym h))
-unknown-external (IntegerTree signed) h = absurd (true≢false (sym h))
-unknown-external (IntTree signed) h = absurd (true≢false (sym h))
-unknown-external (PackedTree element dimensions) h = absurd (true≢false (sym h))
-unknown-external (UnpackedTree element dimensions) h = absurd (true≢false (sym h))
-unknown-external MissingType h = absurd (true≢false (sym h))
+unknown-external _ h = absurd (true≢false (sym h))
 
 pub external_count : (t u : TypeTree) → u ≡ base_of t → IsTrue (is_external (base_of t)) → flat_bits t ≡ Err (uncounted u)
 unfolding bit_count

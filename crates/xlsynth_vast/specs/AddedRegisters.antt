@@ -9,7 +9,7 @@ use Rattle.vast_core.specs.declared.handle.VastStatementBlock.{VastStatementBloc
 use Rattle.vast_literal.specs.declared.kind.AlwaysKind.TheVariants.{AlwaysFF}
 use Rattle.vast_core.specs.declared.node.Member.{Member}
 use Rattle.vast_core.specs.declared.node.Member.TheVariants.{Always as AlwaysEntry}
-use Rattle.vast_core.specs.Nests.{AssignStatement, ConditionalStatement}
+use Rattle.vast_core.specs.declared.node.Statement.TheVariants.{Assignment as AssignStatement, Conditional as ConditionalStatement}
 use Rattle.vast_core.specs.Bench.{Bench, tree_of}
 use Rattle.vast_core.specs.Growth.{next_id, next_expr, with_assignment, with_member}
 use Rattle.vast_core.specs.Artifacts.{next_statement}

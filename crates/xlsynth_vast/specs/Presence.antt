@@ -5,35 +5,40 @@ use Rattle.vast_core.specs.declared.handle.ModulePort.{ModulePort}
 use Rattle.vast_core.specs.declared.handle.VastStatementBlock.{VastStatementBlock}
 use Rattle.vast_core.specs.declared.node.ElseIf.{ElseIf}
 use Rattle.vast_core.specs.declared.node.CaseArm.{CaseArm}
-use Rattle.vast_core.specs.Records.{DefinitionRecord, ModuleRecord, FileEntry, FileBlankEntry}
+use Rattle.vast_core.specs.Records.{ModuleRecord}
+use Rattle.vast_core.specs.declared.node.Definition.{Definition}
+use Rattle.vast_core.specs.declared.node.FileItem.{FileItem}
+use Rattle.vast_core.specs.declared.node.FileItem.TheVariants.{BlankLine as FileBlankEntry}
 use Rattle.vast_core.specs.declared.node.Port.{Port}
 use Rattle.vast_core.specs.declared.node.Member.{Member}
 use Rattle.vast_core.specs.declared.node.Member.TheVariants.{Parameter as ParameterEntry, BlankLine as BlankEntry}
 use Rattle.vast_core.specs.declared.node.ParameterForm.TheVariants.{Defined as DefinedForm}
-use Rattle.vast_core.specs.Nests.{StatementEntry, BlankStatement, ConditionalRecord, NestRecord, BlockRecord, ConditionalNestRecord, CaseNestRecord, LoopNestRecord, FunctionRecord, AlwaysRecord}
+use Rattle.vast_core.specs.Nests.{ConditionalRecord, NestRecord, BlockRecord, ConditionalNestRecord, CaseNestRecord, LoopNestRecord, FunctionRecord, AlwaysRecord}
+use Rattle.vast_core.specs.declared.node.Statement.{Statement}
+use Rattle.vast_core.specs.declared.node.Statement.TheVariants.{BlankLine as BlankStatement}
 use Rattle.vast_core.specs.Bench.{Bench}
 use Rattle.vast_core.specs.FileTree.{families, statement_in, statements_tree, block_tree, member_tree, item_tree}
 use Rattle.vast_core.specs.Sound.{Each}
 
 -- Only a blank line is a blank line in the tree.
 
-abbrev pub ItemIsThere : Bench → FileEntry → Type 0
+abbrev pub ItemIsThere : Bench → FileItem → Type 0
 ItemIsThere b entry = item_tree b entry ≡ BlankItem → entry ≡ FileBlankEntry
 
 -- A parameter that is made by a definition has one of the file's.
 abbrev pub DefinitionIsThere : Bench → Member → Type 0
-DefinitionIsThere b (ParameterEntry local (DefinedForm d) value) = (found : DefinitionRecord) × (slice_get b.definitions d.id.index ≡ Some found)
+DefinitionIsThere b (ParameterEntry local (DefinedForm d) value) = (found : Definition) × (slice_get b.definitions d.id.index ≡ Some found)
 DefinitionIsThere b _ = ⊤
 
 abbrev pub MemberIsThere : Bench → Member → Type 0
 MemberIsThere b entry = (member_tree b entry ≡ BlankMember → entry ≡ BlankEntry) × DefinitionIsThere b entry
 
-abbrev pub StatementIsThere : Bench → StatementEntry → Type 0
+abbrev pub StatementIsThere : Bench → Statement → Type 0
 StatementIsThere b entry = statement_in b (families b) entry ≡ BlankTree → entry ≡ BlankStatement
 
 -- A block has the statements that the file has for it.
 abbrev pub BlockIsThere : Bench → VastStatementBlock → Type 0
-BlockIsThere b block = (statements : List StatementEntry) × (slice_get b.nests block.id.index ≡ Some (BlockRecord statements)) × (block_tree b block ≡ statements_tree b statements)
+BlockIsThere b block = (statements : List Statement) × (slice_get b.nests block.id.index ≡ Some (BlockRecord statements)) × (block_tree b block ≡ statements_tree b statements)
 
 abbrev pub PortIsThere : Bench → ModulePort → Type 0
 PortIsThere b port = (found : Port) × (slice_get b.ports port.id.index ≡ Some found)

@@ -2,7 +2,7 @@
 use Rattle.std.specs.Prelude.{◌≡◌, ℕ, Bool, true, false, IsTrue, not, nat_eq, List, [], ◌∷◌, ◌++◌, map, Option, Some, None, option_map, slice_get, Result, Ok, Err, codes, if◌then◌else◌, IfSome}
 use Rattle.std.specs.List.{flat_map, list_any}
 use Rattle.std.specs.Cmp.Lexicographic.{pointwise}
-use Rattle.vast_literal.specs.Tree.{ExprTree, NameTree, UnaryTree, TernaryTree, PosEdgeTree, MoreExprs, NoExprs, StatementTree, AssignTree, CommentTree, BlankTree, InlineTree, ConditionalTree, CaseTree, Statements, NoStatements, MoreStatements, Alternates, NoElse, ElseIf, Else, MemberTree, AlwaysMember}
+use Rattle.vast_literal.specs.Tree.{ExprTree, NameTree, UnaryTree, TernaryTree, PosEdgeTree, MoreExprs, NoExprs, StatementTree, AssignTree, ConditionalTree, Statements, NoStatements, MoreStatements, Alternates, NoElse, ElseIf, Else, MemberTree, AlwaysMember}
 use Rattle.vast_literal.specs.declared.operator.UnaryOperator.TheVariants.{LogicalNot as LogicalNotOp}
 use Rattle.vast_literal.specs.declared.kind.AssignmentForm.TheVariants.{Nonblocking}
 use Rattle.vast_literal.specs.declared.kind.AlwaysKind.TheVariants.{AlwaysFF as AlwaysFFWord}
@@ -132,10 +132,7 @@ abbrev mutual
   pub assigned_by : (ExprTree → Bool) → (name : List ℕ) → StatementTree → (before : Option ExprTree) → Option ExprTree
   assigned_by v name (AssignTree form left right) before = if is_named name left then Some (settle v right) else before
   assigned_by v name (ConditionalTree condition consequent alternates) before = if holds v condition then assigned_in v name consequent before else assigned_else v name alternates before
-  assigned_by v name (CaseTree unique word selector arms) before = before
-  assigned_by v name (CommentTree text) before = before
-  assigned_by v name BlankTree before = before
-  assigned_by v name (InlineTree text) before = before
+  assigned_by v name _ before = before
 
   pub assigned_else : (ExprTree → Bool) → (name : List ℕ) → Alternates → (before : Option ExprTree) → Option ExprTree
   assigned_else v name NoElse before = before

@@ -3,7 +3,7 @@
 
 ghost use Rattle.std.specs.Prelude.{true, false};
 ghost use Rattle.vast_core.specs.Bench.{OwnsExpr, OwnsType, OwnsMacroRef};
-ghost use Rattle.vast_core.specs.Records.{BlankLineRecord, CommentRecord, InlineRecord, MacroRecord};
+ghost use Rattle.vast_core.specs.declared.node.Artifact.TheVariants.{BlankLine as BlankArtifact, Comment as CommentArtifact, Inline as InlineArtifact, MacroStatement as MacroArtifact};
 ghost use Rattle.vast_core.specs.Growth.{Builds, next_continuous, with_assignment};
 ghost use Rattle.vast_core.specs.Artifacts.{next_def, with_definition, next_blank_line, next_comment, next_inline, next_macro_statement, with_artifact, next_statement};
 ghost use Rattle.xlsynth_vast.specs.Keeps.{Keeps};
@@ -40,7 +40,7 @@ impl VastFile {
     /// `AllocError` where a growth was refused; the file is unchanged.
     pub fn make_blank_line(&mut self) -> Result<BlankLine, AllocError>
         ensures built { Builds self.old self.new result next_blank_line
-            (with_artifact BlankLineRecord) }
+            (with_artifact BlankArtifact) }
         ensures kept { Keeps self.old self.new }
     {
         self.ast.push_blank_line()
@@ -52,7 +52,7 @@ impl VastFile {
     /// `AllocError` where a growth was refused; the file is unchanged.
     pub fn make_comment(&mut self, text: &str) -> Result<Comment, AllocError>
         ensures built { Builds self.old self.new result next_comment
-            (with_artifact (CommentRecord text.now)) }
+            (with_artifact (CommentArtifact text.now)) }
         ensures kept { Keeps self.old self.new }
     {
         self.ast.push_comment(text)
@@ -67,7 +67,7 @@ impl VastFile {
         text: &str,
     ) -> Result<InlineVerilogStatement, AllocError>
         ensures built { Builds self.old self.new result next_inline
-            (with_artifact (InlineRecord text.now)) }
+            (with_artifact (InlineArtifact text.now)) }
         ensures kept { Keeps self.old self.new }
     {
         self.ast.push_inline(text)
@@ -84,7 +84,7 @@ impl VastFile {
     ) -> Result<MacroStatement, AllocError>
         requires { OwnsMacroRef self.old macro_ref.now }
         ensures built { Builds self.old self.new result next_macro_statement
-            (with_artifact (MacroRecord macro_ref.now semicolon)) }
+            (with_artifact (MacroArtifact macro_ref.now semicolon)) }
         ensures kept { Keeps self.old self.new }
     {
         self.ast.push_macro_statement(*macro_ref, semicolon)

@@ -3,7 +3,7 @@
 
 ghost use Rattle.std.specs.Prelude.{true, false};
 ghost use Rattle.vast_core.specs.Bench.{OwnsBlock, OwnsExpr};
-ghost use Rattle.vast_core.specs.Nests.{AssignStatement, ContinuousStatement, BlankStatement, CommentStatement, InlineStatement};
+ghost use Rattle.vast_core.specs.declared.node.Statement.TheVariants.{Assignment as AssignStatement, Continuous as ContinuousStatement, BlankLine as BlankStatement, Comment as CommentStatement, Inline as InlineStatement};
 ghost use Rattle.vast_core.specs.Growth.{Builds, Leaves, with_assignment};
 ghost use Rattle.vast_core.specs.Artifacts.{next_statement};
 ghost use Rattle.vast_core.specs.Containers.{with_statement};
@@ -12,6 +12,7 @@ ghost use Rattle.xlsynth_vast.specs.Keeps.{Keeps};
 use crate::file::VastFile;
 use std::alloc::AllocError;
 use vast_core::{AssignmentForm, Expr, Spot, Statement, VastStatement, VastStatementBlock};
+use vast_names::Text;
 
 impl VastFile {
     /// The assignment `lhs = rhs`, as the block's last statement.
@@ -99,7 +100,7 @@ impl VastFile {
             (with_statement block (CommentStatement text.now)) }
         ensures kept { Keeps self.old self.new }
     {
-        let text = String::from_str(self.ast.allocator(), text)?;
+        let text = Text::new(self.ast.allocator(), text)?;
         self.ast.append_statement(block, Statement::Comment(text))
     }
 
@@ -117,7 +118,7 @@ impl VastFile {
             (with_statement block (InlineStatement text.now)) }
         ensures kept { Keeps self.old self.new }
     {
-        let text = String::from_str(self.ast.allocator(), text)?;
+        let text = Text::new(self.ast.allocator(), text)?;
         self.ast.append_statement(block, Statement::Inline(text))
     }
 

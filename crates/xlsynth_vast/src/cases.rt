@@ -2,7 +2,7 @@
 
 ghost use Rattle.std.specs.Prelude.{None, Some};
 ghost use Rattle.vast_core.specs.Bench.{OwnsBlock, OwnsExpr, OwnsCase};
-ghost use Rattle.vast_core.specs.Nests.{CasesStatement};
+ghost use Rattle.vast_core.specs.declared.node.Statement.TheVariants.{Case as CasesStatement};
 ghost use Rattle.vast_core.specs.Growth.{Builds};
 ghost use Rattle.vast_core.specs.Containers.{next_block, next_case, with_case, with_statement, with_case_arm, with_case_unique};
 ghost use Rattle.xlsynth_vast.specs.Keeps.{Keeps};

@@ -3,7 +3,7 @@
 ghost use Rattle.std.specs.Prelude.{◌≡◌, false, Some, slice_get};
 ghost use Rattle.vast_core.specs.Bench.{OwnsModule, OwnsBlock, OwnsExpr, OwnsConditional};
 ghost use Rattle.vast_core.specs.declared.node.Member.TheVariants.{Conditional as ConditionalEntry};
-ghost use Rattle.vast_core.specs.Nests.{ConditionalStatement};
+ghost use Rattle.vast_core.specs.declared.node.Statement.TheVariants.{Conditional as ConditionalStatement};
 ghost use Rattle.vast_core.specs.Growth.{Builds, with_member};
 ghost use Rattle.vast_core.specs.Containers.{next_block, next_conditional, with_conditional, with_statement, with_else_if, with_else, has_else};
 ghost use Rattle.xlsynth_vast.specs.Keeps.{Keeps};

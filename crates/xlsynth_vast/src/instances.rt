@@ -2,7 +2,6 @@
 
 ghost use Rattle.std.specs.Prelude.{◌≡◌, All, Some, IfOk, IfSome, length, map, option_copied};
 ghost use Rattle.vast_core.specs.Bench.{OwnsExpr};
-ghost use Rattle.vast_core.specs.Records.{connection_record};
 ghost use Rattle.vast_core.specs.Growth.{Builds};
 ghost use Rattle.vast_core.specs.Artifacts.{next_instantiation, with_instance};
 ghost use Rattle.xlsynth_vast.specs.Keeps.{Keeps};
@@ -11,13 +10,14 @@ ghost use Rattle.xlsynth_vast.specs.Instances.{connected};
 use crate::file::VastFile;
 use std::alloc::{AllocError, Global};
 use vast_core::{Connection, Expr, Instantiation};
+use vast_names::Text;
 
 /// An expression that is given to a parameter or a port by its name; an open port has none.
 fn connection(alloc: Global, name: &str, value: Option<Expr>) -> Result<Connection, AllocError>
     ensures { IfOk result
-        (λ made. connection_record made ≡ record { name = name.now; value = value }) }
+        (λ made. made ≡ record { name = name.now; value = value }) }
 {
-    let name = String::from_str(alloc, name)?;
+    let name = Text::new(alloc, name)?;
     Ok(Connection { name, value })
 }
 
@@ -29,7 +29,7 @@ fn parameters(
 ) -> Result<Vec<Connection>, AllocError>
     requires { length names.now ≡ length values.now }
     ensures { IfOk result
-        (λ made. map connection_record made.items
+        (λ made. made.items
         ≡ connected (map (λ n. n.now) names.now) (map (λ e. Some e.now) values.now)) }
 {
     let mut made = Vec::new(alloc);
@@ -47,7 +47,7 @@ fn connections(
 ) -> Result<Vec<Connection>, AllocError>
     requires { length names.now ≡ length values.now }
     ensures { IfOk result
-        (λ made. map connection_record made.items
+        (λ made. made.items
         ≡ connected (map (λ n. n.now) names.now) (map option_copied values.now)) }
 {
     let mut made = Vec::new(alloc);

@@ -2,7 +2,7 @@
 //! crate `xlsynth-vast`.
 
 ghost use Rattle.vast_core.specs.Bench.{OwnsBlankLine};
-ghost use Rattle.vast_core.specs.Records.{IncludeEntry, FileCommentEntry, FileBlankEntry};
+ghost use Rattle.vast_core.specs.declared.node.FileItem.TheVariants.{Include as IncludeEntry, Comment as FileCommentEntry, BlankLine as FileBlankEntry};
 ghost use Rattle.vast_core.specs.Growth.{Leaves, with_item};
 ghost use Rattle.xlsynth_vast.specs.Keeps.{Keeps};
 

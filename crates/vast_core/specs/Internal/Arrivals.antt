@@ -1,8 +1,6 @@
 -- What the code hands over where the arenas grow, as contracts speak of it.
 use Rattle.std.specs.Prelude.{ℕ, ◌<◌, true, false, Option, Some, None, List, [], ◌∷◌}
 use Rattle.std.specs.Borrow.{Bor}
-use Rattle.vast_core.specs.declared.ast.growth.Entry.{Entry}
-use Rattle.vast_core.specs.declared.ast.growth.Entry.TheVariants.{Statement as StatementOf, ElseIf as ElseIfOf, Else as ElseOf, CaseArm as CaseArmOf, Member as MemberOf}
 use Rattle.vast_core.specs.declared.ast.growth.Place.{Place}
 use Rattle.vast_core.specs.declared.ast.growth.Place.TheVariants.{Nowhere as NowhereOf, File as FileOf, Header as HeaderOf, Ports as PortsOf, Module as ModuleOf, Function as FunctionOf, Nest as NestOf, Spare as SpareOf}
 use Rattle.vast_core.specs.declared.node.ExprNode.{ExprNode}
@@ -11,17 +9,9 @@ use Rattle.vast_core.specs.declared.ast.arrivals.Terms.TheVariants.{Nothing as N
 use Rattle.vast_core.specs.declared.ast.arrivals.Node.{Node}
 use Rattle.vast_core.specs.declared.ast.arrivals.Node.TheVariants.{Nothing as NoNode, Assignment as AssignmentOf, Container as ContainerOf, Port as PortOf, Module as ModuleNode, Function as FunctionNode, Definition as DefinitionOf, Artifact as ArtifactOf, Instance as InstanceOf, Always as AlwaysOf, AlwaysOverSpare as OverSpareOf}
 use Rattle.vast_core.specs.declared.ast.arrivals.Arrivals.{Arrivals}
-use Rattle.vast_core.specs.Records.{file_entry, parameter_port_record, module_record, definition_record, artifact_record, instance_record}
-use Rattle.vast_core.specs.Nests.{statement_entry, nest_record, function_record, always_record}
-use Rattle.vast_core.specs.Containers.{NestedEntry, StatementEnters, ElseIfEnters, ElseEnters, CaseArmEnters, MemberEnters}
+use Rattle.vast_core.specs.Records.{module_record, instance_record}
+use Rattle.vast_core.specs.Nests.{nest_record, function_record, always_record}
 use Rattle.vast_core.specs.Internal.Containers.{Listing, Nowhere, InFile, InHeader, InPorts, InModule, InFunction, InNest, AsSpare, Fresh, no_fresh, fresh_assignment}
-
-abbrev pub entry_of : Entry → NestedEntry
-entry_of (StatementOf s) = StatementEnters (statement_entry s)
-entry_of (ElseIfOf a) = ElseIfEnters a
-entry_of (ElseOf b) = ElseEnters b
-entry_of (CaseArmOf a) = CaseArmEnters a
-entry_of (MemberOf m) = MemberEnters m
 
 abbrev pub name_of : Option (Bor (List ℕ)) → Option (List ℕ)
 name_of None = None
@@ -29,12 +19,12 @@ name_of (Some name) = Some name.now
 
 abbrev pub listing_of : Place → Listing
 listing_of NowhereOf = Nowhere
-listing_of (FileOf item) = InFile (file_entry item)
-listing_of (HeaderOf owner p) = InHeader owner (parameter_port_record p)
+listing_of (FileOf item) = InFile item
+listing_of (HeaderOf owner p) = InHeader owner p
 listing_of (PortsOf owner port name) = InPorts owner port name.now
 listing_of (ModuleOf owner member name) = InModule owner member (name_of name)
 listing_of (FunctionOf owner local v) = InFunction owner local v
-listing_of (NestOf place entry) = InNest place (entry_of entry)
+listing_of (NestOf place entry) = InNest place entry
 listing_of (SpareOf block) = AsSpare block
 
 -- The expressions and types that come.
@@ -52,8 +42,8 @@ fresh_node (ContainerOf n) = record no_fresh { container = Some (nest_record n) 
 fresh_node (PortOf p) = record no_fresh { port = Some p }
 fresh_node (ModuleNode m) = record no_fresh { fresh_module = Some (module_record m) }
 fresh_node (FunctionNode f) = record no_fresh { function = Some (function_record f) }
-fresh_node (DefinitionOf d) = record no_fresh { definition = Some (definition_record d) }
-fresh_node (ArtifactOf a) = record no_fresh { artifact = Some (artifact_record a) }
+fresh_node (DefinitionOf d) = record no_fresh { definition = Some d }
+fresh_node (ArtifactOf a) = record no_fresh { artifact = Some a }
 fresh_node (InstanceOf i) = record no_fresh { instance = Some (instance_record i) }
 fresh_node (AlwaysOf a) = record no_fresh { always_block = Some (always_record a) }
 fresh_node (OverSpareOf a) = record no_fresh { always_block = Some (always_record a); takes_spare = true }

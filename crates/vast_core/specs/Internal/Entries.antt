@@ -1,13 +1,11 @@
 -- Statements that are the file's.
-use Rattle.vast_core.specs.Nests.{StatementEntry, AssignStatement, ContinuousStatement, ConditionalStatement, CasesStatement, BlankStatement, CommentStatement, InlineStatement}
+use Rattle.vast_core.specs.Nests.{Statement, AssignStatement, ContinuousStatement, ConditionalStatement, CasesStatement}
 use Rattle.vast_core.specs.Bench.{Bench, OwnsStatement, OwnsConditional, OwnsCase}
 
 -- What a statement names is the file's.
-abbrev pub OwnsEntry : Bench → StatementEntry → Type 0
+abbrev pub OwnsEntry : Bench → Statement → Type 0
 OwnsEntry b (AssignStatement s) = OwnsStatement b s
 OwnsEntry b (ContinuousStatement s) = OwnsStatement b s
 OwnsEntry b (ConditionalStatement c) = OwnsConditional b c
 OwnsEntry b (CasesStatement c) = OwnsCase b c
-OwnsEntry b BlankStatement = Unit {0}
-OwnsEntry b (CommentStatement text) = Unit {0}
-OwnsEntry b (InlineStatement text) = Unit {0}
+OwnsEntry b _ = Unit {0}

@@ -1,7 +1,7 @@
 //! What comes into the arenas at once: expressions and types, another node, an empty block.
 
 ghost use Rattle.std.specs.Prelude.{◌≡◌, ◌+◌, ◌-◌, ◌++◌, ◌≤◌, OnOk, length, map, vec_capacity, vec_len};
-ghost use Rattle.vast_core.specs.Records.{definition_record, artifact_record, instance_record, module_record};
+ghost use Rattle.vast_core.specs.Records.{instance_record, module_record};
 ghost use Rattle.vast_core.specs.Nests.{always_record, function_record, nest_record};
 ghost use Rattle.vast_core.specs.Internal.Containers.{added, with_empty_block, count_of, block_count, HasRoom};
 ghost use Rattle.vast_core.specs.Internal.Arrivals.{fresh_of, fresh_node, no_arrivals, terms_of};
@@ -161,10 +161,10 @@ pub(crate) fn settle_node(
         ≡ added (map module_record modules.old.items) (fresh_node node).fresh_module }
     ensures functions { map function_record functions.new.items
         ≡ added (map function_record functions.old.items) (fresh_node node).function }
-    ensures definitions { map definition_record definitions.new.items
-        ≡ added (map definition_record definitions.old.items) (fresh_node node).definition }
-    ensures artifacts { map artifact_record artifacts.new.items
-        ≡ added (map artifact_record artifacts.old.items) (fresh_node node).artifact }
+    ensures definitions { definitions.new.items
+        ≡ added definitions.old.items (fresh_node node).definition }
+    ensures artifacts { artifacts.new.items
+        ≡ added artifacts.old.items (fresh_node node).artifact }
     ensures instances { map instance_record instances.new.items
         ≡ added (map instance_record instances.old.items) (fresh_node node).instance }
     ensures always_blocks { map always_record always_blocks.new.items

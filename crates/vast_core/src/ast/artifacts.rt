@@ -1,7 +1,7 @@
 //! Definitions, artifacts and instantiations, which members are made of.
 
-ghost use Rattle.std.specs.Prelude.{◌≡◌, All, Some, slice_get, map};
-ghost use Rattle.vast_core.specs.Records.{artifact_record, definition_record, connection_record, instance_record, BlankLineRecord, CommentRecord, InlineRecord, MacroRecord};
+ghost use Rattle.std.specs.Prelude.{◌≡◌, All, Some, slice_get};
+ghost use Rattle.vast_core.specs.Records.{instance_record, BlankArtifact, CommentArtifact, InlineArtifact, MacroArtifact};
 ghost use Rattle.vast_core.specs.Bench.{OwnsType, OwnsMacroRef, OwnsDef, OwnsComment, OwnsInline, OwnsMacroStatement, OwnsInstantiation};
 ghost use Rattle.vast_core.specs.WrittenKinds.{HasValue};
 ghost use Rattle.vast_core.specs.Sound.{ArtifactSound, ConnectionSound};
@@ -19,6 +19,7 @@ use crate::handle::{
 use crate::node::{Artifact, Connection, Definition, Instance};
 use std::alloc::AllocError;
 use vast_literal::DataKind;
+use vast_names::Text;
 
 impl Ast {
     /// Adds a definition, from which parameters take kind, type and name.
@@ -36,7 +37,7 @@ impl Ast {
         ensures { Grows self.old self.new result next_def
             (with_definition (record { name = name.now; kind = kind; data_type = data_type })) }
     {
-        let name = String::from_str(self.alloc, name)?;
+        let name = Text::new(self.alloc, name)?;
         let id = self.next_definition();
         self.grow(
             Place::Nowhere,
@@ -55,9 +56,9 @@ impl Ast {
 
     #[tactic(auto, using(crate::proofs::EntersRecords::enters_records))]
     fn push_artifact(&mut self, artifact: Artifact) -> Result<Id, AllocError>
-        requires { ArtifactSound (bench self.old) (artifact_record artifact) }
+        requires { ArtifactSound (bench self.old) artifact }
         ensures { Grows self.old self.new result next_artifact
-            (with_artifact (artifact_record artifact)) }
+            (with_artifact artifact) }
     {
         let id = self.next_artifact();
         self.grow(
@@ -76,7 +77,7 @@ impl Ast {
     /// # Errors
     /// `AllocError` where a growth was refused; nothing changed.
     pub fn push_blank_line(&mut self) -> Result<BlankLine, AllocError>
-        ensures { Grows self.old self.new result next_blank_line (with_artifact BlankLineRecord) }
+        ensures { Grows self.old self.new result next_blank_line (with_artifact BlankArtifact) }
     {
         let id = self.push_artifact(Artifact::BlankLine)?;
         Ok(BlankLine { id })
@@ -88,9 +89,9 @@ impl Ast {
     /// `AllocError` where a growth was refused; nothing changed.
     pub fn push_comment(&mut self, text: &str) -> Result<Comment, AllocError>
         ensures { Grows self.old self.new result next_comment
-            (with_artifact (CommentRecord text.now)) }
+            (with_artifact (CommentArtifact text.now)) }
     {
-        let text = String::from_str(self.alloc, text)?;
+        let text = Text::new(self.alloc, text)?;
         let id = self.push_artifact(Artifact::Comment(text))?;
         Ok(Comment { id })
     }
@@ -101,9 +102,9 @@ impl Ast {
     /// `AllocError` where a growth was refused; nothing changed.
     pub fn push_inline(&mut self, text: &str) -> Result<InlineVerilogStatement, AllocError>
         ensures { Grows self.old self.new result next_inline
-            (with_artifact (InlineRecord text.now)) }
+            (with_artifact (InlineArtifact text.now)) }
     {
-        let text = String::from_str(self.alloc, text)?;
+        let text = Text::new(self.alloc, text)?;
         let id = self.push_artifact(Artifact::Inline(text))?;
         Ok(InlineVerilogStatement { id })
     }
@@ -119,7 +120,7 @@ impl Ast {
     ) -> Result<MacroStatement, AllocError>
         requires { OwnsMacroRef (bench self.old) call }
         ensures { Grows self.old self.new result next_macro_statement
-            (with_artifact (MacroRecord call semicolon)) }
+            (with_artifact (MacroArtifact call semicolon)) }
     {
         let id = self.push_artifact(Artifact::MacroStatement(call, semicolon))?;
         Ok(MacroStatement { id })
@@ -137,19 +138,18 @@ impl Ast {
         parameters: Vec<Connection>,
         connections: Vec<Connection>,
     ) -> Result<Instantiation, AllocError>
-        requires parameters { All (λ c. ConnectionSound (bench self.old) (connection_record c))
+        requires parameters { All (ConnectionSound (bench self.old))
             parameters.items }
-        requires values { All (λ c. HasValue (connection_record c)) parameters.items }
-        requires connections { All (λ c. ConnectionSound (bench self.old) (connection_record c))
+        requires values { All HasValue parameters.items }
+        requires connections { All (ConnectionSound (bench self.old))
             connections.items }
         ensures { Grows self.old self.new result next_instantiation
             (with_instance
             (record {
               module_name = module_name.now;
               instance_name = instance_name.now;
-              parameters = map connection_record parameters.items;
-              connections = map
-                  connection_record connections.items;
+              parameters = parameters.items;
+              connections = connections.items;
             })) }
     {
         let module_name = String::from_str(self.alloc, module_name)?;
@@ -175,7 +175,7 @@ impl Ast {
     pub fn definition(&self, d: Def) -> &Definition
         requires { OwnsDef (bench self.now) d }
         ensures there { slice_get (bench self.now).definitions d.id.index
-            ≡ Some (definition_record result.now) }
+            ≡ Some result.now }
         ensures data_type { OwnsType (bench self.now) result.now.data_type }
     {
         &self.definitions[d.id.index]
@@ -185,7 +185,7 @@ impl Ast {
     pub fn comment_text(&self, a: Comment) -> &str
         requires { OwnsComment (bench self.now) a }
         ensures { slice_get (bench self.now).artifacts a.id.index
-            ≡ Some (CommentRecord result.now) }
+            ≡ Some (CommentArtifact result.now) }
     {
         match self.artifact_at(a.id.index) {
             Some(Artifact::Comment(text)) => text.as_str(),
@@ -197,7 +197,7 @@ impl Ast {
     pub fn inline_text(&self, a: InlineVerilogStatement) -> &str
         requires { OwnsInline (bench self.now) a }
         ensures { slice_get (bench self.now).artifacts a.id.index
-            ≡ Some (InlineRecord result.now) }
+            ≡ Some (InlineArtifact result.now) }
     {
         match self.artifact_at(a.id.index) {
             Some(Artifact::Inline(text)) => text.as_str(),
@@ -209,7 +209,7 @@ impl Ast {
     pub fn macro_statement(&self, a: MacroStatement) -> (MacroRef, bool)
         requires { OwnsMacroStatement (bench self.now) a }
         ensures there { slice_get (bench self.now).artifacts a.id.index
-            ≡ Some (MacroRecord result.0 result.1) }
+            ≡ Some (MacroArtifact result.0 result.1) }
         ensures call { OwnsMacroRef (bench self.now) result.0 }
     {
         match self.artifact_at(a.id.index) {
@@ -223,9 +223,9 @@ impl Ast {
         requires { OwnsInstantiation (bench self.now) i }
         ensures there { slice_get (bench self.now).instances i.id.index
             ≡ Some (instance_record result.now) }
-        ensures parameters { All (λ c. ConnectionSound (bench self.now) (connection_record c))
+        ensures parameters { All (ConnectionSound (bench self.now))
             result.now.parameters.items }
-        ensures connections { All (λ c. ConnectionSound (bench self.now) (connection_record c))
+        ensures connections { All (ConnectionSound (bench self.now))
             result.now.connections.items }
     {
         &self.instances[i.id.index]

@@ -1,7 +1,7 @@
 //! Blocks: their statements, and calls that append to them.
 
-ghost use Rattle.std.specs.Prelude.{[], ◌≡◌, ◌<◌, ◌^◌, All, Some, map, slice_get};
-ghost use Rattle.vast_core.specs.Nests.{statement_entry, BlockRecord};
+ghost use Rattle.std.specs.Prelude.{[], ◌≡◌, ◌<◌, ◌^◌, All, Some, slice_get};
+ghost use Rattle.vast_core.specs.Nests.{BlockRecord};
 ghost use Rattle.vast_core.specs.Parents.{held_by_statement};
 ghost use Rattle.vast_core.specs.Bench.{OwnsBlock};
 ghost use Rattle.vast_core.specs.Sound.{StatementSound};
@@ -30,10 +30,10 @@ impl Ast {
     ) -> Result<(), AllocError>
         requires owner { OwnsBlock (bench self.old) owner }
         requires statement { StatementSound (bench self.old) owner.id.index
-            (statement_entry statement) }
-        requires no_part { held_by_statement (statement_entry statement) ≡ [] }
+            statement }
+        requires no_part { held_by_statement statement ≡ [] }
         ensures { GrowsBy self.old self.new result
-            (with_statement owner (statement_entry statement)) }
+            (with_statement owner statement) }
     {
         self.grow(
             Place::Nest(owner.id.index, Entry::Statement(statement)),
@@ -45,11 +45,11 @@ impl Ast {
     pub fn block(&self, b: VastStatementBlock) -> &[Statement]
         requires { OwnsBlock (bench self.now) b }
         ensures there { slice_get (bench self.now).nests b.id.index
-            ≡ Some (BlockRecord (map statement_entry result.now)) }
+            ≡ Some (BlockRecord result.now) }
         ensures tree { block_tree (bench self.now) b
-            ≡ statements_tree (bench self.now) (map statement_entry result.now) }
+            ≡ statements_tree (bench self.now) result.now }
         ensures sound { All
-            (λ s. StatementSound (bench self.now) b.id.index (statement_entry s)) result.now }
+            (StatementSound (bench self.now) b.id.index) result.now }
         ensures small { b.id.index < 2 ^ 63 }
     {
         match self.nest_at(b.id.index) {

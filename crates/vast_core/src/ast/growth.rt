@@ -1,12 +1,12 @@
 //! The one growth of the arenas: nodes that come, and the entry of a list that names them.
 
 ghost use Rattle.std.specs.Prelude.{◌≡◌, ◌-◌, ◌<◌, OnOk, OnErr, length, map, vec_capacity, vec_len};
-ghost use Rattle.vast_core.specs.Records.{module_record, file_entry, parameter_port_record, changed_at, with_port, with_parameter_port, with_member, with_named_member};
-ghost use Rattle.vast_core.specs.Nests.{nest_record, statement_entry, function_record};
+ghost use Rattle.vast_core.specs.Records.{module_record, changed_at, with_port, with_parameter_port, with_member, with_named_member};
+ghost use Rattle.vast_core.specs.Nests.{nest_record, function_record};
 ghost use Rattle.vast_core.specs.Functions.{with_listed_variable};
 ghost use Rattle.vast_core.specs.Containers.{StatementEnters, ElseIfEnters, ElseEnters, CaseArmEnters, MemberEnters, with_entry};
 ghost use Rattle.vast_core.specs.Internal.Containers.{with_listed, listed_modules, listed_nests, listed_functions, listed_items, listed_spare, GrowthSound, HasRoom, after_growth};
-ghost use Rattle.vast_core.specs.Internal.Arrivals.{entry_of, name_of, listing_of, fresh_of, ListingThere};
+ghost use Rattle.vast_core.specs.Internal.Arrivals.{name_of, listing_of, fresh_of, ListingThere};
 ghost use Rattle.vast_core.specs.Growth.{GrowsBy};
 ghost use Rattle.vast_core.specs.View.{bench};
 
@@ -50,7 +50,7 @@ impl Nest {
     fn add_statement(&mut self, statement: Statement) -> Result<(), AllocError>
         ensures ok { OnOk result
             (nest_record self.new
-            ≡ with_entry (StatementEnters (statement_entry statement)) (nest_record self.old)) }
+            ≡ with_entry (StatementEnters statement) (nest_record self.old)) }
         ensures err { OnErr result (nest_record self.new ≡ nest_record self.old) }
     {
         if let Nest::Block(statements) = self {
@@ -108,7 +108,7 @@ impl Nest {
     /// Adds the entry, or changes nothing.
     fn enter(&mut self, entry: Entry) -> Result<(), AllocError>
         ensures ok { OnOk result
-            (nest_record self.new ≡ with_entry (entry_of entry) (nest_record self.old)) }
+            (nest_record self.new ≡ with_entry entry (nest_record self.old)) }
         ensures err { OnErr result (nest_record self.new ≡ nest_record self.old) }
     {
         match entry {
@@ -128,7 +128,7 @@ impl Module {
     fn enter_header(&mut self, parameter: ParameterPort) -> Result<(), AllocError>
         ensures ok { OnOk result
             (module_record self.new
-            ≡ with_parameter_port (parameter_port_record parameter) (module_record self.old)) }
+            ≡ with_parameter_port parameter (module_record self.old)) }
         ensures err { OnErr result (module_record self.new ≡ module_record self.old) }
     {
         self.parameters.push(parameter)?;
@@ -187,7 +187,7 @@ fn enter_nest(nests: &mut Vec<Nest>, place: usize, entry: Entry) -> Result<(), A
     requires { place < length nests.old.items }
     ensures ok { OnOk result
         (map nest_record nests.new.items
-        ≡ changed_at place (with_entry (entry_of entry)) (map nest_record nests.old.items)) }
+        ≡ changed_at place (with_entry entry) (map nest_record nests.old.items)) }
     ensures err { OnErr result (map nest_record nests.new.items ≡ map nest_record nests.old.items) }
     ensures room { vec_capacity nests.new - vec_len nests.new
         ≡ vec_capacity nests.old - vec_len nests.old }
@@ -204,7 +204,7 @@ fn enter_header(
     requires { owner.id.index < length modules.old.items }
     ensures ok { OnOk result
         (map module_record modules.new.items
-        ≡ changed_at owner.id.index (with_parameter_port (parameter_port_record parameter))
+        ≡ changed_at owner.id.index (with_parameter_port parameter)
         (map module_record modules.old.items)) }
     ensures err { OnErr result
         (map module_record modules.new.items ≡ map module_record modules.old.items) }
@@ -297,8 +297,8 @@ fn enter(
         (map function_record functions.new.items
         ≡ listed_functions (listing_of place.entry) (map function_record functions.old.items)) }
     ensures items { OnOk result
-        (map file_entry items.new.items
-        ≡ listed_items (listing_of place.entry) (map file_entry items.old.items)) }
+        (items.new.items
+        ≡ listed_items (listing_of place.entry) items.old.items) }
     ensures spare { OnOk result (spare.new ≡ listed_spare (listing_of place.entry) spare.old) }
     ensures err_modules { OnErr result
         (map module_record modules.new.items ≡ map module_record modules.old.items) }

@@ -1,7 +1,7 @@
 //! Modules, and the items of the file.
 
-ghost use Rattle.std.specs.Prelude.{◌≡◌, ◌↔◌, IsTrue, All, length, map, slice_get};
-ghost use Rattle.vast_core.specs.Records.{module_record, parameter_port_record, file_entry, IsFree, IncludeEntry, FileCommentEntry, FileBlankEntry};
+ghost use Rattle.std.specs.Prelude.{◌≡◌, ◌↔◌, IsTrue, All, length, slice_get};
+ghost use Rattle.vast_core.specs.Records.{module_record, IsFree, IncludeEntry, FileCommentEntry, FileBlankEntry};
 ghost use Rattle.vast_core.specs.Bench.{OwnsModule, OwnsPort};
 ghost use Rattle.vast_core.specs.Sound.{MemberSound, ParameterPortSound, EntrySound};
 ghost use Rattle.vast_core.specs.Growth.{Grows, GrowsBy, next_module, with_module, with_item};
@@ -14,7 +14,7 @@ use crate::ast::growth::Place;
 use crate::handle::VastModule;
 use crate::node::{FileItem, Module};
 use std::alloc::AllocError;
-use vast_names::NameTable;
+use vast_names::{NameTable, Text};
 
 impl Module {
     /// Whether no port, wire, variable or function of the module has this name.
@@ -56,8 +56,8 @@ impl Ast {
 
     #[tactic(auto, using(crate::proofs::EntersRecords::enters_records))]
     fn push_item(&mut self, item: FileItem) -> Result<(), AllocError>
-        requires { EntrySound (bench self.old) (file_entry item) }
-        ensures { GrowsBy self.old self.new result (with_item (file_entry item)) }
+        requires { EntrySound (bench self.old) item }
+        ensures { GrowsBy self.old self.new result (with_item item) }
     {
         self.grow(Place::File(item), Arrivals::none())
     }
@@ -69,7 +69,7 @@ impl Ast {
     pub fn append_include(&mut self, path: &str) -> Result<(), AllocError>
         ensures { GrowsBy self.old self.new result (with_item (IncludeEntry path.now)) }
     {
-        let path = String::from_str(self.alloc, path)?;
+        let path = Text::new(self.alloc, path)?;
         self.push_item(FileItem::Include(path))
     }
 
@@ -80,7 +80,7 @@ impl Ast {
     pub fn append_file_comment(&mut self, text: &str) -> Result<(), AllocError>
         ensures { GrowsBy self.old self.new result (with_item (FileCommentEntry text.now)) }
     {
-        let text = String::from_str(self.alloc, text)?;
+        let text = Text::new(self.alloc, text)?;
         self.push_item(FileItem::Comment(text))
     }
 
@@ -100,7 +100,7 @@ impl Ast {
         ensures there { slice_get (bench self.now).modules m.id.index
             ≡ Some (module_record result.now) }
         ensures parameters { All
-            (λ x. ParameterPortSound (bench self.now) (parameter_port_record x))
+            (ParameterPortSound (bench self.now))
             result.now.parameters.items }
         ensures ports { All (OwnsPort (bench self.now)) result.now.ports.items }
         ensures members { All (MemberSound (bench self.now))
@@ -120,8 +120,8 @@ impl Ast {
 
     /// The items of the file, in order. Its modules are the file's.
     pub fn items(&self) -> &[FileItem]
-        ensures items { (bench self.now).items ≡ map file_entry result.now }
-        ensures owned { All (λ x. EntrySound (bench self.now) (file_entry x)) result.now }
+        ensures items { (bench self.now).items ≡ result.now }
+        ensures owned { All (EntrySound (bench self.now)) result.now }
     {
         &self.items
     }

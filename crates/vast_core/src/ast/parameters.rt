@@ -17,7 +17,7 @@ use crate::ast::scope::Scope;
 use crate::handle::{Expr, LocalparamRef, LogicRef, ParameterRef, VastDataType, VastModule};
 use crate::node::{ExprNode, Member, ParameterForm, ParameterPort};
 use std::alloc::AllocError;
-use vast_names::Word;
+use vast_names::{Text, Word};
 
 impl Ast {
     /// Adds a parameter to the end of the module's header, and answers its name as an expression. Its name isn't
@@ -40,7 +40,7 @@ impl Ast {
             (with_parameter_port owner name.now data_type value) }
     {
         let node_name = Word::new(self.alloc, name)?;
-        let port_name = String::from_str(self.alloc, name)?;
+        let port_name = Text::new(self.alloc, name)?;
         let port = ParameterPort {
             name: port_name,
             data_type,
@@ -70,7 +70,7 @@ impl Ast {
             ParameterForm::Int(name) => Ok((Word::new(self.alloc, name.as_str())?, None)),
             ParameterForm::Defined(d) => {
                 let definition = self.definition(*d);
-                let name = Word::new(self.alloc, &definition.name)?;
+                let name = Word::new(self.alloc, definition.name.as_str())?;
                 Ok((name, Some(definition.data_type)))
             }
         }

@@ -4,7 +4,6 @@ ghost use Rattle.std.specs.Prelude.{◌≡◌, ◌<◌, ◌^◌, ◌↔◌, IsTr
 ghost use Rattle.std.specs.Option.{option_copied};
 ghost use Rattle.vast_core.specs.Nodes.{is_expr_root, is_type_root, is_name, is_index, is_slice, is_macro};
 ghost use Rattle.vast_core.specs.Bench.{has_root, is_continuous, is_blank_line, is_comment, is_inline, is_macro_statement, is_block, is_conditional, is_case, is_loop};
-ghost use Rattle.vast_core.specs.Records.{artifact_record};
 ghost use Rattle.vast_core.specs.Nests.{nest_record};
 ghost use Rattle.vast_core.specs.Sound.{ArtifactSound, NestSound};
 ghost use Rattle.vast_core.specs.FileTree.{family, families};
@@ -131,9 +130,9 @@ impl Ast {
     pub(crate) fn artifact_at(&self, index: usize) -> Option<&Artifact>
         ensures none { IfNone result (slice_get (bench self.now).artifacts index ≡ None) }
         ensures some { IfSome result
-            (λ a. slice_get (bench self.now).artifacts index ≡ Some (artifact_record a.now)) }
+            (λ a. slice_get (bench self.now).artifacts index ≡ Some a.now) }
         ensures owned { IfSome result
-            (λ a. ArtifactSound (bench self.now) (artifact_record a.now)) }
+            (λ a. ArtifactSound (bench self.now) a.now) }
     {
         if index < self.artifacts.len() {
             Some(&self.artifacts[index])

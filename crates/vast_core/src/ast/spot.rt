@@ -1,7 +1,6 @@
 //! Where conditionals and assignments go: among the members of a scope, or into a block.
 
 ghost use Rattle.std.specs.Prelude.{◌≡◌};
-ghost use Rattle.vast_core.specs.Nests.{statement_entry};
 ghost use Rattle.vast_core.specs.Bench.{OwnsExpr};
 ghost use Rattle.vast_core.specs.Growth.{Grows};
 ghost use Rattle.vast_core.specs.Artifacts.{next_statement};
@@ -40,7 +39,7 @@ fn is_nonblocking(form: AssignmentForm) -> bool
 
 /// The statement of a block that is written so.
 fn statement_of(form: AssignmentForm, assignment: VastStatement) -> Statement
-    ensures { statement_entry result ≡ statement_of form assignment }
+    ensures { result ≡ statement_of form assignment }
 {
     match form {
         AssignmentForm::Continuous => Statement::Continuous(assignment),

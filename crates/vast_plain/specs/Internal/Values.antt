@@ -1,8 +1,8 @@
 -- Expressions that wait to be looked at.
 use Rattle.std.specs.Prelude.{◌≡◌, ℕ, ◌+◌, ◌<◌, Bool, ◌&&◌, List, All, Result, Ok, Err}
 use Rattle.std.specs.declared.alloc.AllocError.{AllocError}
-use Rattle.vast_literal.specs.Tree.{ExprTree, NameTree, LiteralTree, StringTree, UnaryTree, BinaryTree, TernaryTree, IndexTree, SliceTree, PartSelectTree, ConcatTree, PatternTree, WidthCastTree, TypeCastTree, PosEdgeTree, NegEdgeTree, MacroTree, CallTree, MissingExpr}
-use Rattle.vast_literal.specs.Tree.{TypeTree, ScalarTree, VectorTree, IntegerTree, IntTree, ExternalTree, PackageTree, PackedTree, UnpackedTree, MissingType}
+use Rattle.vast_literal.specs.Tree.{ExprTree, UnaryTree, BinaryTree, TernaryTree, IndexTree, SliceTree, PartSelectTree, ConcatTree, PatternTree, WidthCastTree, TypeCastTree, PosEdgeTree, NegEdgeTree, MacroTree, CallTree}
+use Rattle.vast_literal.specs.Tree.{TypeTree, VectorTree, PackedTree, UnpackedTree}
 use Rattle.vast_literal.specs.Tree.{MaybeExpr, NoExpr, SomeExpr, Exprs, NoExprs, MoreExprs, MaybeExprs, NoArguments, SomeArguments}
 use Rattle.vast_literal.specs.Plain.{is_plain, are_plain}
 use Rattle.vast_core.specs.declared.handle.Expr.{Expr}
@@ -16,9 +16,6 @@ Answers plain (Err error) = Unit {0}
 -- How many expressions stand in an expression or a type, itself and all its parts: each round looks at one of them.
 abbrev mutual
   pub expr_weight : ExprTree → ℕ
-  expr_weight (NameTree name type) = 1
-  expr_weight (LiteralTree text value) = 1
-  expr_weight (StringTree text) = 1
   expr_weight (UnaryTree op operand) = expr_weight operand + 1
   expr_weight (BinaryTree op left right) = expr_weight left + expr_weight right + 1
   expr_weight (TernaryTree condition consequent alternate) = expr_weight condition + expr_weight consequent + expr_weight alternate + 1
@@ -33,7 +30,7 @@ abbrev mutual
   expr_weight (NegEdgeTree operand) = expr_weight operand + 1
   expr_weight (MacroTree name arguments) = arguments_weight arguments + 1
   expr_weight (CallTree name arguments) = exprs_weight arguments + 1
-  expr_weight MissingExpr = 1
+  expr_weight _ = 1
 
   pub maybe_weight : MaybeExpr → ℕ
   maybe_weight NoExpr = 0
@@ -48,15 +45,10 @@ abbrev mutual
   arguments_weight (SomeArguments arguments) = exprs_weight arguments
 
   pub type_weight : TypeTree → ℕ
-  type_weight (ScalarTree signed) = 0
   type_weight (VectorTree width value signed) = expr_weight width
-  type_weight (IntegerTree signed) = 0
-  type_weight (IntTree signed) = 0
-  type_weight (ExternalTree name) = 0
-  type_weight (PackageTree package_name name) = 0
   type_weight (PackedTree element dimensions) = type_weight element
   type_weight (UnpackedTree element dimensions) = type_weight element
-  type_weight MissingType = 0
+  type_weight _ = 0
 
 -- What was looked at is plain exactly where nothing spoke against it and all that waits now is, if all that waited before
 -- is; what waits more is lighter, and the file's.

@@ -1,5 +1,4 @@
-use Rattle.std.proofs.Common.{◌≡◌, ◌+◌, drop, map, codes}
-use Rattle.vast_core.specs.Nests.{statement_entry}
+use Rattle.std.proofs.Common.{◌≡◌, ◌+◌, drop, codes}
 use Rattle.vast_core.specs.FileTree.{families, conditional_statement, case_statement, block_tree, statements_tree, alternates_tree, case_arms_tree}
 use Rattle.vast_core.specs.View.{bench}
 use Rattle.vast_print.specs.Ink.{Wet, word, next, hang, pour}
@@ -14,7 +13,7 @@ abbrev pub decreases-statement::print_statements : goal.decreases-statement::pri
 decreases-statement::print_statements l = height l.b.id.index + 1
 
 abbrev pub decreases-statement::print_statement : goal.decreases-statement::print_statement
-decreases-statement::print_statement l = statement_height (statement_entry l.statement.now)
+decreases-statement::print_statement l = statement_height l.statement.now
 
 abbrev pub decreases-conditional::print_conditional : goal.decreases-conditional::print_conditional
 decreases-conditional::print_conditional l = height l.c.id.index + 4
@@ -28,7 +27,7 @@ decreases-case::print_arm l = height l.arm.block.id.index + 3
 abbrev pub invariant-statement::print_statements-loop-statement : goal.invariant-statement::print_statements-loop-statement
 invariant-statement::print_statements-loop-statement l =
     record {
-      same : hang l.fn.out.margin (Wet l.fn.out.draft) (statements_page (block_tree (bench l.ast) l.fn.b)) ≡ hang l.fn.out.margin (Wet l.out.draft) (statements_page (statements_tree (bench l.ast) (map statement_entry (drop l.statement-index l.statement-items))));
+      same : hang l.fn.out.margin (Wet l.fn.out.draft) (statements_page (block_tree (bench l.ast) l.fn.b)) ≡ hang l.fn.out.margin (Wet l.out.draft) (statements_page (statements_tree (bench l.ast) (drop l.statement-index l.statement-items)));
       margin : l.out.margin ≡ l.fn.out.margin;
     }
 

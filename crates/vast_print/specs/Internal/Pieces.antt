@@ -1,8 +1,8 @@
 -- Pieces of a text that are still to write.
 use Rattle.std.specs.Prelude.{◌≡◌, ◌<◌, ℕ, ◌+◌, List, [], ◌∷◌, Result, Ok, Err}
 use Rattle.std.specs.Fmt.{signed_decimal}
-use Rattle.vast_literal.specs.Tree.{ExprTree, NameTree, LiteralTree, StringTree, UnaryTree, BinaryTree, TernaryTree, IndexTree, SliceTree, PartSelectTree, ConcatTree, PatternTree, WidthCastTree, TypeCastTree, PosEdgeTree, NegEdgeTree, MacroTree, CallTree, MissingExpr}
-use Rattle.vast_literal.specs.Tree.{TypeTree, ScalarTree, VectorTree, IntegerTree, IntTree, ExternalTree, PackageTree, PackedTree, UnpackedTree, MissingType}
+use Rattle.vast_literal.specs.Tree.{ExprTree, UnaryTree, BinaryTree, TernaryTree, IndexTree, SliceTree, PartSelectTree, ConcatTree, PatternTree, WidthCastTree, TypeCastTree, PosEdgeTree, NegEdgeTree, MacroTree, CallTree}
+use Rattle.vast_literal.specs.Tree.{TypeTree, VectorTree}
 use Rattle.vast_literal.specs.Tree.{MaybeExpr, NoExpr, SomeExpr, Exprs, NoExprs, MoreExprs, MaybeExprs, NoArguments, SomeArguments}
 use Rattle.vast_core.specs.Bench.{Bench, OwnsExpr, tree_of}
 use Rattle.vast_print.specs.declared.pieces.Piece.{Piece}
@@ -18,9 +18,6 @@ use Rattle.vast_print.specs.Ink.{Wet, Stopped, pour}
 -- more than what the pieces of an expression, without parentheses of its own, can weigh
 abbrev mutual
   pub expr_weight : ExprTree → ℕ
-  expr_weight (NameTree name type) = 1
-  expr_weight (LiteralTree text value) = 1
-  expr_weight (StringTree text) = 1
   expr_weight (UnaryTree o e) = expr_weight e + 2
   expr_weight (BinaryTree o l r) = expr_weight l + expr_weight r + 4
   expr_weight (TernaryTree c l r) = expr_weight c + expr_weight l + expr_weight r + 6
@@ -35,7 +32,7 @@ abbrev mutual
   expr_weight (NegEdgeTree e) = expr_weight e + 2
   expr_weight (MacroTree name es) = arguments_weight es + 2
   expr_weight (CallTree name es) = exprs_weight es + 2
-  expr_weight MissingExpr = 1
+  expr_weight _ = 1
 
   pub count_weight : MaybeExpr → ℕ
   count_weight NoExpr = 0
@@ -50,15 +47,8 @@ abbrev mutual
   exprs_weight (MoreExprs e es) = expr_weight e + 2 + exprs_weight es
 
   pub type_weight : TypeTree → ℕ
-  type_weight (ScalarTree signed) = 0
   type_weight (VectorTree w v signed) = expr_weight w
-  type_weight (IntegerTree signed) = 0
-  type_weight (IntTree signed) = 0
-  type_weight (ExternalTree name) = 0
-  type_weight (PackageTree scope name) = 0
-  type_weight (PackedTree t ds) = 0
-  type_weight (UnpackedTree t ds) = 0
-  type_weight MissingType = 0
+  type_weight _ = 0
 
 abbrev pub piece_weight : Bench → Piece → ℕ
 piece_weight b (Plain text) = 1

@@ -149,8 +149,6 @@ read_letters (l ∷ ls) ps = read_letters ls (take_letter l ps)
 mutual
   pub expr-read : (t : ExprTree) (ls : List Letter) (ps : List Part) → read_letters (spell_expr t ls) ps ≡ read_letters ls (AnExpr t ∷ ps)
   expr-read (NameTree name type) ls ps = maybe_type-read type (NameLetter name ∷ ls) ps
-  expr-read (LiteralTree text value) ls ps = refl
-  expr-read (StringTree text) ls ps = refl
   expr-read (UnaryTree op operand) ls ps = expr-read operand (UnaryLetter op ∷ ls) ps
   expr-read (BinaryTree op left right) ls ps = expr-read left (spell_expr right (BinaryLetter op ∷ ls)) ps ∙ expr-read right ((BinaryLetter op) ∷ ls) (AnExpr left ∷ ps)
   expr-read (TernaryTree condition consequent alternate) ls ps = expr-read condition (spell_expr consequent (spell_expr alternate (TernaryLetter ∷ ls))) ps ∙ expr-read consequent (spell_expr alternate (TernaryLetter ∷ ls)) (AnExpr condition ∷ ps) ∙ expr-read alternate (TernaryLetter ∷ ls) (AnExpr consequent ∷ AnExpr condition ∷ ps)
@@ -165,18 +163,13 @@ mutual
   expr-read (NegEdgeTree operand) ls ps = expr-read operand (NegEdgeLetter ∷ ls) ps
   expr-read (MacroTree name arguments) ls ps = arguments-read arguments (MacroLetter name ∷ ls) ps
   expr-read (CallTree name arguments) ls ps = exprs-read arguments (CallLetter name ∷ ls) ps
-  expr-read MissingExpr ls ps = refl
+  expr-read _ ls ps = refl
 
   pub type-read : (t : TypeTree) (ls : List Letter) (ps : List Part) → read_letters (spell_type t ls) ps ≡ read_letters ls (AType t ∷ ps)
-  type-read (ScalarTree signed) ls ps = refl
   type-read (VectorTree width value signed) ls ps = expr-read width (VectorLetter value signed ∷ ls) ps
-  type-read (IntegerTree signed) ls ps = refl
-  type-read (IntTree signed) ls ps = refl
-  type-read (ExternalTree name) ls ps = refl
-  type-read (PackageTree package_name name) ls ps = refl
   type-read (PackedTree element dimensions) ls ps = type-read element (PackedLetter dimensions ∷ ls) ps
   type-read (UnpackedTree element dimensions) ls ps = type-read element (UnpackedLetter dimensions ∷ ls) ps
-  type-read MissingType ls ps = refl
+  type-read _ ls ps = refl
 
   pub maybe_type-read : (t : MaybeType) (ls : List Letter) (ps : List Part) → read_letters (spell_maybe_type t ls) ps ≡ read_letters ls (AMaybeType t ∷ ps)
   maybe_type-read Untyped ls ps = refl

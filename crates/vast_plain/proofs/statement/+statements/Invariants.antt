@@ -1,6 +1,5 @@
-use Rattle.std.proofs.Common.{◌≡◌, ◌+◌, drop, map}
+use Rattle.std.proofs.Common.{◌≡◌, ◌+◌, drop}
 use Rattle.vast_literal.specs.PlainFile.{is_plain_statement, are_plain_statements, are_plain_alternates, are_plain_arms}
-use Rattle.vast_core.specs.Nests.{statement_entry}
 use Rattle.vast_core.specs.FileTree.{families, conditional_statement, case_statement, block_tree, statements_tree, alternates_tree, case_arms_tree}
 use Rattle.vast_core.specs.View.{bench}
 use Rattle.vast_core.proofs.Heights.{height, statement_height}
@@ -10,7 +9,7 @@ abbrev pub decreases-is_plain_block : goal.decreases-is_plain_block
 decreases-is_plain_block l = height l.b.id.index + 1
 
 abbrev pub decreases-is_plain_statement : goal.decreases-is_plain_statement
-decreases-is_plain_statement l = statement_height (statement_entry l.statement.now)
+decreases-is_plain_statement l = statement_height l.statement.now
 
 abbrev pub decreases-is_plain_conditional : goal.decreases-is_plain_conditional
 decreases-is_plain_conditional l = height l.c.id.index + 3
@@ -27,7 +26,7 @@ decreases-is_plain_case_arm l = height l.arm.block.id.index + 2
 abbrev pub invariant-is_plain_block-loop-statement : goal.invariant-is_plain_block-loop-statement
 invariant-is_plain_block-loop-statement l =
     are_plain_statements (block_tree (bench l.ast) l.fn.b)
-    ≡ are_plain_statements (statements_tree (bench l.ast) (map statement_entry (drop l.statement-index l.statement-items)))
+    ≡ are_plain_statements (statements_tree (bench l.ast) (drop l.statement-index l.statement-items))
 
 abbrev pub invariant-is_plain_conditional-loop-arm : goal.invariant-is_plain_conditional-loop-arm
 invariant-is_plain_conditional-loop-arm l =

@@ -1,7 +1,6 @@
 use Rattle.std.proofs.Common.{arith, ap, refl}
 use Rattle.vast_literal.specs.Tree.{FileItemTree}
 use Rattle.vast_core.specs.declared.node.FileItem.{FileItem}
-use Rattle.vast_core.specs.Records.{file_entry}
 use Rattle.vast_core.specs.FileTree.{item_tree}
 use Rattle.vast_core.specs.View.{bench}
 use Rattle.vast_print.specs.Ink.{Wet, hang}
@@ -18,17 +17,17 @@ loop-item-init c =
 
 pub loop-item-preserved : goal.loop-item-preserved
 loop-item-preserved c =
-    let v : FileItem → FileItemTree = λ x. item_tree (bench c.args.ast.now) (file_entry x) in
+    let v : FileItem → FileItemTree = item_tree (bench c.args.ast.now) in
     let item : FileItem = c.item-item.result in
     grind (arith, items-step (bench c.args.ast.now).file_type v c.args.out.now.margin (Wet c.loop-item.out.draft) c.items-item-items.result.now c.loop-item.item-index item c.loop-item-test.true c.item-item.is)
 
 pub returns-in_err-print_item : goal.returns-in_err-print_item
 returns-in_err-print_item c =
-    let v : FileItem → FileItemTree = λ x. item_tree (bench c.args.ast.now) (file_entry x) in
+    let v : FileItem → FileItemTree = item_tree (bench c.args.ast.now) in
     let item : FileItem = c.item-item.result in
     grind (arith, stops, items-step (bench c.args.ast.now).file_type v c.args.out.now.margin (Wet c.loop-item.out.draft) c.items-item-items.result.now c.loop-item.item-index item c.loop-item-test.true c.item-item.is)
 
 pub returns : goal.returns
 returns c =
-    let v : FileItem → FileItemTree = λ x. item_tree (bench c.args.ast.now) (file_entry x) in
+    let v : FileItem → FileItemTree = item_tree (bench c.args.ast.now) in
     grind (arith, items-end (bench c.args.ast.now).file_type v c.args.out.now.margin (Wet c.loop-item.out.draft) c.items-item-items.result.now c.loop-item.item-index c.loop-item-test.false)

@@ -1,5 +1,4 @@
 use Rattle.std.proofs.Common.{◌≡◌, drop, map}
-use Rattle.vast_core.specs.Records.{connection_record}
 use Rattle.vast_core.specs.FileTree.{connection_tree}
 use Rattle.vast_core.specs.View.{bench}
 use Rattle.vast_print.specs.Ink.{Wet, hang}
@@ -9,6 +8,6 @@ use Rattle.vast_print.proofs.instance.print_entries.Given as goal
 abbrev pub invariant-loop-i : goal.invariant-loop-i
 invariant-loop-i l =
     record {
-      same : hang l.fn.out.margin (Wet l.fn.out.draft) (entries_page (map connection_text (map (connection_tree (bench l.ast)) (map connection_record l.connections)))) ≡ hang l.fn.out.margin (Wet l.out.draft) (entries_page (map connection_text (map (connection_tree (bench l.ast)) (map connection_record (drop l.i l.connections)))));
+      same : hang l.fn.out.margin (Wet l.fn.out.draft) (entries_page (map connection_text (map (connection_tree (bench l.ast)) l.connections))) ≡ hang l.fn.out.margin (Wet l.out.draft) (entries_page (map connection_text (map (connection_tree (bench l.ast)) (drop l.i l.connections))));
       margin : l.out.margin ≡ l.fn.out.margin;
     }

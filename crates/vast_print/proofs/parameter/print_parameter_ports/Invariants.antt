@@ -1,5 +1,4 @@
 use Rattle.std.proofs.Common.{◌≡◌, drop, map}
-use Rattle.vast_core.specs.Records.{parameter_port_record}
 use Rattle.vast_core.specs.FileTree.{parameter_port_tree}
 use Rattle.vast_core.specs.View.{bench}
 use Rattle.vast_print.specs.Ink.{Wet, hang}
@@ -9,6 +8,6 @@ use Rattle.vast_print.proofs.parameter.print_parameter_ports.Given as goal
 abbrev pub invariant-loop-i : goal.invariant-loop-i
 invariant-loop-i l =
     record {
-      same : hang l.fn.out.margin (Wet l.fn.out.draft) (parameter_ports_page (bench l.ast).file_type (map (parameter_port_tree (bench l.ast)) (map parameter_port_record l.parameters))) ≡ hang l.fn.out.margin (Wet l.out.draft) (parameter_ports_page (bench l.ast).file_type (map (parameter_port_tree (bench l.ast)) (map parameter_port_record (drop l.i l.parameters))));
+      same : hang l.fn.out.margin (Wet l.fn.out.draft) (parameter_ports_page (bench l.ast).file_type (map (parameter_port_tree (bench l.ast)) l.parameters)) ≡ hang l.fn.out.margin (Wet l.out.draft) (parameter_ports_page (bench l.ast).file_type (map (parameter_port_tree (bench l.ast)) (drop l.i l.parameters)));
       margin : l.out.margin ≡ l.fn.out.margin;
     }

@@ -1,8 +1,7 @@
 use Rattle.std.proofs.Common.{◌<◌, length, rules}
-use Rattle.vast_core.specs.Records.{connection_record}
 use Rattle.vast_core.specs.Sound.{ConnectionSound}
 use Rattle.vast_core.specs.View.{bench}
-use Rattle.vast_core.proofs.Lists.{All-Each}
+use Rattle.vast_core.proofs.Lists.{All-own}
 use Rattle.vast_core.proofs.Readers.{instance-below, instance-there, instance-sound}
 use Rattle.vast_core.proofs.ast.Ast.instance.Goals as goal
 
@@ -19,9 +18,9 @@ returns-clause-there c =
 pub returns-clause-parameters : goal.returns-clause-parameters
 returns-clause-parameters c =
     let below : c.args.i.id.index < length c.self.inside.instances.items = instance-below c.args.self.now _ c.args.i.id.index c.self.view_is c.requires.of_kind
-    in All-Each connection_record (ConnectionSound (bench c.args.self.now)) c.index.result.now.parameters.items (instance-sound c.args.self.now _ c.args.i.id.index _ c.self.view_is c.self.invariant below c.index.ensures).parameters
+    in All-own (ConnectionSound (bench c.args.self.now)) c.index.result.now.parameters.items (instance-sound c.args.self.now _ c.args.i.id.index _ c.self.view_is c.self.invariant below c.index.ensures).parameters
 
 pub returns-clause-connections : goal.returns-clause-connections
 returns-clause-connections c =
     let below : c.args.i.id.index < length c.self.inside.instances.items = instance-below c.args.self.now _ c.args.i.id.index c.self.view_is c.requires.of_kind
-    in All-Each connection_record (ConnectionSound (bench c.args.self.now)) c.index.result.now.connections.items (instance-sound c.args.self.now _ c.args.i.id.index _ c.self.view_is c.self.invariant below c.index.ensures).connections
+    in All-own (ConnectionSound (bench c.args.self.now)) c.index.result.now.connections.items (instance-sound c.args.self.now _ c.args.i.id.index _ c.self.view_is c.self.invariant below c.index.ensures).connections

@@ -1,9 +1,8 @@
 use Rattle.std.proofs.Common.{◌<◌, length, rules}
-use Rattle.vast_core.specs.Records.{parameter_port_record}
 use Rattle.vast_core.specs.Bench.{OwnsPort}
 use Rattle.vast_core.specs.Sound.{MemberSound, ParameterPortSound}
 use Rattle.vast_core.specs.View.{bench}
-use Rattle.vast_core.proofs.Lists.{All-Each, All-own}
+use Rattle.vast_core.proofs.Lists.{All-own}
 use Rattle.vast_core.proofs.Readers.{module-below, module-there, module-sound}
 use Rattle.vast_core.proofs.ast.Ast.module.Goals as goal
 
@@ -30,4 +29,4 @@ returns-clause-members c =
 pub returns-clause-parameters : goal.returns-clause-parameters
 returns-clause-parameters c =
     let below : c.args.m.id.index < length c.self.inside.modules.items = module-below c.args.self.now _ c.args.m.id.index c.self.view_is c.requires.of_kind
-    in All-Each parameter_port_record (ParameterPortSound (bench c.args.self.now)) c.index.result.now.parameters.items (module-sound c.args.self.now _ c.args.m.id.index _ c.self.view_is c.self.invariant below c.index.ensures).parameters
+    in All-own (ParameterPortSound (bench c.args.self.now)) c.index.result.now.parameters.items (module-sound c.args.self.now _ c.args.m.id.index _ c.self.view_is c.self.invariant below c.index.ensures).parameters
