@@ -21,7 +21,7 @@ use Rattle.vast_core.specs.DeclaredNames.{NamesSound}
 use Rattle.vast_core.specs.Parents.{Part, places, held_by_module}
 use Rattle.vast_core.specs.Sound.{Each, PortSound, AssignmentSound, MemberSound, ParameterPortSound, ModuleSound, EntrySound, DefinitionSound, ArtifactSound, InstanceSound, NestSound, NestsSound, VariableSound, FunctionSound, AlwaysSound, RecordsSound, FileSound, AreDistinct}
 use Rattle.vast_core.specs.Internal.Sound.{IsSound}
-use Rattle.vast_core.specs.Containers.{Entry, StatementEnters, ElseIfEnters, ElseEnters, CaseArmEnters, MemberEnters, with_entry}
+use Rattle.vast_core.specs.Containers.{NestedEntry, StatementEnters, ElseIfEnters, ElseEnters, CaseArmEnters, MemberEnters, with_entry}
 use Rattle.vast_core.specs.Internal.Containers.{Listing, Nowhere, InFile, InHeader, InPorts, InModule, InFunction, InNest, AsSpare, with_listed, listed_modules, listed_functions, listed_nests, listed_items, listed_spare, with_listing, added, with_empty_block, spare_left, with_fresh, Fresh, FreshSound, EntersSound, ListingSound, GrowthSound, ComesEmpty, FunctionComes, InstanceComes, read_off, after_growth}
 use Rattle.vast_core.specs.Internal.Arrivals.{ListingThere, fresh_node, fresh_of, terms_of}
 use Rattle.vast_core.specs.declared.ast.arrivals.Arrivals.{Arrivals}
@@ -107,7 +107,7 @@ RecordsSound-fresh b f s h =
 
 -- A new entry of a container.
 
-entry-sound : (b : Bench) (i : ℕ) (e : Entry) → EntersSound b i e → (n : NestRecord) → NestSound b i n → NestSound b i (with_entry e n)
+entry-sound : (b : Bench) (i : ℕ) (e : NestedEntry) → EntersSound b i e → (n : NestRecord) → NestSound b i n → NestSound b i (with_entry e n)
 entry-sound b i (StatementEnters s) h (BlockRecord ss) k = Each-push _ ss s k h
 entry-sound b i (StatementEnters s) h (ConditionalNestRecord c) k = k
 entry-sound b i (StatementEnters s) h (CaseNestRecord c) k = k
@@ -129,7 +129,7 @@ entry-sound b i (MemberEnters m) h (ConditionalNestRecord c) k = k
 entry-sound b i (MemberEnters m) h (CaseNestRecord c) k = k
 entry-sound b i (MemberEnters m) h (LoopNestRecord l) k = record { genvar = k.genvar; start = k.start; end = k.end; members = Each-push _ l.members m k.members h }
 
-EntersSound-kept : (b c : Bench) → Grows b c → (i : ℕ) (e : Entry) → EntersSound b i e → EntersSound c i e
+EntersSound-kept : (b c : Bench) → Grows b c → (i : ℕ) (e : NestedEntry) → EntersSound b i e → EntersSound c i e
 EntersSound-kept b c g i (StatementEnters s) h = StatementSound-kept b c g i s h
 EntersSound-kept b c g i (ElseIfEnters a) h = ElseIfSound-kept b c g i a h
 EntersSound-kept b c g i (ElseEnters x) h = block-kept b c g i x h

@@ -4,7 +4,7 @@ use Rattle.vast_core.specs.declared.handle.VastStatementBlock.{VastStatementBloc
 use Rattle.vast_core.specs.declared.handle.Conditional.{Conditional}
 use Rattle.vast_core.specs.Nests.{NestRecord}
 use Rattle.vast_core.specs.Bench.{Bench, OwnsBlock, OwnsConditional}
-use Rattle.vast_core.specs.Containers.{Entry, with_nest_entry, with_nest}
+use Rattle.vast_core.specs.Containers.{NestedEntry, with_nest_entry, with_nest}
 use Rattle.vast_core.specs.Internal.Containers.{InNest}
 use Rattle.vast_core.proofs.Containers.{fresh_container}
 use Rattle.vast_core.proofs.Growing.{Grows-fresh, Grows-listing}
@@ -12,10 +12,10 @@ use Rattle.vast_core.proofs.Stays.{block_stays, conditional_stays}
 
 -- An entry more in a container.
 
-pub entered_block_owned : (b : Bench) (place : ℕ) (e : Entry) (x : VastStatementBlock) → OwnsBlock b x → OwnsBlock (with_nest_entry place e b) x
+pub entered_block_owned : (b : Bench) (place : ℕ) (e : NestedEntry) (x : VastStatementBlock) → OwnsBlock b x → OwnsBlock (with_nest_entry place e b) x
 entered_block_owned b place e x h = block_stays b (with_nest_entry place e b) (Grows-listing b (InNest place e)) x h
 
-pub entered_conditional_owned : (b : Bench) (place : ℕ) (e : Entry) (x : Conditional) → OwnsConditional b x → OwnsConditional (with_nest_entry place e b) x
+pub entered_conditional_owned : (b : Bench) (place : ℕ) (e : NestedEntry) (x : Conditional) → OwnsConditional b x → OwnsConditional (with_nest_entry place e b) x
 entered_conditional_owned b place e x h = conditional_stays b (with_nest_entry place e b) (Grows-listing b (InNest place e)) x h
 
 -- A container more.

@@ -7,7 +7,7 @@ use Rattle.vast_core.specs.declared.node.CaseArm.{CaseArm}
 use Rattle.vast_core.specs.Records.{Member, DeclarationEntry, FunctionEntry, AlwaysEntry, ConditionalEntry, LoopEntry, changed_at}
 use Rattle.vast_core.specs.Nests.{Statement, ConditionalStatement, CasesStatement, NestRecord, BlockRecord, ConditionalNestRecord, CaseNestRecord, LoopNestRecord, AlwaysRecord, NestKind, NoKind, nest_kind}
 use Rattle.vast_core.specs.Bench.{Bench, tree_of, maybe_tree_of, trees_of}
-use Rattle.vast_core.specs.Containers.{Entry, StatementEnters, ElseIfEnters, ElseEnters, CaseArmEnters, MemberEnters, with_entry}
+use Rattle.vast_core.specs.Containers.{NestedEntry, StatementEnters, ElseIfEnters, ElseEnters, CaseArmEnters, MemberEnters, with_entry}
 use Rattle.vast_core.specs.FileTree.{Family, BlockFamily, ConditionalFamily, CaseFamily, LoopFamily, block_in, conditional_statement, case_statement, conditional_member, loop_member, statement_in, statements_in, otherwise_in, alternates_in, arms_in, always_in, member_in, members_in, family, unfolded, families}
 use Rattle.vast_literal.specs.Tree.{ElseIf as ElseIfTree, Else, CaseArm as CaseArmTree, MoreStatements, MoreMembers, CaseTree, LoopMember, AlwaysMember}
 use Rattle.vast_core.specs.Sound.{Each, HoldsBlock, StatementSound, ElseIfSound, CaseArmSound, AlwaysNewer, MemberNewer, LoopMemberSound, NestSound, NestsSound}
@@ -147,7 +147,7 @@ changed-before f (x ∷ xs) ys zero h = refl
 changed-before f (x ∷ xs) ys (suc i) h = ap (λ r. x ∷ r) (changed-before f xs ys i (omega arith))
 
 -- A container has the kind that it had before an entry came.
-pub entry-kind : (e : Entry) (n : NestRecord) → nest_kind (Some (with_entry e n)) ≡ nest_kind (Some n)
+pub entry-kind : (e : NestedEntry) (n : NestRecord) → nest_kind (Some (with_entry e n)) ≡ nest_kind (Some n)
 entry-kind (StatementEnters s) (BlockRecord ss) = refl
 entry-kind (StatementEnters s) (ConditionalNestRecord c) = refl
 entry-kind (StatementEnters s) (CaseNestRecord c) = refl

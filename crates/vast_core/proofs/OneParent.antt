@@ -8,7 +8,7 @@ use Rattle.vast_core.specs.Nests.{ConditionalRecord, NestRecord, BlockRecord, Co
 use Rattle.vast_core.specs.Bench.{Bench}
 use Rattle.vast_core.specs.Functions.{with_listed_variable}
 use Rattle.vast_core.specs.Hoisting.{with_hoisted, with_members_hoisted}
-use Rattle.vast_core.specs.Containers.{Entry, StatementEnters, ElseIfEnters, ElseEnters, CaseArmEnters, MemberEnters, with_entry, with_unique, with_case_unique}
+use Rattle.vast_core.specs.Containers.{NestedEntry, StatementEnters, ElseIfEnters, ElseEnters, CaseArmEnters, MemberEnters, with_entry, with_unique, with_case_unique}
 use Rattle.vast_core.specs.Internal.Containers.{Listing, Nowhere, InFile, InHeader, InPorts, InModule, InFunction, InNest, AsSpare, with_listed, listed_functions, listed_nests, with_listing, added, Fresh, with_fresh, with_empty_block, spare_left, after_growth, read_off, held_by_entry, held_by_listing, held_by_fresh, made_containers, made, spare_used}
 use Rattle.vast_core.specs.Parents.{Part, ContainerPart, FunctionPart, AlwaysPart, is_same, held_by_statement, held_by_member, held_by_else_if, held_by_block, held_by_case_arm, held_by_conditional, held_by_container, held_by_function, held_by_always, held_by_module, held, places, present, HasOneParent}
 use Rattle.vast_core.proofs.Lists.{length-changed_at, length-push}
@@ -23,7 +23,7 @@ conditional-places p c =
     omega (arith, outer, inner)
 
 -- A container gains at most what its new entry places.
-entered : (p : Part) (e : Entry) (n : NestRecord) → places p (held_by_container (with_entry e n)) ≤ places p (held_by_container n) + places p (held_by_entry e)
+entered : (p : Part) (e : NestedEntry) (n : NestRecord) → places p (held_by_container (with_entry e n)) ≤ places p (held_by_container n) + places p (held_by_entry e)
 entered p (StatementEnters s) (BlockRecord statements) = let e = over-push (is_same p) held_by_statement statements s in omega (arith, e)
 entered p (StatementEnters s) (ConditionalNestRecord c) = omega arith
 entered p (StatementEnters s) (CaseNestRecord c) = omega arith

@@ -5,16 +5,23 @@ use Rattle.vast_core.specs.declared.handle.VastStatementBlock.{VastStatementBloc
 use Rattle.vast_core.specs.declared.handle.Conditional.{Conditional}
 use Rattle.vast_core.specs.declared.handle.CaseStatement.{CaseStatement}
 use Rattle.vast_literal.specs.declared.kind.CaseKind.{CaseKind}
--- A new entry of a container.
-pub use Rattle.vast_core.specs.declared.ast.growth.Entry.{Entry}
-pub use Rattle.vast_core.specs.declared.ast.growth.Entry.TheVariants.{Statement as StatementEnters, ElseIf as ElseIfEnters, Else as ElseEnters, CaseArm as CaseArmEnters, Member as MemberEnters}
-use Rattle.vast_core.specs.Records.{changed_at}
+use Rattle.vast_core.specs.declared.node.ElseIf.{ElseIf}
+use Rattle.vast_core.specs.declared.node.CaseArm.{CaseArm}
+use Rattle.vast_core.specs.Records.{Member, changed_at}
 use Rattle.vast_core.specs.Nests.{Statement, NestRecord, BlockRecord, ConditionalNestRecord, CaseNestRecord, LoopNestRecord}
 use Rattle.vast_core.specs.Bench.{Bench}
 use Rattle.vast_core.specs.Growth.{next_id}
 
+-- A new entry of a container.
+pub data NestedEntry : Type 0 where
+  StatementEnters : Statement → NestedEntry
+  ElseIfEnters : ElseIf → NestedEntry
+  ElseEnters : VastStatementBlock → NestedEntry
+  CaseArmEnters : CaseArm → NestedEntry
+  MemberEnters : Member → NestedEntry
+
 -- The container with the entry at its end; one that holds no such entries stays.
-abbrev pub with_entry : Entry → NestRecord → NestRecord
+abbrev pub with_entry : NestedEntry → NestRecord → NestRecord
 with_entry (StatementEnters s) (BlockRecord statements) = BlockRecord (statements ++ s ∷ [])
 with_entry (ElseIfEnters a) (ConditionalNestRecord c) = ConditionalNestRecord (record c { else_ifs = c.else_ifs ++ a ∷ [] })
 with_entry (ElseEnters b) (ConditionalNestRecord c) = ConditionalNestRecord (record c { otherwise = Some b })
@@ -57,7 +64,7 @@ abbrev pub with_case : CaseKind → Expr → Bench → Bench
 with_case kind selector b = with_nest (new_case kind selector) b
 
 -- A container with an entry more.
-abbrev pub with_nest_entry : ℕ → Entry → Bench → Bench
+abbrev pub with_nest_entry : ℕ → NestedEntry → Bench → Bench
 with_nest_entry place entry b = record b { nests = changed_at place (with_entry entry) b.nests }
 
 abbrev pub with_statement : VastStatementBlock → Statement → Bench → Bench

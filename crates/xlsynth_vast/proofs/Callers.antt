@@ -23,8 +23,7 @@ use Rattle.vast_core.specs.declared.node.Port.{Port}
 use Rattle.vast_core.specs.Nests.{NestRecord, BlockRecord, FunctionRecord, AlwaysRecord, nest_kind, is_block_kind, is_conditional_kind, is_case_kind, is_loop_kind}
 use Rattle.vast_core.specs.declared.node.Statement.{Statement}
 use Rattle.vast_core.specs.Bench.{is_continuous, is_blank_line, is_comment, is_inline, is_macro_statement, names_of}
-use Rattle.vast_core.specs.Containers.{with_entry, has_else}
-use Rattle.vast_core.specs.declared.ast.growth.Entry.TheVariants.{Statement as StatementEnters, ElseIf as ElseIfEnters, Else as ElseEnters, CaseArm as CaseArmEnters, Member as MemberEnters}
+use Rattle.vast_core.specs.Containers.{StatementEnters, ElseIfEnters, ElseEnters, CaseArmEnters, MemberEnters, with_entry, has_else}
 use Rattle.vast_print.specs.Emits.{Emits}
 use Rattle.vast_print.specs.Layout.{IsFileText, layout}
 use Rattle.vast_core.proofs.Lists.{slice_get-seam, length-push, length-changed_at}

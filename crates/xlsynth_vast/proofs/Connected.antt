@@ -1,6 +1,5 @@
 -- What an instantiation gives to parameters and ports.
 use Rattle.std.proofs.Common.{◌≡◌, ℕ, zero, suc, ◌+◌, ◌<◌, List, [], ◌∷◌, ◌++◌, length, map, All, Option, Some, None, refl, ap, arith, take, get_or, add-one, Bor, IfSome, option_copied}
-use Rattle.std.proofs.lemmas.List.{map-append}
 use Rattle.vast_core.specs.declared.node.Connection.{Connection}
 use Rattle.vast_core.specs.declared.handle.Expr.{Expr}
 use Rattle.vast_core.specs.Bench.{Bench, OwnsExpr}
@@ -26,7 +25,7 @@ pub one_more :
     c ≡ record { name = f n; value = g v } →
     (made ++ c ∷ []) ≡ connected (map f (take (i + 1) ns)) (map g (take (i + 1) vs))
 one_more f g ns vs i n d v e made c below under is at so_far given =
-    rw (add-one, connected-more f g ns vs i n d v e below under is at, map-append made (c ∷ []), so_far, given) refl
+    rw (add-one, connected-more f g ns vs i n d v e below under is at, so_far, given) refl
 
 -- What it gives is the file's, where its expressions are.
 

@@ -32,8 +32,7 @@ use Rattle.vast_core.specs.Artifacts.{with_artifact, with_definition, with_insta
 use Rattle.vast_core.specs.Parameters.{with_parameter_port, with_plain_parameter, with_int_parameter, with_defined_parameter}
 use Rattle.vast_core.specs.Hoisting.{with_hoisted}
 use Rattle.vast_core.specs.Functions.{with_variable}
-use Rattle.vast_core.specs.Containers.{next_block, with_block, with_conditional, new_conditional, with_case, new_case, with_statement, with_else_if, with_else, with_case_arm, with_case_unique}
-use Rattle.vast_core.specs.declared.ast.growth.Entry.TheVariants.{Statement as StatementEnters, ElseIf as ElseIfEnters, Else as ElseEnters, CaseArm as CaseArmEnters, Member as MemberEnters}
+use Rattle.vast_core.specs.Containers.{StatementEnters, ElseIfEnters, ElseEnters, CaseArmEnters, MemberEnters, next_block, with_block, with_conditional, new_conditional, with_case, new_case, with_statement, with_else_if, with_else, with_case_arm, with_case_unique}
 use Rattle.vast_core.specs.Internal.Containers.{InFile, InPorts, InFunction, InNest, no_fresh, fresh_assignment, fresh_block}
 use Rattle.vast_core.proofs.Containers.{fresh_container}
 use Rattle.vast_core.specs.Scopes.{with_scope_member}

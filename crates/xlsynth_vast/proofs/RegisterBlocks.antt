@@ -15,8 +15,7 @@ use Rattle.vast_core.specs.declared.node.Statement.TheVariants.{Assignment as As
 use Rattle.vast_core.specs.Bench.{Bench, OwnsExpr, tree_of}
 use Rattle.vast_core.specs.Growth.{with_assignment}
 use Rattle.vast_core.specs.Artifacts.{next_statement}
-use Rattle.vast_core.specs.Containers.{with_entry}
-use Rattle.vast_core.specs.declared.ast.growth.Entry.TheVariants.{Statement as StatementEnters}
+use Rattle.vast_core.specs.Containers.{StatementEnters, with_entry}
 use Rattle.vast_core.specs.FileTree.{Family, statement_in, statements_in}
 use Rattle.vast_core.proofs.Laws.{next_owned, next_tree}
 use Rattle.vast_core.proofs.Lists.{All-head, All-tail, slice_get-seam}

@@ -11,9 +11,7 @@ use Rattle.vast_core.specs.Nests.{NestRecord, BlockRecord, ConditionalNestRecord
 use Rattle.vast_core.specs.declared.node.Statement.{Statement}
 use Rattle.vast_core.specs.declared.node.Statement.TheVariants.{Conditional as ConditionalStatement}
 use Rattle.vast_core.specs.Bench.{Bench, OwnsExpr, OwnsBlock, OwnsConditional, tree_of}
-use Rattle.vast_core.specs.Containers.{with_entry, with_nest, with_block, with_conditional, new_conditional, next_conditional, next_block, has_else}
-use Rattle.vast_core.specs.declared.ast.growth.Entry.{Entry}
-use Rattle.vast_core.specs.declared.ast.growth.Entry.TheVariants.{Statement as StatementEnters, Else as ElseEnters}
+use Rattle.vast_core.specs.Containers.{NestedEntry, StatementEnters, ElseEnters, with_entry, with_nest, with_block, with_conditional, new_conditional, next_conditional, next_block, has_else}
 use Rattle.vast_core.specs.FileTree.{block_in, conditional_statement, statements_in, unfolded, families}
 use Rattle.vast_core.proofs.Lists.{slice_get-append, slice_get-seam, length-changed_at}
 use Rattle.vast_core.proofs.Laws.{next_owned, next_tree}
@@ -43,7 +41,7 @@ active-made reset b h = active-case reset b reset.active_low refl h
 
 -- The conditional with its first block.
 
-abbrev entered : Bench → Entry
+abbrev entered : Bench → NestedEntry
 entered b = StatementEnters (ConditionalStatement (next_conditional b))
 
 pub opened-changes : (condition : Expr) (block : VastStatementBlock) (b : Bench) → Changes block.id.index b (with_if condition block b)

@@ -14,8 +14,7 @@ use Rattle.vast_core.specs.Nests.{BlockRecord}
 use Rattle.vast_core.specs.Bench.{Bench, OwnsExpr, OwnsBlock, tree_of}
 use Rattle.vast_core.specs.Sound.{EventSound}
 use Rattle.vast_core.specs.Growth.{next_expr}
-use Rattle.vast_core.specs.Containers.{with_entry, next_block, with_spare_block}
-use Rattle.vast_core.specs.declared.ast.growth.Entry.TheVariants.{Member as MemberEnters}
+use Rattle.vast_core.specs.Containers.{MemberEnters, with_entry, next_block, with_spare_block}
 use Rattle.vast_core.specs.Loops.{next_always}
 use Rattle.vast_core.specs.Unattached.{always_over}
 use Rattle.vast_core.specs.FileTree.{member_tree}

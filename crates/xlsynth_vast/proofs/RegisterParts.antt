@@ -11,8 +11,7 @@ use Rattle.vast_core.specs.Records.{changed_at}
 use Rattle.vast_core.specs.Nests.{NestRecord, BlockRecord}
 use Rattle.vast_core.specs.Bench.{Bench, OwnsExpr, OwnsBlock, tree_of}
 use Rattle.vast_core.specs.Growth.{with_root, with_assignment}
-use Rattle.vast_core.specs.Containers.{with_entry, with_nest, with_nest_entry, with_spare_block}
-use Rattle.vast_core.specs.declared.ast.growth.Entry.{Entry}
+use Rattle.vast_core.specs.Containers.{NestedEntry, with_entry, with_nest, with_nest_entry, with_spare_block}
 use Rattle.vast_core.proofs.Lists.{slice_get-append}
 use Rattle.vast_core.proofs.NodeLaws.{Extends, Extends-same, Extends-root, HasExpr-kept, expr_in-kept}
 use Rattle.vast_core.proofs.NestLaws.{entered_block_owned, old_block_owned}
@@ -135,7 +134,7 @@ unused-assignment b c a h = rw h.after (record { roots = h.roots; assignments = 
 unused-nest : (b c : Bench) (n : NestRecord) → HasUnused b c → HasUnused b (with_nest n c)
 unused-nest b c n h = rw h.after (record { roots = h.roots; assignments = h.assignments; containers = h.containers ++ n ∷ []; spare = h.spare; after = rw (append_assoc b.nests h.containers (n ∷ [])) refl })
 
-unused-entry : (b c : Bench) (i : ℕ) (e : Entry) → HasUnused b c → length b.nests ≤ i → HasUnused b (with_nest_entry i e c)
+unused-entry : (b c : Bench) (i : ℕ) (e : NestedEntry) → HasUnused b c → length b.nests ≤ i → HasUnused b (with_nest_entry i e c)
 unused-entry b c i e h past =
     let k : ℕ = i - length b.nests in
     let place : i ≡ k + length b.nests = omega (arith, past) in
@@ -197,7 +196,7 @@ changes-nest i b n =
       unused = λ start h past. unused-nest start b n h;
     }
 
-pub changes-entry : (i : ℕ) (b : Bench) (e : Entry) → Changes i b (with_nest_entry i e b)
+pub changes-entry : (i : ℕ) (b : Bench) (e : NestedEntry) → Changes i b (with_nest_entry i e b)
 changes-entry i b e =
     record {
       wider = record { nodes = Extends-same b.nodes; assignments = λ k a h. h };

@@ -1,6 +1,8 @@
 -- What the code hands over where the arenas grow, as contracts speak of it.
 use Rattle.std.specs.Prelude.{ℕ, ◌<◌, true, false, Option, Some, None, List, [], ◌∷◌}
 use Rattle.std.specs.Borrow.{Bor}
+use Rattle.vast_core.specs.declared.ast.growth.Entry.{Entry}
+use Rattle.vast_core.specs.declared.ast.growth.Entry.TheVariants.{Statement as StatementOf, ElseIf as ElseIfOf, Else as ElseOf, CaseArm as CaseArmOf, Member as MemberOf}
 use Rattle.vast_core.specs.declared.ast.growth.Place.{Place}
 use Rattle.vast_core.specs.declared.ast.growth.Place.TheVariants.{Nowhere as NowhereOf, File as FileOf, Header as HeaderOf, Ports as PortsOf, Module as ModuleOf, Function as FunctionOf, Nest as NestOf, Spare as SpareOf}
 use Rattle.vast_core.specs.declared.node.ExprNode.{ExprNode}
@@ -11,7 +13,15 @@ use Rattle.vast_core.specs.declared.ast.arrivals.Node.TheVariants.{Nothing as No
 use Rattle.vast_core.specs.declared.ast.arrivals.Arrivals.{Arrivals}
 use Rattle.vast_core.specs.Records.{module_record, instance_record}
 use Rattle.vast_core.specs.Nests.{nest_record, function_record, always_record}
+use Rattle.vast_core.specs.Containers.{NestedEntry, StatementEnters, ElseIfEnters, ElseEnters, CaseArmEnters, MemberEnters}
 use Rattle.vast_core.specs.Internal.Containers.{Listing, Nowhere, InFile, InHeader, InPorts, InModule, InFunction, InNest, AsSpare, Fresh, no_fresh, fresh_assignment}
+
+abbrev pub entry_of : Entry → NestedEntry
+entry_of (StatementOf s) = StatementEnters s
+entry_of (ElseIfOf a) = ElseIfEnters a
+entry_of (ElseOf b) = ElseEnters b
+entry_of (CaseArmOf a) = CaseArmEnters a
+entry_of (MemberOf m) = MemberEnters m
 
 abbrev pub name_of : Option (Bor (List ℕ)) → Option (List ℕ)
 name_of None = None
@@ -24,7 +34,7 @@ listing_of (HeaderOf owner p) = InHeader owner p
 listing_of (PortsOf owner port name) = InPorts owner port name.now
 listing_of (ModuleOf owner member name) = InModule owner member (name_of name)
 listing_of (FunctionOf owner local v) = InFunction owner local v
-listing_of (NestOf place entry) = InNest place entry
+listing_of (NestOf place entry) = InNest place (entry_of entry)
 listing_of (SpareOf block) = AsSpare block
 
 -- The expressions and types that come.

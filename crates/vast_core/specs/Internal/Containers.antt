@@ -17,7 +17,7 @@ use Rattle.vast_core.specs.DeclaredNames.{NamesSound, names_by_port, names_by_me
 use Rattle.vast_core.specs.WrittenKinds.{IsVariableKind, HasOwnKind}
 use Rattle.vast_core.specs.Parents.{Part, ContainerPart, FunctionPart, AlwaysPart, held_by_statement, held_by_member, held_by_else_if, held_by_block, held_by_case_arm, held_by_container, held_by_function, held_by_always, held_by_module}
 use Rattle.vast_core.specs.Sound.{PortSound, AssignmentSound, MemberSound, ParameterPortSound, ModuleSound, EntrySound, DefinitionSound, ArtifactSound, InstanceSound, StatementSound, ElseIfSound, HoldsBlock, CaseArmSound, LoopMemberSound, NestSound, VariableSound, FunctionSound, AlwaysSound, DeclaresOwnKinds, HasLocalKinds, GivesValues}
-use Rattle.vast_core.specs.Containers.{Entry, StatementEnters, ElseIfEnters, ElseEnters, CaseArmEnters, MemberEnters, with_entry}
+use Rattle.vast_core.specs.Containers.{NestedEntry, StatementEnters, ElseIfEnters, ElseEnters, CaseArmEnters, MemberEnters, with_entry}
 
 -- Where a new entry goes: nowhere, to the end of the file's items, of a module's header, ports or members, of a
 -- function's inputs or locals, or into a container. A name is taken from then on. Or a block becomes the file's spare one.
@@ -28,7 +28,7 @@ pub data Listing : Type 0 where
   InPorts : VastModule → ModulePort → (name : List ℕ) → Listing
   InModule : VastModule → Member → (name : Option (List ℕ)) → Listing
   InFunction : VastFunction → (local : Bool) → FunctionVariable → Listing
-  InNest : (place : ℕ) → Entry → Listing
+  InNest : (place : ℕ) → NestedEntry → Listing
   AsSpare : VastStatementBlock → Listing
 
 abbrev pub with_listed : Member → Option (List ℕ) → ModuleRecord → ModuleRecord
@@ -141,7 +141,7 @@ pub record FreshSound (b c : Bench) (f : Fresh) : Type 0 where
   pub instance : IfSome f.instance (InstanceComes c)
   pub always_block : IfSome f.always_block (AlwaysSound c)
 
-abbrev pub EntersSound : Bench → ℕ → Entry → Type 0
+abbrev pub EntersSound : Bench → ℕ → NestedEntry → Type 0
 EntersSound b i (StatementEnters s) = StatementSound b i s
 EntersSound b i (ElseIfEnters a) = ElseIfSound b i a
 EntersSound b i (ElseEnters x) = HoldsBlock b i x
@@ -185,7 +185,7 @@ ListingSound b c (AsSpare block) = OwnsBlock c block
 
 -- The parts that a new entry places, those that stand in new nodes, and those that are made.
 
-abbrev pub held_by_entry : Entry → List Part
+abbrev pub held_by_entry : NestedEntry → List Part
 held_by_entry (StatementEnters s) = held_by_statement s
 held_by_entry (ElseIfEnters a) = held_by_else_if a
 held_by_entry (ElseEnters c) = held_by_block (Some c)

@@ -9,6 +9,7 @@ ghost use Rattle.vast_literal.specs.Tree.{CaseTree};
 ghost use Rattle.vast_core.specs.Growth.{Grows, GrowsBy};
 ghost use Rattle.vast_core.specs.Containers.{new_conditional, with_nest_entry, with_block, with_statement, next_case, with_case, next_block, with_else_if, with_else, with_case_arm, has_else, with_unique, with_case_unique};
 ghost use Rattle.vast_core.specs.Internal.Containers.{InNest, GrowthSound, fresh_block};
+ghost use Rattle.vast_core.specs.Internal.Arrivals.{entry_of};
 ghost use Rattle.vast_core.specs.View.{bench};
 
 use crate::ast::Ast;
@@ -91,9 +92,9 @@ impl Ast {
 
     /// Adds an entry that names the next block, and that block, which is empty.
     fn grow_with_block(&mut self, place: usize, entry: Entry) -> Result<(), AllocError>
-        requires { GrowthSound (bench self.old) (InNest place entry) fresh_block }
+        requires { GrowthSound (bench self.old) (InNest place (entry_of entry)) fresh_block }
         ensures { GrowsBy self.old self.new result
-            (λ b. with_nest_entry place entry (with_block b)) }
+            (λ b. with_nest_entry place (entry_of entry) (with_block b)) }
     {
         self.grow(
             Place::Nest(place, entry),

@@ -6,7 +6,7 @@ ghost use Rattle.vast_core.specs.Nests.{nest_record, function_record};
 ghost use Rattle.vast_core.specs.Functions.{with_listed_variable};
 ghost use Rattle.vast_core.specs.Containers.{StatementEnters, ElseIfEnters, ElseEnters, CaseArmEnters, MemberEnters, with_entry};
 ghost use Rattle.vast_core.specs.Internal.Containers.{with_listed, listed_modules, listed_nests, listed_functions, listed_items, listed_spare, GrowthSound, HasRoom, after_growth};
-ghost use Rattle.vast_core.specs.Internal.Arrivals.{name_of, listing_of, fresh_of, ListingThere};
+ghost use Rattle.vast_core.specs.Internal.Arrivals.{entry_of, name_of, listing_of, fresh_of, ListingThere};
 ghost use Rattle.vast_core.specs.Growth.{GrowsBy};
 ghost use Rattle.vast_core.specs.View.{bench};
 
@@ -108,7 +108,7 @@ impl Nest {
     /// Adds the entry, or changes nothing.
     fn enter(&mut self, entry: Entry) -> Result<(), AllocError>
         ensures ok { OnOk result
-            (nest_record self.new ≡ with_entry entry (nest_record self.old)) }
+            (nest_record self.new ≡ with_entry (entry_of entry) (nest_record self.old)) }
         ensures err { OnErr result (nest_record self.new ≡ nest_record self.old) }
     {
         match entry {
@@ -187,7 +187,7 @@ fn enter_nest(nests: &mut Vec<Nest>, place: usize, entry: Entry) -> Result<(), A
     requires { place < length nests.old.items }
     ensures ok { OnOk result
         (map nest_record nests.new.items
-        ≡ changed_at place (with_entry entry) (map nest_record nests.old.items)) }
+        ≡ changed_at place (with_entry (entry_of entry)) (map nest_record nests.old.items)) }
     ensures err { OnErr result (map nest_record nests.new.items ≡ map nest_record nests.old.items) }
     ensures room { vec_capacity nests.new - vec_len nests.new
         ≡ vec_capacity nests.old - vec_len nests.old }
