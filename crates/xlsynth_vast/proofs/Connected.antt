@@ -47,6 +47,10 @@ each-valued f (name ∷ names) (value ∷ values) = (tt, each-valued f names val
 pub connected-valued : {B : Type 0} (f : B → Expr) (names : List (List ℕ)) (values : List B) (made : List Connection) → made ≡ connected names (map (λ v. Some (f v)) values) → All HasValue made
 connected-valued f names values made e = All-own HasValue made (rw e (each-valued f names values))
 
+pub each-given : {A B : Type 0} (v : A → B) (P : B → Type 0) (xs : List A) → All (λ x. P (v x)) xs → Each P (map v xs)
+each-given v P [] h = tt
+each-given v P (x ∷ xs) h = (All-head (λ y. P (v y)) x xs h, each-given v P xs (All-tail (λ y. P (v y)) x xs h))
+
 some-owned : (b : Bench) (e : Option (Bor Expr)) → IfSome e (λ x. OwnsExpr b x.now) → IfSome (option_copied e) (OwnsExpr b)
 some-owned b None h = tt
 some-owned b (Some x) h = h

@@ -3,15 +3,14 @@ use Rattle.std.specs.Prelude.{IfSome}
 use Rattle.vast_core.specs.declared.handle.Expr.{Expr}
 use Rattle.vast_core.specs.Bench.{OwnsExpr}
 use Rattle.vast_core.specs.View.{bench}
-use Rattle.vast_core.proofs.Lists.{Each-own}
 use Rattle.xlsynth_vast.proofs.Kept.{kept_by}
 use Rattle.xlsynth_vast.proofs.KeptWords.{instance-kept}
-use Rattle.xlsynth_vast.proofs.Connected.{connected-sound, connected-valued, each-copied}
+use Rattle.xlsynth_vast.proofs.Connected.{connected-sound, connected-valued, each-given, each-copied}
 use Rattle.xlsynth_vast.proofs.file.VastFile.make_instantiation.Goals as goal
 
 pub push_instantiation-requires-clause-parameters : goal.push_instantiation-requires-clause-parameters
 push_instantiation-requires-clause-parameters c =
-    connected-sound (bench c.self.inside.ast) _ _ _ c.in_ok-parameters.ensures (Each-own (λ (e : Bor Expr). Some e.now) (λ o. IfSome o (OwnsExpr (bench c.self.inside.ast))) c.args.parameter_expressions.now (rw (← c.self.view_is) at c.requires.parameter_expressions))
+    connected-sound (bench c.self.inside.ast) _ _ _ c.in_ok-parameters.ensures (each-given (λ (e : Bor Expr). Some e.now) (λ o. IfSome o (OwnsExpr (bench c.self.inside.ast))) c.args.parameter_expressions.now (rw (← c.self.view_is) at c.requires.parameter_expressions))
 
 pub push_instantiation-requires-clause-values : goal.push_instantiation-requires-clause-values
 push_instantiation-requires-clause-values c = connected-valued (λ (e : Bor Expr). e.now) _ c.args.parameter_expressions.now _ c.in_ok-parameters.ensures
