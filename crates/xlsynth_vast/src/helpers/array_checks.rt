@@ -79,7 +79,22 @@ fn known_type(ast: &Ast, e: Expr) -> Option<(VastDataType, usize)>
             ExprNode::Name(_, Some(data_type)) => return Some((*data_type, indexes)),
             ExprNode::TypeCast(data_type, _) => return Some((*data_type, indexes)),
             ExprNode::Name(_, None) => return None,
-            _ => return None,
+            ExprNode::Literal(_, _) => return None,
+            ExprNode::StringText(_) => return None,
+            ExprNode::Unary(_, _) => return None,
+            ExprNode::Binary(_, _, _) => return None,
+            ExprNode::Ternary(_, _, _) => return None,
+            ExprNode::Slice(_, _, _) => return None,
+            ExprNode::PartSelect(_, _, _) => return None,
+            ExprNode::Concat(_, _) => return None,
+            ExprNode::Pattern(_) => return None,
+            ExprNode::WidthCast(_, _) => return None,
+            ExprNode::PosEdge(_) => return None,
+            ExprNode::NegEdge(_) => return None,
+            ExprNode::Macro(_) => return None,
+            ExprNode::MacroCall(_, _) => return None,
+            ExprNode::Call(_, _) => return None,
+            ExprNode::DataType(_) => return None,
         }
     }
 }
