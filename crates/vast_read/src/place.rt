@@ -1,6 +1,6 @@
 //! Where a text is no longer one that the grammar derives.
 
-ghost use Rattle.std.specs.Prelude.{◌≡◌, ◌⊎◌, ℕ, List, [], ◌++◌, IfErr, IfOk, IfSome, MatchOption, MatchResult, IsCharBoundary};
+ghost use Rattle.std.specs.Prelude.{◌≡◌, ℕ, List, ◌++◌, IfErr, IfOk, IfSome, MatchOption, MatchResult, IsCharBoundary};
 ghost use Rattle.vast_literal.specs.FileGrammar.{IsFile, DerivesFile};
 ghost use Rattle.vast_literal.specs.NormalFile as normal;
 ghost use Rattle.vast_literal.specs.Scan.{Gap};
@@ -63,12 +63,12 @@ pub(crate) fn file_or_place<'t, B: BuildFiles<'t>>(
 
 /// The first token of a text, as it is written, with what stands before it; all of it, where no token fits.
 pub fn first_token(text: &str) -> &str
-    ensures { (rest : List ℕ) × (text.now ≡ result.now ++ rest)
-        × (IsBehindFirst text.now rest ⊎ (rest ≡ [])) }
+    ensures { (rest : List ℕ) × (text.now ≡ result.now ++ rest) × IsBehindFirst text.now rest }
 {
     let (_, behind) = first_and_behind(text);
     match text.strip_suffix(behind) {
         Some(token) => token,
+        // There is no other rest.
         None => text,
     }
 }

@@ -1,6 +1,6 @@
 //! Places of a text by what is behind them.
 
-ghost use Rattle.std.specs.Prelude.{◌≡◌, IsCharBoundary};
+ghost use Rattle.std.specs.Prelude.{◌≡◌, ℕ, List, ◌++◌, IsCharBoundary};
 ghost use Rattle.vast_literal.specs.Scan.{Gap};
 ghost use Rattle.vast_read.specs.Behind.{Behind};
 ghost use Rattle.vast_read.specs.Lexed.{lex};
@@ -55,6 +55,7 @@ pub(crate) fn first_and_behind<'t>(text: &'t str) -> (&'t str, &'t str)
     ensures tokens { lex Gap result.0.now ≡ lex Gap text.now }
     ensures front { BeginsWithoutSpace result.0.now }
     ensures behind { IsBehindFirst text.now result.1.now }
+    ensures rest { (before : List ℕ) × (text.now ≡ before ++ result.1.now) }
 {
     let mut rest = text;
     while !rest.is_empty() {
