@@ -1,11 +1,10 @@
 -- Places of a text between its tokens.
-use Rattle.std.specs.Prelude.{◌≡◌, ◌⊎◌, ℕ, List, [], ◌∷◌, ◌++◌, drop, true}
+use Rattle.std.specs.Prelude.{◌≡◌, ◌⊎◌, ℕ, List, [], ◌∷◌, ◌++◌, drop}
 use Rattle.vast_literal.specs.Tokens.{Token}
-use Rattle.vast_literal.specs.Scan.{Gap, is_space}
-use Rattle.vast_literal.specs.Lexemes.{Lexes}
+use Rattle.vast_literal.specs.Scan.{Gap}
+use Rattle.vast_literal.specs.Lexemes.{IsLexeme, Lexes}
 use Rattle.vast_read.specs.Behind.{Behind}
 use Rattle.vast_read.specs.Lexed.{lex}
-use Rattle.vast_read.specs.Scanner.{byte_at}
 
 -- What stands in front of this place is some of the text's lexemes, so no token goes over it.
 abbrev pub IsBetweenTokens : (text : List ℕ) → (place : ℕ) → Type 0
@@ -21,6 +20,6 @@ PlacesPartTokens =
 abbrev pub IsBehindFirst : (text rest : List ℕ) → Type 0
 IsBehindFirst text rest = ((token : Token) × (lex Gap text ≡ token ∷ lex Gap rest)) ⊎ ((lex Gap text ≡ []) × (rest ≡ []))
 
--- No white space stands at the front.
-abbrev pub BeginsWithoutSpace : List ℕ → Type 0
-BeginsWithoutSpace text = is_space (byte_at text 0) ≡ true → text ≡ []
+-- Neither white space nor a comment stands at the front.
+abbrev pub BeginsWithoutGap : List ℕ → Type 0
+BeginsWithoutGap text = (front behind : List ℕ) → text ≡ front ++ behind → IsLexeme front [] → ⊥

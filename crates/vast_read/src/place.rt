@@ -5,7 +5,7 @@ ghost use Rattle.vast_literal.specs.FileGrammar.{IsFile, DerivesFile};
 ghost use Rattle.vast_literal.specs.NormalFile as normal;
 ghost use Rattle.vast_literal.specs.Scan.{Gap};
 ghost use Rattle.vast_read.specs.Lexed.{lex};
-ghost use Rattle.vast_read.specs.Places.{BeginsWithoutSpace, IsBehindFirst, IsBetweenTokens};
+ghost use Rattle.vast_read.specs.Places.{BeginsWithoutGap, IsBehindFirst, IsBetweenTokens};
 
 use crate::build::{BuildFiles, Unbuilt};
 use crate::fault::Fault;
@@ -76,7 +76,7 @@ pub fn first_token(text: &str) -> &str
 /// The text from its first token on; nothing, where it has none.
 pub fn from_first_token(text: &str) -> &str
     ensures tokens { lex Gap result.now ≡ lex Gap text.now }
-    ensures front { BeginsWithoutSpace result.now }
+    ensures front { BeginsWithoutGap result.now }
 {
     first_and_behind(text).0
 }

@@ -59,6 +59,7 @@ fn front_of<'t>(text: &'t str) -> Front<'t>
     requires { 0 < length text.now }
     ensures front { Fronts result text.now }
     ensures space { is_space (byte_at text.now 0) ≡ true → IsGap result }
+    ensures comment { byte_at text.now 0 ≡ 47 → byte_at text.now 1 ≡ 47 → IsGap result }
 {
     let first = byte_at(text, 0);
     if is_space(first) {

@@ -1,10 +1,12 @@
 -- Places of a text between its tokens.
-use Rattle.std.proofs.Common.{◌≡◌, ◌≢◌, List, ℕ, [], ◌∷◌, ◌++◌, length, Option, None, inl, inr, refl, sym, ap, subst, ◌∙◌, append_assoc, arith}
+use Rattle.std.proofs.Common.{◌≡◌, ◌≢◌, true, List, ℕ, [], ◌∷◌, ◌++◌, length, Option, None, inl, inr, refl, sym, ap, subst, ◌∙◌, append_assoc, arith}
 use Rattle.std.specs.Option.{MatchOption}
-use Rattle.vast_literal.specs.Scan.{Gap}
+use Rattle.vast_literal.specs.Scan.{Gap, is_space}
+use Rattle.vast_literal.specs.Lexemes.{space, comment}
 use Rattle.vast_read.specs.Lexed.{unspelled, lex}
 use Rattle.vast_read.specs.Behind.{Behind, none_before, lexeme, apostrophe}
-use Rattle.vast_read.specs.Places.{IsBehindFirst}
+use Rattle.vast_read.specs.Places.{BeginsWithoutGap, IsBehindFirst}
+use Rattle.vast_read.specs.Scanner.{byte_at}
 
 -- what stands behind some lexemes of a text ends it
 pub behind_suffix : (text rest : List ℕ) → Behind text rest → (before : List ℕ) × (text ≡ before ++ rest)
@@ -30,3 +32,8 @@ pub behind_at_end : (text rest : List ℕ) → lex Gap rest ≡ lex Gap text →
 unfolding lex
 behind_at_end text [] same e = inr (sym same, refl)
 behind_at_end text (c ∷ cs) same e = absurd (omega (arith, e))
+
+-- where no byte of white space and no two slashes stand at the front, no lexeme without a token does
+pub no_gap : (text : List ℕ) → (is_space (byte_at text 0) ≡ true → ⊥) → (byte_at text 0 ≡ 47 → byte_at text 1 ≡ 47 → ⊥) → BeginsWithoutGap text
+no_gap text n m front behind e (space {c} s) = n (rw e s)
+no_gap text n m front behind e (comment {line} s) = m (rw e refl) (rw e refl)

@@ -4,7 +4,7 @@ ghost use Rattle.std.specs.Prelude.{◌≡◌, ℕ, List, ◌++◌, IsCharBounda
 ghost use Rattle.vast_literal.specs.Scan.{Gap};
 ghost use Rattle.vast_read.specs.Behind.{Behind};
 ghost use Rattle.vast_read.specs.Lexed.{lex};
-ghost use Rattle.vast_read.specs.Places.{BeginsWithoutSpace, IsBehindFirst, IsBetweenTokens};
+ghost use Rattle.vast_read.specs.Places.{BeginsWithoutGap, IsBehindFirst, IsBetweenTokens};
 
 use crate::scanner::front::Front;
 use crate::scanner::front_of;
@@ -53,7 +53,7 @@ fn place_of(text: &str, rest: &str) -> usize
 /// The text from its first token on, and what is behind that token; nothing, where there is none.
 pub(crate) fn first_and_behind<'t>(text: &'t str) -> (&'t str, &'t str)
     ensures tokens { lex Gap result.0.now ≡ lex Gap text.now }
-    ensures front { BeginsWithoutSpace result.0.now }
+    ensures front { BeginsWithoutGap result.0.now }
     ensures behind { IsBehindFirst text.now result.1.now }
     ensures rest { (before : List ℕ) × (text.now ≡ before ++ result.1.now) }
 {

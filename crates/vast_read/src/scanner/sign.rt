@@ -7,7 +7,7 @@ ghost use Rattle.vast_literal.specs.declared.token.Sign.TheVariants.{Greater, Le
 ghost use Rattle.vast_literal.specs.Tokens as spec;
 ghost use Rattle.vast_read.specs.Internal.TokenView.{token_view};
 ghost use Rattle.vast_read.specs.Scanner.{byte_at};
-ghost use Rattle.vast_read.specs.Internal.Scanner.{Fronts, growth_step, growth_or_fail, starts_sign, Reaches};
+ghost use Rattle.vast_read.specs.Internal.Scanner.{Fronts, IsGap, growth_step, growth_or_fail, starts_sign, Reaches};
 
 use crate::scanner::class::Class;
 use crate::scanner::front::Front;
@@ -194,7 +194,8 @@ fn grown<'t>(sign: Token<'t>, byte: u8) -> Option<Growth<'t>>
 /// A comment, whose two slashes end at a place.
 fn comment<'t>(text: &'t str, place: usize) -> Front<'t>
     requires { Reaches text.now place (keep InComment) }
-    ensures { Fronts result text.now }
+    ensures front { Fronts result text.now }
+    ensures gap { IsGap result }
 {
     let end = run_end(text, place, Class::Line);
     Front::Gap(&text[end..])
@@ -203,7 +204,10 @@ fn comment<'t>(text: &'t str, place: usize) -> Front<'t>
 /// The sign, or the comment, that the bytes before a place lead to.
 fn sign_from<'t>(text: &'t str, place: usize, growth: Growth<'t>) -> Front<'t>
     requires { Reaches text.now place (growth_step growth) }
-    ensures { Fronts result text.now }
+    ensures front { Fronts result text.now }
+    ensures comment { growth_step growth.entry ≡ keep InComment → IsGap result }
+    ensures slashes { growth_step growth.entry ≡ keep (Pending (Operator Divide)) →
+        byte_at text.now place ≡ 47 → IsGap result }
 {
     match growth {
         Growth::Closed(token) => Front::Token(token, &text[place..]),
@@ -218,7 +222,8 @@ fn sign_from<'t>(text: &'t str, place: usize, growth: Growth<'t>) -> Front<'t>
 /// A sign or a comment.
 pub(crate) fn sign<'t>(text: &'t str) -> Front<'t>
     requires { starts_sign (byte_at text.now 0) ≡ true }
-    ensures { Fronts result text.now }
+    ensures front { Fronts result text.now }
+    ensures comment { byte_at text.now 0 ≡ 47 → byte_at text.now 1 ≡ 47 → IsGap result }
 {
     match first_sign(byte_at(text, 0)) {
         Some(growth) => sign_from(text, 1, growth),

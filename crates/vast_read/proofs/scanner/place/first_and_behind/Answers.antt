@@ -1,7 +1,7 @@
 use Rattle.std.proofs.Common.{rules, refl, sym, append-nil}
 use Rattle.vast_read.specs.Behind.{none_before}
 use Rattle.vast_read.proofs.scanner.Fronts.{behind_further}
-use Rattle.vast_read.proofs.scanner.Places.{behind_unspelled, behind_at_end, behind_suffix}
+use Rattle.vast_read.proofs.scanner.Places.{behind_unspelled, behind_at_end, behind_suffix, no_gap}
 use Rattle.vast_read.proofs.scanner.place.first_and_behind.Goals as goal
 
 pub loop-rest-init : goal.loop-rest-init
@@ -24,3 +24,9 @@ returns-in-Unspelled-clause-rest c = (c.args.text.now, sym (append-nil c.args.te
 
 pub returns-clause-rest : goal.returns-clause-rest
 returns-clause-rest c = behind_suffix c.args.text.now c.loop-rest.rest.now c.loop-rest.invariant.1
+
+pub returns-in-Token-clause-front : goal.returns-in-Token-clause-front
+returns-in-Token-clause-front c = no_gap c.loop-rest.rest.now c.in-Token.ensures.space c.in-Token.ensures.comment
+
+pub returns-in-Unspelled-clause-front : goal.returns-in-Unspelled-clause-front
+returns-in-Unspelled-clause-front c = no_gap c.loop-rest.rest.now c.in-Unspelled.ensures.space c.in-Unspelled.ensures.comment

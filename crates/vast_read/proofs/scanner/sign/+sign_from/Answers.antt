@@ -15,8 +15,8 @@ sign_from-requires t c =
     let within = other_within text c.args.place (λ b. absurd (omega arith)) in
     (omega arith, grown_reaches text c.args.place (token_view c.in-Open.token) c.in-Some.longer r e large (omega (arith, c.in-Some.ensures.byte)))
 
-pub returns-in-None : goal.returns-in-None
-returns-in-None t c =
+pub returns-in-None-clause-front : goal.returns-in-None-clause-front
+returns-in-None-clause-front t c =
     let text = c.args.text.now in
     let r : Reaches text c.args.place (keep (Pending (token_view c.in-Open.token))) = subst (λ g. Reaches text c.args.place (growth_step g)) c.in-Open.is c.requires.1.1 in
     let e : grown (token_view c.in-Open.token) (get_or text c.args.place 10) ≡ None = ap (grown (token_view c.in-Open.token)) (sym c.byte_at.ensures) ∙ sym c.in-None.ensures.growth in (
@@ -25,8 +25,8 @@ returns-in-None t c =
       rw c.range_from-in-None.ensures.value (sign_behind text c.args.place (token_view c.in-Open.token) r e),
     )
 
-pub returns-in-Closed : goal.returns-in-Closed
-returns-in-Closed t c =
+pub returns-in-Closed-clause-front : goal.returns-in-Closed-clause-front
+returns-in-Closed-clause-front t c =
     let text = c.args.text.now in
     let r : Reaches text c.args.place (give (token_view c.in-Closed.token ∷ [])) = subst (λ g. Reaches text c.args.place (growth_step g)) c.in-Closed.is c.requires.1.1 in
     (rw c.range_from.ensures.value r.scanned, omega (arith, r.moved, r.boundary.0, c.range_from.ensures.len), rw c.range_from.ensures.value (closed_behind text c.args.place (token_view c.in-Closed.token) r))

@@ -11,8 +11,8 @@ sign_from-requires c =
     let small : c.byte_at.result < 128 = c.in-Some.ensures.byte in
     first_reaches text (growth_step c.in-Some.growth) (growth_no_fail c.in-Some.growth) c.utf8.text c.requires (omega arith) first
 
-pub returns-in-None : goal.returns-in-None
-returns-in-None c =
+pub returns-in-None-clause-front : goal.returns-in-None-clause-front
+returns-in-None-clause-front c =
     let text = c.args.text.now in
     let none : fail ≡ start_sign (find_sign whole_signs (get_or text 0 10)) (get_or text 0 10) = c.in-None.ensures.growth ∙ ap (λ b. start_sign (find_sign whole_signs b) b) c.byte_at.ensures in
     sign_none text c.requires none
