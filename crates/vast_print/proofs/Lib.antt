@@ -17,6 +17,7 @@ pub mod Variables
 pub mod ContainerLaws
 mod Pins
 mod PagePins
+mod OperatorPins
 pub mod TestLaws
 pub mod FaultLaws
 pub mod ExprOpens

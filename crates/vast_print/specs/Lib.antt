@@ -13,4 +13,5 @@ pub mod Emits
 pub mod Derived
 pub mod WorkedTexts
 pub mod WorkedPages
+pub mod WorkedOperators
 pub mod Internal

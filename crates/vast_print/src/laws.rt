@@ -4,6 +4,7 @@
 ghost use Rattle.vast_literal.specs.Grammar.{OneExpression};
 ghost use Rattle.vast_print.specs.Derived.{PrintedExpressions, EqualTexts, PrintedFiles, EqualFiles};
 ghost use Rattle.vast_print.specs.WorkedTexts.{WorkedTexts};
+ghost use Rattle.vast_print.specs.WorkedOperators.{WorkedOperators};
 ghost use Rattle.vast_print.specs.WorkedPages.{WorkedPages};
 ghost use Rattle.vast_literal.specs.FileGrammar.{OneDeclaration, OneStatement, OneMember, OneFile};
 
@@ -55,8 +56,10 @@ pub fn equal_files()
     ensures { EqualFiles }
 {}
 
-/// What some expressions, declarations, members and files are printed as.
+/// What some expressions, declarations, members and files are printed as; and that two operators in one text are printed
+/// and read by the precedence and the associativity that the standard gives them.
 pub fn worked_texts()
     ensures texts { WorkedTexts }
     ensures pages { WorkedPages }
+    ensures operators { WorkedOperators }
 {}
