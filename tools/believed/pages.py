@@ -3,10 +3,10 @@ import os
 
 BELIEVED = """# What must be believed
 
-Written by `tools/believed/run --write`, and the gate fails where it is not true: so no definition comes under a claim unseen. A claim is the contract of a public function, or of one that a program's `main.rt` calls; it rests on the definitions that its clauses name, and on those that these name, and so on. What the contract of some public function rests on stands in a crate's `specs/` itself, and nothing else does; what only private contracts name stands in `specs/Internal/`, and what proofs alone name in `proofs/`: these two are checked by the prover and need not be read. The gate fails where a definition stands in the wrong one. Where to begin: `crates/vast_script/specs/Headline.antt`, which says what to read in which order. `docs/DEFINITIONS.md` has the definitions, file by file, and marks those that the first claim rests on. Lines are counted without comments, blank lines and imports.
+Written by `tools/believed/run --write`, and the gate fails where it is not true: so no definition comes under a claim unseen. A claim is the contract of a public function, or of one that a program's `main.rt` calls; it rests on the definitions that its clauses name, and on those that these name, and so on. What the contract of some public function rests on stands in a crate's `specs/` itself, and nothing else does; what only private contracts name stands in `specs/Internal/`, and what proofs alone name in `proofs/`: these two are checked by the prover and need not be read. The gate fails where a definition stands in the wrong one. Where to begin: `crates/vast_script/specs/Headline.antt`, which says what to read in which order. `docs/DEFINITIONS.md` has the definitions, file by file, and marks those that the first claim rests on. Definitions speak of types of the code, as of the seven enums of a step: those that they name, with those that the fields of these name, must be read too, and have columns of their own. Lines are counted without comments, blank lines, imports and attributes.
 
-| Claim | Definitions | Lines | Files |
-|---|---|---|---|
+| Claim | Definitions | Lines | Files | Types of `src/` | Their lines |
+|---|---|---|---|---|---|
 """
 
 DEFINITIONS = """# Definitions
@@ -15,18 +15,28 @@ Written by `tools/believed/run --write` from the comments above the definitions,
 """
 
 
-def row(claim, reasons):
-    """A row of the table of claims."""
+def counts(reasons):
+    """How many definitions there are, their lines, and their files."""
     definitions = [it for it, _ in reasons.values()]
-    counted = len(definitions), sum(it.count() for it in definitions), len({it.path for it in definitions})
+    return len(definitions), sum(it.count() for it in definitions), len({it.path for it in definitions})
+
+
+def counts_of_types(types):
+    """How many types of src/ there are, and their lines."""
+    return len(types), sum(it.lines for it in types)
+
+
+def row(claim, reasons, types):
+    """A row of the table of claims."""
+    counted = *counts(reasons), *counts_of_types(types)
     return f"| {claim} | " + " | ".join(f"{it:,}" for it in counted) + " |\n"
 
 
-def believed_page(closures):
+def believed_page(closures, types):
     """The text of docs/BELIEVED.md, of what each claim rests on."""
     union = {key: it for reasons in closures.values() for key, it in reasons.items()}
-    rows = [row(f"`{claim}`", reasons) for claim, reasons in closures.items()]
-    return BELIEVED + "".join(rows) + row("all of these", union)
+    rows = [row(f"`{claim}`", reasons, types[claim]) for claim, reasons in closures.items()]
+    return BELIEVED + "".join(rows) + row("all of these", union, set().union(*types.values()))
 
 
 def marked(definition, headline, claimed):
