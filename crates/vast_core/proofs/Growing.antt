@@ -11,7 +11,7 @@ use Rattle.vast_core.specs.Raw.{Raw}
 use Rattle.vast_core.specs.Nodes.{no_nodes}
 use Rattle.vast_core.specs.Internal.Nodes.{TermsSound}
 use Rattle.vast_core.specs.Records.{ParameterPort, ModuleRecord, Member, InstanceRecord, changed_at, with_port, with_parameter_port, module_record, instance_record}
-use Rattle.vast_core.specs.Nests.{NestRecord, BlockRecord, ConditionalNestRecord, CaseNestRecord, LoopNestRecord, FunctionVariable, FunctionRecord, nest_kind, is_block_kind, nest_record, function_record, always_record}
+use Rattle.vast_core.specs.Nests.{NestRecord, BlockRecord, ConditionalNestRecord, CaseNestRecord, LoopNestRecord, FunctionVariable, FunctionRecord, nest_kind, nest_record, function_record, always_record, is_kind, BlockKind}
 use Rattle.vast_core.specs.Functions.{with_listed_variable}
 use Rattle.vast_core.specs.Bench.{Bench, OwnsBlock, OwnsPort, function_names}
 use Rattle.vast_core.specs.View.{bench}
@@ -242,14 +242,14 @@ RecordsSound-listing b c l s h =
 
 spare-kept : (b c : Bench) → Grows b c → (o : Option VastStatementBlock) → IfSome o (OwnsBlock b) → IfSome o (OwnsBlock c)
 spare-kept b c g None h = tt
-spare-kept b c g (Some x) h = nest-kept is_block_kind b c x.id g never h
+spare-kept b c g (Some x) h = nest-kept (is_kind BlockKind) b c x.id g never h
 
 spare-fresh : (c : Bench) (takes : Bool) (o : Option VastStatementBlock) → IfSome o (OwnsBlock c) → IfSome (spare_left takes o) (OwnsBlock c)
 spare-fresh c false o h = h
 spare-fresh c true o h = tt
 
 spare-listing : (b c d : Bench) (l : Listing) → Grows c d → ListingSound b c l → IfSome c.spare (OwnsBlock d) → IfSome (listed_spare l c.spare) (OwnsBlock d)
-spare-listing b c d (AsSpare block) g h k = nest-kept is_block_kind c d block.id g never h
+spare-listing b c d (AsSpare block) g h k = nest-kept (is_kind BlockKind) c d block.id g never h
 spare-listing b c d _ g h k = k
 
 -- A file stays sound.

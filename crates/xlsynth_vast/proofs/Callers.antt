@@ -20,7 +20,7 @@ use Rattle.vast_core.specs.declared.node.Definition.{Definition}
 use Rattle.vast_core.specs.declared.node.Artifact.{Artifact}
 use Rattle.vast_core.specs.declared.node.Member.{Member}
 use Rattle.vast_core.specs.declared.node.Port.{Port}
-use Rattle.vast_core.specs.Nests.{NestRecord, BlockRecord, FunctionRecord, AlwaysRecord, nest_kind, is_block_kind, is_conditional_kind, is_case_kind, is_loop_kind}
+use Rattle.vast_core.specs.Nests.{NestRecord, BlockRecord, FunctionRecord, AlwaysRecord, nest_kind, is_kind, BlockKind, ConditionalKind, CaseStatementKind, LoopKind}
 use Rattle.vast_core.specs.declared.node.Statement.{Statement}
 use Rattle.vast_core.specs.Bench.{is_continuous, is_blank_line, is_comment, is_inline, is_macro_statement, names_of}
 use Rattle.vast_core.specs.Containers.{StatementEnters, ElseIfEnters, ElseEnters, CaseArmEnters, MemberEnters, with_entry, has_else}
@@ -161,17 +161,17 @@ kind_after_case_arm a xs place i = kind-changed (with_entry (CaseArmEnters a)) (
 pub kind_after_member : (m : Member) (xs : List NestRecord) (place i : ℕ) → nest_kind (slice_get (changed_at place (with_entry (MemberEnters m)) xs) i) ≡ nest_kind (slice_get xs i)
 kind_after_member m xs place i = kind-changed (with_entry (MemberEnters m)) (entry-kind (MemberEnters m)) xs place i
 
-pub block_stays : (xs ys : List NestRecord) (i : ℕ) → IsTrue (is_block_kind (nest_kind (slice_get xs i))) → IsTrue (is_block_kind (nest_kind (slice_get (xs ++ ys) i)))
-block_stays xs ys i h = still (λ n. is_block_kind (nest_kind n)) never xs ys i h
+pub block_stays : (xs ys : List NestRecord) (i : ℕ) → IsTrue (is_kind BlockKind (nest_kind (slice_get xs i))) → IsTrue (is_kind BlockKind (nest_kind (slice_get (xs ++ ys) i)))
+block_stays xs ys i h = still (λ n. is_kind BlockKind (nest_kind n)) never xs ys i h
 
-pub conditional_stays : (xs ys : List NestRecord) (i : ℕ) → IsTrue (is_conditional_kind (nest_kind (slice_get xs i))) → IsTrue (is_conditional_kind (nest_kind (slice_get (xs ++ ys) i)))
-conditional_stays xs ys i h = still (λ n. is_conditional_kind (nest_kind n)) never xs ys i h
+pub conditional_stays : (xs ys : List NestRecord) (i : ℕ) → IsTrue (is_kind ConditionalKind (nest_kind (slice_get xs i))) → IsTrue (is_kind ConditionalKind (nest_kind (slice_get (xs ++ ys) i)))
+conditional_stays xs ys i h = still (λ n. is_kind ConditionalKind (nest_kind n)) never xs ys i h
 
-pub case_stays : (xs ys : List NestRecord) (i : ℕ) → IsTrue (is_case_kind (nest_kind (slice_get xs i))) → IsTrue (is_case_kind (nest_kind (slice_get (xs ++ ys) i)))
-case_stays xs ys i h = still (λ n. is_case_kind (nest_kind n)) never xs ys i h
+pub case_stays : (xs ys : List NestRecord) (i : ℕ) → IsTrue (is_kind CaseStatementKind (nest_kind (slice_get xs i))) → IsTrue (is_kind CaseStatementKind (nest_kind (slice_get (xs ++ ys) i)))
+case_stays xs ys i h = still (λ n. is_kind CaseStatementKind (nest_kind n)) never xs ys i h
 
-pub loop_stays : (xs ys : List NestRecord) (i : ℕ) → IsTrue (is_loop_kind (nest_kind (slice_get xs i))) → IsTrue (is_loop_kind (nest_kind (slice_get (xs ++ ys) i)))
-loop_stays xs ys i h = still (λ n. is_loop_kind (nest_kind n)) never xs ys i h
+pub loop_stays : (xs ys : List NestRecord) (i : ℕ) → IsTrue (is_kind LoopKind (nest_kind (slice_get xs i))) → IsTrue (is_kind LoopKind (nest_kind (slice_get (xs ++ ys) i)))
+loop_stays xs ys i h = still (λ n. is_kind LoopKind (nest_kind n)) never xs ys i h
 
 pub last_nest : (xs ys : List NestRecord) (n : NestRecord) → slice_get (xs ++ n ∷ ys) (length xs) ≡ Some n
 last_nest [] ys n = refl
@@ -185,7 +185,7 @@ more_nests xs n = length-push xs n
 
 -- Whether a conditional has its `else`.
 
-pub else_stays : (xs ys : List NestRecord) (i : ℕ) → IsTrue (is_conditional_kind (nest_kind (slice_get xs i))) → has_else (slice_get (xs ++ ys) i) ≡ has_else (slice_get xs i)
+pub else_stays : (xs ys : List NestRecord) (i : ℕ) → IsTrue (is_kind ConditionalKind (nest_kind (slice_get xs i))) → has_else (slice_get (xs ++ ys) i) ≡ has_else (slice_get xs i)
 else_stays [] ys i h = absurd (never h)
 else_stays (x ∷ xs) ys zero h = refl
 else_stays (x ∷ xs) ys (suc i) h = else_stays xs ys i h
