@@ -1,22 +1,14 @@
 -- What a file holds after a call that adds a parameter, and the handle of the parameter's name.
-use Rattle.std.specs.Prelude.{ℕ, Bool, List, [], length, Option, Some, None, slice_get}
+use Rattle.std.specs.Prelude.{ℕ, Bool, List, [], Option, Some, None, slice_get}
 use Rattle.vast_literal.specs.Tree.{ExprTree, NameTree, Untyped, Typed}
 use Rattle.vast_core.specs.declared.handle.Expr.{Expr}
 use Rattle.vast_core.specs.declared.handle.Def.{Def}
 use Rattle.vast_core.specs.declared.handle.VastModule.{VastModule}
 use Rattle.vast_core.specs.declared.handle.VastDataType.{VastDataType}
-use Rattle.vast_core.specs.declared.handle.ParameterRef.{ParameterRef}
-use Rattle.vast_core.specs.declared.handle.LocalparamRef.{LocalparamRef}
 use Rattle.vast_core.specs.Nodes.{maybe_type_in}
 use Rattle.vast_core.specs.Records.{ParameterPort, Definition, ParameterForm, PlainForm, IntForm, DefinedForm, ParameterEntry, with_parameter_port as with_listed_parameter, changed_at}
 use Rattle.vast_core.specs.Bench.{Bench, type_of}
-use Rattle.vast_core.specs.Growth.{next_id, with_expr, with_member}
-
-abbrev pub next_parameter_ref : Bench → ParameterRef
-next_parameter_ref b = record { id = next_id b (length b.nodes.roots) }
-
-abbrev pub next_localparam_ref : Bench → LocalparamRef
-next_localparam_ref b = record { id = next_id b (length b.nodes.roots) }
+use Rattle.vast_core.specs.Growth.{with_expr, with_member}
 
 -- A parameter more in the module's header: its place at the end, and its name as an expression.
 abbrev pub with_parameter_listed : VastModule → ParameterPort → Bench → Bench

@@ -4,7 +4,7 @@ use Rattle.vast_literal.specs.Tree.{ExprTree, NameTree, LiteralTree, Untyped}
 use Rattle.vast_literal.specs.Pattern.{pattern}
 use Rattle.vast_core.specs.Types.{is_castable}
 use Rattle.vast_core.specs.Bench.{type_of}
-use Rattle.vast_core.specs.Growth.{next_expr, with_expr, decimal_literal, next_index, next_fixed_index, with_fixed_index, next_slice, next_fixed_slice, with_fixed_slice, next_macro_ref, next_fixed_replication, with_fixed_replication}
+use Rattle.vast_core.specs.Growth.{next_expr, with_expr, decimal_literal, next_node, next_fixed_index, with_fixed_index, next_fixed_slice, with_fixed_slice, next_fixed_replication, with_fixed_replication}
 use Rattle.xlsynth_vast.specs.Expressions.{with_index, with_slice, with_part_select, with_ternary, with_width_cast, with_type_cast, with_pos_edge, with_neg_edge, with_concat, with_replication, with_pattern, with_call, with_macro_call}
 use Rattle.xlsynth_vast.specs.Literals.{literal_in, pattern_literal, string_literal, selector_text}
 use Rattle.vast_script.specs.declared.answer.Answer.TheVariants.{Expr, IndexableExpr, Slice, Index, MacroRef}
@@ -41,7 +41,7 @@ make_array_assignment_pattern-keeps : (parts : List ℕ) → CallKeeps (make_arr
 make_array_assignment_pattern-keeps parts b answers = given-keeps b (many an_expr b answers parts) (λ parts. Made (Expr (next_expr b)) (with_pattern parts b)) (λ parts. keeps-root b _)
 
 make_macro_ref_with_args-keeps : (name : List ℕ) (arguments : List ℕ) → CallKeeps (make_macro_ref_with_args name arguments)
-make_macro_ref_with_args-keeps name arguments b answers = given-keeps b (many an_expr b answers arguments) (λ arguments. Made (MacroRef (next_macro_ref b)) (with_macro_call name arguments b)) (λ arguments. keeps-root b _)
+make_macro_ref_with_args-keeps name arguments b answers = given-keeps b (many an_expr b answers arguments) (λ arguments. Made (MacroRef (record { id = next_node b })) (with_macro_call name arguments b)) (λ arguments. keeps-root b _)
 
 pub expression-keeps : (step : ExpressionStep) → CallKeeps (expression_call step)
 expression-keeps (MakeLiteral text format) = λ b answers. allowed-keeps b (literal_in format (string_bytes text)) (λ tree. Made (Expr (next_expr b)) (with_expr tree b)) (λ tree. keeps-root b _)
@@ -55,8 +55,8 @@ expression-keeps (MakeName name) = make_leaf-keeps (NameTree (string_bytes name)
 expression-keeps (MakeIndexableExpression e) = λ b answers. given-keeps b (one an_expr b answers e) (λ e. Made (IndexableExpr (record { id = e.id })) b) (λ e. keeps-same b)
 expression-keeps (MakeSlice subject high low) = λ b answers. given-keeps b (one an_indexable b answers subject) (λ subject. provided (int_le (pos 0) high && int_le (pos 0) low) (Made (Slice (next_fixed_slice (selector_text high) high (selector_text low) low b)) (with_fixed_slice subject (selector_text high) high (selector_text low) low b))) (λ subject. provided-keeps b (int_le (pos 0) high && int_le (pos 0) low) (Made (Slice (next_fixed_slice (selector_text high) high (selector_text low) low b)) (with_fixed_slice subject (selector_text high) high (selector_text low) low b)) (fixed_slice-kept subject (selector_text high) high (selector_text low) low b))
 expression-keeps (MakeIndex subject index) = λ b answers. given-keeps b (one an_indexable b answers subject) (λ subject. provided (int_le (pos 0) index) (Made (Index (next_fixed_index (selector_text index) index b)) (with_fixed_index subject (selector_text index) index b))) (λ subject. provided-keeps b (int_le (pos 0) index) (Made (Index (next_fixed_index (selector_text index) index b)) (with_fixed_index subject (selector_text index) index b)) (fixed_index-kept subject (selector_text index) index b))
-expression-keeps (MakeSliceExpr subject high low) = λ b answers. given-keeps b (three an_indexable an_expr an_expr b answers subject high low) (λ (subject, high, low). Made (Slice (next_slice b)) (with_slice subject high low b)) (λ (subject, high, low). keeps-root b _)
-expression-keeps (MakeIndexExpr subject index) = λ b answers. given-keeps b (two an_indexable an_expr b answers subject index) (λ (subject, index). Made (Index (next_index b)) (with_index subject index b)) (λ (subject, index). keeps-root b _)
+expression-keeps (MakeSliceExpr subject high low) = λ b answers. given-keeps b (three an_indexable an_expr an_expr b answers subject high low) (λ (subject, high, low). Made (Slice (record { id = next_node b })) (with_slice subject high low b)) (λ (subject, high, low). keeps-root b _)
+expression-keeps (MakeIndexExpr subject index) = λ b answers. given-keeps b (two an_indexable an_expr b answers subject index) (λ (subject, index). Made (Index (record { id = next_node b })) (with_index subject index b)) (λ (subject, index). keeps-root b _)
 expression-keeps (MakeIndexedPartSelect subject start width) = λ b answers. given-keeps b (two an_indexable an_expr b answers subject start) (λ (subject, start). provided (int_le (pos 1) width) (Made (Expr (next_expr b)) (with_part_select subject start width b))) (λ (subject, start). provided-keeps b (int_le (pos 1) width) (Made (Expr (next_expr b)) (with_part_select subject start width b)) (keeps-root b _))
 expression-keeps (MakeFunctionCall name arguments) = make_function_call-keeps (string_bytes name) arguments.items
 expression-keeps (MakeConcat parts) = make_concat-keeps parts.items

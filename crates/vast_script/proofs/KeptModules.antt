@@ -6,8 +6,8 @@ use Rattle.vast_literal.specs.declared.kind.DataKind.{DataKind}
 use Rattle.vast_literal.specs.declared.kind.DataKind.TheVariants.{Wire, Reg, Logic}
 use Rattle.vast_core.specs.declared.node.FileItem.{FileItem}
 use Rattle.vast_core.specs.declared.node.FileItem.TheVariants.{Include as IncludeEntry, BlankLine as FileBlankEntry, Comment as FileCommentEntry}
-use Rattle.vast_core.specs.Growth.{with_item, next_logic_ref, with_port, with_declaration}
-use Rattle.vast_core.specs.Parameters.{next_parameter_ref, next_localparam_ref, with_parameter_port, with_plain_parameter, with_int_parameter, with_defined_parameter}
+use Rattle.vast_core.specs.Growth.{next_node, with_item, next_logic_ref, with_port, with_declaration}
+use Rattle.vast_core.specs.Parameters.{with_parameter_port, with_plain_parameter, with_int_parameter, with_defined_parameter}
 use Rattle.vast_core.specs.Hoisting.{with_hoisted}
 use Rattle.xlsynth_vast.specs.Conditions.{is_free}
 use Rattle.xlsynth_vast.specs.Declarations.{names_in, unless_taken}
@@ -52,9 +52,9 @@ module-keeps (AddReg owner name type) = add_variable-keeps Reg (codes "reg") own
 module-keeps (AddLogic owner name type) = add_variable-keeps Logic (codes "logic") owner (string_bytes name) type
 module-keeps (AddParameterPort owner name value) = λ b answers. given-keeps b (two a_module an_expr b answers owner value) (λ (owner, value). Made (LogicRef (next_logic_ref b)) (with_parameter_port owner (string_bytes name) None value b)) (λ (owner, value). parameter_port-kept owner (string_bytes name) None value b)
 module-keeps (AddTypedParameterPort owner name type value) = λ b answers. given-keeps b (three a_module a_type an_expr b answers owner type value) (λ (owner, type, value). Made (LogicRef (next_logic_ref b)) (with_parameter_port owner (string_bytes name) (Some type) value b)) (λ (owner, type, value). parameter_port-kept owner (string_bytes name) (Some type) value b)
-module-keeps (AddParameter owner name value) = λ b answers. given-keeps b (two a_module an_expr b answers owner value) (λ (owner, value). Made (ParameterRef (next_parameter_ref b)) (with_plain_parameter owner false (string_bytes name) value b)) (λ (owner, value). plain_parameter-kept owner false (string_bytes name) value b)
-module-keeps (AddParameterWithDef owner definition value) = λ b answers. given-keeps b (three a_module a_definition an_expr b answers owner definition value) (λ (owner, definition, value). Made (ParameterRef (next_parameter_ref b)) (with_defined_parameter owner false definition value b)) (λ (owner, definition, value). defined_parameter-kept owner false definition value b)
-module-keeps (AddLocalparam owner name value) = λ b answers. given-keeps b (two a_module an_expr b answers owner value) (λ (owner, value). Made (LocalparamRef (next_localparam_ref b)) (with_plain_parameter owner true (string_bytes name) value b)) (λ (owner, value). plain_parameter-kept owner true (string_bytes name) value b)
-module-keeps (AddIntLocalparam owner name value) = λ b answers. given-keeps b (two a_module an_expr b answers owner value) (λ (owner, value). Made (LocalparamRef (next_localparam_ref b)) (with_int_parameter owner true (string_bytes name) value b)) (λ (owner, value). int_parameter-kept owner true (string_bytes name) value b)
-module-keeps (AddTypedLocalparam owner definition value) = λ b answers. given-keeps b (three a_module a_definition an_expr b answers owner definition value) (λ (owner, definition, value). Made (LocalparamRef (next_localparam_ref b)) (with_defined_parameter owner true definition value b)) (λ (owner, definition, value). defined_parameter-kept owner true definition value b)
+module-keeps (AddParameter owner name value) = λ b answers. given-keeps b (two a_module an_expr b answers owner value) (λ (owner, value). Made (ParameterRef (record { id = next_node b })) (with_plain_parameter owner false (string_bytes name) value b)) (λ (owner, value). plain_parameter-kept owner false (string_bytes name) value b)
+module-keeps (AddParameterWithDef owner definition value) = λ b answers. given-keeps b (three a_module a_definition an_expr b answers owner definition value) (λ (owner, definition, value). Made (ParameterRef (record { id = next_node b })) (with_defined_parameter owner false definition value b)) (λ (owner, definition, value). defined_parameter-kept owner false definition value b)
+module-keeps (AddLocalparam owner name value) = λ b answers. given-keeps b (two a_module an_expr b answers owner value) (λ (owner, value). Made (LocalparamRef (record { id = next_node b })) (with_plain_parameter owner true (string_bytes name) value b)) (λ (owner, value). plain_parameter-kept owner true (string_bytes name) value b)
+module-keeps (AddIntLocalparam owner name value) = λ b answers. given-keeps b (two a_module an_expr b answers owner value) (λ (owner, value). Made (LocalparamRef (record { id = next_node b })) (with_int_parameter owner true (string_bytes name) value b)) (λ (owner, value). int_parameter-kept owner true (string_bytes name) value b)
+module-keeps (AddTypedLocalparam owner definition value) = λ b answers. given-keeps b (three a_module a_definition an_expr b answers owner definition value) (λ (owner, definition, value). Made (LocalparamRef (record { id = next_node b })) (with_defined_parameter owner true definition value b)) (λ (owner, definition, value). defined_parameter-kept owner true definition value b)
 module-keeps (HoistModuleDeclarations owner start) = λ b answers. given-keeps b (one a_module b answers owner) (λ owner. provided (nat_le start (length (members_in b owner))) (Made Nothing (with_hoisted owner start b))) (λ owner. provided-keeps b (nat_le start (length (members_in b owner))) (Made Nothing (with_hoisted owner start b)) (hoisted-kept owner start b))

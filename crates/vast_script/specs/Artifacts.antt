@@ -5,7 +5,7 @@ use Rattle.vast_core.specs.Records.{InstanceRecord}
 use Rattle.vast_core.specs.declared.node.Artifact.TheVariants.{BlankLine as BlankArtifact, Comment as CommentArtifact, Inline as InlineArtifact, MacroStatement as MacroArtifact}
 use Rattle.vast_core.specs.declared.node.Member.TheVariants.{ContinuousAssignment as AssignmentEntry, BlankLine as BlankEntry, Comment as CommentEntry, Inline as InlineEntry, Macro as MacroEntry, Instantiation as InstanceEntry}
 use Rattle.vast_core.specs.Growth.{with_member, next_continuous, with_assignment}
-use Rattle.vast_core.specs.Artifacts.{next_def, with_definition, next_blank_line, next_comment, next_inline, next_macro_statement, with_artifact, next_instantiation, with_instance, next_statement}
+use Rattle.vast_core.specs.Artifacts.{next_def, with_definition, next_artifact, with_artifact, next_instantiation, with_instance, next_statement}
 use Rattle.xlsynth_vast.specs.Instances.{connected}
 use Rattle.vast_script.specs.declared.answer.Answer.TheVariants.{Def, BlankLine, Comment, InlineVerilogStatement, MacroStatement, ContinuousAssignment, VastStatement, Instantiation, Nothing}
 use Rattle.vast_script.specs.declared.step.ArtifactStep.{ArtifactStep}
@@ -37,11 +37,11 @@ add_part kind entry owner part = takes_two a_module kind owner part (λ owner pa
 
 abbrev pub artifact_call : ArtifactStep → Call
 artifact_call (MakeDef name kind type) = takes_one a_type type (λ type. makes Def next_def (with_definition (record { name = string_bytes name; kind = kind; data_type = type })))
-artifact_call MakeBlankLine = λ b answers. Made (BlankLine (next_blank_line b)) (with_artifact BlankArtifact b)
-artifact_call (MakeComment text) = λ b answers. Made (Comment (next_comment b)) (with_artifact (CommentArtifact (string_bytes text)) b)
-artifact_call (MakeInlineVerilogStatement text) = λ b answers. Made (InlineVerilogStatement (next_inline b)) (with_artifact (InlineArtifact (string_bytes text)) b)
+artifact_call MakeBlankLine = λ b answers. Made (BlankLine (record { id = next_artifact b })) (with_artifact BlankArtifact b)
+artifact_call (MakeComment text) = λ b answers. Made (Comment (record { id = next_artifact b })) (with_artifact (CommentArtifact (string_bytes text)) b)
+artifact_call (MakeInlineVerilogStatement text) = λ b answers. Made (InlineVerilogStatement (record { id = next_artifact b })) (with_artifact (InlineArtifact (string_bytes text)) b)
 artifact_call (MakeMacroStatement use_of semicolon) = takes_one a_macro_ref use_of
-    (λ use_of. makes MacroStatement next_macro_statement (with_artifact (MacroArtifact use_of semicolon)))
+    (λ use_of. makes MacroStatement (λ b. record { id = next_artifact b }) (with_artifact (MacroArtifact use_of semicolon)))
 artifact_call (MakeContinuousAssignment left right) = takes_two an_expr an_expr left right
     (λ left right. makes ContinuousAssignment next_continuous (with_assignment (record { lhs = left; rhs = right; nonblocking = false })))
 artifact_call (MakeNonblockingAssignment left right) = make_assignment true left right

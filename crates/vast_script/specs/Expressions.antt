@@ -4,7 +4,7 @@ use Rattle.vast_literal.specs.Tree.{ExprTree, NameTree, LiteralTree, Untyped}
 use Rattle.vast_literal.specs.Pattern.{pattern}
 use Rattle.vast_core.specs.Types.{is_castable}
 use Rattle.vast_core.specs.Bench.{type_of}
-use Rattle.vast_core.specs.Growth.{next_expr, with_expr, decimal_literal, next_index, next_fixed_index, with_fixed_index, next_slice, next_fixed_slice, with_fixed_slice, next_macro_ref, next_fixed_replication, with_fixed_replication}
+use Rattle.vast_core.specs.Growth.{next_expr, with_expr, decimal_literal, next_node, next_fixed_index, with_fixed_index, next_fixed_slice, with_fixed_slice, next_fixed_replication, with_fixed_replication}
 use Rattle.xlsynth_vast.specs.Expressions.{with_index, with_slice, with_part_select, with_ternary, with_width_cast, with_type_cast, with_pos_edge, with_neg_edge, with_concat, with_replication, with_pattern, with_call, with_macro, with_macro_call}
 use Rattle.xlsynth_vast.specs.Literals.{literal_in, pattern_literal, string_literal, selector_text}
 use Rattle.vast_script.specs.declared.answer.Answer.TheVariants.{Expr, IndexableExpr, Slice, Index, MacroRef}
@@ -38,7 +38,7 @@ abbrev pub make_array_assignment_pattern : List ℕ → Call
 make_array_assignment_pattern parts = takes_many an_expr parts (λ parts. makes Expr next_expr (with_pattern parts))
 
 abbrev pub make_macro_ref_with_args : List ℕ → List ℕ → Call
-make_macro_ref_with_args name arguments = takes_many an_expr arguments (λ arguments. makes MacroRef next_macro_ref (with_macro_call name arguments))
+make_macro_ref_with_args name arguments = takes_many an_expr arguments (λ arguments. makes MacroRef (λ b. record { id = next_node b }) (with_macro_call name arguments))
 
 abbrev pub expression_call : ExpressionStep → Call
 expression_call (MakeLiteral text format) = λ b answers. allowed (literal_in format (string_bytes text)) (λ tree. Made (Expr (next_expr b)) (with_expr tree b))
@@ -55,8 +55,8 @@ expression_call (MakeSlice subject high low) = takes_one an_indexable subject
 expression_call (MakeIndex subject index) = takes_one an_indexable subject
     (λ subject b. provided (int_le (pos 0) index) (Made (Index (next_fixed_index (selector_text index) index b)) (with_fixed_index subject (selector_text index) index b)))
 expression_call (MakeSliceExpr subject high low) = takes_three an_indexable an_expr an_expr subject high low
-    (λ subject high low. makes Slice next_slice (with_slice subject high low))
-expression_call (MakeIndexExpr subject index) = takes_two an_indexable an_expr subject index (λ subject index. makes Index next_index (with_index subject index))
+    (λ subject high low. makes Slice (λ b. record { id = next_node b }) (with_slice subject high low))
+expression_call (MakeIndexExpr subject index) = takes_two an_indexable an_expr subject index (λ subject index. makes Index (λ b. record { id = next_node b }) (with_index subject index))
 expression_call (MakeIndexedPartSelect subject start width) = takes_two an_indexable an_expr subject start
     (λ subject start b. provided (int_le (pos 1) width) (Made (Expr (next_expr b)) (with_part_select subject start width b)))
 expression_call (MakeFunctionCall name arguments) = make_function_call (string_bytes name) arguments.items
@@ -71,5 +71,5 @@ expression_call (MakeTypeCast type value) = takes_two a_type an_expr type value
     (λ type value b. provided (is_castable (type_of b type)) (Made (Expr (next_expr b)) (with_type_cast type value b)))
 expression_call (MakePosEdge e) = takes_one an_expr e (λ e. makes Expr next_expr (with_pos_edge e))
 expression_call (MakeNegEdge e) = takes_one an_expr e (λ e. makes Expr next_expr (with_neg_edge e))
-expression_call (MakeMacroRef name) = λ b answers. Made (MacroRef (next_macro_ref b)) (with_macro (string_bytes name) b)
+expression_call (MakeMacroRef name) = λ b answers. Made (MacroRef (record { id = next_node b })) (with_macro (string_bytes name) b)
 expression_call (MakeMacroRefWithArgs name arguments) = make_macro_ref_with_args (string_bytes name) arguments.items

@@ -5,10 +5,9 @@ ghost use Rattle.std.specs.Prelude.{◌≡◌, false, Some, IfOk, option_copied}
 ghost use Rattle.vast_core.specs.Bench.{OwnsModule, OwnsLoop, OwnsExpr, OwnsLogicRef, OwnsDef, OwnsComment, OwnsInline, OwnsMacroStatement, OwnsInstantiation};
 ghost use Rattle.vast_core.specs.declared.node.Member.TheVariants.{ContinuousAssignment as AssignmentEntry, BlankLine as BlankEntry, Comment as CommentEntry, Inline as InlineEntry, Macro as MacroEntry, Instantiation as InstanceEntry, Conditional as ConditionalEntry, Loop as LoopEntry};
 ghost use Rattle.vast_core.specs.Nests.{label_bytes};
-ghost use Rattle.vast_core.specs.Growth.{Builds, Leaves, with_member, with_assignment, next_continuous};
+ghost use Rattle.vast_core.specs.Growth.{next_node, Builds, Leaves, with_member, with_assignment, next_continuous};
 ghost use Rattle.vast_core.specs.Artifacts.{next_statement};
 ghost use Rattle.vast_core.specs.Containers.{next_conditional, with_conditional};
-ghost use Rattle.vast_core.specs.Parameters.{next_localparam_ref};
 ghost use Rattle.vast_core.specs.Loops.{next_loop, with_loop, with_loop_member, with_plain_loop_parameter, with_defined_loop_parameter};
 ghost use Rattle.xlsynth_vast.specs.Keeps.{Keeps};
 ghost use Rattle.xlsynth_vast.specs.Inspections.{genvar_at};
@@ -106,7 +105,7 @@ impl VastFile {
     ) -> Result<LocalparamRef, AllocError>
         requires generate { OwnsLoop self.old generate }
         requires rhs { OwnsExpr self.old rhs.now }
-        ensures built { Builds self.old self.new result next_localparam_ref
+        ensures built { Builds self.old self.new result (λ b. record { id = next_node b })
             (with_plain_loop_parameter generate name.now rhs.now) }
         ensures kept { Keeps self.old self.new }
     {
@@ -127,7 +126,7 @@ impl VastFile {
         requires generate { OwnsLoop self.old generate }
         requires definition { OwnsDef self.old definition.now }
         requires rhs { OwnsExpr self.old rhs.now }
-        ensures built { Builds self.old self.new result next_localparam_ref
+        ensures built { Builds self.old self.new result (λ b. record { id = next_node b })
             (with_defined_loop_parameter generate definition.now rhs.now) }
         ensures kept { Keeps self.old self.new }
     {

@@ -4,8 +4,8 @@
 
 ghost use Rattle.std.specs.Prelude.{true, false, None, Some};
 ghost use Rattle.vast_core.specs.Bench.{OwnsModule, OwnsExpr, OwnsType, OwnsDef};
-ghost use Rattle.vast_core.specs.Growth.{Builds, next_logic_ref};
-ghost use Rattle.vast_core.specs.Parameters.{next_parameter_ref, next_localparam_ref, with_parameter_port, with_plain_parameter, with_int_parameter, with_defined_parameter};
+ghost use Rattle.vast_core.specs.Growth.{next_node, Builds, next_logic_ref};
+ghost use Rattle.vast_core.specs.Parameters.{with_parameter_port, with_plain_parameter, with_int_parameter, with_defined_parameter};
 ghost use Rattle.xlsynth_vast.specs.Keeps.{Keeps};
 
 use crate::file::VastFile;
@@ -70,7 +70,7 @@ impl VastFile {
     ) -> Result<ParameterRef, AllocError>
         requires owner { OwnsModule self.old owner }
         requires rhs { OwnsExpr self.old rhs.now }
-        ensures built { Builds self.old self.new result next_parameter_ref
+        ensures built { Builds self.old self.new result (λ b. record { id = next_node b })
             (with_plain_parameter owner false name.now rhs.now) }
         ensures kept { Keeps self.old self.new }
     {
@@ -91,7 +91,7 @@ impl VastFile {
         requires owner { OwnsModule self.old owner }
         requires definition { OwnsDef self.old definition.now }
         requires rhs { OwnsExpr self.old rhs.now }
-        ensures built { Builds self.old self.new result next_parameter_ref
+        ensures built { Builds self.old self.new result (λ b. record { id = next_node b })
             (with_defined_parameter owner false definition.now rhs.now) }
         ensures kept { Keeps self.old self.new }
     {
@@ -111,7 +111,7 @@ impl VastFile {
     ) -> Result<LocalparamRef, AllocError>
         requires owner { OwnsModule self.old owner }
         requires rhs { OwnsExpr self.old rhs.now }
-        ensures built { Builds self.old self.new result next_localparam_ref
+        ensures built { Builds self.old self.new result (λ b. record { id = next_node b })
             (with_plain_parameter owner true name.now rhs.now) }
         ensures kept { Keeps self.old self.new }
     {
@@ -131,7 +131,7 @@ impl VastFile {
     ) -> Result<LocalparamRef, AllocError>
         requires owner { OwnsModule self.old owner }
         requires rhs { OwnsExpr self.old rhs.now }
-        ensures built { Builds self.old self.new result next_localparam_ref
+        ensures built { Builds self.old self.new result (λ b. record { id = next_node b })
             (with_int_parameter owner true name.now rhs.now) }
         ensures kept { Keeps self.old self.new }
     {
@@ -153,7 +153,7 @@ impl VastFile {
         requires owner { OwnsModule self.old owner }
         requires definition { OwnsDef self.old definition.now }
         requires rhs { OwnsExpr self.old rhs.now }
-        ensures built { Builds self.old self.new result next_localparam_ref
+        ensures built { Builds self.old self.new result (λ b. record { id = next_node b })
             (with_defined_parameter owner true definition.now rhs.now) }
         ensures kept { Keeps self.old self.new }
     {

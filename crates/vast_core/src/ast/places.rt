@@ -204,7 +204,8 @@ impl Ast {
     }
 
     pub(crate) fn is_block_at(&self, index: usize) -> bool
-        ensures { result ≡ is_kind BlockKind (nest_kind (slice_get (bench self.now).nests index)) }
+        ensures { result
+            ≡ is_kind BlockKind (nest_kind (slice_get (bench self.now).nests index)) }
     {
         match self.nest_at(index) {
             Some(Nest::Block(_)) => true,
@@ -213,7 +214,8 @@ impl Ast {
     }
 
     pub(crate) fn is_conditional_at(&self, index: usize) -> bool
-        ensures { result ≡ is_kind ConditionalKind (nest_kind (slice_get (bench self.now).nests index)) }
+        ensures { result
+            ≡ is_kind ConditionalKind (nest_kind (slice_get (bench self.now).nests index)) }
     {
         match self.nest_at(index) {
             Some(Nest::Block(_)) => false,
@@ -223,7 +225,8 @@ impl Ast {
     }
 
     pub(crate) fn is_case_at(&self, index: usize) -> bool
-        ensures { result ≡ is_kind CaseStatementKind (nest_kind (slice_get (bench self.now).nests index)) }
+        ensures { result
+            ≡ is_kind CaseStatementKind (nest_kind (slice_get (bench self.now).nests index)) }
     {
         match self.nest_at(index) {
             Some(Nest::Block(_)) => false,
@@ -235,7 +238,8 @@ impl Ast {
     }
 
     pub(crate) fn is_loop_at(&self, index: usize) -> bool
-        ensures { result ≡ is_kind LoopKind (nest_kind (slice_get (bench self.now).nests index)) }
+        ensures { result
+            ≡ is_kind LoopKind (nest_kind (slice_get (bench self.now).nests index)) }
     {
         match self.nest_at(index) {
             Some(Nest::Block(_)) => false,

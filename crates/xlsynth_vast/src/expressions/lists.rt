@@ -2,7 +2,7 @@
 
 ghost use Rattle.std.specs.Prelude.{◌≡◌, ◌≢◌, IfOk, All, [], map};
 ghost use Rattle.vast_core.specs.Bench.{OwnsExpr};
-ghost use Rattle.vast_core.specs.Growth.{Builds, next_expr, next_macro_ref, next_fixed_replication, with_fixed_replication};
+ghost use Rattle.vast_core.specs.Growth.{Builds, next_expr, next_node, next_fixed_replication, with_fixed_replication};
 ghost use Rattle.xlsynth_vast.specs.Keeps.{Keeps};
 ghost use Rattle.xlsynth_vast.specs.Expressions.{with_concat, with_replication, with_pattern, with_call, with_macro, with_macro_call};
 
@@ -110,7 +110,8 @@ impl VastFile {
     /// # Errors
     /// `AllocError` where a growth was refused; the file is unchanged.
     pub fn make_macro_ref(&mut self, name: &str) -> Result<MacroRef, AllocError>
-        ensures built { Builds self.old self.new result next_macro_ref (with_macro name.now) }
+        ensures built { Builds self.old self.new result (λ b. record { id = next_node b })
+            (with_macro name.now) }
         ensures kept { Keeps self.old self.new }
     {
         let name = String::from_str(self.ast.allocator(), name)?;
@@ -127,7 +128,7 @@ impl VastFile {
         arguments: &[&Expr],
     ) -> Result<MacroRef, AllocError>
         requires { All (λ e. OwnsExpr self.old e.now) arguments.now }
-        ensures built { Builds self.old self.new result next_macro_ref
+        ensures built { Builds self.old self.new result (λ b. record { id = next_node b })
             (with_macro_call name.now (map (λ e. e.now) arguments.now)) }
         ensures kept { Keeps self.old self.new }
     {

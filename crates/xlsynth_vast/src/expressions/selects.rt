@@ -4,7 +4,7 @@ ghost use Rattle.std.specs.Prelude.{◌≡◌, ◌≤ℤ◌, pos, IfOk, IsTrue, 
 ghost use Rattle.vast_literal.specs.LiteralText.{format_text};
 ghost use Rattle.vast_literal.specs.LiteralToken.{is_literal_text};
 ghost use Rattle.vast_core.specs.Bench.{OwnsExpr, OwnsIndexable};
-ghost use Rattle.vast_core.specs.Growth.{Builds, next_expr, next_index, next_fixed_index, with_fixed_index, next_slice, next_fixed_slice, with_fixed_slice};
+ghost use Rattle.vast_core.specs.Growth.{Builds, next_expr, next_node, next_fixed_index, with_fixed_index, next_fixed_slice, with_fixed_slice};
 ghost use Rattle.xlsynth_vast.specs.Keeps.{Keeps};
 ghost use Rattle.xlsynth_vast.specs.Expressions.{with_index, with_slice, with_part_select};
 ghost use Rattle.xlsynth_vast.specs.Literals.{selector_text};
@@ -79,7 +79,7 @@ impl VastFile {
         requires subject { OwnsIndexable self.old subject.now }
         requires hi { OwnsExpr self.old hi.now }
         requires lo { OwnsExpr self.old lo.now }
-        ensures built { Builds self.old self.new result next_slice
+        ensures built { Builds self.old self.new result (λ b. record { id = next_node b })
             (with_slice subject.now hi.now lo.now) }
         ensures kept { Keeps self.old self.new }
     {
@@ -97,7 +97,7 @@ impl VastFile {
     ) -> Result<Index, AllocError>
         requires subject { OwnsIndexable self.old subject.now }
         requires index { OwnsExpr self.old index.now }
-        ensures built { Builds self.old self.new result next_index
+        ensures built { Builds self.old self.new result (λ b. record { id = next_node b })
             (with_index subject.now index.now) }
         ensures kept { Keeps self.old self.new }
     {
