@@ -1,13 +1,16 @@
 -- What calls of loops keep.
-use Rattle.std.specs.Prelude.{ℕ, false, List, [], codes, string_bytes}
+use Rattle.std.specs.Prelude.{ℕ, true, false, List, [], codes, string_bytes}
 use Rattle.vast_literal.specs.declared.kind.AlwaysKind.{AlwaysKind}
 use Rattle.vast_literal.specs.declared.kind.AlwaysKind.TheVariants.{AlwaysFF, AlwaysAt, AlwaysComb}
+use Rattle.vast_core.specs.declared.ast.scope.Scope.TheVariants.{Loop as ScopeLoop}
+use Rattle.vast_core.specs.declared.node.ParameterForm.TheVariants.{Plain as PlainForm, Defined as DefinedForm}
+use Rattle.vast_core.specs.Scopes.{with_scope_parameter}
 use Rattle.vast_core.specs.declared.node.Member.TheVariants.{ContinuousAssignment as AssignmentEntry, BlankLine as BlankEntry, Comment as CommentEntry, Inline as InlineEntry, Macro as MacroEntry, Instantiation as InstanceEntry, Conditional as ConditionalEntry, Loop as LoopEntry}
 use Rattle.vast_core.specs.Nests.{label_bytes}
 use Rattle.vast_core.specs.Growth.{next_node, with_member, next_continuous, with_assignment}
 use Rattle.vast_core.specs.Artifacts.{next_statement}
 use Rattle.vast_core.specs.Containers.{next_conditional, with_conditional}
-use Rattle.vast_core.specs.Loops.{next_always, next_loop, with_loop, with_loop_member, with_plain_loop_parameter, with_defined_loop_parameter}
+use Rattle.vast_core.specs.Loops.{next_always, next_loop, with_loop, with_loop_member}
 use Rattle.xlsynth_vast.specs.AlwaysBlocks.{unless_wrong_event, with_loop_always}
 use Rattle.xlsynth_vast.specs.Inspections.{genvar_at}
 use Rattle.vast_script.specs.declared.answer.Answer.TheVariants.{GenerateLoop, LogicRef, VastAlwaysBase, LocalparamRef, VastStatement, Conditional, Nothing}
@@ -18,7 +21,7 @@ use Rattle.vast_script.specs.Kinds.{a_module, a_loop, an_expr, a_definition, a_c
 use Rattle.vast_script.specs.Arguments.{one, two, three, one_and_many}
 use Rattle.xlsynth_vast.proofs.Kept.{keeps-then, keeps-same}
 use Rattle.vast_script.proofs.KeptOutcomes.{CallKeeps, given-keeps, allowed-keeps, holding-keeps}
-use Rattle.xlsynth_vast.proofs.KeptWords.{assignment-kept, conditional-kept, defined_loop_parameter-kept, loop-kept, loop_always-kept, loop_member-kept, member-kept, plain_loop_parameter-kept}
+use Rattle.xlsynth_vast.proofs.KeptWords.{assignment-kept, conditional-kept, loop-kept, loop_always-kept, loop_member-kept, member-kept, scope_parameter-kept}
 use Rattle.vast_script.specs.Loops.{generate_add_always, loop_call}
 
 generate_add_always-keeps : (kind : AlwaysKind) (word : List ℕ) (generate : ℕ) (events : List ℕ) → CallKeeps (generate_add_always kind word generate events)
@@ -31,8 +34,8 @@ loop-keeps (GenerateGenvar generate) = λ b answers. given-keeps b (one a_loop b
 loop-keeps (GenerateAddAlwaysComb generate) = λ b answers. given-keeps b (one a_loop b answers generate) (λ generate. Made (VastAlwaysBase (next_always b)) (with_loop_always generate AlwaysComb [] b)) (λ generate. loop_always-kept generate AlwaysComb [] b)
 loop-keeps (GenerateAddAlwaysFf generate events) = generate_add_always-keeps AlwaysFF (codes "always_ff") generate events.items
 loop-keeps (GenerateAddAlwaysAt generate events) = generate_add_always-keeps AlwaysAt (codes "always @") generate events.items
-loop-keeps (GenerateAddLocalparam generate name value) = λ b answers. given-keeps b (two a_loop an_expr b answers generate value) (λ (generate, value). Made (LocalparamRef (record { id = next_node b })) (with_plain_loop_parameter generate (string_bytes name) value b)) (λ (generate, value). plain_loop_parameter-kept generate (string_bytes name) value b)
-loop-keeps (GenerateAddTypedLocalparam generate definition value) = λ b answers. given-keeps b (three a_loop a_definition an_expr b answers generate definition value) (λ (generate, definition, value). Made (LocalparamRef (record { id = next_node b })) (with_defined_loop_parameter generate definition value b)) (λ (generate, definition, value). defined_loop_parameter-kept generate definition value b)
+loop-keeps (GenerateAddLocalparam generate name value) = λ b answers. given-keeps b (two a_loop an_expr b answers generate value) (λ (generate, value). Made (LocalparamRef (record { id = next_node b })) (with_scope_parameter (ScopeLoop generate) true (PlainForm (string_bytes name)) value b)) (λ (generate, value). scope_parameter-kept (ScopeLoop generate) true (PlainForm (string_bytes name)) value b)
+loop-keeps (GenerateAddTypedLocalparam generate definition value) = λ b answers. given-keeps b (three a_loop a_definition an_expr b answers generate definition value) (λ (generate, definition, value). Made (LocalparamRef (record { id = next_node b })) (with_scope_parameter (ScopeLoop generate) true (DefinedForm definition) value b)) (λ (generate, definition, value). scope_parameter-kept (ScopeLoop generate) true (DefinedForm definition) value b)
 loop-keeps (GenerateAddContinuousAssignment generate left right) = λ b answers. given-keeps b (three a_loop an_expr an_expr b answers generate left right) (λ (generate, left, right). Made (VastStatement (next_statement b)) (with_loop_member generate (AssignmentEntry (next_continuous b)) (with_assignment (record { lhs = left; rhs = right; nonblocking = false }) b))) (λ (generate, left, right). keeps-then b (with_assignment (record { lhs = left; rhs = right; nonblocking = false }) b) _ (assignment-kept (record { lhs = left; rhs = right; nonblocking = false }) b) (loop_member-kept generate (AssignmentEntry (next_continuous b)) (with_assignment (record { lhs = left; rhs = right; nonblocking = false }) b)))
 loop-keeps (GenerateAddConditional generate condition) = λ b answers. given-keeps b (two a_loop an_expr b answers generate condition) (λ (generate, condition). Made (Conditional (next_conditional b)) (with_loop_member generate (ConditionalEntry (next_conditional b)) (with_conditional condition b))) (λ (generate, condition). keeps-then b (with_conditional condition b) _ (conditional-kept condition b) (loop_member-kept generate (ConditionalEntry (next_conditional b)) (with_conditional condition b)))
 loop-keeps (GenerateAddBlankLine generate) = λ b answers. given-keeps b (one a_loop b answers generate) (λ generate. Made Nothing (with_loop_member generate BlankEntry b)) (λ generate. loop_member-kept generate BlankEntry b)

@@ -1,13 +1,16 @@
 -- What becomes of a call of generate loops and their members.
-use Rattle.std.specs.Prelude.{ℕ, false, List, [], codes, string_bytes}
+use Rattle.std.specs.Prelude.{ℕ, true, false, List, [], codes, string_bytes}
 use Rattle.vast_literal.specs.declared.kind.AlwaysKind.{AlwaysKind}
 use Rattle.vast_literal.specs.declared.kind.AlwaysKind.TheVariants.{AlwaysFF, AlwaysAt, AlwaysComb}
+use Rattle.vast_core.specs.declared.ast.scope.Scope.TheVariants.{Loop as ScopeLoop}
+use Rattle.vast_core.specs.declared.node.ParameterForm.TheVariants.{Plain as PlainForm, Defined as DefinedForm}
+use Rattle.vast_core.specs.Scopes.{with_scope_parameter}
 use Rattle.vast_core.specs.declared.node.Member.TheVariants.{ContinuousAssignment as AssignmentEntry, BlankLine as BlankEntry, Comment as CommentEntry, Inline as InlineEntry, Macro as MacroEntry, Instantiation as InstanceEntry, Conditional as ConditionalEntry, Loop as LoopEntry}
 use Rattle.vast_core.specs.Nests.{label_bytes}
 use Rattle.vast_core.specs.Growth.{next_node, with_member, next_continuous, with_assignment}
 use Rattle.vast_core.specs.Artifacts.{next_statement}
 use Rattle.vast_core.specs.Containers.{next_conditional, with_conditional}
-use Rattle.vast_core.specs.Loops.{next_always, next_loop, with_loop, with_loop_member, with_plain_loop_parameter, with_defined_loop_parameter}
+use Rattle.vast_core.specs.Loops.{next_always, next_loop, with_loop, with_loop_member}
 use Rattle.xlsynth_vast.specs.AlwaysBlocks.{unless_wrong_event, with_loop_always}
 use Rattle.xlsynth_vast.specs.Inspections.{genvar_at}
 use Rattle.vast_script.specs.declared.answer.Answer.TheVariants.{GenerateLoop, LogicRef, VastAlwaysBase, LocalparamRef, VastStatement, Conditional, Nothing}
@@ -37,9 +40,9 @@ loop_call (GenerateAddAlwaysComb generate) = takes_one a_loop generate (λ gener
 loop_call (GenerateAddAlwaysFf generate events) = generate_add_always AlwaysFF (codes "always_ff") generate events.items
 loop_call (GenerateAddAlwaysAt generate events) = generate_add_always AlwaysAt (codes "always @") generate events.items
 loop_call (GenerateAddLocalparam generate name value) = takes_two a_loop an_expr generate value
-    (λ generate value. makes LocalparamRef (λ b. record { id = next_node b }) (with_plain_loop_parameter generate (string_bytes name) value))
+    (λ generate value. makes LocalparamRef (λ b. record { id = next_node b }) (with_scope_parameter (ScopeLoop generate) true (PlainForm (string_bytes name)) value))
 loop_call (GenerateAddTypedLocalparam generate definition value) = takes_three a_loop a_definition an_expr generate definition value
-    (λ generate definition value. makes LocalparamRef (λ b. record { id = next_node b }) (with_defined_loop_parameter generate definition value))
+    (λ generate definition value. makes LocalparamRef (λ b. record { id = next_node b }) (with_scope_parameter (ScopeLoop generate) true (DefinedForm definition) value))
 loop_call (GenerateAddContinuousAssignment generate left right) = takes_three a_loop an_expr an_expr generate left right
     (λ generate left right b. Made (VastStatement (next_statement b)) (with_loop_member generate (AssignmentEntry (next_continuous b)) (with_assignment (record { lhs = left; rhs = right; nonblocking = false }) b)))
 loop_call (GenerateAddConditional generate condition) = takes_two a_loop an_expr generate condition
