@@ -18,8 +18,8 @@ use Rattle.vast_literal.specs.declared.kind.DataKind.{DataKind}
 use Rattle.vast_core.specs.declared.node.Assignment.{Assignment}
 use Rattle.vast_core.specs.Raw.{Raw}
 use Rattle.vast_core.specs.View.{bench}
-use Rattle.vast_core.specs.Nodes.{Root, ExprRoot, TypeRoot, with_root as with_node}
-use Rattle.vast_core.specs.Records.{FileItem, ModuleEntry, Member, DeclarationEntry, new_module, with_port as with_listed_port, with_member as with_listed_member, with_named_member as with_listed_name, changed_at}
+use Rattle.vast_core.specs.Nodes.{Root, ExprRoot, TypeRoot, with_node}
+use Rattle.vast_core.specs.Records.{FileItem, ModuleEntry, Member, DeclarationEntry, new_module, with_listed_port, with_listed_member, with_listed_name, changed_at}
 use Rattle.vast_core.specs.Bench.{Bench, tree_of, trees_of, type_of}
 
 -- The call answers this and leaves this, both of what the file held; or memory was refused and nothing changed.

@@ -5,7 +5,7 @@ use Rattle.vast_core.specs.declared.handle.Expr.{Expr}
 use Rattle.vast_core.specs.declared.handle.VastModule.{VastModule}
 use Rattle.vast_core.specs.declared.handle.VastDataType.{VastDataType}
 use Rattle.vast_core.specs.Nodes.{maybe_type_in}
-use Rattle.vast_core.specs.Records.{ParameterPort, Definition, ParameterForm, PlainForm, IntForm, DefinedForm, with_parameter_port as with_listed_parameter, changed_at}
+use Rattle.vast_core.specs.Records.{ParameterPort, Definition, ParameterForm, PlainForm, IntForm, DefinedForm, with_listed_parameter, changed_at}
 use Rattle.vast_core.specs.Bench.{Bench, type_of}
 use Rattle.vast_core.specs.Growth.{with_expr}
 

@@ -14,7 +14,7 @@ use Rattle.vast_core.specs.declared.node.Assignment.{Assignment}
 use Rattle.vast_core.specs.declared.node.ElseIf.{ElseIf}
 use Rattle.vast_core.specs.declared.node.CaseArm.{CaseArm}
 use Rattle.vast_core.specs.Nodes.{Root, expr_in, type_in, expr_of_root, type_of_root, is_expr_root, is_type_root, is_root_of, is_name, is_index, is_slice, is_macro}
-use Rattle.vast_core.specs.Records.{ModuleRecord, InstanceRecord, changed_at, with_name, with_port, with_parameter_port, with_member, with_named_member}
+use Rattle.vast_core.specs.Records.{ModuleRecord, InstanceRecord, changed_at, with_name, with_listed_port, with_listed_parameter, with_listed_member, with_listed_name}
 use Rattle.vast_core.specs.declared.node.ParameterPort.{ParameterPort}
 use Rattle.vast_core.specs.declared.node.Definition.{Definition}
 use Rattle.vast_core.specs.declared.node.Artifact.{Artifact}
@@ -238,11 +238,11 @@ names-changed f h (x ∷ xs) zero (suc j) = refl
 names-changed f h (x ∷ xs) (suc i) zero = refl
 names-changed f h (x ∷ xs) (suc i) (suc j) = names-changed f h xs i j
 
-pub names_after_member : (e : Member) (xs : List ModuleRecord) (i j : ℕ) → names_of (slice_get (changed_at i (with_member e) xs) j) ≡ names_of (slice_get xs j)
-names_after_member e xs i j = names-changed (with_member e) (λ m. refl) xs i j
+pub names_after_member : (e : Member) (xs : List ModuleRecord) (i j : ℕ) → names_of (slice_get (changed_at i (with_listed_member e) xs) j) ≡ names_of (slice_get xs j)
+names_after_member e xs i j = names-changed (with_listed_member e) (λ m. refl) xs i j
 
-pub names_after_parameter : (p : ParameterPort) (xs : List ModuleRecord) (i j : ℕ) → names_of (slice_get (changed_at i (with_parameter_port p) xs) j) ≡ names_of (slice_get xs j)
-names_after_parameter p xs i j = names-changed (with_parameter_port p) (λ m. refl) xs i j
+pub names_after_parameter : (p : ParameterPort) (xs : List ModuleRecord) (i j : ℕ) → names_of (slice_get (changed_at i (with_listed_parameter p) xs) j) ≡ names_of (slice_get xs j)
+names_after_parameter p xs i j = names-changed (with_listed_parameter p) (λ m. refl) xs i j
 
 names-there :
     (f : ModuleRecord → ModuleRecord) (name : List ℕ) → ((m : ModuleRecord) → (f m).names ≡ with_name name m.names) → (xs : List ModuleRecord) (i : ℕ) → i < length xs →
@@ -251,11 +251,11 @@ names-there f name h [] i below = absurd (omega arith)
 names-there f name h (x ∷ xs) zero below = h x
 names-there f name h (x ∷ xs) (suc i) below = names-there f name h xs i (omega arith)
 
-pub names_after_port : (p : ModulePort) (name : List ℕ) (xs : List ModuleRecord) (i : ℕ) → i < length xs → names_of (slice_get (changed_at i (with_port p name) xs) i) ≡ with_name name (names_of (slice_get xs i))
-names_after_port p name xs i below = names-there (with_port p name) name (λ m. refl) xs i below
+pub names_after_port : (p : ModulePort) (name : List ℕ) (xs : List ModuleRecord) (i : ℕ) → i < length xs → names_of (slice_get (changed_at i (with_listed_port p name) xs) i) ≡ with_name name (names_of (slice_get xs i))
+names_after_port p name xs i below = names-there (with_listed_port p name) name (λ m. refl) xs i below
 
-pub names_after_declaration : (e : Member) (name : List ℕ) (xs : List ModuleRecord) (i : ℕ) → i < length xs → names_of (slice_get (changed_at i (with_named_member e name) xs) i) ≡ with_name name (names_of (slice_get xs i))
-names_after_declaration e name xs i below = names-there (with_named_member e name) name (λ m. refl) xs i below
+pub names_after_declaration : (e : Member) (name : List ℕ) (xs : List ModuleRecord) (i : ℕ) → i < length xs → names_of (slice_get (changed_at i (with_listed_name e name) xs) i) ≡ with_name name (names_of (slice_get xs i))
+names_after_declaration e name xs i below = names-there (with_listed_name e name) name (λ m. refl) xs i below
 
 pub last_module : (xs : List ModuleRecord) (m : ModuleRecord) → slice_get (xs ++ m ∷ []) (length xs) ≡ Some m
 last_module xs m = slice_get-seam xs m
