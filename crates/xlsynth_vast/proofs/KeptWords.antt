@@ -38,7 +38,7 @@ use Rattle.vast_core.proofs.Containers.{fresh_container}
 use Rattle.vast_core.specs.Scopes.{with_scope_member, with_scope_parameter}
 use Rattle.vast_core.specs.Loops.{next_always, with_always, with_loop, new_loop, with_loop_member}
 use Rattle.xlsynth_vast.specs.Equations.{is_one, with_bit_vector}
-use Rattle.xlsynth_vast.specs.AlwaysBlocks.{with_always_member, with_loop_always}
+use Rattle.xlsynth_vast.specs.AlwaysBlocks.{with_scope_always}
 use Rattle.xlsynth_vast.specs.Functions.{with_function_member}
 use Rattle.xlsynth_vast.specs.Keeps.{Keeps}
 use Rattle.xlsynth_vast.proofs.Kept.{keeps-root, keeps-then, keeps-cond, keeps-fresh, keeps-listing, keeps-changed, keeps-unique}
@@ -88,14 +88,7 @@ function_member-kept owner name type b =
 pub variable-kept : (function : VastFunction) (local : Bool) (variable : FunctionVariable) (b : Bench) → Keeps b (with_variable function local variable b)
 variable-kept function local variable b = keeps-then b _ _ (keeps-listing b (InFunction function local variable)) (keeps-root _ _)
 
--- Always blocks and parts.
-
-pub always_member-kept : (owner : VastModule) (kind : AlwaysKind) (events : List Expr) (b : Bench) → Keeps b (with_always_member owner kind events b)
-always_member-kept owner kind events b = keeps-then b _ _ (keeps-fresh b (record fresh_block { always_block = Some _ })) (keeps-changed _ owner.id.index _)
-
-pub loop_always-kept : (owner : GenerateLoop) (kind : AlwaysKind) (events : List Expr) (b : Bench) → Keeps b (with_loop_always owner kind events b)
-loop_always-kept owner kind events b =
-    keeps-then b _ _ (keeps-fresh b (record fresh_block { always_block = Some _ })) (keeps-listing (with_always kind events b) (InNest owner.id.index (MemberEnters (AlwaysEntry (next_always b)))))
+-- Parts.
 
 pub artifact-kept : (part : Artifact) (b : Bench) → Keeps b (with_artifact part b)
 artifact-kept part b = keeps-fresh b (record no_fresh { artifact = Some part })
@@ -146,3 +139,7 @@ scope_member-kept (LoopScope owner) entry b = loop_member-kept owner entry b
 
 pub scope_parameter-kept : (scope : Scope) (local : Bool) (form : ParameterForm) (value : Expr) (b : Bench) → Keeps b (with_scope_parameter scope local form value b)
 scope_parameter-kept scope local form value b = keeps-then b (with_scope_member scope _ b) _ (scope_member-kept scope _ b) (keeps-root _ _)
+
+pub scope_always-kept : (owner : Scope) (kind : AlwaysKind) (events : List Expr) (b : Bench) → Keeps b (with_scope_always owner kind events b)
+scope_always-kept owner kind events b =
+    keeps-then b (with_always kind events b) _ (keeps-fresh b (record fresh_block { always_block = Some _ })) (scope_member-kept owner (AlwaysEntry (next_always b)) (with_always kind events b))
