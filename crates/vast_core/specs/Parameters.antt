@@ -5,17 +5,14 @@ use Rattle.vast_core.specs.declared.handle.Expr.{Expr}
 use Rattle.vast_core.specs.declared.handle.VastModule.{VastModule}
 use Rattle.vast_core.specs.declared.handle.VastDataType.{VastDataType}
 use Rattle.vast_core.specs.Nodes.{maybe_type_in}
-use Rattle.vast_core.specs.Records.{ParameterPort, Definition, ParameterForm, PlainForm, IntForm, DefinedForm, with_listed_parameter, changed_at}
+use Rattle.vast_core.specs.Records.{Definition, ParameterForm, PlainForm, IntForm, DefinedForm, with_listed_parameter, changed_at}
 use Rattle.vast_core.specs.Bench.{Bench, type_of}
 use Rattle.vast_core.specs.Growth.{with_expr}
 
 -- A parameter more in the module's header: its place at the end, and its name as an expression.
-abbrev pub with_parameter_listed : VastModule → ParameterPort → Bench → Bench
-with_parameter_listed m p b = record b { modules = changed_at m.id.index (with_listed_parameter p) b.modules }
-
 abbrev pub with_parameter_port : VastModule → List ℕ → Option VastDataType → Expr → Bench → Bench
 with_parameter_port m name data_type value b =
-    with_expr (NameTree name (maybe_type_in b.nodes data_type)) (with_parameter_listed m (record { name = name; data_type = data_type; value = value }) b)
+    with_expr (NameTree name (maybe_type_in b.nodes data_type)) (record b { modules = changed_at m.id.index (with_listed_parameter (record { name = name; data_type = data_type; value = value })) b.modules })
 
 -- A definition's name as an expression, of the definition's type.
 abbrev pub defined_name : Bench → Option Definition → ExprTree
