@@ -8,7 +8,7 @@ use Rattle.vast_core.specs.declared.handle.CaseStatement.{CaseStatement}
 use Rattle.vast_core.specs.declared.handle.GenerateLoop.{GenerateLoop}
 use Rattle.vast_literal.specs.declared.kind.CaseKind.{CaseKind}
 use Rattle.vast_core.specs.declared.node.Assignment.{Assignment}
-use Rattle.vast_core.specs.Nests.{Statement, AssignStatement, ContinuousStatement, ConditionalStatement, CasesStatement, BlockRecord, is_block_kind, is_conditional_kind, is_case_kind, is_loop_kind}
+use Rattle.vast_core.specs.Nests.{Statement, AssignStatement, ContinuousStatement, ConditionalStatement, CasesStatement, BlockRecord, is_kind, BlockKind, ConditionalKind, CaseStatementKind, LoopKind}
 use Rattle.vast_core.specs.Bench.{Bench, OwnsExpr, OwnsBlock, OwnsConditional, OwnsCase, OwnsLoop, OwnsStatement}
 use Rattle.vast_core.specs.Growth.{with_assignment, next_id}
 use Rattle.vast_core.specs.Artifacts.{next_statement}
@@ -29,16 +29,16 @@ pub a-block-comes : (b c : Bench) → FreshSound b c fresh_block
 a-block-comes b c = record { terms = tt; port = tt; fresh_module = tt; definition = tt; artifact = tt; instance = tt; assignment = tt; container = tt; function = tt; always_block = tt }
 
 pub block-place : (b : Bench) (x : VastStatementBlock) → OwnsBlock b x → x.id.index < length b.nests
-block-place b x h = kind-there is_block_kind b.nests x.id.index never h.of_kind
+block-place b x h = kind-there (is_kind BlockKind) b.nests x.id.index never h.of_kind
 
 pub conditional-place : (b : Bench) (x : Conditional) → OwnsConditional b x → x.id.index < length b.nests
-conditional-place b x h = kind-there is_conditional_kind b.nests x.id.index never h.of_kind
+conditional-place b x h = kind-there (is_kind ConditionalKind) b.nests x.id.index never h.of_kind
 
 pub case-place : (b : Bench) (x : CaseStatement) → OwnsCase b x → x.id.index < length b.nests
-case-place b x h = kind-there is_case_kind b.nests x.id.index never h.of_kind
+case-place b x h = kind-there (is_kind CaseStatementKind) b.nests x.id.index never h.of_kind
 
 pub loop-place : (b : Bench) (x : GenerateLoop) → OwnsLoop b x → x.id.index < length b.nests
-loop-place b x h = kind-there is_loop_kind b.nests x.id.index never h.of_kind
+loop-place b x h = kind-there (is_kind LoopKind) b.nests x.id.index never h.of_kind
 
 -- The element behind the last one but one.
 second-seam : {A : Type 0} (xs : List A) (x y : A) → slice_get ((xs ++ x ∷ []) ++ y ∷ []) (suc (length xs)) ≡ Some y

@@ -10,7 +10,7 @@ use Rattle.vast_core.specs.declared.handle.LogicRef.{LogicRef}
 use Rattle.vast_core.specs.declared.handle.VastFunction.{VastFunction}
 use Rattle.vast_core.specs.declared.handle.VastStatementBlock.{VastStatementBlock}
 use Rattle.vast_literal.specs.declared.kind.AlwaysKind.{AlwaysKind}
-use Rattle.vast_core.specs.Nodes.{Root, ExprRoot, with_root as with_node}
+use Rattle.vast_core.specs.Nodes.{Root, ExprRoot, with_node}
 use Rattle.vast_core.specs.Records.{FunctionEntry}
 use Rattle.vast_core.specs.Nests.{BlockRecord, FunctionVariable}
 use Rattle.vast_core.specs.Bench.{Bench, NameIsFree, OwnsExpr, OwnsType, OwnsBlock, OwnsModule, OwnsLoop, OwnsAlways, OwnsFunction, OwnsLogicRef, OwnsContinuous, type_of}

@@ -11,7 +11,7 @@ use Rattle.vast_core.specs.declared.handle.VastDataType.{VastDataType}
 use Rattle.vast_literal.specs.declared.kind.DataKind.{DataKind}
 use Rattle.vast_literal.specs.declared.kind.ModulePortDirection.{ModulePortDirection}
 use Rattle.vast_core.specs.declared.node.Assignment.{Assignment}
-use Rattle.vast_core.specs.Nodes.{Root, ExprRoot, with_root as with_node}
+use Rattle.vast_core.specs.Nodes.{Root, ExprRoot, with_node}
 use Rattle.vast_core.specs.Records.{Port, ParameterPort, DeclarationEntry, FileItem, Definition, Artifact, InstanceRecord}
 use Rattle.vast_core.specs.Nests.{FunctionVariable}
 use Rattle.vast_core.specs.Bench.{Bench, OwnsExpr, OwnsType, OwnsModule, OwnsFunction, NameIsFree, IsFreeInFunction, type_of}

@@ -7,7 +7,7 @@ use Rattle.vast_core.specs.declared.handle.Expr.{Expr}
 use Rattle.vast_core.specs.declared.handle.IndexableExpr.{IndexableExpr}
 use Rattle.vast_core.specs.Nodes.{ExprRoot}
 use Rattle.vast_core.specs.Bench.{Bench, OwnsExpr, OwnsIndexable, tree_of, trees_of}
-use Rattle.vast_core.specs.Growth.{next_id, with_expr, with_type, with_bounds, with_vector, with_fixed_index, with_fixed_slice, next_expr, known_literal, decimal_literal, width_literal, with_fixed_replication}
+use Rattle.vast_core.specs.Growth.{next_id, with_expr, with_type, with_bounds, with_vector, with_fixed_index, with_fixed_slice, next_expr, known_literal, decimal_literal, with_fixed_replication}
 use Rattle.vast_core.proofs.Laws.{next_owned, next_tree, old_owned, old_tree, old_trees}
 
 -- The ids behind one literal and behind two.
@@ -63,7 +63,7 @@ fixed-replication b count w t parts own i h q o r k = rw (q, o, r, k) (replicati
 pub fixed-vector :
     (b : Bench) (bits w : ℤ) (signed : Bool) (t : List ℕ) (i : Expr) → t ≡ signed_decimal bits → w ≡ bits → i ≡ next_expr b →
     with_type (VectorTree (tree_of (with_expr (known_literal t w) b) i) (Some w) signed) (with_expr (known_literal t w) b) ≡ with_vector bits signed b
-fixed-vector b bits w signed t i q o k = rw (q, o, k, next_tree b (width_literal bits)) refl
+fixed-vector b bits w signed t i q o k = rw (q, o, k, next_tree b (decimal_literal bits)) refl
 
 -- The subject and both literals are the file's behind the literals.
 pub bounds-owned :

@@ -10,8 +10,8 @@ use Rattle.vast_core.specs.declared.node.Function.{Function}
 use Rattle.vast_core.specs.Raw.{Raw}
 use Rattle.vast_core.specs.Nodes.{no_nodes}
 use Rattle.vast_core.specs.Internal.Nodes.{TermsSound}
-use Rattle.vast_core.specs.Records.{ParameterPort, ModuleRecord, Member, InstanceRecord, changed_at, with_port, with_parameter_port, module_record, instance_record}
-use Rattle.vast_core.specs.Nests.{NestRecord, BlockRecord, ConditionalNestRecord, CaseNestRecord, LoopNestRecord, FunctionVariable, FunctionRecord, nest_kind, is_block_kind, nest_record, function_record, always_record}
+use Rattle.vast_core.specs.Records.{ParameterPort, ModuleRecord, Member, InstanceRecord, changed_at, with_listed_port, with_listed_parameter, module_record, instance_record}
+use Rattle.vast_core.specs.Nests.{NestRecord, BlockRecord, ConditionalNestRecord, CaseNestRecord, LoopNestRecord, FunctionVariable, FunctionRecord, nest_kind, nest_record, function_record, always_record, is_kind, BlockKind}
 use Rattle.vast_core.specs.Functions.{with_listed_variable}
 use Rattle.vast_core.specs.Bench.{Bench, OwnsBlock, OwnsPort, function_names}
 use Rattle.vast_core.specs.View.{bench}
@@ -139,8 +139,8 @@ EntersSound-kept b c g i (MemberEnters m) h = LoopMemberSound-kept b c g i m h
 -- The lists that gain an entry.
 
 modules-count : (l : Listing) (ms : List ModuleRecord) → length (listed_modules l ms) ≡ length ms
-modules-count (InHeader owner p) ms = length-changed_at (with_parameter_port p) ms owner.id.index
-modules-count (InPorts owner port name) ms = length-changed_at (with_port port name) ms owner.id.index
+modules-count (InHeader owner p) ms = length-changed_at (with_listed_parameter p) ms owner.id.index
+modules-count (InPorts owner port name) ms = length-changed_at (with_listed_port port name) ms owner.id.index
 modules-count (InModule owner entry name) ms = length-changed_at (with_listed entry name) ms owner.id.index
 modules-count _ ms = refl
 
@@ -163,7 +163,7 @@ Grows-listing b l =
       always_blocks = λ i a h. h;
     }
 
-header-sound : (b : Bench) (p : ParameterPort) → ParameterPortSound b p → (x : ModuleRecord) → ModuleSound b x → ModuleSound b (with_parameter_port p x)
+header-sound : (b : Bench) (p : ParameterPort) → ParameterPortSound b p → (x : ModuleRecord) → ModuleSound b x → ModuleSound b (with_listed_parameter p x)
 header-sound b p h x k = record { parameters = Each-push (ParameterPortSound b) x.parameters p k.parameters h; ports = k.ports; members = k.members }
 
 member-sound : (b : Bench) (entry : Member) (name : Option (List ℕ)) → MemberSound b entry → (x : ModuleRecord) → ModuleSound b x → ModuleSound b (with_listed entry name x)
@@ -171,9 +171,9 @@ member-sound b entry None h x k = record { parameters = k.parameters; ports = k.
 member-sound b entry (Some name) h x k = record { parameters = k.parameters; ports = k.ports; members = Each-push (MemberSound b) x.members entry k.members h }
 
 listing-modules : (b c d : Bench) (l : Listing) → Grows c d → ListingSound b c l → (ms : List ModuleRecord) → Each (ModuleSound d) ms → Each (ModuleSound d) (listed_modules l ms)
-listing-modules b c d (InHeader owner p) g h ms k = Each-changed_at (ModuleSound d) (with_parameter_port p) (header-sound d p (ParameterPortSound-kept c d g p h.1)) ms owner.id.index k
+listing-modules b c d (InHeader owner p) g h ms k = Each-changed_at (ModuleSound d) (with_listed_parameter p) (header-sound d p (ParameterPortSound-kept c d g p h.1)) ms owner.id.index k
 listing-modules b c d (InPorts owner port name) g h ms k =
-    Each-changed_at (ModuleSound d) (with_port port name) (λ x e. record { parameters = e.parameters; ports = Each-push (OwnsPort d) x.ports port e.ports (port_stays c d g port h.port_there); members = e.members }) ms owner.id.index k
+    Each-changed_at (ModuleSound d) (with_listed_port port name) (λ x e. record { parameters = e.parameters; ports = Each-push (OwnsPort d) x.ports port e.ports (port_stays c d g port h.port_there); members = e.members }) ms owner.id.index k
 listing-modules b c d (InModule owner entry name) g h ms k = Each-changed_at (ModuleSound d) (with_listed entry name) (member-sound d entry name (MemberSound-kept c d g entry h.member)) ms owner.id.index k
 listing-modules b c d _ g h ms k = k
 
@@ -242,14 +242,14 @@ RecordsSound-listing b c l s h =
 
 spare-kept : (b c : Bench) → Grows b c → (o : Option VastStatementBlock) → IfSome o (OwnsBlock b) → IfSome o (OwnsBlock c)
 spare-kept b c g None h = tt
-spare-kept b c g (Some x) h = nest-kept is_block_kind b c x.id g never h
+spare-kept b c g (Some x) h = nest-kept (is_kind BlockKind) b c x.id g never h
 
 spare-fresh : (c : Bench) (takes : Bool) (o : Option VastStatementBlock) → IfSome o (OwnsBlock c) → IfSome (spare_left takes o) (OwnsBlock c)
 spare-fresh c false o h = h
 spare-fresh c true o h = tt
 
 spare-listing : (b c d : Bench) (l : Listing) → Grows c d → ListingSound b c l → IfSome c.spare (OwnsBlock d) → IfSome (listed_spare l c.spare) (OwnsBlock d)
-spare-listing b c d (AsSpare block) g h k = nest-kept is_block_kind c d block.id g never h
+spare-listing b c d (AsSpare block) g h k = nest-kept (is_kind BlockKind) c d block.id g never h
 spare-listing b c d _ g h k = k
 
 -- A file stays sound.
@@ -291,8 +291,8 @@ swapped-nests Nowhere m k ns o block h = refl
 swapped-nests _ m k ns o block h = refl
 
 swapped-modules : (l : Listing) (n k : ℕ) (ms : List ModuleRecord) (o : Option ModuleRecord) → ListingThere (length ms) n k l → added (listed_modules l ms) o ≡ listed_modules l (added ms o)
-swapped-modules (InHeader owner p) n k ms o h = before-added (with_parameter_port p) ms o owner.id.index h
-swapped-modules (InPorts owner port name) n k ms o h = before-added (with_port port name) ms o owner.id.index h
+swapped-modules (InHeader owner p) n k ms o h = before-added (with_listed_parameter p) ms o owner.id.index h
+swapped-modules (InPorts owner port name) n k ms o h = before-added (with_listed_port port name) ms o owner.id.index h
 swapped-modules (InModule owner entry name) n k ms o h = before-added (with_listed entry name) ms o owner.id.index h
 swapped-modules _ n k ms o h = refl
 

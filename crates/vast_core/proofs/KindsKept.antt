@@ -2,7 +2,7 @@
 use Rattle.std.proofs.Common.{ℕ, Bool, true, false, List, Option, Some, None}
 use Rattle.std.specs.Prelude.{IfSome}
 use Rattle.vast_core.specs.declared.handle.VastModule.{VastModule}
-use Rattle.vast_core.specs.Records.{ModuleRecord, Member, InstanceRecord, changed_at, with_port, with_parameter_port}
+use Rattle.vast_core.specs.Records.{ModuleRecord, Member, InstanceRecord, changed_at, with_listed_port, with_listed_parameter}
 use Rattle.vast_core.specs.Nests.{FunctionRecord, FunctionVariable}
 use Rattle.vast_core.specs.Bench.{Bench}
 use Rattle.vast_core.specs.Functions.{with_listed_variable}
@@ -59,8 +59,8 @@ pub KindsSound-listing :
     KindsSound (with_listing l c).modules (with_listing l c).functions (with_listing l c).instances
 KindsSound-listing b c Nowhere k s = s
 KindsSound-listing b c (InFile entry) k s = s
-KindsSound-listing b c (InHeader owner p) k s = record { declarations = modules-listed c owner (with_parameter_port p) (λ m h. h) s.declarations; locals = s.locals; values = s.values }
-KindsSound-listing b c (InPorts owner port name) k s = record { declarations = modules-listed c owner (with_port port name) (λ m h. h) s.declarations; locals = s.locals; values = s.values }
+KindsSound-listing b c (InHeader owner p) k s = record { declarations = modules-listed c owner (with_listed_parameter p) (λ m h. h) s.declarations; locals = s.locals; values = s.values }
+KindsSound-listing b c (InPorts owner port name) k s = record { declarations = modules-listed c owner (with_listed_port port name) (λ m h. h) s.declarations; locals = s.locals; values = s.values }
 KindsSound-listing b c (InModule owner entry name) k s = record { declarations = modules-listed c owner (with_listed entry name) (listed-kinds entry name k.kind) s.declarations; locals = s.locals; values = s.values }
 KindsSound-listing b c (InFunction f local v) k s =
     record { declarations = s.declarations; locals = Each-changed_at HasLocalKinds (with_listed_variable local v) (variable-kinds local v k.kind) c.functions f.id.index s.locals; values = s.values }

@@ -9,7 +9,7 @@ use Rattle.std.specs.Str.{bytes_eq}
 use Rattle.std.proofs.lemmas.Slice.Eq.{bytes_eq-Decides}
 use Rattle.vast_core.specs.declared.handle.ModulePort.{ModulePort}
 use Rattle.vast_core.specs.declared.handle.VastModule.{VastModule}
-use Rattle.vast_core.specs.Records.{Port, ModuleRecord, Member, DeclarationEntry, AssignmentEntry, ParameterEntry, BlankEntry, CommentEntry, InlineEntry, MacroEntry, InstanceEntry, FunctionEntry, AlwaysEntry, ConditionalEntry, LoopEntry, IsFree, with_name, changed_at, with_port, with_named_member, with_parameter_port}
+use Rattle.vast_core.specs.Records.{Port, ModuleRecord, Member, DeclarationEntry, AssignmentEntry, ParameterEntry, BlankEntry, CommentEntry, InlineEntry, MacroEntry, InstanceEntry, FunctionEntry, AlwaysEntry, ConditionalEntry, LoopEntry, IsFree, with_name, changed_at, with_listed_port, with_listed_name, with_listed_parameter}
 use Rattle.vast_core.specs.Nests.{FunctionVariable, FunctionRecord}
 use Rattle.vast_core.specs.Bench.{Bench, OwnsPort, names_of}
 use Rattle.vast_core.specs.Functions.{with_listed_variable}
@@ -141,9 +141,9 @@ free-there name o x e h = rw e at h
 
 port-listed :
     (b : Bench) (port : ModulePort) (name : List ℕ) → names_by_port b.ports port ≡ name ∷ [] → (x : ModuleRecord) → IsFree name x.names →
-    NamesSound b.ports b.functions x → NamesSound b.ports b.functions (with_port port name x)
+    NamesSound b.ports b.functions x → NamesSound b.ports b.functions (with_listed_port port name x)
 port-listed b port name e x free h =
-    gained b.ports b.functions x (with_port port name x) name
+    gained b.ports b.functions x (with_listed_port port name x) name
     (λ n.
     let t = bytes_eq n in
     let members = flat_map (names_by_member b.functions) x.members in
@@ -170,7 +170,7 @@ member-listed :
     (b : Bench) (entry : Member) (name : Option (List ℕ)) → names_by_member b.functions entry ≡ listed_name name → (x : ModuleRecord) → IfSome name (λ n. IsFree n x.names) →
     NamesSound b.ports b.functions x → NamesSound b.ports b.functions (with_listed entry name x)
 member-listed b entry None e x free h = record { taken = λ n. let more = member-more b entry [] x n e in let old = h.taken n in omega (arith, more, old); once = h.once }
-member-listed b entry (Some name) e x free h = gained b.ports b.functions x (with_named_member entry name x) name (λ n. member-more b entry (name ∷ []) x n e) refl free h
+member-listed b entry (Some name) e x free h = gained b.ports b.functions x (with_listed_name entry name x) name (λ n. member-more b entry (name ∷ []) x n e) refl free h
 
 maybe-free : (name : Option (List ℕ)) (o : Option ModuleRecord) (x : ModuleRecord) → o ≡ Some x → IfSome name (λ n. IsFree n (names_of o)) → IfSome name (λ n. IsFree n x.names)
 maybe-free None o x e h = tt
@@ -193,9 +193,9 @@ pub names-listing : (b c : Bench) (l : Listing) → RecordsSound c → ListingSo
 names-listing b c Nowhere s k h = h
 names-listing b c (InFile entry) s k h = h
 names-listing b c (InHeader owner p) s k h =
-    Each-changed_at (NamesSound c.ports c.functions) (with_parameter_port p) (λ x e. record { taken = e.taken; once = e.once }) c.modules owner.id.index h
+    Each-changed_at (NamesSound c.ports c.functions) (with_listed_parameter p) (λ x e. record { taken = e.taken; once = e.once }) c.modules owner.id.index h
 names-listing b c (InPorts owner port name) s k h =
-    Each-changed_there (NamesSound c.ports c.functions) (with_port port name) c.modules owner.id.index
+    Each-changed_there (NamesSound c.ports c.functions) (with_listed_port port name) c.modules owner.id.index
     (λ x at e. port-listed c port name k.declares x (free-there name (slice_get c.modules owner.id.index) x at k.free) e) h
 names-listing b c (InModule owner entry name) s k h =
     Each-changed_there (NamesSound c.ports c.functions) (with_listed entry name) c.modules owner.id.index

@@ -18,7 +18,7 @@ use Rattle.vast_core.proofs.Lists.{below-of, slice_get-map, Each-at, All-own}
 use Rattle.vast_core.proofs.NodeLaws.{Extends-same}
 use Rattle.vast_core.proofs.Nests.{kind-changed, nests-changed}
 use Rattle.vast_core.specs.declared.handle.VastStatementBlock.{VastStatementBlock}
-use Rattle.vast_core.specs.Nests.{is_block_kind}
+use Rattle.vast_core.specs.Nests.{is_kind, BlockKind}
 use Rattle.vast_core.proofs.OneParent.{HasOneParent-unique}
 use Rattle.vast_core.proofs.Sound.{Grows, carried, nest-kept, never}
 
@@ -111,7 +111,7 @@ bench-unique a b i u ns r e q = rw (q, ← e) refl
 
 spare-unique : (b : Bench) (i : ℕ) (u : Bool) (o : Option VastStatementBlock) → IfSome o (OwnsBlock b) → IfSome o (OwnsBlock (record b { nests = changed_at i (with_unique u) b.nests }))
 spare-unique b i u None h = tt
-spare-unique b i u (Some x) h = nest-kept is_block_kind b (record b { nests = changed_at i (with_unique u) b.nests }) x.id (Grows-unique b i u) never h
+spare-unique b i u (Some x) h = nest-kept (is_kind BlockKind) b (record b { nests = changed_at i (with_unique u) b.nests }) x.id (Grows-unique b i u) never h
 
 FileSound-unique : (b : Bench) (i : ℕ) (u : Bool) → FileSound b → FileSound (record b { nests = changed_at i (with_unique u) b.nests })
 FileSound-unique b i u s =

@@ -11,7 +11,7 @@ use Rattle.vast_core.specs.declared.node.ExprNode.TheVariants.{Name, Literal, St
 use Rattle.vast_core.specs.declared.node.TypeNode.{TypeNode}
 use Rattle.vast_core.specs.declared.node.TypeNode.TheVariants.{Vector, Packed, Unpacked}
 use Rattle.vast_core.specs.Handles.{rank, type_rank}
-use Rattle.vast_core.specs.Nodes.{Root, ExprRoot, TypeRoot, Nodes, no_nodes, with_root, is_expr_root, is_type_root, is_root_of, expr_of_root, type_of_root, expr_in, type_in, maybe_type_in, maybe_expr_in, exprs_in, expr_tree, type_tree, term_root, ExprChildrenHold, TypeChildrenHold, built}
+use Rattle.vast_core.specs.Nodes.{Root, ExprRoot, TypeRoot, Nodes, no_nodes, with_node, is_expr_root, is_type_root, is_root_of, expr_of_root, type_of_root, expr_in, type_in, maybe_type_in, maybe_expr_in, exprs_in, expr_tree, type_tree, term_root, ExprChildrenHold, TypeChildrenHold, built}
 use Rattle.vast_core.specs.Internal.Nodes.{HasExpr, HasType, ChildrenHold, RootFits, RootWellFormed, TermsSound, IsNodeAt}
 use Rattle.vast_core.specs.Types.{ExprFits, TypeFits, ExprWellFormed, TypeWellFormed, MaybeTypeWellFormed, MaybeExprWellFormed, ExprsWellFormed}
 use Rattle.vast_core.specs.Sound.{Each}
@@ -27,20 +27,20 @@ some_expr shape (Some (TypeRoot t)) h = cc
 
 pub built-append : (b : Nodes) (ts us : List ExprNode) → built b (ts ++ us) ≡ built (built b ts) us
 built-append b [] us = refl
-built-append b (t ∷ ts) us = built-append (with_root b (term_root b t)) ts us
+built-append b (t ∷ ts) us = built-append (with_node b (term_root b t)) ts us
 
 pub TermsSound-append : (b : Nodes) (ts us : List ExprNode) → TermsSound b ts → TermsSound (built b ts) us → TermsSound b (ts ++ us)
 TermsSound-append b [] us s h = h
-TermsSound-append b (t ∷ ts) us s h = (s.0, s.1, TermsSound-append (with_root b (term_root b t)) ts us s.2 h)
+TermsSound-append b (t ∷ ts) us s h = (s.0, s.1, TermsSound-append (with_node b (term_root b t)) ts us s.2 h)
 
 pub built-id : (b : Nodes) (ts : List ExprNode) → (built b ts).id ≡ b.id
 built-id b [] = refl
-built-id b (u ∷ ts) = built-id (with_root b (term_root b u)) ts
+built-id b (u ∷ ts) = built-id (with_node b (term_root b u)) ts
 
 pub built-length : (b : Nodes) (ts : List ExprNode) → length (built b ts).roots ≡ length b.roots + length ts
 built-length b [] = omega arith
 built-length b (u ∷ ts) =
-    omega (arith, built-length (with_root b (term_root b u)) ts, length-append b.roots (term_root b u ∷ []))
+    omega (arith, built-length (with_node b (term_root b u)) ts, length-append b.roots (term_root b u ∷ []))
 
 -- c has all that b has.
 
@@ -51,13 +51,13 @@ pub record Extends (b c : Nodes) : Type 0 where
 pub Extends-same : (b : Nodes) → Extends b b
 Extends-same b = record { same_id = refl; same_roots = λ i r h. h }
 
-pub Extends-root : (b : Nodes) (r : Root) → Extends b (with_root b r)
+pub Extends-root : (b : Nodes) (r : Root) → Extends b (with_node b r)
 Extends-root b r = record { same_id = refl; same_roots = λ i s h. slice_get-append b.roots (r ∷ []) i s h }
 
 pub Extends-built : (b : Nodes) (ts : List ExprNode) → Extends b (built b ts)
 Extends-built b [] = Extends-same b
 Extends-built b (t ∷ ts) =
-    let e : Extends (with_root b (term_root b t)) (built (with_root b (term_root b t)) ts) = Extends-built (with_root b (term_root b t)) ts
+    let e : Extends (with_node b (term_root b t)) (built (with_node b (term_root b t)) ts) = Extends-built (with_node b (term_root b t)) ts
     in record {
       same_id = e.same_id;
       same_roots = λ i r h. e.same_roots i r (slice_get-append b.roots (term_root b t ∷ []) i r h);
@@ -265,27 +265,27 @@ node-well_formed b n w h f = expr_node-well_formed b n (expr_children-map (expr-
 
 pub built-well_formed : (b : Nodes) (ts : List ExprNode) → Each RootWellFormed b.roots → TermsSound b ts → Each RootWellFormed (built b ts).roots
 built-well_formed b [] w s = w
-built-well_formed b (t ∷ ts) w s = built-well_formed (with_root b (term_root b t)) ts (Each-push RootWellFormed b.roots (term_root b t) w (node-well_formed b t w s.0 s.1)) s.2
+built-well_formed b (t ∷ ts) w s = built-well_formed (with_node b (term_root b t)) ts (Each-push RootWellFormed b.roots (term_root b t) w (node-well_formed b t w s.0 s.1)) s.2
 
 -- A node of the arena.
 
 node_at : (b : Nodes) (ts : List ExprNode) (i n : ℕ) (t : ExprNode) → Each RootWellFormed b.roots → TermsSound b ts → slice_get ts i ≡ Some t → n ≡ length b.roots + i → IsNodeAt (built b ts) n t
 node_at b [] i n t w s h q = cc
 node_at b (u ∷ ts) zero n t w s h q =
-    let c : Nodes = built (with_root b (term_root b u)) ts in
+    let c : Nodes = built (with_node b (term_root b u)) ts in
     let same : t ≡ u = cc in
     let x : Extends b c = Extends-built b (u ∷ ts) in
     let at : n ≡ length b.roots = omega arith in
     let kept : term_root c u ≡ term_root b u = term_root-kept b c x u s.0 in
     rw (at, same)
     (record {
-      root = (Extends-built (with_root b (term_root b u)) ts).same_roots (length b.roots) (term_root b u) (slice_get-seam b.roots (term_root b u)) ∙ ap Some (sym kept);
+      root = (Extends-built (with_node b (term_root b u)) ts).same_roots (length b.roots) (term_root b u) (slice_get-seam b.roots (term_root b u)) ∙ ap Some (sym kept);
       owned = children-map (HasExpr-kept b c x) (HasType-kept b c x) u s.0;
       older = children-map (rank-below b) (type_rank-below b) u s.0;
       well_formed = subst RootWellFormed (sym kept) (node-well_formed b u w s.0 s.1);
     })
 node_at b (u ∷ ts) (suc i) n t w s h q =
-    node_at (with_root b (term_root b u)) ts i n t (Each-push RootWellFormed b.roots (term_root b u) w (node-well_formed b u w s.0 s.1)) s.2 h (omega (arith, length-append b.roots (term_root b u ∷ [])))
+    node_at (with_node b (term_root b u)) ts i n t (Each-push RootWellFormed b.roots (term_root b u) w (node-well_formed b u w s.0 s.1)) s.2 h (omega (arith, length-append b.roots (term_root b u ∷ [])))
 
 pub at_some :
     (id : ℕ) (ts : List ExprNode) (i : ℕ) (t : ExprNode) →

@@ -3,7 +3,7 @@ use Rattle.std.proofs.Common.{◌≡◌, ℕ, suc, ◌+◌, ◌≤◌, Bool, tru
 use Rattle.vast_core.specs.declared.handle.VastModule.{VastModule}
 use Rattle.vast_core.specs.declared.handle.CaseStatement.{CaseStatement}
 use Rattle.vast_core.specs.declared.handle.VastStatementBlock.{VastStatementBlock}
-use Rattle.vast_core.specs.Records.{ModuleRecord, Member, with_port, with_parameter_port}
+use Rattle.vast_core.specs.Records.{ModuleRecord, Member, with_listed_port, with_listed_parameter}
 use Rattle.vast_core.specs.Nests.{ConditionalRecord, NestRecord, BlockRecord, ConditionalNestRecord, CaseNestRecord, LoopNestRecord, FunctionVariable, FunctionRecord, AlwaysRecord}
 use Rattle.vast_core.specs.Bench.{Bench}
 use Rattle.vast_core.specs.Functions.{with_listed_variable}
@@ -111,12 +111,12 @@ entry-comes p (InFile entry) b = omega arith
 entry-comes p (InHeader owner x) b =
     let old = file-places p b in
     let new = file-places p (with_listing (InHeader owner x) b) in
-    let same = over-changed (is_same p) held_by_module (with_parameter_port x) 0 (λ m. omega arith) b.modules owner.id.index in
+    let same = over-changed (is_same p) held_by_module (with_listed_parameter x) 0 (λ m. omega arith) b.modules owner.id.index in
     omega (arith, old, new, same)
 entry-comes p (InPorts owner port name) b =
     let old = file-places p b in
     let new = file-places p (with_listing (InPorts owner port name) b) in
-    let same = over-changed (is_same p) held_by_module (with_port port name) 0 (λ m. omega arith) b.modules owner.id.index in
+    let same = over-changed (is_same p) held_by_module (with_listed_port port name) 0 (λ m. omega arith) b.modules owner.id.index in
     omega (arith, old, new, same)
 entry-comes p (InModule owner entry name) b =
     let old = file-places p b in

@@ -13,7 +13,7 @@ use Rattle.vast_core.specs.declared.handle.LogicRef.{LogicRef}
 use Rattle.vast_core.specs.declared.handle.VastStatementBlock.{VastStatementBlock}
 use Rattle.vast_core.specs.declared.node.ElseIf.{ElseIf}
 use Rattle.vast_core.specs.declared.node.CaseArm.{CaseArm}
-use Rattle.vast_core.specs.Nests.{Statement, AssignStatement, ContinuousStatement, ConditionalStatement, CasesStatement, NestRecord, BlockRecord, ConditionalNestRecord, CaseNestRecord, LoopNestRecord, FunctionVariable, FunctionRecord, AlwaysRecord, NestKind, NoKind, nest_kind, is_block_kind, is_conditional_kind, is_case_kind, is_loop_kind}
+use Rattle.vast_core.specs.Nests.{Statement, AssignStatement, ContinuousStatement, ConditionalStatement, CasesStatement, NestRecord, BlockRecord, ConditionalNestRecord, CaseNestRecord, LoopNestRecord, FunctionVariable, FunctionRecord, AlwaysRecord, NestKind, NoKind, nest_kind, is_kind, BlockKind, ConditionalKind, CaseStatementKind, LoopKind}
 use Rattle.vast_core.specs.Bench.{Bench, OwnsExpr, OwnsType, OwnsLogicRef, OwnsPort, OwnsContinuous, is_continuous, is_comment, is_inline, is_macro_statement}
 use Rattle.vast_core.specs.Sound.{Each, PortSound, AssignmentSound, DefinitionSound, ArtifactSound, ConnectionSound, InstanceSound, FormSound, MemberSound, ParameterPortSound, ModuleSound, EntrySound, RecordsSound, HoldsBlock, StatementSound, ElseIfSound, CaseArmSound, AlwaysNewer, MemberNewer, LoopMemberSound, NestSound, NestsSound, VariableSound, FunctionSound, EventSound, AlwaysSound}
 use Rattle.vast_core.proofs.Lists.{Each-map, below-of, below-test, none-past}
@@ -136,8 +136,8 @@ MemberSound-kept b c g (MacroEntry a) h = artifact-kept is_macro_statement b c a
 MemberSound-kept b c g (InstanceEntry i) h = index-kept b c i.id (length b.instances) (length c.instances) g g.instances h
 MemberSound-kept b c g (FunctionEntry f) h = index-kept b c f.id (length b.functions) (length c.functions) g g.functions h
 MemberSound-kept b c g (AlwaysEntry a) h = found-kept b c a.id b.always_blocks c.always_blocks g g.always_blocks h
-MemberSound-kept b c g (ConditionalEntry x) h = nest-kept is_conditional_kind b c x.id g never h
-MemberSound-kept b c g (LoopEntry l) h = nest-kept is_loop_kind b c l.id g never h
+MemberSound-kept b c g (ConditionalEntry x) h = nest-kept (is_kind ConditionalKind) b c x.id g never h
+MemberSound-kept b c g (LoopEntry l) h = nest-kept (is_kind LoopKind) b c l.id g never h
 
 pub ParameterPortSound-kept : (b c : Bench) → Grows b c → (p : ParameterPort) → ParameterPortSound b p → ParameterPortSound c p
 ParameterPortSound-kept b c g p h = (maybe-type-kept b c g p.data_type h.0, HasExpr-kept b.nodes c.nodes g.nodes p.value h.1)
@@ -153,13 +153,13 @@ ModuleSound-kept b c g m h =
 -- Containers.
 
 pub block-kept : (b c : Bench) → Grows b c → (i : ℕ) (x : VastStatementBlock) → HoldsBlock b i x → HoldsBlock c i x
-block-kept b c g i x h = (nest-kept is_block_kind b c x.id g never h.0, h.1)
+block-kept b c g i x h = (nest-kept (is_kind BlockKind) b c x.id g never h.0, h.1)
 
 pub StatementSound-kept : (b c : Bench) → Grows b c → (i : ℕ) (s : Statement) → StatementSound b i s → StatementSound c i s
 StatementSound-kept b c g i (AssignStatement s) h = found-kept b c s.id b.assignments c.assignments g g.assignments h
 StatementSound-kept b c g i (ContinuousStatement s) h = found-kept b c s.id b.assignments c.assignments g g.assignments h
-StatementSound-kept b c g i (ConditionalStatement x) h = (nest-kept is_conditional_kind b c x.id g never h.0, h.1)
-StatementSound-kept b c g i (CasesStatement x) h = (nest-kept is_case_kind b c x.id g never h.0, h.1)
+StatementSound-kept b c g i (ConditionalStatement x) h = (nest-kept (is_kind ConditionalKind) b c x.id g never h.0, h.1)
+StatementSound-kept b c g i (CasesStatement x) h = (nest-kept (is_kind CaseStatementKind) b c x.id g never h.0, h.1)
 StatementSound-kept b c g i _ h = tt
 
 pub ElseIfSound-kept : (b c : Bench) → Grows b c → (i : ℕ) (a : ElseIf) → ElseIfSound b i a → ElseIfSound c i a
@@ -233,7 +233,7 @@ FunctionSound-kept b c g f h =
       result_name = logic_ref_stays b c g f.result_name h.result_name;
       inputs = Each-map (VariableSound-kept b c g) f.inputs h.inputs;
       locals = Each-map (VariableSound-kept b c g) f.locals h.locals;
-      body = nest-kept is_block_kind b c f.body.id g never h.body;
+      body = nest-kept (is_kind BlockKind) b c f.body.id g never h.body;
       distinct = h.distinct;
       taken = h.taken;
     }
@@ -242,7 +242,7 @@ EventSound-kept : (b c : Bench) → Grows b c → (e : Expr) → EventSound b e 
 EventSound-kept b c g e h = (HasExpr-kept b.nodes c.nodes g.nodes e h.0, rw (expr_in-kept b.nodes c.nodes g.nodes e h.0) h.1)
 
 pub AlwaysSound-kept : (b c : Bench) → Grows b c → (a : AlwaysRecord) → AlwaysSound b a → AlwaysSound c a
-AlwaysSound-kept b c g a h = record { events = Each-map (EventSound-kept b c g) a.events h.events; block = nest-kept is_block_kind b c a.block.id g never h.block }
+AlwaysSound-kept b c g a h = record { events = Each-map (EventSound-kept b c g) a.events h.events; block = nest-kept (is_kind BlockKind) b c a.block.id g never h.block }
 
 pub EntrySound-kept : (b c : Bench) → Grows b c → (e : FileItem) → EntrySound b e → EntrySound c e
 EntrySound-kept b c g (ModuleEntry m) h = index-kept b c m.id (length b.modules) (length c.modules) g g.modules h

@@ -26,7 +26,7 @@ use Rattle.vast_core.specs.declared.handle.GenerateLoop.{GenerateLoop}
 use Rattle.vast_core.specs.declared.handle.Id.{Id}
 use Rattle.vast_literal.specs.Tree.{ExprTree}
 use Rattle.vast_core.specs.Nodes.{IsOwned, is_root_of, is_name, is_index, is_slice, is_macro}
-use Rattle.vast_core.specs.Nests.{is_block_kind, is_conditional_kind, is_case_kind, is_loop_kind}
+use Rattle.vast_core.specs.Nests.{is_kind, BlockKind, ConditionalKind, CaseStatementKind, LoopKind}
 use Rattle.vast_core.specs.Bench.{Bench, OwnsExpr, OwnsIndexable, OwnsType, OwnsParameterRef, OwnsLocalparamRef, OwnsIndex, OwnsSlice, OwnsMacroRef, OwnsModule, OwnsFunction, OwnsInstantiation, OwnsAlways, OwnsDef, OwnsStatement, OwnsBlankLine, OwnsComment, OwnsInline, OwnsMacroStatement, OwnsBlock, OwnsConditional, OwnsCase, OwnsLoop, is_blank_line, is_comment, is_inline, is_macro_statement, tree_of, type_of}
 use Rattle.vast_core.proofs.NodeLaws.{HasExpr-kept, HasType-kept, shape-kept, expr_in-kept, type_in-kept}
 use Rattle.vast_core.proofs.Sound.{Grows, index-kept, artifact-kept, nest-kept, found-kept, never}
@@ -103,13 +103,13 @@ pub macro_statement_stays : (b c : Bench) → Grows b c → (h : MacroStatement)
 macro_statement_stays b c g h k = artifact-kept is_macro_statement b c h.id g never k
 
 pub block_stays : (b c : Bench) → Grows b c → (h : VastStatementBlock) → OwnsBlock b h → OwnsBlock c h
-block_stays b c g h k = nest-kept is_block_kind b c h.id g never k
+block_stays b c g h k = nest-kept (is_kind BlockKind) b c h.id g never k
 
 pub conditional_stays : (b c : Bench) → Grows b c → (h : Conditional) → OwnsConditional b h → OwnsConditional c h
-conditional_stays b c g h k = nest-kept is_conditional_kind b c h.id g never k
+conditional_stays b c g h k = nest-kept (is_kind ConditionalKind) b c h.id g never k
 
 pub case_stays : (b c : Bench) → Grows b c → (h : CaseStatement) → OwnsCase b h → OwnsCase c h
-case_stays b c g h k = nest-kept is_case_kind b c h.id g never k
+case_stays b c g h k = nest-kept (is_kind CaseStatementKind) b c h.id g never k
 
 pub loop_stays : (b c : Bench) → Grows b c → (h : GenerateLoop) → OwnsLoop b h → OwnsLoop c h
-loop_stays b c g h k = nest-kept is_loop_kind b c h.id g never k
+loop_stays b c g h k = nest-kept (is_kind LoopKind) b c h.id g never k

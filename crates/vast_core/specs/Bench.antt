@@ -31,7 +31,7 @@ use Rattle.vast_core.specs.declared.node.Assignment.{Assignment}
 use Rattle.vast_core.specs.Nodes.{Nodes, no_nodes, IsOwned, is_expr_root, is_type_root, is_root_of, is_name, is_index, is_slice, is_macro, expr_in, type_in, maybe_expr_in, exprs_in}
 use Rattle.vast_core.specs.Types.{ExprWellFormed, TypeWellFormed}
 use Rattle.vast_core.specs.Records.{Port, ModuleRecord, Definition, Artifact, BlankArtifact, CommentArtifact, InlineArtifact, MacroArtifact, InstanceRecord, FileItem, IsFree}
-use Rattle.vast_core.specs.Nests.{NestRecord, FunctionRecord, AlwaysRecord, nest_kind, is_block_kind, is_conditional_kind, is_case_kind, is_loop_kind}
+use Rattle.vast_core.specs.Nests.{NestRecord, FunctionRecord, AlwaysRecord, nest_kind, is_kind, BlockKind, ConditionalKind, CaseStatementKind, LoopKind}
 
 pub record Bench : Type 0 where
   pub file_type : VastFileType
@@ -169,29 +169,17 @@ abbrev pub OwnsMacroStatement : Bench → MacroStatement → Type 0
 OwnsMacroStatement b a = IsOwned b.nodes.id a.id (is_macro_statement (slice_get b.artifacts a.id.index))
 
 -- Containers of a kind.
-abbrev pub is_block : Option NestRecord → Bool
-is_block n = is_block_kind (nest_kind n)
-
-abbrev pub is_conditional : Option NestRecord → Bool
-is_conditional n = is_conditional_kind (nest_kind n)
-
-abbrev pub is_case : Option NestRecord → Bool
-is_case n = is_case_kind (nest_kind n)
-
-abbrev pub is_loop : Option NestRecord → Bool
-is_loop n = is_loop_kind (nest_kind n)
-
 abbrev pub OwnsBlock : Bench → VastStatementBlock → Type 0
-OwnsBlock b c = IsOwned b.nodes.id c.id (is_block (slice_get b.nests c.id.index))
+OwnsBlock b c = IsOwned b.nodes.id c.id (is_kind BlockKind (nest_kind (slice_get b.nests c.id.index)))
 
 abbrev pub OwnsConditional : Bench → Conditional → Type 0
-OwnsConditional b c = IsOwned b.nodes.id c.id (is_conditional (slice_get b.nests c.id.index))
+OwnsConditional b c = IsOwned b.nodes.id c.id (is_kind ConditionalKind (nest_kind (slice_get b.nests c.id.index)))
 
 abbrev pub OwnsCase : Bench → CaseStatement → Type 0
-OwnsCase b c = IsOwned b.nodes.id c.id (is_case (slice_get b.nests c.id.index))
+OwnsCase b c = IsOwned b.nodes.id c.id (is_kind CaseStatementKind (nest_kind (slice_get b.nests c.id.index)))
 
 abbrev pub OwnsLoop : Bench → GenerateLoop → Type 0
-OwnsLoop b c = IsOwned b.nodes.id c.id (is_loop (slice_get b.nests c.id.index))
+OwnsLoop b c = IsOwned b.nodes.id c.id (is_kind LoopKind (nest_kind (slice_get b.nests c.id.index)))
 
 -- The names that a module's ports, wires, variables and functions have taken.
 abbrev pub names_of : Option ModuleRecord → List (List ℕ)

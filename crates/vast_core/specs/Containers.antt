@@ -81,12 +81,8 @@ abbrev pub with_case_arm : CaseStatement → Option Expr → Bench → Bench
 with_case_arm owner label b = with_nest_entry owner.id.index (CaseArmEnters (record { label = label; block = next_block b })) (with_block b)
 
 -- The conditional has an `else`.
-abbrev pub is_there : {A : Type 0} → Option A → Bool
-is_there None = false
-is_there (Some x) = true
-
 abbrev pub has_else : Option NestRecord → Bool
-has_else (Some (ConditionalNestRecord c)) = is_there c.otherwise
+has_else (Some (ConditionalNestRecord c)) = elim c.otherwise [ Some block ↦ true | None ↦ false ]
 has_else _ = false
 
 -- The case statement, `unique` or not.

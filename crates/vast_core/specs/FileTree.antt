@@ -185,11 +185,8 @@ members_tree b entries = members_in b (families b) entries
 abbrev pub declared_port : Bench → Port → PortTree
 declared_port b p = record { direction = p.direction; declaration = declared b p.kind p.name p.data_type }
 
-abbrev pub missing_port : PortTree
-missing_port = record { direction = InputDirection; declaration = missing_declaration }
-
 abbrev pub maybe_port_tree : Bench → Option Port → PortTree
-maybe_port_tree b None = missing_port
+maybe_port_tree b None = record { direction = InputDirection; declaration = missing_declaration }
 maybe_port_tree b (Some p) = declared_port b p
 
 abbrev pub port_tree : Bench → ModulePort → PortTree

@@ -12,9 +12,6 @@ abbrev pub with_listed_variable : (local : Bool) → FunctionVariable → Functi
 with_listed_variable false v f = record f { inputs = f.inputs ++ v ∷ []; names = with_name v.name f.names }
 with_listed_variable true v f = record f { locals = f.locals ++ v ∷ []; names = with_name v.name f.names }
 
-abbrev pub with_listed_in : VastFunction → (local : Bool) → FunctionVariable → Bench → Bench
-with_listed_in f local v b = record b { functions = changed_at f.id.index (with_listed_variable local v) b.functions }
-
--- The same, with the name as an expression.
+-- The same in the file, with the name as an expression.
 abbrev pub with_variable : VastFunction → (local : Bool) → FunctionVariable → Bench → Bench
-with_variable f local v b = with_expr (NameTree v.name (Typed (type_of b v.data_type))) (with_listed_in f local v b)
+with_variable f local v b = with_expr (NameTree v.name (Typed (type_of b v.data_type))) (record b { functions = changed_at f.id.index (with_listed_variable local v) b.functions })

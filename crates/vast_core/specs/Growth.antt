@@ -9,7 +9,6 @@ use Rattle.vast_core.specs.declared.handle.LogicRef.{LogicRef}
 use Rattle.vast_core.specs.declared.handle.IndexableExpr.{IndexableExpr}
 use Rattle.vast_core.specs.declared.handle.Index.{Index}
 use Rattle.vast_core.specs.declared.handle.Slice.{Slice}
-use Rattle.vast_core.specs.declared.handle.MacroRef.{MacroRef}
 use Rattle.vast_core.specs.declared.handle.VastDataType.{VastDataType}
 use Rattle.vast_core.specs.declared.handle.VastModule.{VastModule}
 use Rattle.vast_core.specs.declared.handle.ModulePort.{ModulePort}
@@ -19,8 +18,8 @@ use Rattle.vast_literal.specs.declared.kind.DataKind.{DataKind}
 use Rattle.vast_core.specs.declared.node.Assignment.{Assignment}
 use Rattle.vast_core.specs.Raw.{Raw}
 use Rattle.vast_core.specs.View.{bench}
-use Rattle.vast_core.specs.Nodes.{Root, ExprRoot, TypeRoot, with_root as with_node}
-use Rattle.vast_core.specs.Records.{FileItem, ModuleEntry, Member, DeclarationEntry, new_module, with_port as with_listed_port, with_member as with_listed_member, with_named_member as with_listed_name, changed_at}
+use Rattle.vast_core.specs.Nodes.{Root, ExprRoot, TypeRoot, with_node}
+use Rattle.vast_core.specs.Records.{FileItem, ModuleEntry, Member, DeclarationEntry, new_module, with_listed_port, with_listed_member, with_listed_name, changed_at}
 use Rattle.vast_core.specs.Bench.{Bench, tree_of, trees_of, type_of}
 
 -- The call answers this and leaves this, both of what the file held; or memory was refused and nothing changed.
@@ -52,14 +51,18 @@ with_type t b = with_root b (TypeRoot t)
 abbrev pub next_id : Bench → ℕ → Id
 next_id b count = record { file_id = b.nodes.id; index = count }
 
+-- The id of the next expression or type.
+abbrev pub next_node : Bench → Id
+next_node b = next_id b (length b.nodes.roots)
+
 abbrev pub next_expr : Bench → Expr
-next_expr b = record { id = next_id b (length b.nodes.roots) }
+next_expr b = record { id = next_node b }
 
 abbrev pub next_logic_ref : Bench → LogicRef
-next_logic_ref b = record { id = next_id b (length b.nodes.roots) }
+next_logic_ref b = record { id = next_node b }
 
 abbrev pub next_type : Bench → VastDataType
-next_type b = record { id = next_id b (length b.nodes.roots) }
+next_type b = record { id = next_node b }
 
 abbrev pub next_module : Bench → VastModule
 next_module b = record { id = next_id b (length b.modules) }
@@ -69,15 +72,6 @@ next_port b = record { id = next_id b (length b.ports) }
 
 abbrev pub next_continuous : Bench → ContinuousAssignment
 next_continuous b = record { id = next_id b (length b.assignments) }
-
-abbrev pub next_index : Bench → Index
-next_index b = record { id = next_id b (length b.nodes.roots) }
-
-abbrev pub next_slice : Bench → Slice
-next_slice b = record { id = next_id b (length b.nodes.roots) }
-
-abbrev pub next_macro_ref : Bench → MacroRef
-next_macro_ref b = record { id = next_id b (length b.nodes.roots) }
 
 -- A literal of a known value, and of one that is written in decimal.
 abbrev pub known_literal : List ℕ → ℤ → ExprTree
@@ -92,7 +86,7 @@ with_fixed_index subject text index b =
     with_expr (IndexTree (tree_of b (record { id = subject.id })) (known_literal text index)) (with_expr (known_literal text index) b)
 
 abbrev pub next_fixed_index : List ℕ → ℤ → Bench → Index
-next_fixed_index text index b = next_index (with_expr (known_literal text index) b)
+next_fixed_index text index b = record { id = next_node (with_expr (known_literal text index) b) }
 
 -- A part select by two numbers: literals of the upper and of the lower bound, and the select.
 abbrev pub with_bounds : List ℕ → ℤ → List ℕ → ℤ → Bench → Bench
@@ -103,7 +97,7 @@ with_fixed_slice subject high_text high low_text low b =
     with_expr (SliceTree (tree_of b (record { id = subject.id })) (known_literal high_text high) (known_literal low_text low)) (with_bounds high_text high low_text low b)
 
 abbrev pub next_fixed_slice : List ℕ → ℤ → List ℕ → ℤ → Bench → Slice
-next_fixed_slice high_text high low_text low b = next_slice (with_bounds high_text high low_text low b)
+next_fixed_slice high_text high low_text low b = record { id = next_node (with_bounds high_text high low_text low b) }
 
 -- A replication by a number: a literal of the count, and the replication.
 abbrev pub with_fixed_replication : ℤ → List Expr → Bench → Bench
@@ -113,14 +107,11 @@ abbrev pub next_fixed_replication : ℤ → Bench → Expr
 next_fixed_replication count b = next_expr (with_expr (decimal_literal count) b)
 
 -- A literal of the width, and a vector of that width.
-abbrev pub width_literal : ℤ → ExprTree
-width_literal bits = decimal_literal bits
-
 abbrev pub with_vector : ℤ → Bool → Bench → Bench
-with_vector bits signed b = with_type (VectorTree (width_literal bits) (Some bits) signed) (with_expr (width_literal bits) b)
+with_vector bits signed b = with_type (VectorTree (decimal_literal bits) (Some bits) signed) (with_expr (decimal_literal bits) b)
 
 abbrev pub next_vector : ℤ → Bench → VastDataType
-next_vector bits b = next_type (with_expr (width_literal bits) b)
+next_vector bits b = next_type (with_expr (decimal_literal bits) b)
 
 -- An empty module of this name, as the file's last item.
 abbrev pub with_module : List ℕ → Bench → Bench

@@ -1,18 +1,16 @@
 -- What a file holds after a call that adds an always block, a loop, a conditional or a function, or a loop's member.
-use Rattle.std.specs.Prelude.{ℕ, true, List, [], ◌∷◌, ◌++◌, length, Option, slice_get}
-use Rattle.vast_literal.specs.Tree.{ExprTree, NameTree, Untyped, Typed}
+use Rattle.std.specs.Prelude.{ℕ, List, [], ◌∷◌, ◌++◌, length, Option}
+use Rattle.vast_literal.specs.Tree.{NameTree, Untyped, Typed}
 use Rattle.vast_core.specs.declared.handle.Expr.{Expr}
-use Rattle.vast_core.specs.declared.handle.Def.{Def}
 use Rattle.vast_core.specs.declared.handle.VastDataType.{VastDataType}
 use Rattle.vast_core.specs.declared.handle.VastAlwaysBase.{VastAlwaysBase}
 use Rattle.vast_core.specs.declared.handle.VastFunction.{VastFunction}
 use Rattle.vast_core.specs.declared.handle.GenerateLoop.{GenerateLoop}
 use Rattle.vast_literal.specs.declared.kind.AlwaysKind.{AlwaysKind}
-use Rattle.vast_core.specs.Records.{ParameterForm, PlainForm, DefinedForm, Member, ParameterEntry, with_name}
+use Rattle.vast_core.specs.Records.{Member, with_name}
 use Rattle.vast_core.specs.Nests.{NestRecord, LoopNestRecord, AlwaysRecord, FunctionRecord}
 use Rattle.vast_core.specs.Bench.{Bench, type_of}
 use Rattle.vast_core.specs.Growth.{next_id, next_logic_ref, with_expr}
-use Rattle.vast_core.specs.Parameters.{defined_name}
 use Rattle.vast_core.specs.Containers.{MemberEnters, next_block, with_nest, with_block, with_nest_entry}
 
 abbrev pub next_always : Bench → VastAlwaysBase
@@ -27,17 +25,6 @@ next_function b = record { id = next_id b (length b.functions) }
 -- A loop with a member more at its end.
 abbrev pub with_loop_member : GenerateLoop → Member → Bench → Bench
 with_loop_member owner entry b = with_nest_entry owner.id.index (MemberEnters entry) b
-
--- A local parameter more among the loop's members, and this name as an expression.
-abbrev pub with_loop_parameter : GenerateLoop → ParameterForm → Expr → ExprTree → Bench → Bench
-with_loop_parameter owner form value name b = with_expr name (with_loop_member owner (ParameterEntry true form value) b)
-
--- One that declares its name alone, and one that declares what the definition does.
-abbrev pub with_plain_loop_parameter : GenerateLoop → List ℕ → Expr → Bench → Bench
-with_plain_loop_parameter owner name value b = with_loop_parameter owner (PlainForm name) value (NameTree name Untyped) b
-
-abbrev pub with_defined_loop_parameter : GenerateLoop → Def → Expr → Bench → Bench
-with_defined_loop_parameter owner d value b = with_loop_parameter owner (DefinedForm d) value (defined_name b (slice_get b.definitions d.id.index)) b
 
 -- An always block and its block, which is empty.
 abbrev pub new_always : Bench → AlwaysKind → List Expr → AlwaysRecord

@@ -113,18 +113,9 @@ nest_kind (Some (ConditionalNestRecord c)) = ConditionalKind
 nest_kind (Some (CaseNestRecord c)) = CaseStatementKind
 nest_kind (Some (LoopNestRecord l)) = LoopKind
 
-abbrev pub is_block_kind : NestKind → Bool
-is_block_kind BlockKind = true
-is_block_kind _ = false
-
-abbrev pub is_conditional_kind : NestKind → Bool
-is_conditional_kind ConditionalKind = true
-is_conditional_kind _ = false
-
-abbrev pub is_case_kind : NestKind → Bool
-is_case_kind CaseStatementKind = true
-is_case_kind _ = false
-
-abbrev pub is_loop_kind : NestKind → Bool
-is_loop_kind LoopKind = true
-is_loop_kind _ = false
+abbrev pub is_kind : (wanted : NestKind) → NestKind → Bool
+is_kind BlockKind BlockKind = true
+is_kind ConditionalKind ConditionalKind = true
+is_kind CaseStatementKind CaseStatementKind = true
+is_kind LoopKind LoopKind = true
+is_kind _ _ = false

@@ -23,8 +23,8 @@ pub record Nodes : Type 0 where
 abbrev pub no_nodes : ℕ → Nodes
 no_nodes id = record { id = id; roots = [] }
 
-abbrev pub with_root : Nodes → Root → Nodes
-with_root b r = record { id = b.id; roots = b.roots ++ r ∷ [] }
+abbrev pub with_node : Nodes → Root → Nodes
+with_node b r = record { id = b.id; roots = b.roots ++ r ∷ [] }
 
 -- Which kinds of node an index names.
 
@@ -165,4 +165,4 @@ TypeChildrenHold P Q (Unpacked element dimensions) = Q element
 -- The nodes after these terms, each made of older ones.
 abbrev pub built : Nodes → List ExprNode → Nodes
 built b [] = b
-built b (t ∷ ts) = built (with_root b (term_root b t)) ts
+built b (t ∷ ts) = built (with_node b (term_root b t)) ts

@@ -1,50 +1,23 @@
 -- What a file holds after a call that adds a parameter, and the handle of the parameter's name.
-use Rattle.std.specs.Prelude.{ℕ, Bool, List, [], length, Option, Some, None, slice_get}
+use Rattle.std.specs.Prelude.{ℕ, List, [], Option, Some, None, slice_get}
 use Rattle.vast_literal.specs.Tree.{ExprTree, NameTree, Untyped, Typed}
 use Rattle.vast_core.specs.declared.handle.Expr.{Expr}
-use Rattle.vast_core.specs.declared.handle.Def.{Def}
 use Rattle.vast_core.specs.declared.handle.VastModule.{VastModule}
 use Rattle.vast_core.specs.declared.handle.VastDataType.{VastDataType}
-use Rattle.vast_core.specs.declared.handle.ParameterRef.{ParameterRef}
-use Rattle.vast_core.specs.declared.handle.LocalparamRef.{LocalparamRef}
 use Rattle.vast_core.specs.Nodes.{maybe_type_in}
-use Rattle.vast_core.specs.Records.{ParameterPort, Definition, ParameterForm, PlainForm, IntForm, DefinedForm, ParameterEntry, with_parameter_port as with_listed_parameter, changed_at}
+use Rattle.vast_core.specs.Records.{Definition, ParameterForm, PlainForm, IntForm, DefinedForm, with_listed_parameter, changed_at}
 use Rattle.vast_core.specs.Bench.{Bench, type_of}
-use Rattle.vast_core.specs.Growth.{next_id, with_expr, with_member}
-
-abbrev pub next_parameter_ref : Bench → ParameterRef
-next_parameter_ref b = record { id = next_id b (length b.nodes.roots) }
-
-abbrev pub next_localparam_ref : Bench → LocalparamRef
-next_localparam_ref b = record { id = next_id b (length b.nodes.roots) }
+use Rattle.vast_core.specs.Growth.{with_expr}
 
 -- A parameter more in the module's header: its place at the end, and its name as an expression.
-abbrev pub with_parameter_listed : VastModule → ParameterPort → Bench → Bench
-with_parameter_listed m p b = record b { modules = changed_at m.id.index (with_listed_parameter p) b.modules }
-
 abbrev pub with_parameter_port : VastModule → List ℕ → Option VastDataType → Expr → Bench → Bench
 with_parameter_port m name data_type value b =
-    with_expr (NameTree name (maybe_type_in b.nodes data_type)) (with_parameter_listed m (record { name = name; data_type = data_type; value = value }) b)
-
--- A parameter more among the module's members, and this name as an expression.
-abbrev pub with_parameter_named : VastModule → Bool → ParameterForm → Expr → ExprTree → Bench → Bench
-with_parameter_named m local form value name b = with_expr name (with_member m (ParameterEntry local form value) b)
-
--- A parameter that declares its name alone, or its name of type int.
-abbrev pub with_plain_parameter : VastModule → Bool → List ℕ → Expr → Bench → Bench
-with_plain_parameter m local name value b = with_parameter_named m local (PlainForm name) value (NameTree name Untyped) b
-
-abbrev pub with_int_parameter : VastModule → Bool → List ℕ → Expr → Bench → Bench
-with_int_parameter m local name value b = with_parameter_named m local (IntForm name) value (NameTree name Untyped) b
+    with_expr (NameTree name (maybe_type_in b.nodes data_type)) (record b { modules = changed_at m.id.index (with_listed_parameter (record { name = name; data_type = data_type; value = value })) b.modules })
 
 -- A definition's name as an expression, of the definition's type.
 abbrev pub defined_name : Bench → Option Definition → ExprTree
 defined_name b None = NameTree [] Untyped
 defined_name b (Some d) = NameTree d.name (Typed (type_of b d.data_type))
-
--- A parameter that declares what the definition does.
-abbrev pub with_defined_parameter : VastModule → Bool → Def → Expr → Bench → Bench
-with_defined_parameter m local d value b = with_parameter_named m local (DefinedForm d) value (defined_name b (slice_get b.definitions d.id.index)) b
 
 -- The name of what the form declares, as an expression.
 abbrev pub form_name : Bench → ParameterForm → ExprTree

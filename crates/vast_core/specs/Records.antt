@@ -58,20 +58,20 @@ abbrev pub new_module : List ℕ → ModuleRecord
 new_module name = record { name = name; parameters = []; ports = []; members = []; names = [] }
 
 -- A port more at the end of the module's ports, whose name is taken from then on.
-abbrev pub with_port : ModulePort → List ℕ → ModuleRecord → ModuleRecord
-with_port port name m = record m { ports = m.ports ++ port ∷ []; names = with_name name m.names }
+abbrev pub with_listed_port : ModulePort → List ℕ → ModuleRecord → ModuleRecord
+with_listed_port port name m = record m { ports = m.ports ++ port ∷ []; names = with_name name m.names }
 
 -- A parameter more at the end of the module's header.
-abbrev pub with_parameter_port : ParameterPort → ModuleRecord → ModuleRecord
-with_parameter_port p m = record m { parameters = m.parameters ++ p ∷ [] }
+abbrev pub with_listed_parameter : ParameterPort → ModuleRecord → ModuleRecord
+with_listed_parameter p m = record m { parameters = m.parameters ++ p ∷ [] }
 
 -- A member more at the end of the module's members.
-abbrev pub with_member : Member → ModuleRecord → ModuleRecord
-with_member entry m = record m { members = m.members ++ entry ∷ [] }
+abbrev pub with_listed_member : Member → ModuleRecord → ModuleRecord
+with_listed_member entry m = record m { members = m.members ++ entry ∷ [] }
 
 -- The same, with a name that is taken from then on.
-abbrev pub with_named_member : Member → List ℕ → ModuleRecord → ModuleRecord
-with_named_member entry name m = record m { members = m.members ++ entry ∷ []; names = with_name name m.names }
+abbrev pub with_listed_name : Member → List ℕ → ModuleRecord → ModuleRecord
+with_listed_name entry name m = record m { members = m.members ++ entry ∷ []; names = with_name name m.names }
 
 -- The list with its element i changed by f.
 abbrev pub changed_at : {A : Type 0} → ℕ → (A → A) → List A → List A

@@ -1,6 +1,6 @@
 -- Which expressions stand bare before the apostrophe of a cast.
 use Rattle.std.proofs.Common.{◌≡◌, ℕ, Bool, true, false, not, ◌&&◌, ◌||◌, List, [], ◌∷◌, ◌++◌, refl, ◌∙◌, ap, codes}
-use Rattle.std.specs.Prelude.{if◌then◌else◌, ◌==◌}
+use Rattle.std.specs.Prelude.{if◌then◌else◌, ◌==◌, nat_lt, length}
 use Rattle.std.specs.Char.{is_ascii_digit, is_ascii_uppercase, is_ascii_lowercase}
 use Rattle.std.specs.List.{list_all}
 use Rattle.std.proofs.lemmas.Bool.{and_from, and_parts, and_right, or_from, false_from_ne_true}
@@ -11,11 +11,12 @@ use Rattle.vast_literal.specs.declared.operator.BinaryOperator.{BinaryOperator a
 use Rattle.vast_literal.specs.Tree.{ExprTree, NameTree, LiteralTree, StringTree, UnaryTree, BinaryTree, TernaryTree, IndexTree, SliceTree, PartSelectTree, ConcatTree, PatternTree, WidthCastTree, TypeCastTree, PosEdgeTree, NegEdgeTree, MacroTree, CallTree, MissingExpr}
 use Rattle.vast_literal.specs.Tree.{TypeTree, ScalarTree, VectorTree, IntegerTree, IntTree, ExternalTree, PackageTree, PackedTree, UnpackedTree, MissingType}
 use Rattle.vast_literal.specs.Shape.{is_scalar_name, is_zero}
+use Rattle.vast_literal.specs.Literal.{is_decimal}
 use Rattle.vast_print.specs.declared.refusal.Refusal.{Refusal}
 use Rattle.vast_print.specs.declared.refusal.Refusal.TheVariants.{ScalarIndex, ScalarSlice}
 use Rattle.vast_print.specs.Printed.{Printed, plain_text, ◌⊕◌, wrapped}
 use Rattle.vast_print.specs.Levels.{unary_operator_text, binary_operator_text}
-use Rattle.vast_print.specs.Bare.{is_number, begins_word, continues_word, is_word, is_bare}
+use Rattle.vast_print.specs.Bare.{begins_word, continues_word, is_word, is_bare}
 use Rattle.vast_print.specs.Internal.Bare.{is_bare_head}
 use Rattle.vast_print.specs.Text.{elided, cast_to, width_cast, expr_text, type_cast}
 use Rattle.vast_print.proofs.FaultLaws.{elided_text}
@@ -54,15 +55,15 @@ word-words (c ∷ w) h =
     (begin-continues (is_ascii_digit c) (is_ascii_uppercase c) (is_ascii_lowercase c) (c == 95) (c == 36) ((and_parts (begins_word c) (list_all continues_word w) h).0))
     ((and_parts (begins_word c) (list_all continues_word w) h).1)
 
-number-words : (w : List ℕ) → is_number w ≡ true → list_all continues_word w ≡ true
-number-words [] h = refl
-number-words (c ∷ w) h = digits-words (c ∷ w) h
+number-words : (w : List ℕ) → is_decimal w ≡ true → list_all continues_word w ≡ true
+unfolding is_decimal
+number-words w h = digits-words w (and_parts (list_all is_ascii_digit w) (nat_lt 0 (length w)) h).0
 
 broken-bare : (w : List ℕ) → Broken w → is_bare w ≡ false
 unfolding is_bare
 broken-bare w b =
-    or_from (is_number w) (is_word w)
-    (false_from_ne_true (is_number w) (λ h. cc (number-words w h, b.broken)))
+    or_from (is_decimal w) (is_word w)
+    (false_from_ne_true (is_decimal w) (λ h. cc (number-words w h, b.broken)))
     (false_from_ne_true (is_word w) (λ h. cc (word-words w h, b.broken)))
 
 broken-left : (a b : List ℕ) → Broken a → Broken (a ++ b)
@@ -124,7 +125,7 @@ unfolding width_cast
 broken-width w p = broken-cast (wrapped (not (is_bare w.text)) w) p
 
 bare-empty : is_bare [] ≡ false
-unfolding is_bare
+unfolding is_bare is_decimal
 bare-empty = refl
 
 -- whether an expression's text is bare, told by the expression

@@ -4,11 +4,12 @@ use Rattle.vast_print.specs.Text.{expr_text, elided, width_cast, cast_to, type_c
 use Rattle.vast_print.specs.Printed.{wrapped, plain_text, ◌⊕◌, refused}
 use Rattle.std.specs.Fmt.{digits}
 use Rattle.vast_literal.specs.NormalExpr.{unary_operator_token, binary_operator_token}
+use Rattle.vast_literal.specs.Literal.{is_decimal}
 use Rattle.vast_print.specs.Bare.{is_bare}
 use Rattle.vast_print.specs.WorkedTexts.{WorkedTexts}
 
 pub worked_texts : WorkedTexts
-unfolding expr_text unary_operator_token binary_operator_token wrapped plain_text ◌⊕◌ elided refused digits width_cast cast_to is_bare type_cast
+unfolding expr_text unary_operator_token binary_operator_token wrapped plain_text ◌⊕◌ elided refused digits width_cast cast_to is_bare is_decimal type_cast
 worked_texts =
     record {
       right_child = refl;

@@ -1,13 +1,15 @@
 -- The tests of the printed text and those of the grammar agree.
-use Rattle.std.proofs.Common.{◌≡◌, ℕ, List, [], ◌∷◌, Bool, ◌||◌, refl, arith}
+use Rattle.std.proofs.Common.{◌≡◌, ℕ, suc, List, [], ◌∷◌, Bool, true, false, ◌&&◌, ◌||◌, refl, ◌∙◌, ap, arith}
 use Rattle.std.proofs.lemmas.Bool.Decides.{nat_tests}
 use Rattle.std.specs.Char.{is_ascii_digit}
 use Rattle.std.specs.List.{list_all}
+use Rattle.std.specs.Prelude.{nat_lt, length}
 use Rattle.vast_literal.specs.Scan as Scan
 use Rattle.vast_literal.specs.LiteralToken.{every}
 use Rattle.vast_literal.specs.LiteralToken as Token
 use Rattle.vast_literal.specs.Plain.{is_identifier}
-use Rattle.vast_print.specs.Bare.{is_number, is_word, is_bare, begins_word, continues_word}
+use Rattle.vast_literal.specs.Literal.{is_decimal}
+use Rattle.vast_print.specs.Bare.{is_word, is_bare, begins_word, continues_word}
 
 digit_same : (c : ℕ) → is_ascii_digit c ≡ Scan.is_digit c
 digit_same c = grind (arith, nat_tests)
@@ -22,9 +24,18 @@ all_same : (p q : ℕ → Bool) → ((c : ℕ) → p c ≡ q c) → (w : List �
 all_same p q e [] = refl
 all_same p q e (c ∷ w) = let a = e c in let b = all_same p q e w in cc (a, b)
 
-number_same : (w : List ℕ) → is_number w ≡ Token.is_number w
+and_sure : (b : Bool) → (b && true) ≡ b
+and_sure true = refl
+and_sure false = refl
+
+some_length : (n : ℕ) → nat_lt 0 (suc n) ≡ true
+some_length n = grind (arith, nat_tests)
+
+number_same : (w : List ℕ) → is_decimal w ≡ Token.is_number w
+unfolding is_decimal
 number_same [] = refl
-number_same (c ∷ w) = all_same is_ascii_digit Scan.is_digit digit_same (c ∷ w)
+number_same (c ∷ w) =
+    ap (λ b. list_all is_ascii_digit (c ∷ w) && b) (some_length (length w)) ∙ (and_sure (list_all is_ascii_digit (c ∷ w)) ∙ all_same is_ascii_digit Scan.is_digit digit_same (c ∷ w))
 
 word_same : (w : List ℕ) → is_word w ≡ is_identifier w
 word_same [] = refl

@@ -1,12 +1,8 @@
 -- Texts that stand bare before the apostrophe of a cast.
 use Rattle.std.specs.Prelude.{ℕ, Bool, false, ◌&&◌, ◌||◌, ◌==◌, List, [], ◌∷◌}
-use Rattle.std.specs.Char.{is_ascii_digit, is_ascii_alphabetic, is_ascii_alphanumeric}
+use Rattle.std.specs.Char.{is_ascii_alphabetic, is_ascii_alphanumeric}
 use Rattle.std.specs.List.{list_all}
-
--- one or more digits
-abbrev pub is_number : List ℕ → Bool
-is_number [] = false
-is_number (c ∷ w) = list_all is_ascii_digit (c ∷ w)
+use Rattle.vast_literal.specs.Literal.{is_decimal}
 
 -- a letter or an underscore
 abbrev pub begins_word : ℕ → Bool
@@ -21,4 +17,4 @@ is_word [] = false
 is_word (c ∷ w) = begins_word c && list_all continues_word w
 
 unfoldable pub is_bare : List ℕ → Bool
-is_bare w = is_number w || is_word w
+is_bare w = is_decimal w || is_word w

@@ -3,6 +3,7 @@
 ghost use Rattle.std.specs.Prelude.{◌≡◌};
 ghost use Rattle.std.specs.Char.{is_ascii_digit};
 ghost use Rattle.std.specs.List.{list_all};
+ghost use Rattle.vast_literal.specs.Literal.{is_decimal};
 ghost use Rattle.vast_print.specs.Bare;
 
 /// Whether a text is a number or a word, so that a cast by it needs no parentheses.
@@ -13,13 +14,11 @@ pub(crate) fn is_bare(text: &str) -> bool
     is_number(text.as_bytes()) || is_word(text.as_bytes())
 }
 
+#[tactic(auto, unfolding(vast_literal::specs::Literal::is_decimal))]
 fn is_number(bytes: &[u8]) -> bool
-    ensures { result ≡ Bare.is_number bytes.now }
+    ensures { result ≡ is_decimal bytes.now }
 {
-    match bytes.first() {
-        Some(_) => all_digits(bytes),
-        None => false,
-    }
+    all_digits(bytes) && !bytes.is_empty()
 }
 
 fn all_digits(bytes: &[u8]) -> bool

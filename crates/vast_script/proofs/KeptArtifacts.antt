@@ -3,7 +3,7 @@ use Rattle.std.specs.Prelude.{ℕ, Bool, true, false, nat_eq, ◌&&◌, List, le
 use Rattle.vast_core.specs.declared.node.Artifact.TheVariants.{BlankLine as BlankArtifact, Comment as CommentArtifact, Inline as InlineArtifact, MacroStatement as MacroArtifact}
 use Rattle.vast_core.specs.declared.node.Member.TheVariants.{ContinuousAssignment as AssignmentEntry, BlankLine as BlankEntry, Comment as CommentEntry, Inline as InlineEntry, Macro as MacroEntry, Instantiation as InstanceEntry}
 use Rattle.vast_core.specs.Growth.{with_member, next_continuous, with_assignment}
-use Rattle.vast_core.specs.Artifacts.{next_def, with_definition, next_macro_statement, with_artifact, next_instantiation, with_instance, next_statement}
+use Rattle.vast_core.specs.Artifacts.{next_def, with_definition, next_artifact, with_artifact, next_instantiation, with_instance, next_statement}
 use Rattle.vast_script.specs.declared.answer.Answer.TheVariants.{Def, MacroStatement, ContinuousAssignment, VastStatement, Instantiation, Nothing}
 use Rattle.vast_script.specs.declared.step.ArtifactStep.{ArtifactStep}
 use Rattle.vast_script.specs.declared.step.ArtifactStep.TheVariants.{MakeDef, MakeBlankLine, MakeComment, MakeInlineVerilogStatement, MakeMacroStatement, MakeContinuousAssignment, MakeNonblockingAssignment, MakeBlockingAssignment, MakeInstantiation, AddMemberInstantiation, AddMemberContinuousAssignment, AddMemberBlankLine, AddMemberComment, AddMemberInlineStatement, AddMemberMacroStatement}
@@ -25,7 +25,7 @@ artifact-keeps (MakeDef name kind type) = λ b answers. given-keeps b (one a_typ
 artifact-keeps MakeBlankLine = λ b answers. artifact-kept BlankArtifact b
 artifact-keeps (MakeComment text) = λ b answers. artifact-kept (CommentArtifact (string_bytes text)) b
 artifact-keeps (MakeInlineVerilogStatement text) = λ b answers. artifact-kept (InlineArtifact (string_bytes text)) b
-artifact-keeps (MakeMacroStatement use_of semicolon) = λ b answers. given-keeps b (one a_macro_ref b answers use_of) (λ use_of. Made (MacroStatement (next_macro_statement b)) (with_artifact (MacroArtifact use_of semicolon) b)) (λ use_of. artifact-kept (MacroArtifact use_of semicolon) b)
+artifact-keeps (MakeMacroStatement use_of semicolon) = λ b answers. given-keeps b (one a_macro_ref b answers use_of) (λ use_of. Made (MacroStatement (record { id = next_artifact b })) (with_artifact (MacroArtifact use_of semicolon) b)) (λ use_of. artifact-kept (MacroArtifact use_of semicolon) b)
 artifact-keeps (MakeContinuousAssignment left right) = λ b answers. given-keeps b (two an_expr an_expr b answers left right) (λ (left, right). Made (ContinuousAssignment (next_continuous b)) (with_assignment (record { lhs = left; rhs = right; nonblocking = false }) b)) (λ (left, right). assignment-kept (record { lhs = left; rhs = right; nonblocking = false }) b)
 artifact-keeps (MakeNonblockingAssignment left right) = make_assignment-keeps true left right
 artifact-keeps (MakeBlockingAssignment left right) = make_assignment-keeps false left right

@@ -4,10 +4,13 @@ use Rattle.vast_literal.specs.declared.kind.ModulePortDirection.{ModulePortDirec
 use Rattle.vast_literal.specs.declared.kind.ModulePortDirection.TheVariants.{Input, Output, InOut}
 use Rattle.vast_literal.specs.declared.kind.DataKind.{DataKind}
 use Rattle.vast_literal.specs.declared.kind.DataKind.TheVariants.{Wire, Reg, Logic}
+use Rattle.vast_core.specs.declared.ast.scope.Scope.TheVariants.{Module as ScopeModule}
+use Rattle.vast_core.specs.declared.node.ParameterForm.TheVariants.{Plain as PlainForm, Int as IntForm, Defined as DefinedForm}
+use Rattle.vast_core.specs.Scopes.{with_scope_parameter}
 use Rattle.vast_core.specs.declared.node.FileItem.{FileItem}
 use Rattle.vast_core.specs.declared.node.FileItem.TheVariants.{Include as IncludeEntry, BlankLine as FileBlankEntry, Comment as FileCommentEntry}
-use Rattle.vast_core.specs.Growth.{with_item, next_logic_ref, with_port, with_declaration}
-use Rattle.vast_core.specs.Parameters.{next_parameter_ref, next_localparam_ref, with_parameter_port, with_plain_parameter, with_int_parameter, with_defined_parameter}
+use Rattle.vast_core.specs.Growth.{next_node, with_item, next_logic_ref, with_port, with_declaration}
+use Rattle.vast_core.specs.Parameters.{with_parameter_port}
 use Rattle.vast_core.specs.Hoisting.{with_hoisted}
 use Rattle.xlsynth_vast.specs.Conditions.{is_free}
 use Rattle.xlsynth_vast.specs.Declarations.{names_in, unless_taken}
@@ -19,7 +22,7 @@ use Rattle.vast_script.specs.Outcome.{Made, provided, allowed}
 use Rattle.vast_script.specs.Kinds.{a_module, a_type, an_expr, a_definition, a_blank_line}
 use Rattle.vast_script.specs.Arguments.{one, two, three}
 use Rattle.vast_script.proofs.KeptOutcomes.{CallKeeps, given-keeps, provided-keeps, allowed-keeps}
-use Rattle.xlsynth_vast.proofs.KeptWords.{declaration-kept, defined_parameter-kept, hoisted-kept, int_parameter-kept, item-kept, module-kept, parameter_port-kept, plain_parameter-kept, port-kept}
+use Rattle.xlsynth_vast.proofs.KeptWords.{declaration-kept, hoisted-kept, item-kept, module-kept, parameter_port-kept, port-kept, scope_parameter-kept}
 use Rattle.vast_script.specs.Modules.{add_item, add_module, add_port, add_wire, add_variable, module_call}
 
 add_item-keeps : (entry : FileItem) → CallKeeps (add_item entry)
@@ -52,9 +55,9 @@ module-keeps (AddReg owner name type) = add_variable-keeps Reg (codes "reg") own
 module-keeps (AddLogic owner name type) = add_variable-keeps Logic (codes "logic") owner (string_bytes name) type
 module-keeps (AddParameterPort owner name value) = λ b answers. given-keeps b (two a_module an_expr b answers owner value) (λ (owner, value). Made (LogicRef (next_logic_ref b)) (with_parameter_port owner (string_bytes name) None value b)) (λ (owner, value). parameter_port-kept owner (string_bytes name) None value b)
 module-keeps (AddTypedParameterPort owner name type value) = λ b answers. given-keeps b (three a_module a_type an_expr b answers owner type value) (λ (owner, type, value). Made (LogicRef (next_logic_ref b)) (with_parameter_port owner (string_bytes name) (Some type) value b)) (λ (owner, type, value). parameter_port-kept owner (string_bytes name) (Some type) value b)
-module-keeps (AddParameter owner name value) = λ b answers. given-keeps b (two a_module an_expr b answers owner value) (λ (owner, value). Made (ParameterRef (next_parameter_ref b)) (with_plain_parameter owner false (string_bytes name) value b)) (λ (owner, value). plain_parameter-kept owner false (string_bytes name) value b)
-module-keeps (AddParameterWithDef owner definition value) = λ b answers. given-keeps b (three a_module a_definition an_expr b answers owner definition value) (λ (owner, definition, value). Made (ParameterRef (next_parameter_ref b)) (with_defined_parameter owner false definition value b)) (λ (owner, definition, value). defined_parameter-kept owner false definition value b)
-module-keeps (AddLocalparam owner name value) = λ b answers. given-keeps b (two a_module an_expr b answers owner value) (λ (owner, value). Made (LocalparamRef (next_localparam_ref b)) (with_plain_parameter owner true (string_bytes name) value b)) (λ (owner, value). plain_parameter-kept owner true (string_bytes name) value b)
-module-keeps (AddIntLocalparam owner name value) = λ b answers. given-keeps b (two a_module an_expr b answers owner value) (λ (owner, value). Made (LocalparamRef (next_localparam_ref b)) (with_int_parameter owner true (string_bytes name) value b)) (λ (owner, value). int_parameter-kept owner true (string_bytes name) value b)
-module-keeps (AddTypedLocalparam owner definition value) = λ b answers. given-keeps b (three a_module a_definition an_expr b answers owner definition value) (λ (owner, definition, value). Made (LocalparamRef (next_localparam_ref b)) (with_defined_parameter owner true definition value b)) (λ (owner, definition, value). defined_parameter-kept owner true definition value b)
+module-keeps (AddParameter owner name value) = λ b answers. given-keeps b (two a_module an_expr b answers owner value) (λ (owner, value). Made (ParameterRef (record { id = next_node b })) (with_scope_parameter (ScopeModule owner) false (PlainForm (string_bytes name)) value b)) (λ (owner, value). scope_parameter-kept (ScopeModule owner) false (PlainForm (string_bytes name)) value b)
+module-keeps (AddParameterWithDef owner definition value) = λ b answers. given-keeps b (three a_module a_definition an_expr b answers owner definition value) (λ (owner, definition, value). Made (ParameterRef (record { id = next_node b })) (with_scope_parameter (ScopeModule owner) false (DefinedForm definition) value b)) (λ (owner, definition, value). scope_parameter-kept (ScopeModule owner) false (DefinedForm definition) value b)
+module-keeps (AddLocalparam owner name value) = λ b answers. given-keeps b (two a_module an_expr b answers owner value) (λ (owner, value). Made (LocalparamRef (record { id = next_node b })) (with_scope_parameter (ScopeModule owner) true (PlainForm (string_bytes name)) value b)) (λ (owner, value). scope_parameter-kept (ScopeModule owner) true (PlainForm (string_bytes name)) value b)
+module-keeps (AddIntLocalparam owner name value) = λ b answers. given-keeps b (two a_module an_expr b answers owner value) (λ (owner, value). Made (LocalparamRef (record { id = next_node b })) (with_scope_parameter (ScopeModule owner) true (IntForm (string_bytes name)) value b)) (λ (owner, value). scope_parameter-kept (ScopeModule owner) true (IntForm (string_bytes name)) value b)
+module-keeps (AddTypedLocalparam owner definition value) = λ b answers. given-keeps b (three a_module a_definition an_expr b answers owner definition value) (λ (owner, definition, value). Made (LocalparamRef (record { id = next_node b })) (with_scope_parameter (ScopeModule owner) true (DefinedForm definition) value b)) (λ (owner, definition, value). scope_parameter-kept (ScopeModule owner) true (DefinedForm definition) value b)
 module-keeps (HoistModuleDeclarations owner start) = λ b answers. given-keeps b (one a_module b answers owner) (λ owner. provided (nat_le start (length (members_in b owner))) (Made Nothing (with_hoisted owner start b))) (λ owner. provided-keeps b (nat_le start (length (members_in b owner))) (Made Nothing (with_hoisted owner start b)) (hoisted-kept owner start b))

@@ -6,6 +6,8 @@ use Rattle.vast_literal.specs.declared.kind.AlwaysKind.{AlwaysKind}
 use Rattle.vast_literal.specs.declared.kind.AlwaysKind.TheVariants.{AlwaysFF, AlwaysAt, AlwaysComb}
 use Rattle.vast_literal.specs.declared.kind.CaseKind.{CaseKind}
 use Rattle.vast_literal.specs.declared.kind.CaseKind.TheVariants.{Case, CaseZ, CaseX}
+use Rattle.vast_core.specs.declared.ast.scope.Scope.TheVariants.{Module as ScopeModule}
+use Rattle.vast_core.specs.declared.ast.scope.Scope.{Scope}
 use Rattle.vast_core.specs.declared.node.Member.TheVariants.{Conditional as ConditionalEntry}
 use Rattle.vast_core.specs.declared.node.Statement.{Statement}
 use Rattle.vast_core.specs.declared.node.Statement.TheVariants.{Assignment as AssignStatement, Continuous as ContinuousStatement, Conditional as ConditionalStatement, Case as CasesStatement, BlankLine as BlankStatement, Comment as CommentStatement, Inline as InlineStatement}
@@ -15,7 +17,7 @@ use Rattle.vast_core.specs.Artifacts.{next_statement}
 use Rattle.vast_core.specs.Functions.{with_variable}
 use Rattle.vast_core.specs.Containers.{next_block, next_conditional, next_case, with_conditional, with_case, with_statement, with_else_if, with_else, has_else, with_case_arm, with_case_unique}
 use Rattle.vast_core.specs.Loops.{next_always, next_function}
-use Rattle.xlsynth_vast.specs.AlwaysBlocks.{unless_wrong_event, with_always_member}
+use Rattle.xlsynth_vast.specs.AlwaysBlocks.{unless_wrong_event, with_scope_always}
 use Rattle.xlsynth_vast.specs.Cases.{may_be_unique}
 use Rattle.xlsynth_vast.specs.Declarations.{names_in}
 use Rattle.xlsynth_vast.specs.Functions.{may_be_function, with_function_member, unless_taken_in_function}
@@ -24,11 +26,11 @@ use Rattle.vast_script.specs.declared.answer.Answer.TheVariants.{VastFunction, L
 use Rattle.vast_script.specs.declared.step.StatementStep.{StatementStep}
 use Rattle.vast_script.specs.declared.step.StatementStep.TheVariants.{AddFunction, FunctionAddInput, FunctionAddLogicInput, FunctionAddReg, FunctionAddLogic, FunctionBody, FunctionResult, AddAlwaysFf, AddAlwaysAt, AddAlwaysComb, StatementBlock, BlockAddBlockingAssignment, BlockAddNonblockingAssignment, BlockAddContinuousAssignment, BlockAddCommentText, BlockAddInlineText, BlockAddBlankLine, AddConditional, BlockAddCond, ConditionalThenBlock, ConditionalAddElseIf, ConditionalAddElse, BlockAddCase, BlockAddCasez, BlockAddCasex, CaseAddItem, CaseAddDefault, CaseSetUnique}
 use Rattle.vast_script.specs.Outcome.{Made, provided, allowed, holding}
-use Rattle.vast_script.specs.Kinds.{a_module, a_function, a_type, an_expr, an_always, a_block, a_conditional, a_case}
+use Rattle.vast_script.specs.Kinds.{a_module, a_function, a_type, an_expr, an_always, a_block, a_conditional, a_case, Kind}
 use Rattle.vast_script.specs.Arguments.{one, two, three, one_and_many}
 use Rattle.xlsynth_vast.proofs.Kept.{keeps-then, keeps-same}
 use Rattle.vast_script.proofs.KeptOutcomes.{CallKeeps, given-keeps, provided-keeps, allowed-keeps, holding-keeps}
-use Rattle.xlsynth_vast.proofs.KeptWords.{always_member-kept, assignment-kept, case-kept, case_arm-kept, case_unique-kept, conditional-kept, else-kept, else_if-kept, function_member-kept, member-kept, statement-kept, variable-kept}
+use Rattle.xlsynth_vast.proofs.KeptWords.{scope_always-kept, assignment-kept, case-kept, case_arm-kept, case_unique-kept, conditional-kept, else-kept, else_if-kept, function_member-kept, member-kept, statement-kept, variable-kept}
 use Rattle.vast_script.specs.Statements.{add_function, function_add_variable, add_always, block_add_assignment, block_add, block_add_case, statement_call}
 
 add_function-keeps : (owner : ℕ) (name : List ℕ) (type : ℕ) → CallKeeps (add_function owner name type)
@@ -37,8 +39,8 @@ add_function-keeps owner name type b answers = given-keeps b (two a_module a_typ
 function_add_variable-keeps : (local : Bool) (kind : DataKind) (word : List ℕ) (function : ℕ) (name : List ℕ) (type : ℕ) → CallKeeps (function_add_variable local kind word function name type)
 function_add_variable-keeps local kind word function name type b answers = given-keeps b (two a_function a_type b answers function type) (λ (function, type). allowed (unless_taken_in_function word name b function) (λ _. Made (LogicRef (next_logic_ref b)) (with_variable function local (record { kind = kind; name = name; data_type = type }) b))) (λ (function, type). allowed-keeps b (unless_taken_in_function word name b function) (λ _. Made (LogicRef (next_logic_ref b)) (with_variable function local (record { kind = kind; name = name; data_type = type }) b)) (λ _. variable-kept function local (record { kind = kind; name = name; data_type = type }) b))
 
-add_always-keeps : (kind : AlwaysKind) (word : List ℕ) (owner : ℕ) (events : List ℕ) → CallKeeps (add_always kind word owner events)
-add_always-keeps kind word owner events b answers = given-keeps b (one_and_many a_module an_expr b answers owner events) (λ (owner, events). allowed (unless_wrong_event word b events) (λ _. Made (VastAlwaysBase (next_always b)) (with_always_member owner kind events b))) (λ (owner, events). allowed-keeps b (unless_wrong_event word b events) (λ _. Made (VastAlwaysBase (next_always b)) (with_always_member owner kind events b)) (λ _. always_member-kept owner kind events b))
+pub add_always-keeps : {H : Type 0} (owners : Kind H) (scope : H → Scope) (kind : AlwaysKind) (word : List ℕ) (owner : ℕ) (events : List ℕ) → CallKeeps (add_always owners scope kind word owner events)
+add_always-keeps owners scope kind word owner events b answers = given-keeps b (one_and_many owners an_expr b answers owner events) (λ (owner, events). allowed (unless_wrong_event word b events) (λ _. Made (VastAlwaysBase (next_always b)) (with_scope_always (scope owner) kind events b))) (λ (owner, events). allowed-keeps b (unless_wrong_event word b events) (λ _. Made (VastAlwaysBase (next_always b)) (with_scope_always (scope owner) kind events b)) (λ _. scope_always-kept (scope owner) kind events b))
 
 block_add_assignment-keeps : (nonblocking : Bool) (block : ℕ) (left : ℕ) (right : ℕ) → CallKeeps (block_add_assignment nonblocking block left right)
 block_add_assignment-keeps nonblocking block left right b answers = given-keeps b (three a_block an_expr an_expr b answers block left right) (λ (block, left, right). Made (VastStatement (next_statement b)) (with_statement block (AssignStatement (next_statement b)) (with_assignment (record { lhs = left; rhs = right; nonblocking = nonblocking }) b))) (λ (block, left, right). keeps-then b (with_assignment (record { lhs = left; rhs = right; nonblocking = nonblocking }) b) _ (assignment-kept (record { lhs = left; rhs = right; nonblocking = nonblocking }) b) (statement-kept block (AssignStatement (next_statement b)) (with_assignment (record { lhs = left; rhs = right; nonblocking = nonblocking }) b)))
@@ -57,9 +59,9 @@ statement-keeps (FunctionAddReg function name type) = function_add_variable-keep
 statement-keeps (FunctionAddLogic function name type) = function_add_variable-keeps true Logic (codes "logic") function (string_bytes name) type
 statement-keeps (FunctionBody function) = λ b answers. given-keeps b (one a_function b answers function) (λ function. holding (body_at b function) (λ block. Made (VastStatementBlock block) b)) (λ function. holding-keeps b (body_at b function) (λ block. Made (VastStatementBlock block) b) (λ block. keeps-same b))
 statement-keeps (FunctionResult function) = λ b answers. given-keeps b (one a_function b answers function) (λ function. holding (result_at b function) (λ name. Made (LogicRef name) b)) (λ function. holding-keeps b (result_at b function) (λ name. Made (LogicRef name) b) (λ name. keeps-same b))
-statement-keeps (AddAlwaysFf owner events) = add_always-keeps AlwaysFF (codes "always_ff") owner events.items
-statement-keeps (AddAlwaysAt owner events) = add_always-keeps AlwaysAt (codes "always @") owner events.items
-statement-keeps (AddAlwaysComb owner) = λ b answers. given-keeps b (one a_module b answers owner) (λ owner. Made (VastAlwaysBase (next_always b)) (with_always_member owner AlwaysComb [] b)) (λ owner. always_member-kept owner AlwaysComb [] b)
+statement-keeps (AddAlwaysFf owner events) = add_always-keeps a_module ScopeModule AlwaysFF (codes "always_ff") owner events.items
+statement-keeps (AddAlwaysAt owner events) = add_always-keeps a_module ScopeModule AlwaysAt (codes "always @") owner events.items
+statement-keeps (AddAlwaysComb owner) = λ b answers. given-keeps b (one a_module b answers owner) (λ owner. Made (VastAlwaysBase (next_always b)) (with_scope_always (ScopeModule owner) AlwaysComb [] b)) (λ owner. scope_always-kept (ScopeModule owner) AlwaysComb [] b)
 statement-keeps (StatementBlock always) = λ b answers. given-keeps b (one an_always b answers always) (λ always. holding (block_at b always) (λ block. Made (VastStatementBlock block) b)) (λ always. holding-keeps b (block_at b always) (λ block. Made (VastStatementBlock block) b) (λ block. keeps-same b))
 statement-keeps (BlockAddBlockingAssignment block left right) = block_add_assignment-keeps false block left right
 statement-keeps (BlockAddNonblockingAssignment block left right) = block_add_assignment-keeps true block left right

@@ -6,12 +6,13 @@ use Rattle.vast_script.specs.declared.answer.Answer.{Answer}
 use Rattle.vast_script.specs.declared.step.Step.{Step}
 use Rattle.vast_script.specs.declared.step.Step.TheVariants.{Operators, Expressions, Types, Modules, Loops, Statements, Artifacts}
 use Rattle.vast_script.specs.Outcome.{Outcome, Made, AtFault}
+use Rattle.vast_script.specs.Operators.{operation}
 use Rattle.vast_script.specs.Script.{call_of, Run, Going, Stopped, gone_on, one_more, left_by}
 use Rattle.xlsynth_vast.specs.Keeps.{Keeps}
 use Rattle.vast_script.specs.Laws.{StepsKeepTheFile}
 use Rattle.xlsynth_vast.proofs.Kept.{keeps-same, keeps-then}
 use Rattle.vast_script.proofs.KeptOutcomes.{OutcomeKeeps, CallKeeps}
-use Rattle.vast_script.proofs.KeptOperators.{operator-keeps}
+use Rattle.vast_script.proofs.KeptOperators.{operation-keeps}
 use Rattle.vast_script.proofs.KeptExpressions.{expression-keeps}
 use Rattle.vast_script.proofs.KeptTypes.{type-keeps}
 use Rattle.vast_script.proofs.KeptModules.{module-keeps}
@@ -20,7 +21,7 @@ use Rattle.vast_script.proofs.KeptStatements.{statement-keeps}
 use Rattle.vast_script.proofs.KeptArtifacts.{artifact-keeps}
 
 step-keeps : (step : Step) → CallKeeps (call_of step)
-step-keeps (Operators step) = operator-keeps step
+step-keeps (Operators step) = operation-keeps (operation step)
 step-keeps (Expressions step) = expression-keeps step
 step-keeps (Types step) = type-keeps step
 step-keeps (Modules step) = module-keeps step

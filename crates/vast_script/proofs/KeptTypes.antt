@@ -1,12 +1,11 @@
 -- What calls that make types keep.
 use Rattle.std.specs.Prelude.{ℕ, ℤ, pos, int_le, false, ◌&&◌, List, string_bytes}
-use Rattle.vast_literal.specs.Tree.{TypeTree, ScalarTree, IntegerTree, IntTree, ExternalTree, PackageTree}
-use Rattle.vast_core.specs.Types.{is_packable}
+use Rattle.vast_literal.specs.Tree.{TypeTree, ScalarTree, IntegerTree, IntTree, ExternalTree, PackageTree, VectorTree, PackedTree, UnpackedTree}
+use Rattle.vast_core.specs.Types.{is_packable, literal_value}
 use Rattle.vast_core.specs.Bench.{tree_of, type_of}
-use Rattle.vast_core.specs.Growth.{next_type}
+use Rattle.vast_core.specs.Growth.{next_type, with_type}
 use Rattle.xlsynth_vast.specs.Conditions.{is_usable_width}
 use Rattle.xlsynth_vast.specs.Equations.{next_bit_vector, with_bit_vector}
-use Rattle.xlsynth_vast.specs.Types.{with_vector_expr, with_packed, with_unpacked}
 use Rattle.vast_script.specs.declared.answer.Answer.TheVariants.{VastDataType}
 use Rattle.vast_script.specs.declared.step.TypeStep.{TypeStep}
 use Rattle.vast_script.specs.declared.step.TypeStep.TheVariants.{MakeScalarType, MakeIntegerType, MakeIntType, MakeExternType, MakeExternPackageType, MakeBitVectorType, MakeBitVectorTypeExpr, MakePackedArrayType, MakeUnpackedArrayType}
@@ -23,10 +22,10 @@ make_type-keeps : (tree : TypeTree) → CallKeeps (make_type tree)
 make_type-keeps tree b answers = keeps-root b _
 
 make_packed_array_type-keeps : (element : ℕ) (dimensions : List ℤ) → CallKeeps (make_packed_array_type element dimensions)
-make_packed_array_type-keeps element dimensions b answers = given-keeps b (one a_type b answers element) (λ element. provided (is_packable (type_of b element) && are_dimensions dimensions) (Made (VastDataType (next_type b)) (with_packed element dimensions b))) (λ element. provided-keeps b (is_packable (type_of b element) && are_dimensions dimensions) (Made (VastDataType (next_type b)) (with_packed element dimensions b)) (keeps-root b _))
+make_packed_array_type-keeps element dimensions b answers = given-keeps b (one a_type b answers element) (λ element. provided (is_packable (type_of b element) && are_dimensions dimensions) (Made (VastDataType (next_type b)) (with_type (PackedTree (type_of b element) dimensions) b))) (λ element. provided-keeps b (is_packable (type_of b element) && are_dimensions dimensions) (Made (VastDataType (next_type b)) (with_type (PackedTree (type_of b element) dimensions) b)) (keeps-root b _))
 
 make_unpacked_array_type-keeps : (element : ℕ) (dimensions : List ℤ) → CallKeeps (make_unpacked_array_type element dimensions)
-make_unpacked_array_type-keeps element dimensions b answers = given-keeps b (one a_type b answers element) (λ element. provided (are_dimensions dimensions) (Made (VastDataType (next_type b)) (with_unpacked element dimensions b))) (λ element. provided-keeps b (are_dimensions dimensions) (Made (VastDataType (next_type b)) (with_unpacked element dimensions b)) (keeps-root b _))
+make_unpacked_array_type-keeps element dimensions b answers = given-keeps b (one a_type b answers element) (λ element. provided (are_dimensions dimensions) (Made (VastDataType (next_type b)) (with_type (UnpackedTree (type_of b element) dimensions) b))) (λ element. provided-keeps b (are_dimensions dimensions) (Made (VastDataType (next_type b)) (with_type (UnpackedTree (type_of b element) dimensions) b)) (keeps-root b _))
 
 pub type-keeps : (step : TypeStep) → CallKeeps (type_call step)
 type-keeps MakeScalarType = make_type-keeps (ScalarTree false)
@@ -35,6 +34,6 @@ type-keeps (MakeIntType signed) = make_type-keeps (IntTree signed)
 type-keeps (MakeExternType name) = make_type-keeps (ExternalTree (string_bytes name))
 type-keeps (MakeExternPackageType package_name name) = make_type-keeps (PackageTree (string_bytes package_name) (string_bytes name))
 type-keeps (MakeBitVectorType bits signed) = λ b answers. provided-keeps b (int_le (pos 1) bits) (Made (VastDataType (next_bit_vector bits b)) (with_bit_vector bits signed b)) (bit_vector-kept bits signed b)
-type-keeps (MakeBitVectorTypeExpr width signed) = λ b answers. given-keeps b (one an_expr b answers width) (λ width. provided (is_usable_width (tree_of b width)) (Made (VastDataType (next_type b)) (with_vector_expr width signed b))) (λ width. provided-keeps b (is_usable_width (tree_of b width)) (Made (VastDataType (next_type b)) (with_vector_expr width signed b)) (keeps-root b _))
+type-keeps (MakeBitVectorTypeExpr width signed) = λ b answers. given-keeps b (one an_expr b answers width) (λ width. provided (is_usable_width (tree_of b width)) (Made (VastDataType (next_type b)) (with_type (VectorTree (tree_of b width) (literal_value (tree_of b width)) signed) b))) (λ width. provided-keeps b (is_usable_width (tree_of b width)) (Made (VastDataType (next_type b)) (with_type (VectorTree (tree_of b width) (literal_value (tree_of b width)) signed) b)) (keeps-root b _))
 type-keeps (MakePackedArrayType element dimensions) = make_packed_array_type-keeps element dimensions.items
 type-keeps (MakeUnpackedArrayType element dimensions) = make_unpacked_array_type-keeps element dimensions.items

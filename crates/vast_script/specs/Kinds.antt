@@ -20,7 +20,8 @@ use Rattle.vast_core.specs.declared.handle.Conditional.{Conditional as Condition
 use Rattle.vast_core.specs.declared.handle.CaseStatement.{CaseStatement as CaseHandle}
 use Rattle.vast_core.specs.declared.handle.GenerateLoop.{GenerateLoop as LoopHandle}
 use Rattle.vast_core.specs.Nodes.{is_expr_root, is_type_root, is_macro}
-use Rattle.vast_core.specs.Bench.{Bench, has_root, is_continuous, is_blank_line, is_comment, is_inline, is_macro_statement, is_block, is_conditional, is_case, is_loop}
+use Rattle.vast_core.specs.Bench.{Bench, has_root, is_continuous, is_blank_line, is_comment, is_inline, is_macro_statement}
+use Rattle.vast_core.specs.Nests.{nest_kind, is_kind, BlockKind, ConditionalKind, CaseStatementKind, LoopKind}
 use Rattle.vast_script.specs.declared.answer.Answer.{Answer}
 use Rattle.vast_script.specs.declared.answer.Answer.TheVariants.{BlankLine, CaseStatement, Comment, Conditional, ContinuousAssignment, Def, Expr, GenerateLoop, Index, IndexableExpr, InlineVerilogStatement, Instantiation, LocalparamRef, LogicRef, MacroRef, MacroStatement, ParameterRef, Slice, VastAlwaysBase, VastDataType, VastFunction, VastModule, VastStatementBlock}
 
@@ -96,13 +97,13 @@ abbrev pub an_always : Kind AlwaysHandle
 an_always = record { of_answer = λ a. elim a [ VastAlwaysBase a ↦ Some a | _ ↦ None ]; is_own = λ b a. is_own_id b a.id (nat_lt a.id.index (length b.always_blocks)) }
 
 abbrev pub a_block : Kind BlockHandle
-a_block = record { of_answer = λ a. elim a [ VastStatementBlock c ↦ Some c | _ ↦ None ]; is_own = λ b c. is_own_id b c.id (is_block (slice_get b.nests c.id.index)) }
+a_block = record { of_answer = λ a. elim a [ VastStatementBlock c ↦ Some c | _ ↦ None ]; is_own = λ b c. is_own_id b c.id (is_kind BlockKind (nest_kind (slice_get b.nests c.id.index))) }
 
 abbrev pub a_conditional : Kind ConditionalHandle
-a_conditional = record { of_answer = λ a. elim a [ Conditional c ↦ Some c | _ ↦ None ]; is_own = λ b c. is_own_id b c.id (is_conditional (slice_get b.nests c.id.index)) }
+a_conditional = record { of_answer = λ a. elim a [ Conditional c ↦ Some c | _ ↦ None ]; is_own = λ b c. is_own_id b c.id (is_kind ConditionalKind (nest_kind (slice_get b.nests c.id.index))) }
 
 abbrev pub a_case : Kind CaseHandle
-a_case = record { of_answer = λ a. elim a [ CaseStatement c ↦ Some c | _ ↦ None ]; is_own = λ b c. is_own_id b c.id (is_case (slice_get b.nests c.id.index)) }
+a_case = record { of_answer = λ a. elim a [ CaseStatement c ↦ Some c | _ ↦ None ]; is_own = λ b c. is_own_id b c.id (is_kind CaseStatementKind (nest_kind (slice_get b.nests c.id.index))) }
 
 abbrev pub a_loop : Kind LoopHandle
-a_loop = record { of_answer = λ a. elim a [ GenerateLoop c ↦ Some c | _ ↦ None ]; is_own = λ b c. is_own_id b c.id (is_loop (slice_get b.nests c.id.index)) }
+a_loop = record { of_answer = λ a. elim a [ GenerateLoop c ↦ Some c | _ ↦ None ]; is_own = λ b c. is_own_id b c.id (is_kind LoopKind (nest_kind (slice_get b.nests c.id.index))) }

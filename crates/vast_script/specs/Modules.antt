@@ -4,10 +4,13 @@ use Rattle.vast_literal.specs.declared.kind.ModulePortDirection.{ModulePortDirec
 use Rattle.vast_literal.specs.declared.kind.ModulePortDirection.TheVariants.{Input, Output, InOut}
 use Rattle.vast_literal.specs.declared.kind.DataKind.{DataKind}
 use Rattle.vast_literal.specs.declared.kind.DataKind.TheVariants.{Wire, Reg, Logic}
+use Rattle.vast_core.specs.declared.ast.scope.Scope.TheVariants.{Module as ScopeModule}
+use Rattle.vast_core.specs.declared.node.ParameterForm.TheVariants.{Plain as PlainForm, Int as IntForm, Defined as DefinedForm}
+use Rattle.vast_core.specs.Scopes.{with_scope_parameter}
 use Rattle.vast_core.specs.declared.node.FileItem.{FileItem}
 use Rattle.vast_core.specs.declared.node.FileItem.TheVariants.{Include as IncludeEntry, BlankLine as FileBlankEntry, Comment as FileCommentEntry}
-use Rattle.vast_core.specs.Growth.{next_module, with_module, with_item, next_logic_ref, with_port, with_declaration}
-use Rattle.vast_core.specs.Parameters.{next_parameter_ref, next_localparam_ref, with_parameter_port, with_plain_parameter, with_int_parameter, with_defined_parameter}
+use Rattle.vast_core.specs.Growth.{next_node, next_module, with_module, with_item, next_logic_ref, with_port, with_declaration}
+use Rattle.vast_core.specs.Parameters.{with_parameter_port}
 use Rattle.vast_core.specs.Hoisting.{with_hoisted}
 use Rattle.xlsynth_vast.specs.Conditions.{is_free}
 use Rattle.xlsynth_vast.specs.Declarations.{names_in, unless_taken}
@@ -56,14 +59,14 @@ module_call (AddParameterPort owner name value) = takes_two a_module an_expr own
 module_call (AddTypedParameterPort owner name type value) = takes_three a_module a_type an_expr owner type value
     (λ owner type value. makes LogicRef next_logic_ref (with_parameter_port owner (string_bytes name) (Some type) value))
 module_call (AddParameter owner name value) = takes_two a_module an_expr owner value
-    (λ owner value. makes ParameterRef next_parameter_ref (with_plain_parameter owner false (string_bytes name) value))
+    (λ owner value. makes ParameterRef (λ b. record { id = next_node b }) (with_scope_parameter (ScopeModule owner) false (PlainForm (string_bytes name)) value))
 module_call (AddParameterWithDef owner definition value) = takes_three a_module a_definition an_expr owner definition value
-    (λ owner definition value. makes ParameterRef next_parameter_ref (with_defined_parameter owner false definition value))
+    (λ owner definition value. makes ParameterRef (λ b. record { id = next_node b }) (with_scope_parameter (ScopeModule owner) false (DefinedForm definition) value))
 module_call (AddLocalparam owner name value) = takes_two a_module an_expr owner value
-    (λ owner value. makes LocalparamRef next_localparam_ref (with_plain_parameter owner true (string_bytes name) value))
+    (λ owner value. makes LocalparamRef (λ b. record { id = next_node b }) (with_scope_parameter (ScopeModule owner) true (PlainForm (string_bytes name)) value))
 module_call (AddIntLocalparam owner name value) = takes_two a_module an_expr owner value
-    (λ owner value. makes LocalparamRef next_localparam_ref (with_int_parameter owner true (string_bytes name) value))
+    (λ owner value. makes LocalparamRef (λ b. record { id = next_node b }) (with_scope_parameter (ScopeModule owner) true (IntForm (string_bytes name)) value))
 module_call (AddTypedLocalparam owner definition value) = takes_three a_module a_definition an_expr owner definition value
-    (λ owner definition value. makes LocalparamRef next_localparam_ref (with_defined_parameter owner true definition value))
+    (λ owner definition value. makes LocalparamRef (λ b. record { id = next_node b }) (with_scope_parameter (ScopeModule owner) true (DefinedForm definition) value))
 module_call (HoistModuleDeclarations owner start) = takes_one a_module owner
     (λ owner b. provided (nat_le start (length (members_in b owner))) (Made Nothing (with_hoisted owner start b)))

@@ -9,7 +9,7 @@ use Rattle.vast_script.specs.declared.fault.ScriptFault.TheVariants.{NoAnswer, W
 use Rattle.vast_script.specs.declared.step.Step.{Step}
 use Rattle.vast_script.specs.declared.step.Step.TheVariants.{Operators, Expressions, Types, Modules, Loops, Statements, Artifacts}
 use Rattle.vast_script.specs.Outcome.{Call, Cause, Missing, OtherKind, NotMet, InWords, Outcome, Made, AtFault}
-use Rattle.vast_script.specs.Operators.{operator_call}
+use Rattle.vast_script.specs.Operators.{operation, operation_call}
 use Rattle.vast_script.specs.Expressions.{expression_call}
 use Rattle.vast_script.specs.Types.{type_call}
 use Rattle.vast_script.specs.Modules.{module_call}
@@ -19,7 +19,7 @@ use Rattle.vast_script.specs.Artifacts.{artifact_call}
 
 -- The call that a step is.
 abbrev pub call_of : Step → Call
-call_of (Operators step) = operator_call step
+call_of (Operators step) = operation_call (operation step)
 call_of (Expressions step) = expression_call step
 call_of (Types step) = type_call step
 call_of (Modules step) = module_call step
@@ -73,13 +73,10 @@ pub record MadeSome (old new : Bench) (steps : List Step) : Type 0 where
   pub made : run old (take count steps) ≡ Going answers new
 
 -- All steps are made, and these are their answers; or the first at fault is named; or memory was refused.
-abbrev pub Answers : (old new : Bench) → List Step → Result (Vec Answer Global) ScriptFault → Type 0
-Answers old new steps (Ok answers) = run old steps ≡ Going answers.items new
-Answers old new steps (Err (NoAnswer i)) = StopsAt old new steps i Missing
-Answers old new steps (Err (WrongKind i)) = StopsAt old new steps i OtherKind
-Answers old new steps (Err (Condition i)) = StopsAt old new steps i NotMet
-Answers old new steps (Err (Refused i e)) = StopsAt old new steps i (InWords (string_bytes e.0))
-Answers old new steps (Err Memory) = MadeSome old new steps
-
 abbrev pub Replayed : (old new : Bench) → List Step → Result (Vec Answer Global) ScriptFault → Type 0
-Replayed old new steps result = Answers old new steps result
+Replayed old new steps (Ok answers) = run old steps ≡ Going answers.items new
+Replayed old new steps (Err (NoAnswer i)) = StopsAt old new steps i Missing
+Replayed old new steps (Err (WrongKind i)) = StopsAt old new steps i OtherKind
+Replayed old new steps (Err (Condition i)) = StopsAt old new steps i NotMet
+Replayed old new steps (Err (Refused i e)) = StopsAt old new steps i (InWords (string_bytes e.0))
+Replayed old new steps (Err Memory) = MadeSome old new steps

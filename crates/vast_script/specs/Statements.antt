@@ -6,6 +6,8 @@ use Rattle.vast_literal.specs.declared.kind.AlwaysKind.{AlwaysKind}
 use Rattle.vast_literal.specs.declared.kind.AlwaysKind.TheVariants.{AlwaysFF, AlwaysAt, AlwaysComb}
 use Rattle.vast_literal.specs.declared.kind.CaseKind.{CaseKind}
 use Rattle.vast_literal.specs.declared.kind.CaseKind.TheVariants.{Case, CaseZ, CaseX}
+use Rattle.vast_core.specs.declared.ast.scope.Scope.TheVariants.{Module as ScopeModule}
+use Rattle.vast_core.specs.declared.ast.scope.Scope.{Scope}
 use Rattle.vast_core.specs.declared.node.Member.TheVariants.{Conditional as ConditionalEntry}
 use Rattle.vast_core.specs.declared.node.Statement.{Statement}
 use Rattle.vast_core.specs.declared.node.Statement.TheVariants.{Assignment as AssignStatement, Continuous as ContinuousStatement, Conditional as ConditionalStatement, Case as CasesStatement, BlankLine as BlankStatement, Comment as CommentStatement, Inline as InlineStatement}
@@ -15,7 +17,7 @@ use Rattle.vast_core.specs.Artifacts.{next_statement}
 use Rattle.vast_core.specs.Functions.{with_variable}
 use Rattle.vast_core.specs.Containers.{next_block, next_conditional, next_case, with_conditional, with_case, with_statement, with_else_if, with_else, has_else, with_case_arm, with_case_unique}
 use Rattle.vast_core.specs.Loops.{next_always, next_function}
-use Rattle.xlsynth_vast.specs.AlwaysBlocks.{unless_wrong_event, with_always_member}
+use Rattle.xlsynth_vast.specs.AlwaysBlocks.{unless_wrong_event, with_scope_always}
 use Rattle.xlsynth_vast.specs.Cases.{may_be_unique}
 use Rattle.xlsynth_vast.specs.Declarations.{names_in}
 use Rattle.xlsynth_vast.specs.Functions.{may_be_function, with_function_member, unless_taken_in_function}
@@ -24,7 +26,7 @@ use Rattle.vast_script.specs.declared.answer.Answer.TheVariants.{VastFunction, L
 use Rattle.vast_script.specs.declared.step.StatementStep.{StatementStep}
 use Rattle.vast_script.specs.declared.step.StatementStep.TheVariants.{AddFunction, FunctionAddInput, FunctionAddLogicInput, FunctionAddReg, FunctionAddLogic, FunctionBody, FunctionResult, AddAlwaysFf, AddAlwaysAt, AddAlwaysComb, StatementBlock, BlockAddBlockingAssignment, BlockAddNonblockingAssignment, BlockAddContinuousAssignment, BlockAddCommentText, BlockAddInlineText, BlockAddBlankLine, AddConditional, BlockAddCond, ConditionalThenBlock, ConditionalAddElseIf, ConditionalAddElse, BlockAddCase, BlockAddCasez, BlockAddCasex, CaseAddItem, CaseAddDefault, CaseSetUnique}
 use Rattle.vast_script.specs.Outcome.{Call, Made, provided, allowed, holding, makes}
-use Rattle.vast_script.specs.Kinds.{a_module, a_function, a_type, an_expr, an_always, a_block, a_conditional, a_case}
+use Rattle.vast_script.specs.Kinds.{a_module, a_function, a_type, an_expr, an_always, a_block, a_conditional, a_case, Kind}
 use Rattle.vast_script.specs.Arguments.{takes_one, takes_two, takes_three, takes_one_and_many}
 
 abbrev pub add_function : ℕ → List ℕ → ℕ → Call
@@ -37,10 +39,11 @@ function_add_variable local kind word function name type =
     takes_two a_function a_type function type
     (λ function type b. allowed (unless_taken_in_function word name b function) (λ _. Made (LogicRef (next_logic_ref b)) (with_variable function local (record { kind = kind; name = name; data_type = type }) b)))
 
-abbrev pub add_always : AlwaysKind → (word : List ℕ) → ℕ → List ℕ → Call
-add_always kind word owner events =
-    takes_one_and_many a_module an_expr owner events
-    (λ owner events b. allowed (unless_wrong_event word b events) (λ _. Made (VastAlwaysBase (next_always b)) (with_always_member owner kind events b)))
+-- To a module or to a loop.
+abbrev pub add_always : {H : Type 0} → Kind H → (H → Scope) → AlwaysKind → (word : List ℕ) → ℕ → List ℕ → Call
+add_always owners scope kind word owner events =
+    takes_one_and_many owners an_expr owner events
+    (λ owner events b. allowed (unless_wrong_event word b events) (λ _. Made (VastAlwaysBase (next_always b)) (with_scope_always (scope owner) kind events b)))
 
 abbrev pub block_add_assignment : (nonblocking : Bool) → (block left right : ℕ) → Call
 block_add_assignment nonblocking block left right =
@@ -64,9 +67,9 @@ statement_call (FunctionAddReg function name type) = function_add_variable true 
 statement_call (FunctionAddLogic function name type) = function_add_variable true Logic (codes "logic") function (string_bytes name) type
 statement_call (FunctionBody function) = takes_one a_function function (λ function b. holding (body_at b function) (λ block. Made (VastStatementBlock block) b))
 statement_call (FunctionResult function) = takes_one a_function function (λ function b. holding (result_at b function) (λ name. Made (LogicRef name) b))
-statement_call (AddAlwaysFf owner events) = add_always AlwaysFF (codes "always_ff") owner events.items
-statement_call (AddAlwaysAt owner events) = add_always AlwaysAt (codes "always @") owner events.items
-statement_call (AddAlwaysComb owner) = takes_one a_module owner (λ owner. makes VastAlwaysBase next_always (with_always_member owner AlwaysComb []))
+statement_call (AddAlwaysFf owner events) = add_always a_module ScopeModule AlwaysFF (codes "always_ff") owner events.items
+statement_call (AddAlwaysAt owner events) = add_always a_module ScopeModule AlwaysAt (codes "always @") owner events.items
+statement_call (AddAlwaysComb owner) = takes_one a_module owner (λ owner. makes VastAlwaysBase next_always (with_scope_always (ScopeModule owner) AlwaysComb []))
 statement_call (StatementBlock always) = takes_one an_always always (λ always b. holding (block_at b always) (λ block. Made (VastStatementBlock block) b))
 statement_call (BlockAddBlockingAssignment block left right) = block_add_assignment false block left right
 statement_call (BlockAddNonblockingAssignment block left right) = block_add_assignment true block left right

@@ -1,12 +1,11 @@
 -- What becomes of a call that makes a type.
 use Rattle.std.specs.Prelude.{ℕ, ℤ, pos, int_le, false, ◌&&◌, List, string_bytes}
-use Rattle.vast_literal.specs.Tree.{TypeTree, ScalarTree, IntegerTree, IntTree, ExternalTree, PackageTree}
-use Rattle.vast_core.specs.Types.{is_packable}
+use Rattle.vast_literal.specs.Tree.{TypeTree, ScalarTree, IntegerTree, IntTree, ExternalTree, PackageTree, VectorTree, PackedTree, UnpackedTree}
+use Rattle.vast_core.specs.Types.{is_packable, literal_value}
 use Rattle.vast_core.specs.Bench.{tree_of, type_of}
 use Rattle.vast_core.specs.Growth.{next_type, with_type}
 use Rattle.xlsynth_vast.specs.Conditions.{is_usable_width}
 use Rattle.xlsynth_vast.specs.Equations.{next_bit_vector, with_bit_vector}
-use Rattle.xlsynth_vast.specs.Types.{with_vector_expr, with_packed, with_unpacked}
 use Rattle.vast_script.specs.declared.answer.Answer.TheVariants.{VastDataType}
 use Rattle.vast_script.specs.declared.step.TypeStep.{TypeStep}
 use Rattle.vast_script.specs.declared.step.TypeStep.TheVariants.{MakeScalarType, MakeIntegerType, MakeIntType, MakeExternType, MakeExternPackageType, MakeBitVectorType, MakeBitVectorTypeExpr, MakePackedArrayType, MakeUnpackedArrayType}
@@ -22,11 +21,11 @@ make_type tree b answers = Made (VastDataType (next_type b)) (with_type tree b)
 abbrev pub make_packed_array_type : ℕ → List ℤ → Call
 make_packed_array_type element dimensions =
     takes_one a_type element
-    (λ element b. provided (is_packable (type_of b element) && are_dimensions dimensions) (Made (VastDataType (next_type b)) (with_packed element dimensions b)))
+    (λ element b. provided (is_packable (type_of b element) && are_dimensions dimensions) (Made (VastDataType (next_type b)) (with_type (PackedTree (type_of b element) dimensions) b)))
 
 abbrev pub make_unpacked_array_type : ℕ → List ℤ → Call
 make_unpacked_array_type element dimensions =
-    takes_one a_type element (λ element b. provided (are_dimensions dimensions) (Made (VastDataType (next_type b)) (with_unpacked element dimensions b)))
+    takes_one a_type element (λ element b. provided (are_dimensions dimensions) (Made (VastDataType (next_type b)) (with_type (UnpackedTree (type_of b element) dimensions) b)))
 
 abbrev pub type_call : TypeStep → Call
 type_call MakeScalarType = make_type (ScalarTree false)
@@ -36,6 +35,6 @@ type_call (MakeExternType name) = make_type (ExternalTree (string_bytes name))
 type_call (MakeExternPackageType package_name name) = make_type (PackageTree (string_bytes package_name) (string_bytes name))
 type_call (MakeBitVectorType bits signed) = λ b answers. provided (int_le (pos 1) bits) (Made (VastDataType (next_bit_vector bits b)) (with_bit_vector bits signed b))
 type_call (MakeBitVectorTypeExpr width signed) = takes_one an_expr width
-    (λ width b. provided (is_usable_width (tree_of b width)) (Made (VastDataType (next_type b)) (with_vector_expr width signed b)))
+    (λ width b. provided (is_usable_width (tree_of b width)) (Made (VastDataType (next_type b)) (with_type (VectorTree (tree_of b width) (literal_value (tree_of b width)) signed) b)))
 type_call (MakePackedArrayType element dimensions) = make_packed_array_type element dimensions.items
 type_call (MakeUnpackedArrayType element dimensions) = make_unpacked_array_type element dimensions.items

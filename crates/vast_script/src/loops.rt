@@ -2,9 +2,12 @@
 
 ghost use Rattle.std.specs.Prelude.{◌≡◌, codes, option_copied};
 ghost use Rattle.vast_literal.specs.declared.kind.AlwaysKind.TheVariants.{AlwaysFF, AlwaysAt};
+ghost use Rattle.vast_script.specs.Kinds.{a_loop};
+ghost use Rattle.vast_script.specs.Statements.{add_always};
+ghost use Rattle.vast_core.specs.declared.ast.scope.Scope.TheVariants.{Loop as ScopeLoop};
 ghost use Rattle.vast_core.specs.Nests.{label_bytes};
 ghost use Rattle.vast_script.specs.Outcome.{Replays};
-ghost use Rattle.vast_script.specs.Loops.{generate_add_always, loop_call};
+ghost use Rattle.vast_script.specs.Loops.{loop_call};
 
 use crate::answer::Answer;
 use crate::answers::{
@@ -36,7 +39,7 @@ fn generate_add_always_ff(
     events: &[usize],
 ) -> Result<Answer, StepFault>
     ensures { Replays file.old file.new answers.now result
-        (generate_add_always AlwaysFF (codes "always_ff") owner events.now) }
+        (add_always a_loop ScopeLoop AlwaysFF (codes "always_ff") owner events.now) }
 {
     let (owner, events): (GenerateLoop, Vec<Expr>) = one_and_many(file, answers, owner, events)?;
     let events = references(file, &events)?;
@@ -50,7 +53,7 @@ fn generate_add_always_at(
     events: &[usize],
 ) -> Result<Answer, StepFault>
     ensures { Replays file.old file.new answers.now result
-        (generate_add_always AlwaysAt (codes "always @") owner events.now) }
+        (add_always a_loop ScopeLoop AlwaysAt (codes "always @") owner events.now) }
 {
     let (owner, events): (GenerateLoop, Vec<Expr>) = one_and_many(file, answers, owner, events)?;
     let events = references(file, &events)?;

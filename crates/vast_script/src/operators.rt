@@ -1,7 +1,7 @@
 //! Calls that make an expression of one or two operands.
 
 ghost use Rattle.vast_script.specs.Outcome.{Replays};
-ghost use Rattle.vast_script.specs.Operators.{operator_call};
+ghost use Rattle.vast_script.specs.Operators.{operation, operation_call};
 
 use crate::answer::Answer;
 use crate::answers::expression;
@@ -16,7 +16,7 @@ pub(crate) fn replay_operator(
     answers: &[Answer],
     step: &OperatorStep,
 ) -> Result<Answer, StepFault>
-    ensures { Replays file.old file.new answers.now result (operator_call step.now) }
+    ensures { Replays file.old file.new answers.now result (operation_call (operation step.now)) }
 {
     match step {
         OperatorStep::MakeNot(operand) => {

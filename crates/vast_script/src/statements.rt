@@ -1,5 +1,7 @@
 //! Calls of functions, always blocks, conditionals and statements.
 
+ghost use Rattle.vast_script.specs.Kinds.{a_module};
+ghost use Rattle.vast_core.specs.declared.ast.scope.Scope.TheVariants.{Module as ScopeModule};
 ghost use Rattle.std.specs.Prelude.{codes};
 ghost use Rattle.vast_literal.specs.declared.kind.AlwaysKind.TheVariants.{AlwaysFF, AlwaysAt};
 ghost use Rattle.vast_script.specs.Outcome.{Replays};
@@ -27,7 +29,7 @@ fn add_always_ff(
     events: &[usize],
 ) -> Result<Answer, StepFault>
     ensures { Replays file.old file.new answers.now result
-        (add_always AlwaysFF (codes "always_ff") owner events.now) }
+        (add_always a_module ScopeModule AlwaysFF (codes "always_ff") owner events.now) }
 {
     let (owner, events): (VastModule, Vec<Expr>) = one_and_many(file, answers, owner, events)?;
     let events = references(file, &events)?;
@@ -41,7 +43,7 @@ fn add_always_at(
     events: &[usize],
 ) -> Result<Answer, StepFault>
     ensures { Replays file.old file.new answers.now result
-        (add_always AlwaysAt (codes "always @") owner events.now) }
+        (add_always a_module ScopeModule AlwaysAt (codes "always @") owner events.now) }
 {
     let (owner, events): (VastModule, Vec<Expr>) = one_and_many(file, answers, owner, events)?;
     let events = references(file, &events)?;

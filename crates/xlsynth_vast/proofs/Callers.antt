@@ -14,13 +14,13 @@ use Rattle.vast_core.specs.declared.node.Assignment.{Assignment}
 use Rattle.vast_core.specs.declared.node.ElseIf.{ElseIf}
 use Rattle.vast_core.specs.declared.node.CaseArm.{CaseArm}
 use Rattle.vast_core.specs.Nodes.{Root, expr_in, type_in, expr_of_root, type_of_root, is_expr_root, is_type_root, is_root_of, is_name, is_index, is_slice, is_macro}
-use Rattle.vast_core.specs.Records.{ModuleRecord, InstanceRecord, changed_at, with_name, with_port, with_parameter_port, with_member, with_named_member}
+use Rattle.vast_core.specs.Records.{ModuleRecord, InstanceRecord, changed_at, with_name, with_listed_port, with_listed_parameter, with_listed_member, with_listed_name}
 use Rattle.vast_core.specs.declared.node.ParameterPort.{ParameterPort}
 use Rattle.vast_core.specs.declared.node.Definition.{Definition}
 use Rattle.vast_core.specs.declared.node.Artifact.{Artifact}
 use Rattle.vast_core.specs.declared.node.Member.{Member}
 use Rattle.vast_core.specs.declared.node.Port.{Port}
-use Rattle.vast_core.specs.Nests.{NestRecord, BlockRecord, FunctionRecord, AlwaysRecord, nest_kind, is_block_kind, is_conditional_kind, is_case_kind, is_loop_kind}
+use Rattle.vast_core.specs.Nests.{NestRecord, BlockRecord, FunctionRecord, AlwaysRecord, nest_kind, is_kind, BlockKind, ConditionalKind, CaseStatementKind, LoopKind}
 use Rattle.vast_core.specs.declared.node.Statement.{Statement}
 use Rattle.vast_core.specs.Bench.{is_continuous, is_blank_line, is_comment, is_inline, is_macro_statement, names_of}
 use Rattle.vast_core.specs.Containers.{StatementEnters, ElseIfEnters, ElseEnters, CaseArmEnters, MemberEnters, with_entry, has_else}
@@ -161,17 +161,17 @@ kind_after_case_arm a xs place i = kind-changed (with_entry (CaseArmEnters a)) (
 pub kind_after_member : (m : Member) (xs : List NestRecord) (place i : ℕ) → nest_kind (slice_get (changed_at place (with_entry (MemberEnters m)) xs) i) ≡ nest_kind (slice_get xs i)
 kind_after_member m xs place i = kind-changed (with_entry (MemberEnters m)) (entry-kind (MemberEnters m)) xs place i
 
-pub block_stays : (xs ys : List NestRecord) (i : ℕ) → IsTrue (is_block_kind (nest_kind (slice_get xs i))) → IsTrue (is_block_kind (nest_kind (slice_get (xs ++ ys) i)))
-block_stays xs ys i h = still (λ n. is_block_kind (nest_kind n)) never xs ys i h
+pub block_stays : (xs ys : List NestRecord) (i : ℕ) → IsTrue (is_kind BlockKind (nest_kind (slice_get xs i))) → IsTrue (is_kind BlockKind (nest_kind (slice_get (xs ++ ys) i)))
+block_stays xs ys i h = still (λ n. is_kind BlockKind (nest_kind n)) never xs ys i h
 
-pub conditional_stays : (xs ys : List NestRecord) (i : ℕ) → IsTrue (is_conditional_kind (nest_kind (slice_get xs i))) → IsTrue (is_conditional_kind (nest_kind (slice_get (xs ++ ys) i)))
-conditional_stays xs ys i h = still (λ n. is_conditional_kind (nest_kind n)) never xs ys i h
+pub conditional_stays : (xs ys : List NestRecord) (i : ℕ) → IsTrue (is_kind ConditionalKind (nest_kind (slice_get xs i))) → IsTrue (is_kind ConditionalKind (nest_kind (slice_get (xs ++ ys) i)))
+conditional_stays xs ys i h = still (λ n. is_kind ConditionalKind (nest_kind n)) never xs ys i h
 
-pub case_stays : (xs ys : List NestRecord) (i : ℕ) → IsTrue (is_case_kind (nest_kind (slice_get xs i))) → IsTrue (is_case_kind (nest_kind (slice_get (xs ++ ys) i)))
-case_stays xs ys i h = still (λ n. is_case_kind (nest_kind n)) never xs ys i h
+pub case_stays : (xs ys : List NestRecord) (i : ℕ) → IsTrue (is_kind CaseStatementKind (nest_kind (slice_get xs i))) → IsTrue (is_kind CaseStatementKind (nest_kind (slice_get (xs ++ ys) i)))
+case_stays xs ys i h = still (λ n. is_kind CaseStatementKind (nest_kind n)) never xs ys i h
 
-pub loop_stays : (xs ys : List NestRecord) (i : ℕ) → IsTrue (is_loop_kind (nest_kind (slice_get xs i))) → IsTrue (is_loop_kind (nest_kind (slice_get (xs ++ ys) i)))
-loop_stays xs ys i h = still (λ n. is_loop_kind (nest_kind n)) never xs ys i h
+pub loop_stays : (xs ys : List NestRecord) (i : ℕ) → IsTrue (is_kind LoopKind (nest_kind (slice_get xs i))) → IsTrue (is_kind LoopKind (nest_kind (slice_get (xs ++ ys) i)))
+loop_stays xs ys i h = still (λ n. is_kind LoopKind (nest_kind n)) never xs ys i h
 
 pub last_nest : (xs ys : List NestRecord) (n : NestRecord) → slice_get (xs ++ n ∷ ys) (length xs) ≡ Some n
 last_nest [] ys n = refl
@@ -185,7 +185,7 @@ more_nests xs n = length-push xs n
 
 -- Whether a conditional has its `else`.
 
-pub else_stays : (xs ys : List NestRecord) (i : ℕ) → IsTrue (is_conditional_kind (nest_kind (slice_get xs i))) → has_else (slice_get (xs ++ ys) i) ≡ has_else (slice_get xs i)
+pub else_stays : (xs ys : List NestRecord) (i : ℕ) → IsTrue (is_kind ConditionalKind (nest_kind (slice_get xs i))) → has_else (slice_get (xs ++ ys) i) ≡ has_else (slice_get xs i)
 else_stays [] ys i h = absurd (never h)
 else_stays (x ∷ xs) ys zero h = refl
 else_stays (x ∷ xs) ys (suc i) h = else_stays xs ys i h
@@ -238,11 +238,11 @@ names-changed f h (x ∷ xs) zero (suc j) = refl
 names-changed f h (x ∷ xs) (suc i) zero = refl
 names-changed f h (x ∷ xs) (suc i) (suc j) = names-changed f h xs i j
 
-pub names_after_member : (e : Member) (xs : List ModuleRecord) (i j : ℕ) → names_of (slice_get (changed_at i (with_member e) xs) j) ≡ names_of (slice_get xs j)
-names_after_member e xs i j = names-changed (with_member e) (λ m. refl) xs i j
+pub names_after_member : (e : Member) (xs : List ModuleRecord) (i j : ℕ) → names_of (slice_get (changed_at i (with_listed_member e) xs) j) ≡ names_of (slice_get xs j)
+names_after_member e xs i j = names-changed (with_listed_member e) (λ m. refl) xs i j
 
-pub names_after_parameter : (p : ParameterPort) (xs : List ModuleRecord) (i j : ℕ) → names_of (slice_get (changed_at i (with_parameter_port p) xs) j) ≡ names_of (slice_get xs j)
-names_after_parameter p xs i j = names-changed (with_parameter_port p) (λ m. refl) xs i j
+pub names_after_parameter : (p : ParameterPort) (xs : List ModuleRecord) (i j : ℕ) → names_of (slice_get (changed_at i (with_listed_parameter p) xs) j) ≡ names_of (slice_get xs j)
+names_after_parameter p xs i j = names-changed (with_listed_parameter p) (λ m. refl) xs i j
 
 names-there :
     (f : ModuleRecord → ModuleRecord) (name : List ℕ) → ((m : ModuleRecord) → (f m).names ≡ with_name name m.names) → (xs : List ModuleRecord) (i : ℕ) → i < length xs →
@@ -251,11 +251,11 @@ names-there f name h [] i below = absurd (omega arith)
 names-there f name h (x ∷ xs) zero below = h x
 names-there f name h (x ∷ xs) (suc i) below = names-there f name h xs i (omega arith)
 
-pub names_after_port : (p : ModulePort) (name : List ℕ) (xs : List ModuleRecord) (i : ℕ) → i < length xs → names_of (slice_get (changed_at i (with_port p name) xs) i) ≡ with_name name (names_of (slice_get xs i))
-names_after_port p name xs i below = names-there (with_port p name) name (λ m. refl) xs i below
+pub names_after_port : (p : ModulePort) (name : List ℕ) (xs : List ModuleRecord) (i : ℕ) → i < length xs → names_of (slice_get (changed_at i (with_listed_port p name) xs) i) ≡ with_name name (names_of (slice_get xs i))
+names_after_port p name xs i below = names-there (with_listed_port p name) name (λ m. refl) xs i below
 
-pub names_after_declaration : (e : Member) (name : List ℕ) (xs : List ModuleRecord) (i : ℕ) → i < length xs → names_of (slice_get (changed_at i (with_named_member e name) xs) i) ≡ with_name name (names_of (slice_get xs i))
-names_after_declaration e name xs i below = names-there (with_named_member e name) name (λ m. refl) xs i below
+pub names_after_declaration : (e : Member) (name : List ℕ) (xs : List ModuleRecord) (i : ℕ) → i < length xs → names_of (slice_get (changed_at i (with_listed_name e name) xs) i) ≡ with_name name (names_of (slice_get xs i))
+names_after_declaration e name xs i below = names-there (with_listed_name e name) name (λ m. refl) xs i below
 
 pub last_module : (xs : List ModuleRecord) (m : ModuleRecord) → slice_get (xs ++ m ∷ []) (length xs) ≡ Some m
 last_module xs m = slice_get-seam xs m

@@ -9,7 +9,6 @@ use Rattle.vast_core.specs.declared.handle.VastStatementBlock.{VastStatementBloc
 use Rattle.vast_core.specs.declared.handle.Conditional.{Conditional}
 use Rattle.vast_core.specs.declared.handle.CaseStatement.{CaseStatement}
 use Rattle.vast_core.specs.declared.handle.GenerateLoop.{GenerateLoop}
-use Rattle.vast_core.specs.declared.handle.Def.{Def}
 use Rattle.vast_core.specs.declared.ast.scope.Scope.{Scope}
 use Rattle.vast_core.specs.declared.ast.scope.Scope.TheVariants.{Module as ModuleScope, Loop as LoopScope}
 use Rattle.vast_core.specs.declared.node.Assignment.{Assignment}
@@ -23,22 +22,23 @@ use Rattle.vast_core.specs.declared.node.FileItem.TheVariants.{Module as ModuleE
 use Rattle.vast_core.specs.declared.node.Artifact.{Artifact}
 use Rattle.vast_core.specs.declared.node.Definition.{Definition}
 use Rattle.vast_core.specs.declared.node.Member.{Member}
+use Rattle.vast_core.specs.declared.node.ParameterForm.{ParameterForm}
 use Rattle.vast_core.specs.declared.node.Member.TheVariants.{Always as AlwaysEntry}
 use Rattle.vast_core.specs.declared.node.Statement.{Statement}
 use Rattle.vast_core.specs.declared.node.FunctionVariable.{FunctionVariable}
 use Rattle.vast_core.specs.Bench.{Bench}
 use Rattle.vast_core.specs.Growth.{with_item, next_module, with_module, with_port, with_declaration, with_member, with_assignment, with_fixed_index, with_fixed_slice, with_fixed_replication}
 use Rattle.vast_core.specs.Artifacts.{with_artifact, with_definition, with_instance}
-use Rattle.vast_core.specs.Parameters.{with_parameter_port, with_plain_parameter, with_int_parameter, with_defined_parameter}
+use Rattle.vast_core.specs.Parameters.{with_parameter_port}
 use Rattle.vast_core.specs.Hoisting.{with_hoisted}
 use Rattle.vast_core.specs.Functions.{with_variable}
 use Rattle.vast_core.specs.Containers.{StatementEnters, ElseIfEnters, ElseEnters, CaseArmEnters, MemberEnters, next_block, with_block, with_conditional, new_conditional, with_case, new_case, with_statement, with_else_if, with_else, with_case_arm, with_case_unique}
 use Rattle.vast_core.specs.Internal.Containers.{InFile, InPorts, InFunction, InNest, no_fresh, fresh_assignment, fresh_block}
 use Rattle.vast_core.proofs.Containers.{fresh_container}
-use Rattle.vast_core.specs.Scopes.{with_scope_member}
-use Rattle.vast_core.specs.Loops.{next_always, with_always, with_loop, new_loop, with_loop_member, with_plain_loop_parameter, with_defined_loop_parameter}
+use Rattle.vast_core.specs.Scopes.{with_scope_member, with_scope_parameter}
+use Rattle.vast_core.specs.Loops.{next_always, with_always, with_loop, new_loop, with_loop_member}
 use Rattle.xlsynth_vast.specs.Equations.{is_one, with_bit_vector}
-use Rattle.xlsynth_vast.specs.AlwaysBlocks.{with_always_member, with_loop_always}
+use Rattle.xlsynth_vast.specs.AlwaysBlocks.{with_scope_always}
 use Rattle.xlsynth_vast.specs.Functions.{with_function_member}
 use Rattle.xlsynth_vast.specs.Keeps.{Keeps}
 use Rattle.xlsynth_vast.proofs.Kept.{keeps-root, keeps-then, keeps-cond, keeps-fresh, keeps-listing, keeps-changed, keeps-unique}
@@ -78,15 +78,6 @@ declaration-kept owner kind name type b = keeps-then b _ _ (keeps-changed b owne
 pub parameter_port-kept : (owner : VastModule) (name : List ℕ) (type : Option VastDataType) (value : Expr) (b : Bench) → Keeps b (with_parameter_port owner name type value b)
 parameter_port-kept owner name type value b = keeps-then b _ _ (keeps-changed b owner.id.index _) (keeps-root _ _)
 
-pub plain_parameter-kept : (owner : VastModule) (local : Bool) (name : List ℕ) (value : Expr) (b : Bench) → Keeps b (with_plain_parameter owner local name value b)
-plain_parameter-kept owner local name value b = keeps-then b _ _ (keeps-changed b owner.id.index _) (keeps-root _ _)
-
-pub int_parameter-kept : (owner : VastModule) (local : Bool) (name : List ℕ) (value : Expr) (b : Bench) → Keeps b (with_int_parameter owner local name value b)
-int_parameter-kept owner local name value b = keeps-then b _ _ (keeps-changed b owner.id.index _) (keeps-root _ _)
-
-pub defined_parameter-kept : (owner : VastModule) (local : Bool) (definition : Def) (value : Expr) (b : Bench) → Keeps b (with_defined_parameter owner local definition value b)
-defined_parameter-kept owner local definition value b = keeps-then b _ _ (keeps-changed b owner.id.index _) (keeps-root _ _)
-
 pub hoisted-kept : (owner : VastModule) (start : ℕ) (b : Bench) → Keeps b (with_hoisted owner start b)
 hoisted-kept owner start b = keeps-changed b owner.id.index _
 
@@ -97,14 +88,7 @@ function_member-kept owner name type b =
 pub variable-kept : (function : VastFunction) (local : Bool) (variable : FunctionVariable) (b : Bench) → Keeps b (with_variable function local variable b)
 variable-kept function local variable b = keeps-then b _ _ (keeps-listing b (InFunction function local variable)) (keeps-root _ _)
 
--- Always blocks and parts.
-
-pub always_member-kept : (owner : VastModule) (kind : AlwaysKind) (events : List Expr) (b : Bench) → Keeps b (with_always_member owner kind events b)
-always_member-kept owner kind events b = keeps-then b _ _ (keeps-fresh b (record fresh_block { always_block = Some _ })) (keeps-changed _ owner.id.index _)
-
-pub loop_always-kept : (owner : GenerateLoop) (kind : AlwaysKind) (events : List Expr) (b : Bench) → Keeps b (with_loop_always owner kind events b)
-loop_always-kept owner kind events b =
-    keeps-then b _ _ (keeps-fresh b (record fresh_block { always_block = Some _ })) (keeps-listing (with_always kind events b) (InNest owner.id.index (MemberEnters (AlwaysEntry (next_always b)))))
+-- Parts.
 
 pub artifact-kept : (part : Artifact) (b : Bench) → Keeps b (with_artifact part b)
 artifact-kept part b = keeps-fresh b (record no_fresh { artifact = Some part })
@@ -149,12 +133,13 @@ loop-kept name start end label b = keeps-then b _ _ (keeps-fresh b (fresh_contai
 pub loop_member-kept : (owner : GenerateLoop) (entry : Member) (b : Bench) → Keeps b (with_loop_member owner entry b)
 loop_member-kept owner entry b = keeps-listing b (InNest owner.id.index (MemberEnters entry))
 
-pub plain_loop_parameter-kept : (owner : GenerateLoop) (name : List ℕ) (value : Expr) (b : Bench) → Keeps b (with_plain_loop_parameter owner name value b)
-plain_loop_parameter-kept owner name value b = keeps-then b (with_loop_member owner _ b) _ (loop_member-kept owner _ b) (keeps-root _ _)
-
-pub defined_loop_parameter-kept : (owner : GenerateLoop) (definition : Def) (value : Expr) (b : Bench) → Keeps b (with_defined_loop_parameter owner definition value b)
-defined_loop_parameter-kept owner definition value b = keeps-then b (with_loop_member owner _ b) _ (loop_member-kept owner _ b) (keeps-root _ _)
-
 pub scope_member-kept : (scope : Scope) (entry : Member) (b : Bench) → Keeps b (with_scope_member scope entry b)
 scope_member-kept (ModuleScope owner) entry b = member-kept owner entry b
 scope_member-kept (LoopScope owner) entry b = loop_member-kept owner entry b
+
+pub scope_parameter-kept : (scope : Scope) (local : Bool) (form : ParameterForm) (value : Expr) (b : Bench) → Keeps b (with_scope_parameter scope local form value b)
+scope_parameter-kept scope local form value b = keeps-then b (with_scope_member scope _ b) _ (scope_member-kept scope _ b) (keeps-root _ _)
+
+pub scope_always-kept : (owner : Scope) (kind : AlwaysKind) (events : List Expr) (b : Bench) → Keeps b (with_scope_always owner kind events b)
+scope_always-kept owner kind events b =
+    keeps-then b (with_always kind events b) _ (keeps-fresh b (record fresh_block { always_block = Some _ })) (scope_member-kept owner (AlwaysEntry (next_always b)) (with_always kind events b))

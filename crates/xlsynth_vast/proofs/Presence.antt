@@ -15,7 +15,8 @@ use Rattle.vast_core.specs.declared.node.ParameterForm.TheVariants.{Plain as Pla
 use Rattle.vast_core.specs.Nests.{NestRecord, BlockRecord, ConditionalNestRecord, CaseNestRecord, LoopNestRecord, FunctionRecord, AlwaysRecord}
 use Rattle.vast_core.specs.declared.node.Statement.{Statement}
 use Rattle.vast_core.specs.declared.node.Statement.TheVariants.{Assignment as AssignStatement, Continuous as ContinuousStatement, Conditional as ConditionalStatement, Case as CasesStatement, BlankLine as BlankStatement, Comment as CommentStatement, Inline as InlineStatement}
-use Rattle.vast_core.specs.Bench.{Bench, OwnsBlock, OwnsPort, is_continuous, is_comment, is_inline, is_macro_statement, is_block, is_conditional, is_case, is_loop}
+use Rattle.vast_core.specs.Bench.{Bench, OwnsBlock, OwnsPort, is_continuous, is_comment, is_inline, is_macro_statement}
+use Rattle.vast_core.specs.Nests.{nest_kind, is_kind, BlockKind, ConditionalKind, CaseStatementKind, LoopKind}
 use Rattle.vast_core.specs.FileTree.{Family, family, families, block_in, conditional_statement, case_statement, conditional_member, loop_member, assignment_member, artifact_member, instance_member, assigned_tree, continuous_tree, function_in, always_in, member_tree, maybe_module_tree}
 use Rattle.vast_core.specs.Sound.{Each, MemberSound, StatementSound, NestSound, NestsSound, ModuleSound, EntrySound, RecordsSound}
 use Rattle.vast_core.proofs.Lists.{below-of, none-past, Each-map}
@@ -70,14 +71,14 @@ waiting : (b : Bench) (f : ℕ → Family) (o : Option AlwaysRecord) → (o ≡ 
 waiting b f None h e = h refl
 waiting b f (Some x) h e = cc
 
-chosen : (b : Bench) (f : ℕ → Family) (o : Option NestRecord) → IsTrue (is_conditional o) → conditional_member (family b f o) ≡ BlankMember → ⊥
+chosen : (b : Bench) (f : ℕ → Family) (o : Option NestRecord) → IsTrue (is_kind ConditionalKind (nest_kind o)) → conditional_member (family b f o) ≡ BlankMember → ⊥
 chosen b f None h e = never h
 chosen b f (Some (BlockRecord statements)) h e = never h
 chosen b f (Some (ConditionalNestRecord c)) h e = cc
 chosen b f (Some (CaseNestRecord c)) h e = never h
 chosen b f (Some (LoopNestRecord l)) h e = never h
 
-looped : (b : Bench) (f : ℕ → Family) (o : Option NestRecord) → IsTrue (is_loop o) → loop_member (family b f o) ≡ BlankMember → ⊥
+looped : (b : Bench) (f : ℕ → Family) (o : Option NestRecord) → IsTrue (is_kind LoopKind (nest_kind o)) → loop_member (family b f o) ≡ BlankMember → ⊥
 looped b f None h e = never h
 looped b f (Some (BlockRecord statements)) h e = never h
 looped b f (Some (ConditionalNestRecord c)) h e = never h
@@ -92,21 +93,21 @@ driven : (b : Bench) (o : Option Assignment) → (o ≡ None → ⊥) → contin
 driven b None h e = h refl
 driven b (Some a) h e = cc
 
-chosen_between : (b : Bench) (f : ℕ → Family) (o : Option NestRecord) → IsTrue (is_conditional o) → conditional_statement (family b f o) ≡ BlankTree → ⊥
+chosen_between : (b : Bench) (f : ℕ → Family) (o : Option NestRecord) → IsTrue (is_kind ConditionalKind (nest_kind o)) → conditional_statement (family b f o) ≡ BlankTree → ⊥
 chosen_between b f None h e = never h
 chosen_between b f (Some (BlockRecord statements)) h e = never h
 chosen_between b f (Some (ConditionalNestRecord c)) h e = cc
 chosen_between b f (Some (CaseNestRecord c)) h e = never h
 chosen_between b f (Some (LoopNestRecord l)) h e = never h
 
-selected : (b : Bench) (f : ℕ → Family) (o : Option NestRecord) → IsTrue (is_case o) → case_statement (family b f o) ≡ BlankTree → ⊥
+selected : (b : Bench) (f : ℕ → Family) (o : Option NestRecord) → IsTrue (is_kind CaseStatementKind (nest_kind o)) → case_statement (family b f o) ≡ BlankTree → ⊥
 selected b f None h e = never h
 selected b f (Some (BlockRecord statements)) h e = never h
 selected b f (Some (ConditionalNestRecord c)) h e = never h
 selected b f (Some (CaseNestRecord c)) h e = cc
 selected b f (Some (LoopNestRecord l)) h e = never h
 
-block_at : (b : Bench) (i : ℕ) (o : Option NestRecord) → NestsSound b 0 b.nests → slice_get b.nests i ≡ o → IsTrue (is_block o) →
+block_at : (b : Bench) (i : ℕ) (o : Option NestRecord) → NestsSound b 0 b.nests → slice_get b.nests i ≡ o → IsTrue (is_kind BlockKind (nest_kind o)) →
     (statements : List Statement) × (slice_get b.nests i ≡ Some (BlockRecord statements)) × (block_in (families b i) ≡ block_in (family b (families b) (Some (BlockRecord statements))))
 block_at b i None s e h = absurd (never h)
 block_at b i (Some (BlockRecord statements)) s e h = (statements, e, ap block_in (family-at b i s ∙ ap (family b (families b)) e))

@@ -13,7 +13,7 @@ use Rattle.vast_core.specs.declared.node.Member.TheVariants.{Always as AlwaysEnt
 use Rattle.vast_core.specs.Nests.{BlockRecord}
 use Rattle.vast_core.specs.Bench.{Bench, OwnsExpr, OwnsBlock, tree_of}
 use Rattle.vast_core.specs.Sound.{EventSound}
-use Rattle.vast_core.specs.Growth.{next_expr}
+use Rattle.vast_core.specs.Growth.{next_expr, with_expr}
 use Rattle.vast_core.specs.Containers.{MemberEnters, with_entry, next_block, with_spare_block}
 use Rattle.vast_core.specs.Loops.{next_always}
 use Rattle.vast_core.specs.Unattached.{always_over}
@@ -28,7 +28,6 @@ use Rattle.xlsynth_vast.specs.declared.helpers.registers.RegisterDefinition.{Reg
 use Rattle.xlsynth_vast.specs.declared.helpers.registers.RegisterScope.{RegisterScope}
 use Rattle.xlsynth_vast.specs.declared.helpers.registers.RegisterScope.TheVariants.{Module as ModuleScope, GenerateLoop as LoopScope}
 use Rattle.xlsynth_vast.specs.declared.helpers.registers.Share.TheVariants.{Unreset}
-use Rattle.xlsynth_vast.specs.Expressions.{with_pos_edge}
 use Rattle.xlsynth_vast.specs.Registers.{unreset_value, assigned_all, by_reset, registers_member, OwnsScope, OwnsReset, OwnsRegister, HasUnused, unless_unresettable, maybe_reset_tree, register_trees}
 use Rattle.xlsynth_vast.specs.AddedRegisters.{with_all_assigned, with_register_block, with_clocked_at, with_registers, AddsOneAlways, MayAddRegisters}
 use Rattle.xlsynth_vast.specs.Internal.RegisterSteps.{IsOlderScope}
@@ -92,13 +91,13 @@ block-clock reset registers b clk h = wider_owned b _ (unused-wider b _ (block-u
 
 -- It can be attached, at an edge of the clock.
 
-pub edge-sound : (b : Bench) (clk : Expr) → EventSound (with_pos_edge clk b) (next_expr b)
+pub edge-sound : (b : Bench) (clk : Expr) → EventSound (with_expr (PosEdgeTree (tree_of b clk)) b) (next_expr b)
 edge-sound b clk = let t = PosEdgeTree (tree_of b clk) in (next_owned b t, rw (next_tree b t) refl)
 
-edge-changes : (i : ℕ) (b : Bench) (clk : Expr) → Changes i b (with_pos_edge clk b)
+edge-changes : (i : ℕ) (b : Bench) (clk : Expr) → Changes i b (with_expr (PosEdgeTree (tree_of b clk)) b)
 edge-changes i b clk = changes-root i b (ExprRoot (PosEdgeTree (tree_of b clk)))
 
-pub edge-unused : (old b : Bench) (clk : Expr) → HasUnused old b → HasUnused old (with_pos_edge clk b)
+pub edge-unused : (old b : Bench) (clk : Expr) → HasUnused old b → HasUnused old (with_expr (PosEdgeTree (tree_of b clk)) b)
 edge-unused old b clk h = (edge-changes (length old.nests) b clk).unused old h (omega arith)
 
 pub block-spare : (reset : Option Reset) (registers : List RegisterDefinition) (b : Bench) → (with_register_block reset registers b).spare ≡ Some (next_block b)
@@ -154,7 +153,7 @@ adds-one : (old new : Bench) (clk : Expr) (reset : Option Reset) (registers : Li
 unfolding with_registers
 adds-one old new clk reset registers scope e =
     let c : Bench = with_register_block reset registers old in
-    record { between = with_pos_edge clk c; unused = edge-unused old c clk (block-unused reset registers old); event = next_expr c; block = next_block old; after = e }
+    record { between = with_expr (PosEdgeTree (tree_of c clk)) c; unused = edge-unused old c clk (block-unused reset registers old); event = next_expr c; block = next_block old; after = e }
 
 pub registers-added :
     (old new : Bench) (clk : Expr) (reset : Option Reset) (registers : List RegisterDefinition) (scope : RegisterScope) → OwnsScope old scope → OwnsExpr old clk → IfSome reset (OwnsReset old) →

@@ -2,13 +2,14 @@
 use Rattle.std.proofs.Common.{◌≡◌, ℕ, ◌≤◌, ◌⊎◌, true, false, List, length, Option, Some, None, slice_get, Result, Ok, Err, IsErr, refl, sym, ◌∙◌, inl, inr, arith}
 use Rattle.std.specs.List.{list_any}
 use Rattle.std.specs.declared.alloc.AllocError.{AllocError}
+use Rattle.vast_literal.specs.Tree.{PosEdgeTree}
 use Rattle.vast_core.specs.declared.handle.Expr.{Expr}
 use Rattle.vast_core.specs.declared.handle.Conditional.{Conditional}
 use Rattle.vast_core.specs.declared.handle.VastStatementBlock.{VastStatementBlock}
 use Rattle.vast_core.specs.declared.node.Statement.TheVariants.{Assignment as AssignStatement, Conditional as ConditionalStatement}
-use Rattle.vast_core.specs.Bench.{Bench, OwnsExpr, OwnsBlock, OwnsConditional}
+use Rattle.vast_core.specs.Bench.{Bench, OwnsExpr, OwnsBlock, OwnsConditional, tree_of}
 use Rattle.vast_core.specs.Sound.{EventSound}
-use Rattle.vast_core.specs.Growth.{next_expr, with_assignment}
+use Rattle.vast_core.specs.Growth.{next_expr, with_assignment, with_expr}
 use Rattle.vast_core.specs.Artifacts.{next_statement}
 use Rattle.vast_core.specs.Containers.{with_statement, with_conditional, with_else, next_conditional, next_block, with_spare_block, has_else}
 use Rattle.xlsynth_vast.specs.declared.helpers.registers.Reset.{Reset}
@@ -16,7 +17,6 @@ use Rattle.xlsynth_vast.specs.declared.helpers.registers.RegisterDefinition.{Reg
 use Rattle.xlsynth_vast.specs.declared.helpers.registers.Share.{Share}
 use Rattle.xlsynth_vast.specs.declared.helpers.registers.Share.TheVariants.{Unreset, AtReset, OutsideReset}
 use Rattle.xlsynth_vast.specs.declared.helpers.registers.RegisterScope.{RegisterScope}
-use Rattle.xlsynth_vast.specs.Expressions.{with_pos_edge}
 use Rattle.xlsynth_vast.specs.Inspections.{then_block_at}
 use Rattle.xlsynth_vast.specs.Registers.{OwnsRegister, OwnsReset, HasUnused}
 use Rattle.xlsynth_vast.specs.AddedRegisters.{is_resettable, value_expr, with_value, with_assigned, with_all_assigned, active_expr, with_active, with_if, with_if_else, first_block, second_block, with_branches, with_reset, with_register_block, with_clocked, with_registers}
@@ -194,11 +194,11 @@ block-branched old now new block reset registers any e f after = (e, rw any (aft
 
 -- The member.
 
-pub edged-event : (b c : Bench) (clk event : Expr) → (event ≡ next_expr b) × (c ≡ with_pos_edge clk b) → EventSound c event
+pub edged-event : (b c : Bench) (clk event : Expr) → (event ≡ next_expr b) × (c ≡ with_expr (PosEdgeTree (tree_of b clk)) b) → EventSound c event
 edged-event b c clk event f = rw (f.0, f.1) (edge-sound b clk)
 
 pub is-added :
     (old b c new : Bench) (block : VastStatementBlock) (clk event : Expr) (reset : Option Reset) (registers : List RegisterDefinition) (scope : RegisterScope) →
-    (block ≡ next_block old) × (b ≡ with_register_block reset registers old) → (event ≡ next_expr b) × (c ≡ with_pos_edge clk b) → new ≡ with_clocked scope event block c → new ≡ with_registers clk reset registers scope old
+    (block ≡ next_block old) × (b ≡ with_register_block reset registers old) → (event ≡ next_expr b) × (c ≡ with_expr (PosEdgeTree (tree_of b clk)) b) → new ≡ with_clocked scope event block c → new ≡ with_registers clk reset registers scope old
 unfolding with_registers
 is-added old b c new block clk event reset registers scope e f after = after ∙ rw (f.0, f.1, e.0, e.1) refl

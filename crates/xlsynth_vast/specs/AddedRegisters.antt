@@ -4,6 +4,7 @@ use Rattle.std.specs.List.{list_any}
 use Rattle.vast_literal.specs.declared.error.VastFault.{VastFault}
 use Rattle.vast_literal.specs.declared.error.VastFault.TheVariants.{Refused, Memory}
 use Rattle.vast_literal.specs.declared.operator.UnaryOperator.TheVariants.{LogicalNot as LogicalNotOp}
+use Rattle.vast_literal.specs.Tree.{PosEdgeTree, TernaryTree}
 use Rattle.vast_core.specs.declared.handle.Expr.{Expr}
 use Rattle.vast_core.specs.declared.handle.VastStatementBlock.{VastStatementBlock}
 use Rattle.vast_literal.specs.declared.kind.AlwaysKind.TheVariants.{AlwaysFF}
@@ -11,7 +12,7 @@ use Rattle.vast_core.specs.declared.node.Member.{Member}
 use Rattle.vast_core.specs.declared.node.Member.TheVariants.{Always as AlwaysEntry}
 use Rattle.vast_core.specs.declared.node.Statement.TheVariants.{Assignment as AssignStatement, Conditional as ConditionalStatement}
 use Rattle.vast_core.specs.Bench.{Bench, tree_of}
-use Rattle.vast_core.specs.Growth.{next_id, next_expr, with_assignment, with_member}
+use Rattle.vast_core.specs.Growth.{next_id, next_expr, with_assignment, with_member, with_expr}
 use Rattle.vast_core.specs.Artifacts.{next_statement}
 use Rattle.vast_core.specs.Containers.{next_block, next_conditional, with_spare_block, with_statement, with_conditional, with_else}
 use Rattle.vast_core.specs.Loops.{next_always, with_loop_member}
@@ -23,7 +24,7 @@ use Rattle.xlsynth_vast.specs.declared.helpers.registers.RegisterScope.{Register
 use Rattle.xlsynth_vast.specs.declared.helpers.registers.RegisterScope.TheVariants.{Module as ModuleScope, GenerateLoop as LoopScope}
 use Rattle.xlsynth_vast.specs.declared.helpers.registers.Share.{Share}
 use Rattle.xlsynth_vast.specs.declared.helpers.registers.Share.TheVariants.{Unreset, AtReset, OutsideReset}
-use Rattle.xlsynth_vast.specs.Expressions.{with_unary, with_ternary, with_pos_edge}
+use Rattle.xlsynth_vast.specs.Expressions.{with_unary}
 use Rattle.xlsynth_vast.specs.Registers.{is_given, unless_unresettable, maybe_reset_tree, register_trees, registers_member, HasUnused}
 
 abbrev pub is_resettable : RegisterDefinition → Bool
@@ -37,7 +38,7 @@ enabled_expr (Some enable) next b = next_expr b
 
 abbrev pub with_enabled : Option Expr → (next target : Expr) → Bench → Bench
 with_enabled None next target b = b
-with_enabled (Some enable) next target b = with_ternary enable next target b
+with_enabled (Some enable) next target b = with_expr (TernaryTree (tree_of b enable) (tree_of b next) (tree_of b target)) b
 
 abbrev pub running_expr : RegisterDefinition → Bench → Expr
 running_expr r b = enabled_expr r.enable r.next b
@@ -122,7 +123,7 @@ with_clocked scope event block b = with_last_member scope (AlwaysEntry (next_alw
 
 -- The same at the rising edge of the clock.
 abbrev pub with_clocked_at : (clk : Expr) → RegisterScope → VastStatementBlock → Bench → Bench
-with_clocked_at clk scope block b = with_clocked scope (next_expr b) block (with_pos_edge clk b)
+with_clocked_at clk scope block b = with_clocked scope (next_expr b) block (with_expr (PosEdgeTree (tree_of b clk)) b)
 
 -- The file with the always block of these registers.
 unfoldable pub with_registers : (clk : Expr) → Option Reset → List RegisterDefinition → RegisterScope → Bench → Bench

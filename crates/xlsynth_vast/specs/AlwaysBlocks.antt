@@ -1,14 +1,13 @@
 -- Which lists of events are refused, and what a file holds after a call that adds an always block.
 use Rattle.std.specs.Prelude.{ℕ, suc, List, [], ◌∷◌, ◌++◌, Result, Ok, Err, codes, decimal, if◌then◌else◌}
 use Rattle.vast_core.specs.declared.handle.Expr.{Expr}
-use Rattle.vast_core.specs.declared.handle.VastModule.{VastModule}
-use Rattle.vast_core.specs.declared.handle.GenerateLoop.{GenerateLoop}
+use Rattle.vast_core.specs.declared.ast.scope.Scope.{Scope}
 use Rattle.vast_literal.specs.declared.kind.AlwaysKind.{AlwaysKind}
 use Rattle.vast_core.specs.declared.node.Member.TheVariants.{Always as AlwaysEntry}
 use Rattle.vast_core.specs.Bench.{Bench, tree_of}
 use Rattle.vast_core.specs.Sound.{is_event}
-use Rattle.vast_core.specs.Growth.{with_member}
-use Rattle.vast_core.specs.Loops.{next_always, with_always, with_loop_member}
+use Rattle.vast_core.specs.Scopes.{with_scope_member}
+use Rattle.vast_core.specs.Loops.{next_always, with_always}
 
 -- The words that refuse the event at this place of a list, for an always block that begins with the word.
 unfoldable pub wrong_event : (word : List ℕ) (index : ℕ) → List ℕ
@@ -25,8 +24,5 @@ abbrev pub unless_wrong_event : (word : List ℕ) → Bench → List Expr → Re
 unless_wrong_event word b events = events_from word b 0 events
 
 -- An always block with an empty block, as the last member of a module or of a loop.
-abbrev pub with_always_member : VastModule → AlwaysKind → List Expr → Bench → Bench
-with_always_member owner kind events b = with_member owner (AlwaysEntry (next_always b)) (with_always kind events b)
-
-abbrev pub with_loop_always : GenerateLoop → AlwaysKind → List Expr → Bench → Bench
-with_loop_always owner kind events b = with_loop_member owner (AlwaysEntry (next_always b)) (with_always kind events b)
+abbrev pub with_scope_always : Scope → AlwaysKind → List Expr → Bench → Bench
+with_scope_always owner kind events b = with_scope_member owner (AlwaysEntry (next_always b)) (with_always kind events b)

@@ -76,14 +76,11 @@ abbrev pub name_of_ref : Bench → LogicRef → Option (List ℕ)
 name_of_ref b r = named (tree_of b (record { id = r.id }))
 
 -- The body of a function, and its result's name as an expression.
-abbrev pub function_at : Bench → VastFunction → Option FunctionRecord
-function_at b f = slice_get b.functions f.id.index
-
 abbrev pub body_at : Bench → VastFunction → Option VastStatementBlock
-body_at b f = option_map (λ (r : FunctionRecord). r.body) (function_at b f)
+body_at b f = option_map (λ (r : FunctionRecord). r.body) (slice_get b.functions f.id.index)
 
 abbrev pub result_at : Bench → VastFunction → Option LogicRef
-result_at b f = option_map (λ (r : FunctionRecord). r.result_name) (function_at b f)
+result_at b f = option_map (λ (r : FunctionRecord). r.result_name) (slice_get b.functions f.id.index)
 
 -- The block of an always block.
 abbrev pub block_at : Bench → VastAlwaysBase → Option VastStatementBlock

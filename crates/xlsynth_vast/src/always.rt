@@ -4,12 +4,13 @@
 ghost use Rattle.std.specs.Prelude.{◌≡◌, Ok, All, [], IfOk, IfErr, Some, map, string_bytes, codes};
 ghost use Rattle.vast_literal.specs.Fault.{RefusedBy};
 ghost use Rattle.vast_literal.specs.declared.kind.AlwaysKind.TheVariants.{AlwaysFF, AlwaysAt, AlwaysComb};
+ghost use Rattle.vast_core.specs.declared.ast.scope.Scope.TheVariants.{Module as ScopeModule, Loop as ScopeLoop};
 ghost use Rattle.vast_core.specs.Bench.{OwnsModule, OwnsLoop, OwnsExpr, OwnsBlock, OwnsAlways};
 ghost use Rattle.vast_core.specs.Sound.{EventSound};
 ghost use Rattle.vast_core.specs.Loops.{next_always};
 ghost use Rattle.xlsynth_vast.specs.Refusals.{MayBuild, no_refusal};
 ghost use Rattle.xlsynth_vast.specs.Keeps.{Keeps};
-ghost use Rattle.xlsynth_vast.specs.AlwaysBlocks.{wrong_event, unless_wrong_event, with_always_member, with_loop_always};
+ghost use Rattle.xlsynth_vast.specs.AlwaysBlocks.{wrong_event, unless_wrong_event, with_scope_always};
 ghost use Rattle.xlsynth_vast.specs.Inspections.{block_at};
 
 use crate::file::VastFile;
@@ -64,7 +65,8 @@ impl VastFile {
         ensures built { MayBuild self.old self.new result
             (λ b. unless_wrong_event (codes "always_ff") b (map (λ e. e.now) sensitivity_list.now))
             next_always
-            (λ _. with_always_member owner AlwaysFF (map (λ e. e.now) sensitivity_list.now)) }
+            (λ _. with_scope_always (ScopeModule owner) AlwaysFF
+            (map (λ e. e.now) sensitivity_list.now)) }
         ensures kept { Keeps self.old self.new }
     {
         let events = self.events("always_ff", sensitivity_list)?;
@@ -85,7 +87,8 @@ impl VastFile {
         ensures built { MayBuild self.old self.new result
             (λ b. unless_wrong_event (codes "always @") b (map (λ e. e.now) sensitivity_list.now))
             next_always
-            (λ _. with_always_member owner AlwaysAt (map (λ e. e.now) sensitivity_list.now)) }
+            (λ _. with_scope_always (ScopeModule owner) AlwaysAt
+            (map (λ e. e.now) sensitivity_list.now)) }
         ensures kept { Keeps self.old self.new }
     {
         let events = self.events("always @", sensitivity_list)?;
@@ -99,7 +102,7 @@ impl VastFile {
     pub fn add_always_comb(&mut self, owner: VastModule) -> Result<VastAlwaysBase, VastFault>
         requires { OwnsModule self.old owner }
         ensures built { MayBuild self.old self.new result no_refusal next_always
-            (λ _. with_always_member owner AlwaysComb []) }
+            (λ _. with_scope_always (ScopeModule owner) AlwaysComb []) }
         ensures kept { Keeps self.old self.new }
     {
         Ok(self.ast.push_always_comb(Scope::Module(owner))?)
@@ -128,7 +131,8 @@ impl VastFile {
         ensures built { MayBuild self.old self.new result
             (λ b. unless_wrong_event (codes "always_ff") b (map (λ e. e.now) sensitivity_list.now))
             next_always
-            (λ _. with_loop_always generate AlwaysFF (map (λ e. e.now) sensitivity_list.now)) }
+            (λ _. with_scope_always (ScopeLoop generate) AlwaysFF
+            (map (λ e. e.now) sensitivity_list.now)) }
         ensures kept { Keeps self.old self.new }
     {
         let events = self.events("always_ff", sensitivity_list)?;
@@ -149,7 +153,8 @@ impl VastFile {
         ensures built { MayBuild self.old self.new result
             (λ b. unless_wrong_event (codes "always @") b (map (λ e. e.now) sensitivity_list.now))
             next_always
-            (λ _. with_loop_always generate AlwaysAt (map (λ e. e.now) sensitivity_list.now)) }
+            (λ _. with_scope_always (ScopeLoop generate) AlwaysAt
+            (map (λ e. e.now) sensitivity_list.now)) }
         ensures kept { Keeps self.old self.new }
     {
         let events = self.events("always @", sensitivity_list)?;
@@ -166,7 +171,7 @@ impl VastFile {
     ) -> Result<VastAlwaysBase, VastFault>
         requires { OwnsLoop self.old generate }
         ensures built { MayBuild self.old self.new result no_refusal next_always
-            (λ _. with_loop_always generate AlwaysComb []) }
+            (λ _. with_scope_always (ScopeLoop generate) AlwaysComb []) }
         ensures kept { Keeps self.old self.new }
     {
         Ok(self.ast.push_always_comb(Scope::Loop(generate))?)

@@ -5,7 +5,7 @@ ghost use Rattle.std.specs.Prelude.{true, false};
 ghost use Rattle.vast_core.specs.Bench.{OwnsExpr, OwnsType, OwnsMacroRef};
 ghost use Rattle.vast_core.specs.declared.node.Artifact.TheVariants.{BlankLine as BlankArtifact, Comment as CommentArtifact, Inline as InlineArtifact, MacroStatement as MacroArtifact};
 ghost use Rattle.vast_core.specs.Growth.{Builds, next_continuous, with_assignment};
-ghost use Rattle.vast_core.specs.Artifacts.{next_def, with_definition, next_blank_line, next_comment, next_inline, next_macro_statement, with_artifact, next_statement};
+ghost use Rattle.vast_core.specs.Artifacts.{next_def, with_definition, next_artifact, with_artifact, next_statement};
 ghost use Rattle.xlsynth_vast.specs.Keeps.{Keeps};
 
 use crate::file::VastFile;
@@ -39,7 +39,7 @@ impl VastFile {
     /// # Errors
     /// `AllocError` where a growth was refused; the file is unchanged.
     pub fn make_blank_line(&mut self) -> Result<BlankLine, AllocError>
-        ensures built { Builds self.old self.new result next_blank_line
+        ensures built { Builds self.old self.new result (λ b. record { id = next_artifact b })
             (with_artifact BlankArtifact) }
         ensures kept { Keeps self.old self.new }
     {
@@ -51,7 +51,7 @@ impl VastFile {
     /// # Errors
     /// `AllocError` where a growth was refused; the file is unchanged.
     pub fn make_comment(&mut self, text: &str) -> Result<Comment, AllocError>
-        ensures built { Builds self.old self.new result next_comment
+        ensures built { Builds self.old self.new result (λ b. record { id = next_artifact b })
             (with_artifact (CommentArtifact text.now)) }
         ensures kept { Keeps self.old self.new }
     {
@@ -66,7 +66,7 @@ impl VastFile {
         &mut self,
         text: &str,
     ) -> Result<InlineVerilogStatement, AllocError>
-        ensures built { Builds self.old self.new result next_inline
+        ensures built { Builds self.old self.new result (λ b. record { id = next_artifact b })
             (with_artifact (InlineArtifact text.now)) }
         ensures kept { Keeps self.old self.new }
     {
@@ -83,7 +83,7 @@ impl VastFile {
         semicolon: bool,
     ) -> Result<MacroStatement, AllocError>
         requires { OwnsMacroRef self.old macro_ref.now }
-        ensures built { Builds self.old self.new result next_macro_statement
+        ensures built { Builds self.old self.new result (λ b. record { id = next_artifact b })
             (with_artifact (MacroArtifact macro_ref.now semicolon)) }
         ensures kept { Keeps self.old self.new }
     {

@@ -1,15 +1,17 @@
 //! Generate loops and their members (IEEE 1800-2017, 27.4), as in the crate `xlsynth-vast`. Their always blocks stand
 //! with those of modules.
 
-ghost use Rattle.std.specs.Prelude.{◌≡◌, false, Some, IfOk, option_copied};
+ghost use Rattle.std.specs.Prelude.{◌≡◌, true, false, Some, IfOk, option_copied};
+ghost use Rattle.vast_core.specs.declared.ast.scope.Scope.TheVariants.{Loop as ScopeLoop};
+ghost use Rattle.vast_core.specs.declared.node.ParameterForm.TheVariants.{Plain as PlainForm, Defined as DefinedForm};
+ghost use Rattle.vast_core.specs.Scopes.{with_scope_parameter};
 ghost use Rattle.vast_core.specs.Bench.{OwnsModule, OwnsLoop, OwnsExpr, OwnsLogicRef, OwnsDef, OwnsComment, OwnsInline, OwnsMacroStatement, OwnsInstantiation};
 ghost use Rattle.vast_core.specs.declared.node.Member.TheVariants.{ContinuousAssignment as AssignmentEntry, BlankLine as BlankEntry, Comment as CommentEntry, Inline as InlineEntry, Macro as MacroEntry, Instantiation as InstanceEntry, Conditional as ConditionalEntry, Loop as LoopEntry};
 ghost use Rattle.vast_core.specs.Nests.{label_bytes};
-ghost use Rattle.vast_core.specs.Growth.{Builds, Leaves, with_member, with_assignment, next_continuous};
+ghost use Rattle.vast_core.specs.Growth.{next_node, Builds, Leaves, with_member, with_assignment, next_continuous};
 ghost use Rattle.vast_core.specs.Artifacts.{next_statement};
 ghost use Rattle.vast_core.specs.Containers.{next_conditional, with_conditional};
-ghost use Rattle.vast_core.specs.Parameters.{next_localparam_ref};
-ghost use Rattle.vast_core.specs.Loops.{next_loop, with_loop, with_loop_member, with_plain_loop_parameter, with_defined_loop_parameter};
+ghost use Rattle.vast_core.specs.Loops.{next_loop, with_loop, with_loop_member};
 ghost use Rattle.xlsynth_vast.specs.Keeps.{Keeps};
 ghost use Rattle.xlsynth_vast.specs.Inspections.{genvar_at};
 
@@ -106,8 +108,8 @@ impl VastFile {
     ) -> Result<LocalparamRef, AllocError>
         requires generate { OwnsLoop self.old generate }
         requires rhs { OwnsExpr self.old rhs.now }
-        ensures built { Builds self.old self.new result next_localparam_ref
-            (with_plain_loop_parameter generate name.now rhs.now) }
+        ensures built { Builds self.old self.new result (λ b. record { id = next_node b })
+            (with_scope_parameter (ScopeLoop generate) true (PlainForm name.now) rhs.now) }
         ensures kept { Keeps self.old self.new }
     {
         let form = ParameterForm::Plain(Word::new(self.ast.allocator(), name)?);
@@ -127,8 +129,8 @@ impl VastFile {
         requires generate { OwnsLoop self.old generate }
         requires definition { OwnsDef self.old definition.now }
         requires rhs { OwnsExpr self.old rhs.now }
-        ensures built { Builds self.old self.new result next_localparam_ref
-            (with_defined_loop_parameter generate definition.now rhs.now) }
+        ensures built { Builds self.old self.new result (λ b. record { id = next_node b })
+            (with_scope_parameter (ScopeLoop generate) true (DefinedForm definition.now) rhs.now) }
         ensures kept { Keeps self.old self.new }
     {
         let form = ParameterForm::Defined(*definition);

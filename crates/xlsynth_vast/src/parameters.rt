@@ -3,9 +3,12 @@
 //! The names of parameters aren't among those that a module keeps distinct.
 
 ghost use Rattle.std.specs.Prelude.{true, false, None, Some};
+ghost use Rattle.vast_core.specs.declared.ast.scope.Scope.TheVariants.{Module as ScopeModule};
+ghost use Rattle.vast_core.specs.declared.node.ParameterForm.TheVariants.{Plain as PlainForm, Int as IntForm, Defined as DefinedForm};
+ghost use Rattle.vast_core.specs.Scopes.{with_scope_parameter};
 ghost use Rattle.vast_core.specs.Bench.{OwnsModule, OwnsExpr, OwnsType, OwnsDef};
-ghost use Rattle.vast_core.specs.Growth.{Builds, next_logic_ref};
-ghost use Rattle.vast_core.specs.Parameters.{next_parameter_ref, next_localparam_ref, with_parameter_port, with_plain_parameter, with_int_parameter, with_defined_parameter};
+ghost use Rattle.vast_core.specs.Growth.{next_node, Builds, next_logic_ref};
+ghost use Rattle.vast_core.specs.Parameters.{with_parameter_port};
 ghost use Rattle.xlsynth_vast.specs.Keeps.{Keeps};
 
 use crate::file::VastFile;
@@ -70,8 +73,8 @@ impl VastFile {
     ) -> Result<ParameterRef, AllocError>
         requires owner { OwnsModule self.old owner }
         requires rhs { OwnsExpr self.old rhs.now }
-        ensures built { Builds self.old self.new result next_parameter_ref
-            (with_plain_parameter owner false name.now rhs.now) }
+        ensures built { Builds self.old self.new result (λ b. record { id = next_node b })
+            (with_scope_parameter (ScopeModule owner) false (PlainForm name.now) rhs.now) }
         ensures kept { Keeps self.old self.new }
     {
         let form = ParameterForm::Plain(Word::new(self.ast.allocator(), name)?);
@@ -91,8 +94,8 @@ impl VastFile {
         requires owner { OwnsModule self.old owner }
         requires definition { OwnsDef self.old definition.now }
         requires rhs { OwnsExpr self.old rhs.now }
-        ensures built { Builds self.old self.new result next_parameter_ref
-            (with_defined_parameter owner false definition.now rhs.now) }
+        ensures built { Builds self.old self.new result (λ b. record { id = next_node b })
+            (with_scope_parameter (ScopeModule owner) false (DefinedForm definition.now) rhs.now) }
         ensures kept { Keeps self.old self.new }
     {
         let defined = ParameterForm::Defined(*definition);
@@ -111,8 +114,8 @@ impl VastFile {
     ) -> Result<LocalparamRef, AllocError>
         requires owner { OwnsModule self.old owner }
         requires rhs { OwnsExpr self.old rhs.now }
-        ensures built { Builds self.old self.new result next_localparam_ref
-            (with_plain_parameter owner true name.now rhs.now) }
+        ensures built { Builds self.old self.new result (λ b. record { id = next_node b })
+            (with_scope_parameter (ScopeModule owner) true (PlainForm name.now) rhs.now) }
         ensures kept { Keeps self.old self.new }
     {
         let form = ParameterForm::Plain(Word::new(self.ast.allocator(), name)?);
@@ -131,8 +134,8 @@ impl VastFile {
     ) -> Result<LocalparamRef, AllocError>
         requires owner { OwnsModule self.old owner }
         requires rhs { OwnsExpr self.old rhs.now }
-        ensures built { Builds self.old self.new result next_localparam_ref
-            (with_int_parameter owner true name.now rhs.now) }
+        ensures built { Builds self.old self.new result (λ b. record { id = next_node b })
+            (with_scope_parameter (ScopeModule owner) true (IntForm name.now) rhs.now) }
         ensures kept { Keeps self.old self.new }
     {
         let int_form = ParameterForm::Int(Word::new(self.ast.allocator(), name)?);
@@ -153,8 +156,8 @@ impl VastFile {
         requires owner { OwnsModule self.old owner }
         requires definition { OwnsDef self.old definition.now }
         requires rhs { OwnsExpr self.old rhs.now }
-        ensures built { Builds self.old self.new result next_localparam_ref
-            (with_defined_parameter owner true definition.now rhs.now) }
+        ensures built { Builds self.old self.new result (λ b. record { id = next_node b })
+            (with_scope_parameter (ScopeModule owner) true (DefinedForm definition.now) rhs.now) }
         ensures kept { Keeps self.old self.new }
     {
         let defined = ParameterForm::Defined(*definition);

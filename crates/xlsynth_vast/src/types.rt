@@ -1,15 +1,14 @@
 //! Types.
 
 ghost use Rattle.std.specs.Prelude.{◌≡◌, ◌≤ℤ◌, ◌↔◌, pos, false, IsTrue, IfSome};
-ghost use Rattle.vast_literal.specs.Tree.{ScalarTree, IntegerTree, IntTree, ExternalTree, PackageTree};
-ghost use Rattle.vast_core.specs.Types.{IsUsableWidth, is_packable, is_castable, is_signed, width_of, AreDimensions};
+ghost use Rattle.vast_literal.specs.Tree.{ScalarTree, IntegerTree, IntTree, ExternalTree, PackageTree, VectorTree, PackedTree, UnpackedTree};
+ghost use Rattle.vast_core.specs.Types.{IsUsableWidth, is_packable, is_castable, is_signed, width_of, AreDimensions, literal_value};
 ghost use Rattle.vast_core.specs.Bench.{OwnsExpr, OwnsType, tree_of, maybe_tree_of, type_of};
 ghost use Rattle.vast_core.specs.Growth.{Builds, next_type, with_type};
 ghost use Rattle.xlsynth_vast.specs.Keeps.{Keeps};
 ghost use Rattle.xlsynth_vast.specs.Conditions.{is_usable_width};
 ghost use Rattle.xlsynth_vast.specs.Equations.{next_bit_vector, with_bit_vector};
 ghost use Rattle.xlsynth_vast.specs.Refusals.{AnswersBy};
-ghost use Rattle.xlsynth_vast.specs.Types.{with_vector_expr, with_packed, with_unpacked};
 ghost use Rattle.xlsynth_vast.specs.Widths.{declared_width, flat_bits};
 
 use crate::file::VastFile;
@@ -63,7 +62,8 @@ impl VastFile {
         requires width { OwnsExpr self.old width.now }
         requires usable { IsUsableWidth (tree_of self.old width.now) }
         ensures built { Builds self.old self.new result next_type
-            (with_vector_expr width.now signed) }
+            (λ b. with_type (VectorTree (tree_of b width.now) (literal_value (tree_of b width.now))
+            signed) b) }
         ensures kept { Keeps self.old self.new }
     {
         let value = self.ast.expr(*width).literal_value();
@@ -139,7 +139,7 @@ impl VastFile {
         requires packable { IsTrue (is_packable (type_of self.old element)) }
         requires dimensions { AreDimensions dimensions.now }
         ensures built { Builds self.old self.new result next_type
-            (with_packed element dimensions.now) }
+            (λ b. with_type (PackedTree (type_of b element) dimensions.now) b) }
         ensures kept { Keeps self.old self.new }
     {
         let dimensions = Vec::from_slice(self.ast.allocator(), dimensions)?;
@@ -158,7 +158,7 @@ impl VastFile {
         requires element { OwnsType self.old element }
         requires dimensions { AreDimensions dimensions.now }
         ensures built { Builds self.old self.new result next_type
-            (with_unpacked element dimensions.now) }
+            (λ b. with_type (UnpackedTree (type_of b element) dimensions.now) b) }
         ensures kept { Keeps self.old self.new }
     {
         let dimensions = Vec::from_slice(self.ast.allocator(), dimensions)?;

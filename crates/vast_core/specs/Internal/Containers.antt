@@ -8,7 +8,7 @@ use Rattle.vast_core.specs.declared.node.Assignment.{Assignment}
 use Rattle.vast_core.specs.declared.node.ExprNode.{ExprNode}
 use Rattle.vast_core.specs.Nodes.{built}
 use Rattle.vast_core.specs.Internal.Nodes.{TermsSound}
-use Rattle.vast_core.specs.Records.{Port, ParameterPort, ModuleRecord, Member, FileItem, Definition, Artifact, InstanceRecord, with_port, with_parameter_port, with_member, with_named_member, changed_at}
+use Rattle.vast_core.specs.Records.{Port, ParameterPort, ModuleRecord, Member, FileItem, Definition, Artifact, InstanceRecord, with_listed_port, with_listed_parameter, with_listed_member, with_listed_name, changed_at}
 use Rattle.vast_core.specs.Nests.{NestRecord, BlockRecord, FunctionVariable, FunctionRecord, AlwaysRecord}
 use Rattle.vast_core.specs.Raw.{Raw}
 use Rattle.vast_core.specs.Bench.{Bench, OwnsModule, OwnsPort, OwnsFunction, OwnsBlock, NameIsFree, IsFreeInFunction}
@@ -32,12 +32,12 @@ pub data Listing : Type 0 where
   AsSpare : VastStatementBlock → Listing
 
 abbrev pub with_listed : Member → Option (List ℕ) → ModuleRecord → ModuleRecord
-with_listed entry None m = with_member entry m
-with_listed entry (Some name) m = with_named_member entry name m
+with_listed entry None m = with_listed_member entry m
+with_listed entry (Some name) m = with_listed_name entry name m
 
 abbrev pub listed_modules : Listing → List ModuleRecord → List ModuleRecord
-listed_modules (InHeader owner p) modules = changed_at owner.id.index (with_parameter_port p) modules
-listed_modules (InPorts owner port name) modules = changed_at owner.id.index (with_port port name) modules
+listed_modules (InHeader owner p) modules = changed_at owner.id.index (with_listed_parameter p) modules
+listed_modules (InPorts owner port name) modules = changed_at owner.id.index (with_listed_port port name) modules
 listed_modules (InModule owner entry name) modules = changed_at owner.id.index (with_listed entry name) modules
 listed_modules _ modules = modules
 

@@ -6,7 +6,7 @@ use Rattle.vast_core.specs.declared.node.ExprNode.{ExprNode}
 use Rattle.vast_core.specs.declared.node.ExprNode.TheVariants.{DataType}
 use Rattle.vast_core.specs.Handles.{rank, type_rank}
 use Rattle.vast_core.specs.Types.{ExprFits, TypeFits, ExprWellFormed, TypeWellFormed}
-use Rattle.vast_core.specs.Nodes.{Root, ExprRoot, TypeRoot, Nodes, with_root, is_expr_root, is_type_root, IsOwned, term_root, ExprChildrenHold, TypeChildrenHold}
+use Rattle.vast_core.specs.Nodes.{Root, ExprRoot, TypeRoot, Nodes, with_node, is_expr_root, is_type_root, IsOwned, term_root, ExprChildrenHold, TypeChildrenHold}
 
 abbrev pub HasExpr : Nodes → Expr → Type 0
 HasExpr b e = IsOwned b.id e.id (is_expr_root (slice_get b.roots e.id.index))
@@ -30,7 +30,7 @@ RootWellFormed (TypeRoot t) = TypeWellFormed t
 -- Each term fits, and its children are older nodes of the file.
 abbrev pub TermsSound : Nodes → List ExprNode → Type 0
 TermsSound b [] = Unit {0}
-TermsSound b (t ∷ ts) = ChildrenHold (HasExpr b) (HasType b) t × RootFits (term_root b t) × TermsSound (with_root b (term_root b t)) ts
+TermsSound b (t ∷ ts) = ChildrenHold (HasExpr b) (HasType b) t × RootFits (term_root b t) × TermsSound (with_node b (term_root b t)) ts
 
 -- The term is node i, is well formed, and its children are older nodes of the file.
 pub record IsNodeAt (b : Nodes) (i : ℕ) (t : ExprNode) : Type 0 where

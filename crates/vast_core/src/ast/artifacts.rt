@@ -6,7 +6,7 @@ ghost use Rattle.vast_core.specs.Bench.{OwnsType, OwnsMacroRef, OwnsDef, OwnsCom
 ghost use Rattle.vast_core.specs.WrittenKinds.{HasValue};
 ghost use Rattle.vast_core.specs.Sound.{ArtifactSound, ConnectionSound};
 ghost use Rattle.vast_core.specs.Growth.{Grows};
-ghost use Rattle.vast_core.specs.Artifacts.{next_def, with_definition, next_artifact, next_blank_line, next_comment, next_inline, next_macro_statement, with_artifact, next_instantiation, with_instance};
+ghost use Rattle.vast_core.specs.Artifacts.{next_def, with_definition, next_artifact, with_artifact, next_instantiation, with_instance};
 ghost use Rattle.vast_core.specs.View.{bench};
 
 use crate::ast::Ast;
@@ -77,7 +77,8 @@ impl Ast {
     /// # Errors
     /// `AllocError` where a growth was refused; nothing changed.
     pub fn push_blank_line(&mut self) -> Result<BlankLine, AllocError>
-        ensures { Grows self.old self.new result next_blank_line (with_artifact BlankArtifact) }
+        ensures { Grows self.old self.new result (λ b. record { id = next_artifact b })
+            (with_artifact BlankArtifact) }
     {
         let id = self.push_artifact(Artifact::BlankLine)?;
         Ok(BlankLine { id })
@@ -88,7 +89,7 @@ impl Ast {
     /// # Errors
     /// `AllocError` where a growth was refused; nothing changed.
     pub fn push_comment(&mut self, text: &str) -> Result<Comment, AllocError>
-        ensures { Grows self.old self.new result next_comment
+        ensures { Grows self.old self.new result (λ b. record { id = next_artifact b })
             (with_artifact (CommentArtifact text.now)) }
     {
         let text = Text::new(self.alloc, text)?;
@@ -101,7 +102,7 @@ impl Ast {
     /// # Errors
     /// `AllocError` where a growth was refused; nothing changed.
     pub fn push_inline(&mut self, text: &str) -> Result<InlineVerilogStatement, AllocError>
-        ensures { Grows self.old self.new result next_inline
+        ensures { Grows self.old self.new result (λ b. record { id = next_artifact b })
             (with_artifact (InlineArtifact text.now)) }
     {
         let text = Text::new(self.alloc, text)?;
@@ -119,7 +120,7 @@ impl Ast {
         semicolon: bool,
     ) -> Result<MacroStatement, AllocError>
         requires { OwnsMacroRef (bench self.old) call }
-        ensures { Grows self.old self.new result next_macro_statement
+        ensures { Grows self.old self.new result (λ b. record { id = next_artifact b })
             (with_artifact (MacroArtifact call semicolon)) }
     {
         let id = self.push_artifact(Artifact::MacroStatement(call, semicolon))?;

@@ -4,7 +4,7 @@ ghost use Rattle.std.specs.Prelude.{◌≡◌, IsTrue, All, IfSome, string_bytes
 ghost use Rattle.vast_core.specs.Nodes.{ExprChildrenHold, expr_tree, maybe_exprs_in};
 ghost use Rattle.vast_core.specs.Types.{ExprFits};
 ghost use Rattle.vast_core.specs.Bench.{OwnsExpr, OwnsIndexable, OwnsType, tree_of};
-ghost use Rattle.vast_core.specs.Growth.{Grows, with_expr, with_fixed_index, with_fixed_slice, with_fixed_replication, next_expr, next_index, next_fixed_index, next_slice, next_fixed_slice, next_fixed_replication, next_macro_ref};
+ghost use Rattle.vast_core.specs.Growth.{Grows, with_expr, with_fixed_index, with_fixed_slice, with_fixed_replication, next_expr, next_node, next_fixed_index, next_fixed_slice, next_fixed_replication};
 ghost use Rattle.vast_core.specs.View.{bench};
 ghost use Rattle.vast_literal.specs.LiteralToken.{is_literal_text};
 ghost use Rattle.vast_literal.specs.Tree.{IndexTree, SliceTree, MacroTree};
@@ -52,7 +52,7 @@ impl Ast {
     pub fn push_index(&mut self, subject: IndexableExpr, index: Expr) -> Result<Index, AllocError>
         requires subject { OwnsIndexable (bench self.old) subject }
         requires index { OwnsExpr (bench self.old) index }
-        ensures { Grows self.old self.new result next_index
+        ensures { Grows self.old self.new result (λ b. record { id = next_node b })
             (λ b. with_expr
             (IndexTree (tree_of b (record { id = subject.id })) (tree_of b index)) b) }
     {
@@ -103,7 +103,7 @@ impl Ast {
         requires subject { OwnsIndexable (bench self.old) subject }
         requires high { OwnsExpr (bench self.old) high }
         requires low { OwnsExpr (bench self.old) low }
-        ensures { Grows self.old self.new result next_slice
+        ensures { Grows self.old self.new result (λ b. record { id = next_node b })
             (λ b. with_expr
             (SliceTree (tree_of b (record { id = subject.id })) (tree_of b high)
             (tree_of b low)) b) }
@@ -187,7 +187,7 @@ impl Ast {
         arguments: Option<Vec<Expr>>,
     ) -> Result<MacroRef, AllocError>
         requires { IfSome arguments (λ parts. All (OwnsExpr (bench self.old)) parts.items) }
-        ensures { Grows self.old self.new result next_macro_ref
+        ensures { Grows self.old self.new result (λ b. record { id = next_node b })
             (λ b. with_expr (MacroTree (string_bytes name) (maybe_exprs_in b.nodes arguments)) b) }
     {
         let node = match arguments {

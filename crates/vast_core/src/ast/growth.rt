@@ -1,7 +1,7 @@
 //! The one growth of the arenas: nodes that come, and the entry of a list that names them.
 
 ghost use Rattle.std.specs.Prelude.{◌≡◌, ◌-◌, ◌<◌, OnOk, OnErr, length, map, vec_capacity, vec_len};
-ghost use Rattle.vast_core.specs.Records.{module_record, changed_at, with_port, with_parameter_port, with_member, with_named_member};
+ghost use Rattle.vast_core.specs.Records.{module_record, changed_at, with_listed_port, with_listed_parameter, with_listed_member, with_listed_name};
 ghost use Rattle.vast_core.specs.Nests.{nest_record, function_record};
 ghost use Rattle.vast_core.specs.Functions.{with_listed_variable};
 ghost use Rattle.vast_core.specs.Containers.{StatementEnters, ElseIfEnters, ElseEnters, CaseArmEnters, MemberEnters, with_entry};
@@ -128,7 +128,7 @@ impl Module {
     fn enter_header(&mut self, parameter: ParameterPort) -> Result<(), AllocError>
         ensures ok { OnOk result
             (module_record self.new
-            ≡ with_parameter_port parameter (module_record self.old)) }
+            ≡ with_listed_parameter parameter (module_record self.old)) }
         ensures err { OnErr result (module_record self.new ≡ module_record self.old) }
     {
         self.parameters.push(parameter)?;
@@ -138,7 +138,7 @@ impl Module {
     /// Lists the port and takes its name, or changes nothing.
     fn enter_port(&mut self, port: ModulePort, name: &str) -> Result<(), AllocError>
         ensures ok { OnOk result
-            (module_record self.new ≡ with_port port name.now (module_record self.old)) }
+            (module_record self.new ≡ with_listed_port port name.now (module_record self.old)) }
         ensures err { OnErr result (module_record self.new ≡ module_record self.old) }
     {
         self.ports.reserve(1)?;
@@ -149,7 +149,7 @@ impl Module {
 
     fn push_member(&mut self, member: Member) -> Result<(), AllocError>
         ensures ok { OnOk result
-            (module_record self.new ≡ with_member member (module_record self.old)) }
+            (module_record self.new ≡ with_listed_member member (module_record self.old)) }
         ensures err { OnErr result (module_record self.new ≡ module_record self.old) }
     {
         self.members.push(member)?;
@@ -160,7 +160,7 @@ impl Module {
     fn enter_member(&mut self, member: Member, name: &str) -> Result<(), AllocError>
         ensures ok { OnOk result
             (module_record self.new
-            ≡ with_named_member member name.now (module_record self.old)) }
+            ≡ with_listed_name member name.now (module_record self.old)) }
         ensures err { OnErr result (module_record self.new ≡ module_record self.old) }
     {
         self.members.reserve(1)?;
@@ -204,7 +204,7 @@ fn enter_header(
     requires { owner.id.index < length modules.old.items }
     ensures ok { OnOk result
         (map module_record modules.new.items
-        ≡ changed_at owner.id.index (with_parameter_port parameter)
+        ≡ changed_at owner.id.index (with_listed_parameter parameter)
         (map module_record modules.old.items)) }
     ensures err { OnErr result
         (map module_record modules.new.items ≡ map module_record modules.old.items) }
@@ -224,7 +224,7 @@ fn enter_port(
     requires { owner.id.index < length modules.old.items }
     ensures ok { OnOk result
         (map module_record modules.new.items
-        ≡ changed_at owner.id.index (with_port port name.now)
+        ≡ changed_at owner.id.index (with_listed_port port name.now)
         (map module_record modules.old.items)) }
     ensures err { OnErr result
         (map module_record modules.new.items ≡ map module_record modules.old.items) }

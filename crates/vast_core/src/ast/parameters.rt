@@ -4,8 +4,8 @@ ghost use Rattle.std.specs.Prelude.{IfOk, false, true, IfSome};
 ghost use Rattle.vast_core.specs.declared.ast.scope.Scope.TheVariants.{Module as ScopeModule};
 ghost use Rattle.vast_core.specs.Bench.{OwnsModule, OwnsExpr, OwnsType};
 ghost use Rattle.vast_core.specs.Sound.{FormSound};
-ghost use Rattle.vast_core.specs.Growth.{Grows, next_expr, next_logic_ref};
-ghost use Rattle.vast_core.specs.Parameters.{with_parameter_port, next_parameter_ref, next_localparam_ref};
+ghost use Rattle.vast_core.specs.Growth.{next_node, Grows, next_expr, next_logic_ref};
+ghost use Rattle.vast_core.specs.Parameters.{with_parameter_port};
 ghost use Rattle.vast_core.specs.Internal.Parameters.{IsDeclaredBy};
 ghost use Rattle.vast_core.specs.Scopes.{OwnsScope, with_scope_parameter};
 ghost use Rattle.vast_core.specs.View.{bench};
@@ -120,7 +120,7 @@ impl Ast {
         requires owner { OwnsModule (bench self.old) owner }
         requires form { FormSound (bench self.old) form }
         requires value { OwnsExpr (bench self.old) value }
-        ensures { Grows self.old self.new result next_parameter_ref
+        ensures { Grows self.old self.new result (λ b. record { id = next_node b })
             (with_scope_parameter (ScopeModule owner) false form value) }
     {
         let expr = self.push_parameter_member(Scope::Module(owner), false, form, value)?;
@@ -141,7 +141,7 @@ impl Ast {
         requires scope { OwnsScope (bench self.old) scope }
         requires form { FormSound (bench self.old) form }
         requires value { OwnsExpr (bench self.old) value }
-        ensures { Grows self.old self.new result next_localparam_ref
+        ensures { Grows self.old self.new result (λ b. record { id = next_node b })
             (with_scope_parameter scope true form value) }
     {
         let expr = self.push_parameter_member(scope, true, form, value)?;

@@ -3,7 +3,8 @@
 ghost use Rattle.std.specs.Prelude.{◌≡◌, ◌<◌, ◌^◌, ◌↔◌, IsTrue, IfNone, IfSome, None, Some, length, nat_lt, slice_get};
 ghost use Rattle.std.specs.Option.{option_copied};
 ghost use Rattle.vast_core.specs.Nodes.{is_expr_root, is_type_root, is_name, is_index, is_slice, is_macro};
-ghost use Rattle.vast_core.specs.Bench.{has_root, is_continuous, is_blank_line, is_comment, is_inline, is_macro_statement, is_block, is_conditional, is_case, is_loop};
+ghost use Rattle.vast_core.specs.Bench.{has_root, is_continuous, is_blank_line, is_comment, is_inline, is_macro_statement};
+ghost use Rattle.vast_core.specs.Nests.{nest_kind, is_kind, BlockKind, ConditionalKind, CaseStatementKind, LoopKind};
 ghost use Rattle.vast_core.specs.Nests.{nest_record};
 ghost use Rattle.vast_core.specs.Sound.{ArtifactSound, NestSound};
 ghost use Rattle.vast_core.specs.FileTree.{family, families};
@@ -203,7 +204,8 @@ impl Ast {
     }
 
     pub(crate) fn is_block_at(&self, index: usize) -> bool
-        ensures { result ≡ is_block (slice_get (bench self.now).nests index) }
+        ensures { result
+            ≡ is_kind BlockKind (nest_kind (slice_get (bench self.now).nests index)) }
     {
         match self.nest_at(index) {
             Some(Nest::Block(_)) => true,
@@ -212,7 +214,8 @@ impl Ast {
     }
 
     pub(crate) fn is_conditional_at(&self, index: usize) -> bool
-        ensures { result ≡ is_conditional (slice_get (bench self.now).nests index) }
+        ensures { result
+            ≡ is_kind ConditionalKind (nest_kind (slice_get (bench self.now).nests index)) }
     {
         match self.nest_at(index) {
             Some(Nest::Block(_)) => false,
@@ -222,7 +225,8 @@ impl Ast {
     }
 
     pub(crate) fn is_case_at(&self, index: usize) -> bool
-        ensures { result ≡ is_case (slice_get (bench self.now).nests index) }
+        ensures { result
+            ≡ is_kind CaseStatementKind (nest_kind (slice_get (bench self.now).nests index)) }
     {
         match self.nest_at(index) {
             Some(Nest::Block(_)) => false,
@@ -234,7 +238,8 @@ impl Ast {
     }
 
     pub(crate) fn is_loop_at(&self, index: usize) -> bool
-        ensures { result ≡ is_loop (slice_get (bench self.now).nests index) }
+        ensures { result
+            ≡ is_kind LoopKind (nest_kind (slice_get (bench self.now).nests index)) }
     {
         match self.nest_at(index) {
             Some(Nest::Block(_)) => false,

@@ -1,11 +1,11 @@
 //! Casts.
 
 ghost use Rattle.std.specs.Prelude.{IsTrue};
+ghost use Rattle.vast_literal.specs.Tree.{TypeCastTree, WidthCastTree};
 ghost use Rattle.vast_core.specs.Types.{is_castable};
-ghost use Rattle.vast_core.specs.Bench.{OwnsExpr, OwnsType, type_of};
-ghost use Rattle.vast_core.specs.Growth.{Builds, next_expr};
+ghost use Rattle.vast_core.specs.Bench.{OwnsExpr, OwnsType, type_of, tree_of};
+ghost use Rattle.vast_core.specs.Growth.{Builds, next_expr, with_expr};
 ghost use Rattle.xlsynth_vast.specs.Keeps.{Keeps};
-ghost use Rattle.xlsynth_vast.specs.Expressions.{with_width_cast, with_type_cast};
 
 use crate::file::VastFile;
 use std::alloc::AllocError;
@@ -20,7 +20,7 @@ impl VastFile {
         requires width { OwnsExpr self.old width.now }
         requires value { OwnsExpr self.old value.now }
         ensures built { Builds self.old self.new result next_expr
-            (with_width_cast width.now value.now) }
+            (λ b. with_expr (WidthCastTree (tree_of b width.now) (tree_of b value.now)) b) }
         ensures kept { Keeps self.old self.new }
     {
         self.push_expr(ExprNode::WidthCast(*width, *value))
@@ -39,7 +39,7 @@ impl VastFile {
         requires castable { IsTrue (is_castable (type_of self.old data_type.now)) }
         requires value { OwnsExpr self.old value.now }
         ensures built { Builds self.old self.new result next_expr
-            (with_type_cast data_type.now value.now) }
+            (λ b. with_expr (TypeCastTree (type_of b data_type.now) (tree_of b value.now)) b) }
         ensures kept { Keeps self.old self.new }
     {
         self.push_expr(ExprNode::TypeCast(*data_type, *value))

@@ -1,10 +1,11 @@
 //! Comparisons, logical operators and the choice between two expressions.
 
 ghost use Rattle.vast_literal.specs.declared.operator.BinaryOperator.TheVariants.{Ne as NeOp, CaseNe as CaseNeOp, Eq as EqOp, CaseEq as CaseEqOp, Ge as GeOp, Gt as GtOp, Le as LeOp, Lt as LtOp, LogicalAnd as LogicalAndOp, LogicalOr as LogicalOrOp, NeX as NeXOp, EqX as EqXOp};
-ghost use Rattle.vast_core.specs.Bench.{OwnsExpr};
-ghost use Rattle.vast_core.specs.Growth.{Builds, next_expr};
+ghost use Rattle.vast_literal.specs.Tree.{TernaryTree};
+ghost use Rattle.vast_core.specs.Bench.{OwnsExpr, tree_of};
+ghost use Rattle.vast_core.specs.Growth.{Builds, next_expr, with_expr};
 ghost use Rattle.xlsynth_vast.specs.Keeps.{Keeps};
-ghost use Rattle.xlsynth_vast.specs.Expressions.{with_binary, with_ternary};
+ghost use Rattle.xlsynth_vast.specs.Expressions.{with_binary};
 
 use crate::file::VastFile;
 use std::alloc::AllocError;
@@ -193,7 +194,8 @@ impl VastFile {
         requires consequent { OwnsExpr self.old consequent.now }
         requires alternate { OwnsExpr self.old alternate.now }
         ensures built { Builds self.old self.new result next_expr
-            (with_ternary condition.now consequent.now alternate.now) }
+            (λ b. with_expr (TernaryTree (tree_of b condition.now) (tree_of b consequent.now)
+            (tree_of b alternate.now)) b) }
         ensures kept { Keeps self.old self.new }
     {
         self.push_expr(ExprNode::Ternary(*condition, *consequent, *alternate))

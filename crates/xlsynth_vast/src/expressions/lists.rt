@@ -1,10 +1,10 @@
 //! Expressions over lists of others: concatenations, patterns, calls and macros.
 
 ghost use Rattle.std.specs.Prelude.{◌≡◌, ◌≢◌, IfOk, All, [], map};
-ghost use Rattle.vast_core.specs.Bench.{OwnsExpr};
-ghost use Rattle.vast_core.specs.Growth.{Builds, next_expr, next_macro_ref, next_fixed_replication, with_fixed_replication};
+ghost use Rattle.vast_literal.specs.Tree.{CallTree, ConcatTree, MacroTree, NoArguments, NoExpr, PatternTree, SomeArguments, SomeExpr};
+ghost use Rattle.vast_core.specs.Bench.{OwnsExpr, tree_of, trees_of};
+ghost use Rattle.vast_core.specs.Growth.{Builds, next_expr, next_node, next_fixed_replication, with_fixed_replication, with_expr};
 ghost use Rattle.xlsynth_vast.specs.Keeps.{Keeps};
-ghost use Rattle.xlsynth_vast.specs.Expressions.{with_concat, with_replication, with_pattern, with_call, with_macro, with_macro_call};
 
 use crate::file::VastFile;
 use std::alloc::AllocError;
@@ -27,7 +27,8 @@ impl VastFile {
     pub fn make_concat(&mut self, expressions: &[&Expr]) -> Result<Expr, AllocError>
         requires { All (λ e. OwnsExpr self.old e.now) expressions.now }
         ensures built { Builds self.old self.new result next_expr
-            (with_concat (map (λ e. e.now) expressions.now)) }
+            (λ b. with_expr (ConcatTree NoExpr
+            (trees_of b (map (λ e. e.now) expressions.now))) b) }
         ensures kept { Keeps self.old self.new }
     {
         let parts = self.handles(expressions)?;
@@ -46,7 +47,8 @@ impl VastFile {
         requires replication { OwnsExpr self.old replication.now }
         requires elements { All (λ e. OwnsExpr self.old e.now) elements.now }
         ensures built { Builds self.old self.new result next_expr
-            (with_replication replication.now (map (λ e. e.now) elements.now)) }
+            (λ b. with_expr (ConcatTree (SomeExpr (tree_of b replication.now))
+            (trees_of b (map (λ e. e.now) elements.now))) b) }
         ensures kept { Keeps self.old self.new }
     {
         let parts = self.handles(elements)?;
@@ -78,7 +80,7 @@ impl VastFile {
     pub fn make_array_assignment_pattern(&mut self, elements: &[&Expr]) -> Result<Expr, AllocError>
         requires { All (λ e. OwnsExpr self.old e.now) elements.now }
         ensures built { Builds self.old self.new result next_expr
-            (with_pattern (map (λ e. e.now) elements.now)) }
+            (λ b. with_expr (PatternTree (trees_of b (map (λ e. e.now) elements.now))) b) }
         ensures kept { Keeps self.old self.new }
     {
         let parts = self.handles(elements)?;
@@ -97,7 +99,7 @@ impl VastFile {
         requires name { name.now ≢ [] }
         requires arguments { All (λ e. OwnsExpr self.old e.now) arguments.now }
         ensures built { Builds self.old self.new result next_expr
-            (with_call name.now (map (λ e. e.now) arguments.now)) }
+            (λ b. with_expr (CallTree name.now (trees_of b (map (λ e. e.now) arguments.now))) b) }
         ensures kept { Keeps self.old self.new }
     {
         let parts = self.handles(arguments)?;
@@ -110,7 +112,8 @@ impl VastFile {
     /// # Errors
     /// `AllocError` where a growth was refused; the file is unchanged.
     pub fn make_macro_ref(&mut self, name: &str) -> Result<MacroRef, AllocError>
-        ensures built { Builds self.old self.new result next_macro_ref (with_macro name.now) }
+        ensures built { Builds self.old self.new result (λ b. record { id = next_node b })
+            (λ b. with_expr (MacroTree name.now NoArguments) b) }
         ensures kept { Keeps self.old self.new }
     {
         let name = String::from_str(self.ast.allocator(), name)?;
@@ -127,8 +130,9 @@ impl VastFile {
         arguments: &[&Expr],
     ) -> Result<MacroRef, AllocError>
         requires { All (λ e. OwnsExpr self.old e.now) arguments.now }
-        ensures built { Builds self.old self.new result next_macro_ref
-            (with_macro_call name.now (map (λ e. e.now) arguments.now)) }
+        ensures built { Builds self.old self.new result (λ b. record { id = next_node b })
+            (λ b. with_expr (MacroTree name.now
+            (SomeArguments (trees_of b (map (λ e. e.now) arguments.now)))) b) }
         ensures kept { Keeps self.old self.new }
     {
         let parts = self.handles(arguments)?;

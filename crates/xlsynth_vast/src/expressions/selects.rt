@@ -3,10 +3,10 @@
 ghost use Rattle.std.specs.Prelude.{◌≡◌, ◌≤ℤ◌, pos, IfOk, IsTrue, string_bytes};
 ghost use Rattle.vast_literal.specs.LiteralText.{format_text};
 ghost use Rattle.vast_literal.specs.LiteralToken.{is_literal_text};
-ghost use Rattle.vast_core.specs.Bench.{OwnsExpr, OwnsIndexable};
-ghost use Rattle.vast_core.specs.Growth.{Builds, next_expr, next_index, next_fixed_index, with_fixed_index, next_slice, next_fixed_slice, with_fixed_slice};
+ghost use Rattle.vast_literal.specs.Tree.{IndexTree, PartSelectTree, SliceTree};
+ghost use Rattle.vast_core.specs.Bench.{OwnsExpr, OwnsIndexable, tree_of};
+ghost use Rattle.vast_core.specs.Growth.{Builds, next_expr, next_node, next_fixed_index, with_fixed_index, next_fixed_slice, with_fixed_slice, with_expr};
 ghost use Rattle.xlsynth_vast.specs.Keeps.{Keeps};
-ghost use Rattle.xlsynth_vast.specs.Expressions.{with_index, with_slice, with_part_select};
 ghost use Rattle.xlsynth_vast.specs.Literals.{selector_text};
 
 use crate::file::VastFile;
@@ -79,8 +79,9 @@ impl VastFile {
         requires subject { OwnsIndexable self.old subject.now }
         requires hi { OwnsExpr self.old hi.now }
         requires lo { OwnsExpr self.old lo.now }
-        ensures built { Builds self.old self.new result next_slice
-            (with_slice subject.now hi.now lo.now) }
+        ensures built { Builds self.old self.new result (λ b. record { id = next_node b })
+            (λ b. with_expr (SliceTree (tree_of b (record { id = subject.now.id }))
+            (tree_of b hi.now) (tree_of b lo.now)) b) }
         ensures kept { Keeps self.old self.new }
     {
         self.ast.push_slice(*subject, *hi, *lo)
@@ -97,8 +98,9 @@ impl VastFile {
     ) -> Result<Index, AllocError>
         requires subject { OwnsIndexable self.old subject.now }
         requires index { OwnsExpr self.old index.now }
-        ensures built { Builds self.old self.new result next_index
-            (with_index subject.now index.now) }
+        ensures built { Builds self.old self.new result (λ b. record { id = next_node b })
+            (λ b. with_expr (IndexTree (tree_of b (record { id = subject.now.id }))
+            (tree_of b index.now)) b) }
         ensures kept { Keeps self.old self.new }
     {
         self.ast.push_index(*subject, *index)
@@ -118,7 +120,8 @@ impl VastFile {
         requires start { OwnsExpr self.old start.now }
         requires width { pos 1 ≤ℤ width }
         ensures built { Builds self.old self.new result next_expr
-            (with_part_select subject.now start.now width) }
+            (λ b. with_expr (PartSelectTree (tree_of b (record { id = subject.now.id }))
+            (tree_of b start.now) width) b) }
         ensures kept { Keeps self.old self.new }
     {
         self.push_expr(ExprNode::PartSelect(subject.to_expr(), *start, width))

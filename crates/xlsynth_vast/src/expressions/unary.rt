@@ -1,10 +1,11 @@
 //! Operators and edges before one operand.
 
 ghost use Rattle.vast_literal.specs.declared.operator.UnaryOperator.TheVariants.{Negate as NegateOp, BitwiseNot as BitwiseNotOp, LogicalNot as LogicalNotOp, AndReduce as AndReduceOp, OrReduce as OrReduceOp, XorReduce as XorReduceOp};
-ghost use Rattle.vast_core.specs.Bench.{OwnsExpr};
-ghost use Rattle.vast_core.specs.Growth.{Builds, next_expr};
+ghost use Rattle.vast_literal.specs.Tree.{NegEdgeTree, PosEdgeTree};
+ghost use Rattle.vast_core.specs.Bench.{OwnsExpr, tree_of};
+ghost use Rattle.vast_core.specs.Growth.{Builds, next_expr, with_expr};
 ghost use Rattle.xlsynth_vast.specs.Keeps.{Keeps};
-ghost use Rattle.xlsynth_vast.specs.Expressions.{with_unary, with_pos_edge, with_neg_edge};
+ghost use Rattle.xlsynth_vast.specs.Expressions.{with_unary};
 
 use crate::file::VastFile;
 use std::alloc::AllocError;
@@ -108,7 +109,8 @@ impl VastFile {
     /// `AllocError` where a growth was refused; the file is unchanged.
     pub fn make_pos_edge(&mut self, expression: &Expr) -> Result<Expr, AllocError>
         requires { OwnsExpr self.old expression.now }
-        ensures built { Builds self.old self.new result next_expr (with_pos_edge expression.now) }
+        ensures built { Builds self.old self.new result next_expr
+            (λ b. with_expr (PosEdgeTree (tree_of b expression.now)) b) }
         ensures kept { Keeps self.old self.new }
     {
         self.push_expr(ExprNode::PosEdge(*expression))
@@ -120,7 +122,8 @@ impl VastFile {
     /// `AllocError` where a growth was refused; the file is unchanged.
     pub fn make_neg_edge(&mut self, expression: &Expr) -> Result<Expr, AllocError>
         requires { OwnsExpr self.old expression.now }
-        ensures built { Builds self.old self.new result next_expr (with_neg_edge expression.now) }
+        ensures built { Builds self.old self.new result next_expr
+            (λ b. with_expr (NegEdgeTree (tree_of b expression.now)) b) }
         ensures kept { Keeps self.old self.new }
     {
         self.push_expr(ExprNode::NegEdge(*expression))
