@@ -8,7 +8,7 @@ use Rattle.vast_print.specs.Layout.{layout}
 use Rattle.vast_script.specs.Script.{left_by}
 use Rattle.vast_script.specs.Headline.{PrintsWhatWasBuilt, ReadsBackWhatWasBuilt}
 
--- the laws of the README, for readers
+-- the laws of the README
 pub prints_what_was_built : PrintsWhatWasBuilt
 prints_what_was_built dialect id steps file answers emitted made printed =
     subst (λ (b : Bench). Emits (layout (tree b)) emitted) (sym (ap left_by made)) printed

@@ -1,5 +1,5 @@
-use Rattle.vast_script.proofs.Headline as headline
+use Rattle.vast_script.proofs.Headline.{prints_what_was_built as what_was_built}
 use Rattle.vast_script.proofs.laws.prints_what_was_built.Goals as goal
 
 pub returns : goal.returns
-returns c = headline.prints_what_was_built
+returns c = what_was_built
