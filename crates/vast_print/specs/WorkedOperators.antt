@@ -43,8 +43,8 @@ written x y = codes "a " ++ (x.sign ++ (codes " b " ++ (y.sign ++ codes " c")))
 abbrev pub meant : (x y : StandardOperator) → ExprTree
 meant x y =
     cond (nat_lt x.row y.row)
-      (BinaryTree x.operator (name (codes "a")) (BinaryTree y.operator (name (codes "b")) (name (codes "c"))))
-      (BinaryTree y.operator (BinaryTree x.operator (name (codes "a")) (name (codes "b"))) (name (codes "c")))
+    (BinaryTree x.operator (name (codes "a")) (BinaryTree y.operator (name (codes "b")) (name (codes "c"))))
+    (BinaryTree y.operator (BinaryTree x.operator (name (codes "a")) (name (codes "b"))) (name (codes "c")))
 
 -- So the tree is printed, and so the text is read, and in no other way.
 pub record IsAsStandard (x y : StandardOperator) : Type 0 where

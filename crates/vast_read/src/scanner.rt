@@ -4,8 +4,7 @@ ghost use Rattle.std.specs.Prelude.{◌≡◌, ◌<◌, length, true};
 ghost use Rattle.vast_literal.specs.Scan.{Gap, is_space};
 ghost use Rattle.vast_read.specs.Lexed.{lex};
 ghost use Rattle.vast_read.specs.Internal.Position.{position_view};
-ghost use Rattle.vast_read.specs.Scanner.{byte_at};
-ghost use Rattle.vast_read.specs.Internal.Scanner.{Fronts, IsGap};
+ghost use Rattle.vast_read.specs.Internal.Scanner.{byte_at, Fronts, IsGap};
 
 use crate::scanner::class::{Class, is_digit, is_letter, is_space};
 use crate::scanner::front::Front;

@@ -6,7 +6,7 @@ use Rattle.vast_literal.specs.Lexemes.{space, comment}
 use Rattle.vast_read.specs.Lexed.{unspelled, lex}
 use Rattle.vast_read.specs.Behind.{Behind, none_before, lexeme, apostrophe}
 use Rattle.vast_read.specs.Places.{BeginsWithoutGap, IsBehindFirst}
-use Rattle.vast_read.specs.Scanner.{byte_at}
+use Rattle.vast_read.specs.Internal.Scanner.{byte_at}
 
 -- what stands behind some lexemes of a text ends it
 pub behind_suffix : (text rest : List ℕ) → Behind text rest → (before : List ℕ) × (text ≡ before ++ rest)

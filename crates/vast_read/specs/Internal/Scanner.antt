@@ -1,5 +1,5 @@
--- Beside `specs/Scanner.antt`: what private contracts and proofs say, and no public one.
-use Rattle.std.specs.Prelude.{◌≡◌, ◌<◌, ◌≤◌, ◌+◌, ◌-◌, ⊤, ℕ, List, [], ◌∷◌, ◌++◌, length, take, drop, Bool, true, not, ◌||◌, ◌&&◌, cond, eqb, Option, Some, None}
+-- What stands at the front of a text, as the scan of the text says it.
+use Rattle.std.specs.Prelude.{◌≡◌, ◌<◌, ◌≤◌, ◌+◌, ◌-◌, ⊤, ℕ, List, [], ◌∷◌, ◌++◌, length, take, drop, Bool, true, not, ◌||◌, ◌&&◌, cond, eqb, get_or, Option, Some, None}
 use Rattle.std.specs.Str.{IsUtf8, IsCharBoundary}
 use Rattle.vast_literal.specs.Tokens as to
 use Rattle.vast_literal.specs.Scan.{is_letter, is_word_byte, is_digit, is_based_digit, is_radix, is_space, Gap, AfterTick, InComment, Pending, Step, keep, give, fail}
@@ -14,7 +14,10 @@ use Rattle.vast_read.specs.declared.scanner.front.Front.{Front}
 use Rattle.vast_read.specs.declared.scanner.front.Front.TheVariants as front
 use Rattle.vast_read.specs.declared.scanner.sign.Growth.{Growth}
 use Rattle.vast_read.specs.declared.scanner.sign.Growth.TheVariants as growth
-use Rattle.vast_read.specs.Scanner.{byte_at}
+
+-- The byte at a place; behind the end a line feed, which goes into no lexeme.
+abbrev pub byte_at : List ℕ → ℕ → ℕ
+byte_at text place = get_or text place 10
 
 -- Whether a byte may stand in a run.
 abbrev pub passes : Class → ℕ → Bool

@@ -3,8 +3,7 @@
 ghost use Rattle.std.specs.Prelude.{◌≡◌, ◌+◌, ◌<◌, ◌≤◌, ◌^◌, [], ◌∷◌, true, length, MatchOption};
 ghost use Rattle.vast_literal.specs.Scan.{is_digit, Gap};
 ghost use Rattle.vast_read.specs.Lexed.{lex, unspelled};
-ghost use Rattle.vast_read.specs.Scanner.{byte_at};
-ghost use Rattle.vast_read.specs.Internal.Scanner.{Fronts, opens_based, is_based_tick, radix_place, IsTick, EndsString, string_part};
+ghost use Rattle.vast_read.specs.Internal.Scanner.{byte_at, Fronts, opens_based, is_based_tick, radix_place, IsTick, EndsString, string_part};
 
 use crate::scanner::class::{Class, is_based_digit, is_filler, is_radix, opens_mark};
 use crate::scanner::front::Front;

@@ -6,8 +6,7 @@ ghost use Rattle.vast_literal.specs.Tokens.{Operator};
 ghost use Rattle.vast_literal.specs.declared.token.Sign.TheVariants.{Greater, Less, Plus, Divide};
 ghost use Rattle.vast_literal.specs.Tokens as spec;
 ghost use Rattle.vast_read.specs.Internal.TokenView.{token_view};
-ghost use Rattle.vast_read.specs.Scanner.{byte_at};
-ghost use Rattle.vast_read.specs.Internal.Scanner.{Fronts, IsGap, growth_step, growth_or_fail, starts_sign, Reaches};
+ghost use Rattle.vast_read.specs.Internal.Scanner.{byte_at, Fronts, IsGap, growth_step, growth_or_fail, starts_sign, Reaches};
 
 use crate::scanner::class::Class;
 use crate::scanner::front::Front;

@@ -2,8 +2,7 @@
 
 ghost use Rattle.std.specs.Prelude.{◌≡◌, true};
 ghost use Rattle.vast_literal.specs.Scan.{is_letter};
-ghost use Rattle.vast_read.specs.Scanner.{byte_at};
-ghost use Rattle.vast_read.specs.Internal.Scanner.{Fronts};
+ghost use Rattle.vast_read.specs.Internal.Scanner.{byte_at, Fronts};
 
 use crate::scanner::class::{Class, is_letter};
 use crate::scanner::front::Front;
