@@ -57,7 +57,8 @@ pub(crate) fn answer_input<R: Read, W: Write, E: Write>(
         TellsUnderived (R.remaining input.old) (R.remaining input.new) }
     ensures unread { result ≡ Outcome.Unread → W.contents out.new ≡ W.contents out.old }
     ensures some { GivesSome (R.remaining input.old) (R.remaining input.new) }
-    ensures silent { result ≡ Outcome.Yes → E.contents err.new ≡ E.contents err.old }
+    ensures silent { (result ≡ Outcome.Yes) ⊎ (result ≡ Outcome.No)
+        → E.contents err.new ≡ E.contents err.old }
 {
     match read_whole(alloc, name, input, err) {
         Ok(bytes) => answer_bytes(alloc, name, &bytes, out, err),
@@ -101,7 +102,7 @@ fn answer_bytes<W: Write, E: Write>(
         Appends (W.contents out.old) (W.contents out.new) (derived_line name.now) }
     ensures underived { result ≡ Outcome.No → IsDerived bytes.now → ⊥ }
     ensures told { result ≢ Outcome.Unread }
-    ensures silent { result ≡ Outcome.Yes → E.contents err.new ≡ E.contents err.old }
+    ensures silent { result ≢ Outcome.Failed → E.contents err.new ≡ E.contents err.old }
 {
     match answer_of(alloc, bytes) {
         Ok(Answer::Derived) => write_line(derived_line(alloc, name), Outcome::Yes, out, err),
@@ -118,9 +119,9 @@ pub(crate) fn write_line<W: Write, E: Write>(
     err: &mut E,
 ) -> Outcome
     ensures told { (result ≡ outcome) ⊎ (result ≡ Outcome.Failed) }
-    ensures written { result ≡ Outcome.Yes → MatchResult line
+    ensures written { result ≢ Outcome.Failed → MatchResult line
         (λ t. Appends (W.contents out.old) (W.contents out.new) (string_bytes t)) (λ _. ⊥) }
-    ensures silent { result ≡ Outcome.Yes → E.contents err.new ≡ E.contents err.old }
+    ensures silent { result ≢ Outcome.Failed → E.contents err.new ≡ E.contents err.old }
 {
     match line {
         Ok(line) => match out.write_all(line.as_bytes()) {

@@ -45,7 +45,7 @@ pub(crate) fn compare<W: Write, E: Write>(
         Appends (W.contents out.old) (W.contents out.new) (codes "same\n") }
     ensures other { result ≡ Outcome.No → AreSame old.entry.bytes.now new.entry.bytes.now → ⊥ }
     ensures told { result ≢ Outcome.Unread }
-    ensures silent { result ≡ Outcome.Yes → E.contents err.new ≡ E.contents err.old }
+    ensures silent { result ≢ Outcome.Failed → E.contents err.new ≡ E.contents err.old }
 {
     match found_of(alloc, old.bytes, new.bytes) {
         Ok(Found::Same) => write_line(same_line(alloc), Outcome::Yes, out, err),
@@ -119,7 +119,8 @@ fn tell_underived<W: Write, E: Write>(
     out: &mut W,
     err: &mut E,
 ) -> Outcome
-    ensures { (result ≡ Outcome.No) ⊎ (result ≡ Outcome.Failed) }
+    ensures told { (result ≡ Outcome.No) ⊎ (result ≡ Outcome.Failed) }
+    ensures silent { result ≢ Outcome.Failed → E.contents err.new ≡ E.contents err.old }
 {
     match answer_of(alloc, source.bytes) {
         Ok(Answer::Derived) => Outcome::No,
