@@ -14,7 +14,8 @@
  * `vast_close` gives all memory back; nothing else that a function answers has to be freed. What a function is given, as
  * lines and buffers, stays the caller's, and the library keeps no pointer to it once the function returns.
  *
- * Pointers. No pointer that a function is given may be NULL, not even beside a length of 0.
+ * Pointers. No pointer that a function is given may be NULL, not even beside a length of 0. What a function writes (the
+ * session, `out`, `*taken`, `*all`) must overlap neither what it reads (`lines`) nor anything else that it writes.
  *
  * Threads. A session may go from one thread to another, but no two calls with the same session may overlap. Sessions
  * share nothing, and nothing is global: different sessions may be used by different threads at the same time. Call none

@@ -1,28 +1,27 @@
 -- One line more of a text, and what it gave.
 use Rattle.std.proofs.Common.{◌≡◌, ◌==◌, true, ℕ, suc, ◌+◌, ◌<◌, List, [], ◌∷◌, ◌++◌, length, take, drop, get_or, refl, ap, sym, ◌∙◌, subst, arith}
 use Rattle.std.proofs.lemmas.Bool.{eqb-true}
-use Rattle.std.proofs.lemmas.List.{length-drop, length_push, nil_from_length}
+use Rattle.std.proofs.lemmas.List.{length-drop, nil_from_length}
 use Rattle.std.proofs.Math.Seq.{drop-cons, take-suc}
 use Rattle.vast_core.specs.FileTree.{tree}
-use Rattle.vast_list.specs.Session.{Gives, IsSame}
+use Rattle.vast_list.specs.Session.{IsCausedBy, IsOfLine, IsSame}
 use Rattle.vast_list.specs.Written.{meaning}
-use Rattle.vast_list.specs.declared.session.Given.{Given}
+use Rattle.vast_list.specs.declared.fault.Fault.{Fault}
+use Rattle.vast_list.specs.declared.fault.Fault.TheVariants.{Line}
 use Rattle.vast_list.specs.declared.session.Session.{Session}
-use Rattle.vast_list.specs.Lines.{lines_of}
-use Rattle.vast_c.specs.Seen.{Gave, GaveSome, IsSameTree, Made}
-use Rattle.vast_c.specs.Internal.Seen.{GaveOne, LeftIfAny, MadeAll}
+use Rattle.vast_list.specs.Lines.{HasKind, Passed, lines_of}
+use Rattle.vast_c.specs.Seen.{Gave, GaveLine, IsFaultOf, IsSameTree, Made, Run, TellsFault}
+use Rattle.vast_c.specs.Internal.Seen.{LeftIfAny}
 use Rattle.vast_c.specs.declared.kept.Cause.{Cause}
 use Rattle.vast_c.specs.declared.kept.Cause.TheVariants.{Refused, Condition, Form, Memory}
 use Rattle.vast_c.specs.declared.kept.Kept.{Kept}
-use Rattle.std.specs.Prelude.{Option, None, Some}
+use Rattle.vast_c.specs.declared.kept.Told.{Told}
+use Rattle.std.specs.Prelude.{IfSome, Option, None, Some}
 
-behind : (a : Session) (given : List Given) (b : Session) (line : List ℕ) (last : Given) (c : Session) → Gave a given b → Gives b c line last → Gave a (given ++ last ∷ []) c
-behind a [] b line last c same gives = (c, line, subst (λ (s : Session). Gives s c line last) same gives, refl)
-behind a (first ∷ given) b line last c gave gives = (gave.0, gave.1, gave.2, behind gave.0 given b line last c gave.3 gives)
-
--- one line more gave what it gave
-pub gave_more : (a : Session) (taken : ℕ) (b c : Session) → GaveSome a taken b → GaveOne b c → GaveSome a (taken + 1) c
-gave_more a taken b c gave last = (gave.0 ++ last.1 ∷ [], omega (arith, length_push gave.0 last.1, gave.1), behind a gave.0 b last.0 last.1 c gave.2 last.2)
+-- one line more gave something
+pub gave_more : (a : Session) (lines : List (List ℕ)) (b : Session) (line : List ℕ) (c : Session) → Gave a lines b → GaveLine b line c → Gave a (lines ++ line ∷ []) c
+gave_more a [] b line c same gave = (c, subst (λ (s : Session). GaveLine s line c) same gave, refl)
+gave_more a (first ∷ lines) b line c gave last = (gave.0, gave.1, gave_more gave.0 lines b line c gave.2 last)
 
 -- the item behind the first n
 pub record Next {X : Type 0} (all : List X) (n : ℕ) (x : X) (xs : List X) : Type 0 where
@@ -53,28 +52,34 @@ same_all : (a b : Session) → b ≡ a → IsSame a b
 same_all a b same =
     ((ap (λ (s : Session). s.file) same, ap (λ (s : Session). s.answers.items) same), (ap (λ (s : Session). meaning s.names) same, ap (λ (s : Session). s.skipped.items) same))
 
-left_tree : (a b : Session) (cause : Option Cause) → LeftIfAny a b cause → IsSameTree a b
-left_tree a b None same = same_tree a b (same_all a b same)
-left_tree a b (Some Refused) left = same_tree a b left
-left_tree a b (Some Condition) left = same_tree a b left
-left_tree a b (Some Form) left = same_tree a b left
-left_tree a b (Some Memory) left = left
+pub left_tree : (cause : Option Cause) (a b : Session) → LeftIfAny cause a b → IsSameTree a b
+left_tree None a b same = same_tree a b (same_all a b same)
+left_tree (Some Refused) a b left = same_tree a b left
+left_tree (Some Condition) a b left = same_tree a b left
+left_tree (Some Form) a b left = same_tree a b left
+left_tree (Some Memory) a b left = left
 
-left_same : (a b : Session) (cause : Option Cause) → (cause ≡ Some Memory → ⊥) → LeftIfAny a b cause → IsSame a b
-left_same a b None other same = same_all a b same
-left_same a b (Some Refused) other left = left
-left_same a b (Some Condition) other left = left
-left_same a b (Some Form) other left = left
-left_same a b (Some Memory) other left = absurd (other refl)
+pub left_same : (cause : Option Cause) → (cause ≡ Some Memory → ⊥) → (a b : Session) → LeftIfAny cause a b → IsSame a b
+left_same None other a b same = same_all a b same
+left_same (Some Refused) other a b left = left
+left_same (Some Condition) other a b left = left
+left_same (Some Form) other a b left = left
+left_same (Some Memory) other a b left = absurd (other refl)
 
 -- what lines did to the session that is open
-pub made_tree : (b a : Kept) (taken : ℕ) (cause : Option Cause) (before after : Option Kept) → before ≡ Some b → after ≡ Some a
-    → MadeAll b.session taken cause a.session → Made before taken IsSameTree after
-made_tree b a taken cause before after is_before is_after made =
-    rw (is_before, is_after) (made.0, made.1, left_tree made.0 a.session cause made.2)
+pub made_as : (Same : Session → Session → Type 0) (b a : Kept) (lines : List (List ℕ)) (taken : ℕ) (cause : Option Cause) (before after : Option Kept) → before ≡ Some b → after ≡ Some a
+    → ((s t : Session) → LeftIfAny cause s t → Same s t) → Run b lines taken (LeftIfAny cause) a → Made before lines taken Same after
+made_as Same b a lines taken cause before after is_before is_after weaker run =
+    rw (is_before, is_after) (record { between = run.between; gave = run.gave; same = weaker run.between a.session run.same; counted = run.counted; fault = run.fault })
 
--- the same where memory was not refused
-pub made_exact : (b a : Kept) (taken : ℕ) (cause : Option Cause) (before after : Option Kept) → before ≡ Some b → after ≡ Some a → (cause ≡ Some Memory → ⊥)
-    → MadeAll b.session taken cause a.session → Made before taken IsSame after
-made_exact b a taken cause before after is_before is_after other made =
-    rw (is_before, is_after) (made.0, made.1, left_same made.0 a.session cause other made.2)
+-- a fault of one line is that of the first of more lines
+pub fault_of_first : (a b : Session) (n m : ℕ) (line : List ℕ) (lines rest : List (List ℕ)) (told : Option Told) → n ≡ m → rest ≡ line ∷ lines → TellsFault a b m (line ∷ []) told → TellsFault a b n rest told
+fault_of_first a b n m line lines rest told same is fault = rw (same, is) fault
+
+-- the fault that is told of a line is what the session said of it
+pub told_of : (a b c : Session) (n : ℕ) (line : List ℕ) (fault : Fault) (told : Option Told) → c ≡ b → IfSome told (λ t. fault ≡ Line t.fault)
+    → IsOfLine n fault → IsCausedBy a b line fault → (HasKind line Passed → ⊥) → TellsFault a c n (line ∷ []) told
+told_of a b c n line fault None same is number cause kind = tt
+told_of a b c n line fault (Some t) same is number cause kind =
+    let said : IsFaultOf a b n (line ∷ []) (Line t.fault) = subst (IsFaultOf a b n (line ∷ [])) is (number, cause, kind) in
+    subst (λ (s : Session). IsFaultOf a s n (line ∷ []) (Line t.fault)) (sym same) said

@@ -1,16 +1,20 @@
 -- What C sees of a session, `None` where it is not open.
-use Rattle.std.specs.Prelude.{◌≡◌, ℕ, List, [], ◌∷◌, ◌++◌, length, take, drop}
-use Rattle.std.specs.Prelude.{Option, None, Some, String, string_bytes, unwrap_or}
+use Rattle.std.specs.Prelude.{◌≡◌, ℕ, ◌+◌, ◌-◌, ◌^◌, min, ℤ, List, [], ◌∷◌, ◌++◌, length, take, drop, if◌then◌else◌}
+use Rattle.std.specs.Prelude.{Option, IfSome, None, Some, String, string_bytes, unwrap_or}
+use Rattle.std.specs.Option.{option_map_or}
+use Rattle.std.specs.Ordering.{int_eq}
 use Rattle.std.specs.declared.alloc.Global.{Global}
-use Rattle.vast_core.specs.Bench.{start}
 use Rattle.vast_core.specs.FileTree.{tree}
 use Rattle.vast_literal.specs.declared.kind.VastFileType.{VastFileType}
-use Rattle.vast_list.specs.Session.{Gives, IsFileLeft, IsTextOf}
-use Rattle.vast_list.specs.declared.fault.Fault.TheVariants.{Memory as FaultMemory}
+use Rattle.vast_list.specs.Lines.{HasKind, Passed}
+use Rattle.vast_list.specs.Session.{Gives, IsCausedBy, IsFileLeft, IsGivenBy, IsNew, IsOfLine, IsTextOf}
+use Rattle.vast_list.specs.declared.fault.Fault.{Fault}
+use Rattle.vast_list.specs.declared.fault.Fault.TheVariants.{Line, Memory as FaultMemory}
 use Rattle.vast_list.specs.declared.session.Given.{Given}
 use Rattle.vast_list.specs.declared.session.Session.{Session}
 use Rattle.vast_script.specs.declared.fault.StepFault.{StepFault}
 use Rattle.vast_script.specs.declared.fault.StepFault.TheVariants.{NoAnswer, WrongKind, Condition as NotMet, Refused as IsRefused, Memory as OutOfMemory}
+use Rattle.vast_c.specs.declared.TheConstants.{ANSWER, MESSAGE, WORDS, CALL, FILE, COUNT, LINE, COLUMN}
 use Rattle.vast_c.specs.declared.kept.Cause.{Cause}
 use Rattle.vast_c.specs.declared.kept.Cause.TheVariants.{Refused, Condition, Form, Memory}
 use Rattle.vast_c.specs.declared.kept.Kept.{Kept}
@@ -20,21 +24,42 @@ use Rattle.vast_c.specs.declared.kept.Told.{Told}
 abbrev pub IsSameTree : (before after : Session) → Type 0
 IsSameTree before after = IsFileLeft before after FaultMemory
 
--- Lines gave these, one after another.
-abbrev pub Gave : (before : Session) → List Given → (after : Session) → Type 0
+-- so many lines more, as far as they are counted
+abbrev pub more_lines : (lines more : ℕ) → ℕ
+more_lines lines more = min (lines + more) (2 ^ 64 - 1)
+
+-- The line gave something of its kind.
+abbrev pub GaveLine : (before : Session) → (line : List ℕ) → (after : Session) → Type 0
+GaveLine before line after = (given : Given) × Gives before after line given × IsGivenBy line given
+
+-- Each of the lines gave something, one after another.
+abbrev pub Gave : (before : Session) → (lines : List (List ℕ)) → (after : Session) → Type 0
 Gave before [] after = after ≡ before
-Gave before (given ∷ more) after = (between : Session) × (line : List ℕ) × Gives before between line given × Gave between more after
+Gave before (line ∷ lines) after = (between : Session) × GaveLine before line between × Gave between lines after
 
--- Lines of this number gave what they gave.
-abbrev pub GaveSome : (before : Session) → ℕ → (after : Session) → Type 0
-GaveSome before taken after = (given : List Given) × (length given ≡ taken) × Gave before given after
+-- The fault is that of the first line: told of this number, with a true cause, and of no blank line or comment.
+abbrev pub IsFaultOf : (before after : Session) → (number : ℕ) → (lines : List (List ℕ)) → Fault → Type 0
+IsFaultOf before after number [] fault = ⊥
+IsFaultOf before after number (line ∷ lines) fault = IsOfLine number fault × IsCausedBy before after line fault × (HasKind line Passed → ⊥)
 
--- So many lines gave what they gave to the session that is open, and since then it is the same but for what Same leaves out.
-abbrev pub Made : Option Kept → ℕ → (Same : Session → Session → Type 0) → Option Kept → Type 0
-Made (Some before) taken Same (Some after) =
-    (between : Session) × GaveSome before.session taken between × Same between after.session
-Made None taken Same None = taken ≡ 0
-Made _ taken Same _ = ⊥
+-- What is told, if anything is, is such a fault.
+abbrev pub TellsFault : (before after : Session) → (number : ℕ) → (lines : List (List ℕ)) → Option Told → Type 0
+TellsFault before after number lines told = IfSome told (λ t. IsFaultOf before after number lines (Line t.fault))
+
+-- So many of the lines gave what they gave and were counted; since then the session is the same but for what Same leaves
+-- out, and what is told, if anything is, is the fault of the next one.
+pub record Run (before : Kept) (lines : List (List ℕ)) (taken : ℕ) (Same : Session → Session → Type 0) (after : Kept) : Type 0 where
+  pub between : Session
+  pub gave : Gave before.session (take taken lines) between
+  pub same : Same between after.session
+  pub counted : after.lines ≡ more_lines before.lines taken
+  pub fault : TellsFault between after.session (more_lines after.lines 1) (drop taken lines) after.told
+
+-- So it was with the session that is open.
+abbrev pub Made : Option Kept → (lines : List (List ℕ)) → (taken : ℕ) → (Same : Session → Session → Type 0) → Option Kept → Type 0
+Made (Some before) lines taken Same (Some after) = Run before lines taken Same after
+Made None lines taken Same None = taken ≡ 0
+Made _ lines taken Same _ = ⊥
 
 -- The bytes of a text went to the start of a buffer, as many as it holds, and the text's length is told.
 abbrev pub Copied : (text : List ℕ) → (before after : List ℕ) → (told : ℕ) → Type 0
@@ -49,60 +74,35 @@ abbrev pub session_in : Option Kept → Option Session
 session_in None = None
 session_in (Some kept) = Some kept.session
 
--- what the last line answered
-abbrev pub answer_in : Option Kept → List ℕ
-answer_in None = []
-answer_in (Some kept) = string_bytes kept.answer
-
--- the file as it was printed last
-abbrev pub file_in : Option Kept → List ℕ
-file_in None = []
-file_in (Some kept) = string_bytes kept.file
+-- how many lines it has taken
+abbrev pub lines_in : Option Kept → ℕ
+lines_in None = 0
+lines_in (Some kept) = kept.lines
 
 -- the last fault, if there is one
 abbrev pub told_in : Option Kept → Option Told
 told_in None = None
 told_in (Some kept) = kept.told
 
-abbrev pub message_of : Option Told → List ℕ
-message_of None = []
-message_of (Some told) = string_bytes told.message
+-- the text of this number
+abbrev pub text_in : (text : ℤ) → Option Kept → List ℕ
+text_in text None = []
+text_in text (Some kept) =
+    if int_eq text ANSWER then string_bytes kept.answer
+    else if int_eq text MESSAGE then option_map_or (λ (told : Told). string_bytes told.message) kept.told []
+    else if int_eq text WORDS then option_map_or (λ (told : Told). string_bytes told.fault.words) kept.told []
+    else if int_eq text CALL then option_map_or (λ (told : Told). string_bytes told.fault.call) kept.told []
+    else if int_eq text FILE then string_bytes kept.file
+    else []
 
-abbrev pub words_of : Option Told → List ℕ
-words_of None = []
-words_of (Some told) = string_bytes told.fault.words
-
-abbrev pub call_of : Option Told → List ℕ
-call_of None = []
-call_of (Some told) = string_bytes told.fault.call
-
-abbrev pub line_of : Option Told → ℕ
-line_of None = 0
-line_of (Some told) = told.fault.line
-
-abbrev pub column_of : Option Told → ℕ
-column_of None = 0
-column_of (Some told) = unwrap_or told.fault.column 0
-
-abbrev pub message_in : Option Kept → List ℕ
-message_in kept = message_of (told_in kept)
-
-abbrev pub words_in : Option Kept → List ℕ
-words_in kept = words_of (told_in kept)
-
-abbrev pub call_in : Option Kept → List ℕ
-call_in kept = call_of (told_in kept)
-
-abbrev pub line_in : Option Kept → ℕ
-line_in kept = line_of (told_in kept)
-
-abbrev pub column_in : Option Kept → ℕ
-column_in kept = column_of (told_in kept)
-
--- how many handles the session has answered
-abbrev pub count_in : Option Kept → ℕ
-count_in None = 0
-count_in (Some kept) = length kept.session.answers.items
+-- the number of this number
+abbrev pub number_in : (number : ℤ) → Option Kept → ℕ
+number_in number None = 0
+number_in number (Some kept) =
+    if int_eq number COUNT then length kept.session.answers.items
+    else if int_eq number LINE then option_map_or (λ (told : Told). told.fault.line) kept.told 0
+    else if int_eq number COLUMN then option_map_or (λ (told : Told). unwrap_or told.fault.column 0) kept.told 0
+    else 0
 
 -- What a fault's cause is to C: a line that is not in the form has none.
 abbrev pub cause_of : Option StepFault → Cause
@@ -118,10 +118,11 @@ abbrev pub IsToldOf : Cause → Option Told → Type 0
 IsToldOf cause None = cause ≡ Memory
 IsToldOf cause (Some told) = cause_of told.fault.cause ≡ cause
 
--- A session is open whose file is empty.
+-- A new session of the dialect is open, with no line, no fault and no text.
 abbrev pub IsFresh : VastFileType → Option Kept → Type 0
 IsFresh dialect None = ⊥
-IsFresh dialect (Some kept) = (kept.session.file ≡ start dialect 1) × (kept.session.answers.items ≡ [])
+IsFresh dialect (Some kept) =
+    IsNew dialect kept.session × (kept.lines ≡ 0) × (kept.told ≡ None) × (string_bytes kept.answer ≡ []) × (string_bytes kept.file ≡ [])
 
 -- The text is that of the session.
 abbrev pub IsPrinted : Session → String Global → Type 0

@@ -1,13 +1,13 @@
 //! What C keeps by its pointer: a session, and what was told of it last.
 
-ghost use Rattle.std.specs.Prelude.{◌≡◌, ◌<◌, [], IfErr, IfOk, IfSome, OnErr, IsSome, None};
+ghost use Rattle.std.specs.Prelude.{◌≡◌, ◌∷◌, ◌<◌, [], IfErr, IfOk, IfSome, IsSome, MatchResult, None, OnErr, OnOk, Some};
 ghost use Rattle.std.specs.Prelude.{length};
-ghost use Rattle.vast_core.specs.Bench.{start};
 ghost use Rattle.vast_list.specs.Session.{IsLeft};
+ghost use Rattle.vast_list.specs.declared.fault.Fault.TheVariants.{Line};
 ghost use Rattle.vast_list.specs.declared.session.Session.{Session as AnySession};
 ghost use Rattle.vast_list.specs.Lines.{lines_of};
-ghost use Rattle.vast_c.specs.Seen.{IsPrinted, IsToldOf, cause_of};
-ghost use Rattle.vast_c.specs.Internal.Seen.{GaveOne, LeftBy, MadeAll};
+ghost use Rattle.vast_c.specs.Seen.{GaveLine, IsFresh, IsPrinted, IsToldOf, Run, TellsFault, cause_of, more_lines};
+ghost use Rattle.vast_c.specs.Internal.Seen.{LeftBy, LeftIfAny};
 
 use crate::lines::first_line;
 use std::alloc::Global;
@@ -61,8 +61,7 @@ pub(crate) struct MadeLines {
 impl Kept {
     /// A session with no line.
     pub(crate) fn new(alloc: Global, dialect: VastFileType) -> Kept
-        ensures file { result.session.file ≡ start dialect 1 }
-        ensures answers { result.session.answers.items ≡ [] }
+        ensures { IsFresh dialect (Some result) }
     {
         Kept {
             session: Session::new(alloc, dialect),
@@ -75,10 +74,13 @@ impl Kept {
 
     /// Makes the calls of the lines, up to the first at fault.
     pub(crate) fn make_lines(&mut self, lines: &[u8]) -> MadeLines
-        ensures made { MadeAll self.old.session result.taken result.cause self.new.session }
+        ensures made { Run self.old (lines_of lines.now) result.taken
+            (LeftIfAny result.cause) self.new }
         ensures all { result.cause ≡ None → result.taken ≡ length (lines_of lines.now) }
+        ensures none { result.cause ≡ None → self.new.told ≡ None }
         ensures fault { IsSome result.cause → result.taken < length (lines_of lines.now) }
         ensures told { IfSome result.cause (λ cause. IsToldOf cause self.new.told) }
+        ensures file { self.new.file ≡ self.old.file }
     {
         self.answer.clear();
         self.told = None;
@@ -105,7 +107,9 @@ impl Kept {
     pub(crate) fn print(&mut self) -> Result<(), Cause>
         ensures printed { IfOk result (λ _. IsPrinted self.old.session self.new.file) }
         ensures session { self.new.session ≡ self.old.session }
+        ensures lines { self.new.lines ≡ self.old.lines }
         ensures unchanged { OnErr result (self.new.file ≡ self.old.file) }
+        ensures none { OnOk result (self.new.told ≡ None) }
         ensures told { IfErr result (λ cause. IsToldOf cause self.new.told) }
     {
         self.told = None;
@@ -120,9 +124,16 @@ impl Kept {
 
     /// Makes the call of one line.
     fn make_line(&mut self, line: &[u8]) -> Result<(), Cause>
-        ensures given { IfOk result (λ _. GaveOne self.old.session self.new.session) }
+        ensures given { OnOk result (GaveLine self.old.session line.now self.new.session) }
         ensures left { IfErr result (λ cause. LeftBy self.old.session self.new.session cause) }
+        ensures lines { MatchResult result
+            (λ _. self.new.lines ≡ more_lines self.old.lines 1)
+            (λ _. self.new.lines ≡ self.old.lines) }
+        ensures none { OnOk result (self.new.told ≡ self.old.told) }
         ensures told { IfErr result (λ cause. IsToldOf cause self.new.told) }
+        ensures fault { OnErr result (TellsFault self.old.session self.new.session
+            (more_lines self.old.lines 1) (line.now ∷ []) self.new.told) }
+        ensures file { self.new.file ≡ self.old.file }
     {
         let number = self.lines.saturating_add(1);
         match self.session.line(number, line) {
@@ -148,8 +159,10 @@ impl Kept {
     fn tell(&mut self, fault: Fault) -> Cause
         ensures left { (a b : AnySession) → IsLeft a b fault → LeftBy a b result }
         ensures session { self.new.session ≡ self.old.session }
+        ensures lines { self.new.lines ≡ self.old.lines }
         ensures file { self.new.file ≡ self.old.file }
         ensures told { IsToldOf result self.new.told }
+        ensures fault { IfSome self.new.told (λ told. fault ≡ Line told.fault) }
     {
         self.told = None;
         let Fault::Line(fault) = fault else {

@@ -9,8 +9,7 @@ ghost use Rattle.vast_literal.specs.declared.kind.VastFileType.TheVariants.{Veri
 ghost use Rattle.vast_c.specs.declared.kept.Cause.TheVariants.{Condition, Form, Memory, Refused};
 ghost use Rattle.vast_list.specs.Lines.{lines_of};
 ghost use Rattle.vast_c.specs.Seen.{Copied, CopiedSome, IsFresh, IsSameTree, IsToldOf, Made, Printed};
-ghost use Rattle.vast_c.specs.Seen.{answer_in, call_in, column_in, count_in, file_in, line_in, message_in};
-ghost use Rattle.vast_c.specs.Seen.{session_in, told_in, words_in};
+ghost use Rattle.vast_c.specs.Seen.{lines_in, number_in, session_in, text_in, told_in};
 
 mod handle;
 mod kept;
@@ -112,9 +111,12 @@ pub extern "C" fn vast_lines(
     taken: &mut usize,
 ) -> i32
     ensures closed { result ≡ NOT_OPEN ↔ handle.old.kept ≡ None }
-    ensures made { Made handle.old.kept taken.new IsSameTree handle.new.kept }
-    ensures exact { result ≢ MEMORY → Made handle.old.kept taken.new IsSame handle.new.kept }
+    ensures made { Made handle.old.kept (lines_of lines.now) taken.new IsSameTree handle.new.kept }
+    ensures exact { result ≢ MEMORY →
+        Made handle.old.kept (lines_of lines.now) taken.new IsSame handle.new.kept }
     ensures all { result ≡ OK → taken.new ≡ length (lines_of lines.now) }
+    ensures none { result ≡ OK → told_in handle.new.kept ≡ None }
+    ensures file { text_in FILE handle.new.kept ≡ text_in FILE handle.old.kept }
     ensures fault { result ≢ OK → result ≢ NOT_OPEN → taken.new < length (lines_of lines.now) }
     ensures refused { result ≡ REFUSED → IsToldOf Refused (told_in handle.new.kept) }
     ensures condition { result ≡ CONDITION → IsToldOf Condition (told_in handle.new.kept) }
@@ -156,6 +158,10 @@ pub extern "C" fn vast_print(alloc: Global, handle: &mut Handle) -> i32
     ensures closed { result ≡ NOT_OPEN ↔ handle.old.kept ≡ None }
     ensures printed { result ≡ OK → Printed handle.old.kept handle.new.kept }
     ensures session { session_in handle.new.kept ≡ session_in handle.old.kept }
+    ensures lines { lines_in handle.new.kept ≡ lines_in handle.old.kept }
+    ensures unchanged { result ≢ OK →
+        text_in FILE handle.new.kept ≡ text_in FILE handle.old.kept }
+    ensures none { result ≡ OK → told_in handle.new.kept ≡ None }
     ensures refused { result ≡ REFUSED → IsToldOf Refused (told_in handle.new.kept) }
 {
     let Some(mut kept) = handle.take(alloc) else {
@@ -172,11 +178,7 @@ pub extern "C" fn vast_print(alloc: Global, handle: &mut Handle) -> i32
 /// Copies the start of a text, as much as fits, and answers the length of all of it.
 #[unsafe(no_mangle)]
 pub extern "C" fn vast_text(alloc: Global, handle: &mut Handle, text: i32, out: &mut [u8]) -> usize
-    ensures answer { text ≡ ANSWER → Copied (answer_in handle.old.kept) out.old out.new result }
-    ensures message { text ≡ MESSAGE → Copied (message_in handle.old.kept) out.old out.new result }
-    ensures words { text ≡ WORDS → Copied (words_in handle.old.kept) out.old out.new result }
-    ensures call { text ≡ CALL → Copied (call_in handle.old.kept) out.old out.new result }
-    ensures file { text ≡ FILE → Copied (file_in handle.old.kept) out.old out.new result }
+    ensures copied { Copied (text_in text handle.old.kept) out.old out.new result }
     ensures unchanged { handle.new.kept ≡ handle.old.kept }
 {
     let Some(kept) = handle.take(alloc) else {
@@ -188,11 +190,7 @@ pub extern "C" fn vast_text(alloc: Global, handle: &mut Handle, text: i32, out: 
 }
 
 fn text_of(kept: &Kept, text: i32) -> &str
-    ensures answer { text ≡ ANSWER → result.now ≡ answer_in (Some kept.now) }
-    ensures message { text ≡ MESSAGE → result.now ≡ message_in (Some kept.now) }
-    ensures words { text ≡ WORDS → result.now ≡ words_in (Some kept.now) }
-    ensures call { text ≡ CALL → result.now ≡ call_in (Some kept.now) }
-    ensures file { text ≡ FILE → result.now ≡ file_in (Some kept.now) }
+    ensures { result.now ≡ text_in text (Some kept.now) }
 {
     match (text, &kept.told) {
         (ANSWER, _) => &kept.answer,
@@ -215,9 +213,7 @@ fn copy_start(text: &[u8], out: &mut [u8]) -> usize
 /// How many handles the session has answered, or where its last fault is; 0 where there is none.
 #[unsafe(no_mangle)]
 pub extern "C" fn vast_number(alloc: Global, handle: &mut Handle, number: i32) -> usize
-    ensures count { number ≡ COUNT → result ≡ count_in handle.old.kept }
-    ensures line { number ≡ LINE → result ≡ line_in handle.old.kept }
-    ensures column { number ≡ COLUMN → result ≡ column_in handle.old.kept }
+    ensures number { result ≡ number_in number handle.old.kept }
     ensures unchanged { handle.new.kept ≡ handle.old.kept }
 {
     let Some(kept) = handle.take(alloc) else {
@@ -229,9 +225,7 @@ pub extern "C" fn vast_number(alloc: Global, handle: &mut Handle, number: i32) -
 }
 
 fn number_of(kept: &Kept, number: i32) -> usize
-    ensures count { number ≡ COUNT → result ≡ count_in (Some kept.now) }
-    ensures line { number ≡ LINE → result ≡ line_in (Some kept.now) }
-    ensures column { number ≡ COLUMN → result ≡ column_in (Some kept.now) }
+    ensures { result ≡ number_in number (Some kept.now) }
 {
     match (number, &kept.told) {
         (COUNT, _) => kept.session.answers().len(),

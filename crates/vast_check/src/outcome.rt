@@ -1,6 +1,7 @@
 //! How a run ends.
 
-ghost use Rattle.std.specs.Prelude.{◌≡◌, ◌≤◌};
+ghost use Rattle.std.specs.Prelude.{◌≡◌};
+ghost use Rattle.vast_check.specs.Ends.{status_of, worse};
 
 /// What became of files.
 #[derive(Clone, Copy, Debug, PartialEq, Eq)]
@@ -16,10 +17,9 @@ pub enum Outcome {
 }
 
 impl Outcome {
-    /// What became of these files and of the next.
+    /// What became of these files and of the next: the worse of the two.
     pub fn and(self, next: Outcome) -> Outcome
-        ensures next { result ≡ Outcome.Yes → next ≡ Outcome.Yes }
-        ensures both { result ≡ Outcome.Yes → self ≡ Outcome.Yes }
+        ensures { result ≡ worse self next }
     {
         match (self, next) {
             (Outcome::Failed, _) | (_, Outcome::Failed) => Outcome::Failed,
@@ -31,9 +31,7 @@ impl Outcome {
 
     /// The program's status.
     pub fn status(self) -> u8
-        ensures most { result ≤ 2 }
-        ensures yes { result ≡ 0 → self ≡ Outcome.Yes }
-        ensures no { result ≡ 1 → self ≡ Outcome.No }
+        ensures { result ≡ status_of self }
     {
         match self {
             Outcome::Yes => 0,

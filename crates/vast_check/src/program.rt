@@ -1,9 +1,10 @@
 //! What the program tells of files.
 
-ghost use Rattle.std.specs.Prelude.{◌≡◌, ◌⊎◌, IfErr, IfOk, MatchResult, OnOk, string_bytes};
+ghost use Rattle.std.specs.Prelude.{◌≡◌, ◌≢◌, ◌⊎◌, IfErr, IfOk, MatchResult, OnErr, OnOk, string_bytes};
 ghost use Rattle.std.specs.Io.KnownBytes.{Appends};
-ghost use Rattle.vast_input.specs.Input.{GivesAll};
+ghost use Rattle.vast_input.specs.Input.{GivesAll, GivesSome};
 ghost use Rattle.vast_check.specs.Check.{IsDerived, derived_line, TellsDerived, TellsUnderived};
+ghost use Rattle.vast_check.specs.Ends.{outcome_of};
 
 use crate::answer::{Answer, answer_of};
 use crate::expected::Expected;
@@ -54,7 +55,10 @@ pub(crate) fn answer_input<R: Read, W: Write, E: Write>(
         (W.contents out.old) (W.contents out.new) }
     ensures underived { result ≡ Outcome.No →
         TellsUnderived (R.remaining input.old) (R.remaining input.new) }
-    ensures silent { result ≡ Outcome.Yes → E.contents err.new ≡ E.contents err.old }
+    ensures unread { result ≡ Outcome.Unread → W.contents out.new ≡ W.contents out.old }
+    ensures some { GivesSome (R.remaining input.old) (R.remaining input.new) }
+    ensures silent { (result ≡ Outcome.Yes) ⊎ (result ≡ Outcome.No)
+        → E.contents err.new ≡ E.contents err.old }
 {
     match read_whole(alloc, name, input, err) {
         Ok(bytes) => answer_bytes(alloc, name, &bytes, out, err),
@@ -73,6 +77,7 @@ pub(crate) fn read_whole<R: Read, E: Write>(
         GivesAll (R.remaining input.old) (R.remaining input.new) bytes.items) }
     ensures untold { IfErr result (λ outcome.
         (outcome ≡ Outcome.Unread) ⊎ (outcome ≡ Outcome.Failed)) }
+    ensures some { OnErr result (GivesSome (R.remaining input.old) (R.remaining input.new)) }
     ensures silent { OnOk result (E.contents err.new ≡ E.contents err.old) }
 {
     let trouble = match read_input(alloc, input) {
@@ -96,7 +101,8 @@ fn answer_bytes<W: Write, E: Write>(
     ensures derived { result ≡ Outcome.Yes → IsDerived bytes.now ×
         Appends (W.contents out.old) (W.contents out.new) (derived_line name.now) }
     ensures underived { result ≡ Outcome.No → IsDerived bytes.now → ⊥ }
-    ensures silent { result ≡ Outcome.Yes → E.contents err.new ≡ E.contents err.old }
+    ensures told { result ≢ Outcome.Unread }
+    ensures silent { result ≢ Outcome.Failed → E.contents err.new ≡ E.contents err.old }
 {
     match answer_of(alloc, bytes) {
         Ok(Answer::Derived) => write_line(derived_line(alloc, name), Outcome::Yes, out, err),
@@ -105,18 +111,17 @@ fn answer_bytes<W: Write, E: Write>(
     }
 }
 
-/// Writes the line, where it was made.
+/// Writes the line, where it was made. Else the run has failed.
 pub(crate) fn write_line<W: Write, E: Write>(
     line: Result<String, AllocError>,
     outcome: Outcome,
     out: &mut W,
     err: &mut E,
 ) -> Outcome
-    ensures derived { result ≡ Outcome.Yes → outcome ≡ Outcome.Yes }
-    ensures underived { result ≡ Outcome.No → outcome ≡ Outcome.No }
-    ensures written { result ≡ Outcome.Yes → MatchResult line
+    ensures told { (result ≡ outcome) ⊎ (result ≡ Outcome.Failed) }
+    ensures written { result ≢ Outcome.Failed → MatchResult line
         (λ t. Appends (W.contents out.old) (W.contents out.new) (string_bytes t)) (λ _. ⊥) }
-    ensures silent { result ≡ Outcome.Yes → E.contents err.new ≡ E.contents err.old }
+    ensures silent { result ≢ Outcome.Failed → E.contents err.new ≡ E.contents err.old }
 {
     match line {
         Ok(line) => match out.write_all(line.as_bytes()) {
@@ -202,7 +207,7 @@ fn push_expected(line: &mut String, expected: &Expected) -> Result<(), AllocErro
 
 /// Tells in a line why a file was not answered.
 pub(crate) fn tell<E: Write>(trouble: Trouble<'_>, err: &mut E) -> Outcome
-    ensures { (result ≡ Outcome.Unread) ⊎ (result ≡ Outcome.Failed) }
+    ensures { result ≡ outcome_of trouble.entry }
 {
     let _ = writeln!(err, "vast_check: {trouble}");
     match trouble {

@@ -1,6 +1,6 @@
 //! Whether two files are the same.
 
-ghost use Rattle.std.specs.Prelude.{◌≡◌, ◌≢◌, IfOk, codes, string_bytes};
+ghost use Rattle.std.specs.Prelude.{◌≡◌, ◌≢◌, ◌⊎◌, IfOk, codes, string_bytes};
 ghost use Rattle.std.specs.Io.KnownBytes.{Appends};
 ghost use Rattle.vast_check.specs.Check.{AreSame};
 ghost use Rattle.vast_check.specs.Internal.Check.{Compares};
@@ -44,7 +44,8 @@ pub(crate) fn compare<W: Write, E: Write>(
     ensures same { result ≡ Outcome.Yes → AreSame old.entry.bytes.now new.entry.bytes.now ×
         Appends (W.contents out.old) (W.contents out.new) (codes "same\n") }
     ensures other { result ≡ Outcome.No → AreSame old.entry.bytes.now new.entry.bytes.now → ⊥ }
-    ensures silent { result ≡ Outcome.Yes → E.contents err.new ≡ E.contents err.old }
+    ensures told { result ≢ Outcome.Unread }
+    ensures silent { result ≢ Outcome.Failed → E.contents err.new ≡ E.contents err.old }
 {
     match found_of(alloc, old.bytes, new.bytes) {
         Ok(Found::Same) => write_line(same_line(alloc), Outcome::Yes, out, err),
@@ -118,7 +119,8 @@ fn tell_underived<W: Write, E: Write>(
     out: &mut W,
     err: &mut E,
 ) -> Outcome
-    ensures { result ≢ Outcome.Yes }
+    ensures told { (result ≡ Outcome.No) ⊎ (result ≡ Outcome.Failed) }
+    ensures silent { result ≢ Outcome.Failed → E.contents err.new ≡ E.contents err.old }
 {
     match answer_of(alloc, source.bytes) {
         Ok(Answer::Derived) => Outcome::No,

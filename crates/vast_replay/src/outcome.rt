@@ -1,6 +1,7 @@
 //! How a run ends.
 
-ghost use Rattle.std.specs.Prelude.{◌≡◌, ◌≤◌, ◌⊎◌};
+ghost use Rattle.std.specs.Prelude.{◌≡◌};
+ghost use Rattle.vast_replay.specs.Ends.{status_of, worse};
 
 /// What became of lists.
 #[derive(Clone, Copy, PartialEq)]
@@ -20,8 +21,9 @@ pub enum Outcome {
 }
 
 impl Outcome {
-    /// What became of these lists and of the next.
+    /// What became of these lists and of the next: the worse of the two.
     pub fn and(self, next: Outcome) -> Outcome
+        ensures worst { result ≡ worse self next }
         ensures made { result ≡ Outcome.Made → next ≡ Outcome.Made }
         ensures both { result ≡ Outcome.Made → self ≡ Outcome.Made }
     {
@@ -37,8 +39,7 @@ impl Outcome {
 
     /// The program's status.
     pub fn status(self) -> u8
-        ensures most { result ≤ 3 }
-        ensures made { result ≡ 0 → (self ≡ Outcome.Made) ⊎ (self ≡ Outcome.Warned) }
+        ensures { result ≡ status_of self }
     {
         match self {
             Outcome::Made | Outcome::Warned => 0,
