@@ -5,12 +5,12 @@ use Rattle.vast_script.specs.declared.step.Step.{Step}
 use Rattle.vast_lint.specs.declared.lint.Lint.{Lint}
 use Rattle.vast_lint.specs.declared.notes.Note.{Note}
 use Rattle.vast_lint.specs.Notes.{noted, told_at_end}
-use Rattle.vast_lint.specs.Lint.{Takes, ends_with}
+use Rattle.vast_lint.specs.Lint.{NotesAnswer, ends_with}
 
--- The lint takes these answers, one after another.
-abbrev pub TakesEach : (old new : Lint) → List (Option Step) → Type 0
-TakesEach old new [] = new ≡ old
-TakesEach old new (step ∷ steps) = (between : Lint) × Takes old between step × TakesEach between new steps
+-- The lint notes these answers, one after another.
+abbrev pub NotesEach : (old new : Lint) → List (Option Step) → Type 0
+NotesEach old new [] = new ≡ old
+NotesEach old new (step ∷ steps) = (between : Lint) × NotesAnswer old between step × NotesEach between new steps
 
 -- The notes that a list leaves: each step notes its own answer, and mends earlier ones.
 abbrev pub notes_left : List (Option Step) → List Note
@@ -20,5 +20,5 @@ notes_left steps = fold noted [] steps
 abbrev pub EndTellsUnmended : Type 0
 EndTellsUnmended =
     (dialect : VastFileType) (steps : List (Option Step)) (first last : Lint) →
-    first.dialect ≡ dialect → first.answers.items ≡ [] → TakesEach first last steps →
+    first.dialect ≡ dialect → first.answers.items ≡ [] → NotesEach first last steps →
     ends_with last ≡ told_at_end dialect 0 (notes_left steps)

@@ -9,10 +9,10 @@ use Rattle.vast_lint.specs.Notes.{notes, noted, told_at_end}
 abbrev pub counted : Lint → ℕ
 counted lint = length lint.answers.items
 
--- The lint takes one answer more: that of a step (`Some`), or of what is no step.
-pub record Takes (old new : Lint) (step : Option Step) : Type 0 where
+-- The lint notes one answer more: that of a step (`Some`), or of what is no step.
+pub record NotesAnswer (old new : Lint) (step : Option Step) : Type 0 where
   pub dialect : new.dialect ≡ old.dialect
-  pub noted : notes new.answers.items ≡ noted (notes old.answers.items) step
+  pub notes : notes new.answers.items ≡ noted (notes old.answers.items) step
 
 -- What is told of a list that ends here.
 abbrev pub ends_with : Lint → List Warning

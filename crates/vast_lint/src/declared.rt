@@ -7,7 +7,8 @@ use crate::words::name_rule;
 use std::alloc::{AllocError, Global};
 use std::collections::BTreeSet;
 
-/// The names so far, each with the number of the module or the loop that declares it, and `default` with that of a case.
+/// The names so far, each with the number of the module or the loop that declares it, and `default`
+/// with that of a case.
 #[derive(Drop)]
 pub(crate) struct Declared {
     alloc: Global,
@@ -22,7 +23,8 @@ impl Declared {
         }
     }
 
-    /// Declares the name in the module, the loop or the case of this number; whether it wasn't there before.
+    /// Declares the name in the module, the loop or the case of this number; whether it wasn't there
+    /// before.
     fn enter(&mut self, owner: usize, name: &str) -> Result<bool, AllocError> {
         let entry = format!(in self.alloc; "{owner} {name}")?;
         Ok(self.names.insert(entry)?)

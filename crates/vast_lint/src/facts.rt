@@ -19,7 +19,8 @@ pub(crate) enum Fact {
     Type(TypeForm),
     /// What a parameter is declared by.
     Definition(DataKind, TypeForm, String),
-    /// A block, a conditional, a case or an always block, and whether it stands in a module's conditional.
+    /// A block, a conditional, a case or an always block, and whether it stands in a module's
+    /// conditional.
     Statements(bool),
     /// An instance that stands nowhere yet, by its name.
     Instance(String),

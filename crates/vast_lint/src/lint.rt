@@ -1,7 +1,7 @@
 //! The lint of a list.
 
 ghost use Rattle.std.specs.Prelude.{◌≡◌, ◌+◌, ◌++◌, [], None, Some, All, IfOk, OnErr, OnOk};
-ghost use Rattle.vast_lint.specs.Lint.{Takes, counted, ends_with};
+ghost use Rattle.vast_lint.specs.Lint.{NotesAnswer, counted, ends_with};
 ghost use Rattle.vast_lint.specs.Notes.{end_rule, shown_at, told_by};
 
 use crate::artifacts::artifact;
@@ -54,7 +54,7 @@ impl Lint {
     /// `AllocError` where memory was refused; the answer is then not counted, but its names may be.
     pub fn step(&mut self, step: &Step) -> Result<Vec<Warning>, AllocError>
         ensures counted { OnOk result (counted self.new ≡ counted self.old + 1) }
-        ensures takes { OnOk result (Takes self.old self.new (Some step.now)) }
+        ensures noted { OnOk result (NotesAnswer self.old self.new (Some step.now)) }
         ensures numbers { IfOk result (λ told. All (λ w. w.number ≡ counted self.old) told.items) }
         ensures unchanged { OnErr result (self.new.answers.items ≡ self.old.answers.items) }
     {
@@ -79,7 +79,7 @@ impl Lint {
     /// `AllocError` where memory was refused; nothing is then counted.
     pub fn pass(&mut self) -> Result<(), AllocError>
         ensures counted { OnOk result (counted self.new ≡ counted self.old + 1) }
-        ensures takes { OnOk result (Takes self.old self.new None) }
+        ensures noted { OnOk result (NotesAnswer self.old self.new None) }
         ensures unchanged { OnErr result (self.new.answers.items ≡ self.old.answers.items) }
     {
         self.answers.push(Kept {

@@ -1,4 +1,5 @@
-//! What the lint notes of each answer for the end of the list, which tells what no later step has mended.
+//! What the lint notes of each answer for the end of the list, which tells what no later step has
+//! mended.
 
 ghost use Rattle.std.specs.Prelude.{◌≡◌};
 ghost use Rattle.vast_core.specs.Records.{changed_at};

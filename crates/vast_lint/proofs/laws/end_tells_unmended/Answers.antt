@@ -1,5 +1,5 @@
-use Rattle.vast_lint.proofs.Taken as taken
+use Rattle.vast_lint.proofs.Noted as noted
 use Rattle.vast_lint.proofs.laws.end_tells_unmended.Goals as goal
 
 pub returns : goal.returns
-returns c = taken.end_tells_unmended
+returns c = noted.end_tells_unmended

@@ -2,7 +2,7 @@ use Rattle.std.proofs.Common.{sym, ap, ◌∙◌, arith}
 use Rattle.vast_core.proofs.Lists.{changed-map}
 use Rattle.vast_lint.specs.declared.facts.Kept.{Kept}
 use Rattle.vast_lint.specs.Notes.{mended}
-use Rattle.vast_lint.proofs.Taken.{changed-past}
+use Rattle.vast_lint.proofs.Noted.{changed-past}
 use Rattle.vast_lint.proofs.notes.mend_one.Goals as goal
 
 pub returns-then-number-answers : goal.returns-then-number-answers

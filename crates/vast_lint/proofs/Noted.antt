@@ -1,4 +1,4 @@
--- Lists of answers that a lint takes.
+-- Lists of answers that a lint notes.
 use Rattle.std.proofs.Common.{◌≡◌, ℕ, zero, suc, ◌≤◌, List, [], ◌∷◌, length, map, Option, refl, ap, ◌∙◌, arith}
 use Rattle.std.specs.List.{fold}
 use Rattle.vast_core.specs.Records.{changed_at}
@@ -6,22 +6,22 @@ use Rattle.vast_script.specs.declared.step.Step.{Step}
 use Rattle.vast_lint.specs.declared.lint.Lint.{Lint}
 use Rattle.vast_lint.specs.declared.notes.Note.{Note}
 use Rattle.vast_lint.specs.Notes.{notes, noted}
-use Rattle.vast_lint.specs.Laws.{TakesEach, notes_left, EndTellsUnmended}
+use Rattle.vast_lint.specs.Laws.{NotesEach, notes_left, EndTellsUnmended}
 
 -- The notes behind a list are those of its answers, one after another.
-notes-after : (old new : Lint) (steps : List (Option Step)) → TakesEach old new steps → notes new.answers.items ≡ fold noted (notes old.answers.items) steps
+notes-after : (old new : Lint) (steps : List (Option Step)) → NotesEach old new steps → notes new.answers.items ≡ fold noted (notes old.answers.items) steps
 notes-after old new [] h = ap (λ (l : Lint). notes l.answers.items) h
-notes-after old new (step ∷ steps) h = notes-after h.0 new steps h.2 ∙ ap (λ (ns : List Note). fold noted ns steps) h.1.noted
+notes-after old new (step ∷ steps) h = notes-after h.0 new steps h.2 ∙ ap (λ (ns : List Note). fold noted ns steps) h.1.notes
 
-dialect-after : (old new : Lint) (steps : List (Option Step)) → TakesEach old new steps → new.dialect ≡ old.dialect
+dialect-after : (old new : Lint) (steps : List (Option Step)) → NotesEach old new steps → new.dialect ≡ old.dialect
 dialect-after old new [] h = ap (λ (l : Lint). l.dialect) h
 dialect-after old new (step ∷ steps) h = dialect-after h.0 new steps h.2 ∙ h.1.dialect
 
 pub end_tells_unmended : EndTellsUnmended
-end_tells_unmended dialect steps first last same none taken =
-    let spoken : last.dialect ≡ dialect = dialect-after first last steps taken ∙ same in
+end_tells_unmended dialect steps first last same none each =
+    let spoken : last.dialect ≡ dialect = dialect-after first last steps each ∙ same in
     let left : notes last.answers.items ≡ notes_left steps =
-    notes-after first last steps taken ∙ ap (λ answers. fold noted (notes answers) steps) none in
+    notes-after first last steps each ∙ ap (λ answers. fold noted (notes answers) steps) none in
     rw (spoken, left)
 
 -- Nothing is changed behind the end of a list.
