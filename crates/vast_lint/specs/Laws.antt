@@ -5,7 +5,7 @@ use Rattle.vast_script.specs.declared.step.Step.{Step}
 use Rattle.vast_lint.specs.declared.lint.Lint.{Lint}
 use Rattle.vast_lint.specs.declared.notes.Note.{Note}
 use Rattle.vast_lint.specs.Notes.{noted, told_at_end}
-use Rattle.vast_lint.specs.Lint.{NotesAnswer, ends_with}
+use Rattle.vast_lint.specs.Lint.{NotesAnswer, told_of}
 
 -- The lint notes these answers, one after another.
 abbrev pub NotesEach : (old new : Lint) → List (Option Step) → Type 0
@@ -21,4 +21,4 @@ abbrev pub EndTellsUnmended : Type 0
 EndTellsUnmended =
     (dialect : VastFileType) (steps : List (Option Step)) (first last : Lint) →
     first.dialect ≡ dialect → first.answers.items ≡ [] → NotesEach first last steps →
-    ends_with last ≡ told_at_end dialect 0 (notes_left steps)
+    told_of last ≡ told_at_end dialect 0 (notes_left steps)

@@ -15,5 +15,5 @@ pub record NotesAnswer (old new : Lint) (step : Option Step) : Type 0 where
   pub notes : notes new.answers.items ≡ noted (notes old.answers.items) step
 
 -- What is told of a list that ends here.
-abbrev pub ends_with : Lint → List Warning
-ends_with lint = told_at_end lint.dialect 0 (notes lint.answers.items)
+abbrev pub told_of : Lint → List Warning
+told_of lint = told_at_end lint.dialect 0 (notes lint.answers.items)

@@ -1,7 +1,7 @@
 //! The lint of a list.
 
 ghost use Rattle.std.specs.Prelude.{◌≡◌, ◌+◌, ◌++◌, [], None, Some, All, IfOk, OnErr, OnOk};
-ghost use Rattle.vast_lint.specs.Lint.{NotesAnswer, counted, ends_with};
+ghost use Rattle.vast_lint.specs.Lint.{NotesAnswer, counted, told_of};
 ghost use Rattle.vast_lint.specs.Notes.{end_rule, shown_at, told_by};
 
 use crate::artifacts::artifact;
@@ -94,7 +94,7 @@ impl Lint {
     /// # Errors
     /// `AllocError` where memory was refused.
     pub fn end(&self) -> Result<Vec<Warning>, AllocError>
-        ensures { IfOk result (λ told. told.items ≡ ends_with self.now) }
+        ensures { IfOk result (λ told. told.items ≡ told_of self.now) }
     {
         let mut warnings = Vec::new(self.alloc);
         for (number, answer) in self.answers.iter().enumerate() {
