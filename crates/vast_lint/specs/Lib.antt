@@ -1,2 +1,4 @@
+pub mod Notes
 pub mod Lint
+pub mod Laws
 pub mod Internal

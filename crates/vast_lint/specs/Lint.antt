@@ -1,29 +1,19 @@
--- What a lint tells of a list.
-use Rattle.std.specs.Prelude.{ℕ, ◌+◌, ◌++◌, List, [], ◌∷◌, Bool, true, false, not, cond, length}
-use Rattle.vast_literal.specs.declared.kind.VastFileType.{VastFileType}
-use Rattle.vast_literal.specs.declared.kind.VastFileType.TheVariants.{Verilog}
-use Rattle.vast_lint.specs.declared.facts.Fact.{Fact}
-use Rattle.vast_lint.specs.declared.facts.Fact.TheVariants.{Expression, Function, Case}
-use Rattle.vast_lint.specs.declared.forms.Form.TheVariants.{NoTimes}
+-- What a lint keeps and tells of a list.
+use Rattle.std.specs.Prelude.{◌≡◌, ℕ, List, length, Option}
+use Rattle.vast_script.specs.declared.step.Step.{Step}
 use Rattle.vast_lint.specs.declared.lint.Lint.{Lint}
+use Rattle.vast_lint.specs.declared.warning.Warning.{Warning}
+use Rattle.vast_lint.specs.Notes.{notes, noted, told_at_end}
 
 -- How many answers the lint has counted.
 abbrev pub counted : Lint → ℕ
-counted lint = length lint.facts.items
+counted lint = length lint.answers.items
 
--- What only the end of a list tells, since a later step may mend it: a case without arms, a replication of no times that
--- stands in no concatenation, and in Verilog a function without inputs.
-abbrev pub is_unmended : VastFileType → Fact → Bool
-is_unmended dialect (Case case) = not case.has_arms
-is_unmended dialect (Expression NoTimes) = true
-is_unmended Verilog (Function has_inputs) = not has_inputs
-is_unmended _ _ = false
+-- The lint notes one answer more: that of a step (`Some`), or of what is no step.
+pub record NotesAnswer (old new : Lint) (step : Option Step) : Type 0 where
+  pub dialect : new.dialect ≡ old.dialect
+  pub notes : notes new.answers.items ≡ noted (notes old.answers.items) step
 
--- The answer of this number, if no later step has mended it.
-abbrev pub left_one : VastFileType → ℕ → Fact → List ℕ
-left_one dialect number fact = cond (is_unmended dialect fact) (number ∷ []) []
-
--- The numbers of those among the answers, of which the first has this number, that no later step has mended.
-abbrev pub unmended : VastFileType → ℕ → List Fact → List ℕ
-unmended dialect number [] = []
-unmended dialect number (fact ∷ facts) = left_one dialect number fact ++ unmended dialect (number + 1) facts
+-- What is told of a list that ends here.
+abbrev pub told_of : Lint → List Warning
+told_of lint = told_at_end lint.dialect 0 (notes lint.answers.items)

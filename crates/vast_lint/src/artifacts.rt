@@ -79,7 +79,7 @@ pub(crate) fn add_instance(
     instance: usize,
     told: &mut Told,
 ) -> Result<(), AllocError> {
-    match known.facts.get(instance) {
+    match known.fact(instance) {
         Some(Fact::Instance(name)) => declare_instance(declared, owner, name, told),
         _ => Ok(()),
     }

@@ -1,4 +1,4 @@
-//! The names that modules and loops declare.
+//! The names that modules and loops declare, and the defaults of cases.
 
 use crate::facts::Known;
 use crate::rule::Rule;
@@ -7,7 +7,8 @@ use crate::words::name_rule;
 use std::alloc::{AllocError, Global};
 use std::collections::BTreeSet;
 
-/// The names so far, each with the number of the module or the loop that declares it.
+/// The names so far, each with the number of the module or the loop that declares it, and `default`
+/// with that of a case.
 #[derive(Drop)]
 pub(crate) struct Declared {
     alloc: Global,
@@ -22,7 +23,8 @@ impl Declared {
         }
     }
 
-    /// Declares the name in the module or the loop of this number; whether it wasn't there before.
+    /// Declares the name in the module, the loop or the case of this number; whether it wasn't there
+    /// before.
     fn enter(&mut self, owner: usize, name: &str) -> Result<bool, AllocError> {
         let entry = format!(in self.alloc; "{owner} {name}")?;
         Ok(self.names.insert(entry)?)
@@ -69,4 +71,14 @@ pub(crate) fn declare_instance(
 ) -> Result<(), AllocError> {
     let is_new = declared.enter(owner, name)?;
     told.tell_if(!is_new, Rule::InstanceTwice)
+}
+
+/// The case of this number has a default.
+pub(crate) fn declare_default(
+    declared: &mut Declared,
+    owner: usize,
+    told: &mut Told,
+) -> Result<(), AllocError> {
+    let is_new = declared.enter(owner, "default")?;
+    told.tell_if(!is_new, Rule::TwoDefaults)
 }

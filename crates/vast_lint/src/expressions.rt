@@ -187,11 +187,11 @@ fn list(known: Known<'_>, step: &ExpressionStep, told: &mut Told) -> Result<Form
         }
         ExpressionStep::MakeReplicatedConcat(times, parts) => {
             told.show_any(known.form(*times).times_rule())?;
-            replication(known, known.form(*times) == Form::Number(0), parts, told)
+            replication(known, parts, told)
         }
         ExpressionStep::MakeReplicatedConcatI64(times, parts) => {
             told.show_if(*times < 0, Rule::NegativeReplication)?;
-            replication(known, *times == 0, parts, told)
+            replication(known, parts, told)
         }
         ExpressionStep::MakeArrayAssignmentPattern(parts) => {
             operands(known, parts, told)?;
@@ -212,19 +212,10 @@ fn pattern_rule(known: Known<'_>, parts: &[usize]) -> Rule {
     }
 }
 
-fn replication(
-    known: Known<'_>,
-    is_none: bool,
-    parts: &[usize],
-    told: &mut Told,
-) -> Result<Form, AllocError> {
+fn replication(known: Known<'_>, parts: &[usize], told: &mut Told) -> Result<Form, AllocError> {
     told.show_if(parts.is_empty(), Rule::EmptyReplication)?;
     concat_parts(known, parts, told)?;
-    if is_none {
-        Ok(Form::NoTimes)
-    } else {
-        Ok(Form::Computed)
-    }
+    Ok(Form::Computed)
 }
 
 /// Tells what can't stand among the parts of a concatenation.

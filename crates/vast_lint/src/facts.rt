@@ -1,8 +1,16 @@
 //! What the lint keeps of each answer.
 
 use crate::forms::{Form, TypeForm};
+use crate::notes::Note;
 use std::alloc::Global;
 use xlsynth_vast::{DataKind, VastFileType};
+
+/// What is kept of an answer.
+#[derive(Drop)]
+pub(crate) struct Kept {
+    pub(crate) fact: Fact,
+    pub(crate) note: Note,
+}
 
 /// What an answer is, as far as a rule asks.
 #[derive(Drop)]
@@ -11,23 +19,13 @@ pub(crate) enum Fact {
     Type(TypeForm),
     /// What a parameter is declared by.
     Definition(DataKind, TypeForm, String),
-    /// A function, and whether it has inputs.
-    Function(bool),
-    /// A block, a conditional or an always block, and whether it stands in a module's conditional.
+    /// A block, a conditional, a case or an always block, and whether it stands in a module's
+    /// conditional.
     Statements(bool),
-    Case(CaseFact),
     /// An instance that stands nowhere yet, by its name.
     Instance(String),
     /// Anything else.
     Other,
-}
-
-/// What a case has so far.
-#[derive(Clone, Copy)]
-pub(crate) struct CaseFact {
-    pub(crate) is_generate: bool,
-    pub(crate) has_arms: bool,
-    pub(crate) has_default: bool,
 }
 
 /// What is known behind the steps so far.
@@ -35,17 +33,25 @@ pub(crate) struct CaseFact {
 pub(crate) struct Known<'a> {
     pub(crate) alloc: Global,
     pub(crate) dialect: VastFileType,
-    pub(crate) facts: &'a [Fact],
+    pub(crate) answers: &'a [Kept],
 }
 
-impl Known<'_> {
+impl<'a> Known<'a> {
     pub(crate) fn is_verilog(self) -> bool {
         self.dialect == VastFileType::Verilog
     }
 
+    /// What the answer of this number is.
+    pub(crate) fn fact(self, number: usize) -> Option<&'a Fact> {
+        match self.answers.get(number) {
+            Some(answer) => Some(&answer.fact),
+            None => None,
+        }
+    }
+
     /// What the expression of this number is.
     pub(crate) fn form(self, number: usize) -> Form {
-        match self.facts.get(number) {
+        match self.fact(number) {
             Some(Fact::Expression(form)) => *form,
             _ => Form::Other,
         }
@@ -53,7 +59,7 @@ impl Known<'_> {
 
     /// What the type of this number is, if it is one.
     pub(crate) fn type_form(self, number: usize) -> Option<TypeForm> {
-        match self.facts.get(number) {
+        match self.fact(number) {
             Some(Fact::Type(form)) => Some(*form),
             _ => None,
         }
@@ -69,9 +75,8 @@ impl Known<'_> {
 
     /// Whether the block, the conditional or the case of this number stands in a module's conditional.
     pub(crate) fn is_generate(self, number: usize) -> bool {
-        match self.facts.get(number) {
+        match self.fact(number) {
             Some(Fact::Statements(is_generate)) => *is_generate,
-            Some(Fact::Case(case)) => case.is_generate,
             _ => false,
         }
     }

@@ -28,8 +28,6 @@ pub(crate) enum Form {
     Computed,
     /// A concatenation, and whether each of its parts can stand on the left of an assignment.
     Concat(bool),
-    /// A replication of no times.
-    NoTimes,
     Pattern,
     Edge,
     /// A macro, or what a helper made.

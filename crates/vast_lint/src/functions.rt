@@ -22,7 +22,7 @@ pub(crate) fn function(
     if let Some(form) = known.type_form(result_type) {
         told.tell_any(result_rule(known, form))?;
     }
-    Ok(Fact::Function(false))
+    Ok(Fact::Other)
 }
 
 /// The rule that tells a result of this type.

@@ -1,21 +1,21 @@
 //! The lint of a list.
 
-ghost use Rattle.std.specs.Prelude.{◌≡◌, ◌+◌, ◌++◌, [], All, IfOk, OnErr, OnOk, is_some, length, map};
-ghost use Rattle.vast_lint.specs.Lint.{counted, is_unmended, left_one, unmended};
+ghost use Rattle.std.specs.Prelude.{◌≡◌, ◌+◌, ◌++◌, [], None, Some, All, IfOk, OnErr, OnOk};
+ghost use Rattle.vast_lint.specs.Lint.{NotesAnswer, counted, told_of};
+ghost use Rattle.vast_lint.specs.Notes.{end_rule, shown_at, told_by};
 
 use crate::artifacts::artifact;
 use crate::declared::Declared;
 use crate::expressions::{expression, operator};
-use crate::facts::{Fact, Known};
-use crate::forms::Form;
+use crate::facts::{Fact, Kept, Known};
 use crate::loops::generate;
 use crate::modules::module;
-use crate::rule::Rule;
+use crate::notes::{Note, mend, mends, opened};
 use crate::statements::statement;
 use crate::types::data_type;
 use crate::warning::{Told, Warning};
 use std::alloc::{AllocError, Global};
-use vast_script::{ExpressionStep, StatementStep, Step};
+use vast_script::Step;
 use xlsynth_vast::VastFileType;
 
 /// What the lint keeps of the answers so far.
@@ -23,8 +23,7 @@ use xlsynth_vast::VastFileType;
 pub struct Lint {
     alloc: Global,
     dialect: VastFileType,
-    /// One for each answer.
-    facts: Vec<Fact>,
+    answers: Vec<Kept>,
     declared: Declared,
 }
 
@@ -32,12 +31,12 @@ impl Lint {
     /// Before the first step of a list of the dialect. It takes no memory.
     pub fn new(alloc: Global, dialect: VastFileType) -> Lint
         ensures dialect { result.dialect ≡ dialect }
-        ensures facts { result.facts.items ≡ [] }
+        ensures answers { result.answers.items ≡ [] }
     {
         Lint {
             alloc,
             dialect,
-            facts: Vec::new(alloc),
+            answers: Vec::new(alloc),
             declared: Declared::new(alloc),
         }
     }
@@ -46,7 +45,7 @@ impl Lint {
     pub fn counted(&self) -> usize
         ensures { result ≡ counted self.now }
     {
-        self.facts.len()
+        self.answers.len()
     }
 
     /// The step was made: its answer is the next. What is told of it, in order.
@@ -55,20 +54,22 @@ impl Lint {
     /// `AllocError` where memory was refused; the answer is then not counted, but its names may be.
     pub fn step(&mut self, step: &Step) -> Result<Vec<Warning>, AllocError>
         ensures counted { OnOk result (counted self.new ≡ counted self.old + 1) }
+        ensures noted { OnOk result (NotesAnswer self.old self.new (Some step.now)) }
         ensures numbers { IfOk result (λ told. All (λ w. w.number ≡ counted self.old) told.items) }
-        ensures unchanged { OnErr result (self.new.facts.items ≡ self.old.facts.items) }
+        ensures unchanged { OnErr result (self.new.answers.items ≡ self.old.answers.items) }
     {
-        let number = self.facts.len();
+        let number = self.answers.len();
         let mut told = Told::new(self.alloc, number);
         let known = Known {
             alloc: self.alloc,
             dialect: self.dialect,
-            facts: &self.facts,
+            answers: &self.answers,
         };
         let fact = fact_of(known, &mut self.declared, step, &mut told)?;
         let warnings = told.warnings(self.alloc, number)?;
-        self.facts.push(fact)?;
-        mark(&mut self.facts, step);
+        let note = opened(&self.answers, step);
+        self.answers.push(Kept { fact, note })?;
+        mend(&mut self.answers, mends(step));
         Ok(warnings)
     }
 
@@ -78,9 +79,13 @@ impl Lint {
     /// `AllocError` where memory was refused; nothing is then counted.
     pub fn pass(&mut self) -> Result<(), AllocError>
         ensures counted { OnOk result (counted self.new ≡ counted self.old + 1) }
-        ensures unchanged { OnErr result (self.new.facts.items ≡ self.old.facts.items) }
+        ensures noted { OnOk result (NotesAnswer self.old self.new None) }
+        ensures unchanged { OnErr result (self.new.answers.items ≡ self.old.answers.items) }
     {
-        self.facts.push(Fact::Other)?;
+        self.answers.push(Kept {
+            fact: Fact::Other,
+            note: Note::Nothing,
+        })?;
         Ok(())
     }
 
@@ -89,12 +94,11 @@ impl Lint {
     /// # Errors
     /// `AllocError` where memory was refused.
     pub fn end(&self) -> Result<Vec<Warning>, AllocError>
-        ensures { IfOk result (λ told. map (λ w. w.number) told.items
-            ≡ unmended self.now.dialect 0 self.now.facts.items) }
+        ensures { IfOk result (λ told. told.items ≡ told_of self.now) }
     {
         let mut warnings = Vec::new(self.alloc);
-        for (number, fact) in self.facts.iter().enumerate() {
-            tell_left(self.dialect, number, fact, &mut warnings)?;
+        for (number, answer) in self.answers.iter().enumerate() {
+            tell_left(self.dialect, number, answer.note, &mut warnings)?;
         }
         Ok(warnings)
     }
@@ -118,87 +122,22 @@ fn fact_of(
     }
 }
 
-/// The rule that tells an answer which no later step has mended.
-fn end_rule(dialect: VastFileType, fact: &Fact) -> Option<Rule>
-    ensures { is_some result ≡ is_unmended dialect fact.now }
-{
-    match fact {
-        Fact::Case(case) if !case.has_arms => Some(Rule::CaseWithoutArms),
-        Fact::Expression(Form::NoTimes) => Some(Rule::ZeroReplication),
-        Fact::Function(false) if dialect == VastFileType::Verilog => Some(Rule::VerilogNoInputs),
-        _ => None,
-    }
-}
-
 /// Tells the answer of this number, if no later step has mended it.
 fn tell_left(
     dialect: VastFileType,
     number: usize,
-    fact: &Fact,
+    note: Note,
     warnings: &mut Vec<Warning>,
 ) -> Result<(), AllocError>
-    ensures { OnOk result (map (λ w. w.number) warnings.new.items
-        ≡ map (λ w. w.number) warnings.old.items ++ left_one dialect number fact.now) }
+    ensures { OnOk result (warnings.new.items
+        ≡ warnings.old.items ++ told_by (end_rule dialect note) number (shown_at note number)) }
 {
-    if let Some(rule) = end_rule(dialect, fact) {
+    if let Some(rule) = note.rule(dialect) {
         warnings.push(Warning {
             rule,
             number,
-            shown: shown_at(fact, number),
+            shown: note.shown_at(number),
         })?;
     }
     Ok(())
-}
-
-/// The number of the expression that shows it, if the answer is one.
-fn shown_at(fact: &Fact, number: usize) -> Option<usize> {
-    match fact {
-        Fact::Expression(_) => Some(number),
-        _ => None,
-    }
-}
-
-/// What the step changes of earlier answers.
-fn mark(facts: &mut [Fact], step: &Step)
-    ensures { length facts.new ≡ length facts.old }
-{
-    match step {
-        Step::Statements(StatementStep::CaseAddItem(case, _)) => mark_arm(facts, *case, false),
-        Step::Statements(StatementStep::CaseAddDefault(case)) => mark_arm(facts, *case, true),
-        Step::Statements(
-            StatementStep::FunctionAddInput(function, _, _)
-            | StatementStep::FunctionAddLogicInput(function, _, _),
-        ) => {
-            if let Some(fact) = facts.get_mut(*function) {
-                *fact = Fact::Function(true);
-            }
-        }
-        Step::Expressions(ExpressionStep::MakeConcat(parts)) => {
-            for part in parts {
-                mark_part(facts, *part);
-            }
-        }
-        _ => {}
-    }
-}
-
-/// The case of this number gets an arm.
-fn mark_arm(facts: &mut [Fact], number: usize, is_default: bool)
-    ensures { length facts.new ≡ length facts.old }
-{
-    if let Some(Fact::Case(case)) = facts.get_mut(number) {
-        case.has_arms = true;
-        case.has_default = case.has_default || is_default;
-    }
-}
-
-/// A replication of no times may stand in a concatenation.
-fn mark_part(facts: &mut [Fact], number: usize)
-    ensures { length facts.new ≡ length facts.old }
-{
-    if let Some(fact) = facts.get_mut(number) {
-        if let Fact::Expression(Form::NoTimes) = fact {
-            *fact = Fact::Expression(Form::Computed);
-        }
-    }
 }

@@ -28,7 +28,7 @@ pub(crate) fn defined_parameter(
     definition: usize,
     told: &mut Told,
 ) -> Result<Fact, AllocError> {
-    if let Some(Fact::Definition(kind, form, name)) = known.facts.get(definition) {
+    if let Some(Fact::Definition(kind, form, name)) = known.fact(definition) {
         declare(known, declared, owner, name, told)?;
         told.tell_any(definition_rule(known, *kind, *form))?;
     }

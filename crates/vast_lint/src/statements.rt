@@ -1,8 +1,8 @@
 //! Calls of functions, always blocks, conditionals and statements.
 
-use crate::declared::Declared;
+use crate::declared::{Declared, declare_default};
 use crate::expressions::operand;
-use crate::facts::{CaseFact, Fact, Known};
+use crate::facts::{Fact, Known};
 use crate::forms::Form;
 use crate::functions::{function, input};
 use crate::modules::{Word, variable};
@@ -42,6 +42,10 @@ pub(crate) fn statement(
         StatementStep::AddAlwaysFf(_, events) => always_ff(known, events, told),
         StatementStep::AddAlwaysAt(_, events) => always_at(known, events, told),
         StatementStep::AddAlwaysComb(_) => always_comb(known, told),
+        StatementStep::CaseAddDefault(owner) => {
+            declare_default(declared, *owner, told)?;
+            Ok(Fact::Statements(known.is_generate(*owner)))
+        }
         _ => in_block(known, step, told),
     }
 }
@@ -139,10 +143,6 @@ fn of_case(known: Known<'_>, step: &StatementStep, told: &mut Told) -> Result<Fa
             }
             Ok(Fact::Statements(known.is_generate(*owner)))
         }
-        StatementStep::CaseAddDefault(owner) => {
-            told.tell_if(has_default(known, *owner), Rule::TwoDefaults)?;
-            Ok(Fact::Statements(known.is_generate(*owner)))
-        }
         StatementStep::CaseSetUnique(owner, is_unique) => {
             let is_generate = known.is_generate(*owner);
             told.tell_if(*is_unique && is_generate, Rule::UniqueInGenerate)?;
@@ -152,7 +152,7 @@ fn of_case(known: Known<'_>, step: &StatementStep, told: &mut Told) -> Result<Fa
     }
 }
 
-/// A case without arms, in the block of this number.
+/// A case in the block of this number.
 fn case(
     known: Known<'_>,
     owner: usize,
@@ -160,17 +160,5 @@ fn case(
     told: &mut Told,
 ) -> Result<Fact, AllocError> {
     operand(known, selector, told)?;
-    Ok(Fact::Case(CaseFact {
-        is_generate: known.is_generate(owner),
-        has_arms: false,
-        has_default: false,
-    }))
-}
-
-/// Whether the case of this number has a default already.
-fn has_default(known: Known<'_>, number: usize) -> bool {
-    match known.facts.get(number) {
-        Some(Fact::Case(case)) => case.has_default,
-        _ => false,
-    }
+    Ok(Fact::Statements(known.is_generate(owner)))
 }

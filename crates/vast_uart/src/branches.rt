@@ -1,10 +1,11 @@
 //! Blocks of the transmitter.
 
 ghost use Rattle.std.specs.Prelude.{IfOk};
-ghost use Rattle.vast_core.specs.Bench.{OwnsBlock, OwnsExpr, OwnsModule, OwnsType};
+ghost use Rattle.vast_core.specs.Bench.{OwnsBlock, OwnsExpr, OwnsModule};
+ghost use Rattle.xlsynth_vast.specs.Keeps.{Keeps};
 
 use crate::fault::UartFault;
-use xlsynth_vast::{Expr, VastDataType, VastFile, VastModule, VastStatementBlock};
+use xlsynth_vast::{Expr, VastFile, VastModule, VastStatementBlock};
 
 /// What happens at an edge of the clock.
 #[derive(Drop)]
@@ -30,10 +31,7 @@ pub(crate) fn add_clocked(
     requires owner { OwnsModule file.old owner }
     requires clk { OwnsExpr file.old clk }
     ensures answer { IfOk result (λ body. OwnsBlock file.new body) }
-    ensures exprs { (e : Expr) → OwnsExpr file.old e → OwnsExpr file.new e }
-    ensures types { (t : VastDataType) → OwnsType file.old t → OwnsType file.new t }
-    ensures modules { (m : VastModule) → OwnsModule file.old m → OwnsModule file.new m }
-    ensures blocks { (x : VastStatementBlock) → OwnsBlock file.old x → OwnsBlock file.new x }
+    ensures kept { Keeps file.old file.new }
 {
     let edge = file.make_pos_edge(&clk)?;
     let always = file.add_always_ff(owner, &[&edge])?;
@@ -54,10 +52,7 @@ pub(crate) fn add_branches(
     ensures at_reset { IfOk result (λ b. OwnsBlock file.new b.at_reset) }
     ensures at_start { IfOk result (λ b. OwnsBlock file.new b.at_start) }
     ensures at_clock { IfOk result (λ b. OwnsBlock file.new b.at_clock) }
-    ensures exprs { (e : Expr) → OwnsExpr file.old e → OwnsExpr file.new e }
-    ensures types { (t : VastDataType) → OwnsType file.old t → OwnsType file.new t }
-    ensures modules { (m : VastModule) → OwnsModule file.old m → OwnsModule file.new m }
-    ensures blocks { (x : VastStatementBlock) → OwnsBlock file.old x → OwnsBlock file.new x }
+    ensures kept { Keeps file.old file.new }
 {
     let conditional = file.block_add_cond(body, &reset)?;
     let at_reset = file.conditional_then_block(conditional);
@@ -79,10 +74,7 @@ pub(crate) fn add_clocks(
     requires bit_ends { OwnsExpr file.old bit_ends }
     ensures at_end { IfOk result (λ c. OwnsBlock file.new c.at_end) }
     ensures otherwise { IfOk result (λ c. OwnsBlock file.new c.otherwise) }
-    ensures exprs { (e : Expr) → OwnsExpr file.old e → OwnsExpr file.new e }
-    ensures types { (t : VastDataType) → OwnsType file.old t → OwnsType file.new t }
-    ensures modules { (m : VastModule) → OwnsModule file.old m → OwnsModule file.new m }
-    ensures blocks { (x : VastStatementBlock) → OwnsBlock file.old x → OwnsBlock file.new x }
+    ensures kept { Keeps file.old file.new }
 {
     let conditional = file.block_add_cond(block, &bit_ends)?;
     let at_end = file.conditional_then_block(conditional);

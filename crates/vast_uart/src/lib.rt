@@ -5,7 +5,8 @@
 #![tactic(auto, using(xlsynth_vast::proofs::Callers::callers))]
 
 ghost use Rattle.std.specs.Prelude.{◌≤ℤ◌, pos, IfOk};
-ghost use Rattle.vast_core.specs.Bench.{OwnsModule, OwnsBlock, OwnsExpr, OwnsType};
+ghost use Rattle.vast_core.specs.Bench.{OwnsModule};
+ghost use Rattle.xlsynth_vast.specs.Keeps.{Keeps};
 
 mod branches;
 mod fault;
@@ -17,7 +18,7 @@ pub use fault::UartFault;
 use parts::add_owner;
 use sender::add_sender;
 use signals::{add_outputs, add_ports, add_state};
-use xlsynth_vast::{Expr, VastDataType, VastFile, VastModule, VastStatementBlock};
+use xlsynth_vast::{VastFile, VastModule};
 
 /// Adds the module `uart_tx`, which sends a bit in so many clocks, and answers it.
 ///
@@ -25,20 +26,26 @@ use xlsynth_vast::{Expr, VastDataType, VastFile, VastModule, VastStatementBlock}
 /// `Clocks` where a bit has no clock; want of memory.
 pub fn add_uart(file: &mut VastFile, clocks: i64) -> Result<VastModule, UartFault>
     ensures answer { IfOk result (λ m. OwnsModule file.new m) }
-    ensures exprs { (e : Expr) → OwnsExpr file.old e → OwnsExpr file.new e }
-    ensures types { (t : VastDataType) → OwnsType file.old t → OwnsType file.new t }
-    ensures modules { (m : VastModule) → OwnsModule file.old m → OwnsModule file.new m }
-    ensures blocks { (x : VastStatementBlock) → OwnsBlock file.old x → OwnsBlock file.new x }
+    ensures kept { Keeps file.old file.new }
 {
     if clocks < 1 {
         return Err(UartFault::Clocks);
     }
     let owner = add_owner("uart_tx", file)?;
+    add_parts(owner, clocks, file)?;
+    Ok(owner)
+}
+
+/// The module's ports and variables, and what it does.
+fn add_parts(owner: VastModule, clocks: i64, file: &mut VastFile) -> Result<(), UartFault>
+    requires owner { OwnsModule file.old owner }
+    requires clocks { pos 1 ≤ℤ clocks }
+    ensures kept { Keeps file.old file.new }
+{
     let ports = add_ports(owner, file)?;
     let state = add_state(owner, timer_bits(clocks), file)?;
     add_outputs(owner, &ports, &state, file)?;
-    add_sender(owner, &ports, &state, clocks, file)?;
-    Ok(owner)
+    add_sender(owner, &ports, &state, clocks, file)
 }
 
 /// How many bits count the clocks of a bit, from 0.

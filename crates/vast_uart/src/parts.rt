@@ -2,6 +2,7 @@
 
 ghost use Rattle.std.specs.Prelude.{◌≤ℤ◌, pos, IfOk};
 ghost use Rattle.vast_core.specs.Bench.{OwnsBlock, OwnsExpr, OwnsModule, OwnsType};
+ghost use Rattle.xlsynth_vast.specs.Keeps.{Keeps};
 
 use crate::fault::UartFault;
 use xlsynth_vast::{Expr, LiteralFormat, VastDataType, VastFile, VastModule, VastStatementBlock};
@@ -9,10 +10,7 @@ use xlsynth_vast::{Expr, LiteralFormat, VastDataType, VastFile, VastModule, Vast
 /// A new module of this name.
 pub(crate) fn add_owner(name: &str, file: &mut VastFile) -> Result<VastModule, UartFault>
     ensures answer { IfOk result (λ m. OwnsModule file.new m) }
-    ensures exprs { (e : Expr) → OwnsExpr file.old e → OwnsExpr file.new e }
-    ensures types { (t : VastDataType) → OwnsType file.old t → OwnsType file.new t }
-    ensures modules { (m : VastModule) → OwnsModule file.old m → OwnsModule file.new m }
-    ensures blocks { (x : VastStatementBlock) → OwnsBlock file.old x → OwnsBlock file.new x }
+    ensures kept { Keeps file.old file.new }
 {
     Ok(file.add_module(name)?)
 }
@@ -21,10 +19,7 @@ pub(crate) fn add_owner(name: &str, file: &mut VastFile) -> Result<VastModule, U
 pub(crate) fn make_bits(width: i64, file: &mut VastFile) -> Result<VastDataType, UartFault>
     requires width { pos 1 ≤ℤ width }
     ensures answer { IfOk result (λ t. OwnsType file.new t) }
-    ensures exprs { (e : Expr) → OwnsExpr file.old e → OwnsExpr file.new e }
-    ensures types { (t : VastDataType) → OwnsType file.old t → OwnsType file.new t }
-    ensures modules { (m : VastModule) → OwnsModule file.old m → OwnsModule file.new m }
-    ensures blocks { (x : VastStatementBlock) → OwnsBlock file.old x → OwnsBlock file.new x }
+    ensures kept { Keeps file.old file.new }
 {
     Ok(file.make_bit_vector_type(width, false)?)
 }
@@ -39,10 +34,7 @@ pub(crate) fn add_input(
     requires owner { OwnsModule file.old owner }
     requires data_type { OwnsType file.old data_type }
     ensures answer { IfOk result (λ e. OwnsExpr file.new e) }
-    ensures exprs { (e : Expr) → OwnsExpr file.old e → OwnsExpr file.new e }
-    ensures types { (t : VastDataType) → OwnsType file.old t → OwnsType file.new t }
-    ensures modules { (m : VastModule) → OwnsModule file.old m → OwnsModule file.new m }
-    ensures blocks { (x : VastStatementBlock) → OwnsBlock file.old x → OwnsBlock file.new x }
+    ensures kept { Keeps file.old file.new }
 {
     if !file.name_is_free(owner, name) {
         return Err(UartFault::Taken);
@@ -60,10 +52,7 @@ pub(crate) fn add_output(
     requires owner { OwnsModule file.old owner }
     requires data_type { OwnsType file.old data_type }
     ensures answer { IfOk result (λ e. OwnsExpr file.new e) }
-    ensures exprs { (e : Expr) → OwnsExpr file.old e → OwnsExpr file.new e }
-    ensures types { (t : VastDataType) → OwnsType file.old t → OwnsType file.new t }
-    ensures modules { (m : VastModule) → OwnsModule file.old m → OwnsModule file.new m }
-    ensures blocks { (x : VastStatementBlock) → OwnsBlock file.old x → OwnsBlock file.new x }
+    ensures kept { Keeps file.old file.new }
 {
     if !file.name_is_free(owner, name) {
         return Err(UartFault::Taken);
@@ -81,10 +70,7 @@ pub(crate) fn add_variable(
     requires owner { OwnsModule file.old owner }
     requires data_type { OwnsType file.old data_type }
     ensures answer { IfOk result (λ e. OwnsExpr file.new e) }
-    ensures exprs { (e : Expr) → OwnsExpr file.old e → OwnsExpr file.new e }
-    ensures types { (t : VastDataType) → OwnsType file.old t → OwnsType file.new t }
-    ensures modules { (m : VastModule) → OwnsModule file.old m → OwnsModule file.new m }
-    ensures blocks { (x : VastStatementBlock) → OwnsBlock file.old x → OwnsBlock file.new x }
+    ensures kept { Keeps file.old file.new }
 {
     Ok(file.add_logic(owner, name, &data_type)?.to_expr())
 }
@@ -99,10 +85,7 @@ pub(crate) fn drive(
     requires owner { OwnsModule file.old owner }
     requires signal { OwnsExpr file.old signal }
     requires value { OwnsExpr file.old value }
-    ensures exprs { (e : Expr) → OwnsExpr file.old e → OwnsExpr file.new e }
-    ensures types { (t : VastDataType) → OwnsType file.old t → OwnsType file.new t }
-    ensures modules { (m : VastModule) → OwnsModule file.old m → OwnsModule file.new m }
-    ensures blocks { (x : VastStatementBlock) → OwnsBlock file.old x → OwnsBlock file.new x }
+    ensures kept { Keeps file.old file.new }
 {
     let assignment = file.make_continuous_assignment(&signal, &value)?;
     file.add_member_continuous_assignment(owner, assignment)?;
@@ -112,10 +95,7 @@ pub(crate) fn drive(
 /// A number of so many bits, from 10 on in base 16.
 pub(crate) fn make_number(width: i64, value: i64, file: &mut VastFile) -> Result<Expr, UartFault>
     ensures answer { IfOk result (λ e. OwnsExpr file.new e) }
-    ensures exprs { (e : Expr) → OwnsExpr file.old e → OwnsExpr file.new e }
-    ensures types { (t : VastDataType) → OwnsType file.old t → OwnsType file.new t }
-    ensures modules { (m : VastModule) → OwnsModule file.old m → OwnsModule file.new m }
-    ensures blocks { (x : VastStatementBlock) → OwnsBlock file.old x → OwnsBlock file.new x }
+    ensures kept { Keeps file.old file.new }
 {
     let alloc = file.allocator();
     let text = format!(in alloc; "bits[{width}]:{value}")?;
@@ -141,10 +121,7 @@ pub(crate) fn set(
     requires block { OwnsBlock file.old block }
     requires register { OwnsExpr file.old register }
     requires value { OwnsExpr file.old value }
-    ensures exprs { (e : Expr) → OwnsExpr file.old e → OwnsExpr file.new e }
-    ensures types { (t : VastDataType) → OwnsType file.old t → OwnsType file.new t }
-    ensures modules { (m : VastModule) → OwnsModule file.old m → OwnsModule file.new m }
-    ensures blocks { (x : VastStatementBlock) → OwnsBlock file.old x → OwnsBlock file.new x }
+    ensures kept { Keeps file.old file.new }
 {
     file.block_add_nonblocking_assignment(block, &register, &value)?;
     Ok(())

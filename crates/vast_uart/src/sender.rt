@@ -1,13 +1,14 @@
 //! What the transmitter does at each edge of the clock.
 
 ghost use Rattle.std.specs.Prelude.{◌≤ℤ◌, pos, IfOk};
-ghost use Rattle.vast_core.specs.Bench.{OwnsBlock, OwnsExpr, OwnsModule, OwnsType};
+ghost use Rattle.vast_core.specs.Bench.{OwnsBlock, OwnsExpr, OwnsModule};
+ghost use Rattle.xlsynth_vast.specs.Keeps.{Keeps};
 
 use crate::branches::{Branches, add_branches, add_clocked, add_clocks};
 use crate::fault::UartFault;
 use crate::parts::{make_number, set};
 use crate::signals::{COUNT_BITS, FRAME_BITS, Ports, State};
-use xlsynth_vast::{Expr, VastDataType, VastFile, VastModule, VastStatementBlock};
+use xlsynth_vast::{Expr, VastFile, VastModule, VastStatementBlock};
 
 pub(crate) fn add_sender(
     owner: VastModule,
@@ -26,10 +27,7 @@ pub(crate) fn add_sender(
     requires frame { OwnsExpr file.old state.now.frame }
     requires left { OwnsExpr file.old state.now.left }
     requires timer { OwnsExpr file.old state.now.timer }
-    ensures exprs { (e : Expr) → OwnsExpr file.old e → OwnsExpr file.new e }
-    ensures types { (t : VastDataType) → OwnsType file.old t → OwnsType file.new t }
-    ensures modules { (m : VastModule) → OwnsModule file.old m → OwnsModule file.new m }
-    ensures blocks { (x : VastStatementBlock) → OwnsBlock file.old x → OwnsBlock file.new x }
+    ensures kept { Keeps file.old file.new }
 {
     let starts = make_starts(ports.start, ports.busy, file)?;
     let body = add_clocked(owner, ports.clk, file)?;
@@ -42,10 +40,7 @@ fn make_starts(start: Expr, busy: Expr, file: &mut VastFile) -> Result<Expr, Uar
     requires start { OwnsExpr file.old start }
     requires busy { OwnsExpr file.old busy }
     ensures answer { IfOk result (λ e. OwnsExpr file.new e) }
-    ensures exprs { (e : Expr) → OwnsExpr file.old e → OwnsExpr file.new e }
-    ensures types { (t : VastDataType) → OwnsType file.old t → OwnsType file.new t }
-    ensures modules { (m : VastModule) → OwnsModule file.old m → OwnsModule file.new m }
-    ensures blocks { (x : VastStatementBlock) → OwnsBlock file.old x → OwnsBlock file.new x }
+    ensures kept { Keeps file.old file.new }
 {
     let idle = file.make_logical_not(&busy)?;
     Ok(file.make_logical_and(&start, &idle)?)
@@ -66,10 +61,7 @@ fn fill(
     requires frame { OwnsExpr file.old state.now.frame }
     requires left { OwnsExpr file.old state.now.left }
     requires timer { OwnsExpr file.old state.now.timer }
-    ensures exprs { (e : Expr) → OwnsExpr file.old e → OwnsExpr file.new e }
-    ensures types { (t : VastDataType) → OwnsType file.old t → OwnsType file.new t }
-    ensures modules { (m : VastModule) → OwnsModule file.old m → OwnsModule file.new m }
-    ensures blocks { (x : VastStatementBlock) → OwnsBlock file.old x → OwnsBlock file.new x }
+    ensures kept { Keeps file.old file.new }
 {
     fill_reset(branches.at_reset, state, file)?;
     fill_start(branches.at_start, byte, state, file)?;
@@ -90,10 +82,7 @@ fn load(
     requires timer { OwnsExpr file.old state.now.timer }
     requires frame { OwnsExpr file.old frame }
     requires left { OwnsExpr file.old left }
-    ensures exprs { (e : Expr) → OwnsExpr file.old e → OwnsExpr file.new e }
-    ensures types { (t : VastDataType) → OwnsType file.old t → OwnsType file.new t }
-    ensures modules { (m : VastModule) → OwnsModule file.old m → OwnsModule file.new m }
-    ensures blocks { (x : VastStatementBlock) → OwnsBlock file.old x → OwnsBlock file.new x }
+    ensures kept { Keeps file.old file.new }
 {
     set(block, state.frame, frame, file)?;
     set(block, state.left, left, file)?;
@@ -111,10 +100,7 @@ fn fill_reset(
     requires frame { OwnsExpr file.old state.now.frame }
     requires left { OwnsExpr file.old state.now.left }
     requires timer { OwnsExpr file.old state.now.timer }
-    ensures exprs { (e : Expr) → OwnsExpr file.old e → OwnsExpr file.new e }
-    ensures types { (t : VastDataType) → OwnsType file.old t → OwnsType file.new t }
-    ensures modules { (m : VastModule) → OwnsModule file.old m → OwnsModule file.new m }
-    ensures blocks { (x : VastStatementBlock) → OwnsBlock file.old x → OwnsBlock file.new x }
+    ensures kept { Keeps file.old file.new }
 {
     let high = make_number(FRAME_BITS, 0x3ff, file)?;
     let none = make_number(COUNT_BITS, 0, file)?;
@@ -133,10 +119,7 @@ fn fill_start(
     requires frame { OwnsExpr file.old state.now.frame }
     requires left { OwnsExpr file.old state.now.left }
     requires timer { OwnsExpr file.old state.now.timer }
-    ensures exprs { (e : Expr) → OwnsExpr file.old e → OwnsExpr file.new e }
-    ensures types { (t : VastDataType) → OwnsType file.old t → OwnsType file.new t }
-    ensures modules { (m : VastModule) → OwnsModule file.old m → OwnsModule file.new m }
-    ensures blocks { (x : VastStatementBlock) → OwnsBlock file.old x → OwnsBlock file.new x }
+    ensures kept { Keeps file.old file.new }
 {
     let framed = make_framed(byte, file)?;
     let all = make_number(COUNT_BITS, FRAME_BITS, file)?;
@@ -147,10 +130,7 @@ fn fill_start(
 fn make_framed(byte: Expr, file: &mut VastFile) -> Result<Expr, UartFault>
     requires byte { OwnsExpr file.old byte }
     ensures answer { IfOk result (λ e. OwnsExpr file.new e) }
-    ensures exprs { (e : Expr) → OwnsExpr file.old e → OwnsExpr file.new e }
-    ensures types { (t : VastDataType) → OwnsType file.old t → OwnsType file.new t }
-    ensures modules { (m : VastModule) → OwnsModule file.old m → OwnsModule file.new m }
-    ensures blocks { (x : VastStatementBlock) → OwnsBlock file.old x → OwnsBlock file.new x }
+    ensures kept { Keeps file.old file.new }
 {
     let high = make_number(1, 1, file)?;
     let low = make_number(1, 0, file)?;
@@ -169,10 +149,7 @@ fn fill_clock(
     requires frame { OwnsExpr file.old state.now.frame }
     requires left { OwnsExpr file.old state.now.left }
     requires timer { OwnsExpr file.old state.now.timer }
-    ensures exprs { (e : Expr) → OwnsExpr file.old e → OwnsExpr file.new e }
-    ensures types { (t : VastDataType) → OwnsType file.old t → OwnsType file.new t }
-    ensures modules { (m : VastModule) → OwnsModule file.old m → OwnsModule file.new m }
-    ensures blocks { (x : VastStatementBlock) → OwnsBlock file.old x → OwnsBlock file.new x }
+    ensures kept { Keeps file.old file.new }
 {
     let bit_ends = make_bit_ends(state, clocks, file)?;
     let clocks = add_clocks(block, bit_ends, file)?;
@@ -185,10 +162,7 @@ fn make_bit_ends(state: &State, clocks: i64, file: &mut VastFile) -> Result<Expr
     requires clocks { pos 1 ≤ℤ clocks }
     requires timer { OwnsExpr file.old state.now.timer }
     ensures answer { IfOk result (λ e. OwnsExpr file.new e) }
-    ensures exprs { (e : Expr) → OwnsExpr file.old e → OwnsExpr file.new e }
-    ensures types { (t : VastDataType) → OwnsType file.old t → OwnsType file.new t }
-    ensures modules { (m : VastModule) → OwnsModule file.old m → OwnsModule file.new m }
-    ensures blocks { (x : VastStatementBlock) → OwnsBlock file.old x → OwnsBlock file.new x }
+    ensures kept { Keeps file.old file.new }
 {
     let last = make_number(state.timer_bits, clocks - 1, file)?;
     Ok(file.make_eq(&state.timer, &last)?)
@@ -200,10 +174,7 @@ fn fill_end(block: VastStatementBlock, state: &State, file: &mut VastFile) -> Re
     requires frame { OwnsExpr file.old state.now.frame }
     requires left { OwnsExpr file.old state.now.left }
     requires timer { OwnsExpr file.old state.now.timer }
-    ensures exprs { (e : Expr) → OwnsExpr file.old e → OwnsExpr file.new e }
-    ensures types { (t : VastDataType) → OwnsType file.old t → OwnsType file.new t }
-    ensures modules { (m : VastModule) → OwnsModule file.old m → OwnsModule file.new m }
-    ensures blocks { (x : VastStatementBlock) → OwnsBlock file.old x → OwnsBlock file.new x }
+    ensures kept { Keeps file.old file.new }
 {
     let shifted = make_shifted(state.frame, file)?;
     let fewer = make_fewer(state.left, file)?;
@@ -213,10 +184,7 @@ fn fill_end(block: VastStatementBlock, state: &State, file: &mut VastFile) -> Re
 fn make_shifted(frame: Expr, file: &mut VastFile) -> Result<Expr, UartFault>
     requires frame { OwnsExpr file.old frame }
     ensures answer { IfOk result (λ e. OwnsExpr file.new e) }
-    ensures exprs { (e : Expr) → OwnsExpr file.old e → OwnsExpr file.new e }
-    ensures types { (t : VastDataType) → OwnsType file.old t → OwnsType file.new t }
-    ensures modules { (m : VastModule) → OwnsModule file.old m → OwnsModule file.new m }
-    ensures blocks { (x : VastStatementBlock) → OwnsBlock file.old x → OwnsBlock file.new x }
+    ensures kept { Keeps file.old file.new }
 {
     let high = make_number(1, 1, file)?;
     let rest = make_rest(frame, file)?;
@@ -227,10 +195,7 @@ fn make_shifted(frame: Expr, file: &mut VastFile) -> Result<Expr, UartFault>
 fn make_rest(frame: Expr, file: &mut VastFile) -> Result<Expr, UartFault>
     requires frame { OwnsExpr file.old frame }
     ensures answer { IfOk result (λ e. OwnsExpr file.new e) }
-    ensures exprs { (e : Expr) → OwnsExpr file.old e → OwnsExpr file.new e }
-    ensures types { (t : VastDataType) → OwnsType file.old t → OwnsType file.new t }
-    ensures modules { (m : VastModule) → OwnsModule file.old m → OwnsModule file.new m }
-    ensures blocks { (x : VastStatementBlock) → OwnsBlock file.old x → OwnsBlock file.new x }
+    ensures kept { Keeps file.old file.new }
 {
     let frame = file.make_indexable_expression(&frame);
     Ok(file.make_slice(&frame, FRAME_BITS - 1, 1)?.to_expr())
@@ -239,10 +204,7 @@ fn make_rest(frame: Expr, file: &mut VastFile) -> Result<Expr, UartFault>
 fn make_fewer(left: Expr, file: &mut VastFile) -> Result<Expr, UartFault>
     requires left { OwnsExpr file.old left }
     ensures answer { IfOk result (λ e. OwnsExpr file.new e) }
-    ensures exprs { (e : Expr) → OwnsExpr file.old e → OwnsExpr file.new e }
-    ensures types { (t : VastDataType) → OwnsType file.old t → OwnsType file.new t }
-    ensures modules { (m : VastModule) → OwnsModule file.old m → OwnsModule file.new m }
-    ensures blocks { (x : VastStatementBlock) → OwnsBlock file.old x → OwnsBlock file.new x }
+    ensures kept { Keeps file.old file.new }
 {
     let one = make_number(COUNT_BITS, 1, file)?;
     Ok(file.make_sub(&left, &one)?)
@@ -255,10 +217,7 @@ fn count_clock(
 ) -> Result<(), UartFault>
     requires block { OwnsBlock file.old block }
     requires timer { OwnsExpr file.old state.now.timer }
-    ensures exprs { (e : Expr) → OwnsExpr file.old e → OwnsExpr file.new e }
-    ensures types { (t : VastDataType) → OwnsType file.old t → OwnsType file.new t }
-    ensures modules { (m : VastModule) → OwnsModule file.old m → OwnsModule file.new m }
-    ensures blocks { (x : VastStatementBlock) → OwnsBlock file.old x → OwnsBlock file.new x }
+    ensures kept { Keeps file.old file.new }
 {
     let one = make_number(state.timer_bits, 1, file)?;
     let more = file.make_add(&state.timer, &one)?;

@@ -1,11 +1,12 @@
 //! The transmitter's ports and variables, and what it puts out.
 
 ghost use Rattle.std.specs.Prelude.{◌≤ℤ◌, pos, IfOk};
-ghost use Rattle.vast_core.specs.Bench.{OwnsBlock, OwnsExpr, OwnsModule, OwnsType};
+ghost use Rattle.vast_core.specs.Bench.{OwnsExpr, OwnsModule};
+ghost use Rattle.xlsynth_vast.specs.Keeps.{Keeps};
 
 use crate::fault::UartFault;
 use crate::parts::{add_input, add_output, add_variable, drive, make_bits, make_number};
-use xlsynth_vast::{Expr, VastDataType, VastFile, VastModule, VastStatementBlock};
+use xlsynth_vast::{Expr, VastFile, VastModule};
 
 /// The bits of a byte with the start bit and the stop bit.
 pub(crate) const FRAME_BITS: i64 = 10;
@@ -48,10 +49,7 @@ pub(crate) fn add_ports(owner: VastModule, file: &mut VastFile) -> Result<Ports,
     ensures byte { IfOk result (λ p. OwnsExpr file.new p.byte) }
     ensures busy { IfOk result (λ p. OwnsExpr file.new p.busy) }
     ensures tx { IfOk result (λ p. OwnsExpr file.new p.tx) }
-    ensures exprs { (e : Expr) → OwnsExpr file.old e → OwnsExpr file.new e }
-    ensures types { (t : VastDataType) → OwnsType file.old t → OwnsType file.new t }
-    ensures modules { (m : VastModule) → OwnsModule file.old m → OwnsModule file.new m }
-    ensures blocks { (x : VastStatementBlock) → OwnsBlock file.old x → OwnsBlock file.new x }
+    ensures kept { Keeps file.old file.new }
 {
     let clock = add_clock(owner, file)?;
     let input = add_request(owner, file)?;
@@ -70,10 +68,7 @@ fn add_clock(owner: VastModule, file: &mut VastFile) -> Result<Pair, UartFault>
     requires owner { OwnsModule file.old owner }
     ensures first { IfOk result (λ p. OwnsExpr file.new p.first) }
     ensures second { IfOk result (λ p. OwnsExpr file.new p.second) }
-    ensures exprs { (e : Expr) → OwnsExpr file.old e → OwnsExpr file.new e }
-    ensures types { (t : VastDataType) → OwnsType file.old t → OwnsType file.new t }
-    ensures modules { (m : VastModule) → OwnsModule file.old m → OwnsModule file.new m }
-    ensures blocks { (x : VastStatementBlock) → OwnsBlock file.old x → OwnsBlock file.new x }
+    ensures kept { Keeps file.old file.new }
 {
     let bit = make_bits(1, file)?;
     let first = add_input(owner, "clk", bit, file)?;
@@ -85,10 +80,7 @@ fn add_request(owner: VastModule, file: &mut VastFile) -> Result<Pair, UartFault
     requires owner { OwnsModule file.old owner }
     ensures first { IfOk result (λ p. OwnsExpr file.new p.first) }
     ensures second { IfOk result (λ p. OwnsExpr file.new p.second) }
-    ensures exprs { (e : Expr) → OwnsExpr file.old e → OwnsExpr file.new e }
-    ensures types { (t : VastDataType) → OwnsType file.old t → OwnsType file.new t }
-    ensures modules { (m : VastModule) → OwnsModule file.old m → OwnsModule file.new m }
-    ensures blocks { (x : VastStatementBlock) → OwnsBlock file.old x → OwnsBlock file.new x }
+    ensures kept { Keeps file.old file.new }
 {
     let bit = make_bits(1, file)?;
     let first = add_input(owner, "start", bit, file)?;
@@ -101,10 +93,7 @@ fn add_line(owner: VastModule, file: &mut VastFile) -> Result<Pair, UartFault>
     requires owner { OwnsModule file.old owner }
     ensures first { IfOk result (λ p. OwnsExpr file.new p.first) }
     ensures second { IfOk result (λ p. OwnsExpr file.new p.second) }
-    ensures exprs { (e : Expr) → OwnsExpr file.old e → OwnsExpr file.new e }
-    ensures types { (t : VastDataType) → OwnsType file.old t → OwnsType file.new t }
-    ensures modules { (m : VastModule) → OwnsModule file.old m → OwnsModule file.new m }
-    ensures blocks { (x : VastStatementBlock) → OwnsBlock file.old x → OwnsBlock file.new x }
+    ensures kept { Keeps file.old file.new }
 {
     let bit = make_bits(1, file)?;
     let first = add_output(owner, "busy", bit, file)?;
@@ -122,10 +111,7 @@ pub(crate) fn add_state(
     ensures frame { IfOk result (λ s. OwnsExpr file.new s.frame) }
     ensures left { IfOk result (λ s. OwnsExpr file.new s.left) }
     ensures timer { IfOk result (λ s. OwnsExpr file.new s.timer) }
-    ensures exprs { (e : Expr) → OwnsExpr file.old e → OwnsExpr file.new e }
-    ensures types { (t : VastDataType) → OwnsType file.old t → OwnsType file.new t }
-    ensures modules { (m : VastModule) → OwnsModule file.old m → OwnsModule file.new m }
-    ensures blocks { (x : VastStatementBlock) → OwnsBlock file.old x → OwnsBlock file.new x }
+    ensures kept { Keeps file.old file.new }
 {
     let frame = add_bits(owner, "frame", FRAME_BITS, file)?;
     let left = add_bits(owner, "left", COUNT_BITS, file)?;
@@ -148,10 +134,7 @@ fn add_bits(
     requires owner { OwnsModule file.old owner }
     requires width { pos 1 ≤ℤ width }
     ensures answer { IfOk result (λ e. OwnsExpr file.new e) }
-    ensures exprs { (e : Expr) → OwnsExpr file.old e → OwnsExpr file.new e }
-    ensures types { (t : VastDataType) → OwnsType file.old t → OwnsType file.new t }
-    ensures modules { (m : VastModule) → OwnsModule file.old m → OwnsModule file.new m }
-    ensures blocks { (x : VastStatementBlock) → OwnsBlock file.old x → OwnsBlock file.new x }
+    ensures kept { Keeps file.old file.new }
 {
     let bits = make_bits(width, file)?;
     add_variable(owner, name, bits, file)
@@ -169,10 +152,7 @@ pub(crate) fn add_outputs(
     requires tx { OwnsExpr file.old ports.now.tx }
     requires frame { OwnsExpr file.old state.now.frame }
     requires left { OwnsExpr file.old state.now.left }
-    ensures exprs { (e : Expr) → OwnsExpr file.old e → OwnsExpr file.new e }
-    ensures types { (t : VastDataType) → OwnsType file.old t → OwnsType file.new t }
-    ensures modules { (m : VastModule) → OwnsModule file.old m → OwnsModule file.new m }
-    ensures blocks { (x : VastStatementBlock) → OwnsBlock file.old x → OwnsBlock file.new x }
+    ensures kept { Keeps file.old file.new }
 {
     let is_busy = make_is_busy(state.left, file)?;
     drive(owner, ports.busy, is_busy, file)?;
@@ -183,10 +163,7 @@ pub(crate) fn add_outputs(
 fn make_is_busy(left: Expr, file: &mut VastFile) -> Result<Expr, UartFault>
     requires left { OwnsExpr file.old left }
     ensures answer { IfOk result (λ e. OwnsExpr file.new e) }
-    ensures exprs { (e : Expr) → OwnsExpr file.old e → OwnsExpr file.new e }
-    ensures types { (t : VastDataType) → OwnsType file.old t → OwnsType file.new t }
-    ensures modules { (m : VastModule) → OwnsModule file.old m → OwnsModule file.new m }
-    ensures blocks { (x : VastStatementBlock) → OwnsBlock file.old x → OwnsBlock file.new x }
+    ensures kept { Keeps file.old file.new }
 {
     let none = make_number(COUNT_BITS, 0, file)?;
     Ok(file.make_ne(&left, &none)?)
@@ -196,10 +173,7 @@ fn make_is_busy(left: Expr, file: &mut VastFile) -> Result<Expr, UartFault>
 fn make_next(frame: Expr, file: &mut VastFile) -> Result<Expr, UartFault>
     requires frame { OwnsExpr file.old frame }
     ensures answer { IfOk result (λ e. OwnsExpr file.new e) }
-    ensures exprs { (e : Expr) → OwnsExpr file.old e → OwnsExpr file.new e }
-    ensures types { (t : VastDataType) → OwnsType file.old t → OwnsType file.new t }
-    ensures modules { (m : VastModule) → OwnsModule file.old m → OwnsModule file.new m }
-    ensures blocks { (x : VastStatementBlock) → OwnsBlock file.old x → OwnsBlock file.new x }
+    ensures kept { Keeps file.old file.new }
 {
     let frame = file.make_indexable_expression(&frame);
     Ok(file.make_index(&frame, 0)?.to_expr())

@@ -1,9 +1,10 @@
-use Rattle.std.proofs.Common.{◌≡◌, ◌++◌, drop, map}
-use Rattle.vast_lint.specs.Lint.{unmended}
+use Rattle.std.proofs.Common.{◌≡◌, ◌++◌, drop}
+use Rattle.vast_lint.specs.Notes.{notes, told_at_end}
+use Rattle.vast_lint.specs.Lint.{told_of}
 use Rattle.vast_lint.proofs.lint.Lint.end.Given as goal
 
 -- What is told so far and what is left of the answers behind it is all that is left.
 abbrev pub invariant-loop-number : goal.invariant-loop-number
 invariant-loop-number l =
-    map (λ w. w.number) l.warnings.items ++ unmended l.self.dialect l.number (drop l.number l.self.facts.items)
-    ≡ unmended l.self.dialect 0 l.self.facts.items
+    l.warnings.items ++ told_at_end l.self.dialect l.number (notes (drop l.number l.self.answers.items))
+    ≡ told_of l.self
