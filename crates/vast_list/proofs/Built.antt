@@ -20,7 +20,7 @@ use Rattle.vast_list.specs.declared.session.Given.TheVariants.{Nothing, Step as 
 use Rattle.vast_list.specs.declared.session.Session.{Session}
 use Rattle.vast_list.specs.CallArguments.{call_pieces}
 use Rattle.vast_list.specs.CallNames.{call_name}
-use Rattle.vast_list.specs.Lines.{LineKind, Passed, Asked, Helped, Stepped, call_words, is_call, is_call_line, line_arguments, line_kind, line_name, line_word}
+use Rattle.vast_list.specs.Lines.{LineKind, Passed, Asked, Helped, Stepped, call_words, is_call, is_call_line, line_arguments, line_kind, line_word}
 use Rattle.vast_list.specs.Questions.{question_words}
 use Rattle.vast_list.specs.Session.{Calls, Gives, GivesAnswer, GivesCall, IsGivenBy, Takes}
 use Rattle.vast_list.specs.Written.{AreWritten, meaning}

@@ -1,9 +1,9 @@
 //! Whether a list's file is plain, and which call makes it so that it isn't.
 
-ghost use Rattle.std.specs.Prelude.{◌≡◌, ◌++◌, ℕ, List, IfOk, IfSome, false};
+ghost use Rattle.std.specs.Prelude.{◌≡◌, ◌++◌, ℕ, List, IfOk, IfSome, false, true};
 ghost use Rattle.vast_core.specs.FileTree.{tree};
 ghost use Rattle.vast_literal.specs.PlainFile.{is_plain_file};
-ghost use Rattle.vast_list.specs.Lines.{line_texts};
+ghost use Rattle.vast_list.specs.Lines.{BeginsWithDialect, line_texts};
 ghost use Rattle.vast_list.specs.PlainLists.{PlainnessOf};
 ghost use Rattle.vast_list.specs.Untitled.{HasAnswered};
 ghost use Rattle.vast_list.specs.Internal.PlainLists.{IsToldNotPlain, IsToldPlain};
@@ -18,6 +18,7 @@ use crate::session::Session;
 use std::alloc::{AllocError, Global};
 use std::fmt;
 use std::fmt::Write;
+use xlsynth_vast::VastFileType;
 
 /// Whether a list's file is plain (`VastFile::is_plain`).
 #[derive(Drop)]
@@ -51,15 +52,27 @@ pub fn list_plainness(alloc: Global, list: &ListLines<'_>) -> Result<Option<Plai
     ensures { IfOk result (λ found. IfSome found
         (λ plainness. PlainnessOf plainness (line_texts list.now.lines.items))) }
 {
-    let (dialect, lines) = match dialect_line(alloc, list) {
-        Ok(found) => found,
-        Err(Fault::Memory) => return Err(AllocError),
-        Err(Fault::Line(_)) => return Ok(None),
-    };
+    match dialect_line(alloc, list) {
+        Ok((dialect, lines)) => plainness_of(alloc, list.title, dialect, lines),
+        Err(Fault::Memory) => Err(AllocError),
+        Err(Fault::Line(_)) => Ok(None),
+    }
+}
+
+/// What is told of a list of the dialect, behind whose line these stand.
+fn plainness_of(
+    alloc: Global,
+    title: Option<&[u8]>,
+    dialect: VastFileType,
+    lines: &[(usize, &[u8])],
+) -> Result<Option<Plainness>, AllocError>
+    ensures { (list : List (List ℕ)) → BeginsWithDialect list dialect (line_texts lines.now) →
+        IfOk result (λ found. IfSome found (λ plainness. PlainnessOf plainness list)) }
+{
     let mut answering = Answering {
         session: Session::new(alloc, dialect),
         trial: None,
-        report: list.title.map(|_| Vec::new(alloc)),
+        report: title.map(|_| Vec::new(alloc)),
         is_stopped: false,
         told: Told::new(alloc),
     };
@@ -80,11 +93,23 @@ fn plainness_behind(
 {
     for (number, line) in lines {
         answering.take(*number, line)?;
-        if may_write(line) && !answering.session.file().is_plain()? {
+        let is_spoiled = is_spoiled(answering, line)?;
+        if is_spoiled {
             return not_plain(alloc, answering, *number, line);
         }
     }
     plain(answering)
+}
+
+/// Whether the line's call may write, and the file is not plain behind it.
+fn is_spoiled(answering: &Answering<'_>, line: &[u8]) -> Result<bool, AllocError>
+    ensures { IfOk result (λ is_spoiled. is_spoiled ≡ true →
+        is_plain_file (tree answering.now.session.file) ≡ false) }
+{
+    if !may_write(line) {
+        return Ok(false);
+    }
+    Ok(!answering.session.file().is_plain()?)
 }
 
 /// The file is plain, where nothing is at fault.
