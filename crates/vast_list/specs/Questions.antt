@@ -21,8 +21,7 @@ use Rattle.xlsynth_vast.specs.Equations.{name_of}
 use Rattle.xlsynth_vast.specs.Inspections.{direction_at, logic_ref_at, members_in, name_at, name_of_ref, ports_in, ports_towards, type_at, width_at}
 use Rattle.xlsynth_vast.specs.Widths.{declared_width, flat_bits}
 use Rattle.vast_script.specs.Arguments.{IsCause, one}
-use Rattle.vast_script.specs.Internal.Kinds.{a_logic_ref}
-use Rattle.vast_script.specs.Kinds.{Kind, a_conditional, a_module, a_type, an_expr}
+use Rattle.vast_script.specs.Kinds.{Kind, a_conditional, a_logic_ref, a_module, a_type, an_expr}
 use Rattle.vast_script.specs.Outcome.{Cause, InWords, OtherKind, cause_of}
 use Rattle.vast_script.specs.declared.answer.Answer.{Answer}
 use Rattle.vast_script.specs.declared.fault.StepFault.{StepFault}

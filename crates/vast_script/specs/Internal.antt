@@ -1,4 +1,3 @@
 pub mod Outcome
-pub mod Kinds
 pub mod Owned
 pub mod Arguments

@@ -5,6 +5,7 @@ use Rattle.vast_core.specs.declared.handle.VastModule.{VastModule as ModuleHandl
 use Rattle.vast_core.specs.declared.handle.VastFunction.{VastFunction as FunctionHandle}
 use Rattle.vast_core.specs.declared.handle.VastDataType.{VastDataType as TypeHandle}
 use Rattle.vast_core.specs.declared.handle.Expr.{Expr as ExprHandle}
+use Rattle.vast_core.specs.declared.handle.LogicRef.{LogicRef as LogicRefHandle}
 use Rattle.vast_core.specs.declared.handle.IndexableExpr.{IndexableExpr as IndexableHandle}
 use Rattle.vast_core.specs.declared.handle.MacroRef.{MacroRef as MacroRefHandle}
 use Rattle.vast_core.specs.declared.handle.Def.{Def as DefinitionHandle}
@@ -19,7 +20,7 @@ use Rattle.vast_core.specs.declared.handle.VastStatementBlock.{VastStatementBloc
 use Rattle.vast_core.specs.declared.handle.Conditional.{Conditional as ConditionalHandle}
 use Rattle.vast_core.specs.declared.handle.CaseStatement.{CaseStatement as CaseHandle}
 use Rattle.vast_core.specs.declared.handle.GenerateLoop.{GenerateLoop as LoopHandle}
-use Rattle.vast_core.specs.Nodes.{is_expr_root, is_type_root, is_macro}
+use Rattle.vast_core.specs.Nodes.{is_expr_root, is_type_root, is_macro, is_name}
 use Rattle.vast_core.specs.Bench.{Bench, has_root, is_continuous, is_blank_line, is_comment, is_inline, is_macro_statement, is_block, is_conditional, is_case, is_loop}
 use Rattle.vast_script.specs.declared.answer.Answer.{Answer}
 use Rattle.vast_script.specs.declared.answer.Answer.TheVariants.{BlankLine, CaseStatement, Comment, Conditional, ContinuousAssignment, Def, Expr, GenerateLoop, Index, IndexableExpr, InlineVerilogStatement, Instantiation, LocalparamRef, LogicRef, MacroRef, MacroStatement, ParameterRef, Slice, VastAlwaysBase, VastDataType, VastFunction, VastModule, VastStatementBlock}
@@ -67,6 +68,9 @@ a_function = record { of_answer = λ a. elim a [ VastFunction f ↦ Some f | _ �
 
 abbrev pub a_type : Kind TypeHandle
 a_type = record { of_answer = λ a. elim a [ VastDataType t ↦ Some t | _ ↦ None ]; is_own = λ b t. is_own_id b t.id (is_type_root (slice_get b.nodes.roots t.id.index)) }
+
+abbrev pub a_logic_ref : Kind LogicRefHandle
+a_logic_ref = record { of_answer = λ a. elim a [ LogicRef r ↦ Some r | _ ↦ None ]; is_own = λ b r. is_own_id b r.id (has_root is_name b r.id.index) }
 
 abbrev pub a_macro_ref : Kind MacroRefHandle
 a_macro_ref = record { of_answer = λ a. elim a [ MacroRef r ↦ Some r | _ ↦ None ]; is_own = λ b r. is_own_id b r.id (has_root is_macro b r.id.index) }

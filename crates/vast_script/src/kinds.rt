@@ -99,7 +99,7 @@ impl Argument for IndexableExpr {
 }
 
 impl Argument for LogicRef {
-    ghost use Rattle.vast_script.specs.Internal.Kinds.{a_logic_ref};
+    ghost use Rattle.vast_script.specs.Kinds.{a_logic_ref};
     ghost use Rattle.vast_script.specs.Internal.Owned.{owned_where};
 
     ghost kind = { a_logic_ref };
