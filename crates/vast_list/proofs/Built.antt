@@ -1,31 +1,30 @@
 -- One line more of a list, and what it builds.
-use Rattle.std.proofs.Common.{◌≡◌, ℕ, ◌+◌, Bool, true, false, List, [], ◌∷◌, ◌++◌, length, map, Option, None, Result, Ok, Err, refl, sym, ap, ◌∙◌, subst, append_assoc, append-nil, arith, length-append, zero-add}
+use Rattle.std.proofs.Common.{◌≡◌, ℕ, Bool, true, false, List, [], ◌∷◌, ◌++◌, map, None, Result, Ok, Err, refl, sym, ap, ◌∙◌, subst, append_assoc, append-nil}
 use Rattle.std.proofs.lemmas.List.{map-append}
+use Rattle.std.proofs.lemmas.List.Sums.{fold-append}
 use Rattle.vast_core.specs.Bench.{Bench, start}
 use Rattle.vast_literal.specs.declared.kind.VastFileType.{VastFileType}
 use Rattle.xlsynth_vast.specs.Registers.{HasUnused, with_unused}
 use Rattle.xlsynth_vast.proofs.RegisterParts.{unused-none}
-use Rattle.std.specs.List.{fold}
 use Rattle.vast_script.specs.declared.answer.Answer.{Answer}
 use Rattle.vast_script.specs.declared.step.Step.{Step}
 use Rattle.vast_script.specs.Outcome.{Made}
-use Rattle.vast_script.specs.Script.{Going, Run, call_of, gone_on, one_more}
+use Rattle.vast_script.specs.Script.{Going, Run, call_of, gone_on, one_more, run}
 use Rattle.std.specs.Prelude.{IfOk, OnOk}
 use Rattle.vast_list.specs.declared.fault.Fault.{Fault}
 use Rattle.vast_list.specs.declared.line.Call.{Call}
 use Rattle.vast_list.specs.declared.line.Call.TheVariants.{Step as StepCall}
-use Rattle.vast_list.specs.declared.names.Named.{Named}
-use Rattle.vast_list.specs.declared.names.Named.TheVariants.{Handle}
+use Rattle.vast_list.specs.declared.questions.answered.Value.{Value}
 use Rattle.vast_list.specs.declared.session.Given.{Given}
 use Rattle.vast_list.specs.declared.session.Given.TheVariants.{Nothing, Step as StepGiven, Helper as HelperGiven, Answer as Answered}
 use Rattle.vast_list.specs.declared.session.Session.{Session}
 use Rattle.vast_list.specs.CallArguments.{call_pieces}
 use Rattle.vast_list.specs.CallNames.{call_name}
-use Rattle.vast_list.specs.Lines.{LineKind, Passed, Asked, Helped, Stepped, call_words, is_call, is_call_line, line_arguments, line_kind, line_name, line_word}
-use Rattle.vast_list.specs.Names.{IsEntered, value_named}
-use Rattle.vast_list.specs.Session.{Calls, Gives, GivesCall, IsGivenBy, IsSameFile, Takes}
+use Rattle.vast_list.specs.Lines.{LineKind, Passed, Asked, Helped, Stepped, call_words, is_call, is_call_line, line_arguments, line_kind, line_word}
+use Rattle.vast_list.specs.Questions.{question_words}
+use Rattle.vast_list.specs.Session.{Calls, Gives, GivesAnswer, GivesCall, IsGivenBy, Takes}
 use Rattle.vast_list.specs.Written.{AreWritten, meaning}
-use Rattle.vast_list.specs.Built.{Between, Builds, HasBuilt, LinesBuild, Reading, ReadsCall, ReadsLine, ReadsLines, nothing_read}
+use Rattle.vast_list.specs.Built.{Between, HasBuilt, IsBetween, Reading, ReadsCall, ReadsLine, ReadsLines, ReadsQuestion, nothing_read}
 use Rattle.vast_list.specs.Internal.Built.{TakesLine}
 
 -- What no list names since a file and since a later one.
@@ -47,119 +46,108 @@ between-more : (again : Bool) (b c d : Bench) → Between again b c → Between 
 between-more false b c d h k = k ∙ h
 between-more true b c d h k = unused-more b c d h k
 
-builds-on : (again : Bool) (b c d : Bench) (xs ys : List Answer) (calls : List Call) → Builds again b c xs ys calls → Between again c d → Builds again b d xs ys calls
-builds-on again b c d xs ys [] h k = (between-more again b c d h.0 k, h.1)
-builds-on again b c d xs ys (call ∷ calls) h k = (h.0, h.1, h.2, h.3, h.4, builds-on again h.1 c d (xs ++ h.2 ∷ []) ys calls h.5 k)
+-- Between two lines, and on to a third.
 
-builds-more :
-    (again : Bool) (b c d e : Bench) (xs ys : List Answer) (calls : List Call) (call : Call) (answer : Answer) → Builds again b c xs ys calls → Between again c d →
-    Calls d e ys (Ok answer) call → Builds again b e xs (ys ++ answer ∷ []) (calls ++ call ∷ [])
-builds-more again b c d e xs ys [] call answer h k made =
-    (d, e, answer, between-more again b c d h.0 k, subst (λ (zs : List Answer). Calls d e zs (Ok answer) call) h.1 made, (between-same again e, ap (λ (zs : List Answer). zs ++ answer ∷ []) h.1))
-builds-more again b c d e xs ys (first ∷ calls) call answer h k made =
-    (h.0, h.1, h.2, h.3, h.4, builds-more again h.1 c d e (xs ++ h.2 ∷ []) ys calls call answer h.5 k made)
+between-none : (again : Bool) (r : Reading) → IsBetween again r r
+between-none again r = (between-same again r.file, refl)
 
--- A call gives one answer.
-builds-length : (again : Bool) (b c : Bench) (xs ys : List Answer) (calls : List Call) → Builds again b c xs ys calls → length ys ≡ length xs + length calls
-builds-length again b c xs ys [] h = omega (arith, ap (λ (zs : List Answer). length zs) h.1)
-builds-length again b c xs ys (call ∷ calls) h = omega (arith, builds-length again h.1 c (xs ++ h.2 ∷ []) ys calls h.5, length-append xs (h.2 ∷ []))
-
-abbrev reading : List Call → (List ℕ → Option Named) → Reading
-reading calls named = record { calls = calls; named = named }
+between-on : (again : Bool) (a b c : Reading) → IsBetween again a b → IsBetween again b c → IsBetween again a c
+between-on again a b c h k = (between-more again a.file b.file c.file h.0 k.0, k.1 ∙ ap (λ (r : Reading). record r { file = c.file }) h.1)
 
 -- One line more is read.
-reads-more : (a b c : Reading) (lines : List (List ℕ)) (line : List ℕ) → ReadsLines a b lines → ReadsLine (line_kind line) b c line → ReadsLines a c (lines ++ line ∷ [])
-reads-more a b c [] line h k = (c, subst (λ (r : Reading). ReadsLine (line_kind line) r c line) h k, refl)
-reads-more a b c (first ∷ lines) line h k = (h.0, h.1, reads-more h.0 b c lines line h.2 k)
+reads-more :
+    (again : Bool) (a b here c : Reading) (lines : List (List ℕ)) (line : List ℕ) → ReadsLines again a b lines → IsBetween again b here → ReadsLine (line_kind line) here c line →
+    ReadsLines again a c (lines ++ line ∷ [])
+reads-more again a b here c [] line h k reads = (here, c, between-on again a b here h k, reads, between-none again c)
+reads-more again a b here c (first ∷ lines) line h k reads = (h.0, h.1, h.2, h.3, reads-more again h.1 b here c lines line h.4 k reads)
 
-reads-as : (kind : LineKind) (a b c : Reading) (lines : List (List ℕ)) (line : List ℕ) → ReadsLines a b lines → line_kind line ≡ kind → ReadsLine kind b c line → ReadsLines a c (lines ++ line ∷ [])
-reads-as kind a b c lines line h e k = reads-more a b c lines line h (subst (λ (x : LineKind). ReadsLine x b c line) (sym e) k)
+-- What is read of a session, with the calls that led to it.
+abbrev reading : List Call → Session → Reading
+reading calls session = record { calls = calls; file = session.file; answers = session.answers.items; named = meaning session.names }
 
--- What a session was before a line, over what the lines before it built: its file may have more that nothing uses, its answers
--- are theirs, and names stand for what they did.
-record Before (again : Bool) (file : Bench) (answers : List Answer) (named : List ℕ → Option Named) (session : Session) : Type 0 where
-  pub file_is : Between again file session.file
-  pub answers_are : session.answers.items ≡ answers
-  pub names_are : meaning session.names ≡ named
-  pub none_skipped : session.skipped.items ≡ []
-
--- The line is a call that was made.
-made-more :
-    (again : Bool) (dialect : VastFileType) (lines : List (List ℕ)) (line : List ℕ) (file : Bench) (answers : List Answer) (named : List ℕ → Option Named) (between new : Session) (name : List ℕ) (kind : LineKind) →
-    LinesBuild again dialect lines file answers named → Before again file answers named between → GivesCall between new name line → line_kind line ≡ kind → name ≡ line_word line →
-    ((a b : Reading) → ReadsCall a b line → ReadsLine kind a b line) → HasBuilt again dialect (lines ++ line ∷ []) new
-made-more again dialect lines line file answers named between new name kind h before gives is word one =
+-- What a line gives that is a call, over what was read before it.
+call_read :
+    (calls : List Call) (old new : Session) (name line : List ℕ) → old.skipped.items ≡ [] → name ≡ line_word line → (gives : GivesCall old new name line) →
+    ReadsCall (reading calls old) (reading (calls ++ gives.0.0 ∷ []) new) line
+call_read calls old new name line none word gives =
     let made = gives.0 in
-    let call = made.0 in
-    let answer = made.2.0 in
-    let entered = gives.1 in
-    let old : Reading = record { calls = h.0; named = named } in
-    let now : Reading = record { calls = h.0 ++ call ∷ []; named = meaning new.names } in
-    let written = subst (λ (skipped : List ℕ). AreWritten named skipped (call_pieces call) (line_arguments line)) before.none_skipped
-    (subst (λ (n : List ℕ → Option Named). AreWritten n between.skipped.items (call_pieces call) (line_arguments line)) before.names_are made.3) in
-    let place : length between.answers.items ≡ length h.0 =
-    ap (λ (zs : List Answer). length zs) before.answers_are ∙ (builds-length again (start dialect 1) file [] answers h.0 h.2 ∙ zero-add (length h.0)) in
-    let names = subst (λ (n : ℕ). IsEntered named (meaning new.names) (line_name line) (Handle n)) place
-    (subst (λ (n : List ℕ → Option Named). IsEntered n (meaning new.names) (line_name line) (Handle (length between.answers.items))) before.names_are entered.0) in
-    let calls = subst (λ (zs : List Answer). Calls between.file new.file zs (Ok answer) call) before.answers_are made.2.1 in
-    let all = builds-more again (start dialect 1) file between.file new.file [] answers h.0 call answer h.2 before.file_is calls in (
-      (
-        now.calls,
-        reads-as kind nothing_read old now lines line h.1 is (one old now (call, refl, made.1 ∙ word, written, names)),
-        subst (λ (zs : List Answer). Builds again (start dialect 1) new.file [] zs now.calls) (sym (made.2.2 ∙ ap (λ (zs : List Answer). zs ++ answer ∷ []) before.answers_are)) all,
-      ),
-      entered.1 ∙ before.none_skipped,
+    let call = made.0 in (
+      call,
+      made.2.0,
+      made.1 ∙ word,
+      subst (λ (skipped : List ℕ). AreWritten (meaning old.names) skipped (call_pieces call) (line_arguments line)) none made.3,
+      made.2.1,
+      gives.1.0,
+      refl,
+      made.2.2,
     )
 
--- The line is no call.
-pass-more :
-    (again : Bool) (dialect : VastFileType) (lines : List (List ℕ)) (line : List ℕ) (file : Bench) (answers : List Answer) (named : List ℕ → Option Named) (between new : Session) →
-    (built : LinesBuild again dialect lines file answers named) → Before again file answers named between → IsSameFile between new → new.skipped.items ≡ between.skipped.items →
-    ReadsLine (line_kind line) (record { calls = built.0; named = named }) (record { calls = built.0; named = meaning new.names }) line → HasBuilt again dialect (lines ++ line ∷ []) new
-pass-more again dialect lines line file answers named between new h before same skipped reads =
-    let old : Reading = record { calls = h.0; named = named } in
-    let now : Reading = record { calls = h.0; named = meaning new.names } in
-    let on = builds-on again (start dialect 1) file between.file [] answers h.0 h.2 before.file_is in
-    let built = subst (λ (b : Bench). Builds again (start dialect 1) b [] answers h.0) (sym same.0) on in
-    let answered = subst (λ (zs : List Answer). Builds again (start dialect 1) new.file [] zs h.0) (sym (same.1 ∙ before.answers_are)) built in
-    ((h.0, reads-more nothing_read old now lines line h.1 reads, answered), skipped ∙ before.none_skipped)
+question_read : (calls : List Call) (old new : Session) (line : List ℕ) (value : Value) → old.skipped.items ≡ [] → GivesAnswer old new line value → ReadsQuestion (reading calls old) (reading calls new) line
+question_read calls old new line value none gives =
+    let asked = gives.0 in
+    let question = asked.0 in (
+      question,
+      value,
+      (asked.1.1.0, subst (λ (skipped : List ℕ). AreWritten (meaning old.names) skipped (question_words question).1 (line_arguments line)) none asked.1.1.1),
+      asked.2,
+      gives.2.0,
+      λ i. record { calls = calls; file = gives.1.0 i; answers = gives.1.1 i; named = meaning new.names },
+    )
 
-gives-more :
-    (again : Bool) (dialect : VastFileType) (lines : List (List ℕ)) (line : List ℕ) (file : Bench) (answers : List Answer) (named : List ℕ → Option Named) (between new : Session) (given : Given) →
-    LinesBuild again dialect lines file answers named → Before again file answers named between → Gives between new line given → IsGivenBy line given → HasBuilt again dialect (lines ++ line ∷ []) new
-gives-more again dialect lines line file answers named between new Nothing h before gives is =
-    let same : meaning new.names ≡ named = gives.1.0 ∙ before.names_are in
-    let reads = ap (λ (n : List ℕ → Option Named). reading h.0 n) same in
-    pass-more again dialect lines line file answers named between new h before gives.0 gives.1.1
-    (subst (λ (kind : LineKind). ReadsLine kind (reading h.0 named) (reading h.0 (meaning new.names)) line) (sym is) reads)
-gives-more again dialect lines line file answers named between new (Answered name value) h before gives is =
-    let names = subst (λ (n : List ℕ → Option Named). IsEntered n (meaning new.names) (line_name line) (value_named value)) before.names_are gives.1.0 in
-    pass-more again dialect lines line file answers named between new h before gives.0 gives.1.1
-    (subst (λ (kind : LineKind). ReadsLine kind (reading h.0 named) (reading h.0 (meaning new.names)) line) (sym is.0) (value, refl, names))
-gives-more again dialect lines line file answers named between new (StepGiven number name) h before gives is =
-    made-more again dialect lines line file answers named between new name.now Stepped h before gives is.0 is.1 (λ a b r. r)
-gives-more again dialect lines line file answers named between new (HelperGiven number name) h before gives is =
-    made-more again dialect lines line file answers named between new name.now Helped h before gives is.0 is.1 (λ a b r. r)
+-- What a line gives is read, and none was passed over.
+record IsReadOn (calls : List Call) (old new : Session) (line : List ℕ) : Type 0 where
+  pub more : List Call
+  pub reads : ReadsLine (line_kind line) (reading calls old) (reading more new) line
+  pub none_skipped : new.skipped.items ≡ []
+
+as_kind : (kind : LineKind) (a b : Reading) (line : List ℕ) → line_kind line ≡ kind → ReadsLine kind a b line → ReadsLine (line_kind line) a b line
+as_kind kind a b line e h = subst (λ (k : LineKind). ReadsLine k a b line) (sym e) h
+
+gives_read : (calls : List Call) (old new : Session) (line : List ℕ) (given : Given) → old.skipped.items ≡ [] → Gives old new line given → IsGivenBy line given → IsReadOn calls old new line
+gives_read calls old new line Nothing none gives is = record {
+  more = calls;
+  reads = as_kind Passed _ _ line is (λ i. record { calls = calls; file = gives.0.0 i; answers = gives.0.1 i; named = gives.1.0 i });
+  none_skipped = gives.1.1 ∙ none;
+}
+gives_read calls old new line (Answered name value) none gives is = record {
+  more = calls;
+  reads = as_kind Asked _ _ line is.0 (question_read calls old new line value none gives);
+  none_skipped = gives.2.1 ∙ none;
+}
+gives_read calls old new line (StepGiven number name) none gives is = record {
+  more = calls ++ gives.0.0 ∷ [];
+  reads = as_kind Stepped _ _ line is.0 (call_read calls old new name.now line none is.1 gives);
+  none_skipped = gives.1.1 ∙ none;
+}
+gives_read calls old new line (HelperGiven number name) none gives is = record {
+  more = calls ++ gives.0.0 ∷ [];
+  reads = as_kind Helped _ _ line is.0 (call_read calls old new name.now line none is.1 gives);
+  none_skipped = gives.1.1 ∙ none;
+}
 
 -- One line more is taken.
 pub lines-more :
     (again : Bool) (dialect : VastFileType) (lines : List (List ℕ)) (line : List ℕ) (old new : Session) → HasBuilt again dialect lines old → TakesLine again old new line → HasBuilt again dialect (lines ++ line ∷ []) new
 lines-more again dialect lines line old new h takes =
-    gives-more again dialect lines line old.file old.answers.items (meaning old.names) takes.between new takes.given h.0
-    (record { file_is = takes.file; answers_are = takes.answers; names_are = takes.known.0; none_skipped = takes.known.1 ∙ h.1 }) takes.gives takes.is
+    let calls = h.0.0 in
+    let here = takes.between in
+    let on = gives_read calls here new line takes.given (takes.known.1 ∙ h.1) takes.gives takes.is in
+    let kept : reading calls here ≡ record (reading calls old) { file = here.file } =
+    λ i. record { calls = calls; file = here.file; answers = takes.answers i; named = takes.known.0 i } in
+    ((on.more, reads-more again (nothing_read dialect) (reading calls old) (reading calls here) (reading on.more new) lines line h.0.1 (takes.file, kept) on.reads), on.none_skipped)
 
 -- No line builds nothing.
 pub no-lines :
     (again : Bool) (dialect : VastFileType) (session : Session) → session.file ≡ start dialect 1 → session.answers.items ≡ [] → meaning session.names ≡ (λ (name : List ℕ). None) → session.skipped.items ≡ [] →
     HasBuilt again dialect [] session
 no-lines again dialect session e a n s =
-    (([], ap (λ (named : List ℕ → Option Named). reading [] named) n, (subst (λ (b : Bench). Between again (start dialect 1) b) (sym e) (between-same again (start dialect 1)), a)), s)
+    (([], (subst (λ (b : Bench). Between again (start dialect 1) b) (sym e) (between-same again (start dialect 1)), λ i. record { calls = []; file = session.file; answers = a i; named = n i })), s)
 
 -- The calls have the names in the lines.
 
 name-call : (a b : Reading) (line : List ℕ) (lines : List (List ℕ)) → ReadsCall a b line → map call_name b.calls ++ call_words lines ≡ map call_name a.calls ++ line_word line ∷ call_words lines
 name-call a b line lines h =
-    ap (λ (calls : List Call). map call_name calls ++ call_words lines) h.1
+    ap (λ (calls : List Call). map call_name calls ++ call_words lines) h.6
     ∙ ap (λ (words : List (List ℕ)). words ++ call_words lines) (map-append call_name a.calls (h.0 ∷ []))
     ∙ append_assoc (map call_name a.calls) (call_name h.0 ∷ []) (call_words lines)
     ∙ ap (λ (word : List ℕ). map call_name a.calls ++ word ∷ call_words lines) h.2
@@ -172,7 +160,7 @@ name-line Passed a b line lines e h =
     rw none (ap (λ (r : Reading). map call_name r.calls ++ call_words lines) h)
 name-line Asked a b line lines e h =
     let none : is_call_line line ≡ false = ap is_call e in
-    rw none (ap (λ (calls : List Call). map call_name calls ++ call_words lines) h.1)
+    rw none (ap (λ (r : Reading). map call_name r.calls ++ call_words lines) h.5)
 name-line Helped a b line lines e h =
     let one : is_call_line line ≡ true = ap is_call e in
     rw one (name-call a b line lines h)
@@ -180,12 +168,15 @@ name-line Stepped a b line lines e h =
     let one : is_call_line line ≡ true = ap is_call e in
     rw one (name-call a b line lines h)
 
-name-lines : (a b : Reading) (lines : List (List ℕ)) → ReadsLines a b lines → map call_name b.calls ≡ map call_name a.calls ++ call_words lines
-name-lines a b [] h = ap (λ (r : Reading). map call_name r.calls) h ∙ sym (append-nil (map call_name a.calls))
-name-lines a b (line ∷ lines) h = name-lines h.0 b lines h.2 ∙ name-line (line_kind line) a h.0 line lines refl h.1
+name-lines : (again : Bool) (a b : Reading) (lines : List (List ℕ)) → ReadsLines again a b lines → map call_name b.calls ≡ map call_name a.calls ++ call_words lines
+name-lines again a b [] h = ap (λ (r : Reading). map call_name r.calls) h.1 ∙ sym (append-nil (map call_name a.calls))
+name-lines again a b (line ∷ lines) h =
+    name-lines again h.1 b lines h.4
+    ∙ name-line (line_kind line) h.0 h.1 line lines refl h.3
+    ∙ ap (λ (r : Reading). map call_name r.calls ++ call_words (line ∷ lines)) h.2.1
 
-pub calls-named : (lines : List (List ℕ)) (read : Reading) → ReadsLines nothing_read read lines → map call_name read.calls ≡ call_words lines
-calls-named lines read h = name-lines nothing_read read lines h
+pub calls-named : (again : Bool) (dialect : VastFileType) (lines : List (List ℕ)) (read : Reading) → ReadsLines again (nothing_read dialect) read lines → map call_name read.calls ≡ call_words lines
+calls-named again dialect lines read h = name-lines again (nothing_read dialect) read lines h
 
 pub takes_once : (again : Bool) (old new : Session) (line : List ℕ) (r : Result Given Fault) → Takes old new line r → IfOk r (IsGivenBy line) → OnOk r (TakesLine again old new line)
 takes_once again old new line (Ok given) takes kind = record { between = old; file = between-same again old.file; answers = refl; known = (refl, refl); given = given; gives = takes; is = kind }
@@ -201,11 +192,65 @@ takes_again old between new line (Err fault) unused answers names skipped takes 
 pub ruleset taking = (takes_once, takes_again)
 
 -- Calls that are all steps are a run of these steps.
-one-run : (b c d : Bench) (xs : List Answer) (step : Step) (answer : Answer) → c ≡ b → call_of step c xs ≡ Made answer d → one_more (Going xs b) step ≡ Going (xs ++ answer ∷ []) d
-unfolding one_more
-one-run b c d xs step answer same made = ap (gone_on xs b) (ap (λ (x : Bench). call_of step x xs) (sym same) ∙ made)
 
-pub steps-run : (b c : Bench) (xs ys : List Answer) (steps : List Step) → Builds false b c xs ys (map StepCall steps) → fold one_more (Going xs b) steps ≡ Going ys c
-steps-run b c xs ys [] h = rw (h.0, h.1) refl
-steps-run b c xs ys (step ∷ steps) h =
-    ap (λ (r : Run). fold one_more r steps) (one-run b h.0 h.1 xs step h.2 h.3 h.4) ∙ steps-run h.1 c (xs ++ h.2 ∷ []) ys steps h.5
+-- Steps whose calls end with this one end with its step.
+record EndsWithStep (steps : List Step) (calls : List Call) (call : Call) : Type 0 where
+  pub before : List Step
+  pub step : Step
+  pub steps_are : steps ≡ before ++ step ∷ []
+  pub calls_are : calls ≡ map StepCall before
+  pub call_is : call ≡ StepCall step
+
+ends_with_step : (steps : List Step) (calls : List Call) (call : Call) → calls ++ call ∷ [] ≡ map StepCall steps → EndsWithStep steps calls call
+ends_with_step [] [] call e = absurd (cc e)
+ends_with_step [] (first ∷ calls) call e = absurd (cc e)
+ends_with_step (step ∷ []) [] call e = record { before = []; step = step; steps_are = refl; calls_are = refl; call_is = cc e }
+ends_with_step (step ∷ next ∷ steps) [] call e = absurd (cc e)
+ends_with_step (step ∷ steps) (first ∷ calls) call e =
+    let rest : calls ++ call ∷ [] ≡ map StepCall steps = cc e in
+    let first_is : first ≡ StepCall step = cc e in
+    let on = ends_with_step steps calls call rest in
+    record { before = step ∷ on.before; step = on.step; steps_are = ap (λ (xs : List Step). step ∷ xs) on.steps_are; calls_are = λ i. first_is i ∷ on.calls_are i; call_is = on.call_is }
+
+-- Whatever steps the calls so far are, the file and the answers are those of a run of them.
+abbrev IsRun : Bench → Reading → Type 0
+IsRun b read = (steps : List Step) → read.calls ≡ map StepCall steps → run b steps ≡ Going read.answers read.file
+
+one-run : (b c : Bench) (xs : List Answer) (step : Step) (answer : Answer) → call_of step b xs ≡ Made answer c → one_more (Going xs b) step ≡ Going (xs ++ answer ∷ []) c
+unfolding one_more
+one-run b c xs step answer made = ap (gone_on xs b) made
+
+run-more : (b : Bench) (before : List Step) (step : Step) → run b (before ++ step ∷ []) ≡ one_more (run b before) step
+run-more b before step = fold-append one_more (Going [] b) before (step ∷ [])
+
+call-run : (b : Bench) (old new : Reading) (line : List ℕ) → IsRun b old → ReadsCall old new line → IsRun b new
+call-run b old new line h reads steps e =
+    let ends = ends_with_step steps old.calls reads.0 (sym reads.6 ∙ e) in
+    let made = subst (λ (call : Call). Calls old.file new.file old.answers (Ok reads.1) call) ends.call_is reads.4 in
+    ap (run b) ends.steps_are
+    ∙ run-more b ends.before ends.step
+    ∙ ap (λ (r : Run). one_more r ends.step) (h ends.before ends.calls_are)
+    ∙ one-run old.file new.file old.answers ends.step reads.1 made
+    ∙ ap (λ (xs : List Answer). Going xs new.file) (sym reads.7)
+
+line-run : (kind : LineKind) (b : Bench) (old new : Reading) (line : List ℕ) → IsRun b old → ReadsLine kind old new line → IsRun b new
+line-run Passed b old new line h reads = subst (λ (r : Reading). IsRun b r) (sym reads) h
+line-run Asked b old new line h reads = subst (λ (r : Reading). IsRun b r) (sym reads.5) h
+line-run Helped b old new line h reads = call-run b old new line h reads
+line-run Stepped b old new line h reads = call-run b old new line h reads
+
+same-run : (b : Bench) (old new : Reading) → IsRun b old → IsBetween false old new → IsRun b new
+same-run b old new h same = λ steps e. h steps (sym (ap (λ (r : Reading). r.calls) same.1) ∙ e) ∙ (λ i. Going (sym (ap (λ (r : Reading). r.answers) same.1) i) (sym same.0 i))
+
+lines-run : (b : Bench) (old new : Reading) (lines : List (List ℕ)) → IsRun b old → ReadsLines false old new lines → IsRun b new
+lines-run b old new [] h same = same-run b old new h same
+lines-run b old new (line ∷ lines) h reads = lines-run b reads.1 new lines (line-run (line_kind line) b reads.0 reads.1 line (same-run b old reads.0 h reads.2) reads.3) reads.4
+
+none-run : (b : Bench) (steps : List Step) → [] ≡ map StepCall steps → run b steps ≡ Going [] b
+none-run b [] e = refl
+none-run b (step ∷ steps) e = absurd (cc e)
+
+pub steps-run :
+    (dialect : VastFileType) (lines : List (List ℕ)) (read : Reading) (steps : List Step) → ReadsLines false (nothing_read dialect) read lines → read.calls ≡ map StepCall steps →
+    run (start dialect 1) steps ≡ Going read.answers read.file
+steps-run dialect lines read steps h e = lines-run (start dialect 1) (nothing_read dialect) read lines (none-run (start dialect 1)) h steps e

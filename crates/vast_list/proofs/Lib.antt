@@ -11,5 +11,6 @@ pub mod JsonLines
 pub mod TextLines
 pub mod Mapped
 pub mod UntitledLists
+pub mod PlainLists
 pub mod EndedLines
 pub mod Numbered

@@ -27,13 +27,16 @@ use Rattle.vast_list.specs.declared.arguments.Known.{Known}
 use Rattle.vast_list.specs.declared.line.Line.{Line as ReadLine}
 use Rattle.vast_list.specs.declared.names.Named.{Named}
 use Rattle.vast_list.specs.declared.names.Names.{Names}
+use Rattle.vast_list.specs.declared.questions.Question.{Question}
+use Rattle.vast_list.specs.declared.questions.answered.Value.{Value}
 use Rattle.std.specs.Prelude.{IfSome, Option, option_copied, codes, slice_index, ◌==◌}
 use Rattle.vast_list.specs.Lines.{Asked, HasKind, Helped, Passed, Stepped, behind_call, is_passed, line_arguments, line_kind, line_name, line_word, text_name, without_return, word_kind, NamesDialect}
-use Rattle.vast_list.specs.Names.{IsFree}
+use Rattle.vast_list.specs.Names.{IsFree, value_named}
 use Rattle.vast_list.specs.Helpers.{Helps, IsKept}
 use Rattle.vast_list.specs.CallNames.{call_name}
-use Rattle.vast_list.specs.Session.{Calls, Enters, HasMade, IsCallOf, IsCause, IsCausedBy, IsInForm, IsOfLine, IsStepIn, call_kind, IsFileLeft, IsLeft, IsMade, IsTextOf, IsWrittenIn}
-use Rattle.vast_list.specs.Internal.Session.{IsActionOf, IsCallFault, IsRead, IsToldAs, IsToldOf}
+use Rattle.vast_list.specs.Questions.{Asks}
+use Rattle.vast_list.specs.Session.{Calls, Enters, GivesAnswer, HasMade, IsCallOf, IsCause, IsCausedBy, IsInForm, IsOfLine, IsQuestionIn, IsStepIn, call_kind, IsFileLeft, IsLeft, IsMade, IsTextOf, IsWrittenIn}
+use Rattle.vast_list.specs.Internal.Session.{IsActionOf, IsCallFault, IsQuestionFault, IsRead, IsToldAs, IsToldOf}
 use Rattle.vast_list.specs.Written.{meaning}
 use Rattle.std.specs.Str.{IsUtf8, IsAscii}
 use Rattle.std.proofs.lemmas.Bool.{and_parts}
@@ -174,7 +177,7 @@ line_read line word p w = ap (λ (b : Bool). if b then Passed else word_kind (li
 action_read :
     (session : Session) (line name : List ℕ) (action : Action) → IsActionOf (meaning session.names) session.skipped.items name (line_arguments line) action → line_kind line ≡ word_kind name →
     name ≡ line_word line → IsFree (meaning session.names) (line_name line) → IsInForm session line
-action_read session line name (Ask question) a k w f = inr (f, inl (k ∙ a))
+action_read session line name (Ask question) a k w f = inr (f, inl (question, (k ∙ a.0, (a.1 ∙ w, a.2))))
 action_read session line name (CallAction call) a k w f = inr (f, inr (call, k ∙ a.0, (a.1 ∙ w, a.2)))
 
 read_of :
@@ -220,13 +223,45 @@ pub uncaused : (old new : Session) (line : List ℕ) (number : ℕ) (fault : Fau
 uncaused old new line number (Line f) e = subst (λ (found : Option StepFault). IfSome found (IsCause old new line)) (sym e.1) tt
 uncaused old new line number Memory e = tt
 
-asked_cause : (old new : Session) (line : List ℕ) (found : Option StepFault) → line_kind line ≡ Asked → IfSome found (IsCause old new line)
-asked_cause old new line None k = tt
-asked_cause old new line (Some cause) k = inl k
+asked_cause :
+    (old new : Session) (line : List ℕ) (question : Question) (found : Option StepFault) → IsQuestionIn old question line →
+    IfSome found (λ (cause : StepFault). Asks old.file old.answers.items (Err cause) question) → IfSome found (IsCause old new line)
+asked_cause old new line question None k h = tt
+asked_cause old new line question (Some cause) k h = inl (question, k, h)
 
-pub asked : (old new : Session) (line : List ℕ) (fault : Fault) → line_kind line ≡ Asked → IsCausedBy old new line fault
-asked old new line (Line f) k = asked_cause old new line f.cause k
-asked old new line Memory k = tt
+asked_fault : (old new : Session) (line : List ℕ) (question : Question) (fault : Fault) → IsQuestionIn old question line → IsQuestionFault old question fault → IsCausedBy old new line fault
+asked_fault old new line question (Line f) k h = asked_cause old new line question f.cause k h
+asked_fault old new line question Memory k h = tt
+
+pub question_fault :
+    (session : Session) (question : Question) (number : ℕ) (cause : StepFault) (told : Fault) → Asks session.file session.answers.items (Err cause) question → IsToldOf number (Some cause) told →
+    IsQuestionFault session question told
+question_fault session question number cause (Line f) h e =
+    subst (λ (found : Option StepFault). IfSome found (λ (c : StepFault). Asks session.file session.answers.items (Err c) question)) (sym e.1) h
+question_fault session question number cause Memory h e = tt
+
+-- The question that a line was read as.
+question_in :
+    (session : Session) (text line : List ℕ) (read : ReadLine) (question : Question) → IsRead (meaning session.names) session.skipped.items text read → read.action ≡ Ask question → is_passed text ≡ false →
+    text ≡ without_return line → IsQuestionIn session question line
+question_in session text line read question r a p e =
+    let found = read_of session text line read r e in
+    let acts = subst (λ (action : Action). IsActionOf (meaning session.names) session.skipped.items read.call.now (line_arguments line) action) a found.1 in
+    (line_read line read.call.now (not_passed text line p e) found.0 ∙ acts.0, (acts.1 ∙ found.0, acts.2))
+
+-- What became of the question that the line is.
+pub asked :
+    (old new : Session) (text line : List ℕ) (read : ReadLine) (question : Question) (fault : Fault) → IsRead (meaning old.names) old.skipped.items text read → read.action ≡ Ask question →
+    is_passed text ≡ false → text ≡ without_return line → IsQuestionFault old question fault → IsCausedBy old new line fault
+asked old new text line read question fault r a p e h = asked_fault old new line question fault (question_in old text line read question r a p e) h
+
+pub answered :
+    (old new : Session) (text line : List ℕ) (read : ReadLine) (question : Question) (value : Value) (meant : Named) → IsRead (meaning old.names) old.skipped.items text read → read.action ≡ Ask question →
+    is_passed text ≡ false → text ≡ without_return line → Asks old.file old.answers.items (Ok value) question → new.file ≡ old.file → new.answers.items ≡ old.answers.items →
+    Enters old new (option_copied read.name) meant → meant ≡ value_named value → GivesAnswer old new line value
+answered old new text line read question value meant r a p e h f s n is =
+    let entered = enters_read old new text line read meant r e n in
+    ((question, question_in old text line read question r a p e, h), (f, s), subst (λ (m : Named). Enters old new (line_name line) m) is entered)
 
 call_cause :
     (old new : Session) (line : List ℕ) (call : Call) (found : Option StepFault) → line_kind line ≡ call_kind call → IsCallOf old call line →
@@ -239,7 +274,9 @@ pub caused : (old new : Session) (line : List ℕ) (call : Call) (fault : Fault)
 caused old new line call (Line f) k w h = call_cause old new line call f.cause k w h
 caused old new line call Memory k w h = tt
 
-pub ruleset lines = (full, other, left_same, has_made, same-unused, uncaused, asked, caused, of_line, memory_line, memory_cause)
+pub ruleset asking = (question_fault, of_line)
+
+pub ruleset lines = (full, other, left_same, has_made, same-unused, uncaused, asked, answered, caused, of_line, memory_line, memory_cause)
 
 pub text_of : (file : FileTree) (text : String Global) (answer : Result (String Global) VastFault) → Emits (layout file) answer → answer ≡ Ok text → IsTextOf file (string_bytes text)
 text_of file text answer h e = let m = subst (λ (r : Result (String Global) VastFault). Emits (layout file) r) e h in (m.0, m.1)

@@ -38,7 +38,7 @@ pub led_astray : (line : List ℕ) (fault : LineFault) → LeadsTo line (Astray 
 led_astray line fault = λ lines blank. tt
 
 -- One line more is answered.
-answered-more : (lines : List (List ℕ)) (line : List ℕ) (old new : Answering) → HasAnswered lines old → TakesOn old new line → HasAnswered (lines ++ line ∷ []) new
+pub answered-more : (lines : List (List ℕ)) (line : List ℕ) (old new : Answering) → HasAnswered lines old → TakesOn old new line → HasAnswered (lines ++ line ∷ []) new
 answered-more lines line old new before on = record {
   trial = on.trial ∙ before.trial;
   stopped = on.stopped before.stopped;

@@ -5,6 +5,7 @@ pub mod Names
 pub mod Session
 pub mod Built
 pub mod JsonLine
+pub mod PlainLists
 pub mod Origins
 pub mod Untitled
 pub mod Replies

@@ -6,9 +6,11 @@ pub mod CallNames
 pub mod CallArguments
 pub mod Written
 pub mod Names
+pub mod Questions
 pub mod Session
 pub mod Built
 pub mod JsonLine
+pub mod PlainLists
 pub mod Replies
 pub mod Origins
 pub mod Untitled

@@ -19,11 +19,14 @@ use Rattle.vast_list.specs.declared.session.Given.TheVariants.{Nothing, Step, He
 use Rattle.vast_list.specs.declared.session.Session.{Session}
 use Rattle.vast_list.specs.declared.names.Named.{Named}
 use Rattle.vast_list.specs.declared.names.Named.TheVariants.{Handle, Skipped}
+use Rattle.vast_list.specs.declared.questions.Question.{Question}
+use Rattle.vast_list.specs.declared.questions.answered.Value.{Value}
 use Rattle.vast_list.specs.CallArguments.{call_pieces}
 use Rattle.vast_list.specs.CallNames.{call_name}
 use Rattle.vast_list.specs.Helpers.{Helps}
 use Rattle.vast_list.specs.Lines.{LineKind, Passed, Asked, Helped, Stepped, line_arguments, line_kind, line_name, line_word}
 use Rattle.vast_list.specs.Names.{IsEntered, IsFree, value_named}
+use Rattle.vast_list.specs.Questions.{Asks, IsQuestionOf}
 use Rattle.vast_list.specs.Written.{AreWritten, meaning}
 use Rattle.vast_literal.specs.declared.kind.VastFileType.{VastFileType}
 
@@ -53,12 +56,20 @@ IsCallOf session call line = (call_name call ≡ line_word line) × IsWrittenIn 
 abbrev pub IsStepIn : Session → ScriptStep → (line : List ℕ) → Type 0
 IsStepIn session step line = (line_kind line ≡ Stepped) × IsCallOf session (StepCall step) line
 
--- The line is in the form: it is blank or a comment, or the name of its answer stands for nothing so far and it asks, or is
--- a call of its kind.
+-- The line is this question.
+abbrev pub IsQuestionIn : Session → Question → (line : List ℕ) → Type 0
+IsQuestionIn session question line = (line_kind line ≡ Asked) × IsQuestionOf (meaning session.names) session.skipped.items question line
+
+-- The line is a question of which this becomes.
+abbrev pub HasAsked : Session → (line : List ℕ) → Result Value StepFault → Type 0
+HasAsked session line result = (question : Question) × IsQuestionIn session question line × Asks session.file session.answers.items result question
+
+-- The line is in the form: it is blank or a comment, or the name of its answer stands for nothing so far and it is a question,
+-- or a call of its kind.
 abbrev pub IsInForm : Session → (line : List ℕ) → Type 0
 IsInForm session line =
     (line_kind line ≡ Passed)
-    ⊎ (IsFree (meaning session.names) (line_name line) × ((line_kind line ≡ Asked) ⊎ ((call : Call) × (line_kind line ≡ call_kind call) × IsCallOf session call line)))
+    ⊎ (IsFree (meaning session.names) (line_name line) × (((question : Question) × IsQuestionIn session question line) ⊎ ((call : Call) × (line_kind line ≡ call_kind call) × IsCallOf session call line)))
 
 -- A call of this name was made, with these arguments.
 abbrev pub HasMade : (old new : Session) → (name arguments : List ℕ) → Type 0
@@ -93,13 +104,16 @@ IsLeft old new fault = IsFileLeft old new fault × IsSameKnown old new
 abbrev pub GivesCall : (old new : Session) → (name line : List ℕ) → Type 0
 GivesCall old new name line = HasMade old new name (line_arguments line) × Enters old new (line_name line) (Handle (length old.answers.items))
 
--- A step or a helper is a call that was made; a question changes but what its name stands for, which is its answer from now
--- on; a comment and a blank line change nothing.
+-- The line is a question that has this answer, and changes but what its name stands for, which is the answer from now on.
+abbrev pub GivesAnswer : (old new : Session) → (line : List ℕ) → Value → Type 0
+GivesAnswer old new line value = HasAsked old line (Ok value) × IsSameFile old new × Enters old new (line_name line) (value_named value)
+
+-- A step or a helper is a call that was made, a question is answered; a comment and a blank line change nothing.
 abbrev pub Gives : (old new : Session) → (line : List ℕ) → Given → Type 0
 Gives old new line Nothing = IsSame old new
 Gives old new line (Step number name) = GivesCall old new name.now line
 Gives old new line (Helper number name) = GivesCall old new name.now line
-Gives old new line (Answered name value) = IsSameFile old new × Enters old new (line_name line) (value_named value)
+Gives old new line (Answered name value) = GivesAnswer old new line value
 
 -- The line is of the kind that gives this, under its call's name.
 abbrev pub IsGivenBy : (line : List ℕ) → Given → Type 0
@@ -122,10 +136,10 @@ abbrev pub IsOfLine : ℕ → Fault → Type 0
 IsOfLine number (Line fault) = fault.line ≡ number
 IsOfLine number Memory = ⊤
 
--- The line is a question, or it is a call of which this becomes.
+-- The line is a question or a call of which this becomes.
 abbrev pub IsCause : (old new : Session) → (line : List ℕ) → StepFault → Type 0
 IsCause old new line cause =
-    (line_kind line ≡ Asked)
+    HasAsked old line (Err cause)
     ⊎ ((call : Call) × (line_kind line ≡ call_kind call) × IsCallOf old call line × Calls old.file new.file old.answers.items (Err cause) call)
 
 -- The cause that a line's fault has, if it has one, is true.

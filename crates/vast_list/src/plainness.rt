@@ -1,15 +1,24 @@
 //! Whether a list's file is plain, and which call makes it so that it isn't.
 
+ghost use Rattle.std.specs.Prelude.{◌≡◌, ◌++◌, ℕ, List, IfOk, IfSome, false, true};
+ghost use Rattle.vast_core.specs.FileTree.{tree};
+ghost use Rattle.vast_literal.specs.PlainFile.{is_plain_file};
+ghost use Rattle.vast_list.specs.Lines.{BeginsWithDialect, line_texts};
+ghost use Rattle.vast_list.specs.PlainLists.{PlainnessOf};
+ghost use Rattle.vast_list.specs.Untitled.{HasAnswered};
+ghost use Rattle.vast_list.specs.Internal.PlainLists.{IsToldNotPlain, IsToldPlain};
+
 use crate::answering::{Answering, Told};
 use crate::fault::{Fault, write_on_a_line};
 use crate::line::{split_line, text_of};
 use crate::lines::ListLines;
 use crate::map::may_write;
-use crate::output::dialect_line;
+use crate::output::{Verdict, dialect_line};
 use crate::session::Session;
 use std::alloc::{AllocError, Global};
 use std::fmt;
 use std::fmt::Write;
+use xlsynth_vast::VastFileType;
 
 /// Whether a list's file is plain (`VastFile::is_plain`).
 #[derive(Drop)]
@@ -32,56 +41,103 @@ impl fmt::Display for Plainness {
     }
 }
 
-/// Whether the list's file is plain; else the first call behind which it is not. `None` where the list has no dialect.
+/// Whether the list's file is plain; else the first call behind which it is not. `None` where the list has no dialect, or
+/// something of it is at fault.
 ///
-/// The file is looked at after each call that may write.
+/// The file is looked at after each call that may write, and at the end.
 ///
 /// # Errors
-/// Want of memory.
-pub fn list_plainness(
+/// Out of memory.
+pub fn list_plainness(alloc: Global, list: &ListLines<'_>) -> Result<Option<Plainness>, AllocError>
+    ensures { IfOk result (λ found. IfSome found
+        (λ plainness. PlainnessOf plainness (line_texts list.now.lines.items))) }
+{
+    match dialect_line(alloc, list) {
+        Ok((dialect, lines)) => plainness_of(alloc, list.title, dialect, lines),
+        Err(Fault::Memory) => Err(AllocError),
+        Err(Fault::Line(_)) => Ok(None),
+    }
+}
+
+/// What is told of a list of the dialect, behind whose line these stand.
+fn plainness_of(
     alloc: Global,
-    list: &ListLines<'_>,
-) -> Result<Option<Plainness>, AllocError> {
-    let (dialect, lines) = match dialect_line(alloc, list) {
-        Ok(found) => found,
-        Err(Fault::Memory) => return Err(AllocError),
-        Err(Fault::Line(_)) => return Ok(None),
-    };
+    title: Option<&[u8]>,
+    dialect: VastFileType,
+    lines: &[(usize, &[u8])],
+) -> Result<Option<Plainness>, AllocError>
+    ensures { (list : List (List ℕ)) → BeginsWithDialect list dialect (line_texts lines.now) →
+        IfOk result (λ found. IfSome found (λ plainness. PlainnessOf plainness list)) }
+{
     let mut answering = Answering {
         session: Session::new(alloc, dialect),
         trial: None,
-        report: list.title.map(|_| Vec::new(alloc)),
+        report: title.map(|_| Vec::new(alloc)),
         is_stopped: false,
         told: Told::new(alloc),
     };
-    let told = first_not_plain(alloc, &mut answering, lines);
+    let found = plainness_behind(alloc, &mut answering, lines);
     drop(answering);
-    Ok(Some(told?))
+    found
 }
 
-/// The first of the lines behind which the file is not plain.
-fn first_not_plain(
+/// What is told once all of these lines are taken.
+fn plainness_behind(
     alloc: Global,
     answering: &mut Answering<'_>,
     lines: &[(usize, &[u8])],
-) -> Result<Plainness, AllocError> {
+) -> Result<Option<Plainness>, AllocError>
+    ensures { (before : List (List ℕ)) → HasAnswered before answering.old →
+        IfOk result (λ found. IfSome found
+        (λ plainness. PlainnessOf plainness (before ++ line_texts lines.now))) }
+{
     for (number, line) in lines {
         answering.take(*number, line)?;
-        if may_write(line) && !answering.session.file().is_plain()? {
-            let call = String::from_str(alloc, call_of(line))?;
-            return Ok(Plainness::NotPlain {
-                line: *number,
-                call,
-            });
+        let is_spoiled = is_spoiled(answering, line)?;
+        if is_spoiled {
+            return not_plain(alloc, answering, *number, line);
         }
     }
-    Ok(Plainness::Plain)
+    plain(answering)
 }
 
-/// The name of the line's call.
-fn call_of(line: &[u8]) -> &str {
-    match text_of(line) {
-        Ok(text) => split_line(text).1,
-        Err(_) => "",
+/// Whether the line's call may write, and the file is not plain behind it.
+fn is_spoiled(answering: &Answering<'_>, line: &[u8]) -> Result<bool, AllocError>
+    ensures { IfOk result (λ is_spoiled. is_spoiled ≡ true →
+        is_plain_file (tree answering.now.session.file) ≡ false) }
+{
+    if !may_write(line) {
+        return Ok(false);
+    }
+    Ok(!answering.session.file().is_plain()?)
+}
+
+/// The file is plain, where nothing is at fault.
+fn plain(answering: &Answering<'_>) -> Result<Option<Plainness>, AllocError>
+    ensures { IfOk result (λ found. IfSome found (IsToldPlain answering.now)) }
+{
+    if !matches!(answering.told.verdict, Verdict::Made) || !answering.session.file().is_plain()? {
+        return Ok(None);
+    }
+    Ok(Some(Plainness::Plain))
+}
+
+/// The file is not plain behind the line of this number, where nothing is at fault.
+fn not_plain(
+    alloc: Global,
+    answering: &Answering<'_>,
+    number: usize,
+    line: &[u8],
+) -> Result<Option<Plainness>, AllocError>
+    requires { is_plain_file (tree answering.now.session.file) ≡ false }
+    ensures { IfOk result (λ found. IfSome found (IsToldNotPlain answering.now line.now)) }
+{
+    match (answering.told.verdict, text_of(line)) {
+        (Verdict::Made, Ok(text)) => {
+            let call = String::from_str(alloc, split_line(text).1)?;
+            let line = number;
+            Ok(Some(Plainness::NotPlain { line, call }))
+        }
+        _ => Ok(None),
     }
 }

@@ -1,5 +1,9 @@
 //! Questions about a file, `?NAME`.
 
+ghost use Rattle.std.specs.Prelude.{◌≡◌, IfOk};
+ghost use Rattle.vast_list.specs.Questions.{Asks, question_words};
+ghost use Rattle.vast_list.specs.Internal.Written.{AreLeft};
+
 pub(crate) mod answered;
 mod modules;
 mod values;
@@ -25,7 +29,12 @@ pub(crate) enum Question {
 ///
 /// # Errors
 /// Where no question has the name or the arguments are not those of the question, and want of memory.
-pub(crate) fn make_question(name: &str, arguments: &mut Arguments<'_>) -> Result<Question, Misfit> {
+#[tactic(auto, using(crate::proofs::Words::left_same))]
+pub(crate) fn make_question(name: &str, arguments: &mut Arguments<'_>) -> Result<Question, Misfit>
+    ensures named { IfOk result (λ question. (question_words question).0 ≡ name.now) }
+    ensures written { IfOk result
+        (λ question. AreLeft arguments.old (question_words question).1) }
+{
     if let Some(made) = module_question(name, arguments) {
         return Ok(Question::Module(made?));
     }
@@ -43,7 +52,9 @@ pub(crate) fn answer(
     file: &VastFile,
     answers: &[Answer],
     question: &Question,
-) -> Result<Value, StepFault> {
+) -> Result<Value, StepFault>
+    ensures { Asks file.now answers.now result question.now }
+{
     match question {
         Question::Module(question) => answer_module(file, answers, question),
         Question::Value(question) => answer_value(file, answers, question),

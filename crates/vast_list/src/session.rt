@@ -1,6 +1,6 @@
 //! A file with the answers so far, whose calls are lines.
 
-ghost use Rattle.std.specs.Prelude.{◌≡◌, ℕ, ◌+◌, ◌-◌, ◌^◌, List, [], IfErr, IfOk, IfSome, MatchResult, None, OnOk, Some, length, min, option_copied, string_bytes};
+ghost use Rattle.std.specs.Prelude.{◌≡◌, ℕ, ◌+◌, ◌-◌, ◌^◌, List, [], IfErr, IfOk, IfSome, MatchResult, None, Ok, OnOk, Some, length, min, option_copied, string_bytes};
 ghost use Rattle.vast_core.specs.Bench.{start};
 ghost use Rattle.vast_core.specs.FileTree.{tree};
 ghost use Rattle.xlsynth_vast.specs.Registers.{HasUnused};
@@ -9,7 +9,8 @@ ghost use Rattle.vast_list.specs.Lines.{HasKind, Passed, without_return};
 ghost use Rattle.vast_list.specs.Names.{IsFree, value_named};
 ghost use Rattle.vast_list.specs.Replies.{IsAnswerText};
 ghost use Rattle.vast_list.specs.Session.{Calls, IsCausedBy, IsGivenBy, IsInForm, IsOfLine, IsStepIn, IsTextOf, Skips, Takes};
-ghost use Rattle.vast_list.specs.Internal.Session.{IsCallFault, IsRead, IsToldAs, IsToldOf, Makes, MakesName};
+ghost use Rattle.vast_list.specs.Questions.{Asks};
+ghost use Rattle.vast_list.specs.Internal.Session.{IsCallFault, IsQuestionFault, IsRead, IsToldAs, IsToldOf, Makes, MakesName};
 ghost use Rattle.vast_list.specs.Written.{meaning};
 
 use crate::arguments::{Known, place_of};
@@ -332,6 +333,7 @@ impl Session {
         }
     }
 
+    #[tactic(auto, using(crate::proofs::Sessions::asking))]
     fn ask(
         &self,
         number: usize,
@@ -339,7 +341,10 @@ impl Session {
         call: &str,
         question: &Question,
     ) -> Result<Value, Fault>
-        ensures { IfErr result (IsOfLine number) }
+        ensures asked { IfOk result (λ value.
+            Asks self.now.file self.now.answers.items (Ok value) question.now) }
+        ensures cause { IfErr result (IsQuestionFault self.now question.now) }
+        ensures number { IfErr result (IsOfLine number) }
     {
         match answer(&self.file, &self.answers, question) {
             Ok(value) => Ok(value),

@@ -11,10 +11,12 @@ use Rattle.vast_list.specs.declared.line.Line.{Line as ReadLine}
 use Rattle.vast_list.specs.declared.session.Session.{Session}
 use Rattle.vast_list.specs.declared.names.Named.{Named}
 use Rattle.vast_list.specs.declared.names.Named.TheVariants.{Handle}
+use Rattle.vast_list.specs.declared.questions.Question.{Question}
 use Rattle.vast_list.specs.CallArguments.{call_pieces}
 use Rattle.vast_list.specs.CallNames.{call_name}
 use Rattle.vast_list.specs.Lines.{Asked, behind_call, call_word, text_name, word_kind}
 use Rattle.vast_list.specs.Names.{IsFree}
+use Rattle.vast_list.specs.Questions.{Asks, question_words}
 use Rattle.vast_list.specs.Written.{AreWritten}
 use Rattle.vast_list.specs.Session.{Calls, IsMade, IsSameKnown, Enters, IsFileLeft, call_kind}
 
@@ -33,9 +35,15 @@ abbrev pub IsCallFault : (old new : Session) → Call → Fault → Type 0
 IsCallFault old new call (Line fault) = IfSome fault.cause (λ cause. Calls old.file new.file old.answers.items (Err cause) call)
 IsCallFault old new call Memory = ⊤
 
+-- The cause of a line's fault, if it has one, is what became of the question.
+abbrev pub IsQuestionFault : Session → Question → Fault → Type 0
+IsQuestionFault session question (Line fault) = IfSome fault.cause (λ cause. Asks session.file session.answers.items (Err cause) question)
+IsQuestionFault session question Memory = ⊤
+
 -- What a line does whose call has this name and, over the names so far, these arguments.
 abbrev pub IsActionOf : (named : List ℕ → Option Named) → (skipped name arguments : List ℕ) → Action → Type 0
-IsActionOf named skipped name arguments (Ask question) = word_kind name ≡ Asked
+IsActionOf named skipped name arguments (Ask question) =
+    (word_kind name ≡ Asked) × ((question_words question).0 ≡ name) × AreWritten named skipped (question_words question).1 arguments
 IsActionOf named skipped name arguments (CallAction call) =
     (word_kind name ≡ call_kind call) × (call_name call ≡ name) × AreWritten named skipped (call_pieces call) arguments
 

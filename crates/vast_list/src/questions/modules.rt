@@ -1,7 +1,10 @@
 //! Questions of modules, their ports and their names.
 
-ghost use Rattle.std.specs.Prelude.{All};
+ghost use Rattle.std.specs.Prelude.{◌≡◌, All, IfErr, IfNone, IfOk, IfSome, None, Ok, map};
 ghost use Rattle.vast_core.specs.Bench.{OwnsPort};
+ghost use Rattle.vast_script.specs.Outcome.{cause_of};
+ghost use Rattle.vast_list.specs.Questions.{PortsAre, Tells, module_fact, module_words, port_fact, port_told};
+ghost use Rattle.vast_list.specs.Internal.Written.{AreLeft};
 
 use crate::arguments::Arguments;
 use crate::problem::Misfit;
@@ -25,7 +28,13 @@ pub(crate) enum ModuleQuestion {
 pub(crate) fn module_question(
     name: &str,
     arguments: &mut Arguments<'_>,
-) -> Option<Result<ModuleQuestion, Misfit>> {
+) -> Option<Result<ModuleQuestion, Misfit>>
+    ensures named { IfSome result
+        (λ made. IfOk made (λ question. (module_words question).0 ≡ name.now)) }
+    ensures written { IfSome result
+        (λ made. IfOk made (λ question. AreLeft arguments.old (module_words question).1)) }
+    ensures none { IfNone result (arguments.new ≡ arguments.old) }
+{
     Some(match name {
         "?LogicRefName" => arguments.one(ModuleQuestion::LogicRefName),
         "?ModuleInputPorts" => arguments.one(ModuleQuestion::ModuleInputPorts),
@@ -46,7 +55,9 @@ pub(crate) fn answer_module(
     file: &VastFile,
     answers: &[Answer],
     question: &ModuleQuestion,
-) -> Result<Value, StepFault> {
+) -> Result<Value, StepFault>
+    ensures { Tells result (module_fact file.now answers.now question.now) }
+{
     match question {
         ModuleQuestion::LogicRefName(name) => {
             let name: LogicRef = one(file, answers, *name)?;
@@ -79,19 +90,30 @@ pub(crate) fn answer_module(
     }
 }
 
-/// Each port with its name, direction, width, whether it is signed, and its name as an expression.
+/// The ports as values.
 fn port_values(file: &VastFile, ports: &[ModulePort]) -> Result<Value, StepFault>
     requires { All (OwnsPort file.now) ports.now }
+    ensures { Tells result (Ok (PortsAre (map (port_fact file.now) ports.now))) }
 {
     let mut values = Vec::new(file.allocator());
     for port in ports {
-        values.push(PortValue {
-            name: file.port_name(*port)?,
-            direction: file.port_direction(*port),
-            width: file.port_width(*port),
-            signed: file.type_is_signed(file.port_data_type(*port)),
-            reference: file.logic_ref_name(file.port_logic_ref(*port))?,
-        })?;
+        let value = port_value(file, *port)?;
+        values.push(value)?;
     }
     Ok(Value::Ports(values))
+}
+
+/// A port with its name, direction, width, whether it is signed, and its name as an expression.
+fn port_value(file: &VastFile, port: ModulePort) -> Result<PortValue, StepFault>
+    requires { OwnsPort file.now port }
+    ensures told { IfOk result (λ value. port_fact file.now port ≡ port_told value) }
+    ensures memory { IfErr result (λ fault. cause_of fault ≡ None) }
+{
+    Ok(PortValue {
+        name: file.port_name(port)?,
+        direction: file.port_direction(port),
+        width: file.port_width(port),
+        signed: file.type_is_signed(file.port_data_type(port)),
+        reference: file.logic_ref_name(file.port_logic_ref(port))?,
+    })
 }

@@ -1,5 +1,9 @@
 //! Questions of expressions, types and words.
 
+ghost use Rattle.std.specs.Prelude.{◌≡◌, IfNone, IfOk, IfSome};
+ghost use Rattle.vast_list.specs.Questions.{Tells, value_fact, value_words};
+ghost use Rattle.vast_list.specs.Internal.Written.{AreLeft};
+
 use crate::arguments::Arguments;
 use crate::problem::Misfit;
 use crate::questions::answered::Value;
@@ -27,7 +31,13 @@ pub(crate) enum ValueQuestion {
 pub(crate) fn value_question(
     name: &str,
     arguments: &mut Arguments<'_>,
-) -> Option<Result<ValueQuestion, Misfit>> {
+) -> Option<Result<ValueQuestion, Misfit>>
+    ensures named { IfSome result
+        (λ made. IfOk made (λ question. (value_words question).0 ≡ name.now)) }
+    ensures written { IfSome result
+        (λ made. IfOk made (λ question. AreLeft arguments.old (value_words question).1)) }
+    ensures none { IfNone result (arguments.new ≡ arguments.old) }
+{
     Some(match name {
         "?ConditionalHasElse" => arguments.one(ValueQuestion::ConditionalHasElse),
         "?Emit" => arguments.none(ValueQuestion::Emit),
@@ -53,7 +63,9 @@ pub(crate) fn answer_value(
     file: &VastFile,
     answers: &[Answer],
     question: &ValueQuestion,
-) -> Result<Value, StepFault> {
+) -> Result<Value, StepFault>
+    ensures { Tells result (value_fact file.now answers.now question.now) }
+{
     match question {
         ValueQuestion::ConditionalHasElse(conditional) => {
             let conditional: Conditional = one(file, answers, *conditional)?;
