@@ -13,3 +13,4 @@ pub mod Mapped
 pub mod UntitledLists
 pub mod EndedLines
 pub mod Numbered
+pub mod Skipped
